@@ -1,5 +1,5 @@
 -- Blocks that go home, and how often each number stands.
-use Rattle.std.proofs.Common.{◌≡◌, ℕ, zero, suc, ◌+◌, ◌<◌, ◌≤◌, ◌==◌, ◌&&◌, ◌++◌, Bool, true, false, cond, not, List, [], ◌∷◌, length, filter, take, drop, arith, refl, ap, sym, subst, ◌∙◌, append_assoc, length-drop}
+use Rattle.std.proofs.Common.{◌≡◌, ℕ, zero, suc, ◌+◌, ◌<◌, ◌≤◌, ◌++◌, Bool, true, false, cond, not, List, [], ◌∷◌, length, filter, take, drop, arith, refl, ap, sym, ◌∙◌, append_assoc, length-drop}
 use Rattle.std.proofs.lemmas.Bool.{eq-eqb}
 use Rattle.std.proofs.lemmas.List.{map-append, take-append-drop, append-nil}
 use Rattle.nv_alloc.specs.Block.{AreSized, BlockValue, number_of, numbers_of, put_block, put_blocks}

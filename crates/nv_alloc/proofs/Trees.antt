@@ -1,6 +1,6 @@
 -- The tree over a set of places.
 use Rattle.std.proofs.Common.{◌≡◌, ℕ, zero, suc, ◌+◌, ◌-◌, ◌*◌, ◌/◌, ◌%◌, ◌<◌, ◌≤◌, ◌⊎◌, inl, inr, Bool, true, false, nat_lt, min, List, Some, None, length, map, drop, take, ◌++◌, set, get_or, replicate, arith, refl, ap, ◌∙◌, subst, length-drop}
-use Rattle.std.proofs.lemmas.Bool.{cases_lt, ltb-true, lt-ltb, le-ltb}
+use Rattle.std.proofs.lemmas.Bool.{cases_lt, lt-ltb, le-ltb}
 use Rattle.std.proofs.lemmas.List.{map-set, get_or-map, get_or-drop, get_or_past, ext_get_or}
 use Rattle.std.proofs.lemmas.Grind.{common_steps}
 use Rattle.nv_alloc.specs.Places.{IsNode, IsTree, IsLowest, flags_of}

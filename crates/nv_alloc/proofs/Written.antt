@@ -1,5 +1,5 @@
 -- A block of a queue whose bytes are written.
-use Rattle.std.proofs.Common.{◌≡◌, ℕ, zero, suc, ◌<◌, List, [], ◌∷◌, length, set, get_or, arith, ap, sym}
+use Rattle.std.proofs.Common.{◌≡◌, ℕ, zero, suc, ◌<◌, List, [], ◌∷◌, length, set, get_or, arith, ap}
 use Rattle.nv_alloc.specs.Block.{AreSized, BlockValue}
 use Rattle.nv_alloc.specs.Lends.{with_bytes}
 use Rattle.nv_alloc.specs.QueueLends.{with_bytes_at}

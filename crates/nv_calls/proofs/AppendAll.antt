@@ -157,7 +157,8 @@ module _ (j : ℕ) (cells : List (ℕ × CellValue)) (start : CommitValue) (now 
         appended = c.appended;
       } in d) is) in
       record {
-        changed = one_more j start.plans (λ i. (grown cells start i).state) cells now new placed lt way.changed changed (ap (λ (v : CellValue). v.state) value);
+        changed = one_more j start.plans (λ i. (grown cells start i).state) cells now new placed lt way.changed changed
+            (ap (λ (v : CellValue). v.state) value);
         plans = plans_more j start.plans commit.plans later.plans (record (to_append commit) { items = [] }) lt way.plans
             (ap (λ (c : CommitValue). c.plans) is
             ∙ ap (λ (n : ℕ). slice_set commit.plans n (record (to_append commit) { items = [] })) appended_is)

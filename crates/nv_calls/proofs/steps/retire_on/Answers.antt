@@ -85,7 +85,8 @@ pub returns-clause-cells : goal.returns-clause-cells
 returns-clause-cells g c =
     let e = (goal.at.returns-clause-cells g c).After-erase_gone-arg-2-1 in
     let new = g.C.Cells.cells c.erase_gone.new.cells in
-    subst (λ (m : ℕ). OnlyAt m (cells g e) new) (same g e) (only_along (cells g e) (mid g e) new (k g e) (only g e) c.erase_gone.ensures.cells)
+    subst (λ (m : ℕ). OnlyAt m (cells g e) new) (same g e)
+    (only_along (cells g e) (mid g e) new (k g e) (only g e) c.erase_gone.ensures.cells)
 
 pub returns-clause-cell_room : goal.returns-clause-cell_room
 returns-clause-cell_room g c =

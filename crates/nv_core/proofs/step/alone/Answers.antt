@@ -15,11 +15,13 @@ returns-in-Number-clause-turn c r shows =
 
 pub returns-in-Look-clause-turn : goal.returns-in-Look-clause-turn
 returns-in-Look-clause-turn c r shows =
-    turns_alone (next.Look c.in-Look.place) _ _ _ _ _ _ _ _ _ c.in-Look.is shows c.look.ensures.job (λ told is. (true, c.look.ensures.turn told is))
+    turns_alone (next.Look c.in-Look.place) _ _ _ _ _ _ _ _ _ c.in-Look.is shows c.look.ensures.job
+    (λ told is. (true, c.look.ensures.turn told is))
 
 pub returns-in-Lock-clause-turn : goal.returns-in-Lock-clause-turn
 returns-in-Lock-clause-turn c r shows =
-    turns_alone (next.Lock c.in-Lock.place) _ _ _ _ _ _ _ _ _ c.in-Lock.is shows c.lock.ensures.job (λ told is. (true, c.lock.ensures.turn told (hand_of c.args.hand.now)))
+    turns_alone (next.Lock c.in-Lock.place) _ _ _ _ _ _ _ _ _ c.in-Lock.is shows c.lock.ensures.job
+    (λ told is. (true, c.lock.ensures.turn told (hand_of c.args.hand.now)))
 
 pub returns-in-Check-clause-turn : goal.returns-in-Check-clause-turn
 returns-in-Check-clause-turn c r shows =
@@ -27,11 +29,13 @@ returns-in-Check-clause-turn c r shows =
 
 pub returns-in-TakeBlocks-clause-turn : goal.returns-in-TakeBlocks-clause-turn
 returns-in-TakeBlocks-clause-turn c r shows =
-    turns_alone (next.TakeBlocks c.in-TakeBlocks.asked) _ _ _ _ _ _ _ _ _ c.in-TakeBlocks.is shows c.take_blocks.ensures.job (λ told is. (true, c.take_blocks.ensures.turn told is))
+    turns_alone (next.TakeBlocks c.in-TakeBlocks.asked) _ _ _ _ _ _ _ _ _ c.in-TakeBlocks.is shows c.take_blocks.ensures.job
+    (λ told is. (true, c.take_blocks.ensures.turn told is))
 
 pub returns-in-TakePages-clause-turn : goal.returns-in-TakePages-clause-turn
 returns-in-TakePages-clause-turn c r shows =
-    turns_alone (next.TakePages c.in-TakePages.asked) _ _ _ _ _ _ _ _ _ c.in-TakePages.is shows c.take_pages.ensures.job (λ told is. (true, c.take_pages.ensures.turn told))
+    turns_alone (next.TakePages c.in-TakePages.asked) _ _ _ _ _ _ _ _ _ c.in-TakePages.is shows c.take_pages.ensures.job
+    (λ told is. (true, c.take_pages.ensures.turn told))
 
 pub returns-in-Unlock-clause-turn : goal.returns-in-Unlock-clause-turn
 returns-in-Unlock-clause-turn c r shows =

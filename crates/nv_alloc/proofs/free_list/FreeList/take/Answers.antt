@@ -1,6 +1,5 @@
-use Rattle.std.proofs.Common.{◌≡◌, ◌+◌, ◌-◌, ◌++◌, ◌∷◌, [], take, drop, arith, sym, ap, ◌∙◌, append_assoc}
+use Rattle.std.proofs.Common.{◌≡◌, ◌+◌, ◌-◌, ◌∷◌, [], take, drop, arith, sym, ap, ◌∙◌, append_assoc}
 use Rattle.nv_alloc.specs.FreeList.{FreeBlocks}
-use Rattle.nv_alloc.specs.Queue.{QueueValue}
 use Rattle.nv_alloc.proofs.GivingLemmas.{cut_more}
 use Rattle.nv_alloc.proofs.free_list.FreeList.take.Goals as goal
 

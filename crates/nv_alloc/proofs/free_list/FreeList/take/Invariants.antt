@@ -1,4 +1,4 @@
-use Rattle.std.proofs.Common.{◌≡◌, ◌+◌, ◌-◌, ◌++◌, take, drop}
+use Rattle.std.proofs.Common.{◌≡◌, ◌-◌, ◌++◌, take, drop}
 use Rattle.nv_alloc.proofs.free_list.FreeList.take.Given as goal
 
 abbrev pub invariant-loop : goal.invariant-loop

@@ -1,20 +1,24 @@
-use Rattle.std.proofs.Common.{◌++◌, sym, ap, ◌∙◌}
+use Rattle.std.proofs.Common.{◌≡◌, ◌++◌, sym, ap, ◌∙◌}
 use Rattle.nv_alloc.specs.FreeList.{FreeBlocks}
 use Rattle.nv_alloc.specs.Giving.{after_giving, kept_of}
 use Rattle.nv_alloc.proofs.GivingLemmas.{after_giving-append}
 use Rattle.nv_alloc.proofs.hand.Hand.give_home.Goals as goal
+use Rattle.nv_alloc.proofs.hand.Hand.give_home.Goals.{After-give_home-2}
+
+-- the list once the blocks of two queues are given
+both : (c : After-give_home-2)
+    → c.give_home-2.new.list ≡ after_giving c.args.list.now (c.args.self.now.data.blocks ++ c.args.self.now.pages.blocks)
+both c =
+    c.give_home-2.ensures.given ∙ ap (λ (list : FreeBlocks). after_giving list c.args.self.now.pages.blocks) c.give_home.ensures.given
+    ∙ sym (after_giving-append c.args.list.now c.args.self.now.data.blocks c.args.self.now.pages.blocks)
 
 pub returns-clause-chain : goal.returns-clause-chain
 returns-clause-chain c =
-    let both = c.give_home-2.ensures.given
-    ∙ ap (λ (list : FreeBlocks). after_giving list c.args.self.now.pages.blocks) c.give_home.ensures.given
-    ∙ sym (after_giving-append c.args.list.now c.args.self.now.data.blocks c.args.self.now.pages.blocks) in
-    c.give_home-3.ensures.kept ∙ ap (λ (list : FreeBlocks). kept_of list c.args.self.now.chain) both
+    c.give_home-3.ensures.kept
+    ∙ ap (λ (list : FreeBlocks). kept_of list c.args.self.now.chain) (both (goal.at.returns-clause-chain c).After-give_home-2)
 
 pub returns-clause-given : goal.returns-clause-given
 returns-clause-given c =
-    let both = c.give_home-2.ensures.given
-    ∙ ap (λ (list : FreeBlocks). after_giving list c.args.self.now.pages.blocks) c.give_home.ensures.given
-    ∙ sym (after_giving-append c.args.list.now c.args.self.now.data.blocks c.args.self.now.pages.blocks) in
-    c.give_home-3.ensures.given ∙ ap (λ (list : FreeBlocks). after_giving list c.args.self.now.chain) both
+    c.give_home-3.ensures.given
+    ∙ ap (λ (list : FreeBlocks). after_giving list c.args.self.now.chain) (both (goal.at.returns-clause-given c).After-give_home-2)
     ∙ sym (after_giving-append c.args.list.now (c.args.self.now.data.blocks ++ c.args.self.now.pages.blocks) c.args.self.now.chain)
