@@ -78,5 +78,6 @@ pub mod Takings
 pub mod Turns
 pub mod VisitTurns
 pub mod Visits
+pub mod WholeCalls
 pub mod WorldKept
 pub mod WorldSteps

@@ -18,4 +18,5 @@ pub mod Takings
 pub mod Told
 pub mod Turns
 pub mod Visits
+pub mod Whole
 pub mod Worlds

@@ -30,12 +30,19 @@ mod snaps;
 mod step;
 mod tree;
 mod turn;
+mod whole;
 mod world;
 
 pub use bounded::MOST_STEPS;
 pub use event::{Event, Reply};
+pub use format::root;
+pub use nv_base::{
+    Bytes, CommitNo, Epoch, Fault, Gen, Geometry, GeometryField, GeometryNumbers, Handle, Ino,
+    Kind, Mode, Name,
+};
 pub use nv_calls::{Answer, Call, SnapshotCall};
 pub use nv_entry::{Path, Tree, TreeNode};
 pub use reports::{Lists, LogCounts, Space};
 pub use snaps::{SnapCounts, Snaps};
+pub use whole::CallFault;
 pub use world::World;

@@ -10,7 +10,8 @@ ghost use Rattle.nv_machine.specs.Snapshots.{seen_on, visited};
 ghost use Rattle.nv_reader.specs.Walk.{root_visit, visits_after, given_for};
 ghost use Rattle.nv_core.specs.Shown.{is_over, showing_of, visits_of};
 
-use nv_base::{Fault, Gen, Handle, Ino, limits};
+use crate::format::root;
+use nv_base::{Fault, Handle, limits};
 use nv_entry::{NodeCopy, TreeNode};
 use nv_reader::Walk;
 use std::alloc::Global;
@@ -24,16 +25,6 @@ pub(crate) struct Showing {
     pub(crate) depth: usize,
     pub(crate) walk: Option<Walk>,
     pub(crate) seen: Vec<TreeNode>,
-}
-
-/// The root's handle.
-pub(crate) fn root() -> Handle
-    ensures { result ≡ tree.root }
-{
-    Handle {
-        ino: Ino::new(0),
-        generation: Gen::new(1),
-    }
 }
 
 impl Showing {

@@ -14,7 +14,7 @@ ghost use Rattle.nv_core.specs.Worlds.{Shows};
 
 use crate::World;
 use crate::shared::Shared;
-use crate::showing::root;
+use crate::format::root;
 use nv_base::{Epoch, Fault, Handle, Ino};
 use nv_entry::{NodeCopy, Tree};
 use nv_reader::{Walk, settled_on, show_on};

@@ -4,7 +4,6 @@ pub mod Commands
 pub mod Endings
 pub mod Escapes
 pub mod Firsts
-pub mod Goes
 pub mod Handles
 pub mod Known
 pub mod Lines

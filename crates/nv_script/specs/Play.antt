@@ -9,12 +9,12 @@ use Rattle.nv_base.specs.declared.fault.ScriptFaultKind.{ScriptFaultKind}
 use Rattle.nv_base.specs.declared.fault.ScriptFaultKind.TheVariants as kind
 use Rattle.nv_base.specs.declared.geometry.GeometryNumbers.{GeometryNumbers}
 use Rattle.nv_machine.specs.Format.{formatted}
-use Rattle.nv_machine.specs.Step.{after, replies, step}
-use Rattle.nv_machine.specs.World.{Moved, Reply, Start, Started, World}
+use Rattle.nv_machine.specs.Step.{step}
+use Rattle.nv_machine.specs.World.{Reply, Start, World}
 use Rattle.nv_epoch.specs.SnapList.{pins_of}
 use Rattle.nv_core.specs.Reports.{lists_of, log_at, snaps_of, space_of}
 use Rattle.nv_core.specs.Settled.{snapshot_tree, tree_of}
-use Rattle.nv_core.specs.Worlds.{gos}
+use Rattle.nv_core.specs.Whole.{Calls, GoesOn, Runs}
 use Rattle.nv_script.specs.declared.command.Command.{Command}
 use Rattle.nv_script.specs.declared.command.Command.TheVariants as command
 use Rattle.nv_script.specs.Grammar.{command_of, format_of, is_skipped}
@@ -28,31 +28,6 @@ Formats (Some field) numbers text new = (text ≡ refused_line (fault.BadGeometr
 Formats None numbers text new =
     ((text ≡ line_of (codes "formatted")) × (new ≡ Some (formatted numbers)))
     ⊎ ((text ≡ refused_line fault.OutOfMemory) × (new ≡ None))
-
--- a reply to each of at least one event and of `most` at most: each but the last says that the call moved on, and the
--- last says so only where there are so many
-pub record AreReplies (most : ℕ) (all : List Reply) (last : Reply) : Type 0 where
-  pub before : ℕ
-  pub all_are : all ≡ replicate before Moved ++ last ∷ []
-  pub few : before < most
-  pub ends : last ≡ Moved → before + 1 ≡ most
-
--- an actor's call goes on so often at most, up to the first reply that it did not move
-pub record GoesOn (most : ℕ) (old : World) (actor : ℕ) (last : Reply) (new : World) : Type 0 where
-  pub grants : List Bool
-  pub replies : AreReplies most (replies old (gos actor grants)) last
-  pub world : new ≡ after old (gos actor grants)
-
--- it goes on until it did not move
-pub record Runs (old : World) (actor : ℕ) (last : Reply) (new : World) : Type 0 where
-  pub most : ℕ
-  pub goes : GoesOn most old actor last new
-  pub ended : last ≢ Moved
-
--- one that was started runs, and one that was refused does not
-abbrev pub RunsFrom : Reply → World → ℕ → Reply → World → Type 0
-RunsFrom Started old actor last new = Runs old actor last new
-RunsFrom first old actor last new = (last ≡ first) × (new ≡ old)
 
 -- the last reply is written
 abbrev pub Answers : (Reply → World → Type 0) → List ℕ → World → Type 0
@@ -78,8 +53,7 @@ Acts old (command.Start actor call) text new =
     (text ≡ reply_line ((step old (Start actor call)).reply)) × (new ≡ (step old (Start actor call)).world)
 Acts old (command.Go actor more) text new = Answers (GoesOn (more + 1) old actor) text new
 Acts old (command.Run actor) text new = Answers (Runs old actor) text new
-Acts old (command.Do actor call) text new =
-    Answers (RunsFrom (step old (Start actor call)).reply (step old (Start actor call)).world actor) text new
+Acts old (command.Do actor call) text new = Answers (Calls old actor call) text new
 Acts old command.Tree text new = Reports (tree_lines (tree_of old)) old text new
 Acts old (command.SnapTree snapshot) text new = ShowsTree (is_some (pins_of old.shared.book.snaps snapshot)) snapshot old text new
 Acts old command.Snaps text new = Reports (snaps_lines (snaps_of old.shared.book)) old text new

@@ -8,10 +8,9 @@ use Rattle.nv_base.specs.declared.fault.ScriptFaultKind.{ScriptFaultKind}
 use Rattle.nv_base.specs.declared.fault.ScriptFaultKind.TheVariants as kind
 use Rattle.nv_base.specs.declared.geometry.GeometryNumbers.{GeometryNumbers}
 use Rattle.nv_machine.specs.Format.{formatted}
-use Rattle.nv_machine.specs.Step.{after, replies}
 use Rattle.nv_machine.specs.World as machine
 use Rattle.nv_core.specs.Worlds.{WorldState}
-use Rattle.nv_core.specs.Worlds.{Shows, ShowsAny, gos}
+use Rattle.nv_core.specs.Worlds.{Shows, ShowsAny}
 use Rattle.nv_script.specs.declared.fault.LineFault.{LineFault}
 use Rattle.nv_script.specs.declared.fault.LineFault.TheVariants as line_fault
 use Rattle.nv_script.specs.declared.feed.Taken.{Taken}
@@ -87,9 +86,3 @@ TurnIs (Ok true) input left known old new gathered number world =
     (number ≤ most_lines) × (n : Option machine.World) × AtLine input known old new gathered (number + 1) n × ShowsAny world n
 TurnIs (Ok false) input left known old new gathered number world = EndsWell input left (λ text. WritesFront old new text gathered)
 TurnIs (Err why) input left known old new gathered number world = EndsBy why input left (λ text. WritesFront old new text gathered)
-
--- a call went on so often, and moved each time
-pub record HasMoved (times actor : ℕ) (old new : machine.World) : Type 0 where
-  pub grants : List Bool
-  pub replies : replies old (gos actor grants) ≡ replicate times machine.Moved
-  pub world : new ≡ after old (gos actor grants)

@@ -1,21 +1,19 @@
 //! What lines do to a world, and what they write.
 
-ghost use Rattle.std.specs.Prelude.{◌≡◌, ◌+◌, [], ℕ, None, OnOk};
+ghost use Rattle.std.specs.Prelude.{◌≡◌, [], None, OnOk};
 ghost use Rattle.nv_base.specs.Limits.{first_bad_field};
-ghost use Rattle.nv_machine.specs.Step.{step};
-ghost use Rattle.nv_machine.specs.World as machine;
-ghost use Rattle.nv_script.specs.Play.{Acts, GoesOn, Runs, RunsFrom};
+ghost use Rattle.nv_script.specs.Play.{Acts};
 ghost use Rattle.nv_script.specs.Results.{IsNewWorld, LineIs, MakesWorld};
-ghost use Rattle.nv_core.specs.Worlds.{Leads, reply_of};
+ghost use Rattle.nv_core.specs.Worlds.{Leads};
 
 use crate::command::{Command, is_skipped, read_command, read_format};
 use crate::fault::LineFault;
 use crate::text::{
-    push_lists, push_log, push_refused, push_reply, push_snaps, push_space, push_tree,
+    push_lists, push_log, push_refused, push_reply, push_snaps, push_space, push_told, push_tree,
 };
 use crate::word::words;
 use nv_base::{Epoch, Fault, Geometry, GeometryNumbers, Ino};
-use nv_core::{Call, MOST_STEPS, Reply, World};
+use nv_core::World;
 use std::alloc::{AllocError, Global};
 
 /// Plays one line, which has no line end. The text that it writes is in `out` then, in place of what that held.
@@ -81,9 +79,9 @@ fn act(world: &mut World, command: Command, out: &mut Vec<u8>) -> Result<(), All
 {
     match command {
         Command::Start(actor, call) => push_reply(out, &world.start(actor, call)),
-        Command::Go(actor, more) => push_reply(out, &go(world, actor, more)),
-        Command::Run(actor) => push_reply(out, &run(world, actor)),
-        Command::Do(actor, call) => push_reply(out, &make(world, actor, call)),
+        Command::Go(actor, more) => push_reply(out, &world.go_on(actor, more)),
+        Command::Run(actor) => push_told(out, &world.finish(actor)),
+        Command::Do(actor, call) => push_told(out, &world.call(actor, call)),
         Command::Tree => match world.tree() {
             Ok(tree) => push_tree(out, tree.as_slice()),
             Err(fault) => push_refused(out, &fault),
@@ -109,44 +107,5 @@ fn act(world: &mut World, command: Command, out: &mut Vec<u8>) -> Result<(), All
             Ok(()) => out.extend_from_slice(b"audit ok\n"),
             Err(fault) => push_refused(out, &fault),
         },
-    }
-}
-
-/// An actor's call goes on, and so often more at most, up to the first reply that it did not move. It is kept apart
-/// with one step in it, so that a step costs no call of its own.
-#[inline(never)]
-fn go(world: &mut World, actor: u64, more: u64) -> Reply
-    ensures { Leads (λ m n. GoesOn (more + 1) m actor (reply_of result) n) world.old world.new }
-{
-    let mut left = more;
-    loop {
-        match world.go(actor) {
-            Reply::Moved => {}
-            reply => return reply,
-        }
-        if left == 0 {
-            return Reply::Moved;
-        }
-        left -= 1;
-    }
-}
-
-/// An actor's call goes on until it did not move.
-fn run(world: &mut World, actor: u64) -> Reply
-    ensures { Leads (λ m n. Runs m actor (reply_of result) n) world.old world.new }
-{
-    // No call has so many steps.
-    world.bounded();
-    go(world, actor, MOST_STEPS - 1)
-}
-
-/// Starts a call, and runs it if it was started.
-fn make(world: &mut World, actor: u64, call: Call) -> Reply
-    ensures { Leads (λ m n. RunsFrom (step m (machine.Start actor call)).reply
-        (step m (machine.Start actor call)).world actor (reply_of result) n) world.old world.new }
-{
-    match world.start(actor, call) {
-        Reply::Started => run(world, actor),
-        reply => reply,
     }
 }

@@ -5,13 +5,14 @@ ghost use Rattle.nv_base.specs.Texts.{bracketed, fault_text, script_fault_name};
 ghost use Rattle.nv_script.specs.Texts.{answer_text, bound_text, counted_bytes, counts_text, handle_text, kind_text, letter, lists_lines, log_line, names_text, node_line, path_text, refused_line, reply_line, run_text, runs_text, snap_line, snaps_lines, space_line, tree_lines};
 ghost use Rattle.std.specs.List.{flat_map};
 ghost use Rattle.nv_machine.specs.World.{Done};
+ghost use Rattle.nv_core.specs.Whole.{last_reply};
 ghost use Rattle.nv_core.specs.Worlds.{reply_of};
 
 use crate::word::{push_escaped, push_number};
 use nv_alloc::FreeRun;
 use nv_base::{Fault, Handle, Items, Kind, Mode, Name, ScriptFaultKind};
 use nv_cell::PageCounts;
-use nv_core::{Answer, LogCounts, Path, Reply, SnapCounts, Snaps, Space, TreeNode};
+use nv_core::{Answer, CallFault, LogCounts, Path, Reply, SnapCounts, Snaps, Space, TreeNode};
 use nv_entry::{BoundName, NodeCopy};
 use std::alloc::{AllocError, Global};
 
@@ -186,6 +187,21 @@ pub(crate) fn push_reply(out: &mut Vec<u8>, reply: &Reply) -> Result<(), AllocEr
         Reply::Waits => out.extend_from_slice(b"waits\n"),
         Reply::Done(answer) => push_done(out, answer),
         Reply::Refused(fault) => push_refused(out, fault),
+    }
+}
+
+/// Adds the line of the last reply of a whole call.
+pub(crate) fn push_told(
+    out: &mut Vec<u8>,
+    told: &Result<Answer, CallFault>,
+) -> Result<(), AllocError>
+    ensures { OnOk result
+        (out.new.items ≡ out.old.items ++ reply_line (last_reply told.now)) }
+{
+    match told {
+        Ok(answer) => push_done(out, answer),
+        Err(CallFault::Refused(fault)) => push_refused(out, fault),
+        Err(CallFault::Waits) => out.extend_from_slice(b"waits\n"),
     }
 }
 

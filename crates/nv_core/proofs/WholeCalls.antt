@@ -1,15 +1,16 @@
--- One step more of an actor's call, at the end of some.
-use Rattle.std.proofs.Common.{◌≡◌, ◌≢◌, ℕ, zero, suc, ◌+◌, ◌≤◌, ◌∙◌, arith, Bool, List, [], ◌∷◌, ◌++◌, ap, replicate, refl, subst, sym}
+-- Whole calls: one step more of an actor's call, at the end of some, up to its last.
+use Rattle.std.proofs.Common.{◌≡◌, ◌≢◌, ℕ, zero, suc, ◌+◌, ◌≤◌, ◌∙◌, arith, Bool, true, false, List, [], ◌∷◌, ◌++◌, Option, Some, None, Result, Ok, Err, ap, replicate, refl, subst, sym, nat_lt, length}
+use Rattle.nv_calls.specs.declared.answer.Answer.{Answer}
 use Rattle.nv_calls.specs.declared.call.Call.{Call}
-use Rattle.nv_machine.specs.Step.{after, replies, step}
+use Rattle.nv_machine.specs.Step.{after, go_step, replies, start_step, step, turned}
 use Rattle.nv_machine.specs.World as machine
-use Rattle.nv_script.specs.Play.{GoesOn, Runs, RunsFrom}
-use Rattle.nv_script.specs.Results.{HasMoved}
+use Rattle.nv_machine.specs.World.{Ends, Moves, Turn, actor_at}
 use Rattle.nv_core.specs.declared.event.Event.TheVariants.{Go, Start}
 use Rattle.nv_core.specs.declared.event.Reply.{Reply}
 use Rattle.nv_core.specs.declared.event.Reply.TheVariants.{Done, Moved, Refused, Started, Waits}
-use Rattle.nv_core.specs.Worlds.{WorldState}
-use Rattle.nv_core.specs.Worlds.{IsBounded, IsStep, Leads, Shows, gos, most_goes, reply_of}
+use Rattle.nv_core.specs.declared.whole.CallFault.{CallFault}
+use Rattle.nv_core.specs.Whole.{Calls, GoesOn, HasMoved, Runs, RunsFrom, last_reply}
+use Rattle.nv_core.specs.Worlds.{IsBounded, IsStep, Leads, Shows, WorldState, gos, most_goes, reply_of}
 
 -- the world after events and one more
 pub after-more : (w : machine.World) (events : List machine.Event) (e : machine.Event)
@@ -141,17 +142,66 @@ ran old new actor reply bounded gone m shows =
       by.2,
     )
 
+-- ---- what the last reply can be
+
+turned_replies : (t : Turn) (actor : ℕ) (w : machine.World) → (turned t actor w).reply ≢ machine.Started
+turned_replies (Moves s h r) actor w is = absurd (cc)
+turned_replies machine.Waits actor w is = absurd (cc)
+turned_replies (Ends (Ok found) s h) actor w is = absurd (cc)
+turned_replies (Ends (Err fault) s h) actor w is = absurd (cc)
+
+go_replies : (b : Bool) (running : Option machine.Running) (actor : ℕ) (granted : Bool) (w : machine.World)
+    → (go_step b running actor granted w).reply ≢ machine.Started
+go_replies false running actor granted w is = absurd (cc)
+go_replies true None actor granted w is = absurd (cc)
+go_replies true (Some r) actor granted w is = turned_replies _ actor w is
+
+-- no step says that its call was started
+no_go_starts : (w : machine.World) (actor : ℕ) (granted : Bool) → (step w (machine.Go actor granted)).reply ≢ machine.Started
+no_go_starts w actor granted = go_replies (nat_lt actor (length w.actors)) (actor_at w actor).running actor granted w
+
+last_step : (w : machine.World) (actor : ℕ) (grants : List Bool) (before : ℕ) (last : machine.Reply)
+    → replies w (gos actor grants) ≡ replicate before machine.Moved ++ last ∷ [] → last ≢ machine.Started
+last_step w actor [] zero last all is = absurd (cc)
+last_step w actor [] (suc before) last all is = absurd (cc)
+last_step w actor (granted ∷ grants) zero last all is = no_go_starts w actor granted (cc (all, is))
+last_step w actor (granted ∷ grants) (suc before) last all is =
+    last_step (step w (machine.Go actor granted)).world actor grants before last (cc (all)) is
+
+start_replies : (b : Bool) (running : Option machine.Running) (actor : ℕ) (call : Call) (w : machine.World)
+    → (start_step b running actor call w).reply ≢ machine.Moved
+start_replies false running actor call w is = absurd (cc)
+start_replies true None actor call w is = absurd (cc)
+start_replies true (Some r) actor call w is = absurd (cc)
+
+-- no start says that a call moved on
+no_start_moves : (w : machine.World) (actor : ℕ) (call : Call) → (step w (machine.Start actor call)).reply ≢ machine.Moved
+no_start_moves w actor call = start_replies (nat_lt actor (length w.actors)) (actor_at w actor).running actor call w
+
+-- ---- whole calls
+
+-- a call that went on to its end is told its last reply
+pub finished : (old new : WorldState) (actor : ℕ) (reply : Reply) (result : Result Answer CallFault)
+    → (reply ≢ Started → reply ≢ Moved → last_reply result ≡ reply_of reply)
+    → Leads (λ m n. Runs m actor (reply_of reply) n) old new → Leads (λ m n. Runs m actor (last_reply result) n) old new
+finished old new actor reply result told ran m shows =
+    let by = ran m shows in
+    let had = by.1 in
+    let all = had.goes.replies in
+    let is = told
+    (λ started. last_step m actor had.goes.grants all.before (reply_of reply) all.all_are (ap reply_of started))
+    (λ moved. had.ended (ap reply_of moved)) in
+    (by.0, subst (λ (r : machine.Reply). Runs m actor r by.0) (sym is) by.1, by.2)
+
 -- a call that was started runs
-pub started_runs : (old mid new : WorldState) (actor : ℕ) (call : Call) (reply last : Reply) → reply ≡ Started
+pub started_runs : (old mid new : WorldState) (actor : ℕ) (call : Call) (reply : Reply) (last : machine.Reply) → reply ≡ Started
     → ((m : machine.World) → Shows old m → IsStep m (Start actor call) reply mid)
-    → Leads (λ m n. Runs m actor (reply_of last) n) mid new
-    → Leads (λ m n. RunsFrom (step m (machine.Start actor call)).reply (step m (machine.Start actor call)).world actor (reply_of last) n)
-    old new
+    → Leads (λ m n. Runs m actor last n) mid new → Leads (λ m n. Calls m actor call last n) old new
 started_runs old mid new actor call reply last started makes runs m shows =
     let made = makes m shows in
     let by = runs (step m (machine.Start actor call)).world made.shows in (
       by.0,
-      subst (λ (r : machine.Reply). RunsFrom r (step m (machine.Start actor call)).world actor (reply_of last) by.0)
+      subst (λ (r : machine.Reply). RunsFrom r (step m (machine.Start actor call)).world actor last by.0)
           (sym (ap reply_of started) ∙ made.reply_is) by.1,
       by.2,
     )
@@ -164,15 +214,14 @@ stays_by (Done answer) w actor ne = (refl, refl)
 stays_by (Refused fault) w actor ne = (refl, refl)
 
 -- one that was not does not
-pub refused_stays : (old new : WorldState) (actor : ℕ) (call : Call) (reply : Reply) → reply ≢ Started
+pub refused_stays : (old new : WorldState) (actor : ℕ) (call : Call) (reply : Reply) (result : Result Answer CallFault)
+    → reply ≢ Started → (reply ≢ Started → reply ≢ Moved → last_reply result ≡ reply_of reply)
     → ((m : machine.World) → Shows old m → IsStep m (Start actor call) reply new)
-    → Leads (λ m n. RunsFrom (step m (machine.Start actor call)).reply (step m (machine.Start actor call)).world actor (reply_of reply) n)
-    old new
-refused_stays old new actor call reply ne makes m shows =
+    → Leads (λ m n. Calls m actor call (last_reply result) n) old new
+refused_stays old new actor call reply result ne told makes m shows =
     let made = makes m shows in
-    let after = step m (machine.Start actor call) in (
-      after.world,
-      subst (λ (r : machine.Reply). RunsFrom r after.world actor (reply_of reply) after.world) made.reply_is
-          (stays_by reply after.world actor ne),
-      made.shows,
-    )
+    let after = step m (machine.Start actor call) in
+    let is = told ne (λ moved. no_start_moves m actor call (sym made.reply_is ∙ ap reply_of moved)) in
+    let stays = subst (λ (r : machine.Reply). RunsFrom r after.world actor (reply_of reply) after.world) made.reply_is
+    (stays_by reply after.world actor ne) in
+    (after.world, subst (λ (r : machine.Reply). Calls m actor call r after.world) (sym is) stays, made.shows)

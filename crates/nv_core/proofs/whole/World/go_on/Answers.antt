@@ -1,18 +1,17 @@
 use Rattle.std.proofs.Common.{◌≡◌, ℕ, ◌+◌, ◌-◌, arith, subst}
 use Rattle.nv_core.specs.declared.event.Reply.{Reply}
 use Rattle.nv_core.specs.Worlds.{Leads, reply_of}
-use Rattle.nv_script.specs.Play.{GoesOn}
-use Rattle.nv_script.specs.Results.{HasMoved}
-use Rattle.nv_script.proofs.Goes.{goes, moved_more, moved_none, moved_only}
-use Rattle.nv_script.proofs.act.go.Goals as goal
+use Rattle.nv_core.specs.Whole.{GoesOn, HasMoved}
+use Rattle.nv_core.proofs.WholeCalls.{goes, moved_more, moved_none, moved_only}
+use Rattle.nv_core.proofs.whole.World.go_on.Goals as goal
 
 pub loop-reply-init : goal.loop-reply-init
 loop-reply-init c =
     let none : 0 ≡ c.args.more - c.args.more = omega arith in
     record {
       few = omega arith;
-      moved = subst (λ (n : ℕ). Leads (HasMoved n c.args.actor) c.args.world.now c.args.world.now) none
-          (moved_none c.args.world.now c.args.actor);
+      moved = subst (λ (n : ℕ). Leads (HasMoved n c.args.actor) c.args.self.now c.args.self.now) none
+          (moved_none c.args.self.now c.args.actor);
     }
 
 pub loop-reply-preserved : goal.loop-reply-preserved
@@ -21,19 +20,19 @@ loop-reply-preserved c =
     let more : c.args.more - c.loop-reply.left + 1 ≡ c.args.more - (c.loop-reply.left - 1) = omega (arith, few, c.if-left-eq0.false) in
     record {
       few = omega (arith, few);
-      moved = subst (λ (n : ℕ). Leads (HasMoved n c.args.actor) c.args.world.now c.go.new.self) more
-          (moved_more c.args.world.now c.loop-reply.world c.go.new.self (c.args.more - c.loop-reply.left) c.args.actor c.go.result
+      moved = subst (λ (n : ℕ). Leads (HasMoved n c.args.actor) c.args.self.now c.go.new.self) more
+          (moved_more c.args.self.now c.loop-reply.self c.go.new.self (c.args.more - c.loop-reply.left) c.args.actor c.go.result
           c.in-Moved.is c.loop-reply.invariant.moved c.go.ensures);
     }
 
 pub returns-in_default : goal.returns-in_default
 returns-in_default c =
-    goes c.args.world.now c.loop-reply.world c.go.new.self (c.args.more - c.loop-reply.left) c.args.more c.args.actor c.go.result
+    goes c.args.self.now c.loop-reply.self c.go.new.self (c.args.more - c.loop-reply.left) c.args.more c.args.actor c.go.result
     (omega arith) (λ moved. absurd (c.in_default.not-Moved (moved_only c.go.result moved))) c.loop-reply.invariant.moved c.go.ensures
 
 pub returns-then-left-eq0 : goal.returns-then-left-eq0
 returns-then-left-eq0 c =
-    subst (λ (r : Reply). Leads (λ m n. GoesOn (c.args.more + 1) m c.args.actor (reply_of r) n) c.args.world.now c.go.new.self)
+    subst (λ (r : Reply). Leads (λ m n. GoesOn (c.args.more + 1) m c.args.actor (reply_of r) n) c.args.self.now c.go.new.self)
     c.in-Moved.is
-    (goes c.args.world.now c.loop-reply.world c.go.new.self (c.args.more - c.loop-reply.left) c.args.more c.args.actor c.go.result
+    (goes c.args.self.now c.loop-reply.self c.go.new.self (c.args.more - c.loop-reply.left) c.args.more c.args.actor c.go.result
     (omega arith) (λ moved. omega (arith, c.if-left-eq0.true)) c.loop-reply.invariant.moved c.go.ensures)

@@ -1,12 +1,12 @@
 use Rattle.std.proofs.Common.{◌-◌, ◌≤◌}
-use Rattle.nv_script.specs.Results.{HasMoved}
+use Rattle.nv_core.specs.Whole.{HasMoved}
 use Rattle.nv_core.specs.Worlds.{Leads}
-use Rattle.nv_script.proofs.act.go.Given as goal
+use Rattle.nv_core.proofs.whole.World.go_on.Given as goal
 
 abbrev pub invariant-loop-reply : goal.invariant-loop-reply
 invariant-loop-reply l = record {
   few : l.left ≤ l.more;
-  moved : Leads (HasMoved (l.more - l.left) l.actor) l.fn.world l.world;
+  moved : Leads (HasMoved (l.more - l.left) l.actor) l.fn.self l.self;
 }
 
 abbrev pub decreases-loop-reply : goal.decreases-loop-reply
