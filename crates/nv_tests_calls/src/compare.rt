@@ -1,6 +1,7 @@
 //! Comparisons, and lists that grow, proved once for all tests: an `assert_eq!` of a test's own is proved with the
 //! text that it would show.
 
+use nv_core::{Answer, CallFault, Reply};
 use std::alloc::Global;
 use std::fmt::Debug;
 use std::process::Abort;
@@ -43,6 +44,15 @@ pub fn are_zeros(bytes: &[u8]) -> bool {
         }
     }
     true
+}
+
+/// The last reply of a whole call.
+pub fn last_reply(told: Result<Answer, CallFault>) -> Reply {
+    match told {
+        Ok(answer) => Reply::Done(answer),
+        Err(CallFault::Refused(fault)) => Reply::Refused(fault),
+        Err(CallFault::Waits) => Reply::Waits,
+    }
 }
 
 /// Adds an item to what a test notes for itself.

@@ -146,7 +146,7 @@ impl Mixed {
         match self.replies.get(place).ok_or("a reply")? {
             None => Ok(false),
             Some(Reply::Refused(Fault::NoSpace | Fault::NoInode)) => Ok(self.scene.row == TIGHT),
-            Some(replied) => Ok(same_reply(rt, replied, &scene.alone(rt, says)?, twins)),
+            Some(replied) => Ok(same_reply(rt, replied, &scene.alone(says)?, twins)),
         }
     }
 

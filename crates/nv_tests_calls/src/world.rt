@@ -7,12 +7,12 @@ mod reports;
 mod snapshots;
 mod words;
 
-use crate::compare::{holds_for, push, same};
+use crate::compare::{holds_for, last_reply, push, same};
 use Words::{Create, List, Lookup, Mkdir, Read, Rename, Size, Stat, Unlink, Write};
 use nv_base::{Fault, Kind, Name};
 use nv_core::{Event, Reply, TreeNode, World};
 use nv_scenes::Row;
-use playing::{finish, new_world};
+use playing::new_world;
 use std::alloc::Global;
 use std::process::Abort;
 use std::test::Fail;
@@ -37,8 +37,8 @@ fn reply_to(rt: &impl Abort, alloc: Global, world: &mut World, step: &Step) -> R
     match step {
         Start(actor, words) => world.step(Event::Start(*actor, call(rt, alloc, words))),
         Go(actor) => world.step(Event::Go(*actor)),
-        Run(actor) => finish(rt, world, *actor).1,
-        Do(words) => playing::alone(rt, alloc, world, 0, words).1,
+        Run(actor) => last_reply(world.finish(*actor)),
+        Do(words) => last_reply(world.call(0, call(rt, alloc, words))),
     }
 }
 

@@ -1,6 +1,7 @@
 //! A world with a few files, and the calls of its actors.
 
 use super::says::{PREPARED, Says, call};
+use crate::compare::last_reply;
 use nv_core::{Event, Reply, World};
 use nv_scenes::{Row, geometry};
 use std::alloc::Global;
@@ -18,16 +19,13 @@ pub(super) struct Scene {
 /// The bytes of a block.
 pub(super) const BLOCK: u64 = 4;
 
-/// No call alone has so many steps.
-const STEPS: u64 = 200;
-
 impl Scene {
     /// A world with what is prepared.
     pub fn prepared(rt: &impl Abort, alloc: Global, row: Row) -> Result<Scene, Fail> {
         let world = World::format(alloc, geometry(row)?)?;
         let mut scene = Scene { alloc, row, world };
         for says in PREPARED {
-            let reply = scene.alone(rt, says)?;
+            let reply = scene.alone(says)?;
             assert!(rt; matches!(reply, Reply::Done(_)));
         }
         Ok(scene)
@@ -47,15 +45,9 @@ impl Scene {
     }
 
     /// Makes a call while no other is made.
-    pub fn alone(&mut self, rt: &impl Abort, says: &Says) -> Result<Reply, Fail> {
-        self.start(rt, 0, says)?;
-        for _step in 0..STEPS {
-            let reply = self.step(Event::Go(0));
-            if !matches!(reply, Reply::Moved) {
-                return Ok(reply);
-            }
-        }
-        panic!(rt; "a call that does not end");
+    pub fn alone(&mut self, says: &Says) -> Result<Reply, Fail> {
+        let call = call(self.alloc, says)?;
+        Ok(last_reply(self.world.call(0, call)))
     }
 
     /// One step of an actor, and its reply where that ends the call.

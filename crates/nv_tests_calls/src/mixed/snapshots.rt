@@ -77,7 +77,7 @@ impl Snapped {
 
     /// Makes a call while no other is made.
     fn alone(&mut self, rt: &impl Abort, says: &Says) -> Result<(), Fail> {
-        let reply = self.scene.alone(rt, says)?;
+        let reply = self.scene.alone(says)?;
         self.note(rt, says, &reply)
     }
 

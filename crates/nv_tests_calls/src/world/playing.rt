@@ -1,4 +1,4 @@
-//! Worlds that are new, and calls that are made to their end.
+//! Worlds that are new, and calls whose steps are counted.
 
 use super::words::{Words, call};
 use crate::compare::same;
@@ -29,17 +29,6 @@ pub(super) fn reply_to(world: &mut World, event: Event) -> Reply {
     world.step(event)
 }
 
-/// A call of an actor goes on to its end: how many steps it makes, and the last reply.
-pub(super) fn finish(rt: &impl Abort, world: &mut World, actor: u64) -> (u64, Reply) {
-    for step in 1..STEPS {
-        let reply = reply_to(world, Event::Go(actor));
-        if !matches!(reply, Reply::Moved) {
-            return (step, reply);
-        }
-    }
-    panic!(rt; "a call that does not end");
-}
-
 /// An actor makes a call while no other does: how many steps it makes, and the last reply.
 pub(super) fn alone(
     rt: &impl Abort,
@@ -50,5 +39,11 @@ pub(super) fn alone(
 ) -> (u64, Reply) {
     let started = reply_to(world, Event::Start(actor, call(rt, alloc, words)));
     assert!(rt; matches!(started, Reply::Started));
-    finish(rt, world, actor)
+    for step in 1..STEPS {
+        let reply = reply_to(world, Event::Go(actor));
+        if !matches!(reply, Reply::Moved) {
+            return (step, reply);
+        }
+    }
+    panic!(rt; "a call that does not end");
 }
