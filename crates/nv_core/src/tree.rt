@@ -13,8 +13,8 @@ ghost use Rattle.nv_core.specs.Steps.{CanShow};
 ghost use Rattle.nv_core.specs.Worlds.{Shows};
 
 use crate::World;
-use crate::shared::Shared;
 use crate::format::root;
+use crate::shared::Shared;
 use nv_base::{Epoch, Fault, Handle, Ino};
 use nv_entry::{NodeCopy, Tree};
 use nv_reader::{Walk, settled_on, show_on};

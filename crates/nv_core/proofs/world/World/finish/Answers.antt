@@ -1,5 +1,5 @@
 use Rattle.nv_core.proofs.WholeCalls.{finished, ran}
-use Rattle.nv_core.proofs.whole.World.finish.Goals as goal
+use Rattle.nv_core.proofs.world.World.finish.Goals as goal
 
 pub returns : goal.returns
 returns c =

@@ -3,7 +3,7 @@ use Rattle.nv_core.specs.declared.event.Reply.{Reply}
 use Rattle.nv_core.specs.Worlds.{Leads, reply_of}
 use Rattle.nv_core.specs.Whole.{GoesOn, HasMoved}
 use Rattle.nv_core.proofs.WholeCalls.{goes, moved_more, moved_none, moved_only}
-use Rattle.nv_core.proofs.whole.World.go_on.Goals as goal
+use Rattle.nv_core.proofs.world.World.go_on.Goals as goal
 
 pub loop-reply-init : goal.loop-reply-init
 loop-reply-init c =

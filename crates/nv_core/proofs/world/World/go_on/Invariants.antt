@@ -1,7 +1,7 @@
 use Rattle.std.proofs.Common.{◌-◌, ◌≤◌}
 use Rattle.nv_core.specs.Whole.{HasMoved}
 use Rattle.nv_core.specs.Worlds.{Leads}
-use Rattle.nv_core.proofs.whole.World.go_on.Given as goal
+use Rattle.nv_core.proofs.world.World.go_on.Given as goal
 
 abbrev pub invariant-loop-reply : goal.invariant-loop-reply
 invariant-loop-reply l = record {

@@ -1,5 +1,5 @@
 use Rattle.nv_core.proofs.WholeCalls.{refused_stays, started_runs}
-use Rattle.nv_core.proofs.whole.World.call.Goals as goal
+use Rattle.nv_core.proofs.world.World.call.Goals as goal
 
 pub returns-in-Started : goal.returns-in-Started
 returns-in-Started c =
