@@ -1,9 +1,9 @@
 -- For what a call that is made alone is refused: for what the nodes refuse that stood when it was started, or for want.
+use Rattle.nv_book.specs.declared.record.Record.{Record}
 use Rattle.std.proofs.Common.{◌≡◌, ◌∙◌, ℕ, ◌++◌, Bool, true, false, List, [], ◌∷◌, Option, Some, None, ap, append-nil, append_assoc, inl, inr, length, nat_lt, refl, subst, sym}
 use Rattle.std.specs.Prelude.{Err}
 use Rattle.std.proofs.Math.Path.{fun_ext}
 use Rattle.std.proofs.lemmas.Bool.{true≢false}
-use Rattle.nv_base.specs.Limits.{IsWithinLimits}
 use Rattle.nv_base.specs.declared.fault.Fault.{Fault}
 use Rattle.nv_base.specs.declared.geometry.GeometryNumbers.{GeometryNumbers}
 use Rattle.nv_base.specs.declared.numbers.Handle.{Handle}
@@ -19,12 +19,12 @@ use Rattle.nv_machine.specs.Answered.{answer_of}
 use Rattle.nv_machine.specs.Causes.{IsCause}
 use Rattle.nv_machine.specs.EndsDecided.{decided, is_on_snapshots}
 use Rattle.nv_machine.specs.FitsNow.{is_checked}
-use Rattle.nv_machine.specs.Format.{formatted}
 use Rattle.nv_machine.specs.Hands.{HandOf, is_going}
 use Rattle.nv_machine.specs.Reads.{slots_of}
 use Rattle.nv_machine.specs.Sequence as sequence
 use Rattle.nv_machine.specs.Sequence.{Beginning, beginning, begun, directories, nothing_looked}
 use Rattle.nv_machine.specs.Settled.{settled_nodes}
+use Rattle.nv_machine.specs.Starts.{IsStart}
 use Rattle.nv_machine.specs.Step.{after, same_looked, step, turn}
 use Rattle.nv_machine.specs.World.{Answers, Append, Back, Check, Close, Ending, Enter, Event, Give, Go, HandState, Leave, Lock, Look, Next, Number, Open, Overtaken, Publish, Ready, Refused, Retire, Running, Shared, Snapshots, Start, Started, TakeBlocks, TakePages, Turn, Unlock, Visit, World, actor_at}
 use Rattle.nv_machine.proofs.AloneFine.{Fine, FineOf, OnFine, caused_fine, ends_fine, idle_fine, reply_fine, turned_fine}
@@ -140,15 +140,16 @@ nothing_to_look (call.Snapshots what) nodes other = refl
 
 -- ---- from event to event
 
-module _ (g : GeometryNumbers) (within : IsWithinLimits g) (actor : ℕ) (c : Call) (nodes : Handle → Option PlainNode)
+module _ (g : GeometryNumbers) (start : World) (records : List Record) (is_start : IsStart g start records) (actor : ℕ) (c : Call)
+    (nodes : Handle → Option PlainNode)
     (plain : is_on_snapshots c ≡ false) where
   abbrev pub Told : Fault → Type 0
   Told = IsRefusedOn g.block nodes c
 
-  module _ (events : List Event) (granted : Bool) (was : IsAlone g actor c nodes events)
-      (seen : FoundOf c nodes (actor_at (after (formatted g) events) actor).running) where
+  module _ (events : List Event) (granted : Bool) (was : IsAlone g start records actor c nodes events)
+      (seen : FoundOf c nodes (actor_at (after start events) actor).running) where
     abbrev w : World
-    w = after (formatted g) events
+    w = after start events
 
     abbrev h : HandState
     h = (actor_at w actor).hand
@@ -164,17 +165,17 @@ module _ (g : GeometryNumbers) (within : IsWithinLimits g) (actor : ℕ) (c : Ca
       told_now : r.ending ≡ Answers → (fault : Fault)
           → IsCause r.next w.numbers.block actor granted (node_in (settled_nodes w.shared)) w.shared h r fault → Told fault
       told_now going fault cause =
-          let had = plainly_told g events actor within r is (ap is_on_snapshots same_call ∙ plain) in
-          let none : decided actor (formatted g) events [] ≡ [] =
+          let had = plainly_told g start records events actor is_start r is (ap is_on_snapshots same_call ∙ plain) in
+          let none : decided actor start events [] ≡ [] =
           had.told ∙ ap (λ (e : Ending). told_at r.next e (answer_of r)) going
           ∙ cause_early w.numbers.block actor granted (settled_nodes w.shared) w.shared h r fault r.next (answer_of r) cause in
           let same : settled_nodes w.shared ≡ nodes = fun_ext (λ (handle : Handle). was.nodes_are none handle) in
-          let numbers : w.numbers ≡ g = (all_numbers g events within).numbers in
+          let numbers : w.numbers ≡ g = (all_numbers g start records events is_start).numbers in
           subst (λ (d : Call). IsRefusedOn g.block nodes d fault) same_call
           (subst (λ (n : Handle → Option PlainNode). IsRefusedOn g.block n r.call fault) same
           (subst (λ (x : GeometryNumbers). IsRefusedOn x.block (settled_nodes w.shared) r.call fault) numbers
           (cause_told w.numbers.block actor granted (settled_nodes w.shared) w.shared h r fault r.next had.stage
-          (λ checked. (still_passes g events actor r within is checked).passes) same_then cause))) where
+          (λ checked. (still_passes g start records events actor r is_start is checked).passes) same_then cause))) where
             had : HasFound (directories c) (looked (node_in nodes) c) r.next r
             had = subst (FoundOf c nodes) is seen
 
@@ -183,7 +184,7 @@ module _ (g : GeometryNumbers) (within : IsWithinLimits g) (actor : ℕ) (c : Ca
             same_then next =
                 let found : r.looked ≡ looked (node_in nodes) c =
                 subst (λ (k : Next). HasFound (directories c) (looked (node_in nodes) c) k r) next had in
-                let same = unchanged g within actor c nodes plain events granted was r is
+                let same = unchanged g start records is_start actor c nodes plain events granted was r is
                 (λ late. subst IsLate next late) in
                 ap (λ (n : Handle → Option PlainNode). same_looked (looked (node_in n) r.call) r.looked) same
                 ∙ ap (λ (d : Call). same_looked (looked (node_in nodes) d) r.looked) same_call
@@ -218,14 +219,15 @@ module _ (g : GeometryNumbers) (within : IsWithinLimits g) (actor : ℕ) (c : Ca
         go : (b : Bool) → is_going r.next ≡ b → OnFine Told t
         go false last = ends_fine Told r.next w.numbers.block actor granted w.shared h r last (not_over r.next had) fine
         go true going =
-            let own : HandOf g h (Some r) = subst (λ (o : Option Running). HandOf g h o) is ((all_numbers g events within).hands actor) in
+            let own : HandOf g h (Some r) =
+            subst (λ (o : Option Running). HandOf g h o) is ((all_numbers g start records events is_start).hands actor) in
             let ending = own.1 going in
-            caused_fine Told _ _ (told_now ending) t (plainly_caused g events actor granted r within is ending)
+            caused_fine Told _ _ (told_now ending) t (plainly_caused g start records events actor granted r is_start is ending)
 
     fine_more : FineOf Told (actor_at w actor).running
-        → FineOf Told (actor_at (after (formatted g) (events ++ Go actor granted ∷ [])) actor).running
+        → FineOf Told (actor_at (after start (events ++ Go actor granted ∷ [])) actor).running
     fine_more fine =
-        subst (λ (v : World). FineOf Told (actor_at v actor).running) (after_one events (formatted g) (Go actor granted))
+        subst (λ (v : World). FineOf Told (actor_at v actor).running) (after_one events start (Go actor granted))
         (go (actor_at w actor).running refl) where
           go : (running : Option Running) → (actor_at w actor).running ≡ running
               → FineOf Told (actor_at (step w (Go actor granted)).world actor).running
@@ -239,16 +241,16 @@ module _ (g : GeometryNumbers) (within : IsWithinLimits g) (actor : ℕ) (c : Ca
 
   -- of all that is known of a call that is made alone
   pub record IsFine (events : List Event) : Type 0 where
-    pub alone : IsAlone g actor c nodes events
-    pub seen : FoundOf c nodes (actor_at (after (formatted g) events) actor).running
-    pub fine : FineOf Told (actor_at (after (formatted g) events) actor).running
+    pub alone : IsAlone g start records actor c nodes events
+    pub seen : FoundOf c nodes (actor_at (after start events) actor).running
+    pub fine : FineOf Told (actor_at (after start events) actor).running
 
   fine_all : (grants : List Bool) (events : List Event) → IsFine events → IsFine (events ++ goes actor grants)
   fine_all [] events is = subst IsFine (sym (append-nil events)) is
   fine_all (b ∷ grants) events is =
       subst IsFine (append_assoc events (Go actor b ∷ []) (goes actor grants)) (fine_all grants (events ++ Go actor b ∷ []) (record {
-        alone = more g within actor c nodes events b is.alone;
-        seen = found_more g within actor c nodes plain events b is.alone is.seen;
+        alone = more g start records is_start actor c nodes events b is.alone;
+        seen = found_more g start records is_start actor c nodes plain events b is.alone is.seen;
         fine = fine_more events b is.alone is.seen is.fine;
       }))
 
@@ -277,27 +279,28 @@ begun_found sequence.Locks s c nodes e plain =
 begun_found sequence.Visits s c nodes e plain = λ over. cc
 begun_found (sequence.OnSnapshots what) s c nodes e plain = λ over. cc
 
-pub refused_for : (g : GeometryNumbers) (before : List Event) (actor : ℕ) (c : Call) (grants : List Bool) (granted : Bool) (r : Running)
-    (fault : Fault) → IsWithinLimits g → is_on_snapshots c ≡ false
-    → (step (after (formatted g) before) (Start actor c)).reply ≡ Started
-    → (actor_at (after (formatted g) (before ++ Start actor c ∷ goes actor grants)) actor).running ≡ Some r
-    → (step (after (formatted g) (before ++ Start actor c ∷ goes actor grants)) (Go actor granted)).reply ≡ Refused fault
-    → IsRefusedOn g.block (settled_nodes (after (formatted g) before).shared) c fault
-refused_for g before actor c grants granted r fault within plain started is reply =
-    let nodes = settled_nodes (after (formatted g) before).shared in
-    let P : Fault → Type 0 = Told g within actor c nodes plain in
+pub refused_for : (g : GeometryNumbers) (start : World) (records : List Record) (before : List Event) (actor : ℕ) (c : Call)
+    (grants : List Bool) (granted : Bool) (r : Running)
+    (fault : Fault) → IsStart g start records → is_on_snapshots c ≡ false
+    → (step (after start before) (Start actor c)).reply ≡ Started
+    → (actor_at (after start (before ++ Start actor c ∷ goes actor grants)) actor).running ≡ Some r
+    → (step (after start (before ++ Start actor c ∷ goes actor grants)) (Go actor granted)).reply ≡ Refused fault
+    → IsRefusedOn g.block (settled_nodes (after start before).shared) c fault
+refused_for g start records before actor c grants granted r fault is_start plain started is reply =
+    let nodes = settled_nodes (after start before).shared in
+    let P : Fault → Type 0 = Told g start records is_start actor c nodes plain in
     let ran : List Event = before ++ Start actor c ∷ goes actor grants in
-    let w = after (formatted g) ran in
-    let at = starts g within actor c before started in
-    let first : IsFine g within actor c nodes plain (before ++ Start actor c ∷ []) = record {
-      alone = begins g within actor c before started;
-      seen = subst (FoundOf c nodes) (sym at) (begun_found (beginning c) (after (formatted g) before).shared c nodes refl plain);
-      fine = subst (FineOf P) (sym at) (subst (Fine P) (sym (begun_ending (beginning c) (after (formatted g) before).shared c)) tt);
+    let w = after start ran in
+    let at = starts g start records is_start actor c before started in
+    let first : IsFine g start records is_start actor c nodes plain (before ++ Start actor c ∷ []) = record {
+      alone = begins g start records is_start actor c before started;
+      seen = subst (FoundOf c nodes) (sym at) (begun_found (beginning c) (after start before).shared c nodes refl plain);
+      fine = subst (FineOf P) (sym at) (subst (Fine P) (sym (begun_ending (beginning c) (after start before).shared c)) tt);
     } in
-    let all : IsFine g within actor c nodes plain ran =
-    subst (IsFine g within actor c nodes plain) (append_assoc before (Start actor c ∷ []) (goes actor grants))
-    (fine_all g within actor c nodes plain grants (before ++ Start actor c ∷ []) first) in
+    let all : IsFine g start records is_start actor c nodes plain ran =
+    subst (IsFine g start records is_start actor c nodes plain) (append_assoc before (Start actor c ∷ []) (goes actor grants))
+    (fine_all g start records is_start actor c nodes plain grants (before ++ Start actor c ∷ []) first) in
     let there = there_is w actor r is in
     reply_fine P (turn w.numbers.block actor granted w.shared (actor_at w actor).hand r) actor w fault
-    (on_turn g within actor c nodes plain ran granted all.alone all.seen r is (subst (FineOf P) is all.fine))
+    (on_turn g start records is_start actor c nodes plain ran granted all.alone all.seen r is (subst (FineOf P) is all.fine))
     (ap (λ made. made.reply) (sym (goes_by_turn w actor granted r there is).is_turn) ∙ reply)

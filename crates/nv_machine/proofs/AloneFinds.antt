@@ -1,7 +1,7 @@
 -- From step to step a call that is made alone has found what the plain world tells, and is never overtaken.
+use Rattle.nv_book.specs.declared.record.Record.{Record}
 use Rattle.std.proofs.Common.{◌≡◌, ◌∙◌, ℕ, ◌%◌, ◌+◌, ◌<◌, ◌++◌, Bool, true, false, List, [], ◌∷◌, Option, Some, None, ap, get_or-set_same, if◌then◌else◌, length, nat_lt, refl, subst, sym}
 use Rattle.std.proofs.Math.Path.{fun_ext}
-use Rattle.nv_base.specs.Limits.{IsWithinLimits}
 use Rattle.nv_base.specs.declared.geometry.GeometryNumbers.{GeometryNumbers}
 use Rattle.nv_base.specs.declared.numbers.Handle.{Handle}
 use Rattle.nv_calls.specs.AllCalls.{early, effect, looked, refusal}
@@ -12,12 +12,12 @@ use Rattle.nv_calls.specs.declared.looked.Looked.{Looked}
 use Rattle.nv_entry.specs.declared.node.NodeCopy.{NodeCopy}
 use Rattle.nv_machine.specs.Answered.{answer_of}
 use Rattle.nv_machine.specs.EndsDecided.{decided, is_on_snapshots}
-use Rattle.nv_machine.specs.Format.{formatted}
 use Rattle.nv_machine.specs.Hands.{is_going}
 use Rattle.nv_machine.specs.Kinds.{check_ending, seen_at}
 use Rattle.nv_machine.specs.Reads.{copies, nodes, written_slots}
 use Rattle.nv_machine.specs.Sequence.{beginning, directories, locking}
 use Rattle.nv_machine.specs.Settled.{settled_nodes}
+use Rattle.nv_machine.specs.Starts.{IsStart}
 use Rattle.nv_machine.specs.Step.{after, ending_at, go_step, handle_at, is_numbered, kind_turn, made_in, same_looked, step, turn, turned, with_made}
 use Rattle.nv_machine.specs.World.{Actor, Answers, Append, Back, Check, Close, Ending, Ends, Enter, Event, Give, Go, HandState, Leave, Lock, Look, Moves, Next, Number, Open, Overtaken, Publish, Ready, Retire, Running, Shared, SnapshotStep, Snapshots, TakeBlocks, TakePages, Turn, Unlock, Visit, Waits, World, actor_at, idle, owner_at}
 use Rattle.nv_machine.proofs.AloneLooks.{HasFound, IsLate, OnFound, appending_late, back_late, call_sees, check_late, check_same, end_late, enter_late, grown_late, lock_found, look_found, looked_self, number_found, on_found, paging_late, publishing_late, rest_late, retiring_late, taking_late, unlocked_late, visit_late}
@@ -137,10 +137,11 @@ module _ (c : Call) (nodes : Handle → Option PlainNode) where
   idle_found w actor granted true None is had = had
   idle_found w actor granted true (Some r) is had = cc
 
-module _ (g : GeometryNumbers) (within : IsWithinLimits g) (actor : ℕ) (c : Call) (start : Handle → Option PlainNode)
-    (plainly : is_on_snapshots c ≡ false) (events : List Event) (granted : Bool) (was : IsAlone g actor c start events) where
+module _ (g : GeometryNumbers) (start : World) (records : List Record) (is_start : IsStart g start records) (actor : ℕ) (c : Call)
+    (nodes : Handle → Option PlainNode)
+    (plainly : is_on_snapshots c ≡ false) (events : List Event) (granted : Bool) (was : IsAlone g start records actor c nodes events) where
   abbrev w : World
-  w = after (formatted g) events
+  w = after start events
 
   abbrev h : HandState
   h = (actor_at w actor).hand
@@ -152,23 +153,23 @@ module _ (g : GeometryNumbers) (within : IsWithinLimits g) (actor : ℕ) (c : Ca
     staged_at : (k : Next) → r.next ≡ k → Stage k r.ending r.call
     staged_at k next =
         subst (λ (k : Next). Stage k r.ending r.call) next
-        (plainly_told g events actor within r is (ap is_on_snapshots same_call ∙ plainly)).stage
+        (plainly_told g start records events actor is_start r is (ap is_on_snapshots same_call ∙ plainly)).stage
 
-    -- up to its check the nodes are those of the start
-    pub unchanged : (IsLate r.next → ⊥) → settled_nodes w.shared ≡ start
+    -- up to its check the nodes are those of the nodes
+    pub unchanged : (IsLate r.next → ⊥) → settled_nodes w.shared ≡ nodes
     unchanged front =
-        let none : decided actor (formatted g) events [] ≡ [] =
-        (plainly_told g events actor within r is (ap is_on_snapshots same_call ∙ plainly)).told
+        let none : decided actor start events [] ≡ [] =
+        (plainly_told g start records events actor is_start r is (ap is_on_snapshots same_call ∙ plainly)).told
         ∙ front_told r.next r.ending (answer_of r) front in
         fun_ext (λ (handle : Handle). was.nodes_are none handle)
 
     given_now : Given w.numbers.block actor granted w.shared h r r.next
     given_now =
-        let known = all_known g within events in
-        let rely = relied g w known (all_fit g within events) actor r is in
+        let known = all_known g start records is_start events in
+        let rely = relied g w known (all_fit g start records is_start events) actor r is in
         record {
           free = free_node w known.reached.grown;
-          inside = λ place next. look_inside g events actor place r is next;
+          inside = λ place next. look_inside start events actor place r is_start.idle_all is next;
           going = rely.ending;
           ends = λ next. check_ends next;
           files = λ kind next. staged_at (Snapshots kind) next;
@@ -180,29 +181,29 @@ module _ (g : GeometryNumbers) (within : IsWithinLimits g) (actor : ℕ) (c : Ca
               (effect (node_in (settled_nodes w.shared)) (made_in w.shared h.ino r.made) r.call)
           check_ends next =
               let st = subst (λ (k : Next). Relied k w.numbers.block actor (actor % length w.shared.lists) w.shared h r) next
-              (relied g w (all_known g within events) (all_fit g within events) actor r is) in
+              (relied g w (all_known g start records is_start events) (all_fit g start records is_start events) actor r is) in
               ending_settled w.numbers.block w.shared h r (st.logs refl) st.fits
 
-    found_turn : HasFound (directories c) (looked (node_in start) c) r.next r
-        → OnFound (directories c) (looked (node_in start) c) (turn w.numbers.block actor granted w.shared h r)
+    found_turn : HasFound (directories c) (looked (node_in nodes) c) r.next r
+        → OnFound (directories c) (looked (node_in nodes) c) (turn w.numbers.block actor granted w.shared h r)
     found_turn had =
-        subst (λ (d : Call). OnFound (directories d) (looked (node_in start) c) (turn w.numbers.block actor granted w.shared h r)) same_call
-        (kind_found w.numbers.block actor granted w.shared h r (looked (node_in start) c) r.next given_now
-        (λ front. ap (λ (d : Call). looked (node_in start) d) (sym same_call)
+        subst (λ (d : Call). OnFound (directories d) (looked (node_in nodes) c) (turn w.numbers.block actor granted w.shared h r)) same_call
+        (kind_found w.numbers.block actor granted w.shared h r (looked (node_in nodes) c) r.next given_now
+        (λ front. ap (λ (d : Call). looked (node_in nodes) d) (sym same_call)
         ∙ ap (λ (n : Handle → Option PlainNode). looked (node_in n) r.call) (sym (unchanged front)))
-        (subst (λ (d : Call). HasFound (directories d) (looked (node_in start) c) r.next r) (sym same_call) had))
+        (subst (λ (d : Call). HasFound (directories d) (looked (node_in nodes) c) r.next r) (sym same_call) had))
 
-  pub found_more : FoundOf c start (actor_at w actor).running
-      → FoundOf c start (actor_at (after (formatted g) (events ++ Go actor granted ∷ [])) actor).running
+  pub found_more : FoundOf c nodes (actor_at w actor).running
+      → FoundOf c nodes (actor_at (after start (events ++ Go actor granted ∷ [])) actor).running
   found_more had =
-      subst (λ (v : World). FoundOf c start (actor_at v actor).running) (after_one events (formatted g) (Go actor granted))
+      subst (λ (v : World). FoundOf c nodes (actor_at v actor).running) (after_one events start (Go actor granted))
       (go (actor_at w actor).running refl) where
         go : (running : Option Running) → (actor_at w actor).running ≡ running
-            → FoundOf c start (actor_at (step w (Go actor granted)).world actor).running
-        go None is = idle_found c start w actor granted (nat_lt actor (length w.actors)) (actor_at w actor).running is had
+            → FoundOf c nodes (actor_at (step w (Go actor granted)).world actor).running
+        go None is = idle_found c nodes w actor granted (nat_lt actor (length w.actors)) (actor_at w actor).running is had
         go (Some r) is =
             let there = there_is w actor r is in
-            subst (λ made. FoundOf c start (actor_at made.world actor).running)
+            subst (λ made. FoundOf c nodes (actor_at made.world actor).running)
             (sym (goes_by_turn w actor granted r there is).is_turn)
-            (turned_found c start (turn w.numbers.block actor granted w.shared h r) actor w there had
-            (found_turn r is (subst (FoundOf c start) is had)))
+            (turned_found c nodes (turn w.numbers.block actor granted w.shared h r) actor w there had
+            (found_turn r is (subst (FoundOf c nodes) is had)))

@@ -1,9 +1,9 @@
 -- A call that is made alone is told what the plain world answers on the nodes that stood when it was started.
+use Rattle.nv_book.specs.declared.record.Record.{Record}
 use Rattle.std.proofs.Common.{◌≡◌, ◌⊎◌, ◌∙◌, ℕ, ◌&&◌, ◌++◌, if◌then◌else◌, get_or-set_same, inl, inr, Bool, true, false, cond, List, [], ◌∷◌, Option, Some, None, ap, append-nil, append_assoc, length, nat_lt, refl, subst, sym}
 use Rattle.std.specs.Prelude.{Ok, Err, not}
 use Rattle.std.proofs.Math.Path.{fun_ext}
 use Rattle.std.proofs.lemmas.Bool.{false≢true, lt-ltb, ltb-true}
-use Rattle.nv_base.specs.Limits.{IsWithinLimits}
 use Rattle.nv_base.specs.declared.fault.Fault.{Fault}
 use Rattle.nv_base.specs.declared.geometry.GeometryNumbers.{GeometryNumbers}
 use Rattle.nv_base.specs.declared.numbers.Handle.{Handle}
@@ -16,12 +16,12 @@ use Rattle.nv_calls.specs.declared.call.Call.TheVariants as call
 use Rattle.nv_entry.specs.declared.node.NodeCopy.{NodeCopy}
 use Rattle.nv_machine.specs.Alone.{IsAnsweredOn, goes}
 use Rattle.nv_machine.specs.EndsDecided.{decided, decides, decision_of, is_no_change, is_on_snapshots, is_pass, unless_started}
-use Rattle.nv_machine.specs.Format.{formatted}
 use Rattle.nv_machine.specs.PlainRun.{Commits, Deed, Nothing, Numbers, OnSnapshots, deed, deed_by, deed_of, keeps_nodes}
 use Rattle.nv_machine.specs.Reads.{written_slots}
 use Rattle.nv_machine.specs.Sequence as sequence
 use Rattle.nv_machine.specs.Sequence.{Beginning, beginning, begun}
 use Rattle.nv_machine.specs.Settled.{settled_nodes}
+use Rattle.nv_machine.specs.Starts.{IsStart}
 use Rattle.nv_machine.specs.Step.{after, go_step, start_step, step, turn}
 use Rattle.nv_machine.specs.World.{Actor, Append, Back, Check, Close, Done, Enter, Event, Give, Go, Leave, Lock, Look, Next, Number, Open, Publish, Ready, Refused, Reply, Retire, Running, Shared, Snapshots, Start, Started, TakeBlocks, TakePages, Turn, Unlock, Visit, World, actor_at, idle}
 use Rattle.nv_machine.proofs.CallsStay.{IsCallOf, call_stays}
@@ -146,43 +146,45 @@ kept_if false d e = refl
 -- ---- from event to event
 
 -- up to its decision these are the nodes, and what is decided is told on them
-pub record IsAlone (g : GeometryNumbers) (actor : ℕ) (c : Call) (nodes : Handle → Option PlainNode) (events : List Event) : Type 0 where
-  pub call : IsCallOf c (actor_at (after (formatted g) events) actor).running
-  pub nodes_are : decided actor (formatted g) events [] ≡ [] → (handle : Handle)
-      → settled_nodes (after (formatted g) events).shared handle ≡ nodes handle
-  pub told : (a : Answer) → decided actor (formatted g) events [] ≡ a ∷ []
-      → IsAnsweredOn g.block nodes (settled_nodes (after (formatted g) events).shared) c a
+pub record IsAlone (g : GeometryNumbers) (start : World) (records : List Record) (actor : ℕ) (c : Call)
+    (nodes : Handle → Option PlainNode) (events : List Event) : Type 0 where
+  pub call : IsCallOf c (actor_at (after start events) actor).running
+  pub nodes_are : decided actor start events [] ≡ [] → (handle : Handle)
+      → settled_nodes (after start events).shared handle ≡ nodes handle
+  pub told : (a : Answer) → decided actor start events [] ≡ a ∷ []
+      → IsAnsweredOn g.block nodes (settled_nodes (after start events).shared) c a
 
-module _ (g : GeometryNumbers) (within : IsWithinLimits g) (actor : ℕ) (c : Call) (nodes : Handle → Option PlainNode)
-    (events : List Event) (granted : Bool) (was : IsAlone g actor c nodes events) where
+module _ (g : GeometryNumbers) (start : World) (records : List Record) (is_start : IsStart g start records) (actor : ℕ) (c : Call)
+    (nodes : Handle → Option PlainNode)
+    (events : List Event) (granted : Bool) (was : IsAlone g start records actor c nodes events) where
   abbrev w : World
-  w = after (formatted g) events
+  w = after start events
 
   abbrev e : Event
   e = Go actor granted
 
   abbrev before : List Answer
-  before = decided actor (formatted g) events []
+  before = decided actor start events []
 
-  next : (step w e).world ≡ after (formatted g) (events ++ e ∷ [])
-  next = after_one events (formatted g) e
+  next : (step w e).world ≡ after start (events ++ e ∷ [])
+  next = after_one events start e
 
-  list : decided actor (formatted g) (events ++ e ∷ []) [] ≡ decision_of (actor_at w actor).running w actor granted ++ before
-  list = decided_more events (formatted g) actor e []
+  list : decided actor start (events ++ e ∷ []) [] ≡ decision_of (actor_at w actor).running w actor granted ++ before
+  list = decided_more events start actor e []
       ∙ ap (λ (b : Bool). cond b (decision_of (actor_at w actor).running w actor granted ++ before) before) (self actor)
 
   call_then : IsCallOf c (actor_at (step w e).world actor).running
-      → IsCallOf c (actor_at (after (formatted g) (events ++ e ∷ [])) actor).running
+      → IsCallOf c (actor_at (after start (events ++ e ∷ [])) actor).running
   call_then = subst (λ (v : World). IsCallOf c (actor_at v actor).running) next
 
   quiet : IsCallOf c (actor_at (step w e).world actor).running → decision_of (actor_at w actor).running w actor granted ≡ []
-      → keeps_nodes (deed_of w e) ≡ true → IsAlone g actor c nodes (events ++ e ∷ [])
+      → keeps_nodes (deed_of w e) ≡ true → IsAlone g start records actor c nodes (events ++ e ∷ [])
   quiet call none keeps =
-      let same : decided actor (formatted g) (events ++ e ∷ []) [] ≡ before = list ∙ ap (λ (l : List Answer). l ++ before) none in
+      let same : decided actor start (events ++ e ∷ []) [] ≡ before = list ∙ ap (λ (l : List Answer). l ++ before) none in
       record {
         call = call_then call;
         nodes_are = λ d handle. subst (λ (v : World). settled_nodes v.shared handle ≡ nodes handle) next
-            (reached_nodes w e (reached g events within) keeps handle ∙ was.nodes_are (sym same ∙ d) handle);
+            (reached_nodes w e (reached g start records events is_start) keeps handle ∙ was.nodes_are (sym same ∙ d) handle);
         told = λ a d.
             let on = was.told a (sym same ∙ d) in
             record {
@@ -191,7 +193,7 @@ module _ (g : GeometryNumbers) (within : IsWithinLimits g) (actor : ℕ) (c : Ca
               passes_is = on.passes_is;
               told_is = on.told_is;
               becomes = λ handle. ap (λ (v : World). settled_nodes v.shared handle) (sym next)
-                  ∙ reached_nodes w e (reached g events within) keeps handle ∙ on.becomes handle;
+                  ∙ reached_nodes w e (reached g start records events is_start) keeps handle ∙ on.becomes handle;
             };
       }
 
@@ -212,7 +214,7 @@ module _ (g : GeometryNumbers) (within : IsWithinLimits g) (actor : ℕ) (c : Ca
     deed_is = ap (λ (o : Option Running). if nat_lt actor (length w.actors) then deed_by o w actor granted else Nothing) is
 
     abbrev left : Handle → Option PlainNode
-    left = settled_nodes (after (formatted g) (events ++ e ∷ [])).shared
+    left = settled_nodes (after start (events ++ e ∷ [])).shared
 
     abbrev now : Answer
     now = answer (settled_nodes w.shared) r.made r.call
@@ -224,7 +226,8 @@ module _ (g : GeometryNumbers) (within : IsWithinLimits g) (actor : ℕ) (c : Ca
     answered_now : decides r.next w.numbers.block w.shared r t ≡ true
         → IsAnsweredOn w.numbers.block (settled_nodes w.shared) left r.call now
     answered_now here =
-        go (decided_how r.next w.numbers.block w.shared r t (λ visit. visits_of g events actor within r is visit) here) where
+        go (decided_how r.next w.numbers.block w.shared r t (λ visit. visits_of g start records events actor is_start r is visit)
+        here) where
           go : ChangesNothing r.next w.numbers.block w.shared r t ⊎ (deed r.next (written_slots r) t ≡ Commits)
               → IsAnsweredOn w.numbers.block (settled_nodes w.shared) left r.call now
           go (inl quiet_it) = record {
@@ -233,7 +236,7 @@ module _ (g : GeometryNumbers) (within : IsWithinLimits g) (actor : ℕ) (c : Ca
             passes_is = quiet_it.passes_is;
             told_is = refl;
             becomes = λ handle. stands handle
-                ∙ reached_nodes w e (reached g events within)
+                ∙ reached_nodes w e (reached g start records events is_start)
                 (ap keeps_nodes deed_is ∙ kept_if (nat_lt actor (length w.actors)) (deed r.next (written_slots r) t) quiet_it.keeps) handle
                 ∙ ap (λ (l : List Change). nodes_after r.commit l (settled_nodes w.shared) handle) (sym quiet_it.no_effect);
           }
@@ -244,14 +247,14 @@ module _ (g : GeometryNumbers) (within : IsWithinLimits g) (actor : ℕ) (c : Ca
               record {
                 made = r.made;
                 commit = r.commit;
-                passes_is = has_passed g events actor granted r within there is point;
+                passes_is = has_passed g start records events actor granted r is_start there is point;
                 told_is = refl;
-                becomes = λ handle. stands handle ∙ has_effect g events actor granted r within there is point handle;
+                becomes = λ handle. stands handle ∙ has_effect g start records events actor granted r is_start there is point handle;
               }
 
-    loud : decides r.next w.numbers.block w.shared r t ≡ true → IsAlone g actor c nodes (events ++ e ∷ [])
+    loud : decides r.next w.numbers.block w.shared r t ≡ true → IsAlone g start records actor c nodes (events ++ e ∷ [])
     loud here =
-        let said : decided actor (formatted g) (events ++ e ∷ []) [] ≡ now ∷ before =
+        let said : decided actor start (events ++ e ∷ []) [] ≡ now ∷ before =
         list ∙ ap (λ (o : Option Running). decision_of o w actor granted ++ before) is
         ∙ ap (λ (b : Bool). cond b (now ∷ []) [] ++ before) here in
         record {
@@ -267,14 +270,14 @@ module _ (g : GeometryNumbers) (within : IsWithinLimits g) (actor : ℕ) (c : Ca
               let none : before ≡ [] = cc in
               let first : now ≡ a = cc in
               let same : settled_nodes w.shared ≡ nodes = fun_ext (λ (handle : Handle). was.nodes_are none handle) in
-              let numbers : w.numbers ≡ g = (all_numbers g events within).numbers in
+              let numbers : w.numbers ≡ g = (all_numbers g start records events is_start).numbers in
               subst (λ (told : Answer). IsAnsweredOn g.block nodes left c told) first
               (subst (λ (d : Call). IsAnsweredOn g.block nodes left d now) same_call
               (subst (λ (n : Handle → Option PlainNode). IsAnsweredOn g.block n left r.call now) same
               (subst (λ (x : GeometryNumbers). IsAnsweredOn x.block (settled_nodes w.shared) left r.call now) numbers
               (answered_now here))))
 
-    running_goes : (b : Bool) → decides r.next w.numbers.block w.shared r t ≡ b → IsAlone g actor c nodes (events ++ e ∷ [])
+    running_goes : (b : Bool) → decides r.next w.numbers.block w.shared r t ≡ b → IsAlone g start records actor c nodes (events ++ e ∷ [])
     running_goes true here = loud here
     running_goes false other =
         quiet (call_stays w actor granted r c is same_call)
@@ -283,9 +286,9 @@ module _ (g : GeometryNumbers) (within : IsWithinLimits g) (actor : ℕ) (c : Ca
         (ap keeps_nodes deed_is ∙ kept_if (nat_lt actor (length w.actors)) (deed r.next (written_slots r) t)
         (undecided r.next w.numbers.block w.shared r t other))
 
-  pub more : IsAlone g actor c nodes (events ++ e ∷ [])
+  pub more : IsAlone g start records actor c nodes (events ++ e ∷ [])
   more = go (actor_at w actor).running refl where
-    go : (running : Option Running) → (actor_at w actor).running ≡ running → IsAlone g actor c nodes (events ++ e ∷ [])
+    go : (running : Option Running) → (actor_at w actor).running ≡ running → IsAlone g start records actor c nodes (events ++ e ∷ [])
     go (Some r) is = running_goes r is (decides r.next w.numbers.block w.shared r (t r is)) refl
     go None is =
         quiet (idle_call (nat_lt actor (length w.actors)) (actor_at w actor).running is)
@@ -302,10 +305,11 @@ begun_call sequence.Locks s c = refl
 begun_call sequence.Visits s c = refl
 begun_call (sequence.OnSnapshots what) s c = refl
 
-module _ (g : GeometryNumbers) (within : IsWithinLimits g) (actor : ℕ) (c : Call) (before : List Event)
-    (started : (step (after (formatted g) before) (Start actor c)).reply ≡ Started) where
+module _ (g : GeometryNumbers) (start : World) (records : List Record) (is_start : IsStart g start records) (actor : ℕ) (c : Call)
+    (before : List Event)
+    (started : (step (after start before) (Start actor c)).reply ≡ Started) where
   abbrev first : World
-  first = after (formatted g) before
+  first = after start before
 
   abbrev nodes : Handle → Option PlainNode
   nodes = settled_nodes first.shared
@@ -321,62 +325,62 @@ module _ (g : GeometryNumbers) (within : IsWithinLimits g) (actor : ℕ) (c : Ca
       (record { hand = (actor_at first actor).hand; running = Some (begun (beginning c) first.shared c) }) idle
       (ltb-true actor (length first.actors) there))
 
-  pub starts : (actor_at (after (formatted g) (before ++ Start actor c ∷ [])) actor).running ≡ Some (begun (beginning c) first.shared c)
+  pub starts : (actor_at (after start (before ++ Start actor c ∷ [])) actor).running ≡ Some (begun (beginning c) first.shared c)
   starts =
-      ap (λ (v : World). (actor_at v actor).running) (sym (after_one before (formatted g) (Start actor c)))
+      ap (λ (v : World). (actor_at v actor).running) (sym (after_one before start (Start actor c)))
       ∙ starts_with (nat_lt actor (length first.actors)) (actor_at first actor).running refl started
 
-  none_yet : decided actor (formatted g) (before ++ Start actor c ∷ []) [] ≡ []
+  none_yet : decided actor start (before ++ Start actor c ∷ []) [] ≡ []
   none_yet =
-      decided_more before (formatted g) actor (Start actor c) []
-      ∙ ap (λ (b : Bool). cond b (unless_started (step first (Start actor c)).reply (decided actor (formatted g) before []))
-      (decided actor (formatted g) before [])) (self actor)
-      ∙ ap (λ (x : Reply). unless_started x (decided actor (formatted g) before [])) started
+      decided_more before start actor (Start actor c) []
+      ∙ ap (λ (b : Bool). cond b (unless_started (step first (Start actor c)).reply (decided actor start before []))
+      (decided actor start before [])) (self actor)
+      ∙ ap (λ (x : Reply). unless_started x (decided actor start before [])) started
 
-  pub begins : IsAlone g actor c nodes (before ++ Start actor c ∷ [])
+  pub begins : IsAlone g start records actor c nodes (before ++ Start actor c ∷ [])
   begins =
-      let next : (step first (Start actor c)).world ≡ after (formatted g) (before ++ Start actor c ∷ []) =
-      after_one before (formatted g) (Start actor c) in
+      let next : (step first (Start actor c)).world ≡ after start (before ++ Start actor c ∷ []) =
+      after_one before start (Start actor c) in
       record {
         call = subst (IsCallOf c) (sym starts) (begun_call (beginning c) first.shared c);
         nodes_are = λ d handle. subst (λ (v : World). settled_nodes v.shared handle ≡ nodes handle) next
-            (reached_nodes first (Start actor c) (reached g before within) refl handle);
+            (reached_nodes first (Start actor c) (reached g start records before is_start) refl handle);
         told = λ a d. absurd (nil_cons a (sym none_yet ∙ d));
       } where
         nil_cons : (a : Answer) → [] ≡ a ∷ [] → ⊥
         nil_cons a e = cc
 
-  all_goes : (grants : List Bool) (events : List Event) → IsAlone g actor c nodes events
-      → IsAlone g actor c nodes (events ++ goes actor grants)
-  all_goes [] events was = subst (IsAlone g actor c nodes) (sym (append-nil events)) was
+  all_goes : (grants : List Bool) (events : List Event) → IsAlone g start records actor c nodes events
+      → IsAlone g start records actor c nodes (events ++ goes actor grants)
+  all_goes [] events was = subst (IsAlone g start records actor c nodes) (sym (append-nil events)) was
   all_goes (b ∷ grants) events was =
-      subst (IsAlone g actor c nodes) (append_assoc events (Go actor b ∷ []) (goes actor grants))
-      (all_goes grants (events ++ Go actor b ∷ []) (more g within actor c nodes events b was))
+      subst (IsAlone g start records actor c nodes) (append_assoc events (Go actor b ∷ []) (goes actor grants))
+      (all_goes grants (events ++ Go actor b ∷ []) (more g start records is_start actor c nodes events b was))
 
   abbrev pub ran : List Bool → List Event
   ran grants = before ++ Start actor c ∷ goes actor grants
 
-  pub alone : (grants : List Bool) → IsAlone g actor c nodes (ran grants)
+  pub alone : (grants : List Bool) → IsAlone g start records actor c nodes (ran grants)
   alone grants =
-      subst (IsAlone g actor c nodes) (append_assoc before (Start actor c ∷ []) (goes actor grants))
+      subst (IsAlone g start records actor c nodes) (append_assoc before (Start actor c ∷ []) (goes actor grants))
       (all_goes grants (before ++ Start actor c ∷ []) begins)
 
   pub told_alone : (grants : List Bool) (granted : Bool) (r : Running) (told : Answer) → is_on_snapshots c ≡ false
-      → (actor_at (after (formatted g) (ran grants)) actor).running ≡ Some r
-      → (step (after (formatted g) (ran grants)) (Go actor granted)).reply ≡ Done told
-      → IsAnsweredOn g.block nodes (settled_nodes (step (after (formatted g) (ran grants)) (Go actor granted)).world.shared) c told
+      → (actor_at (after start (ran grants)) actor).running ≡ Some r
+      → (step (after start (ran grants)) (Go actor granted)).reply ≡ Done told
+      → IsAnsweredOn g.block nodes (settled_nodes (step (after start (ran grants)) (Go actor granted)).world.shared) c told
   told_alone grants granted r told plain is reply =
       let same : r.call ≡ c = subst (IsCallOf c) is (alone grants).call in
       subst (λ (v : World). IsAnsweredOn g.block nodes (settled_nodes v.shared) c told)
-      (sym (after_one (ran grants) (formatted g) (Go actor granted)))
-      ((more g within actor c nodes (ran grants) granted (alone grants)).told told
-      (is_decided g (ran grants) actor within granted r told is (ap is_on_snapshots same ∙ plain) reply))
+      (sym (after_one (ran grants) start (Go actor granted)))
+      ((more g start records is_start actor c nodes (ran grants) granted (alone grants)).told told
+      (is_decided g start records (ran grants) actor is_start granted r told is (ap is_on_snapshots same ∙ plain) reply))
 
   pub refused_alone : (grants : List Bool) (granted : Bool) (r : Running) (fault : Fault)
-      → (actor_at (after (formatted g) (ran grants)) actor).running ≡ Some r
-      → (step (after (formatted g) (ran grants)) (Go actor granted)).reply ≡ Refused fault → (handle : Handle)
-      → settled_nodes (step (after (formatted g) (ran grants)) (Go actor granted)).world.shared handle ≡ nodes handle
+      → (actor_at (after start (ran grants)) actor).running ≡ Some r
+      → (step (after start (ran grants)) (Go actor granted)).reply ≡ Refused fault → (handle : Handle)
+      → settled_nodes (step (after start (ran grants)) (Go actor granted)).world.shared handle ≡ nodes handle
   refused_alone grants granted r fault is reply handle =
-      ap (λ (v : World). settled_nodes v.shared handle) (after_one (ran grants) (formatted g) (Go actor granted))
-      ∙ (more g within actor c nodes (ran grants) granted (alone grants)).nodes_are
-      (is_undecided g (ran grants) actor within granted r fault is reply) handle
+      ap (λ (v : World). settled_nodes v.shared handle) (after_one (ran grants) start (Go actor granted))
+      ∙ (more g start records is_start actor c nodes (ran grants) granted (alone grants)).nodes_are
+      (is_undecided g start records (ran grants) actor is_start granted r fault is reply) handle

@@ -1,4 +1,5 @@
 -- A taking that falls short has asked every list, and each gave all that it had.
+use Rattle.nv_book.specs.declared.record.Record.{Record}
 use Rattle.std.proofs.Common.{◌≡◌, ◌≢◌, ℕ, zero, suc, ◌+◌, ◌-◌, ◌<◌, ◌≤◌, ◌==◌, ◌++◌, ◌∙◌, Bool, true, false, List, [], ◌∷◌, Option, Some, None, add-one, ap, arith, drop, get_or-set_same, if◌then◌else◌, length, length-append, mod-lt, nat_lt, refl, subst, sym, take}
 use Rattle.std.specs.List.{sum_by}
 use Rattle.std.proofs.lemmas.Bool.{eqb-false, eqb-true, ltb-false, ltb-true}
@@ -7,16 +8,15 @@ use Rattle.std.proofs.lemmas.List.Sums.{sum_by-cons}
 use Rattle.std.proofs.lemmas.Option.{none-some}
 use Rattle.nv_alloc.specs.Block.{BlockValue}
 use Rattle.nv_alloc.specs.FreeList.{FreeBlocks}
-use Rattle.nv_base.specs.Limits.{IsWithinLimits}
 use Rattle.nv_base.specs.declared.fault.Fault.TheVariants.{NoSpace}
 use Rattle.nv_base.specs.declared.geometry.GeometryNumbers.{GeometryNumbers}
 use Rattle.nv_calls.specs.declared.call.Call.{Call}
 use Rattle.nv_machine.specs.Causes.{RefusesFor}
-use Rattle.nv_machine.specs.Format.{formatted}
 use Rattle.nv_machine.specs.Hands.{HandOf, is_going}
 use Rattle.nv_machine.specs.Kinds.{asked_list, blocks_in, blocks_turn, end_turn, less_list, pages_turn, rest_turn, wants_pages}
 use Rattle.nv_machine.specs.Reads.{home_from, slots_of}
 use Rattle.nv_machine.specs.Sequence.{Beginning, Locks, Looks, Numbers, OnSnapshots, Visits, beginning, begun, nothing_looked}
+use Rattle.nv_machine.specs.Starts.{IsStart}
 use Rattle.nv_machine.specs.Step.{after, go_step, kind_turn, start_step, step, turn, turned}
 use Rattle.nv_machine.specs.Takings.{AreEmptied, Asked, IsEmptied, IsShortInAll, Taking, and_asked, asked_in, asking, asks_list, beginning_with, no_taking, taking_after, taking_by, taking_in, taking_of}
 use Rattle.nv_machine.specs.World.{Actor, Answers, Check, Ends, Event, Go, HandState, Lock, Moves, Next, Ready, Refuses, Running, Shared, Start, TakeBlocks, TakePages, Turn, Waits, World, actor_at, idle, list_at, no_list}
@@ -24,7 +24,6 @@ use Rattle.nv_machine.proofs.Events.{starts, turned_others}
 use Rattle.nv_machine.proofs.Caused.{unrefused}
 use Rattle.nv_machine.proofs.Firsts.{IsFirst, OnFirst, end_plain, first, on_apart, on_first, pages_first}
 use Rattle.nv_machine.proofs.FromScratch.{all_numbers}
-use Rattle.nv_machine.proofs.Locks.{all_same}
 
 -- ---- what a taking knows
 
@@ -342,22 +341,23 @@ module _ (cpus actor : ℕ) (some : 0 < cpus) where
 
 -- ---- the law
 
-pub lists_asked : (g : GeometryNumbers) (events : List Event) (actor : ℕ) (granted : Bool) (r : Running) → IsWithinLimits g
-    → (actor_at (after (formatted g) events) actor).running ≡ Some r → asks_list r.next ≡ true
-    → RefusesFor (IsShortInAll g.cpus actor (taking_of (Some r) (after (formatted g) events) actor granted
-    (taking_after actor (formatted g) events no_taking))) ⊥
-    (turn (after (formatted g) events).numbers.block actor granted (after (formatted g) events).shared
-    (actor_at (after (formatted g) events) actor).hand r)
-lists_asked g events actor granted r within is takes =
-    let w : World = after (formatted g) events in
-    let all = all_numbers g events within in
-    let own = events_asks g.cpus actor within.some_cpus events (formatted g) no_taking
-    (λ before. (all_numbers g before within).lists.cpus)
-    (subst (λ (x : Actor). AsksOf x.running g.cpus actor no_taking) (sym (all_same g.actors actor idle)) tt) in
+pub lists_asked : (g : GeometryNumbers) (start : World) (records : List Record) (events : List Event) (actor : ℕ) (granted : Bool)
+    (r : Running) → IsStart g start records
+    → (actor_at (after start events) actor).running ≡ Some r → asks_list r.next ≡ true
+    → RefusesFor (IsShortInAll g.cpus actor (taking_of (Some r) (after start events) actor granted
+    (taking_after actor start events no_taking))) ⊥
+    (turn (after start events).numbers.block actor granted (after start events).shared
+    (actor_at (after start events) actor).hand r)
+lists_asked g start records events actor granted r is_start is takes =
+    let w : World = after start events in
+    let all = all_numbers g start records events is_start in
+    let own = events_asks g.cpus actor is_start.limits.some_cpus events start no_taking
+    (λ before. (all_numbers g start records before is_start).lists.cpus)
+    (subst (λ (x : Actor). AsksOf x.running g.cpus actor no_taking) (sym (is_start.idle_all actor)) tt) in
     kind_short r.next g.cpus w.numbers.block actor granted w.shared (actor_at w actor).hand r
-    (taking_after actor (formatted g) events no_taking) takes all.lists.cpus
+    (taking_after actor start events no_taking) takes all.lists.cpus
     (goes_on r.next takes (subst (λ (o : Option Running). HandOf g (actor_at w actor).hand o) is (all.hands actor)).1)
-    (subst (λ (o : Option Running). AsksOf o g.cpus actor (taking_after actor (formatted g) events no_taking)) is own) where
+    (subst (λ (o : Option Running). AsksOf o g.cpus actor (taking_after actor start events no_taking)) is own) where
       goes_on : (k : Next) → asks_list k ≡ true → (is_going k ≡ true → r.ending ≡ Answers) → r.ending ≡ Answers
       goes_on (TakeBlocks asked) e f = f refl
       goes_on (TakePages asked) e f = f refl

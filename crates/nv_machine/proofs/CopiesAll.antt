@@ -1,18 +1,20 @@
 -- The copies of the living snapshots, in every world that events lead to.
-use Rattle.std.proofs.Common.{◌≡◌, ℕ, ◌++◌, ◌∙◌, List, [], ◌∷◌, length, refl, subst, sym}
+use Rattle.nv_book.specs.declared.record.Record.{Record}
+use Rattle.std.proofs.Common.{map, zero, suc, arith, ◌≡◌, ℕ, ◌++◌, ◌∙◌, List, [], ◌∷◌, length, refl, subst, sym}
 use Rattle.std.specs.List.{Contains}
-use Rattle.nv_base.specs.Limits.{IsWithinLimits}
 use Rattle.nv_base.specs.declared.geometry.GeometryNumbers.{GeometryNumbers}
 use Rattle.nv_base.specs.declared.numbers.Handle.{Handle}
 use Rattle.nv_calls.specs.Plain.{node_in}
 use Rattle.nv_entry.specs.Tree.{FormTree, root}
-use Rattle.nv_epoch.specs.SnapList.{ids}
-use Rattle.nv_machine.specs.Format.{formatted}
-use Rattle.nv_machine.specs.PlainRun.{Plain, plain_after, plain_of, plain_step}
+use Rattle.nv_epoch.specs.SnapList.{ids, numbers}
+use Rattle.nv_machine.specs.Directories.{AreTree}
+use Rattle.nv_machine.specs.PlainRun.{copy_in, Plain, plain_after, plain_of, plain_step}
 use Rattle.nv_machine.specs.Reading.{AreCopied}
 use Rattle.nv_machine.specs.Settled.{settled_copies, settled_nodes}
+use Rattle.nv_machine.specs.Starts.{IsStart}
 use Rattle.nv_machine.specs.Step.{after, step}
-use Rattle.nv_machine.specs.World.{Event, World}
+use Rattle.nv_epoch.specs.declared.snapshot.Snapshot.{Snapshot}
+use Rattle.nv_machine.specs.World.{Shared, Event, World}
 use Rattle.nv_machine.proofs.CopiesKept.{IsWhole, ReadsAs, copied, event_alike, stays, whole}
 use Rattle.nv_machine.proofs.CopyRuns.{HaveMarks, IsReadable, cells_stay}
 use Rattle.nv_machine.proofs.DirectoriesChanged.{some_directory}
@@ -23,6 +25,7 @@ use Rattle.nv_machine.proofs.Reached.{reached}
 use Rattle.nv_machine.proofs.SnapRuns.{all_bare, in_step}
 use Rattle.nv_machine.proofs.SnapSteps.{AreBare}
 use Rattle.nv_machine.proofs.SnapsAlike.{AreAlike}
+use Rattle.nv_machine.proofs.TreeNumbers.{copies_by_numbers}
 
 pub events_cells : (events : List Event) (w : World) → length (after w events).shared.cells ≡ length w.shared.cells
 events_cells [] w = refl
@@ -52,40 +55,62 @@ events_read g inodes (e ∷ events) w p known are =
     events_read g inodes events (step w e).world (plain_step w e p) (λ before. known (e ∷ before))
     (event_alike g inodes w e a.readable (known (e ∷ [])).readable a.bare p a.epoch a.nodes a.now are)
 
-module _ (g : GeometryNumbers) (within : IsWithinLimits g) (marks : (events : List Event) → HaveMarks (after (formatted g) events)) where
+copied_read : (s : Shared) (inodes : ℕ) (living : List Snapshot)
+    → ((n : ℕ) → Contains (numbers living) n → IsWhole inodes (settled_copies s n))
+    → AreAlike (ReadsAs inodes s) living (map (copy_in s) living)
+copied_read s inodes [] each = tt
+copied_read s inodes (snapshot ∷ living) each = (
+  record { number = refl; pins = refl; nodes = (λ handle. refl, each snapshot.number (zero, omega arith, refl)) },
+  copied_read s inodes living (λ n there. each n (suc there.0, omega (arith, there.1), there.2)),
+)
+
+-- a snapshot whose directories form a tree reads as whole
+whole_tree : (s : Shared) (snapshot : ℕ) → AreTree (settled_copies s snapshot) → IsWhole (length s.cells) (settled_copies s snapshot)
+whole_tree s snapshot tree = record {
+  tree = copies_by_numbers s snapshot tree;
+  top = some_directory (settled_copies s snapshot root) tree.one_name.top;
+  leads = tree.one_name.leads;
+  one_tree = tree;
+}
+
+module _ (g : GeometryNumbers) (start : World) (records : List Record) (is_start : IsStart g start records)
+    (marks : (events : List Event) → HaveMarks (after start events)) where
   abbrev at : List Event → World
-  at events = after (formatted g) events
+  at events = after start events
 
   abbrev beside : List Event → Plain
-  beside events = plain_after (formatted g) events (plain_of (formatted g))
+  beside events = plain_after start events (plain_of start)
 
   abbrev inodes : ℕ
-  inodes = length (formatted g).shared.cells
+  inodes = length start.shared.cells
 
   pub readable : (events : List Event) → IsReadable g (at events)
   readable events = record {
-    reached = reached g events within;
-    parts = all_parts g events within;
+    reached = reached g start records events is_start;
+    parts = all_parts g start records events is_start;
     marks = marks events;
-    before = (in_step g events within).before;
+    before = (in_step g start records events is_start).before;
   }
 
   is_read : (events : List Event) → IsRead g inodes (at events) (beside events)
   is_read events = record {
     readable = readable events;
-    bare = all_bare g events within;
-    epoch = (in_step g events within).epoch;
-    nodes = λ handle. plain_nodes g events within handle;
+    bare = all_bare g start records events is_start;
+    epoch = (in_step g start records events is_start).epoch;
+    nodes = λ handle. plain_nodes g start records events is_start handle;
     now = record {
-      tree = subst (FormTree (node_in (settled_nodes (at events).shared))) (events_cells events (formatted g))
-          (all_numbered g events within);
-      top = some_directory (node_in (settled_nodes (at events).shared) root) (all_trees g events within).one_name.top;
-      leads = (all_trees g events within).one_name.leads;
+      tree = subst (FormTree (node_in (settled_nodes (at events).shared))) (events_cells events start)
+          (all_numbered g start records events is_start);
+      top = some_directory (node_in (settled_nodes (at events).shared) root) (all_trees g start records events is_start).one_name.top;
+      leads = (all_trees g start records events is_start).one_name.leads;
+      one_tree = all_trees g start records events is_start;
     };
   }
 
   pub all_read : (events : List Event) → AllReadAs inodes (at events) (beside events)
-  all_read events = events_read g inodes events (formatted g) (plain_of (formatted g)) is_read tt
+  all_read events = events_read g inodes events start (plain_of start) is_read
+      (copied_read start.shared inodes start.shared.book.snaps.living
+      (λ snapshot lives. whole_tree start.shared snapshot (is_start.copies snapshot lives)))
 
   pub all_copied : (events : List Event) → AreCopied (at events).shared (at events).shared.book.snaps.living (beside events).copies
   all_copied events =
@@ -94,7 +119,7 @@ module _ (g : GeometryNumbers) (within : IsWithinLimits g) (marks : (events : Li
   pub all_whole : (events : List Event) (snapshot : ℕ) → Contains (ids (at events).shared.book.snaps) snapshot
       → IsWhole (length (at events).shared.cells) (settled_copies (at events).shared snapshot)
   all_whole events snapshot lives =
-      subst (λ (n : ℕ). IsWhole n (settled_copies (at events).shared snapshot)) (sym (events_cells events (formatted g)))
+      subst (λ (n : ℕ). IsWhole n (settled_copies (at events).shared snapshot)) (sym (events_cells events start))
       (whole inodes (at events).shared (at events).shared.book.snaps.living (beside events).copies snapshot (all_read events) lives)
 
   pub all_form_trees : (events : List Event) (snapshot : ℕ) → Contains (ids (at events).shared.book.snaps) snapshot
@@ -105,5 +130,5 @@ module _ (g : GeometryNumbers) (within : IsWithinLimits g) (marks : (events : Li
       → (handle : Handle) → settled_copies (step (at events) e).world.shared n handle ≡ settled_copies (at events).shared n handle
   all_stay events e =
       stays g (at events) e (readable events)
-      (subst (IsReadable g) (sym (after_one events (formatted g) e)) (readable (events ++ e ∷ [])))
-      (all_bare g events within)
+      (subst (IsReadable g) (sym (after_one events start e)) (readable (events ++ e ∷ [])))
+      (all_bare g start records events is_start)

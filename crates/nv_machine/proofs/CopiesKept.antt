@@ -11,7 +11,7 @@ use Rattle.nv_entry.specs.declared.node.NodeCopy.{NodeCopy}
 use Rattle.nv_epoch.specs.SnapList.{Snapshots as Living, ids, numbers}
 use Rattle.nv_epoch.specs.declared.snapshot.Snapshot.{Snapshot}
 use Rattle.nv_epoch.proofs.Last.{contains_cases, contains_first, contains_later}
-use Rattle.nv_machine.specs.Directories.{HasName}
+use Rattle.nv_machine.specs.Directories.{AreTree, HasName}
 use Rattle.nv_machine.specs.PlainRun.{Commits, Copy, Deed, Nothing, Numbers, OnSnapshots, Plain, deed_of, plain_step}
 use Rattle.nv_machine.specs.Reading.{AreCopied}
 use Rattle.nv_machine.specs.Settled.{settled_copies, settled_nodes}
@@ -45,6 +45,7 @@ pub record IsWhole (inodes : ℕ) (nodes : Handle → Option NodeCopy) : Type 0 
   pub tree : FormTree nodes inodes
   pub top : IsSome (nodes root)
   pub leads : (dir : Handle) (bound : BoundName) → HasName nodes dir bound → IsSome (nodes bound.to)
+  pub one_tree : AreTree nodes
 
 -- a snapshot reads as these nodes
 abbrev pub ReadsAs : ℕ → Shared → ℕ → (Handle → Option NodeCopy) → Type 0

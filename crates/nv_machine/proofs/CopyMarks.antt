@@ -7,7 +7,6 @@ use Rattle.std.specs.Prelude.{slice_get, slice_index_or, unwrap_or}
 use Rattle.std.proofs.lemmas.Bool.{and_from, cases_lt, le-leb, lt-ltb, true≢false}
 use Rattle.std.proofs.lemmas.List.{get_or_default, get_or_past, take-append-drop}
 use Rattle.std.proofs.lemmas.Option.{none-some}
-use Rattle.nv_base.specs.Limits.{IsWithinLimits}
 use Rattle.nv_base.specs.declared.geometry.GeometryNumbers.{GeometryNumbers}
 use Rattle.nv_book.specs.Records.{holder_of}
 use Rattle.nv_book.specs.declared.record.Record.{Record}
@@ -34,7 +33,6 @@ use Rattle.nv_entry.proofs.Later.{up_to-append}
 use Rattle.nv_epoch.specs.Holders as holders
 use Rattle.nv_epoch.specs.SnapList.{ids}
 use Rattle.nv_epoch.proofs.Last.{contains_cases, none_passes}
-use Rattle.nv_machine.specs.Format.{formatted}
 use Rattle.nv_machine.specs.Grown.{HasGrown, HasGrownBy}
 use Rattle.nv_machine.specs.Hands.{AreNumbers, HandAt, HandOf}
 use Rattle.nv_machine.specs.Held.{killed_by_actor, killed_by_call, killed_in, killed_slots, parts_for, picked_at, picked_by_actor, picked_by_call}
@@ -42,6 +40,7 @@ use Rattle.nv_machine.specs.Kinds.{first_killed}
 use Rattle.nv_machine.specs.Reached.{IsReached}
 use Rattle.nv_machine.specs.Reads.{slot_at, written_slots}
 use Rattle.nv_machine.specs.Recorded.{records_after}
+use Rattle.nv_machine.specs.Starts.{IsStart}
 use Rattle.nv_machine.specs.Step.{after}
 use Rattle.nv_machine.specs.World.{Actor, Draining, Drop, Event, LockPicked, Make, Next, Pick, Pin, Release, Retire, Running, Show, Snapshots, Unpin, World, actor_at, cell_at, idle}
 use Rattle.nv_machine.proofs.CopyRuns.{HaveMarks, earlier}
@@ -275,7 +274,8 @@ module _ (g : GeometryNumbers) (w : World) (known : IsReached w) (numbers : AreN
     goes = λ epoch actor r lives is. goes_at epoch lives actor r is r.next refl;
   }
 
-pub all_have_marks : (g : GeometryNumbers) → IsWithinLimits g → (events : List Event) → HaveMarks (after (formatted g) events)
-all_have_marks g within events =
-    have_marks g (after (formatted g) events) (reached g events within) (all_numbers g events within)
-    (records_after (formatted g) events []) (all_marked g events within) (in_step g events within).before
+pub all_have_marks : (g : GeometryNumbers) (start : World) (records : List Record) → IsStart g start records
+    → (events : List Event) → HaveMarks (after start events)
+all_have_marks g start records is_start events =
+    have_marks g (after start events) (reached g start records events is_start) (all_numbers g start records events is_start)
+    (records_after start events records) (all_marked g start records events is_start) (in_step g start records events is_start).before

@@ -1,9 +1,11 @@
 -- The trees of the plain world and of its copies are those of the settled logs, now and at each living snapshot.
+use Rattle.nv_book.specs.declared.record.Record.{Record}
+use Rattle.nv_machine.specs.Starts.{IsStart}
+use Rattle.nv_machine.specs.World.{World, Event, Shared}
 use Rattle.std.proofs.Common.{◌≡◌, ◌∙◌, ℕ, zero, suc, ◌<◌, Bool, true, false, List, [], ◌∷◌, Option, Some, ap, arith, if◌then◌else◌, length, refl, slice_index_or, sym}
 use Rattle.std.proofs.Math.Path.{fun_ext}
 use Rattle.std.proofs.lemmas.Bool.{eq-eqb, eqb-true}
 use Rattle.std.specs.List.{Contains}
-use Rattle.nv_base.specs.Limits.{IsWithinLimits}
 use Rattle.nv_base.specs.declared.geometry.GeometryNumbers.{GeometryNumbers}
 use Rattle.nv_base.specs.declared.numbers.Handle.{Handle}
 use Rattle.nv_calls.specs.Plain.{PlainNode, node_in}
@@ -15,18 +17,17 @@ use Rattle.nv_epoch.specs.declared.snapshot.Snapshot.{Snapshot}
 use Rattle.nv_machine.proofs.CopiesAll.{all_copied}
 use Rattle.nv_machine.proofs.CopyMarks.{all_have_marks}
 use Rattle.nv_machine.proofs.FitsPlain.{plain_nodes}
-use Rattle.nv_machine.specs.Format.{formatted}
 use Rattle.nv_machine.specs.PlainRun.{Copy, is_of, plain_after, plain_of}
 use Rattle.nv_machine.specs.Reading.{AreCopied, IsCopied, copied_tree, plain_tree}
 use Rattle.nv_machine.specs.Settled.{settled_copies, snapshot_tree, tree_of}
 use Rattle.nv_machine.specs.Step.{after}
-use Rattle.nv_machine.specs.World.{Event, Shared}
 
-pub trees_are_plain : (g : GeometryNumbers) (events : List Event) → IsWithinLimits g → tree_of (after (formatted g) events)
-    ≡ plain_tree (length (after (formatted g) events).shared.cells) (plain_after (formatted g) events (plain_of (formatted g)))
-trees_are_plain g events within =
-    ap (λ (nodes : Handle → Option PlainNode). tree_from (node_in nodes) (length (after (formatted g) events).shared.cells) [] root)
-    (fun_ext (λ (handle : Handle). plain_nodes g events within handle))
+pub trees_are_plain : (g : GeometryNumbers) (start : World) (records : List Record) (events : List Event)
+    → IsStart g start records → tree_of (after start events)
+    ≡ plain_tree (length (after start events).shared.cells) (plain_after start events (plain_of start))
+trees_are_plain g start records events is_start =
+    ap (λ (nodes : Handle → Option PlainNode). tree_from (node_in nodes) (length (after start events).shared.cells) [] root)
+    (fun_ext (λ (handle : Handle). plain_nodes g start records events is_start handle))
 
 module _ (s : Shared) (inodes n : ℕ) where
   abbrev tree : (Handle → Option NodeCopy) → List TreeNode
@@ -51,13 +52,15 @@ module _ (s : Shared) (inodes n : ℕ) where
         go true e rest = ap (λ (t : List TreeNode). Some t) (same_tree x copy are.0 (eqb-true copy.snapshot n e))
         go false e rest = rest
 
-pub trees_are_copied : (g : GeometryNumbers) (events : List Event) (snapshot : ℕ) → IsWithinLimits g
-    → Contains (ids (after (formatted g) events).shared.book.snaps) snapshot
-    → copied_tree (length (after (formatted g) events).shared.cells)
-    (plain_after (formatted g) events (plain_of (formatted g))).copies snapshot
-    ≡ Some (snapshot_tree (after (formatted g) events) snapshot)
-trees_are_copied g events snapshot within lives =
-    let w = after (formatted g) events in
+pub trees_are_copied : (g : GeometryNumbers) (start : World) (records : List Record) (events : List Event) (snapshot : ℕ)
+    → IsStart g start records
+    → Contains (ids (after start events).shared.book.snaps) snapshot
+    → copied_tree (length (after start events).shared.cells)
+    (plain_after start events (plain_of start)).copies snapshot
+    ≡ Some (snapshot_tree (after start events) snapshot)
+trees_are_copied g start records events snapshot is_start lives =
+    let w = after start events in
     copy_reads w.shared (length w.shared.cells) snapshot w.shared.book.snaps.living
-    (plain_after (formatted g) events (plain_of (formatted g))).copies lives.0 (all_copied g within (all_have_marks g within) events)
+    (plain_after start events (plain_of start)).copies lives.0
+    (all_copied g start records is_start (all_have_marks g start records is_start) events)
     lives.1 lives.2

@@ -1,8 +1,8 @@
 -- Directories form a tree, whatever events come.
-use Rattle.std.proofs.Common.{◌≡◌, inl, inr, ℕ, zero, suc, if◌then◌else◌, ◌<◌, ◌≤◌, Bool, true, false, not, ◌&&◌, ◌||◌, cond, nat_lt, List, [], ◌∷◌, length, ◌==◌, get_or, take, Option, Some, None, IsSome, arith, refl, ap, sym, subst, ◌∙◌}
+use Rattle.nv_book.specs.declared.record.Record.{Record}
+use Rattle.std.proofs.Common.{◌≡◌, ℕ, if◌then◌else◌, ◌<◌, Bool, true, false, not, ◌&&◌, ◌||◌, cond, nat_lt, List, [], ◌∷◌, length, get_or, Option, Some, None, IsSome, arith, refl, ap, sym, subst, ◌∙◌}
 use Rattle.std.proofs.Math.Path.{fun_ext}
-use Rattle.std.proofs.lemmas.Bool.{cases_lt, eqb-true, ltb-false, ltb-true, true≢false}
-use Rattle.std.proofs.lemmas.List.{get_or_default, get_or_past}
+use Rattle.std.proofs.lemmas.Bool.{ltb-false, ltb-true, true≢false}
 use Rattle.std.proofs.lemmas.List.Elements.{Contains-get_or}
 use Rattle.std.specs.Prelude.{option_map}
 use Rattle.nv_base.specs.Limits.{IsWithinLimits}
@@ -11,7 +11,6 @@ use Rattle.nv_base.specs.declared.geometry.GeometryNumbers.{GeometryNumbers}
 use Rattle.nv_base.specs.declared.node.Kind.{Kind}
 use Rattle.nv_base.specs.declared.node.Kind.TheVariants.{File, Dir}
 use Rattle.nv_base.specs.declared.numbers.Handle.{Handle}
-use Rattle.nv_calls.proofs.Commits.{handle-same}
 use Rattle.nv_calls.proofs.Passed.{both_passed, directory_passed, elsewhere, file_passed, if_passed, node_passed}
 use Rattle.nv_calls.specs.AllCalls.{effect, refusal}
 use Rattle.nv_calls.specs.Plain.{PlainNode, node_in, same_handle, with_mode}
@@ -23,32 +22,32 @@ use Rattle.nv_calls.specs.calls.Size.{resized_node}
 use Rattle.nv_calls.specs.calls.Unlink.{leave_effect, unlink_late}
 use Rattle.nv_calls.specs.declared.call.Call.{Call}
 use Rattle.nv_calls.specs.declared.call.Call.TheVariants as call
-use Rattle.nv_cell.specs.Cell.{CellState}
 use Rattle.nv_entry.specs.Sound.{empty_node, rewritten}
-use Rattle.nv_entry.specs.Tree.{FormTree, LeadsAt, names_of_node, names_under, root}
-use Rattle.nv_entry.specs.declared.item.Entry.{Entry}
+use Rattle.nv_entry.specs.Tree.{FormTree, names_of_node, names_under, root}
 use Rattle.nv_entry.specs.declared.names.BoundName.{BoundName}
 use Rattle.nv_entry.specs.declared.node.NodeCopy.{NodeCopy}
 use Rattle.nv_machine.proofs.DirectoriesBegun.{KeepsNames}
-use Rattle.nv_machine.proofs.DirectoriesChanged.{found_in, some_directory}
+use Rattle.nv_machine.proofs.DirectoriesChanged.{found_in}
 use Rattle.nv_machine.proofs.DirectoriesKept.{begin_kept, changed_by, changed_nodes, directory_of, file_of, found_there, leave_kept, no_names, none_there, one_kept}
 use Rattle.nv_machine.proofs.DirectoriesMoved.{CanMove, moves, other_effect, other_replaced, replaces, same_effect, same_replaced}
 use Rattle.nv_machine.proofs.DirectoriesStay.{same_self}
 use Rattle.nv_machine.proofs.FitsCalls.{handles_same}
-use Rattle.nv_machine.proofs.Effects.{point_effect, take_none}
-use Rattle.nv_machine.proofs.FitsEvents.{AreFit, IsKnown, all_known, commits_if, event_fits, fits_now, new_fit, passes_now}
+use Rattle.nv_machine.proofs.Effects.{point_effect}
+use Rattle.nv_machine.proofs.FitsEvents.{AreFit, IsKnown, all_known, commits_if, event_fits, fits_now, first_fit, passes_now}
 use Rattle.nv_machine.proofs.Fresh.{no_node}
 use Rattle.nv_machine.proofs.KeptRuns.{nodes_stay}
 use Rattle.nv_machine.proofs.PlainStart.{plain_start}
+use Rattle.nv_machine.proofs.TreeNumbers.{settled_by_numbers}
 use Rattle.nv_machine.specs.Directories.{AreTree, HasName, HaveOneName}
 use Rattle.nv_machine.specs.FitsNow.{bytes_in}
 use Rattle.nv_machine.specs.Format.{formatted}
 use Rattle.nv_machine.specs.Hands.{makes_inode}
 use Rattle.nv_machine.specs.PlainRun.{Commits, deed_by, deed_of, keeps_nodes, root_alone}
 use Rattle.nv_machine.specs.Sequence.{beginning}
-use Rattle.nv_machine.specs.Settled.{node_by, settled, settled_nodes, settled_tail}
+use Rattle.nv_machine.specs.Settled.{settled_nodes}
+use Rattle.nv_machine.specs.Starts.{IsStart}
 use Rattle.nv_machine.specs.Step.{after, step}
-use Rattle.nv_machine.specs.World.{Event, Go, Running, Shared, Start, World, actor_at, cell_at, no_cell}
+use Rattle.nv_machine.specs.World.{Event, Go, Running, Start, World, actor_at}
 
 -- ---- nodes that keep their names
 
@@ -272,7 +271,7 @@ events_tree g (e ∷ events) w known fit tree =
 -- ---- a new world
 
 -- the root alone, without names
-new_nodes : (g : GeometryNumbers) → IsWithinLimits g → nodes_of (formatted g) ≡
+pub new_nodes : (g : GeometryNumbers) → IsWithinLimits g → nodes_of (formatted g) ≡
     (λ handle. if same_handle handle root then Some (empty_node Dir 493) else None)
 new_nodes g within = fun_ext (λ handle. ap (option_map (λ (p : PlainNode). p.node)) (plain_start g within handle)
     ∙ go handle (same_handle handle root)) where
@@ -309,80 +308,13 @@ root_tree = record { one_name = one_name; reached = λ handle some. ([], only ha
   }
 
 -- WHATEVER EVENTS COME from a new world on
-pub all_trees : (g : GeometryNumbers) (events : List Event) → IsWithinLimits g
-    → AreTree (node_in (settled_nodes (after (formatted g) events).shared))
-all_trees g events within =
-    events_tree g events (formatted g) (all_known g within) (new_fit g within) (subst AreTree (sym (new_nodes g within)) root_tree)
+pub all_trees : (g : GeometryNumbers) (start : World) (records : List Record) (events : List Event) → IsStart g start records
+    → AreTree (node_in (settled_nodes (after start events).shared))
+all_trees g start records events is_start =
+    events_tree g events start (all_known g start records is_start) (first_fit g start records is_start) is_start.tree
 
 -- ---- numbers of inodes
 
--- a node's handle has the generation of its slot, which is one of the world's
-module _ (s : Shared) where
-  some_under : (handle : Handle) → IsSome (node_in (settled_nodes s) handle)
-      → (handle.generation ≡ (cell_at s handle.ino).generation) × (handle.ino < length s.cells)
-  some_under handle some = go (handle.generation == (cell_at s handle.ino).generation) refl where
-    none_past : length s.cells ≤ handle.ino → settled s handle.ino ≡ []
-    none_past past =
-        let at : cell_at s handle.ino ≡ no_cell = get_or_past s.cells handle.ino no_cell past in
-        ap (λ (c : CellState). take (settled_tail s.book.journals handle.ino c.chain.tail) c.chain.entries) at
-        ∙ take_none (settled_tail s.book.journals handle.ino 0)
-
-    within : IsSome (node_in (λ h. node_by (cell_at s h.ino) (settled s h.ino)) handle) → handle.ino < length s.cells
-    within there = elim (cases_lt handle.ino (length s.cells)) [
-      | inl lt ↦ lt
-      | inr past ↦ absurd (let none : IsSome {T = NodeCopy} None =
-          subst (λ (log : List Entry). IsSome (option_map (λ (p : PlainNode). p.node) (node_by (cell_at s handle.ino) log)))
-          (none_past past) there in
-          let z : false ≡ true = none in cc)
-    ]
-
-    go : (same : Bool) → (handle.generation == (cell_at s handle.ino).generation) ≡ same
-        → (handle.generation ≡ (cell_at s handle.ino).generation) × (handle.ino < length s.cells)
-    go true is = (eqb-true handle.generation (cell_at s handle.ino).generation is, within (rw is at some))
-    go false is = absurd (let none : IsSome {T = NodeCopy} None = rw is at some in let z : false ≡ true = none in cc)
-
-  -- no two nodes have one number
-  one_handle : (a b : Handle) → IsSome (node_in (settled_nodes s) a) → IsSome (node_in (settled_nodes s) b) → a.ino ≡ b.ino → a ≡ b
-  one_handle a b one other same =
-      handle-same a b same ((some_under a one).0 ∙ ap (λ ino. (cell_at s ino).generation) same ∙ sym (some_under b other).0)
-
-  -- a tree of nodes is one by their numbers
-  pub tree_by_numbers : AreTree (node_in (settled_nodes s)) → FormTree (node_in (settled_nodes s)) (length s.cells)
-  tree_by_numbers tree = record { numbered = λ handle some. (some_under handle some).1; root_unnamed = root_unnamed; one_name = one_name }
-    where
-      top : IsSome (node_in (settled_nodes s) root)
-      top = some_directory (node_in (settled_nodes s) root) tree.one_name.top
-
-      root_unnamed : (dir : Handle) (place : ℕ) (bound : BoundName) → LeadsAt (node_in (settled_nodes s)) dir place bound
-          → root.ino < bound.to.ino
-      root_unnamed dir place bound (lt, is, some) = go bound.to.ino refl where
-        go : (n : ℕ) → bound.to.ino ≡ n → 0 < bound.to.ino
-        go zero at = absurd (tree.one_name.unnamed dir (bound, (place, lt, is), one_handle bound.to root some top at))
-        go (suc n) at = omega (arith, at)
-
-      same_place : (dir : Handle) (j k : ℕ) (a b : BoundName) → LeadsAt (node_in (settled_nodes s)) dir j a
-          → LeadsAt (node_in (settled_nodes s)) dir k b
-          → a.to ≡ b.to → j ≡ k
-      same_place dir j k a b (low, here, x) (lt, there, y) same = elim (cases_lt j k) [
-        | inl below ↦ absurd ((tree.one_name.apart dir j k a below lt).1 (ap (λ (n : BoundName). n.to) here ∙ same
-            ∙ sym (ap (λ (n : BoundName). n.to) (get_or_default (names_under (node_in (settled_nodes s)) dir) k a b lt ∙ there))))
-        | inr from ↦ elim (cases_lt k j) [
-          | inl below ↦ absurd ((tree.one_name.apart dir k j b below low).1 (ap (λ (n : BoundName). n.to) there ∙ sym same
-              ∙ sym (ap (λ (n : BoundName). n.to) (get_or_default (names_under (node_in (settled_nodes s)) dir) j b a low ∙ here))))
-          | inr to ↦ omega (arith, from, to)
-        ]
-      ]
-
-      one_name : (one other : Handle) (j k : ℕ) (a b : BoundName) → LeadsAt (node_in (settled_nodes s)) one j a
-          → LeadsAt (node_in (settled_nodes s)) other k b → a.to.ino ≡ b.to.ino → (one.ino ≡ other.ino) × (j ≡ k)
-      one_name one other j k a b first second same =
-          let to : a.to ≡ b.to = one_handle a.to b.to first.2 second.2 same in
-          let dir : one ≡ other = tree.one_name.one one other b.to (a, (j, first.0, first.1), to) (b, (k, second.0, second.1), refl) in (
-            ap (λ (h : Handle). h.ino) dir,
-            same_place other j k a b
-                (subst (λ h. LeadsAt (node_in (settled_nodes s)) h j a) dir first) second to,
-          )
-
-pub all_numbered : (g : GeometryNumbers) (events : List Event) → IsWithinLimits g
-    → FormTree (node_in (settled_nodes (after (formatted g) events).shared)) (length (after (formatted g) events).shared.cells)
-all_numbered g events within = tree_by_numbers (after (formatted g) events).shared (all_trees g events within)
+pub all_numbered : (g : GeometryNumbers) (start : World) (records : List Record) (events : List Event) → IsStart g start records
+    → FormTree (node_in (settled_nodes (after start events).shared)) (length (after start events).shared.cells)
+all_numbered g start records events is_start = settled_by_numbers (after start events).shared (all_trees g start records events is_start)

@@ -4,14 +4,12 @@ use Rattle.std.proofs.Common.{◌≡◌, ◌≢◌, ℕ, suc, ◌+◌, ◌<◌, 
 use Rattle.std.specs.List.{sum_by}
 use Rattle.std.proofs.lemmas.Bool.{eqb-false, eqb-true, ltb-true, true≢false}
 use Rattle.std.proofs.lemmas.List.Sums.{sum_by-cons, sum_by-set}
-use Rattle.nv_base.specs.declared.geometry.GeometryNumbers.{GeometryNumbers}
 use Rattle.nv_base.specs.declared.fault.Fault.{Fault}
 use Rattle.nv_base.specs.declared.fault.Fault.TheVariants.{NoActor}
 use Rattle.nv_book.specs.declared.record.Record.{Record}
 use Rattle.nv_calls.specs.declared.call.Call.{Call}
 use Rattle.nv_calls.specs.declared.call.Call.TheVariants as call
 use Rattle.nv_calls.specs.declared.snapshot_call.SnapshotCall.TheVariants as on
-use Rattle.nv_machine.specs.Format.{formatted}
 use Rattle.nv_machine.specs.Needed.{AreNoDrops, IsAtRest, IsNoDrop, count_in, drained, is_drop, told_in, told_to, told_to_call}
 use Rattle.nv_machine.specs.Sequence.{beginning, begun, locking}
 use Rattle.nv_machine.specs.Step.{after, go_step, start_step, step, turn, turned}
@@ -178,12 +176,12 @@ after_both (e ∷ before) events w = after_both before events (step w e).world
 
 -- ---- the law
 
-pub none_left : (g : GeometryNumbers) (before events : List Event) → IsAtRest (after (formatted g) before) → AreNoDrops events
-    → length (after (formatted g) before).shared.book.deferred ≤ drained (after (formatted g) before) events
-    → (after (formatted g) (before ++ events)).shared.book.deferred ≡ []
-none_left g before events at_rest apart enough =
-    let w = after (formatted g) before in
+pub none_left : (start : World) (before events : List Event) → IsAtRest (after start before) → AreNoDrops events
+    → length (after start before).shared.book.deferred ≤ drained (after start before) events
+    → (after start (before ++ events)).shared.book.deferred ≡ []
+none_left start before events at_rest apart enough =
+    let w = after start before in
     let less = events_less events w apart (λ b. ap drops_by (at_rest b)) in
     let owed = none_owed w.actors at_rest in
-    ap (λ (v : World). v.shared.book.deferred) (after_both before events (formatted g))
+    ap (λ (v : World). v.shared.book.deferred) (after_both before events start)
     ∙ no_records (after w events).shared.book.deferred (omega (arith, less, owed, enough))

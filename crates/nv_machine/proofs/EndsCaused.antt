@@ -1,7 +1,7 @@
 -- What a step refuses its call for, the plain world says too, on the settled nodes.
+use Rattle.nv_book.specs.declared.record.Record.{Record}
 use Rattle.std.proofs.Common.{◌≡◌, ℕ, zero, suc, ◌∙◌, Bool, false, List, [], Option, Some, None, refl, subst, sym}
 use Rattle.std.specs.Prelude.{Err}
-use Rattle.nv_base.specs.Limits.{IsWithinLimits}
 use Rattle.nv_base.specs.declared.fault.Fault.{Fault}
 use Rattle.nv_base.specs.declared.geometry.GeometryNumbers.{GeometryNumbers}
 use Rattle.nv_base.specs.declared.numbers.Handle.{Handle}
@@ -11,11 +11,11 @@ use Rattle.nv_calls.specs.Plain.{node_in}
 use Rattle.nv_calls.specs.Refusals.{Check as Tests}
 use Rattle.nv_calls.specs.declared.looked.Looked.{Looked}
 use Rattle.nv_machine.specs.Causes.{IsCause, MayBeOvertaken, RefusesFor}
-use Rattle.nv_machine.specs.Format.{formatted}
 use Rattle.nv_machine.specs.Kinds.{look_tests, look_turn}
 use Rattle.nv_machine.specs.Reads.{copies, nodes}
 use Rattle.nv_machine.specs.Sequence.{beginning, directories, Visits}
 use Rattle.nv_machine.specs.Settled.{settled_nodes}
+use Rattle.nv_machine.specs.Starts.{IsStart}
 use Rattle.nv_machine.specs.Step.{after, ending_at, handle_at, is_numbered, kind_turn, made_in, same_looked, turn, visit_grows, with_made}
 use Rattle.nv_machine.specs.World.{Answers, Append, Back, Check, Close, Enter, Event, Give, HandState, Leave, Lock, Look, Next, Number, Open, Publish, Ready, Retire, Running, Shared, TakeBlocks, TakePages, Unlock, Visit, World, actor_at, owner_at, Snapshots}
 use Rattle.nv_machine.proofs.Caused.{CheckCause, caused, check_caused, check_told, look_caused, no_growth, visit_caused}
@@ -74,16 +74,17 @@ module _ (block a cpu : ℕ) (s : Shared) (h : HandState) (r : Running) (going :
   settled_caused Back granted st stage = caused Back block a granted s h r going
   settled_caused (Snapshots step) granted st stage = caused (Snapshots step) block a granted s h r going
 
-pub plainly_caused : (g : GeometryNumbers) (events : List Event) (actor : ℕ) (granted : Bool) (r : Running) → IsWithinLimits g
-    → (actor_at (after (formatted g) events) actor).running ≡ Some r → r.ending ≡ Answers
+pub plainly_caused : (g : GeometryNumbers) (start : World) (records : List Record) (events : List Event) (actor : ℕ)
+    (granted : Bool) (r : Running) → IsStart g start records
+    → (actor_at (after start events) actor).running ≡ Some r → r.ending ≡ Answers
     → RefusesFor
-    (IsCause r.next (after (formatted g) events).numbers.block actor granted (node_in (settled_nodes (after (formatted g) events).shared))
-    (after (formatted g) events).shared (actor_at (after (formatted g) events) actor).hand r)
-    (MayBeOvertaken r.next (node_in (settled_nodes (after (formatted g) events).shared)) r)
-    (turn (after (formatted g) events).numbers.block actor granted (after (formatted g) events).shared
-    (actor_at (after (formatted g) events) actor).hand r)
-plainly_caused g events actor granted r within is going =
-    let w : World = after (formatted g) events in
-    let known = all_known g within events in
+    (IsCause r.next (after start events).numbers.block actor granted (node_in (settled_nodes (after start events).shared))
+    (after start events).shared (actor_at (after start events) actor).hand r)
+    (MayBeOvertaken r.next (node_in (settled_nodes (after start events).shared)) r)
+    (turn (after start events).numbers.block actor granted (after start events).shared
+    (actor_at (after start events) actor).hand r)
+plainly_caused g start records events actor granted r is_start is going =
+    let w : World = after start events in
+    let known = all_known g start records is_start events in
     settled_caused w.numbers.block actor _ w.shared (actor_at w actor).hand r going (free_node w known.reached.grown) r.next granted
-    (relied g w known (all_fit g within events) actor r is) (visits_of g events actor within r is)
+    (relied g w known (all_fit g start records is_start events) actor r is) (visits_of g start records events actor is_start r is)

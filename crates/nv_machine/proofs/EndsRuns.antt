@@ -1,17 +1,16 @@
 -- A call that is answered was decided once, whatever events come.
+use Rattle.nv_book.specs.declared.record.Record.{Record}
 use Rattle.std.proofs.Common.{◌≡◌, ◌%◌, ◌<◌, ◌==◌, ◌++◌, ◌∙◌, ◌∷◌, ℕ, Bool, true, false, cond, List, [], Option, Some, None, ap, get_or-set_same, length, nat_lt, refl, subst, sym}
 use Rattle.std.specs.Prelude.{Ok, Err}
 use Rattle.std.proofs.lemmas.Bool.{eqb-false, eqb-true, false≢true, lt-ltb, ltb-false, ltb-true}
 use Rattle.std.proofs.lemmas.List.{get_or_past}
 use Rattle.nv_base.specs.declared.fault.Fault.{Fault}
 use Rattle.nv_base.specs.declared.geometry.GeometryNumbers.{GeometryNumbers}
-use Rattle.nv_base.specs.Limits.{IsWithinLimits}
 use Rattle.nv_calls.specs.AllCalls.{effect, is_nothing, answer}
 use Rattle.nv_calls.specs.Plain.{node_in}
 use Rattle.nv_calls.specs.declared.answer.Answer.{Answer}
 use Rattle.nv_calls.specs.declared.call.Call.{Call}
 use Rattle.nv_machine.specs.EndsDecided.{decided, decided_in, decision_of, unless_started, is_on_snapshots}
-use Rattle.nv_machine.specs.Format.{formatted}
 use Rattle.nv_machine.specs.Hands.{HandOf}
 use Rattle.nv_machine.specs.Kept.{KnowsOf, Knows}
 use Rattle.nv_machine.specs.Locks.{commits_at}
@@ -19,6 +18,7 @@ use Rattle.nv_machine.specs.PlainRun.{Commits, deed_of}
 use Rattle.nv_machine.specs.Reads.{slots_of, written_slots}
 use Rattle.nv_machine.specs.Sequence.{Beginning, Looks, Locks, Numbers, Visits, beginning, begun, nothing_looked, OnSnapshots}
 use Rattle.nv_machine.specs.Settled.{settled_nodes}
+use Rattle.nv_machine.specs.Starts.{IsStart}
 use Rattle.nv_machine.specs.Step.{Step, after, go_step, start_step, step, turn, turned}
 use Rattle.nv_machine.specs.World.{Actor, Append, Back, Check, Close, Done, Ending, Ends, Enter, Event, Give, Go, HandState, Leave, Lock, Look, Moves, Next, Number, Open, Publish, Ready, Refused, Retire, TakeBlocks, TakePages, Unlock, Visit, Reply, Running, Shared, Start, Turn, Waits, World, actor_at, idle, Snapshots}
 use Rattle.nv_calls.specs.declared.taken.Taken.{Taken}
@@ -33,7 +33,7 @@ use Rattle.nv_machine.proofs.FitsEvents.{AreFit, IsKnown, all_fit, all_known}
 use Rattle.nv_machine.proofs.FitsLaws.{has_passed}
 use Rattle.nv_machine.proofs.FitsStages.{FitsAt, FitsOf}
 use Rattle.nv_machine.proofs.Lists.{self}
-use Rattle.nv_machine.proofs.Locks.{all_same, before}
+use Rattle.nv_machine.proofs.Locks.{before}
 use Rattle.nv_machine.proofs.Visiting.{visit_same}
 use Rattle.nv_machine.proofs.EndsTold.{IsTold, OnTold, Stage, locking_told, no_visit, plain_visit}
 use Rattle.nv_machine.proofs.EndsTurns.{Relied, kind_told}
@@ -292,21 +292,22 @@ pub decided_more : (events : List Event) (w : World) (actor : ℕ) (e : Event) (
 decided_more [] w actor e before = refl
 decided_more (f ∷ events) w actor e before = decided_more events (step w f).world actor e (decided_in actor w f before)
 
-module _ (g : GeometryNumbers) (events : List Event) (actor : ℕ) (within : IsWithinLimits g) where
+module _ (g : GeometryNumbers) (start : World) (records : List Record) (events : List Event) (actor : ℕ)
+    (is_start : IsStart g start records) where
   abbrev w : World
-  w = after (formatted g) events
+  w = after start events
 
   abbrev before_all : List Answer
-  before_all = decided actor (formatted g) events []
+  before_all = decided actor start events []
 
   all_told : HasTold (actor_at w actor).running before_all
-  all_told = events_told g events (formatted g) actor [] (all_known g within) (all_fit g within)
-      (subst (λ (x : Actor). HasTold x.running []) (sym (all_same g.actors actor idle)) tt)
+  all_told = events_told g events start actor [] (all_known g start records is_start) (all_fit g start records is_start)
+      (subst (λ (x : Actor). HasTold x.running []) (sym (is_start.idle_all actor)) tt)
 
   -- an event of the actor's own
-  own_event : (granted : Bool) → decided actor (formatted g) (events ++ Go actor granted ∷ []) []
+  own_event : (granted : Bool) → decided actor start (events ++ Go actor granted ∷ []) []
       ≡ decision_of (actor_at w actor).running w actor granted ++ before_all
-  own_event granted = decided_more events (formatted g) actor (Go actor granted) []
+  own_event granted = decided_more events start actor (Go actor granted) []
       ∙ ap (λ (b : Bool). cond b (decision_of (actor_at w actor).running w actor granted ++ before_all) before_all) (self actor)
 
   -- what a turn replies was decided
@@ -325,14 +326,15 @@ module _ (g : GeometryNumbers) (events : List Event) (actor : ℕ) (within : IsW
       → IsTold r.next r before_all
       → ReplyTold (step w (Go actor granted)).reply (decision_of (Some r) w actor granted ++ before_all)
   replied false granted r there is had = absurd (none_some
-      (sym (outside g w (all_known g within events) (all_fit g within events) actor there) ∙ is)) where
+      (sym (outside g w (all_known g start records is_start events) (all_fit g start records is_start events) actor there) ∙ is)) where
         none_some : None ≡ Some r → ⊥
         none_some e = cc
   replied true granted r there is had =
       subst (λ (x : Step). ReplyTold x.reply (decision_of (Some r) w actor granted ++ before_all))
       (sym (go_is_turn (nat_lt actor (length w.actors)) (actor_at w actor).running w actor granted r there is))
       (turn_replies (turn w.numbers.block actor granted w.shared (actor_at w actor).hand r) before_all _
-      (own_turn_told g w (all_known g within events) (all_fit g within events) actor granted r before_all is had))
+      (own_turn_told g w (all_known g start records is_start events) (all_fit g start records is_start events) actor granted r
+      before_all is had))
 
   told_of : (r : Running) → (actor_at w actor).running ≡ Some r → ToldBy (is_on_snapshots r.call) r before_all
   told_of r is = subst (λ (o : Option Running). HasTold o before_all) is all_told
@@ -348,14 +350,14 @@ module _ (g : GeometryNumbers) (events : List Event) (actor : ℕ) (within : IsW
   plainly_told r is plain = subst (λ (b : Bool). ToldBy b r before_all) plain (told_of r is)
 
   all_replied : (granted : Bool) (r : Running) → (actor_at w actor).running ≡ Some r → is_on_snapshots r.call ≡ false
-      → ReplyTold (step w (Go actor granted)).reply (decided actor (formatted g) (events ++ Go actor granted ∷ []) [])
+      → ReplyTold (step w (Go actor granted)).reply (decided actor start (events ++ Go actor granted ∷ []) [])
   all_replied granted r is plain =
       subst (ReplyTold (step w (Go actor granted)).reply)
       (sym (own_event granted ∙ ap (λ (o : Option Running). decision_of o w actor granted ++ before_all) is))
       (replied (nat_lt actor (length w.actors)) granted r refl is (plainly_told r is plain))
 
   abbrev decided_then : Bool → List Answer
-  decided_then granted = decided actor (formatted g) (events ++ Go actor granted ∷ []) []
+  decided_then granted = decided actor start (events ++ Go actor granted ∷ []) []
 
   -- a call that is refused was not decided
   pub is_undecided : (granted : Bool) (r : Running) (fault : Fault) → (actor_at w actor).running ≡ Some r
@@ -366,7 +368,8 @@ module _ (g : GeometryNumbers) (events : List Event) (actor : ℕ) (within : IsW
     go true snapshot =
         let silent : IsSilent r before_all = subst (λ (b : Bool). ToldBy b r before_all) snapshot (told_of r is) in
         own_event granted ∙ ap (λ (o : Option Running). decision_of o w actor granted ++ before_all) is
-        ∙ own_silent g w (all_known g within events) (all_fit g within events) actor granted r before_all silent.quiet ∙ silent.none
+        ∙ own_silent g w (all_known g start records is_start events) (all_fit g start records is_start events) actor granted r
+        before_all silent.quiet ∙ silent.none
 
   -- and one on files and directories that is answered was, once
   pub is_decided : (granted : Bool) (r : Running) (told : Answer) → (actor_at w actor).running ≡ Some r → is_on_snapshots r.call ≡ false
@@ -385,10 +388,11 @@ module _ (g : GeometryNumbers) (events : List Event) (actor : ℕ) (within : IsW
       let block = w.numbers.block in
       let taken : Taken = record { made = r.made; runs = []; present = false } in
       let fits : FitsAt r.next block w.shared (actor_at w actor).hand r =
-      subst (λ (o : Option Running). FitsOf o block w.shared (actor_at w actor).hand) is ((all_fit g within events).each actor) in
+      subst (λ (o : Option Running). FitsOf o block w.shared (actor_at w actor).hand) is
+      ((all_fit g start records is_start events).each actor) in
       let point = point_fits r.next block actor granted w.shared (actor_at w actor).hand r
       (sym (deed_is (nat_lt actor (length w.actors)) (actor_at w actor).running w actor granted r
       (lt-ltb actor (length w.actors) there) is) ∙ e) fits in
       (told_nothing block (node_in (settled_nodes w.shared)) taken r.call
-      (has_passed g events actor granted r within there is e)).some_effect
+      (has_passed g start records events actor granted r is_start there is e)).some_effect
       (commits_plainly r (is_on_snapshots r.call) (told_of r is) point.0)

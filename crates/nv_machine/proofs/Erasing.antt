@@ -8,7 +8,6 @@ use Rattle.std.proofs.lemmas.List.{get_or_past}
 use Rattle.std.proofs.lemmas.Option.{none-some}
 use Rattle.nv_alloc.specs.Block.{BlockValue, numbers_of}
 use Rattle.nv_alloc.specs.Numbers.{has}
-use Rattle.nv_base.specs.Limits.{IsWithinLimits}
 use Rattle.nv_base.specs.declared.geometry.GeometryNumbers.{GeometryNumbers}
 use Rattle.nv_base.specs.declared.limits.TheConstants.{NUMBER}
 use Rattle.nv_book.specs.declared.record.Record.{Record}
@@ -31,7 +30,6 @@ use Rattle.nv_entry.specs.declared.held.Pair.{Pair}
 use Rattle.nv_epoch.specs.SnapList.{ids}
 use Rattle.nv_log.specs.Chain.{ChainState, log}
 use Rattle.nv_machine.specs.Erasing.{IsErasedWhole, IsOnItsWay, IsOver, emptied, is_late, keepers_of}
-use Rattle.nv_machine.specs.Format.{formatted}
 use Rattle.nv_machine.specs.Hands.{AreNumbers, IsParted}
 use Rattle.nv_machine.specs.Held.{in_use_by, is_of_slot, killed_in, pending_at, pending_in, retention_at}
 use Rattle.nv_machine.specs.Locks.{commits_at}
@@ -43,6 +41,7 @@ use Rattle.nv_machine.specs.Reached.{IsReached}
 use Rattle.nv_machine.specs.Reads.{slot_at, written_slots}
 use Rattle.nv_machine.specs.Sequence.{retiring}
 use Rattle.nv_machine.specs.Settled.{settled}
+use Rattle.nv_machine.specs.Starts.{IsStart}
 use Rattle.nv_machine.specs.Step.{Step, after, changed, kind_turn, step, turned}
 use Rattle.nv_machine.specs.World.{Actor, Event, Go, HandState, Leave, Next, Retire, Running, Shared, World, actor_at, cell_at, go_to, idle, no_cell, owner_at, with_book, with_cell}
 use Rattle.nv_machine.proofs.Counted.{retired_times}
@@ -84,14 +83,15 @@ pub record IsKnown (g : GeometryNumbers) (w : World) : Type 0 where
   pub listed : Listed rs w.shared
   pub marked : AreMarked w rs
 
-pub known : (g : GeometryNumbers) (events : List Event) → IsWithinLimits g → IsKnown g (after (formatted g) events)
-known g events within = record {
-  reached = reached g events within;
-  numbers = all_numbers g events within;
-  pooled = all_pooled g events within;
-  rs = records_after (formatted g) events [];
-  listed = all_listed g events within;
-  marked = all_marked g events within;
+pub known : (g : GeometryNumbers) (start : World) (records : List Record) (events : List Event) → IsStart g start records
+    → IsKnown g (after start events)
+known g start records events is_start = record {
+  reached = reached g start records events is_start;
+  numbers = all_numbers g start records events is_start;
+  pooled = all_pooled g start records events is_start;
+  rs = records_after start events records;
+  listed = all_listed g start records events is_start;
+  marked = all_marked g start records events is_start;
 }
 
 -- an actor that runs a call is one of all
@@ -315,25 +315,27 @@ module _ (g : GeometryNumbers) (w : World) (all : IsKnown g w) (actor place : �
 
 -- ---- the law, of the retire step
 
-pub retire_erases : (g : GeometryNumbers) (events : List Event) (actor place : ℕ) (granted : Bool) (r : Running) → IsWithinLimits g
-    → (actor_at (after (formatted g) events) actor).running ≡ Some r → r.next ≡ Retire place
-    → IsOver (pending_in (after (formatted g) events)) (after (formatted g) events).shared (slot_at (written_slots r) place)
-    → IsErasedWhole actor (slot_at (written_slots r) place) (after (formatted g) events)
-    (step (after (formatted g) events) (Go actor granted)).world
-retire_erases g events actor place granted r within runs next over =
-    let w = after (formatted g) events in
-    let all = known g events within in
+pub retire_erases : (g : GeometryNumbers) (start : World) (records : List Record) (events : List Event) (actor place : ℕ)
+    (granted : Bool) (r : Running) → IsStart g start records
+    → (actor_at (after start events) actor).running ≡ Some r → r.next ≡ Retire place
+    → IsOver (pending_in (after start events)) (after start events).shared (slot_at (written_slots r) place)
+    → IsErasedWhole actor (slot_at (written_slots r) place) (after start events)
+    (step (after start events) (Go actor granted)).world
+retire_erases g start records events actor place granted r is_start runs next over =
+    let w = after start events in
+    let all = known g start records events is_start in
     subst (λ (v : World). IsErasedWhole actor (slot_at (written_slots r) place) w v)
     (sym (stepped g w all actor place r runs next over granted)) (is_erased_whole g w all actor place r runs next over)
 
-pub hand_has_it : (g : GeometryNumbers) (events : List Event) (actor place : ℕ) (granted : Bool) (r : Running) → IsWithinLimits g
-    → (actor_at (after (formatted g) events) actor).running ≡ Some r → r.next ≡ Retire place
-    → IsOver (pending_in (after (formatted g) events)) (after (formatted g) events).shared (slot_at (written_slots r) place)
-    → is_withheld (cell_at (step (after (formatted g) events) (Go actor granted)).world.shared (slot_at (written_slots r) place)) ≡ false
-    → IsOnItsWay actor (slot_at (written_slots r) place) (step (after (formatted g) events) (Go actor granted)).world
-hand_has_it g events actor place granted r within runs next over free =
-    let w = after (formatted g) events in
-    let all = known g events within in
+pub hand_has_it : (g : GeometryNumbers) (start : World) (records : List Record) (events : List Event) (actor place : ℕ)
+    (granted : Bool) (r : Running) → IsStart g start records
+    → (actor_at (after start events) actor).running ≡ Some r → r.next ≡ Retire place
+    → IsOver (pending_in (after start events)) (after start events).shared (slot_at (written_slots r) place)
+    → is_withheld (cell_at (step (after start events) (Go actor granted)).world.shared (slot_at (written_slots r) place)) ≡ false
+    → IsOnItsWay actor (slot_at (written_slots r) place) (step (after start events) (Go actor granted)).world
+hand_has_it g start records events actor place granted r is_start runs next over free =
+    let w = after start events in
+    let all = known g start records events is_start in
     let slot = slot_at (written_slots r) place in
     let is = stepped g w all actor place r runs next over granted in
     subst (λ (v : World). IsOnItsWay actor slot v) (sym is)
@@ -341,32 +343,32 @@ hand_has_it g events actor place granted r within runs next over free =
 
 -- ---- no slot has one with the commit lock free
 
-pub none_stays : (g : GeometryNumbers) (events : List Event) (ino : ℕ) → IsWithinLimits g
-    → (after (formatted g) events).shared.holder ≡ None
-    → IsOver (pending_in (after (formatted g) events)) (after (formatted g) events).shared ino → ⊥
-none_stays g events ino within free over =
-    none_retiring g events ino within free (gone_erased cell (ap is_gone (sym same) ∙ over.gone) outs) where
+pub none_stays : (g : GeometryNumbers) (start : World) (records : List Record) (events : List Event) (ino : ℕ) → IsStart g start records
+    → (after start events).shared.holder ≡ None
+    → IsOver (pending_in (after start events)) (after start events).shared ino → ⊥
+none_stays g start records events ino is_start free over =
+    none_retiring g start records events ino is_start free (gone_erased cell (ap is_gone (sym same) ∙ over.gone) outs) where
       w : World
-      w = after (formatted g) events
+      w = after start events
 
       cell : CellState
       cell = cell_at w.shared ino
 
       closed : AreClosed w.shared.book.journals
-      closed = (reached g events within).kept.logs.closed free
+      closed = (reached g start records events is_start).kept.logs.closed free
 
       same : settled w.shared ino ≡ log_of cell
       same = ap (λ (n : ℕ). take n cell.chain.entries) (closed_tail w.shared.book.journals ino cell.chain.tail closed)
 
       none : killed_in w ino ≡ []
-      none = no_killed w ino (reached g events within).locks free
+      none = no_killed w ino (reached g start records events is_start).locks free
 
       outs : (n : ℕ) → n < length cell.marks → is_there (mark_at cell.marks n) ≡ false
       outs n lt =
-          ap is_there (sym (same_default cell.marks n lt)) ∙ sym (used_there g events ino n within)
+          ap is_there (sym (same_default cell.marks n lt)) ∙ sym (used_there g start records events ino n is_start)
           ∙ go (slice_get (pairs cell.block (log_of cell)) n) refl
-          (pair_there cell.block (log_of cell) n (log_in g events ino within)
-          (let len = (have_marks g events ino within).len in omega (arith, lt, len))) where
+          (pair_there cell.block (log_of cell) n (log_in g start records events ino is_start)
+          (let len = (have_marks g start records events ino is_start).len in omega (arith, lt, len))) where
             go : (o : Option Pair) → slice_get (pairs cell.block (log_of cell)) n ≡ o → IsSome o → in_use_by (retention_at w ino) o ≡ false
             go None e some = absurd (false≢true some)
             go (Some pair) e some =

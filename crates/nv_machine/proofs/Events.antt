@@ -9,7 +9,7 @@ use Rattle.nv_base.specs.declared.fault.Fault.TheVariants.{ActorBusy, ActorIdle,
 use Rattle.nv_calls.specs.declared.answer.Answer.{Answer}
 use Rattle.nv_calls.specs.declared.call.Call.{Call}
 use Rattle.nv_machine.specs.Bound.{Falls, IsNoStart, bound, bound_at, bound_of, most_steps_of, moves, moves_by, moves_in}
-use Rattle.nv_machine.specs.Frame.{Frame, IsFramed, IsOneStep, IsStart, LeavesOthers, Lent, lent}
+use Rattle.nv_machine.specs.Frame.{Frame, IsFramed, IsOneStep, IsCallStart, LeavesOthers, Lent, lent}
 use Rattle.nv_machine.specs.Sequence.{beginning, begun}
 use Rattle.nv_machine.specs.Step.{Step, after, go_step, reply_of, start_step, stays, step, turn, turned}
 use Rattle.nv_machine.specs.World.{Actor, Ends, Event, Go, Moves, Refused, Reply, Running, Shared, Start, Started, Turn, Waits, World, actor_at, idle}
@@ -70,7 +70,7 @@ goes w actor granted r there is =
     }
 
 start_at : (b : Bool) (running : Option Running) (w : World) (actor : ℕ) (c : Call) → nat_lt actor (length w.actors) ≡ b
-    → (actor_at w actor).running ≡ running → IsStart w actor c (start_step b running actor c w)
+    → (actor_at w actor).running ≡ running → IsCallStart w actor c (start_step b running actor c w)
 start_at false running w actor c e is = record {
   shared = refl;
   others = same_others actor w;
@@ -89,7 +89,7 @@ start_at true None w actor c e is =
       own = λ there none. (refl, get_or-set_same w.actors actor x idle there);
     }
 
-pub starts : (w : World) (actor : ℕ) (c : Call) → IsStart w actor c (step w (Start actor c))
+pub starts : (w : World) (actor : ℕ) (c : Call) → IsCallStart w actor c (step w (Start actor c))
 starts w actor c = start_at (nat_lt actor (length w.actors)) (actor_at w actor).running w actor c refl refl
 
 -- ---- who is refused an event

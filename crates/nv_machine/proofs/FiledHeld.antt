@@ -1,10 +1,11 @@
 -- What records tell a living snapshot to hold is what it holds by the logs, less what is current and what is killed.
+use Rattle.nv_machine.specs.Starts.{IsStart}
+use Rattle.nv_machine.specs.World.{World, Event, cell_at}
 use Rattle.std.proofs.Common.{◌≡◌, ℕ, zero, suc, ◌+◌, ◌&&◌, ◌∙◌, Bool, true, false, not, List, [], ◌∷◌, Some, ap, arith, map, refl, slice_get, sym}
 use Rattle.std.specs.Prelude.{◌||◌}
 use Rattle.std.specs.List.{AllByRecursion, Contains, list_any}
 use Rattle.std.proofs.lemmas.Bool.{eqb-true}
 use Rattle.std.proofs.lemmas.Option.{same_Some}
-use Rattle.nv_base.specs.Limits.{IsWithinLimits}
 use Rattle.nv_base.specs.declared.geometry.GeometryNumbers.{GeometryNumbers}
 use Rattle.nv_book.specs.Records.{is_held_by}
 use Rattle.nv_book.specs.declared.record.Record.{Record}
@@ -24,11 +25,9 @@ use Rattle.nv_entry.specs.declared.held.Pair.{Pair}
 use Rattle.nv_entry.specs.declared.item.Entry.{Entry}
 use Rattle.nv_entry.proofs.Currents.{any_map, any_same}
 use Rattle.nv_epoch.specs.SnapList.{ids}
-use Rattle.nv_machine.specs.Format.{formatted}
 use Rattle.nv_machine.specs.Held.{is_of_slot, killed_in}
 use Rattle.nv_machine.specs.Recorded.{is_kept, is_killed_pair, is_recorded_for, recorded_in}
 use Rattle.nv_machine.specs.Step.{after}
-use Rattle.nv_machine.specs.World.{Event, cell_at}
 use Rattle.nv_machine.proofs.FiledLaw.{all_marked, recorded_all, recorded_once}
 use Rattle.nv_machine.proofs.EachOf.{all_weaker}
 use Rattle.nv_machine.proofs.FiledLists.{count, count_cons, one}
@@ -137,18 +136,20 @@ module _ (living : List ℕ) (ino epoch : ℕ) (killed : List KilledPart) (rs : 
 
 -- ---- the law
 
-pub recorded_for : (g : GeometryNumbers) (events : List Event) (snapshot ino n : ℕ) (pair : Pair) → IsWithinLimits g
-    → Contains (ids (after (formatted g) events).shared.book.snaps) snapshot
-    → slice_get (pairs (cell_at (after (formatted g) events).shared ino).block
-    (log_of (cell_at (after (formatted g) events).shared ino))) n ≡ Some pair
-    → is_recorded_for snapshot (after (formatted g) events) ino pair
-    ≡ (holds snapshot pair && (not (is_current pair) && not (is_killed_pair (after (formatted g) events) ino pair)))
-recorded_for g events snapshot ino n pair within lives got =
-    let w = after (formatted g) events in
+pub recorded_for : (g : GeometryNumbers) (start : World) (records : List Record) (events : List Event) (snapshot ino n : ℕ)
+    (pair : Pair) → IsStart g start records
+    → Contains (ids (after start events).shared.book.snaps) snapshot
+    → slice_get (pairs (cell_at (after start events).shared ino).block
+    (log_of (cell_at (after start events).shared ino))) n ≡ Some pair
+    → is_recorded_for snapshot (after start events) ino pair
+    ≡ (holds snapshot pair && (not (is_current pair) && not (is_killed_pair (after start events) ino pair)))
+recorded_for g start records events snapshot ino n pair is_start lives got =
+    let w = after start events in
     let cell : CellState = cell_at w.shared ino in
-    let m = (all_marked g events within).cells ino in
-    let log : IsLog (log_of cell) = IsLog-take cell.chain.tail cell.chain.entries ((known g events within).order.logs ino).ordered in
+    let m = (all_marked g start records events is_start).cells ino in
+    let log : IsLog (log_of cell) =
+    IsLog-take cell.chain.tail cell.chain.entries ((known g start records events is_start).order.logs ino).ordered in
     held_told (ids w.shared.book.snaps) ino w.shared.book.snaps.epoch (killed_in w ino) _ cell.block (log_of cell) cell.marks log m n
     pair got
-    snapshot (recorded_in w) (recorded_all g events (IsTold ino cell.block (log_of cell)) within m.told)
-    (recorded_once g events within ino n) lives
+    snapshot (recorded_in w) (recorded_all g start records events (IsTold ino cell.block (log_of cell)) is_start m.told)
+    (recorded_once g start records events is_start ino n) lives

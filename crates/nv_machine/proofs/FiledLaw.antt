@@ -4,7 +4,6 @@ use Rattle.std.proofs.Common.{◌≡◌, ℕ, zero, suc, ◌-◌, ◌<◌, ◌�
 use Rattle.std.specs.Prelude.{not, slice_index_or}
 use Rattle.std.specs.List.{AllByRecursion}
 use Rattle.std.proofs.lemmas.Bool.{ltb-true}
-use Rattle.nv_base.specs.Limits.{IsWithinLimits}
 use Rattle.nv_base.specs.declared.geometry.GeometryNumbers.{GeometryNumbers}
 use Rattle.nv_book.specs.Listed.{all_records}
 use Rattle.nv_book.specs.Records.{holder_of}
@@ -20,6 +19,7 @@ use Rattle.nv_machine.specs.Held.{killed_by_actor, killed_by_call, picked_by_act
 use Rattle.nv_machine.specs.PlainRun as plain
 use Rattle.nv_machine.specs.Recorded.{AreRecordedOnce, IsOfPair, after_deed, is_kept, recorded_in, records_after, records_in, retired_in}
 use Rattle.nv_machine.specs.Sequence.{beginning, begun}
+use Rattle.nv_machine.specs.Starts.{IsStart}
 use Rattle.nv_machine.specs.Step.{after, go_step, start_step, step}
 use Rattle.nv_machine.specs.World.{Actor, Event, Go, Running, Start, World, actor_at, cell_at, idle, no_cell}
 use Rattle.nv_machine.proofs.FiledKinds.{kind_marked}
@@ -27,13 +27,14 @@ use Rattle.nv_machine.proofs.EachOf.{all_append, all_back, all_front}
 use Rattle.nv_machine.proofs.FiledLists.{all_filed, count_append, count_filed}
 use Rattle.nv_machine.proofs.FiledMarks.{IsTold, is_filed_on}
 use Rattle.nv_machine.proofs.FiledPicks.{begun_none}
-use Rattle.nv_machine.proofs.FiledRuns.{IsKnown, all_listed, event_listed, known, new_listed, not_there}
+use Rattle.nv_machine.proofs.FiledRuns.{IsKnown, all_listed, event_listed, known, not_there}
 use Rattle.nv_machine.proofs.FiledSteps.{AreFresh, MarksOf}
 use Rattle.nv_machine.proofs.FiledTurns.{Listed}
 use Rattle.nv_machine.proofs.FiledWorlds.{AreMarked, outside, picked_in, quiet_marked, same_quiet}
 use Rattle.nv_machine.proofs.InOrder.{begun_commits}
 use Rattle.nv_machine.proofs.Locks.{all_same}
 use Rattle.nv_machine.proofs.PartsFor.{none_of}
+use Rattle.nv_machine.proofs.StartRecords.{first_listed, first_marked}
 
 -- ---- events
 
@@ -137,7 +138,7 @@ new_cell : (g : GeometryNumbers) (ino : ℕ) → IsNew ino (cell_at (formatted g
 new_cell g zero = record { marks = root_marks g 0; fresh = tt }
 new_cell g (suc ino) = new_cells g (g.inodes - 1) ino (suc ino)
 
-new_marked : (g : GeometryNumbers) → AreMarked (formatted g) []
+pub new_marked : (g : GeometryNumbers) → AreMarked (formatted g) []
 new_marked g = record {
   cells = λ ino. subst (λ (killed : List KilledPart). MarksOf [] ino 1 killed (picked_in (formatted g)) (cell_at (formatted g).shared ino))
       (sym (nobody (killed_by_actor ino) refl))
@@ -152,35 +153,41 @@ new_marked g = record {
 
 -- ---- every world
 
-pub all_marked : (g : GeometryNumbers) (events : List Event) → IsWithinLimits g
-    → AreMarked (after (formatted g) events) (records_after (formatted g) events [])
-all_marked g events within =
-    events_marked g events (formatted g) [] (λ before. known g before within) (new_listed g) (new_marked g)
+pub all_marked : (g : GeometryNumbers) (start : World) (records : List Record) (events : List Event) → IsStart g start records
+    → AreMarked (after start events) (records_after start events records)
+all_marked g start records events is_start =
+    events_marked g events start records (λ before. known g start records before is_start) (first_listed g start records is_start)
+    (first_marked g start records is_start)
 
 -- ---- the laws
 
-pub recorded_once : (g : GeometryNumbers) (events : List Event) → IsWithinLimits g → AreRecordedOnce (after (formatted g) events)
-recorded_once g events within ino n =
-    let w = after (formatted g) events in
-    let rs = records_after (formatted g) events [] in
-    let l = all_listed g events within in
+-- where the list and the marks are told, each part that is kept is recorded once
+pub once_of : (w : World) (rs : List Record) → Listed rs w.shared → AreMarked w rs → AreRecordedOnce w
+once_of w rs l m ino n =
     let book = w.shared.book in
     let p : Record → Bool = is_filed_on ino (log_of (cell_at w.shared ino)) n in
     let all = count_append p (all_records book.manifests) (book.deferred ++ picked_in w) in
     let rest = count_append p book.deferred (picked_in w) in
     let filed = count_filed p (ids book.snaps) book.manifests book.deferred rs l.rising l.list in
     let both = count_append p rs (picked_in w) in
-    let is = ((all_marked g events within).cells ino).kept_are n in
+    let is = (m.cells ino).kept_are n in
     omega (arith, all, rest, filed, both, is)
 
+pub recorded_once : (g : GeometryNumbers) (start : World) (records : List Record) (events : List Event) → IsStart g start records
+    → AreRecordedOnce (after start events)
+recorded_once g start records events is_start =
+    once_of (after start events) (records_after start events records) (all_listed g start records events is_start)
+    (all_marked g start records events is_start)
+
 -- what holds of all that is listed or picked holds of each record
-pub recorded_all : (g : GeometryNumbers) (events : List Event) (P : Record → Type 0) → IsWithinLimits g
-    → AllByRecursion P (records_after (formatted g) events [] ++ picked_in (after (formatted g) events))
-    → AllByRecursion P (recorded_in (after (formatted g) events))
-recorded_all g events P within all =
-    let w = after (formatted g) events in
-    let rs = records_after (formatted g) events [] in
-    let l = all_listed g events within in
+pub recorded_all : (g : GeometryNumbers) (start : World) (records : List Record) (events : List Event) (P : Record → Type 0)
+    → IsStart g start records
+    → AllByRecursion P (records_after start events records ++ picked_in (after start events))
+    → AllByRecursion P (recorded_in (after start events))
+recorded_all g start records events P is_start all =
+    let w = after start events in
+    let rs = records_after start events records in
+    let l = all_listed g start records events is_start in
     let book = w.shared.book in
     let filed = all_filed P (ids book.snaps) book.manifests book.deferred rs l.list (all_front P rs (picked_in w) all) in
     all_append P (all_records book.manifests) (book.deferred ++ picked_in w) (all_front P (all_records book.manifests) book.deferred filed)
@@ -188,7 +195,7 @@ recorded_all g events P within all =
     (all_back P rs (picked_in w) all))
 
 -- what is told of each slot is told of each record
-each_of : (w : World) (rs : List Record)
+pub each_of : (w : World) (rs : List Record)
     → ((ino : ℕ) → AllByRecursion (IsTold ino (cell_at w.shared ino).block (log_of (cell_at w.shared ino))) rs)
     → AllByRecursion (IsOfPair w) rs
 each_of w [] told = tt
@@ -198,9 +205,9 @@ each_of w (d ∷ rs) told =
       each_of w rs (λ ino. (told ino).1),
     )
 
-pub recorded_pairs : (g : GeometryNumbers) (events : List Event) → IsWithinLimits g
-    → AllByRecursion (IsOfPair (after (formatted g) events)) (recorded_in (after (formatted g) events))
-recorded_pairs g events within =
-    let w = after (formatted g) events in
-    recorded_all g events (IsOfPair w) within
-    (each_of w (records_after (formatted g) events [] ++ picked_in w) (λ ino. ((all_marked g events within).cells ino).told))
+pub recorded_pairs : (g : GeometryNumbers) (start : World) (records : List Record) (events : List Event) → IsStart g start records
+    → AllByRecursion (IsOfPair (after start events)) (recorded_in (after start events))
+recorded_pairs g start records events is_start =
+    let w = after start events in
+    recorded_all g start records events (IsOfPair w) is_start
+    (each_of w (records_after start events records ++ picked_in w) (λ ino. ((all_marked g start records events is_start).cells ino).told))

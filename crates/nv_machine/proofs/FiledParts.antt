@@ -3,7 +3,6 @@ use Rattle.std.proofs.Common.{◌≡◌, ℕ, ◌<◌, ◌≤◌, ◌++◌, ◌�
 use Rattle.std.specs.Prelude.{unwrap_or}
 use Rattle.std.specs.List.{AllByRecursion}
 use Rattle.std.proofs.lemmas.Bool.{ltb-true}
-use Rattle.nv_base.specs.Limits.{IsWithinLimits}
 use Rattle.nv_base.specs.declared.geometry.GeometryNumbers.{GeometryNumbers}
 use Rattle.nv_book.specs.declared.record.Record.{Record}
 use Rattle.nv_calls.specs.Retiring.{name_of}
@@ -15,10 +14,10 @@ use Rattle.nv_cell.proofs.ValuesNow.{IsLog-take}
 use Rattle.nv_entry.specs.Covered.{is_covered}
 use Rattle.nv_entry.specs.Log.{IsLog}
 use Rattle.nv_entry.specs.declared.item.Entry.{Entry}
-use Rattle.nv_machine.specs.Format.{formatted}
 use Rattle.nv_machine.specs.Held.{picked_by_actor, picked_by_call}
 use Rattle.nv_machine.specs.Kept.{IsReleaseCovered, IsReleaseCoveredBy}
 use Rattle.nv_machine.specs.Recorded.{is_kept, records_after}
+use Rattle.nv_machine.specs.Starts.{IsStart}
 use Rattle.nv_machine.specs.Step.{after}
 use Rattle.nv_machine.specs.World.{Event, Next, Release, Running, Snapshots, World, actor_at, cell_at}
 use Rattle.nv_machine.proofs.FiledLaw.{all_marked}
@@ -32,16 +31,17 @@ use Rattle.nv_machine.proofs.Pairs.{HasPair, has_number}
 use Rattle.nv_machine.proofs.PartsFor.{own_all, own_count}
 
 -- the log of a slot is one
-pub log_in : (g : GeometryNumbers) (events : List Event) (ino : ℕ) → IsWithinLimits g
-    → IsLog (log_of (cell_at (after (formatted g) events).shared ino))
-log_in g events ino within =
-    let cell : CellState = cell_at (after (formatted g) events).shared ino in
-    IsLog-take cell.chain.tail cell.chain.entries ((known g events within).order.logs ino).ordered
+pub log_in : (g : GeometryNumbers) (start : World) (records : List Record) (events : List Event) (ino : ℕ) → IsStart g start records
+    → IsLog (log_of (cell_at (after start events).shared ino))
+log_in g start records events ino is_start =
+    let cell : CellState = cell_at (after start events).shared ino in
+    IsLog-take cell.chain.tail cell.chain.entries ((known g start records events is_start).order.logs ino).ordered
 
 -- each published part has its mark, and is marked current exactly where it is not covered
-pub have_marks : (g : GeometryNumbers) (events : List Event) (ino : ℕ) → IsWithinLimits g
-    → HasMarks (cell_at (after (formatted g) events).shared ino)
-have_marks g events ino within = let m = (all_marked g events within).cells ino in record { len = m.len; current = m.current }
+pub have_marks : (g : GeometryNumbers) (start : World) (records : List Record) (events : List Event) (ino : ℕ) → IsStart g start records
+    → HasMarks (cell_at (after start events).shared ino)
+have_marks g start records events ino is_start =
+    let m = (all_marked g start records events is_start).cells ino in record { len = m.len; current = m.current }
 
 -- a part that is recorded is covered
 pub filed_covered : (living : List ℕ) (ino epoch : ℕ) (killed : List KilledPart) (rs : List Record) (block : ℕ) (log : List Entry)
@@ -61,14 +61,15 @@ filed_covered living ino epoch killed rs block log marks d is h mine pair some =
       covered true e = refl
       covered false e = cc
 
-pub releases_covered : (g : GeometryNumbers) (events : List Event) (actor : ℕ) → IsWithinLimits g
-    → IsReleaseCoveredBy (after (formatted g) events).shared (actor_at (after (formatted g) events) actor).running
-releases_covered g events actor within = go (actor_at w actor).running refl where
+pub releases_covered : (g : GeometryNumbers) (start : World) (records : List Record) (events : List Event) (actor : ℕ)
+    → IsStart g start records
+    → IsReleaseCoveredBy (after start events).shared (actor_at (after start events) actor).running
+releases_covered g start records events actor is_start = go (actor_at w actor).running refl where
   w : World
-  w = after (formatted g) events
+  w = after start events
 
   rs : List Record
-  rs = records_after (formatted g) events []
+  rs = records_after start events records
 
   there : (b : Bool) (r : Running) → nat_lt actor (length w.actors) ≡ b → (actor_at w actor).running ≡ Some r → actor < length w.actors
   there true r e is = ltb-true actor (length w.actors) e
@@ -77,7 +78,7 @@ releases_covered g events actor within = go (actor_at w actor).running refl wher
   at : (k : Next) (r : Running) → (actor_at w actor).running ≡ Some r → r.next ≡ k → IsReleaseCovered w.shared k
   at (Snapshots (Release draining d)) r is e =
       let cell : CellState = cell_at w.shared d.ino in
-      let m = (all_marked g events within).cells d.ino in
+      let m = (all_marked g start records events is_start).cells d.ino in
       let T : Record → Type 0 = IsTold d.ino cell.block (log_of cell) in
       let had : picked_by_actor (actor_at w actor) ≡ d ∷ [] =
       ap (λ (o : Option Running). picked_by_call o) is ∙ ap (λ (k : Next). picked_by_call (Some (record r { next = k }))) e in
@@ -87,9 +88,10 @@ releases_covered g events actor within = go (actor_at w actor).running refl wher
       let pair = told.0 refl in
       let p : Record → Bool = is_filed_on d.ino (log_of cell) pair.n in
       let number : number_in cell (name_of d) ≡ pair.n = ap (λ (o : Option ℕ). unwrap_or o 0)
-      (has_number cell.block (log_of cell) (name_of d) d.birth d.death (log_in g events d.ino within) pair) in
+      (has_number cell.block (log_of cell) (name_of d) d.birth d.death (log_in g start records events d.ino is_start) pair) in
       ap (is_covered cell.block (log_of cell)) number
-      ∙ filed_covered _ d.ino _ _ (rs ++ picked_in w) cell.block (log_of cell) cell.marks d (log_in g events d.ino within) m refl pair
+      ∙ filed_covered _ d.ino _ _ (rs ++ picked_in w) cell.block (log_of cell) cell.marks d
+      (log_in g start records events d.ino is_start) m refl pair
       (omega (
         arith,
         own_count picked_by_actor p w.actors actor low,

@@ -3,7 +3,6 @@ use Rattle.std.proofs.Common.{◌≡◌, ℕ, ◌∙◌, Bool, true, false, if�
 use Rattle.std.proofs.lemmas.Bool.{ltb-false}
 use Rattle.std.proofs.lemmas.List.{get_or_past}
 use Rattle.std.proofs.lemmas.Option.{none-some}
-use Rattle.nv_base.specs.Limits.{IsWithinLimits}
 use Rattle.nv_base.specs.declared.geometry.GeometryNumbers.{GeometryNumbers}
 use Rattle.nv_book.specs.Listed.{IsRecordList, unheld}
 use Rattle.nv_book.specs.declared.record.Record.{Record}
@@ -15,12 +14,15 @@ use Rattle.nv_machine.specs.Locks.{AreLocks, HasSlots, IsInside, slots_on}
 use Rattle.nv_machine.specs.Order.{CommitsIn, IsInOrder}
 use Rattle.nv_machine.specs.PlainRun as plain
 use Rattle.nv_machine.specs.Recorded.{after_deed, records_after, records_in, retired_in}
+use Rattle.nv_machine.specs.Starts.{IsStart}
 use Rattle.nv_machine.specs.Step.{after, go_step, start_step, step, turn, turned}
 use Rattle.nv_machine.specs.World.{Actor, Ends, Event, Go, HandState, Moves, Next, Running, SnapshotStep, Snapshots, Start, Turn, Waits, World, actor_at, empty_hand, idle}
 use Rattle.nv_machine.proofs.FiledTurns.{CanList, Listed, OnListed, list_after, turn_listed, waits_listed}
 use Rattle.nv_machine.proofs.FromScratch.{all_numbers}
-use Rattle.nv_machine.proofs.InOrder.{events_order, new_order}
-use Rattle.nv_machine.proofs.Locks.{events_locks, new_locks}
+use Rattle.nv_machine.proofs.InOrder.{events_order}
+use Rattle.nv_machine.proofs.Locks.{events_locks}
+use Rattle.nv_machine.proofs.StartParts.{first_locks, first_order}
+use Rattle.nv_machine.proofs.StartRecords.{first_listed}
 
 -- what is known of each world that events lead to
 pub record IsKnown (g : GeometryNumbers) (w : World) : Type 0 where
@@ -28,11 +30,12 @@ pub record IsKnown (g : GeometryNumbers) (w : World) : Type 0 where
   pub order : IsInOrder w
   pub numbers : AreNumbers g w
 
-pub known : (g : GeometryNumbers) (events : List Event) → IsWithinLimits g → IsKnown g (after (formatted g) events)
-known g events within = record {
-  locks = events_locks events (formatted g) (new_locks g within);
-  order = events_order events (formatted g) (new_locks g within) (new_order g);
-  numbers = all_numbers g events within;
+pub known : (g : GeometryNumbers) (start : World) (records : List Record) (events : List Event) → IsStart g start records
+    → IsKnown g (after start events)
+known g start records events is_start = record {
+  locks = events_locks events start (first_locks g start records is_start);
+  order = events_order events start (first_locks g start records is_start) (first_order g start records is_start);
+  numbers = all_numbers g start records events is_start;
 }
 
 pub can_list : (g : GeometryNumbers) (w : World) (actor : ℕ) (r : Running) → IsKnown g w → (actor_at w actor).running ≡ Some r
@@ -113,16 +116,17 @@ new_listed g = record {
   dead = tt;
 }
 
-pub all_listed : (g : GeometryNumbers) (events : List Event) → IsWithinLimits g
-    → Listed (records_after (formatted g) events []) (after (formatted g) events).shared
-all_listed g events within = events_listed g events (formatted g) [] (λ before. known g before within) (new_listed g)
+pub all_listed : (g : GeometryNumbers) (start : World) (records : List Record) (events : List Event) → IsStart g start records
+    → Listed (records_after start events records) (after start events).shared
+all_listed g start records events is_start =
+    events_listed g events start records (λ before. known g start records before is_start) (first_listed g start records is_start)
 
-pub are_listed : (g : GeometryNumbers) (events : List Event) → IsWithinLimits g
-    → IsRecordList (ids (after (formatted g) events).shared.book.snaps) (after (formatted g) events).shared.book.manifests
-    (after (formatted g) events).shared.book.deferred (records_after (formatted g) events [])
-are_listed g events within = (all_listed g events within).list
+pub are_listed : (g : GeometryNumbers) (start : World) (records : List Record) (events : List Event) → IsStart g start records
+    → IsRecordList (ids (after start events).shared.book.snaps) (after start events).shared.book.manifests
+    (after start events).shared.book.deferred (records_after start events records)
+are_listed g start records events is_start = (all_listed g start records events is_start).list
 
-pub are_deferred : (g : GeometryNumbers) (events : List Event) → IsWithinLimits g
-    → (after (formatted g) events).shared.book.deferred
-    ≡ unheld (ids (after (formatted g) events).shared.book.snaps) (records_after (formatted g) events [])
-are_deferred g events within = (are_listed g events within).deferred_is
+pub are_deferred : (g : GeometryNumbers) (start : World) (records : List Record) (events : List Event) → IsStart g start records
+    → (after start events).shared.book.deferred
+    ≡ unheld (ids (after start events).shared.book.snaps) (records_after start events records)
+are_deferred g start records events is_start = (are_listed g start records events is_start).deferred_is

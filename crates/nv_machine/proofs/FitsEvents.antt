@@ -1,4 +1,5 @@
 -- Plans fit at their commit points, whatever events come.
+use Rattle.nv_book.specs.declared.record.Record.{Record}
 use Rattle.std.proofs.Common.{◌≡◌, ◌≢◌, ℕ, zero, suc, ◌-◌, ◌<◌, ◌≤◌, ◌==◌, ◌∙◌, Bool, true, false, cond, List, [], ◌∷◌, Option, Some, None, ap, ap₂, arith, get_or-set_other, get_or-set_same, inl, inr, length, length-set, nat_lt, refl, replicate, set, subst, sym, take}
 use Rattle.std.specs.Prelude.{slice_index_or, unwrap_or}
 use Rattle.std.proofs.lemmas.Bool.{cases_lt, eqb-false, eqb-true, lt-ltb, ltb-true, true≢false}
@@ -30,6 +31,7 @@ use Rattle.nv_machine.specs.Reached.{IsReached}
 use Rattle.nv_machine.specs.Reads.{pages_needed, slot_at, slots_of, written_slots}
 use Rattle.nv_machine.specs.Sequence.{Beginning, Looks, Locks, Numbers, Visits, beginning, begun, nothing_looked}
 use Rattle.nv_machine.specs.Settled.{node_by, settled, settled_nodes, settled_tail}
+use Rattle.nv_machine.specs.Starts.{IsStart}
 use Rattle.nv_machine.specs.Step.{after, go_step, start_step, step, turn, turned}
 use Rattle.nv_machine.specs.World.{Actor, Append, Back, Check, Close, Ends, Enter, Event, Give, Go, HandState, Leave, Lock, Look, Moves, Next, Number, Open, Publish, Ready, Retire, Running, Shared, Start, TakeBlocks, TakePages, Turn, Unlock, Visit, Waits, World, actor_at, cell_at, empty_hand, idle, no_cell, owner_at, with_cell, Drop, LockPicked, Make, Pick, Pin, Release, Show, Snapshots, Unpin}
 use Rattle.nv_machine.proofs.Answered.{deed_is}
@@ -368,7 +370,8 @@ new_sizes g zero ino lt = absurd (omega (arith, lt))
 new_sizes g (suc n) zero lt = refl
 new_sizes g (suc n) (suc ino) lt = new_sizes g n ino (omega (arith, lt))
 
-new_each : (g : GeometryNumbers) (ino : ℕ) → ino < length (formatted g).shared.cells → (cell_at (formatted g).shared ino).block ≡ g.block
+pub new_each : (g : GeometryNumbers) (ino : ℕ) → ino < length (formatted g).shared.cells
+    → (cell_at (formatted g).shared ino).block ≡ g.block
 new_each g zero lt = refl
 new_each g (suc ino) lt = new_sizes g (g.inodes - 1) ino (omega (arith, lt))
 
@@ -381,12 +384,24 @@ new_fit g within = record {
 
 -- ---- every world
 
-pub all_known : (g : GeometryNumbers) → IsWithinLimits g → (events : List Event) → IsKnown g (after (formatted g) events)
-all_known g within events = record {
-  reached = reached g events within;
-  numbers = all_numbers g events within;
-  free = free_numbers g within events;
+pub all_known : (g : GeometryNumbers) (start : World) (records : List Record) → IsStart g start records → (events : List Event)
+    → IsKnown g (after start events)
+all_known g start records is_start events = record {
+  reached = reached g start records events is_start;
+  numbers = all_numbers g start records events is_start;
+  free = free_numbers g start records is_start events;
 }
 
-pub all_fit : (g : GeometryNumbers) → IsWithinLimits g → (events : List Event) → AreFit (after (formatted g) events)
-all_fit g within events = events_fit g events (formatted g) (all_known g within) (new_fit g within)
+pub first_fit : (g : GeometryNumbers) (start : World) (records : List Record) → IsStart g start records → AreFit start
+first_fit g start records is_start = record {
+  sizes =
+      subst (λ (n : GeometryNumbers). AreSizes n.block start.shared) (sym is_start.numbers)
+      (λ ino lt. is_start.sizes ino (omega (arith, lt, is_start.slots)));
+  sound = is_start.sound;
+  each = λ actor. subst (λ (x : Actor). FitsOf x.running start.numbers.block start.shared x.hand) (sym (is_start.idle_all actor)) tt;
+}
+
+pub all_fit : (g : GeometryNumbers) (start : World) (records : List Record) → IsStart g start records → (events : List Event)
+    → AreFit (after start events)
+all_fit g start records is_start events =
+    events_fit g events start (all_known g start records is_start) (first_fit g start records is_start)

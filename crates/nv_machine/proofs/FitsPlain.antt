@@ -1,22 +1,22 @@
 -- The plain world has the nodes of the settled logs, whatever events come.
+use Rattle.nv_book.specs.declared.record.Record.{Record}
 use Rattle.std.proofs.Common.{◌≡◌, ℕ, ◌<◌, ◌∙◌, Bool, true, false, List, [], ◌∷◌, Option, Some, None, ap, length, nat_lt, refl, sym}
 use Rattle.std.proofs.Math.Path.{fun_ext}
 use Rattle.std.proofs.lemmas.Bool.{ltb-true, true≢false}
-use Rattle.nv_base.specs.Limits.{IsWithinLimits}
 use Rattle.nv_base.specs.declared.geometry.GeometryNumbers.{GeometryNumbers}
 use Rattle.nv_base.specs.declared.numbers.Handle.{Handle}
 use Rattle.nv_calls.specs.AllCalls.{effect}
 use Rattle.nv_calls.specs.Plain.{PlainNode, node_in, nodes_after}
 use Rattle.nv_machine.specs.Effects.{AreSound}
 use Rattle.nv_machine.specs.FitsNow.{bytes_in}
-use Rattle.nv_machine.specs.Format.{formatted}
 use Rattle.nv_machine.specs.PlainRun.{Commits, Deed, Nothing, Numbers as FixesNumber, Plain, deed_by, deed_of, done, keeps_nodes, plain_after, plain_of, plain_step, OnSnapshots, after_step}
 use Rattle.nv_machine.specs.Settled.{settled_nodes}
+use Rattle.nv_machine.specs.Starts.{IsStart}
 use Rattle.nv_machine.specs.Step.{after, step}
 use Rattle.nv_machine.specs.World.{Drop, Event, Go, LockPicked, Make, Pick, Pin, Release, Running, Show, SnapshotStep, Start, Unpin, World, actor_at}
 use Rattle.nv_machine.proofs.CommitNumbers.{events_counted}
 use Rattle.nv_machine.proofs.Effects.{point_effect}
-use Rattle.nv_machine.proofs.FitsEvents.{AreFit, IsKnown, all_fit, all_known, commits_if, event_fits, fits_now, new_fit, number_now}
+use Rattle.nv_machine.proofs.FitsEvents.{AreFit, IsKnown, all_fit, all_known, commits_if, event_fits, fits_now, first_fit, number_now}
 use Rattle.nv_machine.proofs.KeptRuns.{nodes_stay}
 
 same_done : (d : Deed) (running : Option Running) (p : Plain) → keeps_nodes d ≡ true → (done d running p).nodes ≡ p.nodes
@@ -80,12 +80,14 @@ events_plain g (e ∷ events) w p known fit nodes number =
     (event_fits g w (known []) fit e ((known (e ∷ [])).numbers.numbers ∙ sym (known []).numbers.numbers))
     (event_plain g w (known []) fit p nodes number e) (events_counted (e ∷ []) w p number)
 
-pub plain_nodes : (g : GeometryNumbers) (events : List Event) → IsWithinLimits g → (handle : Handle)
-    → settled_nodes (after (formatted g) events).shared handle ≡ (plain_after (formatted g) events (plain_of (formatted g))).nodes handle
-plain_nodes g events within handle =
+pub plain_nodes : (g : GeometryNumbers) (start : World) (records : List Record) (events : List Event) → IsStart g start records
+    → (handle : Handle)
+    → settled_nodes (after start events).shared handle ≡ (plain_after start events (plain_of start)).nodes handle
+plain_nodes g start records events is_start handle =
     sym (ap (λ (f : Handle → Option PlainNode). f handle)
-    (events_plain g events (formatted g) (plain_of (formatted g)) (all_known g within) (new_fit g within) refl refl))
+    (events_plain g events start (plain_of start) (all_known g start records is_start) (first_fit g start records is_start) refl refl))
 
 -- and all settled logs are sound
-pub all_sound : (g : GeometryNumbers) (events : List Event) → IsWithinLimits g → AreSound (after (formatted g) events).shared
-all_sound g events within = (all_fit g within events).sound
+pub all_sound : (g : GeometryNumbers) (start : World) (records : List Record) (events : List Event) → IsStart g start records
+    → AreSound (after start events).shared
+all_sound g start records events is_start = (all_fit g start records is_start events).sound

@@ -1,14 +1,14 @@
 -- A new inode's handle is new: it leads to no node before its commit point, and no commit point has made it before.
-use Rattle.std.proofs.Common.{◌≡◌, ◌⊎◌, inl, inr, ℕ, ◌<◌, ◌==◌, ◌++◌, ◌∙◌, Bool, true, false, List, [], ◌∷◌, Option, Some, None, ap, arith, if◌then◌else◌, length, length-append, nat_lt, refl, subst, sym}
-use Rattle.std.specs.Prelude.{◌||◌}
+use Rattle.nv_book.specs.declared.record.Record.{Record}
+use Rattle.std.proofs.Common.{◌≡◌, ◌⊎◌, inl, inr, ℕ, ◌<◌, ◌==◌, ◌++◌, ◌∙◌, Bool, true, false, List, [], ◌∷◌, Option, Some, None, IsSome, ap, arith, if◌then◌else◌, length, length-append, nat_lt, refl, subst, sym}
+use Rattle.std.specs.Prelude.{◌||◌, option_map}
 use Rattle.std.proofs.lemmas.Bool.{and_parts, eq-eqb, eqb-true, lt-ltb, ltb-true, or_cases, true≢false}
 use Rattle.nv_alloc.specs.Numbers.{has}
-use Rattle.nv_base.specs.Limits.{IsWithinLimits}
 use Rattle.nv_base.specs.declared.geometry.GeometryNumbers.{GeometryNumbers}
 use Rattle.nv_base.specs.declared.numbers.Handle.{Handle}
 use Rattle.nv_calls.specs.AllCalls.{plan}
 use Rattle.nv_calls.specs.Locked.{made_by}
-use Rattle.nv_calls.specs.Plain.{node_in, same_handle}
+use Rattle.nv_calls.specs.Plain.{PlainNode, node_in, same_handle}
 use Rattle.nv_calls.specs.Slots.{IsFree, entries_of, items_for, place_in}
 use Rattle.nv_calls.specs.declared.call.Call.{Call}
 use Rattle.nv_calls.specs.declared.call.Call.TheVariants as call
@@ -19,7 +19,6 @@ use Rattle.nv_entry.specs.declared.item.Entry.{Entry}
 use Rattle.nv_entry.specs.declared.item.Item.{Item}
 use Rattle.nv_entry.specs.declared.node.NodeCopy.{NodeCopy}
 use Rattle.nv_machine.specs.Effects.{settled_slots}
-use Rattle.nv_machine.specs.Format.{formatted}
 use Rattle.nv_machine.specs.Grown.{fresh_entries}
 use Rattle.nv_machine.specs.Hands.{makes_inode}
 use Rattle.nv_machine.specs.Kinds.{entries_for}
@@ -28,17 +27,18 @@ use Rattle.nv_machine.specs.PlainRun.{Commits, Deed, Nothing, Numbers as FixesNu
 use Rattle.nv_machine.specs.Reads.{is_written, written_slots}
 use Rattle.nv_machine.specs.Sequence.{beginning}
 use Rattle.nv_machine.specs.Settled.{node_by, settled, settled_nodes}
+use Rattle.nv_machine.specs.Starts.{IsStart}
 use Rattle.nv_machine.specs.Step.{after, step}
 use Rattle.nv_machine.specs.World.{Event, Go, Running, Shared, Start, World, actor_at, cell_at}
+use Rattle.nv_machine.proofs.DirectoriesChanged.{some_directory}
 use Rattle.nv_machine.proofs.FitsEvents.{AreFit, IsKnown, all_fit, all_known, drawn_now, passed_now}
 use Rattle.nv_machine.proofs.FitsStages.{Passed, made_locked}
-use Rattle.nv_machine.proofs.GrownRuns.{new_grown}
 use Rattle.nv_machine.proofs.GrownTurns.{point_shared}
 use Rattle.nv_machine.proofs.FitsRuns.{present_in, taken_of}
 use Rattle.nv_machine.proofs.Lists.{or_left, or_right}
-use Rattle.nv_machine.proofs.Locks.{all_same}
 use Rattle.nv_machine.proofs.PoolSlots.{filter_has}
 use Rattle.nv_machine.proofs.Living.{IsUsed, IsUsedAt, events_used}
+use Rattle.nv_machine.proofs.TreeNumbers.{node_there}
 
 -- ---- at its commit point a new handle becomes used
 
@@ -195,29 +195,47 @@ events_made g (e ∷ events) w handle known fit made =
       | inr later ↦ events_made g events (step w e).world handle (λ before. known (e ∷ before)) (λ before. fit (e ∷ before)) later
     ]
 
+-- a handle that leads to a node is used
+node_used : (s : Shared) (handle : Handle) → IsSome (node_in (settled_nodes s) handle) → IsUsed s handle
+node_used s handle some = let there = node_there s handle some in inr (sym there.0, there.1)
+
 -- ---- the laws
 
-root_used : (g : GeometryNumbers) → IsUsed (formatted g).shared root
-root_used g =
-    let log = ap (λ (l : List Entry). length l) ((new_grown g).free 0 (all_same g.inodes 0 None)).entries in
-    inr (refl, omega (arith, log))
+module _ (g : GeometryNumbers) (start : World) (records : List Record) (events : List Event) (actor : ℕ) (granted : Bool)
+    (r : Running) (is_start : IsStart g start records)
+    (there : actor < length (after start events).actors) (is : (actor_at (after start events) actor).running ≡ Some r)
+    (e : deed_of (after start events) (Go actor granted) ≡ Commits) (makes : makes_inode (beginning r.call) ≡ true) where
+  pub made_node : settled_nodes (after start events).shared r.made ≡ None
+  made_node =
+      no_node g (after start events) (all_known g start records is_start events) (all_fit g start records is_start events) actor
+      granted r there is e makes
 
-module _ (g : GeometryNumbers) (events : List Event) (actor : ℕ) (granted : Bool) (r : Running) (within : IsWithinLimits g)
-    (there : actor < length (after (formatted g) events).actors) (is : (actor_at (after (formatted g) events) actor).running ≡ Some r)
-    (e : deed_of (after (formatted g) events) (Go actor granted) ≡ Commits) (makes : makes_inode (beginning r.call) ≡ true) where
-  pub made_node : settled_nodes (after (formatted g) events).shared r.made ≡ None
-  made_node = no_node g (after (formatted g) events) (all_known g within events) (all_fit g within events) actor granted r there is e makes
+  out : IsUsed (after start events).shared r.made → ⊥
+  out =
+      not_used g (after start events) (all_known g start records is_start events) (all_fit g start records is_start events) actor
+      granted r there is e makes
 
-  pub made_once : has_handle (root ∷ handles_made (formatted g) events) r.made ≡ false
-  made_once = go (has_handle (root ∷ handles_made (formatted g) events) r.made) refl where
-    out : IsUsed (after (formatted g) events).shared r.made → ⊥
-    out = not_used g (after (formatted g) events) (all_known g within events) (all_fit g within events) actor granted r there is e makes
+  -- what led to a node at the start is used ever after
+  still_used : (handle : Handle) → IsSome (node_in (settled_nodes start.shared) handle) → IsUsed (after start events).shared handle
+  still_used handle some =
+      events_used events start handle (λ before. (all_known g start records is_start before).reached) (node_used start.shared handle some)
 
-    go : (b : Bool) → has_handle (root ∷ handles_made (formatted g) events) r.made ≡ b
-        → has_handle (root ∷ handles_made (formatted g) events) r.made ≡ false
+  -- so at the start no node was there
+  pub no_node_before : settled_nodes start.shared r.made ≡ None
+  no_node_before = go (settled_nodes start.shared r.made) refl where
+    go : (node : Option PlainNode) → settled_nodes start.shared r.made ≡ node → settled_nodes start.shared r.made ≡ None
+    go None e = e
+    go (Some node) e = absurd (out (still_used r.made
+        (subst (λ (o : Option PlainNode). IsSome (option_map (λ (p : PlainNode). p.node) o)) (sym e) refl)))
+
+  pub made_once : has_handle (root ∷ handles_made start events) r.made ≡ false
+  made_once = go (has_handle (root ∷ handles_made start events) r.made) refl where
+    go : (b : Bool) → has_handle (root ∷ handles_made start events) r.made ≡ b
+        → has_handle (root ∷ handles_made start events) r.made ≡ false
     go false q = q
-    go true q = elim (or_cases (same_handle root r.made) (has_handle (handles_made (formatted g) events) r.made) q) [
-      | inl same ↦ absurd (out (used_as (after (formatted g) events).shared root r.made same
-          (events_used events (formatted g) root (λ before. (all_known g within before).reached) (root_used g))))
-      | inr made ↦ absurd (out (events_made g events (formatted g) r.made (all_known g within) (all_fit g within) made))
+    go true q = elim (or_cases (same_handle root r.made) (has_handle (handles_made start events) r.made) q) [
+      | inl same ↦ absurd (out (used_as (after start events).shared root r.made same
+          (still_used root (some_directory (node_in (settled_nodes start.shared) root) is_start.tree.one_name.top))))
+      | inr made ↦ absurd (out
+          (events_made g events start r.made (all_known g start records is_start) (all_fit g start records is_start) made))
     ]

@@ -1,4 +1,5 @@
 -- Each free list is what one scan of all cells and hands leaves.
+use Rattle.nv_book.specs.declared.record.Record.{Record}
 use Rattle.std.proofs.Common.{◌≡◌, ◌≢◌, ℕ, zero, suc, ◌+◌, ◌-◌, ◌^◌, ◌<◌, ◌≤◌, ◌==◌, ◌∙◌, Bool, true, false, List, [], ◌∷◌, Option, None, ap, arith, inl, inr, length, nat_lt, not, refl, subst, sym}
 use Rattle.std.specs.Prelude.{◌&&◌, ◌||◌, nat_le, slice_index_or}
 use Rattle.std.specs.List.{AllByRecursion, flat_map}
@@ -9,18 +10,17 @@ use Rattle.nv_alloc.specs.Numbers.{has, times}
 use Rattle.nv_alloc.proofs.FromScratch.{from_scratch}
 use Rattle.nv_alloc.proofs.Lists.{times-append, times-no, times-yes}
 use Rattle.nv_base.specs.Homes.{home_start}
-use Rattle.nv_base.specs.Limits.{IsWithinLimits}
 use Rattle.nv_base.specs.declared.geometry.GeometryNumbers.{GeometryNumbers}
 use Rattle.nv_base.proofs.HomeRanges.{cuts}
-use Rattle.nv_machine.specs.Format.{formatted}
 use Rattle.nv_machine.specs.Hands.{AreLists, AreNumbers, ArePagesTold, HandOf}
 use Rattle.nv_machine.specs.Locks.{commits_by, held_by}
 use Rattle.nv_machine.specs.Numbers.{IdleHaveNothing, IsEachOnce, all_blocks, free_from_scratch, free_of, used_blocks}
+use Rattle.nv_machine.specs.Starts.{IsStart}
 use Rattle.nv_machine.specs.Step.{after}
 use Rattle.nv_machine.specs.World.{Event, Running, World, actor_at, cell_at, list_at, no_list}
-use Rattle.nv_machine.proofs.Locks.{events_locks, new_locks}
-use Rattle.nv_machine.proofs.NewNumbers.{new_numbers}
+use Rattle.nv_machine.proofs.Locks.{events_locks}
 use Rattle.nv_machine.proofs.NumberedRuns.{events_numbers}
+use Rattle.nv_machine.proofs.StartParts.{first_locks, first_numbers}
 
 -- ---- what stands in a list is counted
 
@@ -165,42 +165,46 @@ is_scan g w cpu n some all inside = elim (cases_lt n low) [
 
 -- ---- the laws
 
-pub all_numbers : (g : GeometryNumbers) (events : List Event) → IsWithinLimits g → AreNumbers g (after (formatted g) events)
-all_numbers g events within =
-    let small : g.blocks < 2 ^ 64 = omega (arith, within.blocks_fit) in
-    events_numbers g events (formatted g) (omega (arith, within.some_cpus)) (omega (arith, within.some_bytes)) small
-    (new_locks g within) (new_numbers g within)
+pub all_numbers : (g : GeometryNumbers) (start : World) (records : List Record) (events : List Event) → IsStart g start records
+    → AreNumbers g (after start events)
+all_numbers g start records events is_start =
+    let small : g.blocks < 2 ^ 64 = omega (arith, is_start.limits.blocks_fit) in
+    events_numbers g events start (omega (arith, is_start.limits.some_cpus)) (omega (arith, is_start.limits.some_bytes)) small
+    (first_locks g start records is_start) (first_numbers g start records is_start)
 
-pub each_once : (g : GeometryNumbers) (events : List Event) → IsWithinLimits g
-    → IsEachOnce g.blocks (all_blocks (after (formatted g) events))
-each_once g events within = (all_numbers g events within).once
+pub each_once : (g : GeometryNumbers) (start : World) (records : List Record) (events : List Event) → IsStart g start records
+    → IsEachOnce g.blocks (all_blocks (after start events))
+each_once g start records events is_start = (all_numbers g start records events is_start).once
 
-pub sorted : (g : GeometryNumbers) (events : List Event) → IsWithinLimits g → AreLists g (after (formatted g) events).shared
-sorted g events within = (all_numbers g events within).lists
+pub sorted : (g : GeometryNumbers) (start : World) (records : List Record) (events : List Event) → IsStart g start records
+    → AreLists g (after start events).shared
+sorted g start records events is_start = (all_numbers g start records events is_start).lists
 
-pub scanned : (g : GeometryNumbers) (events : List Event) (cpu : ℕ) → IsWithinLimits g → cpu < g.cpus
-    → free_of (list_at (after (formatted g) events).shared cpu) ≡ free_from_scratch g (after (formatted g) events) cpu
-scanned g events cpu within inside =
-    let w = after (formatted g) events in
-    let all = all_numbers g events within in
+pub scanned : (g : GeometryNumbers) (start : World) (records : List Record) (events : List Event) (cpu : ℕ)
+    → IsStart g start records → cpu < g.cpus
+    → free_of (list_at (after start events).shared cpu) ≡ free_from_scratch g (after start events) cpu
+scanned g start records events cpu is_start inside =
+    let w = after start events in
+    let all = all_numbers g start records events is_start in
     from_scratch (has (used_blocks w)) (home_start g.blocks g.cpus cpu)
     (home_start g.blocks g.cpus (cpu + 1) - home_start g.blocks g.cpus cpu)
     (free_of (list_at w.shared cpu)) (all.lists.each cpu inside).free.rising
-    (λ n. is_scan g w cpu n (omega (arith, within.some_cpus)) all inside)
+    (λ n. is_scan g w cpu n (omega (arith, is_start.limits.some_cpus)) all inside)
 
-pub idle_nothing : (g : GeometryNumbers) (events : List Event) → IsWithinLimits g → IdleHaveNothing (after (formatted g) events)
-idle_nothing g events within actor is =
-    let w = after (formatted g) events in
-    let locks = events_locks events (formatted g) (new_locks g within) in
+pub idle_nothing : (g : GeometryNumbers) (start : World) (records : List Record) (events : List Event) → IsStart g start records
+    → IdleHaveNothing (after start events)
+idle_nothing g start records events is_start actor is =
+    let w = after start events in
+    let locks = events_locks events start (first_locks g start records is_start) in
     let held = (locks.each actor) in
     let own : HandOf g (actor_at w actor).hand None =
-    subst (λ (o : Option Running). HandOf g (actor_at w actor).hand o) is ((all_numbers g events within).hands actor) in
+    subst (λ (o : Option Running). HandOf g (actor_at w actor).hand o) is ((all_numbers g start records events is_start).hands actor) in
     record {
       hand = own;
       locks = λ ino. held.owners ino ∙ ap (λ (o : Option Running). has (held_by o) ino) is;
       commit_lock = held.holder ∙ ap commits_by is;
     }
 
-pub told : (g : GeometryNumbers) (events : List Event) (ino : ℕ) → IsWithinLimits g
-    → ArePagesTold g.block (cell_at (after (formatted g) events).shared ino)
-told g events ino within = ((all_numbers g events within).cells ino).told
+pub told : (g : GeometryNumbers) (start : World) (records : List Record) (events : List Event) (ino : ℕ) → IsStart g start records
+    → ArePagesTold g.block (cell_at (after start events).shared ino)
+told g start records events ino is_start = ((all_numbers g start records events is_start).cells ino).told

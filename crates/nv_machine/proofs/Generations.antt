@@ -7,7 +7,6 @@ use Rattle.std.proofs.lemmas.Bool.{false≢true, leb-false}
 use Rattle.std.proofs.lemmas.Option.{none-some}
 use Rattle.nv_alloc.specs.Numbers.{has}
 use Rattle.nv_alloc.proofs.Lists.{times-yes}
-use Rattle.nv_base.specs.Limits.{IsWithinLimits}
 use Rattle.nv_base.specs.declared.geometry.GeometryNumbers.{GeometryNumbers}
 use Rattle.nv_base.specs.declared.limits.TheConstants.{NUMBER}
 use Rattle.nv_calls.specs.Retiring.{erased, released}
@@ -22,6 +21,7 @@ use Rattle.nv_machine.specs.Kinds.{entries_for, first_killed, retired_book, reti
 use Rattle.nv_machine.specs.Locks.{AreLocks, AreSlots}
 use Rattle.nv_machine.specs.PoolScan.{has_entry, has_inode}
 use Rattle.nv_machine.specs.Reads.{is_written, pages_needed, slot_at, written_slots}
+use Rattle.nv_machine.specs.Starts.{IsStart}
 use Rattle.nv_machine.specs.Step.{after, go_step, start_step, step, turn, turned}
 use Rattle.nv_machine.specs.World.{Append, Back, Check, Close, Ends, Enter, Event, Give, Go, HandState, Leave, Lock, Look, Moves, Next, Number, Open, Publish, Ready, Retire, Running, Shared, Start, TakeBlocks, TakePages, Turn, Unlock, Visit, Waits, World, actor_at, cell_at, no_cell, with_book, Drop, LockPicked, Make, Pick, Pin, Release, Show, Snapshots, Unpin, Draining, with_cell}
 use Rattle.nv_machine.proofs.FromScratch.{all_numbers, counted}
@@ -254,55 +254,64 @@ empty_early g zero n = λ there. absurd (false≢true there)
 empty_early g (suc k) zero = λ there. absurd (false≢true there)
 empty_early g (suc k) (suc n) = empty_early g k n
 
-new_early : (g : GeometryNumbers) → AreEarly (formatted g).shared
+pub new_early : (g : GeometryNumbers) → AreEarly (formatted g).shared
 new_early g zero = λ there. omega arith
 new_early g (suc n) = empty_early g (g.inodes - 1) n
 
 -- ---- every world
 
-pub all_early : (g : GeometryNumbers) (events : List Event) → IsWithinLimits g → AreEarly (after (formatted g) events).shared
-all_early g events within =
-    events_early g events (formatted g) (λ before. (reached g before within).locks) (λ before. all_numbers g before within)
-    (λ before. (reached g before within).grown) (λ before. all_pooled g before within) (new_early g)
+pub all_early : (g : GeometryNumbers) (start : World) (records : List Record) (events : List Event) → IsStart g start records
+    → AreEarly (after start events).shared
+all_early g start records events is_start =
+    events_early g events start (λ before. (reached g start records before is_start).locks)
+    (λ before. all_numbers g start records before is_start)
+    (λ before. (reached g start records before is_start).grown) (λ before. all_pooled g start records before is_start) is_start.early
 
-pub inodes_early : (g : GeometryNumbers) (events : List Event) (ino : ℕ) → IsWithinLimits g
-    → has_inode (cell_at (after (formatted g) events).shared ino) ≡ true
-    → (cell_at (after (formatted g) events).shared ino).generation < NUMBER
-inodes_early g events ino within = all_early g events within ino
+pub inodes_early : (g : GeometryNumbers) (start : World) (records : List Record) (events : List Event) (ino : ℕ) → IsStart g start records
+    → has_inode (cell_at (after start events).shared ino) ≡ true
+    → (cell_at (after start events).shared ino).generation < NUMBER
+inodes_early g start records events ino is_start = all_early g start records events is_start ino
 
-pub numbers_early : (g : GeometryNumbers) (events : List Event) (ino : ℕ) → IsWithinLimits g
-    → has (after (formatted g) events).shared.pool.numbers ino ≡ true
-    → (cell_at (after (formatted g) events).shared ino).generation < NUMBER
-numbers_early g events ino within = pool_early g (after (formatted g) events) (all_pooled g events within) ino
+pub numbers_early : (g : GeometryNumbers) (start : World) (records : List Record) (events : List Event) (ino : ℕ) → IsStart g start records
+    → has (after start events).shared.pool.numbers ino ≡ true
+    → (cell_at (after start events).shared ino).generation < NUMBER
+numbers_early g start records events ino is_start = pool_early g (after start events) (all_pooled g start records events is_start) ino
 
-pub hands_early : (g : GeometryNumbers) (events : List Event) (actor ino : ℕ) → IsWithinLimits g
-    → (actor_at (after (formatted g) events) actor).hand.ino ≡ Some ino
-    → (cell_at (after (formatted g) events).shared ino).generation < NUMBER
-hands_early g events actor ino within =
-    let w = after (formatted g) events in
-    let known = reached g events within in
-    held_early g w known.locks (all_numbers g events within) known.grown (all_pooled g events within) (all_early g events within) actor
+pub hands_early : (g : GeometryNumbers) (start : World) (records : List Record) (events : List Event) (actor ino : ℕ)
+    → IsStart g start records
+    → (actor_at (after start events) actor).hand.ino ≡ Some ino
+    → (cell_at (after start events).shared ino).generation < NUMBER
+hands_early g start records events actor ino is_start =
+    let w = after start events in
+    let known = reached g start records events is_start in
+    held_early g w known.locks (all_numbers g start records events is_start) known.grown
+    (all_pooled g start records events is_start) (all_early g start records events is_start) actor
     (actor_at w actor).running refl ino
 
-pub calls_early : (g : GeometryNumbers) (events : List Event) (actor ino : ℕ) (r : Running) → IsWithinLimits g
-    → (actor_at (after (formatted g) events) actor).running ≡ Some r → is_checked r.next ≡ true → has r.slots ino ≡ true
-    → (cell_at (after (formatted g) events).shared ino).generation < NUMBER
-calls_early g events actor ino r within is e there =
-    let w = after (formatted g) events in
-    let known = reached g events within in
-    slots_early g w known.locks (all_numbers g events within) known.grown (all_pooled g events within) (all_early g events within) actor
+pub calls_early : (g : GeometryNumbers) (start : World) (records : List Record) (events : List Event) (actor ino : ℕ)
+    (r : Running) → IsStart g start records
+    → (actor_at (after start events) actor).running ≡ Some r → is_checked r.next ≡ true → has r.slots ino ≡ true
+    → (cell_at (after start events).shared ino).generation < NUMBER
+calls_early g start records events actor ino r is_start is e there =
+    let w = after start events in
+    let known = reached g start records events is_start in
+    slots_early g w known.locks (all_numbers g start records events is_start) known.grown
+    (all_pooled g start records events is_start) (all_early g start records events is_start) actor
     r is e ino there
 
 -- each of the slots that it writes is one of them
-pub writes_early : (g : GeometryNumbers) (events : List Event) (actor place : ℕ) (r : Running) → IsWithinLimits g
-    → (actor_at (after (formatted g) events) actor).running ≡ Some r → is_checked r.next ≡ true → place < length (written_slots r)
-    → (cell_at (after (formatted g) events).shared (slot_at (written_slots r) place)).generation < NUMBER
-writes_early g events actor place r within is e lt =
+pub writes_early : (g : GeometryNumbers) (start : World) (records : List Record) (events : List Event) (actor place : ℕ)
+    (r : Running) → IsStart g start records
+    → (actor_at (after start events) actor).running ≡ Some r → is_checked r.next ≡ true → place < length (written_slots r)
+    → (cell_at (after start events).shared (slot_at (written_slots r) place)).generation < NUMBER
+writes_early g start records events actor place r is_start is e lt =
     let slot = slot_at (written_slots r) place in
-    calls_early g events actor slot r within is e (has_filter (is_written r.plan) r.slots slot (written_there r place lt))
+    calls_early g start records events actor slot r is_start is e (has_filter (is_written r.plan) r.slots slot (written_there r place lt))
 
 -- so at its enter
-pub enters_early : (g : GeometryNumbers) (events : List Event) (actor : ℕ) (r : Running) → IsWithinLimits g
-    → (actor_at (after (formatted g) events) actor).running ≡ Some r → r.next ≡ Enter → (place : ℕ) → place < length (written_slots r)
-    → (cell_at (after (formatted g) events).shared (slot_at (written_slots r) place)).generation < NUMBER
-enters_early g events actor r within is next place lt = writes_early g events actor place r within is (ap is_checked next) lt
+pub enters_early : (g : GeometryNumbers) (start : World) (records : List Record) (events : List Event) (actor : ℕ) (r : Running)
+    → IsStart g start records
+    → (actor_at (after start events) actor).running ≡ Some r → r.next ≡ Enter → (place : ℕ) → place < length (written_slots r)
+    → (cell_at (after start events).shared (slot_at (written_slots r) place)).generation < NUMBER
+enters_early g start records events actor r is_start is next place lt =
+    writes_early g start records events actor place r is_start is (ap is_checked next) lt

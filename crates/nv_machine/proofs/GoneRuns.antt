@@ -1,8 +1,8 @@
 -- Whatever events come, a slot whose inode is gone is one that a commit has published and not yet retired.
+use Rattle.nv_book.specs.declared.record.Record.{Record}
 use Rattle.std.proofs.Common.{◌≡◌, ℕ, zero, suc, ◌-◌, ◌<◌, ◌==◌, ◌∙◌, Bool, true, false, List, [], ◌∷◌, Option, Some, None, ap, get_or-set_other, get_or-set_same, length, nat_lt, refl, replicate, set, slice_index_or, subst, sym}
 use Rattle.std.proofs.lemmas.Bool.{eqb-false, eqb-true, false≢true, ltb-true, true≢false}
 use Rattle.nv_alloc.specs.Numbers.{has}
-use Rattle.nv_base.specs.Limits.{IsWithinLimits}
 use Rattle.nv_base.specs.declared.geometry.GeometryNumbers.{GeometryNumbers}
 use Rattle.nv_calls.specs.declared.call.Call.{Call}
 use Rattle.nv_calls.specs.Retiring.{is_erased}
@@ -13,6 +13,7 @@ use Rattle.nv_machine.specs.Held.{killed_slots}
 use Rattle.nv_machine.specs.Locks.{AreLocks, commits_at, commits_by, is_owner}
 use Rattle.nv_machine.specs.Reads.{written_slots}
 use Rattle.nv_machine.specs.Sequence.{beginning, begun}
+use Rattle.nv_machine.specs.Starts.{IsStart}
 use Rattle.nv_machine.specs.Step.{after, go_step, kind_turn, start_step, step, turned}
 use Rattle.nv_machine.specs.World.{Actor, Append, Close, Ends, Event, Go, HandState, Leave, Moves, Next, Open, Publish, Retire, Running, Shared, Start, Turn, Waits, World, actor_at, cell_at, idle, no_cell}
 use Rattle.nv_machine.proofs.FiledWorlds.{others_out}
@@ -151,7 +152,7 @@ new_cells g zero ino = refl
 new_cells g (suc n) zero = refl
 new_cells g (suc n) (suc ino) = new_cells g n ino
 
-new_cell : (g : GeometryNumbers) (ino : ℕ) → is_erased (cell_at (formatted g).shared ino) ≡ false
+pub new_cell : (g : GeometryNumbers) (ino : ℕ) → is_erased (cell_at (formatted g).shared ino) ≡ false
 new_cell g zero = refl
 new_cell g (suc ino) = new_cells g (g.inodes - 1) ino
 
@@ -162,16 +163,18 @@ events_retiring g (e ∷ events) w locks all was =
     events_retiring g events (step w e).world (λ before. locks (e ∷ before)) (λ before. all (e ∷ before))
     (event_retiring g w e (locks []) (all []) was)
 
-pub all_retiring : (g : GeometryNumbers) (events : List Event) → IsWithinLimits g → AreRetiring (after (formatted g) events)
-all_retiring g events within =
-    events_retiring g events (formatted g) (λ before. (reached g before within).locks) (λ before. all_numbers g before within)
-    (λ ino gone. absurd (true≢false (sym gone ∙ new_cell g ino)))
+pub all_retiring : (g : GeometryNumbers) (start : World) (records : List Record) (events : List Event) → IsStart g start records
+    → AreRetiring (after start events)
+all_retiring g start records events is_start =
+    events_retiring g events start (λ before. (reached g start records before is_start).locks)
+    (λ before. all_numbers g start records before is_start)
+    (λ ino gone. absurd (true≢false (sym gone ∙ is_start.erased ino)))
 
 -- with the commit lock free none is
-pub none_retiring : (g : GeometryNumbers) (events : List Event) (ino : ℕ) → IsWithinLimits g
-    → (after (formatted g) events).shared.holder ≡ None → IsGoneAt (after (formatted g) events).shared ino → ⊥
-none_retiring g events ino within free gone =
-    let w = after (formatted g) events in
-    let known = all_retiring g events within ino gone in
-    let locks = (reached g events within).locks in
+pub none_retiring : (g : GeometryNumbers) (start : World) (records : List Record) (events : List Event) (ino : ℕ) → IsStart g start records
+    → (after start events).shared.holder ≡ None → IsGoneAt (after start events).shared ino → ⊥
+none_retiring g start records events ino is_start free gone =
+    let w = after start events in
+    let known = all_retiring g start records events is_start ino gone in
+    let locks = (reached g start records events is_start).locks in
     outside (actor_at w known.actor).running ino (sym (locks.each known.actor).holder ∙ ap (is_owner known.actor) free) known.there

@@ -1,4 +1,5 @@
 -- Each free list is what logs, chains and hands leave.
+use Rattle.nv_book.specs.declared.record.Record.{Record}
 use Rattle.std.proofs.Common.{◌≡◌, ℕ, suc, ◌+◌, ◌-◌, ◌<◌, ◌++◌, ◌∙◌, Bool, true, false, List, [], ◌∷◌, Option, Some, None, ap, arith, flat_map, if◌then◌else◌, inl, inr, length, refl, slice_get, slice_index_or, sym}
 use Rattle.std.specs.Prelude.{option_to_list}
 use Rattle.std.specs.List.{range_with_len}
@@ -8,16 +9,15 @@ use Rattle.std.proofs.lemmas.List.{get_or_past}
 use Rattle.nv_alloc.specs.Block.{BlockValue, number_of, numbers_of}
 use Rattle.nv_alloc.specs.Numbers.{has, unused}
 use Rattle.nv_base.specs.Homes.{home_start}
-use Rattle.nv_base.specs.Limits.{IsWithinLimits}
 use Rattle.nv_base.specs.declared.geometry.GeometryNumbers.{GeometryNumbers}
 use Rattle.nv_cell.specs.Cell.{CellState, log_of, page_block}
 use Rattle.nv_entry.specs.Covered.{part_total}
 use Rattle.nv_entry.specs.Held.{Retention, keeps}
 use Rattle.nv_entry.specs.Log.{pairs}
 use Rattle.nv_entry.specs.declared.held.Pair.{Pair}
-use Rattle.nv_machine.specs.Format.{formatted}
 use Rattle.nv_machine.specs.Held.{block_in_use, blocks_in_use, free_by_logs, in_use_by, is_in_use, retention_at, used_by_logs, used_by_slot}
 use Rattle.nv_machine.specs.Numbers.{free_of, held_by_actor, of_part, stored_in, used_blocks}
+use Rattle.nv_machine.specs.Starts.{IsStart}
 use Rattle.nv_machine.specs.Step.{after}
 use Rattle.nv_machine.specs.World.{Event, World, cell_at, list_at, no_cell}
 use Rattle.nv_machine.proofs.FromScratch.{scanned}
@@ -60,13 +60,14 @@ either_way : (b : Bool) (o : Option ℕ) → o ≡ (if b then o else o)
 either_way true o = refl
 either_way false o = refl
 
-pub blocks_told : (g : GeometryNumbers) (events : List Event) (ino n : ℕ) → IsWithinLimits g
-    → option_map number_of (slice_index_or (cell_at (after (formatted g) events).shared ino).blocks n None)
-    ≡ block_in_use (retention_at (after (formatted g) events) ino) (cell_at (after (formatted g) events).shared ino) n
-blocks_told g events ino n within = elim (cases_lt ino (length w.shared.cells)) [
+pub blocks_told : (g : GeometryNumbers) (start : World) (records : List Record) (events : List Event) (ino n : ℕ) → IsStart g start records
+    → option_map number_of (slice_index_or (cell_at (after start events).shared ino).blocks n None)
+    ≡ block_in_use (retention_at (after start events) ino) (cell_at (after start events).shared ino) n
+blocks_told g start records events ino n is_start = elim (cases_lt ino (length w.shared.cells)) [
   | inl lt ↦
-      (all_parts g events within ino lt).blocks.numbers n
-      ∙ ap (λ (b : Bool). if b then page_block cell.block cell.chain.entries n else None) (sym (used_there g events ino n within))
+      (all_parts g start records events is_start ino lt).blocks.numbers n
+      ∙ ap (λ (b : Bool). if b then page_block cell.block cell.chain.entries n else None)
+      (sym (used_there g start records events ino n is_start))
   | inr ge ↦
       let none : cell ≡ no_cell = get_or_past w.shared.cells ino no_cell ge in
       ap (λ (c : CellState). option_map number_of (slice_index_or c.blocks n None)) none
@@ -74,40 +75,42 @@ blocks_told g events ino n within = elim (cases_lt ino (length w.shared.cells)) 
       ∙ ap (λ (c : CellState). block_in_use (retention_at w ino) c n) (sym none)
 ] where
   w : World
-  w = after (formatted g) events
+  w = after start events
 
   cell : CellState
   cell = cell_at w.shared ino
 
-used_are : (g : GeometryNumbers) (events : List Event) → IsWithinLimits g
-    → used_blocks (after (formatted g) events) ≡ used_by_logs (after (formatted g) events)
-used_are g events within =
+used_are : (g : GeometryNumbers) (start : World) (records : List Record) (events : List Event) → IsStart g start records
+    → used_blocks (after start events) ≡ used_by_logs (after start events)
+used_are g start records events is_start =
     ap (λ (l : List ℕ). l ++ flat_map held_by_actor w.actors)
     (by_place stored_in (used_by_slot w) no_cell w.shared.cells 0
     (λ ino lt. ap (λ (l : List ℕ). numbers_of (cell_at w.shared ino).chain.blocks ++ l)
     (cell_blocks (retention_at w ino) (cell_at w.shared ino) (record {
-      blocks = λ n. blocks_told g events ino n within;
-      len = (all_parts g events within ino lt).blocks.len;
+      blocks = λ n. blocks_told g start records events ino n is_start;
+      len = (all_parts g start records events is_start ino lt).blocks.len;
     })) ∙ ap (used_by_slot w) (zeroth ino))) where
       w : World
-      w = after (formatted g) events
+      w = after start events
 
       zeroth : (i : ℕ) → i ≡ 0 + i
       zeroth i = omega arith
 
 -- ---- the law
 
-pub scanned_by_logs : (g : GeometryNumbers) (events : List Event) (cpu : ℕ) → IsWithinLimits g → cpu < g.cpus
-    → free_of (list_at (after (formatted g) events).shared cpu) ≡ free_by_logs g (after (formatted g) events) cpu
-scanned_by_logs g events cpu within inside =
-    scanned g events cpu within inside
+pub scanned_by_logs : (g : GeometryNumbers) (start : World) (records : List Record) (events : List Event) (cpu : ℕ)
+    → IsStart g start records → cpu < g.cpus
+    → free_of (list_at (after start events).shared cpu) ≡ free_by_logs g (after start events) cpu
+scanned_by_logs g start records events cpu is_start inside =
+    scanned g start records events cpu is_start inside
     ∙ ap (λ (used : List ℕ). unused (has used) (home_start g.blocks g.cpus cpu)
     (home_start g.blocks g.cpus (cpu + 1) - home_start g.blocks g.cpus cpu))
-    (used_are g events within)
+    (used_are g start records events is_start)
 
-pub pairs_told : (g : GeometryNumbers) (events : List Event) (ino n : ℕ) (pair : Pair) → IsWithinLimits g
-    → slice_get (pairs (cell_at (after (formatted g) events).shared ino).block (log_of (cell_at (after (formatted g) events).shared ino))) n
+pub pairs_told : (g : GeometryNumbers) (start : World) (records : List Record) (events : List Event) (ino n : ℕ) (pair : Pair)
+    → IsStart g start records
+    → slice_get (pairs (cell_at (after start events).shared ino).block (log_of (cell_at (after start events).shared ino))) n
     ≡ Some pair
-    → is_in_use (retention_at (after (formatted g) events) ino) (cell_at (after (formatted g) events).shared ino) n
-    ≡ keeps (retention_at (after (formatted g) events) ino) pair
-pairs_told g events ino n pair within got = ap (in_use_by (retention_at (after (formatted g) events) ino)) got
+    → is_in_use (retention_at (after start events) ino) (cell_at (after start events).shared ino) n
+    ≡ keeps (retention_at (after start events) ino) pair
+pairs_told g start records events ino n pair is_start got = ap (in_use_by (retention_at (after start events) ino)) got

@@ -6,7 +6,6 @@ use Rattle.std.proofs.lemmas.Bool.{and_parts, cases_lt, eqb-true, false≢true}
 use Rattle.std.proofs.lemmas.List.{get_or_past}
 use Rattle.std.proofs.lemmas.List.Folds.{list_any-append}
 use Rattle.std.proofs.lemmas.Option.{same_Some}
-use Rattle.nv_base.specs.Limits.{IsWithinLimits}
 use Rattle.nv_base.specs.declared.geometry.GeometryNumbers.{GeometryNumbers}
 use Rattle.nv_book.specs.Listed.{all_records}
 use Rattle.nv_book.specs.declared.record.Record.{Record}
@@ -28,9 +27,9 @@ use Rattle.nv_entry.proofs.Currents.{any_map, any_same}
 use Rattle.nv_epoch.specs.Holders as holders
 use Rattle.nv_epoch.specs.SnapList.{ids}
 use Rattle.nv_epoch.proofs.Last.{last_passes}
-use Rattle.nv_machine.specs.Format.{formatted}
 use Rattle.nv_machine.specs.Held.{in_use_by, is_in_use, is_of_slot, killed_in, pending_in, retention_at}
 use Rattle.nv_machine.specs.Recorded.{is_kept, recorded_in, records_after}
+use Rattle.nv_machine.specs.Starts.{IsStart}
 use Rattle.nv_machine.specs.Step.{after}
 use Rattle.nv_machine.specs.World.{Event, World, cell_at}
 use Rattle.nv_machine.proofs.FiledHeld.{any_of}
@@ -149,18 +148,18 @@ same_default [] n lt = absurd (omega (arith, lt))
 same_default (m ∷ ms) zero lt = refl
 same_default (m ∷ ms) (suc n) lt = same_default ms n (omega (arith, lt))
 
-pub used_there : (g : GeometryNumbers) (events : List Event) (ino n : ℕ) → IsWithinLimits g
-    → is_in_use (retention_at (after (formatted g) events) ino) (cell_at (after (formatted g) events).shared ino) n
-    ≡ is_there (mark_or_fresh (cell_at (after (formatted g) events).shared ino).marks n)
-used_there g events ino n within = go (slice_get (pairs cell.block (log_of cell)) n) refl where
+pub used_there : (g : GeometryNumbers) (start : World) (records : List Record) (events : List Event) (ino n : ℕ) → IsStart g start records
+    → is_in_use (retention_at (after start events) ino) (cell_at (after start events).shared ino) n
+    ≡ is_there (mark_or_fresh (cell_at (after start events).shared ino).marks n)
+used_there g start records events ino n is_start = go (slice_get (pairs cell.block (log_of cell)) n) refl where
   w : World
-  w = after (formatted g) events
+  w = after start events
 
   cell : CellState
   cell = cell_at w.shared ino
 
   log : IsLog (log_of cell)
-  log = log_in g events ino within
+  log = log_in g start records events ino is_start
 
   go : (o : Option Pair) → slice_get (pairs cell.block (log_of cell)) n ≡ o
       → in_use_by (retention_at w ino) o ≡ is_there (mark_or_fresh cell.marks n)
@@ -169,17 +168,17 @@ used_there g events ino n within = go (slice_get (pairs cell.block (log_of cell)
         let there : IsSome (slice_get (pairs cell.block (log_of cell)) n) = pair_there cell.block (log_of cell) n log lt in
         absurd (false≢true (rw e at there))
     | inr ge ↦
-        let m = (all_marked g events within).cells ino in
+        let m = (all_marked g start records events is_start).cells ino in
         ap is_there (sym (get_or_past cell.marks n Current (omega (arith, ge, m.len))))
   ]
   go (Some pair) e =
-      let m = (all_marked g events within).cells ino in
-      let l = all_listed g events within in
+      let m = (all_marked g start records events is_start).cells ino in
+      let l = all_listed g start records events is_start in
       let T : Record → Type 0 = IsTold ino cell.block (log_of cell) in
-      let all : AllByRecursion T (recorded_in w) = recorded_all g events T within m.told in
+      let all : AllByRecursion T (recorded_in w) = recorded_all g start records events T is_start m.told in
       in_use_there (ids w.shared.book.snaps) ino w.shared.book.snaps.epoch (killed_in w ino) _ cell.block (log_of cell) cell.marks log
       m n pair e
       (all_records w.shared.book.manifests) (pending_in w) (all_front T (all_records w.shared.book.manifests) (pending_in w) all)
-      (held_filed (ids w.shared.book.snaps) w.shared.book.manifests w.shared.book.deferred (records_after (formatted g) events []) l.list)
-      (recorded_once g events within ino n)
+      (held_filed (ids w.shared.book.snaps) w.shared.book.manifests w.shared.book.deferred (records_after start events records) l.list)
+      (recorded_once g start records events is_start ino n)
       ∙ ap is_there (sym (same_default cell.marks n (let low = pair_low cell.block (log_of cell) n pair e in omega (arith, low, m.len))))

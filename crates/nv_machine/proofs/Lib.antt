@@ -1,3 +1,8 @@
+pub mod StartParts
+pub mod StartPool
+pub mod StartRecords
+pub mod TreeNumbers
+pub mod Counts
 pub mod Reached
 pub mod Rows
 pub mod EachOf
@@ -184,3 +189,5 @@ pub mod AloneLooks
 pub mod AloneFinds
 pub mod AloneFine
 pub mod Numberless
+pub mod AtRest
+pub mod NewStart

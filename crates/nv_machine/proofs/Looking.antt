@@ -18,6 +18,7 @@ use Rattle.nv_machine.specs.Format.{formatted}
 use Rattle.nv_machine.specs.Kinds.{again_turn, back_turn, blocks_turn, check_turn, end_turn, enter_turn, grown, lock_turn, look_turn, number_turn, over_turn, pages_turn, rest_turn, unlocked_turn, visit_turn, wants_blocks, wants_pages, drained_turn, last_turn}
 use Rattle.nv_machine.specs.Reads.{copies, slots_of, written_slots}
 use Rattle.nv_machine.specs.Sequence.{Beginning, Looks, Locks, Numbers, Visits, beginning, begun, directories, locking, looking, nothing_looked, sequel, OnSnapshots}
+use Rattle.nv_machine.specs.Starts.{AreIdle}
 use Rattle.nv_machine.specs.Step.{after, ending_at, go_step, is_numbered, kind_turn, made_in, same_looked, start_step, step, turn, turned, with_made}
 use Rattle.nv_machine.specs.World.{Actor, Answers, Append, Back, Check, Close, Ending, Ends, Enter, Event, Give, Go, HandState, Leave, Lock, Look, Moves, Next, Number, Open, Overtaken, Publish, Ready, Refuses, Retire, Running, Shared, Start, TakeBlocks, TakePages, Turn, Unlock, Visit, Waits, World, actor_at, go_to, idle, Drains, SnapshotStep, Snapshots}
 use Rattle.nv_machine.proofs.Answered.{appending_last, publishing_last, retiring_last}
@@ -369,10 +370,11 @@ events_looks (e ∷ events) w all = events_looks events (step w e).world (event_
 pub new_looks : (g : GeometryNumbers) → HaveLooks (formatted g)
 new_looks g actor = subst (λ (x : Actor). HasLooksOf x.running) (sym (all_same g.actors actor idle)) tt
 
-pub all_looks : (g : GeometryNumbers) (events : List Event) → HaveLooks (after (formatted g) events)
-all_looks g events = events_looks events (formatted g) (new_looks g)
+pub all_looks : (start : World) (events : List Event) → AreIdle start → HaveLooks (after start events)
+all_looks start events idle_all =
+    events_looks events start (λ actor. subst (λ (x : Actor). HasLooksOf x.running) (sym (idle_all actor)) tt)
 
 -- of each world that events lead to
-pub look_inside : (g : GeometryNumbers) (events : List Event) (actor place : ℕ) (r : Running)
-    → (actor_at (after (formatted g) events) actor).running ≡ Some r → r.next ≡ Look place → place < length (directories r.call)
-look_inside g events actor place r is next = (subst HasLooksOf is (all_looks g events actor)).place place next
+pub look_inside : (start : World) (events : List Event) (actor place : ℕ) (r : Running) → AreIdle start
+    → (actor_at (after start events) actor).running ≡ Some r → r.next ≡ Look place → place < length (directories r.call)
+look_inside start events actor place r idle_all is next = (subst HasLooksOf is (all_looks start events idle_all actor)).place place next

@@ -26,7 +26,9 @@ use Rattle.nv_machine.specs.Kinds.{entries_for, first_killed, retired_cell, with
 use Rattle.nv_machine.specs.Locks.{commits_at}
 use Rattle.nv_machine.specs.Reads.{bytes_among, pages_needed, slot_at, written_slots}
 use Rattle.nv_machine.specs.Recorded.{records_after}
+use Rattle.nv_machine.specs.Starts.{IsStart}
 use Rattle.nv_machine.specs.Step.{after, go_step, start_step, step, turn, turned}
+use Rattle.nv_machine.specs.Pages.{AreOnPages}
 use Rattle.nv_machine.specs.Whole.{HasItsParts, HaveTheirParts}
 use Rattle.nv_machine.specs.World.{Append, Back, Check, Close, Draining, Drop, Ends, Enter, Event, Give, Go, HandState, Leave, Lock, LockPicked, Look, Make, Moves, Next, Number, Open, Pick, Pin, Publish, Ready, Release, Retire, Running, Shared, Show, SnapshotStep, Snapshots, Start, TakeBlocks, TakePages, Turn, Unlock, Unpin, Visit, Waits, World, actor_at, cell_at, idle, no_cell, with_cell}
 use Rattle.nv_machine.proofs.Checking.{own_bytes}
@@ -49,6 +51,7 @@ use Rattle.nv_machine.proofs.PageEvents.{logs_paged}
 use Rattle.nv_machine.proofs.PartsFor.{own_all, swap_count}
 use Rattle.nv_machine.proofs.Reached.{reached}
 use Rattle.nv_machine.proofs.Sound.{entries_within, sized_left}
+use Rattle.nv_machine.proofs.StartParts.{first_parts}
 
 -- ---- one cell is another
 
@@ -260,48 +263,52 @@ root_parts g = record {
   sized (suc (suc zero)) b e = cc
   sized (suc (suc (suc n))) b e = cc
 
-new_parts : (g : GeometryNumbers) → HaveTheirParts g.block (formatted g).shared
+pub new_parts : (g : GeometryNumbers) → HaveTheirParts g.block (formatted g).shared
 new_parts g zero lt = root_parts g
 new_parts g (suc ino) lt = new_cells g (g.inodes - 1) ino (omega (arith, lt))
 
 -- ---- every world
 
-pub all_parts : (g : GeometryNumbers) (events : List Event) → IsWithinLimits g → HaveTheirParts g.block (after (formatted g) events).shared
-all_parts g events within = events_parts g events (formatted g) (λ before. record {
-  is_known = known g before within;
-  rs = records_after (formatted g) before [];
-  marked = all_marked g before within;
-}) (new_parts g)
+pub all_parts : (g : GeometryNumbers) (start : World) (records : List Record) (events : List Event) → IsStart g start records
+    → HaveTheirParts g.block (after start events).shared
+all_parts g start records events is_start = events_parts g events start (λ before. record {
+  is_known = known g start records before is_start;
+  rs = records_after start before records;
+  marked = all_marked g start records before is_start;
+}) (first_parts g start records is_start)
 
-pub are_cells : (g : GeometryNumbers) (events : List Event) (ino : ℕ) → IsWithinLimits g
-    → ino < length (after (formatted g) events).shared.cells → IsCell (cell_at (after (formatted g) events).shared ino)
-are_cells g events ino within lt =
-    let w = after (formatted g) events in
-    let cell = cell_at w.shared ino in
-    let h = all_parts g events within ino lt in
-    let on = logs_paged g events ino within lt in
-    record {
-      some = omega (arith, h.size, within.some_bytes);
-      chain = record {
-        least = omega (arith, on.size, within.some_entries);
-        most = omega (arith, on.size, within.entries_fit);
-        paged = omega (arith, on.each);
-        parted = subst (λ (page : ℕ). AreEnds page 0 cell.chain.ends (length cell.chain.entries)) (sym on.size) on.parted;
-        rising = ((reached g events within).order.logs ino).ordered;
-        within = h.within;
-      };
-      pages = subst (λ (size : ℕ). AreSized size cell.chain.blocks) (sym h.size) ((all_numbers g events within).cells ino).pages;
-      marks = h.marks;
-      blocks = h.blocks;
-    }
+-- a cell with its parts, whose log stands on its pages, is one
+pub is_cell : (g : GeometryNumbers) (cell : CellState) → IsWithinLimits g → HasItsParts g.block cell → AreOnPages g.page cell.chain
+    → IsLog cell.chain.entries → AreSized g.block cell.chain.blocks → IsCell cell
+is_cell g cell within h on log sized = record {
+  some = omega (arith, h.size, within.some_bytes);
+  chain = record {
+    least = omega (arith, on.size, within.some_entries);
+    most = omega (arith, on.size, within.entries_fit);
+    paged = omega (arith, on.each);
+    parted = subst (λ (page : ℕ). AreEnds page 0 cell.chain.ends (length cell.chain.entries)) (sym on.size) on.parted;
+    rising = log;
+    within = h.within;
+  };
+  pages = subst (λ (size : ℕ). AreSized size cell.chain.blocks) (sym h.size) sized;
+  marks = h.marks;
+  blocks = h.blocks;
+}
+
+pub are_cells : (g : GeometryNumbers) (start : World) (records : List Record) (events : List Event) (ino : ℕ) → IsStart g start records
+    → ino < length (after start events).shared.cells → IsCell (cell_at (after start events).shared ino)
+are_cells g start records events ino is_start lt =
+    is_cell g (cell_at (after start events).shared ino) is_start.limits (all_parts g start records events is_start ino lt)
+    (logs_paged g start records events ino is_start lt) ((reached g start records events is_start).order.logs ino).ordered
+    ((all_numbers g start records events is_start).cells ino).pages
 
 -- with the bytes that a search among its blocks finds
-pub have_bytes : (g : GeometryNumbers) (events : List Event) (ino : ℕ) → IsWithinLimits g
-    → ino < length (after (formatted g) events).shared.cells
-    → HasBytes (bytes_among (cell_at (after (formatted g) events).shared ino).blocks) g.block
-    (cell_at (after (formatted g) events).shared ino)
-have_bytes g events ino within lt = record {
-  is = are_cells g events ino within lt;
-  size = (all_parts g events within ino lt).size;
-  are = own_bytes (after (formatted g) events) (reached g events within) ino;
+pub have_bytes : (g : GeometryNumbers) (start : World) (records : List Record) (events : List Event) (ino : ℕ) → IsStart g start records
+    → ino < length (after start events).shared.cells
+    → HasBytes (bytes_among (cell_at (after start events).shared ino).blocks) g.block
+    (cell_at (after start events).shared ino)
+have_bytes g start records events ino is_start lt = record {
+  is = are_cells g start records events ino is_start lt;
+  size = (all_parts g start records events is_start ino lt).size;
+  are = own_bytes (after start events) (reached g start records events is_start) ino;
 }

@@ -1,20 +1,19 @@
 -- No call has ever more than the most steps left, so none moves more often, one Go after another.
+use Rattle.nv_book.specs.declared.record.Record.{Record}
 use Rattle.std.proofs.Common.{◌≡◌, ◌≢◌, ℕ, zero, suc, ◌<◌, ◌≤◌, ◌==◌, Bool, true, false, List, [], ◌∷◌, Option, Some, None, ap, arith, if◌then◌else◌, length, map, nat_lt, refl, replicate, subst, sym}
 use Rattle.std.specs.List.{AllByRecursion}
 use Rattle.std.proofs.lemmas.Bool.{eqb-false, eqb-true}
-use Rattle.nv_base.specs.Limits.{IsWithinLimits}
 use Rattle.nv_base.specs.declared.geometry.GeometryNumbers.{GeometryNumbers}
 use Rattle.nv_calls.specs.declared.call.Call.{Call}
 use Rattle.nv_machine.specs.Bound.{IsNoStart, bound_at, bound_of, most_steps, moves, moves_by}
-use Rattle.nv_machine.specs.Format.{formatted}
 use Rattle.nv_machine.specs.Frame.{lent}
+use Rattle.nv_machine.specs.Starts.{IsStart}
 use Rattle.nv_machine.specs.Step.{after, go_step, replies, step, turn}
-use Rattle.nv_machine.specs.World.{Actor, Event, Go, Moved, Running, Shared, Start, World, actor_at, idle}
+use Rattle.nv_machine.specs.World.{Actor, Event, Go, Moved, Running, Shared, Start, World, actor_at}
 use Rattle.nv_machine.proofs.Events.{event_bound, events_bound, start_bound, starts, turned_frame}
 use Rattle.nv_machine.proofs.Framed.{framed}
 use Rattle.nv_machine.proofs.FromScratch.{all_numbers}
 use Rattle.nv_machine.proofs.Lists.{self}
-use Rattle.nv_machine.proofs.Locks.{all_same}
 use Rattle.nv_machine.proofs.Bounded.{steps_of_any}
 
 -- ---- the bound of every call
@@ -60,14 +59,14 @@ events_few (e ∷ events) w actor few =
     (events_few events (step w e).world actor
     (subst (λ (n : ℕ). bound_at (step w e).world actor ≤ most_steps n) (sym cpus) (event_few w actor e few)))
 
-pub steps_few : (g : GeometryNumbers) (events : List Event) (actor : ℕ) → IsWithinLimits g
-    → bound_at (after (formatted g) events) actor ≤ most_steps g.cpus
-steps_few g events actor within =
-    let cpus = (all_numbers g [] within).lists.cpus in
-    subst (λ (n : ℕ). bound_at (after (formatted g) events) actor ≤ most_steps n) cpus (events_few events (formatted g) actor none) where
-      none : bound_at (formatted g) actor ≤ most_steps (length (formatted g).shared.lists)
-      none = subst (λ (x : Actor). bound_of (length (formatted g).shared.lists) x.running ≤ most_steps (length (formatted g).shared.lists))
-          (sym (all_same g.actors actor idle)) (omega arith)
+pub steps_few : (g : GeometryNumbers) (start : World) (records : List Record) (events : List Event) (actor : ℕ) → IsStart g start records
+    → bound_at (after start events) actor ≤ most_steps g.cpus
+steps_few g start records events actor is_start =
+    let cpus = (all_numbers g start records [] is_start).lists.cpus in
+    subst (λ (n : ℕ). bound_at (after start events) actor ≤ most_steps n) cpus (events_few events start actor none) where
+      none : bound_at start actor ≤ most_steps (length start.shared.lists)
+      none = subst (λ (x : Actor). bound_of (length start.shared.lists) x.running ≤ most_steps (length start.shared.lists))
+          (sym (is_start.idle_all actor)) (omega arith)
 
 -- ---- one Go after another
 
@@ -97,8 +96,9 @@ pub moves_end : (n : ℕ) (w : World) (actor : ℕ) (grants : List Bool) → bou
 moves_end n w actor grants few e =
     absurd (omega (arith, few, all_move n w actor grants e, events_bound (gos actor grants) w actor (no_starts actor grants)))
 
-pub calls_stop : (g : GeometryNumbers) (events : List Event) (actor n : ℕ) (grants : List Bool) → IsWithinLimits g
-    → most_steps g.cpus < n → replies (after (formatted g) events) (gos actor grants) ≢ replicate n Moved
-calls_stop g events actor n grants within many =
-    let few = steps_few g events actor within in
-    moves_end n (after (formatted g) events) actor grants (omega (arith, few, many))
+pub calls_stop : (g : GeometryNumbers) (start : World) (records : List Record) (events : List Event) (actor n : ℕ)
+    (grants : List Bool) → IsStart g start records
+    → most_steps g.cpus < n → replies (after start events) (gos actor grants) ≢ replicate n Moved
+calls_stop g start records events actor n grants is_start many =
+    let few = steps_few g start records events actor is_start in
+    moves_end n (after start events) actor grants (omega (arith, few, many))

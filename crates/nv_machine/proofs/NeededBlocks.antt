@@ -7,7 +7,6 @@ use Rattle.std.proofs.lemmas.Bool.{false≢true}
 use Rattle.nv_alloc.specs.Block.{numbers_of}
 use Rattle.nv_alloc.specs.Numbers.{has, unused}
 use Rattle.nv_base.specs.Homes.{home_start}
-use Rattle.nv_base.specs.Limits.{IsWithinLimits}
 use Rattle.nv_base.specs.declared.geometry.GeometryNumbers.{GeometryNumbers}
 use Rattle.nv_book.specs.declared.record.Record.{Record}
 use Rattle.nv_calls.specs.Retiring.{name_of}
@@ -20,11 +19,11 @@ use Rattle.nv_entry.specs.declared.held.Pair.{Pair}
 use Rattle.nv_entry.specs.declared.item.Entry.{Entry}
 use Rattle.nv_entry.specs.declared.part.PartId.{PartId}
 use Rattle.nv_epoch.specs.SnapList.{ids}
-use Rattle.nv_machine.specs.Format.{formatted}
 use Rattle.nv_machine.specs.Hands.{unpublished_by}
 use Rattle.nv_machine.specs.Held.{block_in_use, blocks_in_use, in_use_by, is_of_slot, killed_by_actor, killed_by_call, killed_in, pending_in, picked_by_actor, picked_by_call, retention_at, used_by_logs, used_by_slot}
 use Rattle.nv_machine.specs.Needed.{IsAtRest, free_but_needed, is_needed_pair, needed_block, needed_blocks, needed_by_slot, needed_in}
 use Rattle.nv_machine.specs.Numbers.{free_of, held_by_actor, held_in}
+use Rattle.nv_machine.specs.Starts.{IsStart}
 use Rattle.nv_machine.specs.Step.{after}
 use Rattle.nv_machine.specs.World.{Event, HandState, Running, World, actor_at, cell_at, list_at}
 use Rattle.nv_machine.proofs.FiledParts.{log_in}
@@ -58,10 +57,11 @@ kept_by_living w ino = record { block = (cell_at w.shared ino).block; snapshots 
 
 -- ---- one world
 
-module _ (g : GeometryNumbers) (events : List Event) (within : IsWithinLimits g) (at_rest : IsAtRest (after (formatted g) events))
-    (none : (after (formatted g) events).shared.book.deferred ≡ []) where
+module _ (g : GeometryNumbers) (start : World) (records : List Record) (events : List Event) (is_start : IsStart g start records)
+    (at_rest : IsAtRest (after start events))
+    (none : (after start events).shared.book.deferred ≡ []) where
   abbrev w : World
-  w = after (formatted g) events
+  w = after start events
 
   picked_none : flat_map picked_by_actor w.actors ≡ []
   picked_none = none_of picked_by_actor w.actors (λ b. ap (λ (o : Option Running). picked_by_call o) (at_rest b))
@@ -84,13 +84,16 @@ module _ (g : GeometryNumbers) (events : List Event) (within : IsWithinLimits g)
 
   hands_none : flat_map held_by_actor w.actors ≡ []
   hands_none =
-      none_of held_by_actor w.actors (λ b. ap (λ (h : HandState). held_in h) (idle_nothing g events within b (at_rest b)).hand)
+      none_of held_by_actor w.actors
+      (λ b. ap (λ (h : HandState). held_in h) (idle_nothing g start records events is_start b (at_rest b)).hand)
 
   -- each log ends at its tail
   whole : (ino : ℕ) → (cell_at w.shared ino).chain.entries ≡ log_of (cell_at w.shared ino)
   whole ino =
       let cell : CellState = cell_at w.shared ino in
-      let last = (all_numbers g events within).tails ino (λ b. ap (λ (o : Option Running). has (unpublished_by o) ino) (at_rest b)) in
+      let last =
+      (all_numbers g start records events is_start).tails ino
+      (λ b. ap (λ (o : Option Running). has (unpublished_by o) ino) (at_rest b)) in
       sym (ap (λ (n : ℕ). take n cell.chain.entries) last ∙ take_whole cell.chain.entries) where
         take_whole : (es : List Entry) → take (length es) es ≡ es
         take_whole [] = refl
@@ -104,7 +107,8 @@ module _ (g : GeometryNumbers) (events : List Event) (within : IsWithinLimits g)
       then page_block cell.block es n
       else None) (whole ino)
       ∙ ap (λ (b : Bool). if b then page_block cell.block (log_of cell) n else None)
-      (used (slice_get (pairs cell.block (log_of cell)) n) (pair_there cell.block (log_of cell) n (log_in g events ino within) lt)) where
+      (used (slice_get (pairs cell.block (log_of cell)) n)
+      (pair_there cell.block (log_of cell) n (log_in g start records events ino is_start) lt)) where
         cell : CellState
         cell = cell_at w.shared ino
 
@@ -134,6 +138,6 @@ module _ (g : GeometryNumbers) (events : List Event) (within : IsWithinLimits g)
 
   pub needed_alone : (cpu : ℕ) → cpu < g.cpus → free_of (list_at w.shared cpu) ≡ free_but_needed g w cpu
   needed_alone cpu inside =
-      scanned_by_logs g events cpu within inside
+      scanned_by_logs g start records events cpu is_start inside
       ∙ ap (λ (used : List ℕ). unused (has used) (home_start g.blocks g.cpus cpu)
       (home_start g.blocks g.cpus (cpu + 1) - home_start g.blocks g.cpus cpu)) used_are_needed

@@ -1,21 +1,21 @@
 -- A call that makes an inode, and has no number at its check, has found none free.
+use Rattle.nv_book.specs.declared.record.Record.{Record}
 use Rattle.std.proofs.Common.{◌≡◌, ◌∙◌, ℕ, ◌+◌, ◌<◌, ◌==◌, ◌&&◌, ◌||◌, ◌++◌, Bool, true, false, List, [], ◌∷◌, Option, Some, None, ap, append-nil, append_assoc, arith, get_or-set_same, if◌then◌else◌, length, nat_lt, refl, subst, sym}
 use Rattle.std.proofs.Math.Bool.{or_assoc}
 use Rattle.std.proofs.lemmas.Bool.{eqb-false, eqb-true, false≢true}
-use Rattle.nv_base.specs.Limits.{IsWithinLimits}
 use Rattle.nv_base.specs.declared.geometry.GeometryNumbers.{GeometryNumbers}
 use Rattle.nv_calls.specs.AllCalls.{looked}
 use Rattle.nv_calls.specs.declared.call.Call.{Call}
 use Rattle.nv_calls.specs.declared.call.Call.TheVariants as call
 use Rattle.nv_machine.specs.Bound.{AreNoStarts, IsNoStart}
 use Rattle.nv_machine.specs.EndsDecided.{is_on_snapshots}
-use Rattle.nv_machine.specs.Format.{formatted}
 use Rattle.nv_machine.specs.Hands.{makes_inode}
 use Rattle.nv_machine.specs.Kinds.{lock_turn, number_turn}
 use Rattle.nv_machine.specs.Numberless.{denied_of, finds_none, is_denied, met_none}
 use Rattle.nv_machine.specs.Reads.{copies, nodes, written_slots}
 use Rattle.nv_machine.specs.Sequence as sequence
 use Rattle.nv_machine.specs.Sequence.{Beginning, beginning, begun, directories, locking, nothing_looked}
+use Rattle.nv_machine.specs.Starts.{IsStart}
 use Rattle.nv_machine.specs.Step.{after, ending_at, go_step, is_numbered, kind_turn, same_looked, step, turn, turned, with_made}
 use Rattle.nv_machine.specs.World.{Actor, Append, Back, Check, Close, Ends, Enter, Event, Give, Go, HandState, Leave, Lock, Look, Moves, Next, Number, Open, Overtaken, Publish, Ready, Retire, Running, Shared, SnapshotStep, Snapshots, Start, Started, TakeBlocks, TakePages, Turn, Unlock, Visit, Waits, World, actor_at, idle}
 use Rattle.nv_machine.proofs.AloneEnds.{nothing_to_look}
@@ -192,9 +192,10 @@ turned_met met b (Ends result s h) actor w there had on =
     subst (HasMetOf (met || b)) (sym (get_or-set_same w.actors actor (record { hand = h; running = None }) idle there))
     (λ r is makes. cc)
 
-module _ (g : GeometryNumbers) (within : IsWithinLimits g) (actor : ℕ) (events : List Event) (met : Bool) where
+module _ (g : GeometryNumbers) (start : World) (records : List Record) (is_start : IsStart g start records) (actor : ℕ)
+    (events : List Event) (met : Bool) where
   abbrev w : World
-  w = after (formatted g) events
+  w = after start events
 
   abbrev h : HandState
   h = (actor_at w actor).hand
@@ -218,9 +219,9 @@ module _ (g : GeometryNumbers) (within : IsWithinLimits g) (actor : ℕ) (events
       → (r.next ≡ Number → w.shared.pool.numbers ≡ [] → b ≡ true)
       → Given w.numbers.block actor granted w.shared h r met b r.next
   given_now r granted b is makes denied =
-      let looks : HasLooks r.next r = subst HasLooksOf is (all_looks g events actor) in
+      let looks : HasLooks r.next r = subst HasLooksOf is (all_looks start events is_start.idle_all actor) in
       let names = no_names r.call makes in
-      let stage = (plainly_told g events actor within r is (plainly r.call makes)).stage in
+      let stage = (plainly_told g start records events actor is_start r is (plainly r.call makes)).stage in
       record {
         makes = makes;
         denied = denied;
@@ -280,39 +281,41 @@ module _ (g : GeometryNumbers) (within : IsWithinLimits g) (actor : ℕ) (events
         (λ same. eqb-false other actor apart_too (sym same)))) (more_met_of met false (actor_at w actor) had)
 
 -- over several events
-events_met : (g : GeometryNumbers) (within : IsWithinLimits g) (actor : ℕ) (events before : List Event) (met : Bool)
+events_met : (g : GeometryNumbers) (start : World) (records : List Record) (is_start : IsStart g start records) (actor : ℕ)
+    (events before : List Event) (met : Bool)
     → AreNoStarts actor events
-    → HasMetOf met (actor_at (after (formatted g) before) actor)
-    → HasMetOf (met || met_none actor (after (formatted g) before) events) (actor_at (after (formatted g) (before ++ events)) actor)
-events_met g within actor [] before met none had =
-    subst (λ (l : List Event). HasMetOf (met || false) (actor_at (after (formatted g) l) actor)) (sym (append-nil before))
-    (more_met_of met false (actor_at (after (formatted g) before) actor) had)
-events_met g within actor (e ∷ events) before met none had =
-    let w = after (formatted g) before in
-    let next : (step w e).world ≡ after (formatted g) (before ++ e ∷ []) = after_one before (formatted g) e in
-    let rest = events_met g within actor events (before ++ e ∷ []) (met || finds_none actor w e) none.1
+    → HasMetOf met (actor_at (after start before) actor)
+    → HasMetOf (met || met_none actor (after start before) events) (actor_at (after start (before ++ events)) actor)
+events_met g start records is_start actor [] before met none had =
+    subst (λ (l : List Event). HasMetOf (met || false) (actor_at (after start l) actor)) (sym (append-nil before))
+    (more_met_of met false (actor_at (after start before) actor) had)
+events_met g start records is_start actor (e ∷ events) before met none had =
+    let w = after start before in
+    let next : (step w e).world ≡ after start (before ++ e ∷ []) = after_one before start e in
+    let rest = events_met g start records is_start actor events (before ++ e ∷ []) (met || finds_none actor w e) none.1
     (subst (λ (v : World). HasMetOf (met || finds_none actor w e) (actor_at v actor)) next
-    (event_met g within actor before met e none.0 had)) in
-    subst (λ (l : List Event). HasMetOf (met || met_none actor w (e ∷ events)) (actor_at (after (formatted g) l) actor))
+    (event_met g start records is_start actor before met e none.0 had)) in
+    subst (λ (l : List Event). HasMetOf (met || met_none actor w (e ∷ events)) (actor_at (after start l) actor))
     (append_assoc before (e ∷ []) events)
-    (subst (λ (b : Bool). HasMetOf b (actor_at (after (formatted g) ((before ++ e ∷ []) ++ events)) actor))
-    (or_assoc met (finds_none actor w e) (met_none actor (after (formatted g) (before ++ e ∷ [])) events)
+    (subst (λ (b : Bool). HasMetOf b (actor_at (after start ((before ++ e ∷ []) ++ events)) actor))
+    (or_assoc met (finds_none actor w e) (met_none actor (after start (before ++ e ∷ [])) events)
     ∙ ap (λ (v : World). met || (finds_none actor w e || met_none actor v events)) (sym next)) rest)
 
-started_met : (g : GeometryNumbers) → IsWithinLimits g → (actor : ℕ) (c : Call) (before : List Event)
-    → (step (after (formatted g) before) (Start actor c)).reply ≡ Started
-    → HasMetOf false (actor_at (after (formatted g) (before ++ Start actor c ∷ [])) actor)
-started_met g within actor c before started r is makes =
-    let same : begun (beginning c) (after (formatted g) before).shared c ≡ r = cc (starts_as, is) in
+started_met : (g : GeometryNumbers) (start : World) (records : List Record) → IsStart g start records
+    → (actor : ℕ) (c : Call) (before : List Event)
+    → (step (after start before) (Start actor c)).reply ≡ Started
+    → HasMetOf false (actor_at (after start (before ++ Start actor c ∷ [])) actor)
+started_met g start records is_start actor c before started r is makes =
+    let same : begun (beginning c) (after start before).shared c ≡ r = cc (starts_as, is) in
     subst (λ (q : Running). makes_inode (beginning q.call) ≡ true
-    → HasMet false (actor_at (after (formatted g) (before ++ Start actor c ∷ [])) actor).hand q.next)
-    same (begun_met (beginning c) (after (formatted g) before).shared refl) makes where
-      starts_as : (actor_at (after (formatted g) (before ++ Start actor c ∷ [])) actor).running
-          ≡ Some (begun (beginning c) (after (formatted g) before).shared c)
-      starts_as = begun_at g within actor c before started
+    → HasMet false (actor_at (after start (before ++ Start actor c ∷ [])) actor).hand q.next)
+    same (begun_met (beginning c) (after start before).shared refl) makes where
+      starts_as : (actor_at (after start (before ++ Start actor c ∷ [])) actor).running
+          ≡ Some (begun (beginning c) (after start before).shared c)
+      starts_as = begun_at g start records is_start actor c before started
 
       begun_met : (b : Beginning) (s : Shared) → beginning c ≡ b → makes_inode (beginning (begun b s c).call) ≡ true
-          → HasMet false (actor_at (after (formatted g) (before ++ Start actor c ∷ [])) actor).hand (begun b s c).next
+          → HasMet false (actor_at (after start (before ++ Start actor c ∷ [])) actor).hand (begun b s c).next
       begun_met sequence.Numbers s e makes = tt
       begun_met sequence.Looks s e makes = absurd (false≢true (sym (ap makes_inode e) ∙ makes))
       begun_met sequence.Locks s e makes = absurd (false≢true (sym (ap makes_inode e) ∙ makes))
@@ -320,21 +323,24 @@ started_met g within actor c before started r is makes =
       begun_met (sequence.OnSnapshots what) s e makes = tt
 
 -- so at its check
-pub found_none : (g : GeometryNumbers) (before events : List Event) (actor : ℕ) (c : Call) (r : Running) → IsWithinLimits g
-    → (step (after (formatted g) before) (Start actor c)).reply ≡ Started → AreNoStarts actor events
-    → (actor_at (after (formatted g) (before ++ Start actor c ∷ events)) actor).running ≡ Some r → r.next ≡ Check
-    → is_numbered (beginning r.call) (actor_at (after (formatted g) (before ++ Start actor c ∷ events)) actor).hand.ino ≡ false
-    → met_none actor (step (after (formatted g) before) (Start actor c)).world events ≡ true
-found_none g before events actor c r within started none is next without =
-    let first = after (formatted g) (before ++ Start actor c ∷ []) in
-    let had = events_met g within actor events (before ++ Start actor c ∷ []) false none (started_met g within actor c before started) in
-    let all : HasMetOf (met_none actor first events) (actor_at (after (formatted g) (before ++ Start actor c ∷ events)) actor) =
-    subst (λ (l : List Event). HasMetOf (met_none actor first events) (actor_at (after (formatted g) l) actor))
+pub found_none : (g : GeometryNumbers) (start : World) (records : List Record) (before events : List Event) (actor : ℕ) (c : Call)
+    (r : Running) → IsStart g start records
+    → (step (after start before) (Start actor c)).reply ≡ Started → AreNoStarts actor events
+    → (actor_at (after start (before ++ Start actor c ∷ events)) actor).running ≡ Some r → r.next ≡ Check
+    → is_numbered (beginning r.call) (actor_at (after start (before ++ Start actor c ∷ events)) actor).hand.ino ≡ false
+    → met_none actor (step (after start before) (Start actor c)).world events ≡ true
+found_none g start records before events actor c r is_start started none is next without =
+    let first = after start (before ++ Start actor c ∷ []) in
+    let had =
+    events_met g start records is_start actor events (before ++ Start actor c ∷ []) false none
+    (started_met g start records is_start actor c before started) in
+    let all : HasMetOf (met_none actor first events) (actor_at (after start (before ++ Start actor c ∷ events)) actor) =
+    subst (λ (l : List Event). HasMetOf (met_none actor first events) (actor_at (after start l) actor))
     (append_assoc before (Start actor c ∷ []) events) had in
     let at_check =
-    subst (HasMet (met_none actor first events) (actor_at (after (formatted g) (before ++ Start actor c ∷ events)) actor).hand) next
+    subst (HasMet (met_none actor first events) (actor_at (after start (before ++ Start actor c ∷ events)) actor).hand) next
     (all r is (wants (beginning r.call) _ without)) in
-    ap (λ (v : World). met_none actor v events) (after_one before (formatted g) (Start actor c))
+    ap (λ (v : World). met_none actor v events) (after_one before start (Start actor c))
     ∙ at_check (lacks (beginning r.call) _ without) where
       wants : (b : Beginning) (number : Option ℕ) → is_numbered b number ≡ false → makes_inode b ≡ true
       wants sequence.Numbers number e = refl

@@ -1,4 +1,5 @@
 -- Logs have their pages, and hands those of the appends to come, whatever events come.
+use Rattle.nv_book.specs.declared.record.Record.{Record}
 use Rattle.std.proofs.Common.{◌≡◌, ◌≢◌, ℕ, zero, suc, ◌-◌, ◌<◌, ◌==◌, ◌∙◌, Bool, true, false, List, [], ◌∷◌, Option, Some, None, ap, arith, get_or-set_other, get_or-set_same, if◌then◌else◌, length, nat_lt, refl, replicate, set, subst, sym}
 use Rattle.std.specs.Prelude.{slice_index_or, unwrap_or}
 use Rattle.std.proofs.lemmas.Bool.{eqb-false, eqb-true, ltb-true}
@@ -16,6 +17,7 @@ use Rattle.nv_machine.specs.Order.{CommitsIn, entries_at}
 use Rattle.nv_machine.specs.Pages.{AreOnPages, HasLogPages}
 use Rattle.nv_machine.specs.Reads.{slots_of, written_slots}
 use Rattle.nv_machine.specs.Sequence.{Beginning, Looks, Locks, Numbers, Visits, beginning, begun, nothing_looked, OnSnapshots}
+use Rattle.nv_machine.specs.Starts.{IsStart}
 use Rattle.nv_machine.specs.Step.{after, go_step, start_step, step, turn, turned}
 use Rattle.nv_machine.specs.World.{Actor, Check, Ends, Event, Go, HandState, Lock, Moves, Running, Shared, Start, Turn, Waits, World, actor_at, cell_at, idle, no_cell, owner_at}
 use Rattle.nv_machine.proofs.Entered.{appended_log}
@@ -26,7 +28,7 @@ use Rattle.nv_machine.proofs.Grown.{CellsLeft, OnGrown}
 use Rattle.nv_machine.proofs.GrownTurns.{grown_turn, standing as grown_standing}
 use Rattle.nv_machine.proofs.Kept.{AfterTurn, turn_keeps}
 use Rattle.nv_machine.proofs.Locked.{owner_is}
-use Rattle.nv_machine.proofs.Locks.{all_same, before}
+use Rattle.nv_machine.proofs.Locks.{before}
 use Rattle.nv_machine.proofs.PageTurns.{OnPages}
 use Rattle.nv_machine.proofs.PageRuns.{AllOnPages, deed_on, appends_commit, own_pages, their_pages}
 
@@ -169,7 +171,7 @@ new_on g zero ino lt = absurd (omega (arith, lt))
 new_on g (suc n) zero lt = record { size = refl; each = refl; parted = refl }
 new_on g (suc n) (suc ino) lt = new_on g n ino (omega (arith, lt))
 
-new_all : (g : GeometryNumbers) → IsWithinLimits g → AllOnPages g.page (formatted g).shared
+pub new_all : (g : GeometryNumbers) → IsWithinLimits g → AllOnPages g.page (formatted g).shared
 new_all g limits zero lt = record {
   size = refl;
   each = refl;
@@ -177,28 +179,33 @@ new_all g limits zero lt = record {
 }
 new_all g limits (suc ino) lt = new_on g (g.inodes - 1) ino (omega (arith, lt))
 
-all_pages : (g : GeometryNumbers) → IsWithinLimits g → (events : List Event) → ArePaged (after (formatted g) events)
-all_pages g limits events = events_pages g limits events (formatted g) (all_known g limits) (all_fit g limits) (record {
-  on = new_all g limits;
-  each = λ actor.
-      subst (λ (x : Actor). PagesOf x.running g.block (formatted g).shared x.hand) (sym (all_same g.actors actor idle)) tt;
-})
+all_pages : (g : GeometryNumbers) (start : World) (records : List Record) → IsStart g start records → (events : List Event)
+    → ArePaged (after start events)
+all_pages g start records is_start events =
+    events_pages g is_start.limits events start (all_known g start records is_start) (all_fit g start records is_start) (record {
+      on =
+          subst (λ (n : GeometryNumbers). AllOnPages n.page start.shared) (sym is_start.numbers)
+          (λ ino lt. is_start.pages ino (omega (arith, lt, is_start.slots)));
+      each = λ actor.
+          subst (λ (x : Actor). PagesOf x.running start.numbers.block start.shared x.hand) (sym (is_start.idle_all actor)) tt;
+    })
 
 -- ---- the laws
 
-pub logs_paged : (g : GeometryNumbers) (events : List Event) (ino : ℕ) → IsWithinLimits g
-    → ino < length (after (formatted g) events).shared.cells
-    → AreOnPages g.page (cell_at (after (formatted g) events).shared ino).chain
-logs_paged g events ino limits lt =
-    subst (λ (n : GeometryNumbers). AreOnPages n.page (cell_at (after (formatted g) events).shared ino).chain)
-    (all_known g limits events).numbers.numbers ((all_pages g limits events).on ino lt)
+pub logs_paged : (g : GeometryNumbers) (start : World) (records : List Record) (events : List Event) (ino : ℕ) → IsStart g start records
+    → ino < length (after start events).shared.cells
+    → AreOnPages g.page (cell_at (after start events).shared ino).chain
+logs_paged g start records events ino is_start lt =
+    subst (λ (n : GeometryNumbers). AreOnPages n.page (cell_at (after start events).shared ino).chain)
+    (all_known g start records is_start events).numbers.numbers ((all_pages g start records is_start events).on ino lt)
 
-pub hands_paged : (g : GeometryNumbers) (events : List Event) (actor : ℕ) (r : Running) → IsWithinLimits g
-    → (actor_at (after (formatted g) events) actor).running ≡ Some r
-    → HasLogPages r.next g.block (after (formatted g) events).shared (actor_at (after (formatted g) events) actor).hand r
-hands_paged g events actor r limits is =
-    let w = after (formatted g) events in
+pub hands_paged : (g : GeometryNumbers) (start : World) (records : List Record) (events : List Event) (actor : ℕ) (r : Running)
+    → IsStart g start records
+    → (actor_at (after start events) actor).running ≡ Some r
+    → HasLogPages r.next g.block (after start events).shared (actor_at (after start events) actor).hand r
+hands_paged g start records events actor r is_start is =
+    let w = after start events in
     subst (λ (n : GeometryNumbers). HasLogPages r.next n.block w.shared (actor_at w actor).hand r)
-    (all_known g limits events).numbers.numbers
+    (all_known g start records is_start events).numbers.numbers
     (subst (λ (o : Option Running). PagesOf o w.numbers.block w.shared (actor_at w actor).hand) is
-    ((all_pages g limits events).each actor))
+    ((all_pages g start records is_start events).each actor))

@@ -1,17 +1,18 @@
 -- A snapshot has a pin for each show of it that is under way.
-use Rattle.std.proofs.Common.{◌≡◌, ℕ, zero, suc, ◌+◌, ◌<◌, ◌∙◌, Bool, true, false, List, [], ◌∷◌, length, nat_lt, Option, Some, None, ap, arith, refl, set, sym}
+use Rattle.nv_book.specs.declared.record.Record.{Record}
+use Rattle.std.proofs.Common.{◌≡◌, ℕ, zero, suc, ◌+◌, ◌<◌, ◌∙◌, Bool, true, false, List, [], ◌∷◌, length, nat_lt, Option, Some, None, ap, arith, refl, set, sym, subst}
 use Rattle.std.proofs.lemmas.Bool.{ltb-true}
 use Rattle.std.proofs.lemmas.List.Sums.{sum_by-cons, sum_by-set}
-use Rattle.std.specs.Prelude.{count_by, replicate}
+use Rattle.std.specs.Prelude.{count_by, replicate, slice_index_or}
 use Rattle.nv_base.specs.declared.geometry.GeometryNumbers.{GeometryNumbers}
 use Rattle.nv_calls.specs.declared.call.Call.{Call}
 use Rattle.nv_calls.specs.declared.snapshot_call.SnapshotCall.{SnapshotCall}
 use Rattle.nv_calls.specs.declared.call.Call.TheVariants as call
 use Rattle.nv_calls.specs.declared.snapshot_call.SnapshotCall.TheVariants as on
 use Rattle.nv_epoch.specs.SnapList.{pins_of}
-use Rattle.nv_machine.specs.Format.{formatted}
 use Rattle.nv_machine.specs.Reading.{ArePins, pins_at, pins_by_call, pins_on, shows_of}
 use Rattle.nv_machine.specs.Sequence.{beginning, begun, first_step}
+use Rattle.nv_machine.specs.Starts.{IsStart}
 use Rattle.nv_machine.specs.Step.{after, go_step, start_step, step, turn, turned}
 use Rattle.nv_machine.specs.World.{Actor, Ends, Event, Go, Moves, Running, Shared, Start, Turn, Waits, World, actor_at, idle}
 use Rattle.nv_machine.proofs.PinSteps.{OnPins, kind_pins, no_pin, one_if, same_fits}
@@ -108,6 +109,17 @@ module _ (snapshot : ℕ) where
   idle_none zero = refl
   idle_none (suc n) = omega (arith, sum_by-cons counted idle (replicate n idle), idle_none n)
 
-pub pins_of_shows : (g : GeometryNumbers) (events : List Event) (snapshot : ℕ)
-    → ArePins (shows_of snapshot (after (formatted g) events)) (pins_of (after (formatted g) events).shared.book.snaps snapshot)
-pins_of_shows g events snapshot = events_pinned snapshot events (formatted g) (idle_none snapshot g.actors)
+pub no_shows : (snapshot : ℕ) (actors : List Actor) → ((a : ℕ) → slice_index_or actors a idle ≡ idle)
+    → count_by (λ (actor : Actor). pins_by_call snapshot actor.running) actors ≡ 0
+no_shows snapshot [] none = refl
+no_shows snapshot (x ∷ actors) none =
+    let own = ap (λ (y : Actor). one_if (pins_by_call snapshot y.running)) (none 0) in
+    omega (arith, sum_by-cons (counted snapshot) x actors, own, no_shows snapshot actors (λ a. none (suc a)))
+
+pub pins_of_shows : (g : GeometryNumbers) (start : World) (records : List Record) (events : List Event) (snapshot : ℕ)
+    → IsStart g start records
+    → ArePins (shows_of snapshot (after start events)) (pins_of (after start events).shared.book.snaps snapshot)
+pins_of_shows g start records events snapshot is_start =
+    events_pinned snapshot events start
+    (subst (λ (n : ℕ). ArePins n (pins_of start.shared.book.snaps snapshot)) (sym (no_shows snapshot start.actors is_start.idle_all))
+    (is_start.unpinned snapshot))

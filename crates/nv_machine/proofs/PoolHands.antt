@@ -1,18 +1,18 @@
 -- No two hands have one inode number.
+use Rattle.nv_book.specs.declared.record.Record.{Record}
 use Rattle.std.proofs.Common.{◌≡◌, ◌≢◌, ◌⊎◌, inl, inr, ℕ, zero, suc, ◌+◌, ◌≤◌, ◌==◌, ◌∙◌, Bool, true, false, cond, List, [], ◌∷◌, Option, Some, None, ap, ap₂, arith, get_or, if◌then◌else◌, nat_lt, refl, sym}
 use Rattle.std.specs.Prelude.{unwrap_or}
 use Rattle.std.specs.List.{flat_map}
 use Rattle.std.proofs.lemmas.Bool.{eqb-false, eqb-true, false≢true}
 use Rattle.nv_alloc.specs.Numbers.{has, times}
 use Rattle.nv_alloc.proofs.Lists.{times-append, times-yes}
-use Rattle.nv_base.specs.Limits.{IsWithinLimits}
 use Rattle.nv_base.specs.declared.geometry.GeometryNumbers.{GeometryNumbers}
-use Rattle.nv_machine.specs.Format.{formatted}
 use Rattle.nv_machine.specs.Grown.{AreGrown}
 use Rattle.nv_machine.specs.Hands.{AreNumbers}
 use Rattle.nv_machine.specs.Locks.{AreLocks, held_at}
 use Rattle.nv_machine.specs.PoolScan.{has_inode}
 use Rattle.nv_machine.specs.Reads.{is_written, written_slots}
+use Rattle.nv_machine.specs.Starts.{IsStart}
 use Rattle.nv_machine.specs.Step.{after}
 use Rattle.nv_machine.specs.World.{Append, Back, Check, Close, Enter, Event, Give, Leave, Lock, Look, Next, Number, Open, Publish, Ready, Retire, Running, TakeBlocks, TakePages, Unlock, Visit, World, actor_at, cell_at, idle, owner_at, Snapshots}
 use Rattle.nv_machine.proofs.FromScratch.{all_numbers}
@@ -125,9 +125,10 @@ module _ (g : GeometryNumbers) (w : World) (locks : AreLocks w) (all : AreNumber
 
 -- ---- the law
 
-pub hands_differ : (g : GeometryNumbers) (events : List Event) (a b n : ℕ) → IsWithinLimits g
-    → (actor_at (after (formatted g) events) a).hand.ino ≡ Some n → (actor_at (after (formatted g) events) b).hand.ino ≡ Some n → a ≡ b
-hands_differ g events a b n within first second =
-    let is = reached g events within in
-    own_numbers g (after (formatted g) events) is.locks (all_numbers g events within) is.grown (all_pooled g events within) a b n
+pub hands_differ : (g : GeometryNumbers) (start : World) (records : List Record) (events : List Event) (a b n : ℕ) → IsStart g start records
+    → (actor_at (after start events) a).hand.ino ≡ Some n → (actor_at (after start events) b).hand.ino ≡ Some n → a ≡ b
+hands_differ g start records events a b n is_start first second =
+    let is = reached g start records events is_start in
+    own_numbers g (after start events) is.locks (all_numbers g start records events is_start) is.grown
+    (all_pooled g start records events is_start) a b n
     first second

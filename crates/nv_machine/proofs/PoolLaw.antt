@@ -1,4 +1,5 @@
 -- The pool is what one scan of all logs and hands leaves.
+use Rattle.nv_book.specs.declared.record.Record.{Record}
 use Rattle.std.proofs.Common.{◌≡◌, inl, inr, ℕ, zero, suc, ◌+◌, ◌-◌, ◌<◌, ◌≤◌, ◌==◌, ◌∙◌, Bool, true, false, cond, List, [], ◌∷◌, Option, Some, None, ap, ap₂, arith, if◌then◌else◌, nat_lt, not, refl, replicate, subst, sym}
 use Rattle.std.specs.Prelude.{◌&&◌, ◌||◌, nat_le, slice_index_or}
 use Rattle.std.specs.List.{flat_map}
@@ -16,6 +17,7 @@ use Rattle.nv_machine.specs.Hands.{AreNumbers}
 use Rattle.nv_machine.specs.Locks.{AreLocks}
 use Rattle.nv_machine.specs.PoolScan.{has_inode, is_number_used, is_withheld, number_held, numbers_held, pool_from_scratch}
 use Rattle.nv_machine.specs.Reads.{if_number, written_slots}
+use Rattle.nv_machine.specs.Starts.{IsStart}
 use Rattle.nv_machine.specs.Step.{after}
 use Rattle.nv_machine.specs.World.{Actor, Event, Running, World, actor_at, cell_at, idle, no_cell}
 use Rattle.nv_machine.proofs.FromScratch.{all_numbers, counted, none_true, not_counted}
@@ -27,6 +29,7 @@ use Rattle.nv_machine.proofs.PoolKnown.{SeesOf}
 use Rattle.nv_machine.proofs.PoolRuns.{ArePooled, events_pooled, own_loose, standing}
 use Rattle.nv_machine.proofs.PoolTally.{is_begun, loose, loose_by, loose_of, tally}
 use Rattle.nv_machine.proofs.Reached.{reached}
+use Rattle.nv_machine.proofs.StartPool.{first_pooled}
 
 -- ---- a new world
 
@@ -46,7 +49,7 @@ new_taken g (suc n) =
     let none : nat_lt (suc n) 1 ≡ false = le-ltb (suc n) 1 (omega arith) in
     empty_taken g (g.inodes - 1) n ∙ sym (rw none refl)
 
-new_pooled : (g : GeometryNumbers) → IsWithinLimits g → ArePooled g (formatted g)
+pub new_pooled : (g : GeometryNumbers) → IsWithinLimits g → ArePooled g (formatted g)
 new_pooled g within =
     let some = within.some_inodes in
     let all : 1 + (g.inodes - 1) ≡ g.inodes = omega (arith, some) in
@@ -165,7 +168,7 @@ in_pool g w n locks all grown pooled inside = go (has w.shared.pool.numbers n) r
       let free = not_taken (cell_at w.shared n) parts.0 parts.1 in
       absurd (omega (arith, none, hands, free, fewer, once))
 
-is_scan : (g : GeometryNumbers) (w : World) (n : ℕ) → AreLocks w → AreNumbers g w → AreGrown w → ArePooled g w
+pub is_scan : (g : GeometryNumbers) (w : World) (n : ℕ) → AreLocks w → AreNumbers g w → AreGrown w → ArePooled g w
     → has w.shared.pool.numbers n ≡ (nat_le 0 n && nat_lt n (0 + g.inodes) && not (is_number_used w n))
 is_scan g w n locks all grown pooled = elim (cases_lt n g.inodes) [
   | inl lt ↦
@@ -182,16 +185,18 @@ is_scan g w n locks all grown pooled = elim (cases_lt n g.inodes) [
 
 -- ---- the law
 
-pub all_pooled : (g : GeometryNumbers) (events : List Event) → IsWithinLimits g → ArePooled g (after (formatted g) events)
-all_pooled g events within =
-    events_pooled g events (formatted g) (λ before. (reached g before within).locks) (λ before. all_numbers g before within)
-    (λ before. (reached g before within).grown) (new_pooled g within)
+pub all_pooled : (g : GeometryNumbers) (start : World) (records : List Record) (events : List Event) → IsStart g start records
+    → ArePooled g (after start events)
+all_pooled g start records events is_start =
+    events_pooled g events start (λ before. (reached g start records before is_start).locks)
+    (λ before. all_numbers g start records before is_start)
+    (λ before. (reached g start records before is_start).grown) (first_pooled g start records is_start)
 
-pub pool_scanned : (g : GeometryNumbers) (events : List Event) → IsWithinLimits g
-    → (after (formatted g) events).shared.pool.numbers ≡ pool_from_scratch g (after (formatted g) events)
-pool_scanned g events within =
-    let w = after (formatted g) events in
-    let is = reached g events within in
-    let pooled = all_pooled g events within in
+pub pool_scanned : (g : GeometryNumbers) (start : World) (records : List Record) (events : List Event) → IsStart g start records
+    → (after start events).shared.pool.numbers ≡ pool_from_scratch g (after start events)
+pool_scanned g start records events is_start =
+    let w = after start events in
+    let is = reached g start records events is_start in
+    let pooled = all_pooled g start records events is_start in
     from_scratch (is_number_used w) 0 g.inodes w.shared.pool.numbers pooled.rising
-    (λ n. is_scan g w n is.locks (all_numbers g events within) is.grown pooled)
+    (λ n. is_scan g w n is.locks (all_numbers g start records events is_start) is.grown pooled)

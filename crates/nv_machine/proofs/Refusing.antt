@@ -4,13 +4,12 @@ use Rattle.std.specs.Prelude.{◌%◌, Ok, Err}
 use Rattle.nv_machine.specs.Kept.{IsKept, Knows, KnowsOf}
 use Rattle.nv_machine.specs.Kinds.{enter_turn, drained_turn, end_turn, grown, last_turn, rest_turn}
 use Rattle.nv_machine.specs.Refusing.{GoesOn, IsUnanswered, LeavesBooks, SameBooks}
+use Rattle.nv_machine.specs.Starts.{IsStart}
 use Rattle.nv_machine.specs.Step.{kind_turn, turn, after}
 use Rattle.nv_machine.specs.World.{Answers, Append, Back, Check, Close, Ending, Ends, Enter, Give, HandState, Leave, Lock, Look, Moves, Next, Number, Open, Overtaken, Publish, Ready, Refuses, Retire, Running, Shared, TakeBlocks, TakePages, Turn, Unlock, Visit, Waits, World, actor_at, Drop, LockPicked, Make, Pick, Pin, Release, Show, SnapshotStep, Snapshots, Unpin, Drains, Draining, Event}
 use Rattle.nv_machine.proofs.Kept.{AfterTurn, back_deed, deed, end_keeps, number_deed, turn_keeps, snapshot_keeps}
 use Rattle.nv_machine.specs.Hands.{HandOf, is_going, is_going_on}
 use Rattle.nv_machine.specs.Snapshots.{drop_turn, if_free, lock_picked_turn, make_tests, make_turn, one_more, picked_turn, pin_turn, snapshot_turn, unpin_turn}
-use Rattle.nv_machine.specs.Format.{formatted}
-use Rattle.nv_base.specs.Limits.{IsWithinLimits}
 use Rattle.nv_base.specs.declared.geometry.GeometryNumbers.{GeometryNumbers}
 use Rattle.nv_base.specs.declared.fault.Fault.{Fault}
 use Rattle.nv_calls.specs.Refusals.{Check as Tests}
@@ -172,13 +171,14 @@ goes_on : (k : Next) (e : Ending) → (is_going k ≡ true → e ≡ Answers) �
 goes_on (Snapshots step) e going = going
 goes_on other e going = tt
 
-pub all_refused : (g : GeometryNumbers) (events : List Event) (actor : ℕ) (granted : Bool) (r : Running) → IsWithinLimits g
-    → (actor_at (after (formatted g) events) actor).running ≡ Some r
-    → LeavesBooks r.next (after (formatted g) events).shared
-    (turn (after (formatted g) events).numbers.block actor granted (after (formatted g) events).shared
-    (actor_at (after (formatted g) events) actor).hand r)
-all_refused g events actor granted r within is =
-    let w : World = after (formatted g) events in
+pub all_refused : (g : GeometryNumbers) (start : World) (records : List Record) (events : List Event) (actor : ℕ) (granted : Bool)
+    (r : Running) → IsStart g start records
+    → (actor_at (after start events) actor).running ≡ Some r
+    → LeavesBooks r.next (after start events).shared
+    (turn (after start events).numbers.block actor granted (after start events).shared
+    (actor_at (after start events) actor).hand r)
+all_refused g start records events actor granted r is_start is =
+    let w : World = after start events in
     let own : HandOf g (actor_at w actor).hand (Some r) =
-    subst (λ (o : Option Running). HandOf g (actor_at w actor).hand o) is ((all_numbers g events within).hands actor) in
-    refused_books w actor granted r (reached g events within).kept is (goes_on r.next r.ending own.1)
+    subst (λ (o : Option Running). HandOf g (actor_at w actor).hand o) is ((all_numbers g start records events is_start).hands actor) in
+    refused_books w actor granted r (reached g start records events is_start).kept is (goes_on r.next r.ending own.1)

@@ -9,7 +9,6 @@ use Rattle.std.proofs.lemmas.List.{get_or_past}
 use Rattle.std.proofs.lemmas.Option.{same_Some}
 use Rattle.nv_alloc.specs.Block.{BlockValue, numbers_of}
 use Rattle.nv_alloc.specs.Numbers.{has}
-use Rattle.nv_base.specs.Limits.{IsWithinLimits}
 use Rattle.nv_base.specs.declared.geometry.GeometryNumbers.{GeometryNumbers}
 use Rattle.nv_book.specs.Listed.{all_records}
 use Rattle.nv_book.specs.Records.{holder_of}
@@ -29,7 +28,6 @@ use Rattle.nv_entry.specs.declared.part.PartId.{PartId}
 use Rattle.nv_entry.proofs.Covering.{at_place_of}
 use Rattle.nv_epoch.specs.SnapList.{ids}
 use Rattle.nv_machine.specs.Erasing.{IsErasedWhole, IsOnItsWay, IsOver, emptied, keepers_of, pending_but}
-use Rattle.nv_machine.specs.Format.{formatted}
 use Rattle.nv_machine.specs.Grown.{HasGrown, HasGrownBy}
 use Rattle.nv_machine.specs.Hands.{IsParted}
 use Rattle.nv_machine.specs.Held.{is_of_slot, killed_by_actor, killed_by_call, killed_in, killed_slots, parts_for, pending_in, picked_at, picked_by_actor, picked_by_call}
@@ -40,6 +38,7 @@ use Rattle.nv_machine.specs.Reads.{is_written, written_slots}
 use Rattle.nv_machine.specs.Recorded.{is_kept}
 use Rattle.nv_machine.specs.Settled.{settled}
 use Rattle.nv_machine.specs.Snapshots.{one_more, with_released}
+use Rattle.nv_machine.specs.Starts.{IsStart}
 use Rattle.nv_machine.specs.Step.{Step, after, changed, kind_turn, step, turned}
 use Rattle.nv_machine.specs.World.{Actor, Close, Draining, Drains, Event, Go, HandState, Next, Publish, Release, Retire, Running, Shared, Snapshots, Unlock, World, actor_at, cell_at, empty_hand, idle, no_cell, owner_at, with_cell}
 use Rattle.nv_machine.proofs.Counted.{settled_times}
@@ -300,26 +299,28 @@ module _ (g : GeometryNumbers) (w : World) (all : IsKnown g w) (actor : ℕ) (dr
 
 -- ---- the law, of the release step
 
-pub release_erases : (g : GeometryNumbers) (events : List Event) (actor : ℕ) (draining : Draining) (picked : Record) (granted : Bool)
-    (r : Running) → IsWithinLimits g
-    → (actor_at (after (formatted g) events) actor).running ≡ Some r → r.next ≡ Snapshots (Release draining picked)
-    → IsOver (pending_but actor (after (formatted g) events)) (after (formatted g) events).shared picked.ino
-    → IsErasedWhole actor picked.ino (after (formatted g) events) (step (after (formatted g) events) (Go actor granted)).world
-release_erases g events actor draining picked granted r within runs next over =
-    let w = after (formatted g) events in
-    let all = known g events within in
+pub release_erases : (g : GeometryNumbers) (start : World) (records : List Record) (events : List Event) (actor : ℕ)
+    (draining : Draining) (picked : Record) (granted : Bool)
+    (r : Running) → IsStart g start records
+    → (actor_at (after start events) actor).running ≡ Some r → r.next ≡ Snapshots (Release draining picked)
+    → IsOver (pending_but actor (after start events)) (after start events).shared picked.ino
+    → IsErasedWhole actor picked.ino (after start events) (step (after start events) (Go actor granted)).world
+release_erases g start records events actor draining picked granted r is_start runs next over =
+    let w = after start events in
+    let all = known g start records events is_start in
     subst (λ (v : World). IsErasedWhole actor picked.ino w v) (sym (stepped g w all actor draining picked r runs next over granted))
     (is_erased_whole g w all actor draining picked r runs next over)
 
-pub released_has_it : (g : GeometryNumbers) (events : List Event) (actor : ℕ) (draining : Draining) (picked : Record) (granted : Bool)
-    (r : Running) → IsWithinLimits g
-    → (actor_at (after (formatted g) events) actor).running ≡ Some r → r.next ≡ Snapshots (Release draining picked)
-    → IsOver (pending_but actor (after (formatted g) events)) (after (formatted g) events).shared picked.ino
-    → is_withheld (cell_at (step (after (formatted g) events) (Go actor granted)).world.shared picked.ino) ≡ false
-    → IsOnItsWay actor picked.ino (step (after (formatted g) events) (Go actor granted)).world
-released_has_it g events actor draining picked granted r within runs next over free =
-    let w = after (formatted g) events in
-    let all = known g events within in
+pub released_has_it : (g : GeometryNumbers) (start : World) (records : List Record) (events : List Event) (actor : ℕ)
+    (draining : Draining) (picked : Record) (granted : Bool)
+    (r : Running) → IsStart g start records
+    → (actor_at (after start events) actor).running ≡ Some r → r.next ≡ Snapshots (Release draining picked)
+    → IsOver (pending_but actor (after start events)) (after start events).shared picked.ino
+    → is_withheld (cell_at (step (after start events) (Go actor granted)).world.shared picked.ino) ≡ false
+    → IsOnItsWay actor picked.ino (step (after start events) (Go actor granted)).world
+released_has_it g start records events actor draining picked granted r is_start runs next over free =
+    let w = after start events in
+    let all = known g start records events is_start in
     let is = stepped g w all actor draining picked r runs next over granted in
     subst (λ (v : World). IsOnItsWay actor picked.ino v) (sym is)
     (is_on_its_way g w all actor draining picked r runs next over

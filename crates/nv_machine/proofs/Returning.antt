@@ -1,20 +1,20 @@
 -- A number in the hand of a call that is late stays there, up to the step that ends the call and puts it into the pool.
+use Rattle.nv_book.specs.declared.record.Record.{Record}
 use Rattle.std.proofs.Common.{◌≡◌, ◌≢◌, ◌⊎◌, inl, inr, ℕ, zero, suc, ◌+◌, ◌<◌, ◌==◌, ◌++◌, ◌∙◌, Bool, true, false, List, [], ◌∷◌, Option, Some, None, ap, arith, get_or-set_other, get_or-set_same, if◌then◌else◌, length, map, nat_lt, refl, set, subst, sym}
 use Rattle.std.proofs.lemmas.Bool.{eqb-false, eqb-true, false≢true}
 use Rattle.std.proofs.lemmas.List.{map-id}
 use Rattle.std.proofs.lemmas.Option.{none-some}
 use Rattle.nv_alloc.specs.Numbers.{has, put_by, times}
 use Rattle.nv_alloc.proofs.Lists.{times-put_by, times-yes}
-use Rattle.nv_base.specs.Limits.{IsWithinLimits}
 use Rattle.nv_base.specs.declared.geometry.GeometryNumbers.{GeometryNumbers}
 use Rattle.nv_calls.specs.Retiring.{is_erased, number_back}
 use Rattle.nv_calls.specs.declared.call.Call.{Call}
 use Rattle.nv_cell.specs.Cell.{CellState}
 use Rattle.nv_machine.specs.Erasing.{IsOnItsWay, IsOnItsWayOrBack, is_done_with, is_late}
-use Rattle.nv_machine.specs.Format.{formatted}
 use Rattle.nv_machine.specs.Hands.{HandOf, is_going}
 use Rattle.nv_machine.specs.Kinds.{back_turn, drained_turn, end_turn, first_killed, last_turn, over_turn, rest_turn, retired_cell, unlocked_turn, with_freed}
 use Rattle.nv_machine.specs.Reads.{slot_at, written_slots}
+use Rattle.nv_machine.specs.Starts.{IsStart}
 use Rattle.nv_machine.specs.Step.{Step, after, go_step, kind_turn, start_step, step, turned}
 use Rattle.nv_machine.specs.World.{Actor, Answers, Append, Back, Check, Close, Drains, Ending, Ends, Enter, Event, Give, Go, HandState, Leave, Lock, Look, Moves, Next, Number, Open, Overtaken, Publish, Ready, Refuses, Retire, Running, Shared, Snapshots, Start, TakeBlocks, TakePages, Turn, Unlock, Visit, Waits, World, actor_at, idle}
 use Rattle.nv_machine.proofs.Erasing.{IsKnown, known, runs_inside}
@@ -224,8 +224,9 @@ module _ (g : GeometryNumbers) (w : World) (all : IsKnown g w) (actor ino : ℕ)
 
 -- ---- the law
 
-pub number_returns : (g : GeometryNumbers) (events : List Event) (actor ino : ℕ) (e : Event) → IsWithinLimits g
-    → IsOnItsWay actor ino (after (formatted g) events)
-    → IsOnItsWayOrBack actor ino (step (after (formatted g) events) e).world
-number_returns g events actor ino e within way =
-    event_way g (after (formatted g) events) (known g events within) actor ino way e
+pub number_returns : (g : GeometryNumbers) (start : World) (records : List Record) (events : List Event) (actor ino : ℕ)
+    (e : Event) → IsStart g start records
+    → IsOnItsWay actor ino (after start events)
+    → IsOnItsWayOrBack actor ino (step (after start events) e).world
+number_returns g start records events actor ino e is_start way =
+    event_way g (after start events) (known g start records events is_start) actor ino way e

@@ -1,7 +1,7 @@
 -- What makings and drops are answered, and a show whose memory was refused.
+use Rattle.nv_book.specs.declared.record.Record.{Record}
 use Rattle.std.proofs.Common.{◌≡◌, ◌⊎◌, ◌∙◌, ℕ, Bool, List, [], Option, Some, None, ap, inl, inr, refl, subst, sym}
 use Rattle.std.specs.Prelude.{Ok, Err}
-use Rattle.nv_base.specs.Limits.{IsWithinLimits}
 use Rattle.nv_base.specs.declared.fault.Fault.{Fault}
 use Rattle.nv_base.specs.declared.geometry.GeometryNumbers.{GeometryNumbers}
 use Rattle.nv_calls.specs.Refusals.{Check as Tests}
@@ -9,9 +9,9 @@ use Rattle.nv_calls.specs.declared.answer.Answer.{Answer}
 use Rattle.nv_calls.specs.declared.answer.Answer.TheVariants as answers
 use Rattle.nv_entry.specs.declared.tree.TreeNode.{TreeNode}
 use Rattle.nv_epoch.specs.SnapList.{pins_of}
-use Rattle.nv_machine.specs.Format.{formatted}
 use Rattle.nv_machine.specs.PlainRun.{plain_after, plain_of}
 use Rattle.nv_machine.specs.Snapshots.{drop_tests, drop_turn, if_free, make_tests, make_turn, shown_by, unpin_turn}
+use Rattle.nv_machine.specs.Starts.{IsStart}
 use Rattle.nv_machine.specs.Step.{Step, after, kind_turn, reply_of, step, turned}
 use Rattle.nv_machine.specs.World.{Done, Drop, Ending, Event, Go, HandState, Make, Next, Refused, Refuses, Running, SnapshotStep, Snapshots, Turn, Unpin, Waiting, World, actor_at, empty_hand}
 use Rattle.nv_machine.proofs.Events.{goes}
@@ -51,11 +51,7 @@ module _ (a : ℕ) (w : World) (h : HandState) (r : Running) where
   unpin_ends snapshot seen fault (Some other) is = inl refl
   unpin_ends snapshot seen fault None is = inr (ap (λ (e : Ending). reply_of (shown_by e seen)) is)
 
-module _ (g : GeometryNumbers) (events : List Event) (actor : ℕ) (granted : Bool) (r : Running)
-    (is : (actor_at (after (formatted g) events) actor).running ≡ Some r) where
-  abbrev w : World
-  w = after (formatted g) events
-
+module _ (w : World) (actor : ℕ) (granted : Bool) (r : Running) (is : (actor_at w actor).running ≡ Some r) where
   abbrev h : HandState
   h = (actor_at w actor).hand
 
@@ -66,27 +62,34 @@ module _ (g : GeometryNumbers) (events : List Event) (actor : ℕ) (granted : Bo
       subst P (sym (goes w actor granted r (there_is w actor r is) is).is_turn)
       (subst (λ (k : Next). P (turned (kind_turn k w.numbers.block actor granted w.shared h r) actor w)) (sym next) holds)
 
-  bare : (kind : SnapshotStep) → IsWithinLimits g → r.next ≡ Snapshots kind → IsBare (Snapshots kind) h r
-  bare kind within next = subst (λ (k : Next). IsBare k h r) next (all_bare g events within actor r is)
-
-  pub made_told : (told : Answer) → IsWithinLimits g → r.next ≡ Snapshots Make → (step w (Go actor granted)).reply ≡ Done told
-      → told ≡ answers.Snapshot (plain_after (formatted g) events (plain_of (formatted g))).epoch
-  made_told told within next reply =
-      let b = bare Make within next in
-      of_event (Tells (answers.Snapshot w.shared.book.snaps.epoch)) Make next
-      (free_tells actor w h r _ w.shared.holder _ (make_tells actor w h r (make_tests w.shared.book.snaps) b.0 b.1)) told reply
-      ∙ ap (λ (epoch : ℕ). answers.Snapshot epoch) (in_step g events within).epoch
-
-  pub dropped_told : (snapshot : ℕ) (told : Answer) → IsWithinLimits g → r.next ≡ Snapshots (Drop snapshot)
-      → (step w (Go actor granted)).reply ≡ Done told → told ≡ answers.Nothing
-  dropped_told snapshot told within next reply =
-      let b = bare (Drop snapshot) within next in
-      of_event (Tells answers.Nothing) (Drop snapshot) next
-      (free_tells actor w h r _ w.shared.holder _
-      (drop_tells actor w h r snapshot (drop_tests (pins_of w.shared.book.snaps snapshot)) b.0 b.1)) told reply
-
   pub unpin_refused : (snapshot : ℕ) (seen : List TreeNode) (fault : Fault) → r.next ≡ Snapshots (Unpin snapshot seen)
       → r.ending ≡ Refuses fault
       → ((step w (Go actor granted)).reply ≡ Waiting) ⊎ ((step w (Go actor granted)).reply ≡ Refused fault)
   unpin_refused snapshot seen fault next ending =
       of_event (IsRefusedFor fault) (Unpin snapshot seen) next (unpin_ends actor w h r snapshot seen fault w.shared.holder ending)
+
+module _ (g : GeometryNumbers) (start : World) (records : List Record) (events : List Event) (actor : ℕ) (granted : Bool) (r : Running)
+    (is : (actor_at (after start events) actor).running ≡ Some r) where
+  abbrev w : World
+  w = after start events
+
+  bare : (kind : SnapshotStep) → IsStart g start records → r.next ≡ Snapshots kind → IsBare (Snapshots kind) (actor_at w actor).hand r
+  bare kind is_start next =
+      subst (λ (k : Next). IsBare k (actor_at w actor).hand r) next (all_bare g start records events is_start actor r is)
+
+  pub made_told : (told : Answer) → IsStart g start records → r.next ≡ Snapshots Make → (step w (Go actor granted)).reply ≡ Done told
+      → told ≡ answers.Snapshot (plain_after start events (plain_of start)).epoch
+  made_told told is_start next reply =
+      let b = bare Make is_start next in
+      of_event w actor granted r is (Tells (answers.Snapshot w.shared.book.snaps.epoch)) Make next
+      (free_tells actor w (actor_at w actor).hand r _ w.shared.holder _
+      (make_tells actor w (actor_at w actor).hand r (make_tests w.shared.book.snaps) b.0 b.1)) told reply
+      ∙ ap (λ (epoch : ℕ). answers.Snapshot epoch) (in_step g start records events is_start).epoch
+
+  pub dropped_told : (snapshot : ℕ) (told : Answer) → IsStart g start records → r.next ≡ Snapshots (Drop snapshot)
+      → (step w (Go actor granted)).reply ≡ Done told → told ≡ answers.Nothing
+  dropped_told snapshot told is_start next reply =
+      let b = bare (Drop snapshot) is_start next in
+      of_event w actor granted r is (Tells answers.Nothing) (Drop snapshot) next
+      (free_tells actor w (actor_at w actor).hand r _ w.shared.holder _
+      (drop_tells actor w (actor_at w actor).hand r snapshot (drop_tests (pins_of w.shared.book.snaps snapshot)) b.0 b.1)) told reply

@@ -1,17 +1,17 @@
 -- A step that the list of snapshots may refuse waits, or it goes by its tests.
+use Rattle.nv_book.specs.declared.record.Record.{Record}
 use Rattle.std.proofs.Common.{◌≡◌, ◌⊎◌, ℕ, ◌<◌, ◌∙◌, Bool, true, List, [], inl, inr, length, Option, Some, None, ap, refl, subst, sym}
 use Rattle.std.specs.Prelude.{Ok, Err}
 use Rattle.std.proofs.lemmas.Bool.{cases_lt}
 use Rattle.std.proofs.lemmas.List.{get_or_past}
 use Rattle.std.proofs.lemmas.Option.{none-some}
-use Rattle.nv_base.specs.Limits.{IsWithinLimits}
 use Rattle.nv_base.specs.declared.geometry.GeometryNumbers.{GeometryNumbers}
 use Rattle.nv_calls.specs.Refusals.{Check as Tests}
 use Rattle.nv_epoch.specs.SnapList.{pins_of}
-use Rattle.nv_machine.specs.Format.{formatted}
 use Rattle.nv_machine.specs.PlainRun.{plain_after, plain_of}
 use Rattle.nv_machine.specs.Reading.{GoesBy, is_tested, plain_tests, test_there, tests_on}
 use Rattle.nv_machine.specs.Snapshots.{drop_turn, if_free, make_tests, make_turn, pin_turn, snapshot_turn}
+use Rattle.nv_machine.specs.Starts.{IsStart}
 use Rattle.nv_machine.specs.Step.{Step, after, kind_turn, step, turned}
 use Rattle.nv_machine.specs.World.{Actor, Drop, Event, Go, HandState, LockPicked, Make, Next, Pick, Pin, Release, Running, Show, SnapshotStep, Snapshots, Turn, Unpin, Waiting, World, actor_at, empty_hand, idle}
 use Rattle.nv_machine.proofs.Events.{goes}
@@ -68,22 +68,23 @@ there_is w actor r is = elim (cases_lt actor (length w.actors)) [
   | inr past ↦ absurd (none-some r (sym (ap (λ (x : Actor). x.running) (get_or_past w.actors actor idle past)) ∙ is))
 ]
 
-pub replies_told : (g : GeometryNumbers) (events : List Event) (actor : ℕ) (granted : Bool) (r : Running) (kind : SnapshotStep)
-    → IsWithinLimits g → (actor_at (after (formatted g) events) actor).running ≡ Some r → r.next ≡ Snapshots kind → is_tested kind ≡ true
-    → ((step (after (formatted g) events) (Go actor granted)).reply ≡ Waiting)
-    ⊎ GoesBy (plain_tests g.snaps kind (plain_after (formatted g) events (plain_of (formatted g))))
-    (step (after (formatted g) events) (Go actor granted)).reply
-replies_told g events actor granted r kind within is next tested =
-    let w = after (formatted g) events in
+pub replies_told : (g : GeometryNumbers) (start : World) (records : List Record) (events : List Event) (actor : ℕ)
+    (granted : Bool) (r : Running) (kind : SnapshotStep)
+    → IsStart g start records → (actor_at (after start events) actor).running ≡ Some r → r.next ≡ Snapshots kind → is_tested kind ≡ true
+    → ((step (after start events) (Go actor granted)).reply ≡ Waiting)
+    ⊎ GoesBy (plain_tests g.snaps kind (plain_after start events (plain_of start)))
+    (step (after start events) (Go actor granted)).reply
+replies_told g start records events actor granted r kind is_start is next tested =
+    let w = after start events in
     let h = (actor_at w actor).hand in
-    let bare = all_bare g events within actor r is in
+    let bare = all_bare g start records events is_start actor r is in
     subst (λ (tests : Tests). ((step w (Go actor granted)).reply ≡ Waiting) ⊎ GoesBy tests (step w (Go actor granted)).reply)
-    (refusals_told g events kind within)
+    (refusals_told g start records events kind is_start)
     (subst (λ (made : Step). (made.reply ≡ Waiting) ⊎ GoesBy (tests_on kind w.shared.book.snaps) made.reply)
     (sym (goes w actor granted r (there_is w actor r is) is).is_turn)
     (kind_tested actor granted w h r (empty_of r.next bare next) r.next kind next tested bare)) where
-      empty_of : (k : Next) → IsBare k (actor_at (after (formatted g) events) actor).hand r → k ≡ Snapshots kind
-          → (actor_at (after (formatted g) events) actor).hand ≡ empty_hand
+      empty_of : (k : Next) → IsBare k (actor_at (after start events) actor).hand r → k ≡ Snapshots kind
+          → (actor_at (after start events) actor).hand ≡ empty_hand
       empty_of k bare e =
-          let both : IsBare (Snapshots kind) (actor_at (after (formatted g) events) actor).hand r =
-          subst (λ (n : Next). IsBare n (actor_at (after (formatted g) events) actor).hand r) e bare in both.0
+          let both : IsBare (Snapshots kind) (actor_at (after start events) actor).hand r =
+          subst (λ (n : Next). IsBare n (actor_at (after start events) actor).hand r) e bare in both.0

@@ -1,8 +1,8 @@
 -- Whatever events come, the plain world has the epoch and the snapshots of the book, and refuses what
 -- the machine refuses.
-use Rattle.std.proofs.Common.{◌≡◌, ℕ, zero, suc, ◌∙◌, if◌then◌else◌, List, [], ◌∷◌, length, Option, Some, None, ap, refl}
+use Rattle.nv_book.specs.declared.record.Record.{Record}
+use Rattle.std.proofs.Common.{map, ◌≡◌, ℕ, zero, suc, ◌∙◌, if◌then◌else◌, List, [], ◌∷◌, length, Option, Some, None, ap, refl}
 use Rattle.std.specs.Prelude.{nat_le, Err}
-use Rattle.nv_base.specs.Limits.{IsWithinLimits}
 use Rattle.nv_base.specs.declared.fault.Fault.TheVariants.{EpochLimit, TooManySnapshots}
 use Rattle.nv_base.specs.declared.geometry.GeometryNumbers.{GeometryNumbers}
 use Rattle.nv_base.specs.declared.limits.TheConstants.{NUMBER}
@@ -10,19 +10,23 @@ use Rattle.nv_base.specs.declared.numbers.Handle.{Handle}
 use Rattle.nv_calls.specs.Refusals.{Check as Tests, passes}
 use Rattle.nv_entry.specs.declared.node.NodeCopy.{NodeCopy}
 use Rattle.nv_epoch.specs.SnapList.{Snapshots as Living, pins_of}
-use Rattle.nv_machine.specs.Format.{formatted}
-use Rattle.nv_machine.specs.PlainRun.{Plain, deed_of, plain_after, plain_of, plain_step}
+use Rattle.nv_machine.specs.PlainRun.{copy_in, Plain, deed_of, plain_after, plain_of, plain_step}
 use Rattle.nv_machine.specs.Reading.{plain_tests, test_pins, test_there, tests_on}
 use Rattle.nv_machine.specs.Snapshots.{drop_tests}
+use Rattle.nv_machine.specs.Starts.{IsStart}
 use Rattle.nv_machine.specs.Step.{after, step}
-use Rattle.nv_machine.specs.World.{Drop, Event, LockPicked, Make, Pick, Pin, Release, Show, SnapshotStep, Unpin, World}
+use Rattle.nv_epoch.specs.declared.snapshot.Snapshot.{Snapshot}
+use Rattle.nv_machine.specs.World.{Shared, Drop, Event, LockPicked, Make, Pick, Pin, Release, Show, SnapshotStep, Unpin, World}
 use Rattle.nv_machine.proofs.FromScratch.{all_numbers}
 use Rattle.nv_machine.proofs.Reached.{reached}
 use Rattle.nv_machine.proofs.SnapSteps.{AreBare, are_bare, event_snaps}
 use Rattle.nv_machine.proofs.SnapsAlike.{AreAlike, AreBefore, as_many, deed_alike, deed_before, deed_epoch, deed_most, same_pins}
+use Rattle.nv_machine.proofs.StartRecords.{first_before}
 
-pub all_bare : (g : GeometryNumbers) (events : List Event) → IsWithinLimits g → AreBare (after (formatted g) events)
-all_bare g events within = are_bare g (after (formatted g) events) (reached g events within).locks (all_numbers g events within)
+pub all_bare : (g : GeometryNumbers) (start : World) (records : List Record) (events : List Event) → IsStart g start records
+    → AreBare (after start events)
+all_bare g start records events is_start =
+    are_bare g (after start events) (reached g start records events is_start).locks (all_numbers g start records events is_start)
 
 -- ---- in step
 
@@ -54,10 +58,21 @@ events_in_step g [] w p bare is = is
 events_in_step g (e ∷ events) w p bare is =
     events_in_step g events (step w e).world (plain_step w e p) (λ before. bare (e ∷ before)) (event_in_step g w e p (bare []) is)
 
-pub in_step : (g : GeometryNumbers) (events : List Event) → IsWithinLimits g
-    → InStep g (after (formatted g) events).shared.book.snaps (plain_after (formatted g) events (plain_of (formatted g)))
-in_step g events within = events_in_step g events (formatted g) (plain_of (formatted g)) (λ before. all_bare g before within)
-    (record { epoch = refl; alike = tt; most = refl; before = λ n is. cc })
+copied_any : (s : Shared) (living : List Snapshot) → AreAlike Any living (map (copy_in s) living)
+copied_any s [] = tt
+copied_any s (snapshot ∷ living) = (record { number = refl; pins = refl; nodes = tt }, copied_any s living)
+
+pub in_step : (g : GeometryNumbers) (start : World) (records : List Record) (events : List Event) → IsStart g start records
+    → InStep g (after start events).shared.book.snaps (plain_after start events (plain_of start))
+in_step g start records events is_start =
+    events_in_step g events start (plain_of start) (λ before. all_bare g start records before is_start)
+    (record {
+      epoch = refl;
+      alike = copied_any start.shared start.shared.book.snaps.living;
+      most = is_start.most;
+      before =
+          first_before g start records is_start;
+    })
 
 -- ---- refusals
 
@@ -85,7 +100,8 @@ refusals_same g l p (Pick draining) is = refl
 refusals_same g l p (LockPicked draining picked) is = refl
 refusals_same g l p (Release draining picked) is = refl
 
-pub refusals_told : (g : GeometryNumbers) (events : List Event) (kind : SnapshotStep) → IsWithinLimits g
-    → tests_on kind (after (formatted g) events).shared.book.snaps
-    ≡ plain_tests g.snaps kind (plain_after (formatted g) events (plain_of (formatted g)))
-refusals_told g events kind within = refusals_same g _ _ kind (in_step g events within)
+pub refusals_told : (g : GeometryNumbers) (start : World) (records : List Record) (events : List Event) (kind : SnapshotStep)
+    → IsStart g start records
+    → tests_on kind (after start events).shared.book.snaps
+    ≡ plain_tests g.snaps kind (plain_after start events (plain_of start))
+refusals_told g start records events kind is_start = refusals_same g _ _ kind (in_step g start records events is_start)

@@ -1,9 +1,9 @@
 -- No cell has seen more commits than there were, whatever events come, since each commit publishes a cell once.
+use Rattle.nv_book.specs.declared.record.Record.{Record}
 use Rattle.std.proofs.Common.{◌≡◌, ◌≢◌, ℕ, zero, suc, ◌-◌, ◌<◌, ◌≤◌, ◌==◌, ◌∙◌, Bool, true, false, List, [], ◌∷◌, Option, Some, None, ap, arith, drop, get_or-set_other, get_or-set_same, length, nat_lt, refl, replicate, set, subst, sym}
 use Rattle.std.specs.Prelude.{slice_index_or}
 use Rattle.std.proofs.lemmas.Bool.{eqb-false, eqb-true, false≢true, ltb-true}
 use Rattle.nv_alloc.specs.Numbers.{has}
-use Rattle.nv_base.specs.Limits.{IsWithinLimits}
 use Rattle.nv_base.specs.declared.geometry.GeometryNumbers.{GeometryNumbers}
 use Rattle.nv_base.specs.declared.limits.TheConstants.{NUMBER}
 use Rattle.nv_calls.specs.declared.call.Call.{Call}
@@ -14,6 +14,7 @@ use Rattle.nv_machine.specs.Locks.{AreLocks, HoldsIts, commits_at}
 use Rattle.nv_machine.specs.Order.{CommitsIn, IsInOrder}
 use Rattle.nv_machine.specs.Reads.{slot_at, written_slots}
 use Rattle.nv_machine.specs.Sequence.{begun, beginning}
+use Rattle.nv_machine.specs.Starts.{IsStart}
 use Rattle.nv_machine.specs.Step.{after, go_step, start_step, step, turn, turned}
 use Rattle.nv_machine.specs.Versions.{AreCounted, AreVersions, HasUnseen, HasUnseenBy, to_publish}
 use Rattle.nv_machine.specs.World.{Actor, Check, Ends, Event, Go, HandState, Moves, Next, Publish, Running, Shared, Start, Turn, Waits, World, actor_at, cell_at, idle, no_cell, owner_at}
@@ -24,6 +25,7 @@ use Rattle.nv_machine.proofs.Lists.{has_drop, self}
 use Rattle.nv_machine.proofs.Locked.{Before, lent_cell, owner_is}
 use Rattle.nv_machine.proofs.Locks.{all_same, before}
 use Rattle.nv_machine.proofs.Reached.{reached}
+use Rattle.nv_machine.proofs.StartParts.{first_counted}
 use Rattle.nv_machine.proofs.VersionSteps.{OnUnseen, publish_held, turn_unseen, turn_versions}
 
 -- ---- other calls: what they have yet to publish is theirs
@@ -122,7 +124,7 @@ new_version : (g : GeometryNumbers) (ino : ℕ) → (cell_at (formatted g).share
 new_version g zero = refl
 new_version g (suc n) = empty_version g (g.inodes - 1) n
 
-new_counted : (g : GeometryNumbers) → AreCounted (formatted g)
+pub new_counted : (g : GeometryNumbers) → AreCounted (formatted g)
 new_counted g = record {
   versions = record { cells = λ ino. (let e = new_version g ino in omega (arith, e)); limit = omega arith };
   each = λ actor. subst (λ (x : Actor). HasUnseenBy (formatted g).shared x.running) (sym (all_same g.actors actor idle)) tt;
@@ -130,35 +132,39 @@ new_counted g = record {
 
 -- ---- every world
 
-pub all_counted : (g : GeometryNumbers) (events : List Event) → IsWithinLimits g → AreCounted (after (formatted g) events)
-all_counted g events within =
-    events_counted events (formatted g) (λ before. (reached g before within).locks) (λ before. (reached g before within).order)
-    (new_counted g)
+pub all_counted : (g : GeometryNumbers) (start : World) (records : List Record) (events : List Event) → IsStart g start records
+    → AreCounted (after start events)
+all_counted g start records events is_start =
+    events_counted events start (λ before. (reached g start records before is_start).locks)
+    (λ before. (reached g start records before is_start).order)
+    (first_counted g start records is_start)
 
-pub cells_counted : (g : GeometryNumbers) (events : List Event) (ino : ℕ) → IsWithinLimits g
-    → (cell_at (after (formatted g) events).shared ino).version ≤ (after (formatted g) events).shared.book.commit
-cells_counted g events ino within = (all_counted g events within).versions.cells ino
+pub cells_counted : (g : GeometryNumbers) (start : World) (records : List Record) (events : List Event) (ino : ℕ) → IsStart g start records
+    → (cell_at (after start events).shared ino).version ≤ (after start events).shared.book.commit
+cells_counted g start records events ino is_start = (all_counted g start records events is_start).versions.cells ino
 
-pub commits_limited : (g : GeometryNumbers) (events : List Event) → IsWithinLimits g
-    → (after (formatted g) events).shared.book.commit ≤ NUMBER
-commits_limited g events within = (all_counted g events within).versions.limit
+pub commits_limited : (g : GeometryNumbers) (start : World) (records : List Record) (events : List Event) → IsStart g start records
+    → (after start events).shared.book.commit ≤ NUMBER
+commits_limited g start records events is_start = (all_counted g start records events is_start).versions.limit
 
-pub commits_unseen : (g : GeometryNumbers) (events : List Event) (actor ino : ℕ) (r : Running) → IsWithinLimits g
-    → (actor_at (after (formatted g) events) actor).running ≡ Some r → commits_at r.next ≡ true
-    → has (to_publish r.next (written_slots r)) ino ≡ true → (cell_at (after (formatted g) events).shared ino).version < r.commit
-commits_unseen g events actor ino r within is e there =
-    let w = after (formatted g) events in
+pub commits_unseen : (g : GeometryNumbers) (start : World) (records : List Record) (events : List Event) (actor ino : ℕ)
+    (r : Running) → IsStart g start records
+    → (actor_at (after start events) actor).running ≡ Some r → commits_at r.next ≡ true
+    → has (to_publish r.next (written_slots r)) ino ≡ true → (cell_at (after start events).shared ino).version < r.commit
+commits_unseen g start records events actor ino r is_start is e there =
+    let w = after start events in
     let yet : HasUnseen w.shared r =
-    subst (λ (o : Option Running). HasUnseenBy w.shared o) is ((all_counted g events within).each actor) in
+    subst (λ (o : Option Running). HasUnseenBy w.shared o) is ((all_counted g start records events is_start).each actor) in
     yet e ino there
 
 -- so the slot that a commit publishes next has not had the last version
-pub publish_counts : (g : GeometryNumbers) (events : List Event) (actor place : ℕ) (r : Running) → IsWithinLimits g
-    → (actor_at (after (formatted g) events) actor).running ≡ Some r → r.next ≡ Publish place
-    → (cell_at (after (formatted g) events).shared (slot_at (written_slots r) place)).version < NUMBER
-publish_counts g events actor place r within is next =
-    let w = after (formatted g) events in
-    let known = reached g events within in
+pub publish_counts : (g : GeometryNumbers) (start : World) (records : List Record) (events : List Event) (actor place : ℕ)
+    (r : Running) → IsStart g start records
+    → (actor_at (after start events) actor).running ≡ Some r → r.next ≡ Publish place
+    → (cell_at (after start events).shared (slot_at (written_slots r) place)).version < NUMBER
+publish_counts g start records events actor place r is_start is next =
+    let w = after start events in
+    let known = reached g start records events is_start in
     let slot = slot_at (written_slots r) place in
     let own = before w actor r known.locks is in
     let b : Before actor w.shared (Publish place) r = subst (λ (k : Next). Before actor w.shared k r) next own in
@@ -168,7 +174,7 @@ publish_counts g events actor place r within is next =
     has_drop place (written_slots r) slot b.inside ∙ (let e = self slot in rw e refl) in
     let there : has (to_publish r.next (written_slots r)) slot ≡ true =
     ap (λ (k : Next). has (to_publish k (written_slots r)) slot) next ∙ here in
-    let low : (cell_at w.shared slot).version < r.commit = commits_unseen g events actor slot r within is commits there in
+    let low : (cell_at w.shared slot).version < r.commit = commits_unseen g start records events actor slot r is_start is commits there in
     let same : r.commit ≡ w.shared.book.commit = (entered commits).commit in
-    let top : w.shared.book.commit ≤ NUMBER = commits_limited g events within in
+    let top : w.shared.book.commit ≤ NUMBER = commits_limited g start records events is_start in
     omega (arith, low, same, top)

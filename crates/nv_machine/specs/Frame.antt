@@ -88,7 +88,7 @@ pub record IsOneStep (w : World) (actor : ℕ) (granted : Bool) (r : Running) (m
   pub others : LeavesOthers actor w made.world
 
 -- a start changes its actor alone; one without a call has this call now, and its hand as it was
-pub record IsStart (w : World) (actor : ℕ) (c : Call) (made : Step) : Type 0 where
+pub record IsCallStart (w : World) (actor : ℕ) (c : Call) (made : Step) : Type 0 where
   pub shared : made.world.shared ≡ w.shared
   pub others : LeavesOthers actor w made.world
   pub own : actor < length w.actors → (actor_at w actor).running ≡ None → (made.reply ≡ Started)

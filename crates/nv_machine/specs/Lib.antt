@@ -34,6 +34,7 @@ pub mod Rounds
 pub mod Sequence
 pub mod Settled
 pub mod Snapshots
+pub mod Starts
 pub mod Step
 pub mod Takings
 pub mod Versions

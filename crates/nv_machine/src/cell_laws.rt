@@ -2,39 +2,43 @@
 
 ghost use Rattle.std.specs.Prelude.{◌≡◌, ◌<◌, ◌≤◌, ℕ, List, Some, length, true};
 ghost use Rattle.nv_alloc.specs.Numbers.{has};
-ghost use Rattle.nv_base.specs.Limits.{IsWithinLimits};
 ghost use Rattle.nv_base.specs.declared.geometry.GeometryNumbers.{GeometryNumbers};
 ghost use Rattle.nv_base.specs.declared.limits.TheConstants.{NUMBER};
+ghost use Rattle.nv_book.specs.declared.record.Record.{Record};
 ghost use Rattle.nv_machine.specs.FitsNow.{is_checked};
-ghost use Rattle.nv_machine.specs.Format.{formatted};
 ghost use Rattle.nv_machine.specs.Locks.{commits_at};
 ghost use Rattle.nv_machine.specs.PoolScan.{has_inode};
 ghost use Rattle.nv_machine.specs.Reads.{slot_at, written_slots};
+ghost use Rattle.nv_machine.specs.Starts.{IsStart};
 ghost use Rattle.nv_machine.specs.Step.{after};
 ghost use Rattle.nv_machine.specs.Versions.{to_publish};
-ghost use Rattle.nv_machine.specs.World.{Event, Publish, Running, actor_at, cell_at};
+ghost use Rattle.nv_machine.specs.World.{Event, Publish, Running, World, actor_at, cell_at};
 
 /// No slot that has an inode is of the last generation, and none whose number is in the pool or in a hand: the number
 /// of a slot of the last generation is withheld. So neither is any that a call has locked, from its check to its commit
 /// point, nor any that it writes.
 pub fn generations_are_left()
-    ensures inodes { (g : GeometryNumbers) (events : List Event) (ino : ℕ) → IsWithinLimits g
-        → has_inode (cell_at (after (formatted g) events).shared ino) ≡ true
-        → (cell_at (after (formatted g) events).shared ino).generation < NUMBER }
-    ensures pool { (g : GeometryNumbers) (events : List Event) (ino : ℕ) → IsWithinLimits g
-        → has (after (formatted g) events).shared.pool.numbers ino ≡ true
-        → (cell_at (after (formatted g) events).shared ino).generation < NUMBER }
-    ensures hands { (g : GeometryNumbers) (events : List Event) (actor ino : ℕ) → IsWithinLimits g
-        → (actor_at (after (formatted g) events) actor).hand.ino ≡ Some ino
-        → (cell_at (after (formatted g) events).shared ino).generation < NUMBER }
-    ensures calls { (g : GeometryNumbers) (events : List Event) (actor ino : ℕ) (r : Running)
-        → IsWithinLimits g → (actor_at (after (formatted g) events) actor).running ≡ Some r
-        → is_checked r.next ≡ true → has r.slots ino ≡ true
-        → (cell_at (after (formatted g) events).shared ino).generation < NUMBER }
-    ensures written { (g : GeometryNumbers) (events : List Event) (actor place : ℕ) (r : Running)
-        → IsWithinLimits g → (actor_at (after (formatted g) events) actor).running ≡ Some r
-        → is_checked r.next ≡ true → place < length (written_slots r)
-        → (cell_at (after (formatted g) events).shared (slot_at (written_slots r) place)).generation
+    ensures inodes { (g : GeometryNumbers) (start : World) (records : List Record)
+        (events : List Event) (ino : ℕ) → IsStart g start records
+        → has_inode (cell_at (after start events).shared ino) ≡ true
+        → (cell_at (after start events).shared ino).generation < NUMBER }
+    ensures pool { (g : GeometryNumbers) (start : World) (records : List Record)
+        (events : List Event) (ino : ℕ) → IsStart g start records
+        → has (after start events).shared.pool.numbers ino ≡ true
+        → (cell_at (after start events).shared ino).generation < NUMBER }
+    ensures hands { (g : GeometryNumbers) (start : World) (records : List Record)
+        (events : List Event) (actor ino : ℕ) → IsStart g start records
+        → (actor_at (after start events) actor).hand.ino ≡ Some ino
+        → (cell_at (after start events).shared ino).generation < NUMBER }
+    ensures calls { (g : GeometryNumbers) (start : World) (records : List Record)
+        (events : List Event) (actor ino : ℕ) (r : Running) → IsStart g start records
+        → (actor_at (after start events) actor).running ≡ Some r → is_checked r.next ≡ true
+        → has r.slots ino ≡ true → (cell_at (after start events).shared ino).generation < NUMBER }
+    ensures written { (g : GeometryNumbers) (start : World) (records : List Record)
+        (events : List Event) (actor place : ℕ) (r : Running) → IsStart g start records
+        → (actor_at (after start events) actor).running ≡ Some r → is_checked r.next ≡ true
+        → place < length (written_slots r)
+        → (cell_at (after start events).shared (slot_at (written_slots r) place)).generation
         < NUMBER }
 {}
 
@@ -42,18 +46,19 @@ pub fn generations_are_left()
 /// one more in each slot that it publishes, once: a slot that it has yet to publish has not seen it, and so has not
 /// had the last version.
 pub fn versions_are_left()
-    ensures cells { (g : GeometryNumbers) (events : List Event) (ino : ℕ) → IsWithinLimits g
-        → (cell_at (after (formatted g) events).shared ino).version
-        ≤ (after (formatted g) events).shared.book.commit }
-    ensures commits { (g : GeometryNumbers) (events : List Event) → IsWithinLimits g
-        → (after (formatted g) events).shared.book.commit ≤ NUMBER }
-    ensures unseen { (g : GeometryNumbers) (events : List Event) (actor ino : ℕ) (r : Running)
-        → IsWithinLimits g → (actor_at (after (formatted g) events) actor).running ≡ Some r
-        → commits_at r.next ≡ true → has (to_publish r.next (written_slots r)) ino ≡ true
-        → (cell_at (after (formatted g) events).shared ino).version < r.commit }
-    ensures publish { (g : GeometryNumbers) (events : List Event) (actor place : ℕ) (r : Running)
-        → IsWithinLimits g → (actor_at (after (formatted g) events) actor).running ≡ Some r
-        → r.next ≡ Publish place
-        → (cell_at (after (formatted g) events).shared (slot_at (written_slots r) place)).version
-        < NUMBER }
+    ensures cells { (g : GeometryNumbers) (start : World) (records : List Record)
+        (events : List Event) (ino : ℕ) → IsStart g start records
+        → (cell_at (after start events).shared ino).version
+        ≤ (after start events).shared.book.commit }
+    ensures commits { (g : GeometryNumbers) (start : World) (records : List Record) (events : List Event)
+        → IsStart g start records → (after start events).shared.book.commit ≤ NUMBER }
+    ensures unseen { (g : GeometryNumbers) (start : World) (records : List Record)
+        (events : List Event) (actor ino : ℕ) (r : Running) → IsStart g start records
+        → (actor_at (after start events) actor).running ≡ Some r → commits_at r.next ≡ true
+        → has (to_publish r.next (written_slots r)) ino ≡ true
+        → (cell_at (after start events).shared ino).version < r.commit }
+    ensures publish { (g : GeometryNumbers) (start : World) (records : List Record)
+        (events : List Event) (actor place : ℕ) (r : Running) → IsStart g start records
+        → (actor_at (after start events) actor).running ≡ Some r → r.next ≡ Publish place
+        → (cell_at (after start events).shared (slot_at (written_slots r) place)).version < NUMBER }
 {}

@@ -6,9 +6,9 @@ ghost use Rattle.std.specs.Prelude.{◌≡◌, ◌≢◌, ◌+◌, ◌<◌, ◌�
 ghost use Rattle.std.specs.Option.{option_map};
 ghost use Rattle.nv_alloc.specs.Block.{number_of};
 ghost use Rattle.nv_alloc.specs.Numbers.{IsRising};
-ghost use Rattle.nv_base.specs.Limits.{IsWithinLimits};
 ghost use Rattle.nv_base.specs.declared.fault.Fault.TheVariants.{ActorBusy, ActorIdle, NoActor};
 ghost use Rattle.nv_base.specs.declared.geometry.GeometryNumbers.{GeometryNumbers};
+ghost use Rattle.nv_book.specs.declared.record.Record.{Record};
 ghost use Rattle.nv_calls.specs.declared.call.Call.{Call};
 ghost use Rattle.nv_machine.specs.Bound.{AreNoStarts, bound_at, most_steps_of, moves};
 ghost use Rattle.nv_cell.specs.Cell.{log_of};
@@ -18,7 +18,7 @@ ghost use Rattle.nv_entry.specs.declared.held.Pair.{Pair};
 ghost use Rattle.nv_machine.specs.Causes.{RefusesFor};
 ghost use Rattle.nv_machine.specs.Exact.{HasFirst, Leaves, TakesData, TakesLogPages};
 ghost use Rattle.nv_machine.specs.Format.{formatted};
-ghost use Rattle.nv_machine.specs.Frame.{IsOneStep, IsStart, lent};
+ghost use Rattle.nv_machine.specs.Frame.{IsOneStep, IsCallStart, lent};
 ghost use Rattle.nv_machine.specs.Kinds.{asked_list};
 ghost use Rattle.nv_machine.specs.Locks.{AreLocks, HasLent, WaitsFor};
 ghost use Rattle.nv_machine.specs.Held.{block_in_use, free_by_logs, is_in_use, retention_at};
@@ -27,6 +27,7 @@ ghost use Rattle.nv_machine.specs.Numbers.{IdleHaveNothing, IsEachOnce, all_bloc
 ghost use Rattle.nv_machine.specs.Order.{IsInOrder};
 ghost use Rattle.nv_machine.specs.PoolScan.{pool_from_scratch};
 ghost use Rattle.nv_machine.specs.Reads.{pages_needed, slot_at, written_slots};
+ghost use Rattle.nv_machine.specs.Starts.{IsStart};
 ghost use Rattle.nv_machine.specs.Step.{after, kind_turn, stays, step, turn};
 ghost use Rattle.nv_machine.specs.Pages.{AreOnPages, HasLogPages, TakesPages};
 ghost use Rattle.nv_machine.specs.Memory.{IsOther, denied_turn, grows};
@@ -41,7 +42,7 @@ pub fn one_step()
         → (actor_at w actor).running ≡ Some r
         → IsOneStep w actor granted r (step w (Go actor granted)) }
     ensures starts { (w : World) (actor : ℕ) (c : Call)
-        → IsStart w actor c (step w (Start actor c)) }
+        → IsCallStart w actor c (step w (Start actor c)) }
     ensures nobody { (w : World) (actor : ℕ) (c : Call) (granted : Bool) → length w.actors ≤ actor
         → (step w (Start actor c) ≡ stays (Refused NoActor) w)
         × (step w (Go actor granted) ≡ stays (Refused NoActor) w) }
@@ -95,11 +96,12 @@ pub fn refused_memory_makes_one_turn()
         → RefusesFor IsOther (Unit {0}) (turn block actor true s h r) }
 {}
 
-/// From a new world on, whatever events come, each actor holds exactly the locks that its call has taken and not
+/// From any start on, whatever events come, each actor holds exactly the locks that its call has taken and not
 /// yet given up, and one without a call holds none. So a cell that a step is lent is locked by its actor, and
 /// in a commit the commit lock is the actor's.
 pub fn who_holds_what()
-    ensures new { (g : GeometryNumbers) → IsWithinLimits g → AreLocks (formatted g) }
+    ensures start { (g : GeometryNumbers) (start : World) (records : List Record)
+        → IsStart g start records → AreLocks start }
     ensures stays { (events : List Event) (w : World) → AreLocks w → AreLocks (after w events) }
     ensures lent { (w : World) (actor : ℕ) (r : Running) → AreLocks w
         → (actor_at w actor).running ≡ Some r → HasLent w.shared actor r }
@@ -128,35 +130,37 @@ pub fn calls_end()
         → moves actor w events + bound_at (after w events) actor ≤ bound_at w actor }
 {}
 
-/// Along every log ids rise and epochs never fall, from a new world on, whatever events come: no commit but the
+/// Along every log ids rise and epochs never fall, from any start on, whatever events come: no commit but the
 /// one that has entered last is under way, and it has the book's number and epoch.
 pub fn ids_rise()
     ensures new { (g : GeometryNumbers) → IsInOrder (formatted g) }
+    ensures start { (g : GeometryNumbers) (start : World) (records : List Record)
+        → IsStart g start records → IsInOrder start }
     ensures stays { (events : List Event) (w : World) → AreLocks w → IsInOrder w
         → IsInOrder (after w events) }
 {}
 
-/// From a new world on, whatever events come, each block number stands exactly once among the free lists, the
+/// From any start on, whatever events come, each block number stands exactly once among the free lists, the
 /// cells (pages of chains and blocks of parts) and the hands of actors, and no other number stands there.
 pub fn blocks_stand_once()
-    ensures { (g : GeometryNumbers) (events : List Event) → IsWithinLimits g
-        → IsEachOnce g.blocks (all_blocks (after (formatted g) events)) }
+    ensures { (g : GeometryNumbers) (start : World) (records : List Record) (events : List Event)
+        → IsStart g start records → IsEachOnce g.blocks (all_blocks (after start events)) }
 {}
 
 /// Each CPU's free list has its blocks in rising order, all of them at home there and of one size, so that the
 /// first is the lowest.
 pub fn lists_are_sorted()
-    ensures { (g : GeometryNumbers) (events : List Event) → IsWithinLimits g
-        → AreLists g (after (formatted g) events).shared }
+    ensures { (g : GeometryNumbers) (start : World) (records : List Record) (events : List Event)
+        → IsStart g start records → AreLists g (after start events).shared }
 {}
 
 /// Each CPU's free list is what one scan leaves: the numbers of its home range that no page of a chain, no part
 /// and no hand has.
 pub fn lists_are_from_scratch()
-    ensures { (g : GeometryNumbers) (events : List Event) (cpu : ℕ) → IsWithinLimits g
-        → cpu < g.cpus
-        → free_of (list_at (after (formatted g) events).shared cpu)
-        ≡ free_from_scratch g (after (formatted g) events) cpu }
+    ensures { (g : GeometryNumbers) (start : World) (records : List Record) (events : List Event)
+        (cpu : ℕ) → IsStart g start records → cpu < g.cpus
+        → free_of (list_at (after start events).shared cpu)
+        ≡ free_from_scratch g (after start events) cpu }
 {}
 
 /// Each free list is what the logs leave: the numbers of the CPU's home range that no page of a chain has, no page of a
@@ -165,64 +169,67 @@ pub fn lists_are_from_scratch()
 /// and not yet retired by the call in whose hand they stand. So is each part of the entries that a commit has appended
 /// and not yet published. A cell has the block of each page in use, of the number that its entry says, and no other.
 pub fn lists_are_told_by_logs()
-    ensures lists { (g : GeometryNumbers) (events : List Event) (cpu : ℕ)
-        → IsWithinLimits g → cpu < g.cpus
-        → free_of (list_at (after (formatted g) events).shared cpu)
-        ≡ free_by_logs g (after (formatted g) events) cpu }
-    ensures blocks { (g : GeometryNumbers) (events : List Event) (ino n : ℕ) → IsWithinLimits g
+    ensures lists { (g : GeometryNumbers) (start : World) (records : List Record)
+        (events : List Event) (cpu : ℕ) → IsStart g start records → cpu < g.cpus
+        → free_of (list_at (after start events).shared cpu)
+        ≡ free_by_logs g (after start events) cpu }
+    ensures blocks { (g : GeometryNumbers) (start : World) (records : List Record)
+        (events : List Event) (ino n : ℕ) → IsStart g start records
         → option_map number_of
-        (slice_index_or (cell_at (after (formatted g) events).shared ino).blocks n None)
-        ≡ block_in_use (retention_at (after (formatted g) events) ino)
-        (cell_at (after (formatted g) events).shared ino) n }
-    ensures pairs { (g : GeometryNumbers) (events : List Event) (ino n : ℕ) (pair : Pair)
-        → IsWithinLimits g
-        → slice_get (pairs (cell_at (after (formatted g) events).shared ino).block
-        (log_of (cell_at (after (formatted g) events).shared ino))) n ≡ Some pair
-        → is_in_use (retention_at (after (formatted g) events) ino)
-        (cell_at (after (formatted g) events).shared ino) n
-        ≡ keeps (retention_at (after (formatted g) events) ino) pair }
+        (slice_index_or (cell_at (after start events).shared ino).blocks n None) ≡ block_in_use
+        (retention_at (after start events) ino) (cell_at (after start events).shared ino) n }
+    ensures pairs { (g : GeometryNumbers) (start : World) (records : List Record)
+        (events : List Event) (ino n : ℕ) (pair : Pair) → IsStart g start records
+        → slice_get (pairs (cell_at (after start events).shared ino).block
+        (log_of (cell_at (after start events).shared ino))) n ≡ Some pair
+        → is_in_use (retention_at (after start events) ino)
+        (cell_at (after start events).shared ino) n
+        ≡ keeps (retention_at (after start events) ino) pair }
 {}
 
 /// The pool of inode numbers is what one scan leaves, in rising order: the numbers whose slots have no entry in
 /// their logs and are not of the last generation, and that no hand has.
 pub fn pool_is_from_scratch()
-    ensures { (g : GeometryNumbers) (events : List Event) → IsWithinLimits g
-        → (after (formatted g) events).shared.pool.numbers
-        ≡ pool_from_scratch g (after (formatted g) events) }
+    ensures { (g : GeometryNumbers) (start : World) (records : List Record) (events : List Event)
+        → IsStart g start records
+        → (after start events).shared.pool.numbers ≡ pool_from_scratch g (after start events) }
 {}
 
 /// No two hands have one inode number; with [`pool_is_from_scratch`], none that a hand has is in the pool.
 pub fn hands_have_own_numbers()
-    ensures { (g : GeometryNumbers) (events : List Event) (actor other ino : ℕ) → IsWithinLimits g
-        → (actor_at (after (formatted g) events) actor).hand.ino ≡ Some ino
-        → (actor_at (after (formatted g) events) other).hand.ino ≡ Some ino → actor ≡ other }
+    ensures { (g : GeometryNumbers) (start : World) (records : List Record) (events : List Event)
+        (actor other ino : ℕ) → IsStart g start records
+        → (actor_at (after start events) actor).hand.ino ≡ Some ino
+        → (actor_at (after start events) other).hand.ino ≡ Some ino → actor ≡ other }
 {}
 
 /// An actor without a call has an empty hand and no lock, also where its last call was refused: with
 /// [`blocks_stand_once`], the blocks that it took and did not place are in the free lists again.
 pub fn idle_hands_are_empty()
-    ensures { (g : GeometryNumbers) (events : List Event) → IsWithinLimits g
-        → IdleHaveNothing (after (formatted g) events) }
+    ensures { (g : GeometryNumbers) (start : World) (records : List Record) (events : List Event)
+        → IsStart g start records → IdleHaveNothing (after start events) }
 {}
 
 /// A block that a cell has for a part is that of a page of the log, and of the number that the page's entry says.
 /// So no two pages of any logs that still have their blocks stand in one block.
 pub fn blocks_are_told()
-    ensures { (g : GeometryNumbers) (events : List Event) (ino : ℕ) → IsWithinLimits g
-        → ArePagesTold g.block (cell_at (after (formatted g) events).shared ino) }
+    ensures { (g : GeometryNumbers) (start : World) (records : List Record) (events : List Event)
+        (ino : ℕ) → IsStart g start records
+        → ArePagesTold g.block (cell_at (after start events).shared ino) }
 {}
 
 /// Each entry of a log stands on a page of its chain, and no page has more entries than the geometry says, or none. So
 /// that this stays, a hand has exactly the log pages that its call's plan needs, from the last taking on: with those
 /// that a taking still wants at first, then those of the entries that are yet to be appended, and none once all are.
 pub fn logs_have_their_pages()
-    ensures pages { (g : GeometryNumbers) (events : List Event) (ino : ℕ) → IsWithinLimits g
-        → ino < length (after (formatted g) events).shared.cells
-        → AreOnPages g.page (cell_at (after (formatted g) events).shared ino).chain }
-    ensures hands { (g : GeometryNumbers) (events : List Event) (actor : ℕ) (r : Running)
-        → IsWithinLimits g → (actor_at (after (formatted g) events) actor).running ≡ Some r
-        → HasLogPages r.next g.block (after (formatted g) events).shared
-        (actor_at (after (formatted g) events) actor).hand r }
+    ensures pages { (g : GeometryNumbers) (start : World) (records : List Record)
+        (events : List Event) (ino : ℕ) → IsStart g start records
+        → ino < length (after start events).shared.cells
+        → AreOnPages g.page (cell_at (after start events).shared ino).chain }
+    ensures hands { (g : GeometryNumbers) (start : World) (records : List Record)
+        (events : List Event) (actor : ℕ) (r : Running) → IsStart g start records
+        → (actor_at (after start events) actor).running ≡ Some r → HasLogPages r.next g.block
+        (after start events).shared (actor_at (after start events) actor).hand r }
 {}
 
 /// Log pages are given out by rising inode: an append puts the first of the hand's pages, as many as its inode needs,

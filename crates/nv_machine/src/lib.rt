@@ -9,4 +9,5 @@ pub mod laws;
 pub mod plain_laws;
 pub mod serial_laws;
 pub mod snapshot_laws;
+pub mod start_laws;
 pub mod tree_laws;

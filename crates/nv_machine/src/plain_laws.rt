@@ -9,6 +9,7 @@ ghost use Rattle.nv_base.specs.declared.fault.Fault.TheVariants.{CommitLimit};
 ghost use Rattle.nv_base.specs.declared.geometry.GeometryNumbers.{GeometryNumbers};
 ghost use Rattle.nv_base.specs.declared.limits.TheConstants.{NUMBER};
 ghost use Rattle.nv_base.specs.declared.numbers.Handle.{Handle};
+ghost use Rattle.nv_book.specs.declared.record.Record.{Record};
 ghost use Rattle.nv_calls.specs.AllCalls.{answer, effect, looked, refusal};
 ghost use Rattle.nv_calls.specs.Refusals.{passes};
 ghost use Rattle.nv_calls.specs.Plain.{PlainNode, node_in, nodes_after};
@@ -42,17 +43,19 @@ ghost use Rattle.nv_machine.specs.Refusing.{GoesOn, LeavesBooks};
 ghost use Rattle.nv_machine.specs.Rounds.{HasRounds, failed_checks};
 ghost use Rattle.nv_machine.specs.Sequence.{Visits, beginning, nothing_looked};
 ghost use Rattle.nv_machine.specs.Settled.{settled, settled_nodes, tree_of};
+ghost use Rattle.nv_machine.specs.Starts.{IsStart};
 ghost use Rattle.nv_machine.specs.Step.{after, handle_at, is_numbered, kind_turn, stays, step, turn};
 ghost use Rattle.nv_machine.specs.Takings.{IsShortInAll, asks_list, no_taking, taking_after, taking_of};
 ghost use Rattle.nv_machine.specs.World.{Answers, Check, Done, Ending, Enter, Event, Go, HandState, Number, Overtaken, Refused, Running, Shared, Start, Started, Unlock, Visit, World, actor_at, owner_at};
 
 /// Only commit points change nodes. Each settled log has the blocks of its pages, but of those that a later
-/// entry covers, and a journal is open only within a commit of several inodes, from a new world on and whatever
+/// entry covers, and a journal is open only within a commit of several inodes, from any start on and whatever
 /// events come, where no block has the number of another and a call begins with an empty hand. So every event
 /// but a commit point leaves every settled node as it is: a refused call has changed none, and of several
 /// inodes that are published one after another none is seen before the close.
 pub fn only_commits_change_nodes()
-    ensures new { (g : GeometryNumbers) → IsWithinLimits g → IsKept (formatted g) }
+    ensures start { (g : GeometryNumbers) (start : World) (records : List Record)
+        → IsStart g start records → IsKept start }
     ensures stays { (events : List Event) (w : World) → AreLocks w → IsInOrder w → IsKept w
         → ((before : List Event) → AreBlocksApart (after w before)) → IsKept (after w events) }
     ensures nodes { (w : World) (e : Event) → AreLocks w → IsInOrder w → IsKept w
@@ -88,11 +91,13 @@ pub fn what_commits_is_answered()
 {}
 
 /// A commit point settles the entries of all inodes that its call writes, at one stroke, and no other entry.
-/// From a new world on and whatever events come, the log of a slot that nobody holds is settled as a whole,
+/// From any start on and whatever events come, the log of a slot that nobody holds is settled as a whole,
 /// and past the settled logs of the slots that a call holds stand the entries that its commit has appended.
 /// At the commit point each settled log becomes what it was, followed by the commit's entries for its slot.
 pub fn a_commit_settles_its_entries()
     ensures new { (g : GeometryNumbers) → AreGrown (formatted g) }
+    ensures start { (g : GeometryNumbers) (start : World) (records : List Record)
+        → IsStart g start records → AreGrown start }
     ensures stays { (events : List Event) (w : World) → AreLocks w → IsInOrder w → IsKept w
         → AreGrown w → ((before : List Event) → AreBlocksApart (after w before))
         → AreGrown (after w events) }
@@ -121,11 +126,12 @@ pub fn a_commit_point_has_its_effect()
         → IsSound bytes w.numbers.block (settled (step w (Go actor granted)).world.shared ino) }
 {}
 
-/// Settled logs are sound in a new world, and stay sound at every event but a commit point, and at each commit
+/// Settled logs are sound in any start, and stay sound at every event but a commit point, and at each commit
 /// point where the plan of its call fits the effect that the call has then: each log's pages store the bytes
 /// of its node.
 pub fn settled_logs_stay_sound()
-    ensures new { (g : GeometryNumbers) → IsWithinLimits g → AreSound (formatted g).shared }
+    ensures start { (g : GeometryNumbers) (start : World) (records : List Record)
+        → IsStart g start records → AreSound start.shared }
     ensures stays { (w : World) (e : Event) → AreLocks w → IsInOrder w → IsKept w
         → AreBlocksApart w → keeps_nodes (deed_of w e) ≡ true
         → AreSound w.shared → AreSound (step w e).world.shared }
@@ -136,54 +142,57 @@ pub fn settled_logs_stay_sound()
         → AreSound (step w (Go actor granted)).world.shared }
 {}
 
-/// What the laws of nodes and commits ask of a world holds of every world that events lead to from a new one. So
+/// What the laws of nodes and commits ask of a world holds of every world that events lead to from a start. So
 /// of those each event but a commit point leaves every settled node as it is, with no premise.
-pub fn new_worlds_lead_where_laws_hold()
-    ensures reached { (g : GeometryNumbers) (events : List Event) → IsWithinLimits g
-        → IsReached (after (formatted g) events) }
+pub fn starts_lead_where_laws_hold()
+    ensures reached { (g : GeometryNumbers) (start : World) (records : List Record) (events : List Event)
+        → IsStart g start records → IsReached (after start events) }
     ensures nodes { (w : World) (e : Event) → IsReached w → keeps_nodes (deed_of w e) ≡ true
         → (handle : Handle)
         → settled_nodes (step w e).world.shared handle ≡ settled_nodes w.shared handle }
 {}
 
-/// At each commit point, whatever events come from a new world on, the plain world does not refuse the call, the plan
+/// At each commit point, whatever events come from any start on, the plain world does not refuse the call, the plan
 /// that stands fits the effect that its call has on the nodes of now, and so the commit point has that effect.
 /// `bytes_in` gives the bytes of all blocks of all cells.
 pub fn plans_fit_at_commit_points()
-    ensures fits { (g : GeometryNumbers) (events : List Event) (actor : ℕ) (granted : Bool)
-        (r : Running) → IsWithinLimits g → actor < length (after (formatted g) events).actors
-        → (actor_at (after (formatted g) events) actor).running ≡ Some r
-        → deed_of (after (formatted g) events) (Go actor granted) ≡ Commits
-        → HasPlanNow (bytes_in (after (formatted g) events).shared)
-        (after (formatted g) events).numbers.block (after (formatted g) events).shared r }
-    ensures passes { (g : GeometryNumbers) (events : List Event) (actor : ℕ) (granted : Bool)
-        (r : Running) → IsWithinLimits g → actor < length (after (formatted g) events).actors
-        → (actor_at (after (formatted g) events) actor).running ≡ Some r
-        → deed_of (after (formatted g) events) (Go actor granted) ≡ Commits
-        → refusal (after (formatted g) events).numbers.block
-        (node_in (settled_nodes (after (formatted g) events).shared)) r.call ≡ passes }
-    ensures nodes { (g : GeometryNumbers) (events : List Event) (actor : ℕ) (granted : Bool)
-        (r : Running) → IsWithinLimits g → actor < length (after (formatted g) events).actors
-        → (actor_at (after (formatted g) events) actor).running ≡ Some r
-        → deed_of (after (formatted g) events) (Go actor granted) ≡ Commits → (handle : Handle)
-        → settled_nodes (step (after (formatted g) events) (Go actor granted)).world.shared handle
+    ensures fits { (g : GeometryNumbers) (start : World) (records : List Record)
+        (events : List Event) (actor : ℕ) (granted : Bool) (r : Running) → IsStart g start records
+        → actor < length (after start events).actors
+        → (actor_at (after start events) actor).running ≡ Some r
+        → deed_of (after start events) (Go actor granted) ≡ Commits → HasPlanNow
+        (bytes_in (after start events).shared) (after start events).numbers.block
+        (after start events).shared r }
+    ensures passes { (g : GeometryNumbers) (start : World) (records : List Record)
+        (events : List Event) (actor : ℕ) (granted : Bool) (r : Running) → IsStart g start records
+        → actor < length (after start events).actors
+        → (actor_at (after start events) actor).running ≡ Some r
+        → deed_of (after start events) (Go actor granted) ≡ Commits
+        → refusal (after start events).numbers.block
+        (node_in (settled_nodes (after start events).shared)) r.call ≡ passes }
+    ensures nodes { (g : GeometryNumbers) (start : World) (records : List Record)
+        (events : List Event) (actor : ℕ) (granted : Bool) (r : Running) → IsStart g start records
+        → actor < length (after start events).actors
+        → (actor_at (after start events) actor).running ≡ Some r
+        → deed_of (after start events) (Go actor granted) ≡ Commits → (handle : Handle)
+        → settled_nodes (step (after start events) (Go actor granted)).world.shared handle
         ≡ nodes_after r.commit
-        (effect (node_in (settled_nodes (after (formatted g) events).shared)) r.made r.call)
-        (settled_nodes (after (formatted g) events).shared) handle }
+        (effect (node_in (settled_nodes (after start events).shared)) r.made r.call)
+        (settled_nodes (after start events).shared) handle }
 {}
 
-/// From its check to its commit point a call passes: whatever events come from a new world on, the plain world does
+/// From its check to its commit point a call passes: whatever events come from any start on, the plain world does
 /// not refuse it on the nodes of now, and its names are bound as its looks found them.
 pub fn checked_calls_still_pass()
-    ensures passes { (g : GeometryNumbers) (events : List Event) (actor : ℕ) (r : Running)
-        → IsWithinLimits g → (actor_at (after (formatted g) events) actor).running ≡ Some r
-        → is_checked r.next ≡ true
-        → refusal (after (formatted g) events).numbers.block
-        (node_in (settled_nodes (after (formatted g) events).shared)) r.call ≡ passes }
-    ensures found { (g : GeometryNumbers) (events : List Event) (actor : ℕ) (r : Running)
-        → IsWithinLimits g → (actor_at (after (formatted g) events) actor).running ≡ Some r
-        → is_checked r.next ≡ true
-        → looked (node_in (settled_nodes (after (formatted g) events).shared)) r.call ≡ r.looked }
+    ensures passes { (g : GeometryNumbers) (start : World) (records : List Record)
+        (events : List Event) (actor : ℕ) (r : Running) → IsStart g start records
+        → (actor_at (after start events) actor).running ≡ Some r → is_checked r.next ≡ true
+        → refusal (after start events).numbers.block
+        (node_in (settled_nodes (after start events).shared)) r.call ≡ passes }
+    ensures found { (g : GeometryNumbers) (start : World) (records : List Record)
+        (events : List Event) (actor : ℕ) (r : Running) → IsStart g start records
+        → (actor_at (after start events) actor).running ≡ Some r → is_checked r.next ≡ true
+        → looked (node_in (settled_nodes (after start events).shared)) r.call ≡ r.looked }
 {}
 
 /// The plain world of a new world has the root, an empty directory of mode 493 that no commit has changed, and nothing
@@ -199,15 +208,15 @@ pub fn the_plain_world_begins_with_the_root()
 /// The plain world's nodes are those of the settled logs after every list of events, so its tree is theirs, and
 /// these logs are sound.
 pub fn the_plain_world_is_that_of_settled_logs()
-    ensures nodes { (g : GeometryNumbers) (events : List Event) → IsWithinLimits g
-        → (handle : Handle) → settled_nodes (after (formatted g) events).shared handle
-        ≡ (plain_after (formatted g) events (plain_of (formatted g))).nodes handle }
-    ensures tree { (g : GeometryNumbers) (events : List Event) → IsWithinLimits g
-        → tree_of (after (formatted g) events)
-        ≡ plain_tree (length (after (formatted g) events).shared.cells)
-        (plain_after (formatted g) events (plain_of (formatted g))) }
-    ensures sound { (g : GeometryNumbers) (events : List Event) → IsWithinLimits g
-        → AreSound (after (formatted g) events).shared }
+    ensures nodes { (g : GeometryNumbers) (start : World) (records : List Record) (events : List Event)
+        → IsStart g start records → (handle : Handle)
+        → settled_nodes (after start events).shared handle
+        ≡ (plain_after start events (plain_of start)).nodes handle }
+    ensures tree { (g : GeometryNumbers) (start : World) (records : List Record) (events : List Event)
+        → IsStart g start records → tree_of (after start events) ≡ plain_tree
+        (length (after start events).shared.cells) (plain_after start events (plain_of start)) }
+    ensures sound { (g : GeometryNumbers) (start : World) (records : List Record) (events : List Event)
+        → IsStart g start records → AreSound (after start events).shared }
 {}
 
 /// A step that refuses a call does so for a fault whose cause is there at that step: the plain world refuses the call
@@ -215,7 +224,7 @@ pub fn the_plain_world_is_that_of_settled_logs()
 /// further commit number is there, and then it always refuses; no round of looks is left; or memory that the step asks
 /// for was not granted. A call is overtaken at its check alone, where a name is bound anew. A refused call has only its
 /// last steps left, which lead to that refusal ([`what_commits_is_answered`]). The tests are those over the nodes of
-/// the cells, whatever the state; from a new world on and whatever events come, they are those over the settled nodes,
+/// the cells, whatever the state; from any start on and whatever events come, they are those over the settled nodes,
 /// which the plain world has.
 pub fn refusals_have_causes()
     ensures causes { (block actor : ℕ) (granted : Bool) (s : Shared) (h : HandState) (r : Running)
@@ -223,16 +232,15 @@ pub fn refusals_have_causes()
         → RefusesFor (IsCause r.next block actor granted (copies s) s h r)
         (MayBeOvertaken r.next (copies s) r)
         (turn block actor granted s h r) }
-    ensures settled { (g : GeometryNumbers) (events : List Event) (actor : ℕ) (granted : Bool)
-        (r : Running) → IsWithinLimits g
-        → (actor_at (after (formatted g) events) actor).running ≡ Some r → r.ending ≡ Answers
-        → RefusesFor
-        (IsCause r.next (after (formatted g) events).numbers.block actor granted
-        (node_in (settled_nodes (after (formatted g) events).shared))
-        (after (formatted g) events).shared (actor_at (after (formatted g) events) actor).hand r)
-        (MayBeOvertaken r.next (node_in (settled_nodes (after (formatted g) events).shared)) r)
-        (turn (after (formatted g) events).numbers.block actor granted
-        (after (formatted g) events).shared (actor_at (after (formatted g) events) actor).hand r) }
+    ensures settled { (g : GeometryNumbers) (start : World) (records : List Record)
+        (events : List Event) (actor : ℕ) (granted : Bool) (r : Running) → IsStart g start records
+        → (actor_at (after start events) actor).running ≡ Some r → r.ending ≡ Answers → RefusesFor
+        (IsCause r.next (after start events).numbers.block actor granted
+        (node_in (settled_nodes (after start events).shared)) (after start events).shared
+        (actor_at (after start events) actor).hand r)
+        (MayBeOvertaken r.next (node_in (settled_nodes (after start events).shared)) r)
+        (turn (after start events).numbers.block actor granted (after start events).shared
+        (actor_at (after start events) actor).hand r) }
     ensures number { (block actor : ℕ) (granted : Bool) (s : Shared) (h : HandState) (r : Running)
         → FindsNone s (kind_turn Number block actor granted s h r) }
     ensures contended { (place block actor : ℕ) (granted : Bool) (s : Shared) (h : HandState)
@@ -245,17 +253,16 @@ pub fn refusals_have_causes()
 {}
 
 /// A taking that falls short has asked every list: where a step that asks a list refuses its call, whatever events came
-/// from a new world on, its taking has asked each CPU's free list once, from the actor's own on; each gave all that it
+/// from any start on, its taking has asked each CPU's free list once, from the actor's own on; each gave all that it
 /// had to the hand, and the sum is short of what the taking wants.
 pub fn short_takings_have_asked_every_list()
-    ensures { (g : GeometryNumbers) (events : List Event) (actor : ℕ) (granted : Bool) (r : Running)
-        → IsWithinLimits g → (actor_at (after (formatted g) events) actor).running ≡ Some r
-        → asks_list r.next ≡ true
+    ensures { (g : GeometryNumbers) (start : World) (records : List Record) (events : List Event)
+        (actor : ℕ) (granted : Bool) (r : Running) → IsStart g start records
+        → (actor_at (after start events) actor).running ≡ Some r → asks_list r.next ≡ true
         → RefusesFor (IsShortInAll g.cpus actor
-        (taking_of (Some r) (after (formatted g) events) actor granted
-        (taking_after actor (formatted g) events no_taking))) ⊥
-        (turn (after (formatted g) events).numbers.block actor granted
-        (after (formatted g) events).shared (actor_at (after (formatted g) events) actor).hand r) }
+        (taking_of (Some r) (after start events) actor granted
+        (taking_after actor start events no_taking))) ⊥ (turn (after start events).numbers.block
+        actor granted (after start events).shared (actor_at (after start events) actor).hand r) }
 {}
 
 /// A step that refuses its call leaves the book (the number of the last commit, the epoch, journals, snapshots and
@@ -267,12 +274,11 @@ pub fn refused_calls_leave_books_and_cells()
         → (actor_at w actor).running ≡ Some r → GoesOn r.next r.ending
         → LeavesBooks r.next w.shared
         (turn w.numbers.block actor granted w.shared (actor_at w actor).hand r) }
-    ensures reached { (g : GeometryNumbers) (events : List Event) (actor : ℕ) (granted : Bool)
-        (r : Running) → IsWithinLimits g
-        → (actor_at (after (formatted g) events) actor).running ≡ Some r
-        → LeavesBooks r.next (after (formatted g) events).shared
-        (turn (after (formatted g) events).numbers.block actor granted
-        (after (formatted g) events).shared (actor_at (after (formatted g) events) actor).hand r) }
+    ensures reached { (g : GeometryNumbers) (start : World) (records : List Record)
+        (events : List Event) (actor : ℕ) (granted : Bool) (r : Running) → IsStart g start records
+        → (actor_at (after start events) actor).running ≡ Some r → LeavesBooks r.next
+        (after start events).shared (turn (after start events).numbers.block actor granted
+        (after start events).shared (actor_at (after start events) actor).hand r) }
 {}
 
 /// A call is contended only after eight checks that each found a name bound anew: a started call has eight such checks
@@ -295,32 +301,40 @@ pub fn contended_calls_have_failed_eight_checks()
 /// A call is refused for want of a number only after its number step found none free: one that has none at its check
 /// has met such a step since it was started.
 pub fn calls_without_a_number_found_none()
-    ensures { (g : GeometryNumbers) (before events : List Event) (actor : ℕ) (c : Call)
-        (r : Running) → IsWithinLimits g
-        → (step (after (formatted g) before) (Start actor c)).reply ≡ Started
+    ensures { (g : GeometryNumbers) (start : World) (records : List Record)
+        (before events : List Event) (actor : ℕ) (c : Call) (r : Running)
+        → IsStart g start records → (step (after start before) (Start actor c)).reply ≡ Started
         → AreNoStarts actor events
-        → let w = after (formatted g) (before ++ Start actor c ∷ events) in
-        (actor_at w actor).running ≡ Some r → r.next ≡ Check
+        → let w = after start (before ++ Start actor c ∷ events) in (actor_at w actor).running
+        ≡ Some r → r.next ≡ Check
         → is_numbered (beginning r.call) (actor_at w actor).hand.ino ≡ false
-        → met_none actor (step (after (formatted g) before) (Start actor c)).world events ≡ true }
+        → met_none actor (step (after start before) (Start actor c)).world events ≡ true }
 {}
 
-/// A new inode's handle is new, whatever events came from a new world on: at the commit point of a call that makes an
-/// inode no node is under its handle, which is not the root's, nor that of a commit point before. Generations rise
-/// whenever a number comes back.
+/// A new inode's handle is new, whatever events came from any start on: at the commit point of a call that makes an
+/// inode no node is under its handle, which is not the root's, nor one that led to a node at the start, nor that of a
+/// commit point since. Generations rise whenever a number comes back.
 pub fn made_handles_are_new()
-    ensures no_node { (g : GeometryNumbers) (events : List Event) (actor : ℕ) (granted : Bool)
-        (r : Running) → IsWithinLimits g → actor < length (after (formatted g) events).actors
-        → (actor_at (after (formatted g) events) actor).running ≡ Some r
-        → deed_of (after (formatted g) events) (Go actor granted) ≡ Commits
+    ensures no_node { (g : GeometryNumbers) (start : World) (records : List Record)
+        (events : List Event) (actor : ℕ) (granted : Bool) (r : Running) → IsStart g start records
+        → actor < length (after start events).actors
+        → (actor_at (after start events) actor).running ≡ Some r
+        → deed_of (after start events) (Go actor granted) ≡ Commits
         → makes_inode (beginning r.call) ≡ true
-        → settled_nodes (after (formatted g) events).shared r.made ≡ None }
-    ensures never { (g : GeometryNumbers) (events : List Event) (actor : ℕ) (granted : Bool)
-        (r : Running) → IsWithinLimits g → actor < length (after (formatted g) events).actors
-        → (actor_at (after (formatted g) events) actor).running ≡ Some r
-        → deed_of (after (formatted g) events) (Go actor granted) ≡ Commits
+        → settled_nodes (after start events).shared r.made ≡ None }
+    ensures start { (g : GeometryNumbers) (start : World) (records : List Record)
+        (events : List Event) (actor : ℕ) (granted : Bool) (r : Running) → IsStart g start records
+        → actor < length (after start events).actors
+        → (actor_at (after start events) actor).running ≡ Some r
+        → deed_of (after start events) (Go actor granted) ≡ Commits
+        → makes_inode (beginning r.call) ≡ true → settled_nodes start.shared r.made ≡ None }
+    ensures never { (g : GeometryNumbers) (start : World) (records : List Record)
+        (events : List Event) (actor : ℕ) (granted : Bool) (r : Running) → IsStart g start records
+        → actor < length (after start events).actors
+        → (actor_at (after start events) actor).running ≡ Some r
+        → deed_of (after start events) (Go actor granted) ≡ Commits
         → makes_inode (beginning r.call) ≡ true
-        → has_handle (root ∷ handles_made (formatted g) events) r.made ≡ false }
+        → has_handle (root ∷ handles_made start events) r.made ≡ false }
 {}
 
 /// A visit reads settled nodes, since it waits while its slot is held: what it tests and answers is the same there, so
@@ -341,21 +355,21 @@ pub fn visits_read_settled_nodes()
 /// [`plans_fit_at_commit_points`]); it is told what the plain world answers there, on the settled nodes. Of a call that
 /// is refused nothing was decided. And what commits has something to change.
 pub fn calls_are_decided_once()
-    ensures done { (g : GeometryNumbers) (events : List Event) (actor : ℕ) (granted : Bool)
-        (r : Running) (told : Answer) → IsWithinLimits g
-        → (actor_at (after (formatted g) events) actor).running ≡ Some r
+    ensures done { (g : GeometryNumbers) (start : World) (records : List Record)
+        (events : List Event) (actor : ℕ) (granted : Bool) (r : Running) (told : Answer)
+        → IsStart g start records → (actor_at (after start events) actor).running ≡ Some r
         → is_on_snapshots r.call ≡ false
-        → (step (after (formatted g) events) (Go actor granted)).reply ≡ Done told
-        → decided actor (formatted g) (events ++ Go actor granted ∷ []) [] ≡ told ∷ [] }
-    ensures refused { (g : GeometryNumbers) (events : List Event) (actor : ℕ) (granted : Bool)
-        (r : Running) (fault : Fault) → IsWithinLimits g
-        → (actor_at (after (formatted g) events) actor).running ≡ Some r
-        → (step (after (formatted g) events) (Go actor granted)).reply ≡ Refused fault
-        → decided actor (formatted g) (events ++ Go actor granted ∷ []) [] ≡ [] }
-    ensures something { (g : GeometryNumbers) (events : List Event) (actor : ℕ) (granted : Bool)
-        (r : Running) → IsWithinLimits g → actor < length (after (formatted g) events).actors
-        → (actor_at (after (formatted g) events) actor).running ≡ Some r
-        → deed_of (after (formatted g) events) (Go actor granted) ≡ Commits
-        → 0 < length
-        (effect (node_in (settled_nodes (after (formatted g) events).shared)) r.made r.call) }
+        → (step (after start events) (Go actor granted)).reply ≡ Done told
+        → decided actor start (events ++ Go actor granted ∷ []) [] ≡ told ∷ [] }
+    ensures refused { (g : GeometryNumbers) (start : World) (records : List Record)
+        (events : List Event) (actor : ℕ) (granted : Bool) (r : Running) (fault : Fault)
+        → IsStart g start records → (actor_at (after start events) actor).running ≡ Some r
+        → (step (after start events) (Go actor granted)).reply ≡ Refused fault
+        → decided actor start (events ++ Go actor granted ∷ []) [] ≡ [] }
+    ensures something { (g : GeometryNumbers) (start : World) (records : List Record)
+        (events : List Event) (actor : ℕ) (granted : Bool) (r : Running) → IsStart g start records
+        → actor < length (after start events).actors
+        → (actor_at (after start events) actor).running ≡ Some r
+        → deed_of (after start events) (Go actor granted) ≡ Commits
+        → 0 < length (effect (node_in (settled_nodes (after start events).shared)) r.made r.call) }
 {}

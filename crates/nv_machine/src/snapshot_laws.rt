@@ -4,11 +4,11 @@
 
 ghost use Rattle.std.specs.Prelude.{◌≡◌, ◌⊎◌, ◌&&◌, ◌++◌, ◌<◌, ◌≤◌, ℕ, Bool, true, List, [], ◌∷◌, Contains, IsSome, None, Ok, Some, length, not, slice_get};
 ghost use Rattle.std.specs.List.{AllByRecursion};
-ghost use Rattle.nv_base.specs.Limits.{IsWithinLimits};
 ghost use Rattle.nv_base.specs.declared.fault.Fault.{Fault};
 ghost use Rattle.nv_base.specs.declared.fault.Fault.TheVariants.{OutOfMemory};
 ghost use Rattle.nv_base.specs.declared.geometry.GeometryNumbers.{GeometryNumbers};
 ghost use Rattle.nv_book.specs.Listed.{IsRecordList, unheld};
+ghost use Rattle.nv_book.specs.declared.record.Record.{Record};
 ghost use Rattle.nv_calls.specs.declared.answer.Answer.{Answer};
 ghost use Rattle.nv_calls.specs.declared.answer.Answer.TheVariants as answers;
 ghost use Rattle.nv_calls.specs.declared.call.Call.TheVariants as call;
@@ -21,7 +21,6 @@ ghost use Rattle.nv_entry.specs.declared.held.Pair.{Pair};
 ghost use Rattle.nv_entry.specs.declared.tree.TreeNode.{TreeNode};
 ghost use Rattle.nv_epoch.specs.SnapList.{ids, pins_of};
 ghost use Rattle.nv_machine.specs.Bound.{AreNoStarts};
-ghost use Rattle.nv_machine.specs.Format.{formatted};
 ghost use Rattle.nv_machine.specs.Needed.{AreNoDrops, IsAtRest, drained, free_but_needed};
 ghost use Rattle.nv_machine.specs.Numbers.{free_of};
 ghost use Rattle.nv_machine.specs.PlainRun.{plain_after, plain_of};
@@ -29,43 +28,41 @@ ghost use Rattle.nv_machine.specs.Reading.{AreCopied, ArePins, GoesBy, copied_tr
 ghost use Rattle.nv_machine.specs.Recorded.{AreRecordedOnce, IsOfPair, is_killed_pair, is_recorded_for, recorded_in, records_after};
 ghost use Rattle.nv_machine.specs.Settled.{settled_copies, snapshot_tree};
 ghost use Rattle.nv_machine.specs.Snapshots.{snapshot_turn};
+ghost use Rattle.nv_machine.specs.Starts.{IsStart};
 ghost use Rattle.nv_machine.specs.Step.{after, step};
-ghost use Rattle.nv_machine.specs.World.{Done, Draining, Drop, Ends, Event, Go, HandState, Make, Pick, Refused, Refuses, Running, Shared, SnapshotStep, Snapshots, Start, Started, Unpin, Waiting, actor_at, cell_at, list_at};
+ghost use Rattle.nv_machine.specs.World.{Done, Draining, Drop, Ends, Event, Go, HandState, Make, Pick, Refused, Refuses, Running, Shared, SnapshotStep, Snapshots, Start, Started, Unpin, Waiting, World, actor_at, cell_at, list_at};
 
-/// The records are one list, whatever events came from a new world on: a retire step puts the killed parts of its inode
+/// The records are one list, whatever events came from any start on: a retire step puts the killed parts of its inode
 /// to its end, in order, that a living snapshot holds; a drop moves there, in order, the records that its snapshot was
 /// the youngest to hold; and a pick takes out the first that no living snapshot holds. The manifests and the deferred
 /// list are that list, each record with its youngest living holder, or deferred where it has none. A part is marked
 /// kept exactly where it has one record, in a manifest, deferred, or picked by a drain that has not yet released it;
 /// none has two; and each record is of a pair of its inode's log.
 pub fn records_are_filed()
-    ensures list { (g : GeometryNumbers) (events : List Event) → IsWithinLimits g
-        → IsRecordList (ids (after (formatted g) events).shared.book.snaps)
-        (after (formatted g) events).shared.book.manifests
-        (after (formatted g) events).shared.book.deferred
-        (records_after (formatted g) events []) }
-    ensures deferred { (g : GeometryNumbers) (events : List Event) → IsWithinLimits g
-        → (after (formatted g) events).shared.book.deferred
-        ≡ unheld (ids (after (formatted g) events).shared.book.snaps)
-        (records_after (formatted g) events []) }
-    ensures once { (g : GeometryNumbers) (events : List Event) → IsWithinLimits g
-        → AreRecordedOnce (after (formatted g) events) }
-    ensures pairs { (g : GeometryNumbers) (events : List Event) → IsWithinLimits g
-        → AllByRecursion (IsOfPair (after (formatted g) events))
-        (recorded_in (after (formatted g) events)) }
+    ensures list { (g : GeometryNumbers) (start : World) (records : List Record) (events : List Event)
+        → IsStart g start records → IsRecordList (ids (after start events).shared.book.snaps)
+        (after start events).shared.book.manifests (after start events).shared.book.deferred
+        (records_after start events records) }
+    ensures deferred { (g : GeometryNumbers) (start : World) (records : List Record) (events : List Event)
+        → IsStart g start records → (after start events).shared.book.deferred
+        ≡ unheld (ids (after start events).shared.book.snaps) (records_after start events records) }
+    ensures once { (g : GeometryNumbers) (start : World) (records : List Record) (events : List Event)
+        → IsStart g start records → AreRecordedOnce (after start events) }
+    ensures pairs { (g : GeometryNumbers) (start : World) (records : List Record) (events : List Event)
+        → IsStart g start records
+        → AllByRecursion (IsOfPair (after start events)) (recorded_in (after start events)) }
 {}
 
 /// For each living snapshot the pairs that are recorded with it as a holder are those that it holds by the logs, less
 /// the current ones and those that are killed and not yet retired.
 pub fn snapshots_hold_what_logs_tell()
-    ensures { (g : GeometryNumbers) (events : List Event) (snapshot ino n : ℕ) (pair : Pair)
-        → IsWithinLimits g
-        → Contains (ids (after (formatted g) events).shared.book.snaps) snapshot
-        → slice_get (pairs (cell_at (after (formatted g) events).shared ino).block
-        (log_of (cell_at (after (formatted g) events).shared ino))) n ≡ Some pair
-        → is_recorded_for snapshot (after (formatted g) events) ino pair
-        ≡ (holds snapshot pair && (not (is_current pair)
-        && not (is_killed_pair (after (formatted g) events) ino pair))) }
+    ensures { (g : GeometryNumbers) (start : World) (records : List Record) (events : List Event)
+        (snapshot ino n : ℕ) (pair : Pair) → IsStart g start records
+        → Contains (ids (after start events).shared.book.snaps) snapshot
+        → slice_get (pairs (cell_at (after start events).shared ino).block
+        (log_of (cell_at (after start events).shared ino))) n ≡ Some pair
+        → is_recorded_for snapshot (after start events) ino pair ≡ (holds snapshot pair
+        && (not (is_current pair) && not (is_killed_pair (after start events) ino pair))) }
 {}
 
 /// Each living snapshot reads as the nodes that stood when it was made, whatever events came since: at its epoch the
@@ -73,103 +70,107 @@ pub fn snapshots_hold_what_logs_tell()
 /// copy. A show that is answered is told that tree, and its snapshot lives up to its last step; one whose memory was
 /// refused is told so by that step.
 pub fn snapshots_read_as_they_were()
-    ensures copies { (g : GeometryNumbers) (events : List Event) → IsWithinLimits g
-        → AreCopied (after (formatted g) events).shared
-        (after (formatted g) events).shared.book.snaps.living
-        (plain_after (formatted g) events (plain_of (formatted g))).copies }
-    ensures epoch { (g : GeometryNumbers) (events : List Event) → IsWithinLimits g
-        → (after (formatted g) events).shared.book.snaps.epoch
-        ≡ (plain_after (formatted g) events (plain_of (formatted g))).epoch }
-    ensures tree { (g : GeometryNumbers) (events : List Event) (snapshot : ℕ) → IsWithinLimits g
-        → Contains (ids (after (formatted g) events).shared.book.snaps) snapshot
-        → FormTree (settled_copies (after (formatted g) events).shared snapshot)
-        (length (after (formatted g) events).shared.cells) }
-    ensures reads { (g : GeometryNumbers) (events : List Event) (snapshot : ℕ) → IsWithinLimits g
-        → Contains (ids (after (formatted g) events).shared.book.snaps) snapshot
-        → copied_tree (length (after (formatted g) events).shared.cells)
-        (plain_after (formatted g) events (plain_of (formatted g))).copies snapshot
-        ≡ Some (snapshot_tree (after (formatted g) events) snapshot) }
-    ensures refused { (g : GeometryNumbers) (events : List Event) (actor snapshot : ℕ)
+    ensures copies { (g : GeometryNumbers) (start : World) (records : List Record) (events : List Event)
+        → IsStart g start records → AreCopied (after start events).shared
+        (after start events).shared.book.snaps.living
+        (plain_after start events (plain_of start)).copies }
+    ensures epoch { (g : GeometryNumbers) (start : World) (records : List Record) (events : List Event)
+        → IsStart g start records → (after start events).shared.book.snaps.epoch
+        ≡ (plain_after start events (plain_of start)).epoch }
+    ensures tree { (g : GeometryNumbers) (start : World) (records : List Record)
+        (events : List Event) (snapshot : ℕ) → IsStart g start records
+        → Contains (ids (after start events).shared.book.snaps) snapshot → FormTree
+        (settled_copies (after start events).shared snapshot)
+        (length (after start events).shared.cells) }
+    ensures reads { (g : GeometryNumbers) (start : World) (records : List Record)
+        (events : List Event) (snapshot : ℕ) → IsStart g start records
+        → Contains (ids (after start events).shared.book.snaps) snapshot
+        → copied_tree (length (after start events).shared.cells)
+        (plain_after start events (plain_of start)).copies snapshot
+        ≡ Some (snapshot_tree (after start events) snapshot) }
+    ensures refused { (w : World) (actor snapshot : ℕ)
         (granted : Bool) (r : Running) (seen : List TreeNode) (fault : Fault)
-        → (actor_at (after (formatted g) events) actor).running ≡ Some r
+        → (actor_at w actor).running ≡ Some r
         → r.next ≡ Snapshots (Unpin snapshot seen) → r.ending ≡ Refuses fault
-        → ((step (after (formatted g) events) (Go actor granted)).reply ≡ Waiting)
-        ⊎ ((step (after (formatted g) events) (Go actor granted)).reply ≡ Refused fault) }
-    ensures show { (g : GeometryNumbers) (events : List Event) (actor snapshot : ℕ) (granted : Bool)
-        (r : Running) (seen : List TreeNode) (told : Answer) → IsWithinLimits g
-        → (actor_at (after (formatted g) events) actor).running ≡ Some r
+        → ((step w (Go actor granted)).reply ≡ Waiting)
+        ⊎ ((step w (Go actor granted)).reply ≡ Refused fault) }
+    ensures show { (g : GeometryNumbers) (start : World) (records : List Record)
+        (events : List Event) (actor snapshot : ℕ) (granted : Bool) (r : Running)
+        (seen : List TreeNode) (told : Answer) → IsStart g start records
+        → (actor_at (after start events) actor).running ≡ Some r
         → r.next ≡ Snapshots (Unpin snapshot seen)
-        → (step (after (formatted g) events) (Go actor granted)).reply ≡ Done told
-        → (told ≡ answers.Tree (snapshot_tree (after (formatted g) events) snapshot))
-        × Contains (ids (after (formatted g) events).shared.book.snaps) snapshot }
+        → (step (after start events) (Go actor granted)).reply ≡ Done told
+        → (told ≡ answers.Tree (snapshot_tree (after start events) snapshot))
+        × Contains (ids (after start events).shared.book.snaps) snapshot }
 {}
 
 /// A snapshot has a pin for each show of it that is between its first step and its last; so each snapshot that
 /// such a show is of lives.
 pub fn pins_are_of_shows()
-    ensures { (g : GeometryNumbers) (events : List Event) (snapshot : ℕ) → IsWithinLimits g
-        → ArePins (shows_of snapshot (after (formatted g) events))
-        (pins_of (after (formatted g) events).shared.book.snaps snapshot) }
+    ensures { (g : GeometryNumbers) (start : World) (records : List Record) (events : List Event)
+        (snapshot : ℕ) → IsStart g start records → ArePins
+        (shows_of snapshot (after start events))
+        (pins_of (after start events).shared.book.snaps snapshot) }
 {}
 
 /// What a making, a drop and a show are refused for is what the plain world refuses them for at that step, with its
 /// epoch and its copies: such a step waits, or it is refused for that fault, and for none where there is none.
 pub fn snapshot_refusals_are_told()
-    ensures tests { (g : GeometryNumbers) (events : List Event) (kind : SnapshotStep)
-        → IsWithinLimits g → tests_on kind (after (formatted g) events).shared.book.snaps
-        ≡ plain_tests g.snaps kind (plain_after (formatted g) events (plain_of (formatted g))) }
-    ensures replies { (g : GeometryNumbers) (events : List Event) (actor : ℕ) (granted : Bool)
-        (r : Running) (kind : SnapshotStep) → IsWithinLimits g
-        → (actor_at (after (formatted g) events) actor).running ≡ Some r
+    ensures tests { (g : GeometryNumbers) (start : World) (records : List Record)
+        (events : List Event) (kind : SnapshotStep) → IsStart g start records
+        → tests_on kind (after start events).shared.book.snaps
+        ≡ plain_tests g.snaps kind (plain_after start events (plain_of start)) }
+    ensures replies { (g : GeometryNumbers) (start : World) (records : List Record)
+        (events : List Event) (actor : ℕ) (granted : Bool) (r : Running) (kind : SnapshotStep)
+        → IsStart g start records → (actor_at (after start events) actor).running ≡ Some r
         → r.next ≡ Snapshots kind → is_tested kind ≡ true
-        → ((step (after (formatted g) events) (Go actor granted)).reply ≡ Waiting)
-        ⊎ GoesBy
-        (plain_tests g.snaps kind (plain_after (formatted g) events (plain_of (formatted g))))
-        (step (after (formatted g) events) (Go actor granted)).reply }
+        → ((step (after start events) (Go actor granted)).reply ≡ Waiting) ⊎ GoesBy
+        (plain_tests g.snaps kind (plain_after start events (plain_of start)))
+        (step (after start events) (Go actor granted)).reply }
 {}
 
 /// A making that is answered is told the epoch that it ends, which its snapshot is named by; a drop
 /// is told nothing more.
 pub fn makings_and_drops_are_answered()
-    ensures made { (g : GeometryNumbers) (events : List Event) (actor : ℕ) (granted : Bool)
-        (r : Running) (told : Answer) → IsWithinLimits g
-        → (actor_at (after (formatted g) events) actor).running ≡ Some r
+    ensures made { (g : GeometryNumbers) (start : World) (records : List Record)
+        (events : List Event) (actor : ℕ) (granted : Bool) (r : Running) (told : Answer)
+        → IsStart g start records → (actor_at (after start events) actor).running ≡ Some r
         → r.next ≡ Snapshots Make
-        → (step (after (formatted g) events) (Go actor granted)).reply ≡ Done told
-        → told ≡ answers.Snapshot
-        (plain_after (formatted g) events (plain_of (formatted g))).epoch }
-    ensures dropped { (g : GeometryNumbers) (events : List Event) (actor snapshot : ℕ)
-        (granted : Bool) (r : Running) (told : Answer) → IsWithinLimits g
-        → (actor_at (after (formatted g) events) actor).running ≡ Some r
+        → (step (after start events) (Go actor granted)).reply ≡ Done told
+        → told ≡ answers.Snapshot (plain_after start events (plain_of start)).epoch }
+    ensures dropped { (g : GeometryNumbers) (start : World) (records : List Record)
+        (events : List Event) (actor snapshot : ℕ) (granted : Bool) (r : Running) (told : Answer)
+        → IsStart g start records → (actor_at (after start events) actor).running ≡ Some r
         → r.next ≡ Snapshots (Drop snapshot)
-        → (step (after (formatted g) events) (Go actor granted)).reply ≡ Done told
+        → (step (after start events) (Go actor granted)).reply ≡ Done told
         → told ≡ answers.Nothing }
 {}
 
 /// A drain is answered how many records its steps have released; as long as it runs it is refused only for want of
 /// memory before the first. And a pick finds nothing only where nothing is deferred.
 pub fn drains_count_their_releases()
-    ensures answer { (g : GeometryNumbers) (before events : List Event) (actor count told : ℕ)
-        (granted : Bool) → IsWithinLimits g
-        → (step (after (formatted g) before) (Start actor (call.Snapshots (on.Drain count)))).reply
+    ensures answer { (g : GeometryNumbers) (start : World) (records : List Record)
+        (before events : List Event) (actor count told : ℕ) (granted : Bool)
+        → IsStart g start records
+        → (step (after start before) (Start actor (call.Snapshots (on.Drain count)))).reply
         ≡ Started → AreNoStarts actor events
-        → (step (after (step (after (formatted g) before)
-        (Start actor (call.Snapshots (on.Drain count)))).world events) (Go actor granted)).reply
-        ≡ Done (answers.Count told)
-        → told ≡ releases actor (step (after (formatted g) before)
-        (Start actor (call.Snapshots (on.Drain count)))).world
+        → (step
+        (after (step (after start before) (Start actor (call.Snapshots (on.Drain count)))).world
+        events) (Go actor granted)).reply ≡ Done (answers.Count told) → told ≡ releases actor
+        (step (after start before) (Start actor (call.Snapshots (on.Drain count)))).world
         (events ++ Go actor granted ∷ []) }
-    ensures refused { (g : GeometryNumbers) (before events : List Event) (actor count : ℕ)
-        (fault : Fault) (granted : Bool) → IsWithinLimits g
-        → (step (after (formatted g) before) (Start actor (call.Snapshots (on.Drain count)))).reply
-        ≡ Started → AreNoStarts actor events
-        → IsSome (actor_at (after (step (after (formatted g) before)
-        (Start actor (call.Snapshots (on.Drain count)))).world events) actor).running
-        → (step (after (step (after (formatted g) before)
-        (Start actor (call.Snapshots (on.Drain count)))).world events) (Go actor granted)).reply
-        ≡ Refused fault
-        → (fault ≡ OutOfMemory) × (releases actor (step (after (formatted g) before)
-        (Start actor (call.Snapshots (on.Drain count)))).world
+    ensures refused { (g : GeometryNumbers) (start : World) (records : List Record)
+        (before events : List Event) (actor count : ℕ) (fault : Fault) (granted : Bool)
+        → IsStart g start records
+        → (step (after start before) (Start actor (call.Snapshots (on.Drain count)))).reply
+        ≡ Started → AreNoStarts actor events → IsSome (actor_at
+        (after (step (after start before) (Start actor (call.Snapshots (on.Drain count)))).world
+        events) actor).running
+        → (step
+        (after (step (after start before) (Start actor (call.Snapshots (on.Drain count)))).world
+        events) (Go actor granted)).reply ≡ Refused fault → (fault ≡ OutOfMemory)
+        × (releases actor
+        (step (after start before) (Start actor (call.Snapshots (on.Drain count)))).world
         (events ++ Go actor granted ∷ []) ≡ 0) }
     ensures nothing { (draining : Draining) (actor told : ℕ) (granted : Bool) (s t : Shared)
         (h after : HandState) (r : Running)
@@ -183,21 +184,20 @@ pub fn drains_count_their_releases()
 /// drains were answered, together, as many records as were deferred there: so it is once `drain 1` was answered 1 as
 /// often as there were.
 pub fn drained_worlds_use_what_is_needed()
-    ensures rest { (g : GeometryNumbers) (events : List Event) (cpu : ℕ) → IsWithinLimits g
-        → cpu < g.cpus → IsAtRest (after (formatted g) events)
-        → (after (formatted g) events).shared.book.deferred ≡ []
-        → free_of (list_at (after (formatted g) events).shared cpu)
-        ≡ free_but_needed g (after (formatted g) events) cpu }
-    ensures drained { (g : GeometryNumbers) (before events : List Event) → IsWithinLimits g
-        → IsAtRest (after (formatted g) before) → AreNoDrops events
-        → length (after (formatted g) before).shared.book.deferred
-        ≤ drained (after (formatted g) before) events
-        → (after (formatted g) (before ++ events)).shared.book.deferred ≡ [] }
-    ensures lists { (g : GeometryNumbers) (before events : List Event) (cpu : ℕ) → IsWithinLimits g
-        → cpu < g.cpus → IsAtRest (after (formatted g) before) → AreNoDrops events
-        → length (after (formatted g) before).shared.book.deferred
-        ≤ drained (after (formatted g) before) events
-        → IsAtRest (after (formatted g) (before ++ events))
-        → free_of (list_at (after (formatted g) (before ++ events)).shared cpu)
-        ≡ free_but_needed g (after (formatted g) (before ++ events)) cpu }
+    ensures rest { (g : GeometryNumbers) (start : World) (records : List Record)
+        (events : List Event) (cpu : ℕ) → IsStart g start records → cpu < g.cpus
+        → IsAtRest (after start events) → (after start events).shared.book.deferred ≡ []
+        → free_of (list_at (after start events).shared cpu)
+        ≡ free_but_needed g (after start events) cpu }
+    ensures drained { (g : GeometryNumbers) (start : World) (records : List Record) (before events : List Event)
+        → IsStart g start records → IsAtRest (after start before) → AreNoDrops events
+        → length (after start before).shared.book.deferred ≤ drained (after start before) events
+        → (after start (before ++ events)).shared.book.deferred ≡ [] }
+    ensures lists { (g : GeometryNumbers) (start : World) (records : List Record)
+        (before events : List Event) (cpu : ℕ) → IsStart g start records → cpu < g.cpus
+        → IsAtRest (after start before) → AreNoDrops events
+        → length (after start before).shared.book.deferred ≤ drained (after start before) events
+        → IsAtRest (after start (before ++ events))
+        → free_of (list_at (after start (before ++ events)).shared cpu)
+        ≡ free_but_needed g (after start (before ++ events)) cpu }
 {}

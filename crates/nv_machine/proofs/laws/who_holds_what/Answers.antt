@@ -1,8 +1,9 @@
-use Rattle.nv_machine.proofs.Locks.{events_locks, has_lent, new_locks}
+use Rattle.nv_machine.proofs.Locks.{events_locks, has_lent}
+use Rattle.nv_machine.proofs.StartParts.{first_locks}
 use Rattle.nv_machine.proofs.laws.who_holds_what.Goals as goal
 
-pub returns-clause-new : goal.returns-clause-new
-returns-clause-new c = new_locks
+pub returns-clause-start : goal.returns-clause-start
+returns-clause-start c = first_locks
 
 pub returns-clause-stays : goal.returns-clause-stays
 returns-clause-stays c = events_locks

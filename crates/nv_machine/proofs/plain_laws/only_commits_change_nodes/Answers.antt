@@ -1,8 +1,9 @@
-use Rattle.nv_machine.proofs.KeptRuns.{events_kept, new_kept, nodes_stay}
+use Rattle.nv_machine.proofs.KeptRuns.{events_kept, nodes_stay}
+use Rattle.nv_machine.proofs.StartParts.{first_kept}
 use Rattle.nv_machine.proofs.plain_laws.only_commits_change_nodes.Goals as goal
 
-pub returns-clause-new : goal.returns-clause-new
-returns-clause-new c = new_kept
+pub returns-clause-start : goal.returns-clause-start
+returns-clause-start c = first_kept
 
 pub returns-clause-stays : goal.returns-clause-stays
 returns-clause-stays c = events_kept

@@ -1,9 +1,9 @@
-use Rattle.nv_machine.proofs.Effects.{new_sound, point_is_sound}
+use Rattle.nv_machine.proofs.Effects.{point_is_sound}
 use Rattle.nv_machine.proofs.KeptRuns.{sound_stays}
 use Rattle.nv_machine.proofs.plain_laws.settled_logs_stay_sound.Goals as goal
 
-pub returns-clause-new : goal.returns-clause-new
-returns-clause-new c = new_sound
+pub returns-clause-start : goal.returns-clause-start
+returns-clause-start c g start records is_start = is_start.sound
 
 pub returns-clause-stays : goal.returns-clause-stays
 returns-clause-stays c = sound_stays

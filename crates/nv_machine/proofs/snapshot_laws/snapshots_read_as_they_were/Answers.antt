@@ -7,21 +7,23 @@ use Rattle.nv_machine.proofs.SnapRuns.{in_step}
 use Rattle.nv_machine.proofs.snapshot_laws.snapshots_read_as_they_were.Goals as goal
 
 pub returns-clause-copies : goal.returns-clause-copies
-returns-clause-copies c g events within = all_copied g within (all_have_marks g within) events
+returns-clause-copies c g start records events is_start =
+    all_copied g start records is_start (all_have_marks g start records is_start) events
 
 pub returns-clause-epoch : goal.returns-clause-epoch
-returns-clause-epoch c g events within = (in_step g events within).epoch
+returns-clause-epoch c g start records events is_start = (in_step g start records events is_start).epoch
 
 pub returns-clause-tree : goal.returns-clause-tree
-returns-clause-tree c g events snapshot within lives = all_form_trees g within (all_have_marks g within) events snapshot lives
+returns-clause-tree c g start records events snapshot is_start lives =
+    all_form_trees g start records is_start (all_have_marks g start records is_start) events snapshot lives
 
 pub returns-clause-show : goal.returns-clause-show
-returns-clause-show c g events actor snapshot granted r seen told within is next reply =
-    all_told g within (all_have_marks g within) events actor snapshot granted r seen told is next reply
+returns-clause-show c g start records events actor snapshot granted r seen told is_start is next reply =
+    all_told g start records is_start (all_have_marks g start records is_start) events actor snapshot granted r seen told is next reply
 
 pub returns-clause-reads : goal.returns-clause-reads
 returns-clause-reads c = trees_are_copied
 
 pub returns-clause-refused : goal.returns-clause-refused
-returns-clause-refused c g events actor snapshot granted r seen fault is next ending =
-    unpin_refused g events actor granted r is snapshot seen fault next ending
+returns-clause-refused c w actor snapshot granted r seen fault is next ending =
+    unpin_refused w actor granted r is snapshot seen fault next ending

@@ -1,12 +1,12 @@
 -- How many inodes the pool is of, and how many actors there are, whatever events come.
 use Rattle.std.proofs.Common.{◌≡◌, ℕ, ◌∙◌, Bool, true, false, List, [], ◌∷◌, Option, Some, None, length, length-set, nat_lt, refl}
 use Rattle.nv_base.specs.declared.geometry.GeometryNumbers.{GeometryNumbers}
+use Rattle.nv_book.specs.declared.record.Record.{Record}
 use Rattle.nv_calls.specs.declared.call.Call.{Call}
-use Rattle.nv_machine.specs.Format.{formatted}
+use Rattle.nv_machine.specs.Starts.{IsStart}
 use Rattle.nv_machine.specs.Step.{after, go_step, start_step, step, turn, turned}
 use Rattle.nv_machine.specs.World.{Append, Back, Check, Close, Drop, Ends, Enter, Event, Give, Go, HandState, Leave, Lock, LockPicked, Look, Make, Moves, Next, Number, Open, Pick, Pin, Publish, Ready, Release, Retire, Running, Shared, Show, SnapshotStep, Snapshots, Start, TakeBlocks, TakePages, Turn, Unlock, Unpin, Visit, Waits, World, actor_at}
 use Rattle.nv_machine.proofs.Kept.{AfterTurn, back_deed, deed, number_deed, snapshot_deed, turn_keeps}
-use Rattle.std.proofs.lemmas.List.{length-replicate}
 
 -- a world is of these numbers of inodes and actors
 pub record IsOfNumbers (g : GeometryNumbers) (w : World) : Type 0 where
@@ -95,5 +95,6 @@ events_numbers : (g : GeometryNumbers) (events : List Event) (w : World) → IsO
 events_numbers g [] w is = is
 events_numbers g (e ∷ events) w is = events_numbers g events (step w e).world (event_numbers g w e is)
 
-pub of_numbers : (g : GeometryNumbers) (events : List Event) → IsOfNumbers g (after (formatted g) events)
-of_numbers g events = events_numbers g events (formatted g) (record { pool = refl; actors = length-replicate g.actors _ })
+pub of_numbers : (g : GeometryNumbers) (start : World) (records : List Record) (events : List Event) → IsStart g start records
+    → IsOfNumbers g (after start events)
+of_numbers g start records events is_start = events_numbers g events start (record { pool = is_start.inodes; actors = is_start.actors })

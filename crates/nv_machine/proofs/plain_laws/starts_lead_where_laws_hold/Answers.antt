@@ -1,5 +1,5 @@
 use Rattle.nv_machine.proofs.Reached.{reached, reached_nodes}
-use Rattle.nv_machine.proofs.plain_laws.new_worlds_lead_where_laws_hold.Goals as goal
+use Rattle.nv_machine.proofs.plain_laws.starts_lead_where_laws_hold.Goals as goal
 
 pub returns-clause-reached : goal.returns-clause-reached
 returns-clause-reached c = reached
