@@ -8,7 +8,7 @@ use Rattle.nv_machine.proofs.FromScratch.{each_once}
 use Rattle.nv_machine.specs.Held.{pending_in}
 use Rattle.nv_machine.specs.Numbers.{IsEachOnce, all_blocks}
 use Rattle.nv_machine.specs.World as machine
-use Rattle.nv_core.proofs.GivenCounts.{IsOfNumbers, of_numbers}
+use Rattle.nv_machine.proofs.Counts.{IsOfNumbers, of_numbers}
 use Rattle.nv_core.proofs.Pending.{pending_counts}
 use Rattle.nv_core.proofs.PendingKept.{pending_few}
 use Rattle.nv_core.proofs.SpaceLaw.{adds_up}
@@ -20,7 +20,9 @@ use Rattle.nv_core.specs.Worlds.{IsWorld, Shows, WorldState}
 pub world_adds_up : (w : WorldState) → IsWorld w → AddsUp w.shared.geometry.numbers.blocks (shared_of w.shared)
 world_adds_up w is =
     let g = w.shared.geometry.numbers in
-    let once = subst (λ (m : machine.World). IsEachOnce g.blocks (all_blocks m)) (sym is.2.reached) (each_once g is.1 is.2.limits) in
+    let once =
+    subst (λ (m : machine.World). IsEachOnce g.blocks (all_blocks m)) (sym is.2.reached)
+    (each_once g is.1.start is.1.records is.1.events is.2.is_start) in
     subst (λ (s : machine.Shared). AddsUp g.blocks s) (sym is.2.shows.shared) (adds_up g.blocks is.0 once)
 
 -- and no more are pending than are kept
@@ -29,7 +31,7 @@ pub pending_fits : (w : WorldState) (picked : ℕ) → IsWorld w → picked ≡ 
 pending_fits w picked is same =
     let g = w.shared.geometry.numbers in
     let few = subst (λ (m : machine.World). block_count (pending_in m) ≤ kept_of m.shared) (sym is.2.reached)
-    (pending_few g is.1 is.2.limits) in
+    (pending_few g is.1.start is.1.records is.1.events is.2.is_start) in
     let counts = pending_counts w is.0 is.2.shows in
     let kept = ap kept_of is.2.shows.shared in
     omega (arith, few, counts, kept, same)
@@ -43,8 +45,9 @@ all_spaced blocks pending s adds few = omega (arith, adds, few)
 pub few_actors : (w : WorldState) → IsWorld w → length w.actors ≤ 64
 few_actors w is =
     let g = w.shared.geometry.numbers in
-    let numbers : IsOfNumbers g is.0 = subst (IsOfNumbers g) (sym is.2.reached) (of_numbers g is.1) in
-    omega (arith, is.2.shows.count, numbers.actors, is.2.limits.actors_fit)
+    let numbers : IsOfNumbers g is.0 =
+    subst (IsOfNumbers g) (sym is.2.reached) (of_numbers g is.1.start is.1.records is.1.events is.2.is_start) in
+    omega (arith, is.2.shows.count, numbers.actors, is.2.is_start.limits.actors_fit)
 
 -- with the picked blocks of its actors a world has the machine's space
 pub space_shown : (w : WorldState) (m : machine.World) (picked : ℕ) → Shows w m → picked ≡ sum_by picked_of w.actors

@@ -6,7 +6,6 @@ use Rattle.std.specs.List.{AllByRecursion, Contains, list_any}
 use Rattle.std.proofs.lemmas.Bool.{and_parts, eqb-true, true≢false}
 use Rattle.std.proofs.lemmas.List.Sums.{length-filter}
 use Rattle.std.proofs.lemmas.Option.{same_Some}
-use Rattle.nv_base.specs.Limits.{IsWithinLimits}
 use Rattle.nv_base.specs.declared.geometry.GeometryNumbers.{GeometryNumbers}
 use Rattle.nv_audit.specs.PartLists.{is_same, times}
 use Rattle.nv_audit.specs.Pending.{of_inode}
@@ -34,9 +33,9 @@ use Rattle.nv_entry.proofs.Currents.{any_map, any_same}
 use Rattle.nv_epoch.specs.Holders as holders
 use Rattle.nv_epoch.specs.SnapList.{ids}
 use Rattle.nv_epoch.proofs.Last.{none_passes}
-use Rattle.nv_machine.specs.Format.{formatted}
 use Rattle.nv_machine.specs.Held.{is_of_slot, killed_in}
 use Rattle.nv_machine.specs.Recorded.{is_kept, is_record_of, recorded_in}
+use Rattle.nv_machine.specs.Starts.{IsStart}
 use Rattle.nv_machine.specs.Step.{after}
 use Rattle.nv_machine.specs.World.{Event, World, cell_at, no_cell}
 use Rattle.nv_machine.proofs.EachOf.{all_back, all_weaker, all_with}
@@ -151,9 +150,9 @@ bit_small : (b : Bool) → bit b ≤ 1
 bit_small true = omega arith
 bit_small false = omega arith
 
-module _ (g : GeometryNumbers) (events : List Event) (within : IsWithinLimits g) where
+module _ (g : GeometryNumbers) (start : World) (records : List Record) (events : List Event) (is_start : IsStart g start records) where
   abbrev w : World
-  w = after (formatted g) events
+  w = after start events
 
   abbrev hands : List InodePart
   hands = flat_map parts_by_actor w.actors
@@ -169,16 +168,18 @@ module _ (g : GeometryNumbers) (events : List Event) (within : IsWithinLimits g)
     named = of_inode ino hands
 
     is : IsLog log
-    is = log_in g events ino within
+    is = log_in g start records events ino is_start
 
     told : AllByRecursion (IsTold ino cell.block log) (recorded_in w)
-    told = recorded_all g events (IsTold ino cell.block log) within ((all_marked g events within).cells ino).told
+    told =
+        recorded_all g start records events (IsTold ino cell.block log) is_start
+        ((all_marked g start records events is_start).cells ino).told
 
     out : AllByRecursion (λ d. is_held_by s d ≡ false) (picked_in w)
     out =
         all_weaker (λ d. holder_of (ids w.shared.book.snaps) d ≡ None) (λ d. is_held_by s d ≡ false)
         (λ d none. (none_passes (holders.holds d.birth d.death) (ids w.shared.book.snaps) none).fails s lives) (picked_in w)
-        (all_marked g events within).unheld
+        (all_marked g start records events is_start).unheld
 
     all_counted : (p : InodePart) → times p (recorded_as s w.shared.book) ≡ count (recorded s p) (recorded_in w)
     all_counted p =
@@ -247,7 +248,7 @@ module _ (g : GeometryNumbers) (events : List Event) (within : IsWithinLimits g)
           omega (
             arith,
             count_below (recorded s own_part) (is_record_of cell ino m) (recorded_in w) filed,
-            recorded_once g events within ino m,
+            recorded_once g start records events is_start ino m,
             bit_small (is_kept (mark_at cell.marks m)),
           )
 
@@ -282,13 +283,13 @@ module _ (g : GeometryNumbers) (events : List Event) (within : IsWithinLimits g)
       owed_so =
           any_same (recorded s own_part) (λ d. is_of_slot ino d && (is_held_by s d && has_name pair (name_of d)))
           (λ d. swapped (is_held_by s d) (is_of_slot ino d) (has_name pair (name_of d))) (recorded_in w)
-          ∙ recorded_for g events s ino m pair within lives got
+          ∙ recorded_for g start records events s ino m pair is_start lives got
           ∙ ap (λ (b : Bool). holds s pair && (not (is_current pair) && not b))
           (any_map (λ (k : KilledPart). k.part) (has_name pair) (killed_in w ino))
           ∙ by_none (holds s pair) (not (is_current pair)) (list_any (in_killed ino pair) (killed_in w ino))
           (list_any (in_record ino pair) (picked_in w)) none_held
           ∙ ap (λ (b : Bool). holds s pair && (not (is_current pair) && not b))
-          (sym (hands_so ino pair w (known g events within).locks))
+          (sym (hands_so ino pair w (known g start records events is_start).locks))
 
       same_own : is_same own_part (part_in ino pair) ≡ true
       same_own = both (ino == ino) (has_name pair (pair_name pair)) (self ino) (own_name pair)

@@ -245,7 +245,8 @@ module _ (v : WorldState) (is : IsWorld v) where
       subst (λ (s : machine.Shared). Agrees (D s (flat_map parts_by v.actors) (flat_map blocks_by v.actors))) (sym shows.shared)
       (subst (λ (ps : List InodePart). Agrees (D m.shared ps (flat_map blocks_by v.actors))) (sym parts)
       (subst (λ (bs : List ℕ). Agrees (D m.shared (flat_map parts_by_actor m.actors) bs)) (sym blocks)
-      (subst (λ (x : machine.World). Agrees (device_of g x)) (sym is.2.reached) (agree g is.1 is.2.limits))))
+      (subst (λ (x : machine.World). Agrees (device_of g x)) (sym is.2.reached)
+      (agree g is.1.start is.1.records is.1.events is.2.is_start))))
 
 -- ---- what is told
 

@@ -71,7 +71,7 @@ bound_same w m n actor one two = by_lists w m actor one ∙ go (nat_lt actor (le
 
 pub bounded : (w : WorldState) (m : machine.World) → IsWorld w → Shows w m → IsBounded m
 bounded w m is shows actor grants =
-    let few = steps_few w.shared.geometry.numbers is.1 actor is.2.limits in
+    let few = steps_few w.shared.geometry.numbers is.1.start is.1.records is.1.events actor is.2.is_start in
     let reached = subst (λ (n : machine.World). bound_at n actor ≤ most_steps w.shared.geometry.numbers.cpus) (sym is.2.reached) few in
-    let cpus = is.2.limits.cpus_fit in
+    let cpus = is.2.is_start.limits.cpus_fit in
     moves_end most_goes m actor grants (omega (arith, reached, bound_same w m is.0 actor shows is.2.shows, cpus))

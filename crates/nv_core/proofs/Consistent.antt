@@ -1,7 +1,7 @@
 -- Whatever events came, a world is consistent.
 use Rattle.std.proofs.Common.{List, refl, subst}
-use Rattle.nv_base.specs.Limits.{IsWithinLimits}
 use Rattle.nv_base.specs.declared.geometry.GeometryNumbers.{GeometryNumbers}
+use Rattle.nv_book.specs.declared.record.Record.{Record}
 use Rattle.nv_machine.proofs.CommitNumbers.{events_counted}
 use Rattle.nv_machine.proofs.CopiesAll.{all_copied}
 use Rattle.nv_machine.proofs.CopyMarks.{all_have_marks}
@@ -11,27 +11,36 @@ use Rattle.nv_machine.proofs.FitsPlain.{plain_nodes}
 use Rattle.nv_machine.proofs.FromScratch.{idle_nothing}
 use Rattle.nv_machine.proofs.PoolLaw.{pool_scanned}
 use Rattle.nv_machine.proofs.SnapRuns.{in_step}
-use Rattle.nv_machine.specs.Format.{formatted}
 use Rattle.nv_machine.specs.PlainRun.{plain_of}
-use Rattle.nv_machine.specs.World.{Event}
+use Rattle.nv_machine.specs.Starts.{IsStart}
+use Rattle.nv_machine.specs.World.{Event, World}
 use Rattle.nv_core.proofs.AuditLaw.{agree}
 use Rattle.nv_core.specs.Consistent.{IsConsistentAfter, IsConsistentWorld}
-use Rattle.nv_core.specs.Worlds.{IsWorld, Shows, WorldState}
+use Rattle.nv_core.specs.Worlds.{IsWorld, Run, Shows, WorldState}
 
-pub consistent : (g : GeometryNumbers) (events : List Event) → IsWithinLimits g → IsConsistentAfter g events
-consistent g events within = record {
-  scan = agree g events within;
-  pool = pool_scanned g events within;
-  idle = idle_nothing g events within;
-  deferred = are_deferred g events within;
-  nodes = plain_nodes g events within;
-  tree = trees_are_plain g events within;
-  commit = events_counted events (formatted g) (plain_of (formatted g)) refl;
-  epoch = (in_step g events within).epoch;
-  snapshots = all_copied g within (all_have_marks g within) events;
-  snapshot_trees = λ snapshot lives. trees_are_copied g events snapshot within lives;
+consistent_after : (g : GeometryNumbers) (start : World) (records : List Record) (events : List Event) → IsStart g start records
+    → IsConsistentAfter g (record { start = start; records = records; events = events })
+consistent_after g start records events is_start = record {
+  scan = agree g start records events is_start;
+  pool = pool_scanned g start records events is_start;
+  idle = idle_nothing g start records events is_start;
+  deferred = are_deferred g start records events is_start;
+  nodes = plain_nodes g start records events is_start;
+  tree = trees_are_plain g start records events is_start;
+  commit = events_counted events start (plain_of start) refl;
+  epoch = (in_step g start records events is_start).epoch;
+  snapshots = all_copied g start records is_start (all_have_marks g start records is_start) events;
+  snapshot_trees = λ snapshot lives. trees_are_copied g start records events snapshot is_start lives;
 }
+
+pub consistent : (g : GeometryNumbers) (run : Run) → IsStart g run.start run.records → IsConsistentAfter g run
+consistent g run is_start = consistent_after g run.start run.records run.events is_start
 
 pub consistent_world : (w : WorldState) → IsWorld w → IsConsistentWorld w
 consistent_world w is =
-    (is.1, subst (Shows w) is.2.reached is.2.shows, consistent w.shared.geometry.numbers is.1 is.2.limits)
+    let run = is.1 in (
+      run,
+      is.2.is_start,
+      subst (Shows w) is.2.reached is.2.shows,
+      consistent w.shared.geometry.numbers run is.2.is_start,
+    )

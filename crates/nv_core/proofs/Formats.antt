@@ -15,12 +15,14 @@ use Rattle.nv_book.specs.Book.{empty_book}
 use Rattle.nv_cell.specs.Append.{first_entry, founded}
 use Rattle.nv_cell.specs.Cell.{CellState, CellValue, empty_cell}
 use Rattle.nv_log.specs.Chain.{empty_chain, open_of, with_page}
+use Rattle.nv_machine.proofs.NewStart.{new_start}
 use Rattle.nv_machine.specs.Format.{formatted, full_list, root_cell, without_lowest}
+use Rattle.nv_machine.specs.Starts.{IsStart}
 use Rattle.nv_machine.specs.World.{Shared, actor_at, idle}
 use Rattle.nv_core.specs.Formats.{empty_of, idle_actor, rootless}
 use Rattle.nv_core.specs.Rooms.{IsHandOf}
 use Rattle.nv_core.specs.Shown.{shared_of}
-use Rattle.nv_core.specs.Worlds.{IsWorldAfter, ShowsActor}
+use Rattle.nv_core.specs.Worlds.{IsWorldAfter, ShowsActor, new_run}
 use Rattle.nv_core.specs.declared.shared.Shared as code
 use Rattle.nv_core.specs.declared.world.Actor.{Actor}
 
@@ -156,15 +158,15 @@ each_shown g k d inside =
 -- it shows the machine's after no event, with room for what its actors are about to do
 pub world_made : (g : GeometryNumbers) (s : code.Shared) (actors : List Actor) → IsWithinLimits g → s.geometry.numbers ≡ g
     → shared_of s ≡ (formatted g).shared → actors ≡ replicate g.actors (idle_actor g)
-    → IsWorldAfter (record { shared = s; actors = actors }) (formatted g) []
+    → IsWorldAfter (record { shared = s; actors = actors }) (formatted g) (new_run g)
 world_made g s actors limits numbers shared idles =
     let block : g.block ≡ s.geometry.numbers.block = sym (ap (λ (n : GeometryNumbers). n.block) numbers) in
     let hand : IsHandOf s.geometry.numbers (empty_of g) = record { blocks = block; pages = block } in
     let count : length (replicate g.actors (idle_actor g)) ≡ length (formatted g).actors =
     length-replicate g.actors (idle_actor g) ∙ sym (length-replicate g.actors idle) in
     record {
-      limits = subst IsWithinLimits (sym numbers) limits;
-      reached = ap formatted (sym numbers);
+      is_start = subst (λ (n : GeometryNumbers). IsStart n (formatted g) []) (sym numbers) (new_start g limits);
+      reached = refl;
       shows = record { numbers = numbers; shared = shared; count = rw idles count; each = rw idles (each_shown g) };
       rooms = rw idles (λ k d inside. rw (idle_at g g.actors k d inside) hand);
     }

@@ -7,9 +7,9 @@ use Rattle.nv_base.specs.declared.geometry.GeometryNumbers.{GeometryNumbers}
 use Rattle.nv_base.specs.declared.limits.TheConstants.{NUMBER}
 use Rattle.nv_calls.specs.Progress.{step_of}
 use Rattle.nv_calls.specs.Ready.{ReadyValue}
-use Rattle.nv_machine.specs.Format.{formatted}
 use Rattle.nv_machine.specs.Kinds.{blocks_in}
 use Rattle.nv_machine.specs.Locks.{AreSlots as AreSlotsOf}
+use Rattle.nv_machine.specs.Starts.{IsStart}
 use Rattle.nv_machine.specs.Step.{after}
 use Rattle.nv_machine.specs.World as machine
 use Rattle.nv_machine.specs.World.{HandState, actor_at}
@@ -18,14 +18,14 @@ use Rattle.nv_core.specs.Rooms.{HasActorRooms, HasRooms, hand_held}
 use Rattle.nv_core.specs.Shown.{Told, held_by, shared_of, shown_by, shown_ready, slots_in}
 use Rattle.nv_core.specs.Steps.{CanEnter, CanStep, GivenBy}
 use Rattle.nv_core.specs.Told.{IsHoldOf, IsReadyOf, IsToldOf}
-use Rattle.nv_core.specs.Worlds.{ShowsActor, ShowsCall, ShowsRunning, told_of}
+use Rattle.nv_core.specs.Worlds.{Run, ShowsActor, ShowsCall, ShowsRunning, told_of}
 use Rattle.nv_core.specs.declared.hold.Hold.{Hold}
 use Rattle.nv_core.specs.declared.hold.Hold.TheVariants as hold
 use Rattle.nv_core.specs.declared.running.Running.{Running}
 use Rattle.nv_core.specs.declared.shared.Shared.{Shared}
 use Rattle.nv_core.specs.declared.world.Actor.{Actor}
 use Rattle.nv_core.proofs.GivenCells.{given_home, given_slots, many_cells}
-use Rattle.nv_core.proofs.GivenCounts.{of_numbers}
+use Rattle.nv_machine.proofs.Counts.{of_numbers}
 use Rattle.nv_core.proofs.GivenEnter.{given_takes, no_journal}
 use Rattle.nv_core.proofs.GivenKinds.{given_kind}
 use Rattle.nv_core.proofs.GivenLaws.{IsGiven, given_after}
@@ -75,23 +75,26 @@ module _ (shared : Shared) (actor : ℕ) (told : Told) (running : Running) (job 
 
 -- ---- one actor of a world
 
--- whose machine's world is that after some events from a new one
+-- whose machine's world is that after a run
 pub can_step_as : (shared : Shared) (held : Hold) (running : Running) (r : machine.Running) (m : machine.World)
-    (events : List machine.Event) (actor : ℕ) → IsWithinLimits shared.geometry.numbers
-    → m ≡ after (formatted shared.geometry.numbers) events → shared_of shared ≡ m.shared
+    (run : Run) (actor : ℕ) → IsStart shared.geometry.numbers run.start run.records → m ≡ after run.start run.events
+    → shared_of shared ≡ m.shared
     → actor < length m.actors → held_by held ≡ (actor_at m actor).hand → (actor_at m actor).running ≡ Some r → ShowsCall held running r
     → HasRooms shared held running → CanStep shared held running actor
-can_step_as shared held running r m events actor limits from same there hand is shows rooms =
-    given_step shared actor (told_of r) running shows.job held limits inside given shows.plan rooms where
+can_step_as shared held running r m run actor is_start from same there hand is shows rooms =
+    given_step shared actor (told_of r) running shows.job held is_start.limits inside given shows.plan rooms where
       inside : actor < shared.geometry.numbers.actors
       inside =
-          let many = ap (λ (w : machine.World). length w.actors) from ∙ (of_numbers shared.geometry.numbers events).actors in
+          let many =
+          ap (λ (w : machine.World). length w.actors) from ∙
+          (of_numbers shared.geometry.numbers run.start run.records run.events is_start).actors in
           omega (arith, many, there)
 
       given : IsGiven shared.geometry.numbers (shared_of shared) actor (held_by held) (shown_by held (told_of r) running)
       given =
           let g = shared.geometry.numbers in
-          let of_machine = given_after g m events limits from (laws_of g m events limits from) actor r is in
+          let of_machine = given_after g run.start run.records m run.events is_start from
+          (laws_of g run.start run.records m run.events is_start from) actor r is in
           subst (λ (q : machine.Running). IsGiven g (shared_of shared) actor (held_by held) q) (sym shows.shown)
           (subst (λ (h : HandState). IsGiven g (shared_of shared) actor h r) (sym hand)
           (subst (λ (s : machine.Shared). IsGiven g s actor (actor_at m actor).hand r) (sym same) of_machine))
@@ -114,12 +117,12 @@ shown_some held (Some other) (Some r) running e shows =
 
 -- THE LEMMA: where the shared parts and the actors of a world show those of the machine, an actor's call
 -- can make its next step
-pub can_step : (shared : Shared) (actors : List Actor) (m : machine.World) (events : List machine.Event)
-    → IsWithinLimits shared.geometry.numbers → m ≡ after (formatted shared.geometry.numbers) events
+pub can_step : (shared : Shared) (actors : List Actor) (m : machine.World) (run : Run)
+    → IsStart shared.geometry.numbers run.start run.records → m ≡ after run.start run.events
     → shared_of shared ≡ m.shared → length actors ≡ length m.actors → (actor : ℕ) → actor < length actors → (own : Actor)
     → ShowsActor own (actor_at m actor) → HasActorRooms shared own.hold own.running → (running : Running) → own.running ≡ Some running
     → CanStep shared own.hold running actor
-can_step shared actors m events limits from same many actor there own shows rooms running has_it =
+can_step shared actors m run is_start from same many actor there own shows rooms running has_it =
     let call = shown_some own.hold own.running (actor_at m actor).running running has_it shows.running in
-    can_step_as shared own.hold running call.r m events actor limits from same (omega (arith, there, many)) shows.hand call.is call.shows
+    can_step_as shared own.hold running call.r m run actor is_start from same (omega (arith, there, many)) shows.hand call.is call.shows
     (subst (λ (o : Option Running). HasActorRooms shared own.hold o) has_it rooms)

@@ -5,15 +5,14 @@ use Rattle.std.specs.List.{AllByRecursion}
 use Rattle.std.proofs.lemmas.Bool.{eqb-true}
 use Rattle.nv_alloc.specs.Block.{AreSized, BlockValue, numbers_of}
 use Rattle.nv_alloc.specs.Numbers.{has, times}
-use Rattle.nv_base.specs.Limits.{IsWithinLimits}
 use Rattle.nv_base.specs.declared.geometry.GeometryNumbers.{GeometryNumbers}
 use Rattle.nv_base.specs.declared.limits.TheConstants.{NUMBER}
 use Rattle.nv_base.specs.declared.numbers.Handle.{Handle}
+use Rattle.nv_book.specs.declared.record.Record.{Record}
 use Rattle.nv_calls.specs.Locked.{handles}
 use Rattle.nv_calls.specs.Prepared.{IsStill}
 use Rattle.nv_cell.specs.Cell.{IsCell, log_of}
 use Rattle.nv_machine.specs.Effects.{IsSoundIn}
-use Rattle.nv_machine.specs.Format.{formatted}
 use Rattle.nv_machine.specs.Grown.{HasGrown, HasGrownBy, is_behind}
 use Rattle.nv_machine.specs.Hands.{AreLists, AreNumbers, HandAt, HandOf, is_going}
 use Rattle.nv_machine.specs.Kept.{AreApart, AreLogsKept}
@@ -22,6 +21,7 @@ use Rattle.nv_machine.specs.Locks.{AreSlots, HoldsIts, IsInside, commits_at, hel
 use Rattle.nv_machine.specs.Order.{AreLogsOrdered}
 use Rattle.nv_machine.specs.Reached.{IsReached}
 use Rattle.nv_machine.specs.Reads.{slot_at, written_slots}
+use Rattle.nv_machine.specs.Starts.{IsStart}
 use Rattle.nv_machine.specs.Step.{after}
 use Rattle.nv_machine.specs.World.{Answers, Check, Enter, Event, HandState, Next, Ready, Running, Shared, SnapshotStep, Snapshots, World, actor_at, cell_at, list_at}
 use Rattle.nv_machine.proofs.EndsRead.{logs_held}
@@ -31,7 +31,7 @@ use Rattle.nv_machine.proofs.Locked.{owner_is, slot_owned}
 use Rattle.nv_machine.proofs.PoolLaw.{all_pooled}
 use Rattle.nv_machine.proofs.PoolRuns.{ArePooled}
 use Rattle.nv_machine.proofs.Reached.{reached}
-use Rattle.nv_core.proofs.GivenCounts.{IsOfNumbers, of_numbers}
+use Rattle.nv_machine.proofs.Counts.{IsOfNumbers, of_numbers}
 use Rattle.nv_core.proofs.GivenOn.{HasOn}
 
 -- ---- laws
@@ -152,10 +152,13 @@ module _ (g : GeometryNumbers) (m : World) (reached : IsReached m) (all : AreNum
     snapshots = λ step e. laws.snapshots actor r step is e;
   }
 
--- the same of the machine's world after some events from a new one
-pub given_after : (g : GeometryNumbers) (m : World) (events : List Event) → IsWithinLimits g → m ≡ after (formatted g) events → LawsOf g m
+-- the same of the machine's world after some events from where a run starts
+pub given_after : (g : GeometryNumbers) (start : World) (records : List Record) (m : World) (events : List Event)
+    → IsStart g start records → m ≡ after start events → LawsOf g m
     → (actor : ℕ) (r : Running) → (actor_at m actor).running ≡ Some r → IsGiven g m.shared actor (actor_at m actor).hand r
-given_after g m events limits from =
-    given_by g m (subst IsReached (sym from) (reached g events limits)) (subst (AreNumbers g) (sym from) (all_numbers g events limits))
-    (subst (ArePooled g) (sym from) (all_pooled g events limits)) (subst AreFit (sym from) (all_fit g limits events))
-    (subst (IsOfNumbers g) (sym from) (of_numbers g events))
+given_after g start records m events is_start from =
+    given_by g m (subst IsReached (sym from) (reached g start records events is_start))
+    (subst (AreNumbers g) (sym from) (all_numbers g start records events is_start))
+    (subst (ArePooled g) (sym from) (all_pooled g start records events is_start))
+    (subst AreFit (sym from) (all_fit g start records is_start events))
+    (subst (IsOfNumbers g) (sym from) (of_numbers g start records events is_start))

@@ -4,20 +4,20 @@ use Rattle.std.proofs.Common.{◌≡◌, ℕ, ◌<◌, ◌==◌, ◌++◌, ◌�
 use Rattle.std.specs.List.{Contains}
 use Rattle.std.proofs.lemmas.Bool.{cases_lt}
 use Rattle.std.proofs.lemmas.List.{get_or_past}
-use Rattle.nv_base.specs.Limits.{IsWithinLimits}
 use Rattle.nv_base.specs.declared.geometry.GeometryNumbers.{GeometryNumbers}
 use Rattle.nv_base.specs.declared.numbers.Handle.{Handle}
+use Rattle.nv_book.specs.declared.record.Record.{Record}
 use Rattle.nv_cell.specs.Cell.{CellState, log_of}
 use Rattle.nv_cell.proofs.ValuesNow.{IsLog-take}
 use Rattle.nv_entry.specs.Log.{IsLog, up_to}
 use Rattle.nv_entry.specs.Node.{node_now}
 use Rattle.nv_entry.specs.declared.item.Entry.{Entry}
 use Rattle.nv_epoch.specs.SnapList.{ids}
-use Rattle.nv_machine.specs.Format.{formatted}
 use Rattle.nv_machine.specs.Reached.{IsReached}
 use Rattle.nv_machine.specs.Reads.{bytes_among}
 use Rattle.nv_machine.specs.Settled.{settled_copies}
 use Rattle.nv_machine.specs.Snapshots.{copies_at}
+use Rattle.nv_machine.specs.Starts.{IsStart}
 use Rattle.nv_machine.specs.Step.{after}
 use Rattle.nv_machine.specs.World.{Event, World, cell_at, no_cell}
 use Rattle.nv_machine.proofs.CopyMarks.{all_have_marks, log_same}
@@ -30,20 +30,21 @@ use Rattle.nv_machine.proofs.SnapRuns.{in_step}
 use Rattle.nv_reader.specs.Cells.{NoneOut}
 use Rattle.nv_core.proofs.PageParts.{front_in}
 
-module _ (g : GeometryNumbers) (events : List Event) (within : IsWithinLimits g) (epoch : ℕ)
-    (lives : Contains (ids (after (formatted g) events).shared.book.snaps) epoch) where
+module _ (g : GeometryNumbers) (start : World) (records : List Record) (events : List Event) (is_start : IsStart g start records)
+    (epoch : ℕ)
+    (lives : Contains (ids (after start events).shared.book.snaps) epoch) where
   abbrev w : World
-  w = after (formatted g) events
+  w = after start events
 
   known : IsReached w
-  known = reached g events within
+  known = reached g start records events is_start
 
   lt : epoch < w.shared.book.snaps.epoch
-  lt = earlier w epoch (in_step g events within).before lives
+  lt = earlier w epoch (in_step g start records events is_start).before lives
 
   -- no entry past a tail is of its epoch
   same_log : (ino : ℕ) → log_at epoch (cell_at w.shared ino) ≡ up_to epoch (log_of (cell_at w.shared ino))
-  same_log ino = log_same epoch w.shared.book.snaps.epoch (cell_at w.shared ino) lt ((all_marked g events within).fresh ino)
+  same_log ino = log_same epoch w.shared.book.snaps.epoch (cell_at w.shared ino) lt ((all_marked g start records events is_start).fresh ino)
 
   there_out : (ino : ℕ) → ino < length w.shared.cells → NoneOut (cell_at w.shared ino) (log_at epoch (cell_at w.shared ino))
   there_out ino low =
@@ -53,9 +54,9 @@ module _ (g : GeometryNumbers) (events : List Event) (within : IsWithinLimits g)
       let s = splits epoch (log_of cell) lawful in
       front_in cell (log_at epoch cell) s.rest (ap (λ (l : List Entry). l ++ s.rest) (same_log ino) ∙ s.is) lawful
       (λ n number inside unc says.
-      let at = block_there epoch number cell ordered (all_parts g events within ino low).blocks n
+      let at = block_there epoch number cell ordered (all_parts g start records events is_start ino low).blocks n
       (record { uncovered = unc; low = inside; says = says })
-      ((all_have_marks g within events).held epoch ino lives n inside unc) in
+      ((all_have_marks g start records is_start events).held epoch ino lives n inside unc) in
       subst IsSome (sym at.1) refl)
 
   -- NO PAGE OF A LIVING SNAPSHOT IS OUT

@@ -22,7 +22,6 @@ pub mod Formats
 pub mod FreshPages
 pub mod Given
 pub mod GivenCells
-pub mod GivenCounts
 pub mod GivenEnter
 pub mod GivenKinds
 pub mod GivenLaws

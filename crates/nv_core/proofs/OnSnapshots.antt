@@ -8,7 +8,6 @@ use Rattle.std.proofs.lemmas.Bool.{cases_lt}
 use Rattle.std.proofs.lemmas.List.{get_or_past}
 use Rattle.std.proofs.lemmas.List.Sums.{count_by-le-length}
 use Rattle.std.proofs.lemmas.Option.{slice_get-get_or}
-use Rattle.nv_base.specs.Limits.{IsWithinLimits}
 use Rattle.nv_base.specs.declared.geometry.GeometryNumbers.{GeometryNumbers}
 use Rattle.nv_base.specs.declared.limits.TheConstants.{PINS}
 use Rattle.nv_book.specs.Listed.{all_records}
@@ -24,10 +23,10 @@ use Rattle.nv_cell.specs.declared.mark.Mark.TheVariants.{Current, Kept, Killed, 
 use Rattle.nv_entry.specs.Log.{IsLog}
 use Rattle.nv_epoch.proofs.Pins.{lives-from_pins}
 use Rattle.nv_epoch.specs.SnapList.{ids, pins_of}
-use Rattle.nv_machine.specs.Format.{formatted}
 use Rattle.nv_machine.specs.Held.{picked_at, picked_by_actor, picked_by_call}
 use Rattle.nv_machine.specs.Reading.{ArePins, pins_at, pins_by_call, shows_of}
 use Rattle.nv_machine.specs.Recorded.{IsOfPair, is_kept, is_record_of}
+use Rattle.nv_machine.specs.Starts.{IsStart}
 use Rattle.nv_machine.specs.Step.{after}
 use Rattle.nv_machine.specs.World.{Actor, Draining, Drop, Event, LockPicked, Make, Next, Pick, Pin, Release, Running, Show, SnapshotStep, Snapshots, Unpin, World, actor_at, cell_at, idle, owner_at}
 use Rattle.nv_machine.proofs.EachOf.{all_back}
@@ -50,7 +49,7 @@ use Rattle.nv_machine.proofs.PoolLaw.{all_pooled}
 use Rattle.nv_machine.proofs.PoolRuns.{standing}
 use Rattle.nv_machine.proofs.PoolTurns.{Standing}
 use Rattle.nv_machine.proofs.Reached.{reached}
-use Rattle.nv_core.proofs.GivenCounts.{of_numbers}
+use Rattle.nv_machine.proofs.Counts.{of_numbers}
 use Rattle.nv_core.proofs.GivenOn.{HasOn, HasPicked}
 use Rattle.nv_core.proofs.HeldPages.{none_out_at}
 
@@ -95,9 +94,9 @@ kept_there marks n kept = elim (cases_lt n (length marks)) [
 
 -- ---- a world that events lead to
 
-module _ (g : GeometryNumbers) (events : List Event) (within : IsWithinLimits g) where
+module _ (g : GeometryNumbers) (start : World) (records : List Record) (events : List Event) (is_start : IsStart g start records) where
   abbrev w : World
-  w = after (formatted g) events
+  w = after start events
 
   abbrev cell : ℕ → CellState
   cell ino = cell_at w.shared ino
@@ -114,15 +113,16 @@ module _ (g : GeometryNumbers) (events : List Event) (within : IsWithinLimits g)
 
     pin_fewer : pins_at snapshot q.next ≡ false → ForSome (pins_of w.shared.book.snaps snapshot) (λ pins. pins < PINS)
     pin_fewer e pins has_it =
-        let are : pins ≡ shows_of snapshot w = subst (ArePins (shows_of snapshot w)) has_it (pins_of_shows g events snapshot) in
+        let are : pins ≡ shows_of snapshot w =
+        subst (ArePins (shows_of snapshot w)) has_it (pins_of_shows g start records events snapshot is_start) in
         let fewer = some_fails (λ (a : Actor). pins_by_call snapshot a.running) w.actors actor idle (runs_inside w actor q is)
         (its_pins false e) in
-        let many = (of_numbers g events).actors in
-        let fit = within.actors_fit in
+        let many = (of_numbers g start records events is_start).actors in
+        let fit = is_start.limits.actors_fit in
         omega (arith, are, fewer, many, fit)
 
     has_pin : pins_at snapshot q.next ≡ true → IsSomeAnd (pins_of w.shared.book.snaps snapshot) (λ pins. 0 < pins)
-    has_pin e = go (pins_of w.shared.book.snaps snapshot) (pins_of_shows g events snapshot) where
+    has_pin e = go (pins_of w.shared.book.snaps snapshot) (pins_of_shows g start records events snapshot is_start) where
       go : (o : Option ℕ) → ArePins (shows_of snapshot w) o → IsSomeAnd o (λ pins. 0 < pins)
       go None are = absurd (omega (arith, are, some_show e))
       go (Some pins) are = omega (arith, are, some_show e)
@@ -134,7 +134,7 @@ module _ (g : GeometryNumbers) (events : List Event) (within : IsWithinLimits g)
       go (Some pins) some = refl
 
   log_is : (ino : ℕ) → IsLog (log_of (cell ino))
-  log_is ino = IsLog-take (cell ino).chain.tail (cell ino).chain.entries ((reached g events within).order.logs ino).ordered
+  log_is ino = IsLog-take (cell ino).chain.tail (cell ino).chain.entries ((reached g start records events is_start).order.logs ino).ordered
 
   -- ---- a picked record
 
@@ -147,7 +147,7 @@ module _ (g : GeometryNumbers) (events : List Event) (within : IsWithinLimits g)
     of_pair : IsOfPair w picked
     of_pair =
         let book = w.shared.book in
-        let rest = all_back (IsOfPair w) (all_records book.manifests) _ (recorded_pairs g events within) in
+        let rest = all_back (IsOfPair w) (all_records book.manifests) _ (recorded_pairs g start records events is_start) in
         let all = all_back (IsOfPair w) book.deferred (flat_map picked_by_actor w.actors) rest in
         (subst (AllByRecursion (IsOfPair w)) has_it
         (own_all picked_by_actor (IsOfPair w) w.actors actor (runs_inside w actor q is) all)).0
@@ -173,14 +173,15 @@ module _ (g : GeometryNumbers) (events : List Event) (within : IsWithinLimits g)
           own_count picked_by_actor p w.actors actor (runs_inside w actor q is),
           count_append p (all_records book.manifests) (book.deferred ++ flat_map picked_by_actor w.actors),
           count_append p book.deferred (flat_map picked_by_actor w.actors),
-          recorded_once g events within picked.ino of_pair.n,
+          recorded_once g start records events is_start picked.ino of_pair.n,
         ))
 
     stands : Standing g (Snapshots (Release draining picked)) actor w.shared (actor_at w actor).hand q
     stands =
-        let known = reached g events within in
+        let known = reached g start records events is_start in
         subst (λ (k : Next). Standing g k actor w.shared (actor_at w actor).hand q) e
-        (standing g w actor q known.locks (all_numbers g events within) known.grown (all_pooled g events within) is)
+        (standing g w actor q known.locks (all_numbers g start records events is_start) known.grown
+        (all_pooled g start records events is_start) is)
 
     low : picked.ino < length w.shared.cells
     low = lent_inside (Snapshots (Release draining picked)) actor w.shared q stands.before picked.ino refl
@@ -193,12 +194,12 @@ module _ (g : GeometryNumbers) (events : List Event) (within : IsWithinLimits g)
       kept = ap (option_and_then (λ n. slice_get (cell picked.ino).marks n)) number_is
           ∙ kept_there (cell picked.ino).marks of_pair.n recorded;
       still = record {
-        size = (all_parts g events within picked.ino low).size;
+        size = (all_parts g start records events is_start picked.ino low).size;
         settled = stands.grown.tails picked.ino owned refl;
       };
-      chain = chains_below g w picked.ino (all_numbers g events within);
-      parts = λ n b at. parts_below g w picked.ino n b (all_numbers g events within) at;
-      generation = λ gone. inodes_early g events picked.ino within (gone_inode (cell picked.ino) gone);
+      chain = chains_below g w picked.ino (all_numbers g start records events is_start);
+      parts = λ n b at. parts_below g w picked.ino n b (all_numbers g start records events is_start) at;
+      generation = λ gone. inodes_early g start records events picked.ino is_start (gone_inode (cell picked.ino) gone);
     }
 
   -- ---- every kind
@@ -209,7 +210,7 @@ module _ (g : GeometryNumbers) (events : List Event) (within : IsWithinLimits g)
   on_snapshots actor q is (Drop snapshot) e = tt
   on_snapshots actor q is (Pin snapshot) e = pin_fewer actor q is snapshot (ap (pins_at snapshot) e)
   on_snapshots actor q is (Show snapshot showing) e =
-      none_out_at g events within snapshot (lives actor q is snapshot (ap (pins_at snapshot) e ∙ self snapshot))
+      none_out_at g start records events is_start snapshot (lives actor q is snapshot (ap (pins_at snapshot) e ∙ self snapshot))
   on_snapshots actor q is (Unpin snapshot seen) e = has_pin actor q is snapshot (ap (pins_at snapshot) e ∙ self snapshot)
   on_snapshots actor q is (Pick draining) e = tt
   on_snapshots actor q is (LockPicked draining picked) e = tt

@@ -10,7 +10,6 @@ use Rattle.std.proofs.lemmas.Option.{get_or_from_slice_get, same_Some, slice_get
 use Rattle.nv_alloc.specs.Block.{BlockValue, number_of}
 use Rattle.nv_alloc.specs.Numbers.{times}
 use Rattle.nv_base.specs.Ids.{is_same_id}
-use Rattle.nv_base.specs.Limits.{IsWithinLimits}
 use Rattle.nv_base.specs.declared.geometry.GeometryNumbers.{GeometryNumbers}
 use Rattle.nv_book.specs.Book.{BookState}
 use Rattle.nv_book.specs.Listed.{all_records}
@@ -44,9 +43,9 @@ use Rattle.nv_machine.proofs.EachOf.{all_back}
 use Rattle.nv_machine.proofs.FiledLaw.{recorded_once, recorded_pairs}
 use Rattle.nv_machine.proofs.FiledLists.{count, count_append, count_cons}
 use Rattle.nv_machine.proofs.Pairs.{its_number}
-use Rattle.nv_machine.specs.Format.{formatted}
 use Rattle.nv_machine.specs.Held.{is_of_slot, pending_in}
 use Rattle.nv_machine.specs.Recorded.{IsOfPair, is_kept, is_record_of}
+use Rattle.nv_machine.specs.Starts.{IsStart}
 use Rattle.nv_machine.specs.Step.{after}
 use Rattle.nv_machine.specs.World.{Event, World, cell_at, no_cell}
 
@@ -268,13 +267,13 @@ module _ (w : World) (cells : (ino : ℕ) → ino < length w.shared.cells → Is
       (λ ino. length-append (paged ino (log_at ino) d) (all_paged ino (log_at ino) ds)) in
       omega (arith, one, rest, first, both)
 
-pub pending_few : (g : GeometryNumbers) (events : List Event) → IsWithinLimits g
-    → block_count (pending_in (after (formatted g) events)) ≤ kept_of (after (formatted g) events).shared
-pending_few g events within =
-    let w = after (formatted g) events in
+pub pending_few : (g : GeometryNumbers) (start : World) (records : List Record) (events : List Event) → IsStart g start records
+    → block_count (pending_in (after start events)) ≤ kept_of (after start events).shared
+pending_few g start records events is_start =
+    let w = after start events in
     let book = w.shared.book in
-    let cells = (laws_after g events within).cells in
-    let of_pairs = all_back (IsOfPair w) (all_records book.manifests) (pending_in w) (recorded_pairs g events within) in
+    let cells = (laws_after g start records events is_start).cells in
+    let of_pairs = all_back (IsOfPair w) (all_records book.manifests) (pending_in w) (recorded_pairs g start records events is_start) in
     let pages = pending_pages w cells (pending_in w) of_pairs in
     let each = sum_least (length w.shared.cells)
     (λ ino. length (all_paged ino (log_of (cell_at w.shared ino)) (pending_in w))) (λ ino. kept_in book (cell_at w.shared ino))
@@ -282,10 +281,10 @@ pending_few g events within =
     let all = sum_list (kept_in book) w.shared.cells no_cell in
     omega (arith, pages, each, all) where
       once : (ino n : ℕ)
-          → count (is_record_of (cell_at (after (formatted g) events).shared ino) ino n) (pending_in (after (formatted g) events))
-          ≤ bit (is_kept (mark_at (cell_at (after (formatted g) events).shared ino).marks n))
+          → count (is_record_of (cell_at (after start events).shared ino) ino n) (pending_in (after start events))
+          ≤ bit (is_kept (mark_at (cell_at (after start events).shared ino).marks n))
       once ino n =
-          let w = after (formatted g) events in
+          let w = after start events in
           let both = count_append (is_record_of (cell_at w.shared ino) ino n) (all_records w.shared.book.manifests) (pending_in w) in
-          let law = recorded_once g events within ino n in
+          let law = recorded_once g start records events is_start ino n in
           omega (arith, both, law)

@@ -75,7 +75,7 @@ shows_reached : (P : Shared → Type 0) → ((w : machine.World) → IsReached w
     → P (shared_of w.shared)
 shows_reached P all w is =
     let g = w.shared.geometry.numbers in
-    let m : IsReached is.0 = subst IsReached (sym is.2.reached) (reached g is.1 is.2.limits) in
+    let m : IsReached is.0 = subst IsReached (sym is.2.reached) (reached g is.1.start is.1.records is.1.events is.2.is_start) in
     subst P (sym is.2.shows.shared) (all is.0 m)
 
 pub noted_tail_within : (w : WorldState) → IsWorld w → (ino : ℕ) → IsTailWithin (shared_of w.shared) ino

@@ -49,7 +49,8 @@ pub none_out : (w : WorldState) → IsWorld w → (ino : ℕ) → IsTailWithin (
     → NoneOut (cell_at (shared_of w.shared) ino) (settled (shared_of w.shared) ino)
 none_out w is =
     let m = is.0 in
-    let r : IsReached m = subst IsReached (sym is.2.reached) (reached w.shared.geometry.numbers is.1 is.2.limits) in
+    let r : IsReached m =
+    subst IsReached (sym is.2.reached) (reached w.shared.geometry.numbers is.1.start is.1.records is.1.events is.2.is_start) in
     let all : (ino : ℕ) → IsTailWithin m.shared ino → NoneOut (cell_at m.shared ino) (settled m.shared ino) =
     λ ino tail.
     none_out_of (cell_at m.shared ino) (settled_tail m.shared.book.journals ino (cell_at m.shared ino).chain.tail)

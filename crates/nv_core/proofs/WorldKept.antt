@@ -4,16 +4,15 @@ use Rattle.std.specs.Prelude.{◌==◌, ◌≢◌, slice_index_or, slice_set}
 use Rattle.std.proofs.lemmas.Bool.{eqb-false, eqb-true, le-ltb, lt-ltb}
 use Rattle.std.proofs.lemmas.Grind.{get_or-set_at}
 use Rattle.std.proofs.lemmas.List.{get_or-set_other, length-set}
-use Rattle.nv_base.specs.Limits.{IsWithinLimits}
 use Rattle.nv_base.specs.declared.fault.Fault.TheVariants.{ActorBusy, ActorIdle}
 use Rattle.nv_base.specs.declared.geometry.GeometryNumbers.{GeometryNumbers}
 use Rattle.nv_machine.proofs.Reached.{reached}
-use Rattle.nv_machine.specs.Format.{formatted}
 use Rattle.nv_machine.specs.Locks.{AreLocks}
 use Rattle.nv_calls.specs.declared.call.Call.{Call}
 use Rattle.nv_machine.specs.Sequence.{beginning, begun}
+use Rattle.nv_machine.specs.Starts.{IsStart}
 use Rattle.nv_machine.specs.Step as machine_step
-use Rattle.nv_machine.specs.Step.{after, changed, go_step, start_step, stays, step}
+use Rattle.nv_machine.specs.Step.{changed, go_step, start_step, stays, step}
 use Rattle.nv_machine.specs.World as machine
 use Rattle.nv_machine.specs.World.{actor_at}
 use Rattle.nv_core.proofs.Given.{can_step}
@@ -22,7 +21,7 @@ use Rattle.nv_core.proofs.Stays.{rooms_stay}
 use Rattle.nv_core.proofs.WorldSteps.{set_back, shows_none, shows_set, shows_some, steps_on, world_with}
 use Rattle.nv_core.specs.Rooms.{HasActorRooms}
 use Rattle.nv_core.specs.Turns.{CanGo, HasTurned, LeavesOthers}
-use Rattle.nv_core.specs.Worlds.{IsStep, IsWorld, IsWorldAfter, Shows, ShowsActor, ShowsCall, ShowsRunning, WorldState, reply_of}
+use Rattle.nv_core.specs.Worlds.{IsStep, IsWorld, IsWorldAfter, Run, Shows, ShowsActor, ShowsCall, ShowsRunning, WorldState, reply_of}
 use Rattle.nv_core.specs.Shown.{held_by, shared_of}
 use Rattle.nv_core.specs.declared.event.Event.TheVariants as event
 use Rattle.nv_core.specs.declared.event.Reply.{Reply}
@@ -32,23 +31,24 @@ use Rattle.nv_core.specs.declared.shared.Shared.{Shared}
 use Rattle.nv_core.specs.declared.world.Actor.{Actor}
 
 -- the locks of a world that events have led to
-pub locks_of : (w : WorldState) (m : machine.World) (events : List machine.Event) → IsWorldAfter w m events → AreLocks m
-locks_of w m events is =
-    subst AreLocks (sym is.reached) (reached w.shared.geometry.numbers events is.limits).locks
+pub locks_of : (w : WorldState) (m : machine.World) (run : Run) → IsWorldAfter w m run → AreLocks m
+locks_of w m run is =
+    subst AreLocks (sym is.reached) (reached w.shared.geometry.numbers run.start run.records run.events is.is_start).locks
+
+-- a run with one event more
+abbrev pub run_on : Run → machine.Event → Run
+run_on run e = record run { events = run.events ++ e ∷ [] }
 
 -- one event more
-pub world_after : (w : WorldState) (m : machine.World) (events : List machine.Event) (e : machine.Event) (actor : ℕ) (new : Shared)
-    (state : Actor)
-    → IsWorldAfter w m events → actor < length w.actors → new.geometry ≡ w.shared.geometry
+pub world_after : (w : WorldState) (m : machine.World) (run : Run) (e : machine.Event) (actor : ℕ) (new : Shared) (state : Actor)
+    → IsWorldAfter w m run → actor < length w.actors → new.geometry ≡ w.shared.geometry
     → Shows (world_with new actor state w) (step m e).world → HasActorRooms new state.hold state.running
     → ((k : ℕ) (d : Actor) → k ≢ actor → k < length w.actors
     → HasActorRooms new (slice_index_or w.actors k d).hold (slice_index_or w.actors k d).running)
-    → IsWorldAfter (world_with new actor state w) (step m e).world (events ++ e ∷ [])
-world_after w m events e actor new state is lt same shows own others = record {
-  limits = subst (λ (g : GeometryNumbers). IsWithinLimits g) (ap (λ g. g.numbers) (sym same)) is.limits;
-  reached = ap (λ (x : machine.World). (step x e).world) is.reached
-      ∙ sym (after-snoc (formatted w.shared.geometry.numbers) events e)
-      ∙ ap (λ (g : GeometryNumbers). after (formatted g) (events ++ e ∷ [])) (ap (λ g. g.numbers) (sym same));
+    → IsWorldAfter (world_with new actor state w) (step m e).world (run_on run e)
+world_after w m run e actor new state is lt same shows own others = record {
+  is_start = subst (λ (g : GeometryNumbers). IsStart g run.start run.records) (ap (λ g. g.numbers) (sym same)) is.is_start;
+  reached = ap (λ (x : machine.World). (step x e).world) is.reached ∙ sym (after-snoc run.start run.events e);
   shows = shows;
   rooms = λ k d small. each k d (omega (arith, small, length-set w.actors actor state));
 } where
@@ -76,7 +76,7 @@ can_go w is actor there own d at = by own.running refl where
   by : (o : Option Running) → own.running ≡ o → CanGo w.shared own.hold o actor
   by None e = tt
   by (Some running) e =
-      can_step w.shared w.actors m is.1 all.limits all.reached all.shows.shared all.shows.count actor there own
+      can_step w.shared w.actors m is.1 all.is_start all.reached all.shows.shared all.shows.count actor there own
       (subst (λ (a : Actor). ShowsActor a (actor_at m actor)) at (all.shows.each actor d there))
       (subst (λ (a : Actor). HasActorRooms w.shared a.hold a.running) at (all.rooms actor d there)) running e
 
@@ -98,7 +98,7 @@ goes_on w is actor d new state running answer lt runs turns leaves rooms =
     let one = steps_on w m actor d new state running answer all.shows lt runs rest.geometry turns in
     let e = machine.Go actor one.0 in (
       (step m e).world,
-      is.1 ++ e ∷ [],
+      run_on is.1 e,
       world_after w m is.1 e actor new state all lt rest.geometry one.2 rooms
           (λ k dk apart small. rooms_stay m (locks_of w m is.1 all) w.shared new all.shows.shared actor k apart call.0 call.1 rest
           (slice_index_or w.actors k dk) (all.shows.each k dk small) (all.rooms k dk small)),
@@ -245,7 +245,7 @@ start_keeps w actor d c state answer lt is has =
     let e = machine.Start actor c in
     let one = start_steps w m actor d c state answer is.2.shows lt has in (
       (step m e).world,
-      is.1 ++ e ∷ [],
+      run_on is.1 e,
       world_after w m is.1 e actor w.shared state is.2 lt refl one.1 has.rooms (λ k dk apart small. is.2.rooms k dk small),
     )
 

@@ -1,22 +1,22 @@
 -- What holds of a world whatever events led to it.
-use Rattle.std.specs.Prelude.{◌≡◌, ℕ, Contains, List, [], Some, length}
+use Rattle.std.specs.Prelude.{◌≡◌, ℕ, Contains, List, Some, length}
 use Rattle.nv_audit.specs.Whole.{Agrees}
 use Rattle.nv_base.specs.declared.geometry.GeometryNumbers.{GeometryNumbers}
 use Rattle.nv_base.specs.declared.numbers.Handle.{Handle}
 use Rattle.nv_book.specs.Listed.{unheld}
 use Rattle.nv_book.specs.declared.record.Record.{Record}
 use Rattle.nv_epoch.specs.SnapList.{ids}
-use Rattle.nv_machine.specs.Format.{formatted}
 use Rattle.nv_machine.specs.Numbers.{IdleHaveNothing}
 use Rattle.nv_machine.specs.PlainRun.{Plain, plain_after, plain_of}
 use Rattle.nv_machine.specs.PoolScan.{pool_from_scratch}
 use Rattle.nv_machine.specs.Reading.{AreCopied, copied_tree, plain_tree}
 use Rattle.nv_machine.specs.Recorded.{records_after}
 use Rattle.nv_machine.specs.Settled.{settled_nodes, snapshot_tree, tree_of}
+use Rattle.nv_machine.specs.Starts.{IsStart}
 use Rattle.nv_machine.specs.Step.{after}
 use Rattle.nv_machine.specs.World as machine
 use Rattle.nv_core.specs.Audited.{device_of}
-use Rattle.nv_core.specs.Worlds.{Shows, WorldState}
+use Rattle.nv_core.specs.Worlds.{Run, Shows, WorldState}
 
 -- A WORLD BESIDE THE PLAIN WORLD AND THE LIST OF ITS RECORDS. Each inode's counts, the records that living
 -- snapshots hold and each free list are what one scan of all logs and of the snapshots gives, where what hands have
@@ -37,15 +37,15 @@ pub record IsConsistent (g : GeometryNumbers) (w : machine.World) (plain : Plain
   pub snapshot_trees : (snapshot : ℕ) → Contains (ids w.shared.book.snaps) snapshot
       → copied_tree (length w.shared.cells) plain.copies snapshot ≡ Some (snapshot_tree w snapshot)
 
--- the same of the world to which events lead from a new one, beside the plain world and the record
--- list to which they lead
-abbrev pub IsConsistentAfter : GeometryNumbers → List machine.Event → Type 0
-IsConsistentAfter g events =
-    IsConsistent g (after (formatted g) events) (plain_after (formatted g) events (plain_of (formatted g)))
-    (records_after (formatted g) events [])
+-- the same of the world to which events lead from where a run starts, beside the plain world and the record list to
+-- which they lead from those of the start
+abbrev pub IsConsistentAfter : GeometryNumbers → Run → Type 0
+IsConsistentAfter g run =
+    IsConsistent g (after run.start run.events) (plain_after run.start run.events (plain_of run.start))
+    (records_after run.start run.events run.records)
 
--- A WORLD IS CONSISTENT: some events lead from a new world to what it shows, and so it is after these
+-- A WORLD IS CONSISTENT: some events lead from some start to what it shows, and so it is after these
 abbrev pub IsConsistentWorld : WorldState → Type 0
 IsConsistentWorld w =
     let g = w.shared.geometry.numbers in
-    (events : List machine.Event) × Shows w (after (formatted g) events) × IsConsistentAfter g events
+    (run : Run) × IsStart g run.start run.records × Shows w (after run.start run.events) × IsConsistentAfter g run

@@ -1,7 +1,9 @@
 -- When a world shows one of the machine.
 use Rattle.std.specs.Prelude.{◌≡◌, ◌≢◌, replicate, ℕ, ◌<◌, Bool, List, [], ◌∷◌, length, map, Option, Some, None, slice_index_or}
-use Rattle.nv_base.specs.Limits.{IsWithinLimits}
+use Rattle.nv_base.specs.declared.geometry.GeometryNumbers.{GeometryNumbers}
+use Rattle.nv_book.specs.declared.record.Record.{Record}
 use Rattle.nv_machine.specs.Format.{formatted}
+use Rattle.nv_machine.specs.Starts.{IsStart}
 use Rattle.nv_machine.specs.Step as machine_step
 use Rattle.nv_machine.specs.World as machine
 use Rattle.nv_core.specs.declared.event.Event.{Event}
@@ -88,18 +90,28 @@ pub record IsRun (m : machine.World) (events : List Event) (replies : List Reply
 
 -- ---- the invariant
 
--- a world shows the machine's after these events from a new one, so that the machine's laws hold of it; and there is
--- room for what its calls are about to do
-pub record IsWorldAfter (w : WorldState) (m : machine.World) (events : List machine.Event) : Type 0 where
-  pub limits : IsWithinLimits w.shared.geometry.numbers
-  pub reached : m ≡ machine_step.after (formatted w.shared.geometry.numbers) events
+-- a run of the machine: where it starts, with which records, and the events that came
+pub record Run : Type 0 where
+  pub start : machine.World
+  pub records : List Record
+  pub events : List machine.Event
+
+-- that of a new world before any event
+abbrev pub new_run : GeometryNumbers → Run
+new_run g = record { start = formatted g; records = []; events = [] }
+
+-- a world shows the machine's after a run, so that the machine's laws hold of it; and there is room for what its calls
+-- are about to do
+pub record IsWorldAfter (w : WorldState) (m : machine.World) (run : Run) : Type 0 where
+  pub is_start : IsStart w.shared.geometry.numbers run.start run.records
+  pub reached : m ≡ machine_step.after run.start run.events
   pub shows : Shows w m
   pub rooms : (k : ℕ) (d : Actor) → k < length w.actors
       → HasActorRooms w.shared (slice_index_or w.actors k d).hold (slice_index_or w.actors k d).running
 
 -- WHAT HOLDS OF EVERY WORLD: there is one of the machine that it shows
 abbrev pub IsWorld : WorldState → Type 0
-IsWorld w = (m : machine.World) × (events : List machine.Event) × IsWorldAfter w m events
+IsWorld w = (m : machine.World) × (run : Run) × IsWorldAfter w m run
 
 -- ---- for those who hold a world
 

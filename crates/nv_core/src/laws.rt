@@ -1,26 +1,25 @@
 //! That worlds are consistent: laws, each the contract of a function that does nothing.
 
-ghost use Rattle.std.specs.Prelude.{List};
-ghost use Rattle.nv_base.specs.Limits.{IsWithinLimits};
 ghost use Rattle.nv_base.specs.declared.geometry.GeometryNumbers.{GeometryNumbers};
 ghost use Rattle.nv_core.specs.Consistent.{IsConsistentAfter, IsConsistentWorld};
-ghost use Rattle.nv_machine.specs.World as machine;
+ghost use Rattle.nv_core.specs.Worlds.{Run};
+ghost use Rattle.nv_machine.specs.Starts.{IsStart};
 
 use crate::World;
 
-/// Whatever events come from a new world on, each inode's counts, the records that living snapshots hold, each free
+/// Whatever events come from any start on, each inode's counts, the records that living snapshots hold, each free
 /// list and the pool of inode numbers are what one scan of all logs and of the snapshots gives, with what hands have
 /// and what is deferred named apart: an idle actor has nothing, and deferred are the records that no living snapshot
 /// holds. The settled logs give the nodes and the tree of the plain world, in which each call makes its change at its
 /// commit point; and each living snapshot reads as the tree that stood when it was made. An inode's index and names are
 /// at all times those of one scan of its log ([`nv_cell::InodeCell`]).
 pub fn worlds_are_consistent()
-    ensures { (g : GeometryNumbers) (events : List machine.Event) → IsWithinLimits g
-        → IsConsistentAfter g events }
+    ensures { (g : GeometryNumbers) (run : Run) → IsStart g run.start run.records
+        → IsConsistentAfter g run }
 {}
 
 impl World {
-    /// A law: some events lead from a new world to what this one shows, and after them it is as
+    /// A law: some events lead from some start to what this one shows, and after them it is as
     /// [`worlds_are_consistent`] says.
     pub fn consistent(&self)
         ensures { IsConsistentWorld self.now }

@@ -1,7 +1,8 @@
-use Rattle.std.proofs.Common.{[], ap}
+use Rattle.std.proofs.Common.{ap}
 use Rattle.nv_base.specs.declared.geometry.Geometry.{Geometry}
 use Rattle.nv_machine.specs.Format.{formatted}
 use Rattle.nv_core.proofs.Formats.{world_made}
+use Rattle.nv_core.specs.Worlds.{new_run}
 use Rattle.nv_core.proofs.world.World.format.Goals as goal
 
 pub invariant_of-result : goal.invariant_of-result
@@ -9,4 +10,4 @@ invariant_of-result c =
     let g = c.args.geometry.numbers in
     let made = world_made g c.furnish.new.shared c.furnish.new.actors.items c.args.geometry.limits
     (ap (λ (device : Geometry). device.numbers) c.furnish.ensures.geometry) c.in-Ok.ensures.shared c.in-Ok.ensures.actors in
-    (formatted g, [], made)
+    (formatted g, new_run g, made)
