@@ -38,7 +38,7 @@ use Rattle.nv_machine.specs.Recorded.{is_kept, is_record_of, recorded_in}
 use Rattle.nv_machine.specs.Starts.{IsStart}
 use Rattle.nv_machine.specs.Step.{after}
 use Rattle.nv_machine.specs.World.{Event, World, cell_at, no_cell}
-use Rattle.nv_machine.proofs.EachOf.{all_back, all_weaker, all_with}
+use Rattle.nv_machine.proofs.EachOf.{all_at, all_back, all_weaker, all_with}
 use Rattle.nv_machine.proofs.FiledHeld.{recorded_for}
 use Rattle.nv_machine.proofs.FiledLaw.{all_marked, recorded_all, recorded_once}
 use Rattle.nv_machine.proofs.FiledLists.{count, count_append, count_cons, one}
@@ -48,7 +48,7 @@ use Rattle.nv_machine.proofs.FiledRuns.{known}
 use Rattle.nv_machine.proofs.FiledWorlds.{picked_in}
 use Rattle.nv_machine.proofs.HeldMarks.{any_gives}
 use Rattle.nv_machine.proofs.Lists.{self}
-use Rattle.nv_machine.proofs.Pairs.{has_number, its_name, its_number, name_is, own_name}
+use Rattle.nv_machine.proofs.Pairs.{its_name, its_number, name_is, own_name, record_number}
 use Rattle.nv_core.specs.Audited.{parts_by_actor}
 use Rattle.nv_core.proofs.AuditCounts.{count_any, count_below, count_filter, count_map, count_none, no_pass, none_numbered, one_numbered}
 use Rattle.nv_core.proofs.AuditNamed.{hands_so, in_killed, in_record}
@@ -170,9 +170,9 @@ module _ (g : GeometryNumbers) (start : World) (records : List Record) (events :
     is : IsLog log
     is = log_in g start records events ino is_start
 
-    told : AllByRecursion (IsTold ino cell.block log) (recorded_in w)
+    told : AllByRecursion (IsTold (ids w.shared.book.snaps) ino cell.block log) (recorded_in w)
     told =
-        recorded_all g start records events (IsTold ino cell.block log) is_start
+        recorded_all g start records events (IsTold (ids w.shared.book.snaps) ino cell.block log) is_start
         ((all_marked g start records events is_start).cells ino).told
 
     out : AllByRecursion (λ d. is_held_by s d ≡ false) (picked_in w)
@@ -211,7 +211,7 @@ module _ (g : GeometryNumbers) (start : World) (records : List Record) (events :
       abbrev absent : InodePart
       absent = record { ino = ino; part = part }
 
-      not_recorded : (d : Record) → IsTold ino cell.block log d → recorded s absent d ≡ false
+      not_recorded : (d : Record) → IsTold (ids w.shared.book.snaps) ino cell.block log d → recorded s absent d ≡ false
       not_recorded d told_d =
           no_pass (recorded s absent d) (λ t.
           let two = and_parts (is_held_by s d) (is_same absent (inode_part d)) t in
@@ -223,7 +223,8 @@ module _ (g : GeometryNumbers) (start : World) (records : List Record) (events :
       none_at_all =
           all_counted absent
           ∙ count_none (recorded s absent) (recorded_in w)
-          (all_weaker (IsTold ino cell.block log) (λ d. recorded s absent d ≡ false) not_recorded (recorded_in w) told)
+          (all_weaker (IsTold (ids w.shared.book.snaps) ino cell.block log) (λ d. recorded s absent d ≡ false) not_recorded
+          (recorded_in w) told)
           ∙ sym (owed_counted part ∙ none_numbered (is_owed s named) (λ pair. is_same absent (part_in ino pair)) (pairs cell.block log)
           (λ n pair got t. never n pair got (ap (λ (x : InodePart). x.part) (same_is absent (part_in ino pair) t))))
 
@@ -253,30 +254,30 @@ module _ (g : GeometryNumbers) (start : World) (records : List Record) (events :
           )
 
       -- what is picked of the pair is held by no living snapshot
-      picked_so : (d : Record) → IsTold ino cell.block log d → is_held_by s d ≡ false → in_record ino pair d ≡ true → holds s pair ≡ false
+      picked_so : (d : Record) → IsTold (ids w.shared.book.snaps) ino cell.block log d → is_held_by s d ≡ false
+          → in_record ino pair d ≡ true → holds s pair ≡ false
       picked_so d told_d none t =
           let two = and_parts (is_of_slot ino d) (has_name pair (name_of d)) t in
           let own = told_d (eqb-true d.ino ino two.0) in
           let place : own.n ≡ m =
-          same_Some own.n m (sym (has_number cell.block log (name_of d) d.birth d.death is own)
+          same_Some own.n m (sym (record_number (ids w.shared.book.snaps) cell.block log d is own)
           ∙ ap (number_named log) (name_is pair (name_of d) two.1) ∙ number) in
           let same : own.pair ≡ pair =
           same_Some own.pair pair (sym own.is ∙ ap (slice_get (pairs cell.block log)) place ∙ got) in
-          let birth : pair.birth ≡ d.birth = ap (λ (p : Pair). p.birth) (sym same) ∙ own.birth_is in
-          let death : pair.death ≡ Some d.death = ap (λ (p : Pair). p.death) (sym same) ∙ own.death_is in
-          let it : holds s pair ≡ holders.holds d.birth d.death s = rw (birth, death) refl in
-          it ∙ none
+          ap (holds s) (sym same) ∙ sym (all_at (λ x. is_held_by x d ≡ holds x own.pair) (ids w.shared.book.snaps) s own.holders lives)
+          ∙ none
 
-      picked_told : AllByRecursion (IsTold ino cell.block log) (picked_in w)
+      picked_told : AllByRecursion (IsTold (ids w.shared.book.snaps) ino cell.block log) (picked_in w)
       picked_told =
-          let T : Record → Type 0 = IsTold ino cell.block log in
+          let T : Record → Type 0 = IsTold (ids w.shared.book.snaps) ino cell.block log in
           all_back T w.shared.book.deferred (picked_in w) (all_back T (all_records w.shared.book.manifests)
           (w.shared.book.deferred ++ picked_in w) told)
 
       none_held : list_any (in_record ino pair) (picked_in w) ≡ true → holds s pair ≡ false
       none_held =
           any_gives (in_record ino pair) (holds s pair ≡ false) (picked_in w)
-          (all_with (IsTold ino cell.block log) (λ d. is_held_by s d ≡ false) (λ d. in_record ino pair d ≡ true → holds s pair ≡ false)
+          (all_with (IsTold (ids w.shared.book.snaps) ino cell.block log) (λ d. is_held_by s d ≡ false)
+          (λ d. in_record ino pair d ≡ true → holds s pair ≡ false)
           picked_so (picked_in w) picked_told out)
 
       owed_so : list_any (recorded s own_part) (recorded_in w) ≡ is_owed s named pair

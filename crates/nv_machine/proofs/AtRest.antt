@@ -136,7 +136,9 @@ module _ (g : GeometryNumbers) (w : World) (records : List Record) (all : HasAll
     before = all.listed.below;
     list = all.listed.list;
     dead = all.listed.dead;
-    paired = each_of w records (λ ino. all_front (IsTold ino (cell_at w.shared ino).block (log_of (cell_at w.shared ino))) records
+    paired =
+        each_of w records (λ ino. all_front
+        (IsTold (ids w.shared.book.snaps) ino (cell_at w.shared ino).block (log_of (cell_at w.shared ino))) records
         (picked_in w) (all.marked.cells ino).told);
     recorded = once_of w records all.listed all.marked;
     alive = λ ino n. bit_of_none (is_killed (mark_at (cell_at w.shared ino).marks n))

@@ -1,6 +1,6 @@
 -- What marks tell of an earlier epoch's log: the parts that it has and has not covered are there, and none
 -- of them goes out next.
-use Rattle.std.proofs.Common.{◌≡◌, ℕ, zero, suc, ◌+◌, ◌<◌, ◌≤◌, ◌++◌, ◌∙◌, ◌⊎◌, ap₂, true, false, List, [], ◌∷◌, drop, inl, inr, length, Option, Some, None, IsSome, ap, arith, refl, subst, sym, take}
+use Rattle.std.proofs.Common.{◌≡◌, ℕ, zero, suc, ◌+◌, ◌<◌, ◌≤◌, ◌++◌, ◌∙◌, ap₂, true, false, List, [], ◌∷◌, drop, inl, inr, length, Option, Some, None, IsSome, ap, arith, refl, subst, sym, take}
 use Rattle.std.specs.List.{AllByRecursion, Contains, flat_map}
 use Rattle.std.specs.Option.{option_map}
 use Rattle.std.specs.Prelude.{slice_get, slice_index_or, unwrap_or}
@@ -8,7 +8,7 @@ use Rattle.std.proofs.lemmas.Bool.{and_from, cases_lt, le-leb, lt-ltb, true≢fa
 use Rattle.std.proofs.lemmas.List.{get_or_default, get_or_past, take-append-drop}
 use Rattle.std.proofs.lemmas.Option.{none-some}
 use Rattle.nv_base.specs.declared.geometry.GeometryNumbers.{GeometryNumbers}
-use Rattle.nv_book.specs.Records.{holder_of}
+use Rattle.nv_book.specs.Records.{holder_of, is_held_by}
 use Rattle.nv_book.specs.declared.record.Record.{Record}
 use Rattle.nv_calls.specs.Retiring.{name_of}
 use Rattle.nv_cell.specs.Cell.{CellState, log_of, mark_or_fresh, number_in}
@@ -32,7 +32,7 @@ use Rattle.nv_entry.specs.declared.part.PartId.{PartId}
 use Rattle.nv_entry.proofs.Later.{up_to-append}
 use Rattle.nv_epoch.specs.Holders as holders
 use Rattle.nv_epoch.specs.SnapList.{ids}
-use Rattle.nv_epoch.proofs.Last.{contains_cases, none_passes}
+use Rattle.nv_epoch.proofs.Last.{none_passes}
 use Rattle.nv_machine.specs.Grown.{HasGrown, HasGrownBy}
 use Rattle.nv_machine.specs.Hands.{AreNumbers, HandAt, HandOf}
 use Rattle.nv_machine.specs.Held.{killed_by_actor, killed_by_call, killed_in, killed_slots, parts_for, picked_at, picked_by_actor, picked_by_call}
@@ -48,14 +48,14 @@ use Rattle.nv_machine.proofs.CopySteps.{GoesOut}
 use Rattle.nv_machine.proofs.EpochLogs.{IsHeldAt, born_by, log_at, splits, up_to_within}
 use Rattle.nv_machine.proofs.EpochSteps.{AreParts, spans}
 use Rattle.nv_machine.proofs.FiledLaw.{all_marked}
-use Rattle.nv_machine.proofs.EachOf.{all_back, all_front}
+use Rattle.nv_machine.proofs.EachOf.{all_at, all_back, all_front}
 use Rattle.nv_machine.proofs.FiledMarks.{IsDying, IsTold}
 use Rattle.nv_machine.proofs.FiledSteps.{AreFresh, MarksOf}
 use Rattle.nv_machine.proofs.FiledWorlds.{AreMarked, picked_in}
 use Rattle.nv_machine.proofs.FromScratch.{all_numbers}
 use Rattle.nv_machine.proofs.Locked.{Before, lent_cell}
 use Rattle.nv_machine.proofs.Locks.{before}
-use Rattle.nv_machine.proofs.Pairs.{HasPair, has_number, pair_there}
+use Rattle.nv_machine.proofs.Pairs.{has_number, IsRecordOf, pair_there, record_number}
 use Rattle.nv_machine.proofs.PartsFor.{first_for, slots_from}
 use Rattle.nv_machine.proofs.Reached.{reached}
 use Rattle.nv_machine.proofs.SnapRuns.{in_step}
@@ -68,13 +68,6 @@ all_of : {X : Type 0} (P : X → Type 0) (f : Actor → List X) (xs : List Actor
 all_of P f [] a lt all = absurd (omega (arith, lt))
 all_of P f (x ∷ xs) zero lt all = all_front P (f x) (flat_map f xs) all
 all_of P f (x ∷ xs) (suc a) lt all = all_of P f xs a (omega (arith, lt)) (all_back P (f x) (flat_map f xs) all)
-
-each_in : (P : ℕ → Type 0) (xs : List ℕ) (n : ℕ) → AllByRecursion P xs → Contains xs n → P n
-each_in P [] n all at = absurd (omega (arith, at.1))
-each_in P (x ∷ xs) n all at = go (contains_cases x xs n at) (λ c. each_in P xs n all.1 c) where
-  go : (n ≡ x) ⊎ Contains xs n → (Contains xs n → P n) → P n
-  go (inl same) rec = subst P (sym same) all.0
-  go (inr later) rec = rec later
 
 -- ---- an epoch's log is a front of the published one
 
@@ -149,7 +142,7 @@ module _ (living : List ℕ) (ino now : ℕ) (killed : List KilledPart) (records
           none_some e = cc
     out_never out (Some pair) got =
         true≢false (sym (lives_then epoch cell.block (log_of cell) log_is n low_then unc_then pair got)
-        ∙ each_in (λ s. holds s pair ≡ false) living epoch (marks.out n pair got out) lives)
+        ∙ all_at (λ s. holds s pair ≡ false) living epoch (marks.out n pair got out) lives)
 
     go : (m : Mark) → mark_at cell.marks n ≡ m → is_there (mark_or_fresh cell.marks n) ≡ true
     go Current e = ap is_there (here ∙ e)
@@ -158,21 +151,19 @@ module _ (living : List ℕ) (ino now : ℕ) (killed : List KilledPart) (records
     go Out e = absurd (out_never e (slice_get (pairs cell.block (log_of cell)) n) refl)
 
   -- a part that has died and that no living snapshot holds
-  no_longer : (d : Record) → HasPair cell.block (log_of cell) (name_of d) d.birth d.death → holder_of living d ≡ None
+  no_longer : (d : Record) → IsRecordOf living cell.block (log_of cell) d → holder_of living d ≡ None
       → number_in cell (name_of d) < part_total (log_at epoch cell)
       → is_covered cell.block (log_at epoch cell) (number_in cell (name_of d)) ≡ false → ⊥
   no_longer d pair none low unc =
       let number : number_in cell (name_of d) ≡ pair.n =
-      ap (λ (o : Option ℕ). unwrap_or o 0) (has_number cell.block (log_of cell) (name_of d) d.birth d.death log_is pair) in
+      ap (λ (o : Option ℕ). unwrap_or o 0) (record_number living cell.block (log_of cell) d log_is pair) in
       let low_then : pair.n < part_total (up_to epoch (log_of cell)) =
       subst (λ (l : List Entry). pair.n < part_total l) same (omega (arith, low, number)) in
       let unc_then : is_covered cell.block (up_to epoch (log_of cell)) pair.n ≡ false =
       subst (λ (l : List Entry). is_covered cell.block l pair.n ≡ false) same
       (ap (is_covered cell.block (log_at epoch cell)) (sym number) ∙ unc) in
-      let birth = born epoch cell.block (log_of cell) log_is pair.n low_then unc_then pair.pair pair.is in
-      let death = dies_later epoch cell.block (log_of cell) log_is pair.n low_then unc_then pair.pair pair.is d.death pair.death_is in
-      let birth_is = pair.birth_is in
-      true≢false (sym (and_from _ _ (le-leb d.birth epoch (omega (arith, birth, birth_is))) (lt-ltb epoch d.death death))
+      true≢false (sym (lives_then epoch cell.block (log_of cell) log_is pair.n low_then unc_then pair.pair pair.is)
+      ∙ sym (all_at (λ s. is_held_by s d ≡ holds s pair.pair) living epoch pair.holders lives)
       ∙ (none_passes (holders.holds d.birth d.death) living none).fails epoch lives)
 
 -- the killed parts of a log that has none past its tail
@@ -242,9 +233,9 @@ module _ (g : GeometryNumbers) (w : World) (known : IsReached w) (numbers : AreN
     released_part actor r draining d is next =
         let cell = cell_at w.shared d.ino in
         let its : picked_by_actor (actor_at w actor) ≡ d ∷ [] = ap picked_by_call is ∙ ap picked_at next in
-        let told = subst (AllByRecursion (IsTold d.ino cell.block (log_of cell))) its
-        (all_of (IsTold d.ino cell.block (log_of cell)) picked_by_actor w.actors actor (there actor r is)
-        (all_back (IsTold d.ino cell.block (log_of cell)) rs (picked_in w) (m.cells d.ino).told)) in
+        let told = subst (AllByRecursion (IsTold (ids w.shared.book.snaps) d.ino cell.block (log_of cell))) its
+        (all_of (IsTold (ids w.shared.book.snaps) d.ino cell.block (log_of cell)) picked_by_actor w.actors actor (there actor r is)
+        (all_back (IsTold (ids w.shared.book.snaps) d.ino cell.block (log_of cell)) rs (picked_in w) (m.cells d.ino).told)) in
         let none = subst (AllByRecursion (λ x. holder_of (ids w.shared.book.snaps) x ≡ None)) its
         (all_of (λ x. holder_of (ids w.shared.book.snaps) x ≡ None) picked_by_actor w.actors actor (there actor r is) m.unheld) in
         no_longer (ids w.shared.book.snaps) d.ino now (killed_in w d.ino) (rs ++ picked_in w) cell (m.cells d.ino) (m.fresh d.ino)

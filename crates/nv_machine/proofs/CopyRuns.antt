@@ -168,7 +168,11 @@ module _ (g : GeometryNumbers) (w v : World) (a : IsReadable g w) (b : IsReadabl
   one_copy : (ino generation : ℕ) → StepsTo epoch (cell_at w.shared ino) (cell_at v.shared ino)
       → (if generation == (cell_at v.shared ino).generation then copy_at epoch (cell_at v.shared ino) else None)
       ≡ (if generation == (cell_at w.shared ino).generation then copy_at epoch (cell_at w.shared ino) else None)
-  one_copy ino generation (inr emptied) = either (generation == y.generation) ∙ sym (neither (generation == x.generation)) where
+  one_copy ino generation (inr (inl keeps)) =
+      let y = cell_at v.shared ino in
+      ap (λ (n : ℕ). if generation == n then copy_at epoch y else None) keeps.generation
+      ∙ ap (λ (o : Option NodeCopy). if generation == (cell_at w.shared ino).generation then o else None) keeps.copy
+  one_copy ino generation (inr (inr emptied)) = either (generation == y.generation) ∙ sym (neither (generation == x.generation)) where
     x : CellState
     x = cell_at w.shared ino
 

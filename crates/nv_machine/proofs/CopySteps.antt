@@ -48,13 +48,18 @@ pub record Continues (epoch : ℕ) (a b : CellState) : Type 0 where
   pub log : log_at epoch b ≡ log_at epoch a
   pub same : HaveSameBlocks a b
 
+-- the copy is the same, by whatever entries
+pub record KeepsCopy (epoch : ℕ) (a b : CellState) : Type 0 where
+  pub generation : b.generation ≡ a.generation
+  pub copy : copy_at epoch b ≡ copy_at epoch a
+
 -- the cell had none, and is emptied
 pub record IsEmptied (epoch : ℕ) (a b : CellState) : Type 0 where
   pub none : copy_at epoch a ≡ None
   pub empty : b.chain.entries ≡ []
 
 abbrev pub StepsTo : ℕ → CellState → CellState → Type 0
-StepsTo epoch a b = Continues epoch a b ⊎ IsEmptied epoch a b
+StepsTo epoch a b = Continues epoch a b ⊎ (KeepsCopy epoch a b ⊎ IsEmptied epoch a b)
 
 pub same_cell : (epoch : ℕ) (cell : CellState) → StepsTo epoch cell cell
 same_cell epoch cell = inl (record { block = refl; generation = refl; log = refl; same = λ n x y e f. same_Some x y (sym e ∙ f) })
@@ -120,7 +125,7 @@ erased_steps epoch a b f is len held = go (is_erased b) refl where
 
   go : (c : Bool) → is_erased b ≡ c
       → StepsTo epoch a (if c then empty_cell b.block b.chain.page (b.generation + 1) b.version else b)
-  go true e = inr (record { none = none e; empty = refl })
+  go true e = inr (inr (record { none = none e; empty = refl }))
   go false e = inl (fewer_continues epoch a b f)
 
 are_after : (epoch commit now place : ℕ) (items : List Item) → epoch < now → AreAfter epoch (entries_of commit now place items)

@@ -1,7 +1,7 @@
 -- What holds of each element of a list: of lists one behind another, of those that pass a test, and of
 -- what follows from it.
-use Rattle.std.proofs.Common.{◌++◌, Bool, true, false, cond, List, [], ◌∷◌, filter}
-use Rattle.std.specs.List.{AllByRecursion}
+use Rattle.std.proofs.Common.{ℕ, zero, suc, arith, ◌++◌, Bool, true, false, cond, List, [], ◌∷◌, filter}
+use Rattle.std.specs.List.{AllByRecursion, Contains}
 
 pub all_append : {X : Type 0} (P : X → Type 0) (xs ys : List X) → AllByRecursion P xs → AllByRecursion P ys → AllByRecursion P (xs ++ ys)
 all_append P [] ys h k = k
@@ -23,6 +23,11 @@ pub all_with : {X : Type 0} (P Q R : X → Type 0) → ((x : X) → P x → Q x 
     → AllByRecursion Q xs → AllByRecursion R xs
 all_with P Q R f [] p q = tt
 all_with P Q R f (x ∷ xs) p q = (f x p.0 q.0, all_with P Q R f xs p.1 q.1)
+
+pub all_at : (P : ℕ → Type 0) (xs : List ℕ) (n : ℕ) → AllByRecursion P xs → Contains xs n → P n
+all_at P [] n all there = absurd (let lt = there.1 in omega (arith, lt))
+all_at P (x ∷ xs) n all (zero, lt, at) = rw (← at) all.0
+all_at P (x ∷ xs) n all (suc k, lt, at) = all_at P xs n all.1 (k, omega (arith, lt), at)
 
 pub all_filter : {X : Type 0} (P : X → Type 0) (p : X → Bool) (xs : List X) → AllByRecursion P xs → AllByRecursion P (filter p xs)
 all_filter P p [] h = tt

@@ -184,7 +184,7 @@ module _ (g : GeometryNumbers) (w : World) (all : IsKnown g w) (actor place : �
     gone = ap is_gone (sym settled_log) ∙ over.gone
 
     abbrev T : Record → Type 0
-    T d = IsTold slot left.block (log_of left) d
+    T d = IsTold living slot left.block (log_of left) d
 
     -- nothing is there of what is left
     outs : (n : ℕ) → n < length left.marks → is_there (mark_at left.marks n) ≡ false

@@ -37,7 +37,7 @@ use Rattle.nv_machine.proofs.PartsFor.{first_for, later_for, more_here, more_the
 behind_first : (living : List ℕ) (ino epoch : ℕ) (killed : List KilledPart) (rs picked more : List Record) (cell : CellState)
     → MarksOf living ino epoch killed ((rs ++ picked) ++ more) cell → MarksOf living ino epoch killed ((rs ++ more) ++ picked) cell
 behind_first living ino epoch killed rs picked more cell h =
-    let T : Record → Type 0 = IsTold ino cell.block (log_of cell) in
+    let T : Record → Type 0 = IsTold living ino cell.block (log_of cell) in
     recounted living ino epoch killed ((rs ++ picked) ++ more) ((rs ++ more) ++ picked) cell
     (λ n. omega (
       arith,
@@ -55,7 +55,7 @@ more_elsewhere : (living : List ℕ) (slot ino epoch : ℕ) (killed : List Kille
     → slot ≢ ino → AllByRecursion (λ (d : Record). d.ino ≡ slot) more → MarksOf living ino epoch killed (rs ++ picked) cell
     → MarksOf living ino epoch killed ((rs ++ more) ++ picked) cell
 more_elsewhere living slot ino epoch killed rs picked more cell ne of h =
-    let T : Record → Type 0 = IsTold ino cell.block (log_of cell) in
+    let T : Record → Type 0 = IsTold living ino cell.block (log_of cell) in
     let apart : AllByRecursion (λ (d : Record). d.ino ≢ ino) more =
     all_weaker (λ (d : Record). d.ino ≡ slot) (λ (d : Record). d.ino ≢ ino) (λ d e f. ne (sym e ∙ f)) more of in
     recounted living ino epoch killed (rs ++ picked) ((rs ++ more) ++ picked) cell

@@ -1,7 +1,7 @@
 -- What records tell a living snapshot to hold is what it holds by the logs, less what is current and what is killed.
 use Rattle.nv_machine.specs.Starts.{IsStart}
 use Rattle.nv_machine.specs.World.{World, Event, cell_at}
-use Rattle.std.proofs.Common.{◌≡◌, ℕ, zero, suc, ◌+◌, ◌&&◌, ◌∙◌, Bool, true, false, not, List, [], ◌∷◌, Some, ap, arith, map, refl, slice_get, sym}
+use Rattle.std.proofs.Common.{◌≡◌, ℕ, ◌+◌, ◌&&◌, ◌∙◌, Bool, true, false, not, List, [], ◌∷◌, Some, ap, arith, map, refl, slice_get, sym}
 use Rattle.std.specs.Prelude.{◌||◌}
 use Rattle.std.specs.List.{AllByRecursion, Contains, list_any}
 use Rattle.std.proofs.lemmas.Bool.{eqb-true}
@@ -29,11 +29,11 @@ use Rattle.nv_machine.specs.Held.{is_of_slot, killed_in}
 use Rattle.nv_machine.specs.Recorded.{is_kept, is_killed_pair, is_recorded_for, recorded_in}
 use Rattle.nv_machine.specs.Step.{after}
 use Rattle.nv_machine.proofs.FiledLaw.{all_marked, recorded_all, recorded_once}
-use Rattle.nv_machine.proofs.EachOf.{all_weaker}
+use Rattle.nv_machine.proofs.EachOf.{all_at, all_weaker}
 use Rattle.nv_machine.proofs.FiledLists.{count, count_cons, one}
 use Rattle.nv_machine.proofs.FiledMarks.{AreMarks, IsTold, is_filed_on, is_killed_on, pair_low}
 use Rattle.nv_machine.proofs.FiledRuns.{known}
-use Rattle.nv_machine.proofs.Pairs.{current_is, has_number, named_same, number_is}
+use Rattle.nv_machine.proofs.Pairs.{current_is, named_same, number_is, record_number}
 
 -- ---- whether any of a list passes a test
 
@@ -61,11 +61,6 @@ any_told : {X : Type 0} (p q : X → Bool) (xs : List X) → AllByRecursion (λ 
 any_told p q [] h = refl
 any_told p q (x ∷ xs) h = rw (h.0, any_told p q xs h.1) refl
 
-all_at : (P : ℕ → Type 0) (xs : List ℕ) (t : ℕ) → AllByRecursion P xs → Contains xs t → P t
-all_at P [] t all there = absurd (let lt = there.1 in omega (arith, lt))
-all_at P (x ∷ xs) t all (zero, lt, at) = rw (← at) all.0
-all_at P (x ∷ xs) t all (suc k, lt, at) = all_at P xs t all.1 (k, omega (arith, lt), at)
-
 -- ---- a pair of a slot
 
 module _ (living : List ℕ) (ino epoch : ℕ) (killed : List KilledPart) (rs : List Record) (block : ℕ) (log : List Entry) (ms : List Mark)
@@ -81,9 +76,9 @@ module _ (living : List ℕ) (ino epoch : ℕ) (killed : List KilledPart) (rs : 
       ∙ any_of (is_killed_on log n) killed (is_killed (mark_at ms n)) (h.killed_are n)
 
   -- a record of the pair is held by a snapshot where the pair is
-  held_so : (snapshot : ℕ) (d : Record) → IsTold ino block log d
+  held_so : (snapshot : ℕ) → Contains living snapshot → (d : Record) → IsTold living ino block log d
       → (is_of_slot ino d && (is_held_by snapshot d && has_name pair (name_of d))) ≡ (is_filed_on ino log n d && holds snapshot pair)
-  held_so snapshot d told =
+  held_so snapshot lives d told =
       rw (named_same block log is n pair got (name_of d)) (go (is_of_slot ino d) refl (is_number (number_named log (name_of d)) n)
       refl) where
         off : (c : Bool) → (c && false) ≡ false
@@ -101,23 +96,22 @@ module _ (living : List ℕ) (ino epoch : ℕ) (killed : List KilledPart) (rs : 
         go true e true f =
             let own = told (eqb-true d.ino ino e) in
             let number : own.n ≡ n =
-            same_Some own.n n (sym (has_number block log (name_of d) d.birth d.death is own) ∙ number_is (number_named log (name_of d))
+            same_Some own.n n (sym (record_number living block log d is own) ∙ number_is (number_named log (name_of d))
             n f) in
             let same : own.pair ≡ pair = same_Some own.pair pair (sym own.is ∙ ap (slice_get (pairs block log)) number ∙ got) in
-            let birth : pair.birth ≡ d.birth = ap (λ (p : Pair). p.birth) (sym same) ∙ own.birth_is in
-            let death : pair.death ≡ Some d.death = ap (λ (p : Pair). p.death) (sym same) ∙ own.death_is in
-            on (is_held_by snapshot d) ∙ rw (birth, death) refl
+            on (is_held_by snapshot d) ∙ all_at (λ s. is_held_by s d ≡ holds s own.pair) living snapshot own.holders lives
+            ∙ ap (holds snapshot) same
 
-  pub held_told : (snapshot : ℕ) (recorded : List Record) → AllByRecursion (IsTold ino block log) recorded
+  pub held_told : (snapshot : ℕ) (recorded : List Record) → AllByRecursion (IsTold living ino block log) recorded
       → count (is_filed_on ino log n) recorded ≡ bit (is_kept (mark_at ms n)) → Contains living snapshot
       → list_any (λ d. is_of_slot ino d && (is_held_by snapshot d && has_name pair (name_of d))) recorded
       ≡ (holds snapshot pair && (not (is_current pair) && not (list_any (has_name pair) (map (λ (k : KilledPart). k.part) killed))))
   held_told snapshot recorded told once lives =
       any_told (λ d. is_of_slot ino d && (is_held_by snapshot d && has_name pair (name_of d)))
       (λ d. is_filed_on ino log n d && holds snapshot pair) recorded
-      (all_weaker (IsTold ino block log)
+      (all_weaker (IsTold living ino block log)
       (λ d. (is_of_slot ino d && (is_held_by snapshot d && has_name pair (name_of d))) ≡ (is_filed_on ino log n d && holds snapshot pair))
-      (held_so snapshot) recorded told)
+      (held_so snapshot lives) recorded told)
       ∙ any_and (is_filed_on ino log n) (holds snapshot pair) recorded
       ∙ ap (λ (b : Bool). b && holds snapshot pair) (any_of (is_filed_on ino log n) recorded (is_kept (mark_at ms n)) once)
       ∙ by_mark (mark_at ms n) (holds snapshot pair)
@@ -151,5 +145,6 @@ recorded_for g start records events snapshot ino n pair is_start lives got =
     IsLog-take cell.chain.tail cell.chain.entries ((known g start records events is_start).order.logs ino).ordered in
     held_told (ids w.shared.book.snaps) ino w.shared.book.snaps.epoch (killed_in w ino) _ cell.block (log_of cell) cell.marks log m n
     pair got
-    snapshot (recorded_in w) (recorded_all g start records events (IsTold ino cell.block (log_of cell)) is_start m.told)
+    snapshot (recorded_in w)
+    (recorded_all g start records events (IsTold (ids w.shared.book.snaps) ino cell.block (log_of cell)) is_start m.told)
     (recorded_once g start records events is_start ino n) lives

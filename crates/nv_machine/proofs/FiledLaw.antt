@@ -196,12 +196,21 @@ recorded_all g start records events P is_start all =
 
 -- what is told of each slot is told of each record
 pub each_of : (w : World) (rs : List Record)
-    → ((ino : ℕ) → AllByRecursion (IsTold ino (cell_at w.shared ino).block (log_of (cell_at w.shared ino))) rs)
+    → ((ino : ℕ) → AllByRecursion (IsTold (ids w.shared.book.snaps) ino (cell_at w.shared ino).block (log_of (cell_at w.shared ino))) rs)
     → AllByRecursion (IsOfPair w) rs
 each_of w [] told = tt
 each_of w (d ∷ rs) told =
     let pair = (told d.ino).0 refl in (
-      record { n = pair.n; pair = pair.pair; is = pair.is; name = pair.name; birth = pair.birth_is; death = pair.death_is },
+      record {
+        n = pair.n;
+        pair = pair.pair;
+        is = pair.is;
+        name = pair.name;
+        birth = pair.birth_is;
+        died = pair.died;
+        holders =
+            pair.holders;
+      },
       each_of w rs (λ ino. (told ino).1),
     )
 

@@ -5,7 +5,7 @@ use Rattle.std.specs.List.{AllByRecursion, Contains}
 use Rattle.std.proofs.lemmas.Bool.{cases_lt, eqb-false, eqb-true, false≢true}
 use Rattle.std.proofs.lemmas.List.{get_or_past}
 use Rattle.std.proofs.lemmas.Option.{same_Some}
-use Rattle.nv_book.specs.Records.{holder_of}
+use Rattle.nv_book.specs.Records.{holder_of, is_held_by}
 use Rattle.nv_book.specs.declared.record.Record.{Record}
 use Rattle.nv_calls.specs.Retiring.{name_of, record_of}
 use Rattle.nv_cell.specs.Marks.{bit, is_current, is_killed, mark_at}
@@ -24,10 +24,10 @@ use Rattle.nv_epoch.specs.Holders as holders
 use Rattle.nv_epoch.proofs.Last.{none_passes}
 use Rattle.nv_machine.specs.Held.{is_of_slot}
 use Rattle.nv_machine.specs.Recorded.{is_kept}
-use Rattle.nv_machine.proofs.EachOf.{all_append}
+use Rattle.nv_machine.proofs.EachOf.{all_append, all_at}
 use Rattle.nv_machine.proofs.FiledLists.{count, count_append, count_cons, one}
 use Rattle.nv_machine.proofs.Lists.{self}
-use Rattle.nv_machine.proofs.Pairs.{HasPair, has_number}
+use Rattle.nv_machine.proofs.Pairs.{HasPair, IsRecordOf, has_number, record_killed, record_number}
 
 -- ---- what marks say
 
@@ -38,12 +38,12 @@ is_killed_on log n k = is_number (number_named log k.part) n
 abbrev pub is_filed_on : ℕ → List Entry → ℕ → Record → Bool
 is_filed_on ino log n d = is_of_slot ino d && is_number (number_named log (name_of d)) n
 
--- a killed part is of a pair that dies in this epoch, and a record of the slot of one that has died
+-- a killed part is of a pair that dies in this epoch, and a record of the slot of one that has died, with its living holders
 abbrev pub IsDying : ℕ → ℕ → List Entry → KilledPart → Type 0
 IsDying epoch block log k = HasPair block log k.part k.birth epoch
 
-abbrev pub IsTold : ℕ → ℕ → List Entry → Record → Type 0
-IsTold ino block log d = d.ino ≡ ino → HasPair block log (name_of d) d.birth d.death
+abbrev pub IsTold : List ℕ → ℕ → ℕ → List Entry → Record → Type 0
+IsTold living ino block log d = d.ino ≡ ino → IsRecordOf living block log d
 
 -- a part is current exactly where no later entry covers it; it is marked killed exactly where it is killed, and kept
 -- exactly where it is recorded, and each such part is so once; and where it is out no living snapshot holds it
@@ -54,7 +54,7 @@ pub record AreMarks (living : List ℕ) (ino epoch : ℕ) (killed : List KilledP
   pub killed_are : (n : ℕ) → count (is_killed_on log n) killed ≡ bit (is_killed (mark_at marks n))
   pub kept_are : (n : ℕ) → count (is_filed_on ino log n) records ≡ bit (is_kept (mark_at marks n))
   pub dying : AllByRecursion (IsDying epoch block log) killed
-  pub told : AllByRecursion (IsTold ino block log) records
+  pub told : AllByRecursion (IsTold living ino block log) records
   pub out : (n : ℕ) (pair : Pair) → slice_get (pairs block log) n ≡ Some pair → mark_at marks n ≡ Out
       → AllByRecursion (λ s. holds s pair ≡ false) living
 
@@ -126,7 +126,7 @@ remarked : (living : List ℕ) (ino epoch : ℕ) (killed more : List KilledPart)
     → is_current x ≡ false
     → ((n : ℕ) → count (is_killed_on log n) more ≡ bit (is_killed (cond (m == n) x (mark_at marks n))))
     → ((n : ℕ) → count (is_filed_on ino log n) others ≡ bit (is_kept (cond (m == n) x (mark_at marks n))))
-    → AllByRecursion (IsDying epoch block log) more → AllByRecursion (IsTold ino block log) others
+    → AllByRecursion (IsDying epoch block log) more → AllByRecursion (IsTold living ino block log) others
     → ((pair : Pair) → slice_get (pairs block log) m ≡ Some pair → x ≡ Out → AllByRecursion (λ s. holds s pair ≡ false) living)
     → AreMarks living ino epoch more others block log (set marks m x)
 remarked living ino epoch killed more records others block log marks m x h low was now killed_now kept_now dying told out = record {
@@ -157,17 +157,15 @@ all_contained P (x ∷ xs) f = (
   all_contained P xs (λ t there. f t (suc there.0, omega (arith, there.1), there.2)),
 )
 
--- a pair of a record that no living snapshot holds
-pub none_holds : (living : List ℕ) (d : Record) (pair : Pair) → holder_of living d ≡ None → pair.birth ≡ d.birth → pair.death ≡ Some d.death
-    → AllByRecursion (λ s. holds s pair ≡ false) living
-none_holds living d pair none birth death =
+-- the pair of a record that no living snapshot holds
+none_holds : (living : List ℕ) (block : ℕ) (log : List Entry) (d : Record) → holder_of living d ≡ None
+    → (r : IsRecordOf living block log d)
+    → (pair : Pair) → slice_get (pairs block log) r.n ≡ Some pair → AllByRecursion (λ s. holds s pair ≡ false) living
+none_holds living block log d none r pair got =
+    let same : r.pair ≡ pair = same_Some r.pair pair (sym r.is ∙ got) in
     all_contained (λ s. holds s pair ≡ false) living
-    (λ t there. rw (birth, death) ((none_passes (holders.holds d.birth d.death) living none).fails t there))
-
--- the pair of a number is one
-same_pair : (block : ℕ) (log : List Entry) (n m : ℕ) (pair other : Pair) → slice_get (pairs block log) n ≡ Some pair
-    → slice_get (pairs block log) m ≡ Some other → n ≡ m → pair ≡ other
-same_pair block log n m pair other p q e = same_Some pair other (sym p ∙ ap (slice_get (pairs block log)) e ∙ q)
+    (λ t there. ap (holds t) (sym same) ∙ sym (all_at (λ s. is_held_by s d ≡ holds s r.pair) living t r.holders there)
+    ∙ (none_passes (holders.holds d.birth d.death) living none).fails t there)
 
 module _ (living : List ℕ) (ino epoch : ℕ) (k : KilledPart) (parts : List KilledPart) (records : List Record) (block : ℕ)
     (log : List Entry) (marks : List Mark) (is : IsLog log) (h : AreMarks living ino epoch (k ∷ parts) records block log marks) where
@@ -211,7 +209,8 @@ module _ (living : List ℕ) (ino epoch : ℕ) (k : KilledPart) (parts : List Ki
   kept_marks =
       remarked living ino epoch (k ∷ parts) parts records (records ++ record_of ino epoch k ∷ []) block log marks m Kept h low
       (killed_not_current (mark_at marks m) is_so) refl (now_killed Kept refl) filed h.dying.1
-      (all_append (IsTold ino block log) records (record_of ino epoch k ∷ []) h.told (λ e. h.dying.0, tt))
+      (all_append (IsTold living ino block log) records (record_of ino epoch k ∷ []) h.told
+      (λ e. record_killed living ino epoch k block log h.dying.0, tt))
       (λ pair got e. cc) where
         filed : (n : ℕ) → count (is_filed_on ino log n) (records ++ record_of ino epoch k ∷ [])
             ≡ bit (is_kept (cond (m == n) Kept (mark_at marks n)))
@@ -237,9 +236,14 @@ module _ (living : List ℕ) (ino epoch : ℕ) (k : KilledPart) (parts : List Ki
   freed_marks none =
       remarked living ino epoch (k ∷ parts) parts records records block log marks m Out h low
       (killed_not_current (mark_at marks m) is_so) refl (now_killed Out refl) filed h.dying.1 h.told
-      (λ pair got e. none_holds living (record_of ino epoch k) pair none
-      (ap (λ (p : Pair). p.birth) (same_pair block log m m pair h.dying.0.pair got h.dying.0.is refl) ∙ h.dying.0.birth_is)
-      (ap (λ (p : Pair). p.death) (same_pair block log m m pair h.dying.0.pair got h.dying.0.is refl) ∙ h.dying.0.death_is)) where
+      (λ pair got e. none_holds living block log (record_of ino epoch k) none its_record pair
+      (ap (slice_get (pairs block log)) its_place ∙ got)) where
+        its_record : IsRecordOf living block log (record_of ino epoch k)
+        its_record = record_killed living ino epoch k block log h.dying.0
+
+        its_place : its_record.n ≡ m
+        its_place = same_Some its_record.n m (sym (record_number living block log (record_of ino epoch k) is its_record) ∙ killed_number)
+
         filed : (n : ℕ) → count (is_filed_on ino log n) records ≡ bit (is_kept (cond (m == n) Out (mark_at marks n)))
         filed n = go (m == n) refl (h.kept_are n) where
           go : (b : Bool) → (m == n) ≡ b → count (is_filed_on ino log n) records ≡ bit (is_kept (mark_at marks n))
@@ -254,10 +258,10 @@ module _ (living : List ℕ) (ino epoch : ℕ) (k : KilledPart) (parts : List Ki
 
 module _ (living : List ℕ) (ino epoch : ℕ) (killed : List KilledPart) (before after : List Record) (d : Record) (block : ℕ)
     (log : List Entry) (marks : List Mark) (is : IsLog log) (h : AreMarks living ino epoch killed before block log marks)
-    (mine : d.ino ≡ ino) (pair : HasPair block log (name_of d) d.birth d.death)
+    (mine : d.ino ≡ ino) (pair : IsRecordOf living block log d)
     (counts : (p : Record → Bool) → count p before ≡ one (p d) + count p after) where
   pub filed_number : number_named log (name_of d) ≡ Some pair.n
-  filed_number = has_number block log (name_of d) d.birth d.death is pair
+  filed_number = record_number living block log d is pair
 
   its : (n : ℕ) → is_filed_on ino log n d ≡ (pair.n == n)
   its n = rw (mine, self ino, filed_number) refl
@@ -274,14 +278,12 @@ module _ (living : List ℕ) (ino epoch : ℕ) (killed : List KilledPart) (befor
     | inr ge ↦ absurd (false≢true (ap is_kept (sym (get_or_past marks pair.n Out ge)) ∙ kept_so))
   ]
 
-  pub released_marks : AllByRecursion (IsTold ino block log) after → holder_of living d ≡ None
+  pub released_marks : AllByRecursion (IsTold living ino block log) after → holder_of living d ≡ None
       → AreMarks living ino epoch killed after block log (set marks pair.n Out)
   released_marks told none =
       remarked living ino epoch killed killed before after block log marks pair.n Out h low_filed
       (kept_not_current (mark_at marks pair.n) kept_so) refl still filed h.dying told
-      (λ p got e. none_holds living d p none
-      (ap (λ (q : Pair). q.birth) (same_pair block log pair.n pair.n p pair.pair got pair.is refl) ∙ pair.birth_is)
-      (ap (λ (q : Pair). q.death) (same_pair block log pair.n pair.n p pair.pair got pair.is refl) ∙ pair.death_is)) where
+      (λ p got e. none_holds living block log d none pair p got) where
         still : (n : ℕ) → count (is_killed_on log n) killed ≡ bit (is_killed (cond (pair.n == n) Out (mark_at marks n)))
         still n = go (pair.n == n) refl (h.killed_are n) where
           go : (b : Bool) → (pair.n == n) ≡ b → count (is_killed_on log n) killed ≡ bit (is_killed (mark_at marks n))

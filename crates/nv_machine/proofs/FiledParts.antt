@@ -14,6 +14,7 @@ use Rattle.nv_cell.proofs.ValuesNow.{IsLog-take}
 use Rattle.nv_entry.specs.Covered.{is_covered}
 use Rattle.nv_entry.specs.Log.{IsLog}
 use Rattle.nv_entry.specs.declared.item.Entry.{Entry}
+use Rattle.nv_epoch.specs.SnapList.{ids}
 use Rattle.nv_machine.specs.Held.{picked_by_actor, picked_by_call}
 use Rattle.nv_machine.specs.Kept.{IsReleaseCovered, IsReleaseCoveredBy}
 use Rattle.nv_machine.specs.Recorded.{is_kept, records_after}
@@ -27,7 +28,7 @@ use Rattle.nv_machine.proofs.FiledMarks.{AreMarks, IsTold, bit_is, is_filed_on, 
 use Rattle.nv_machine.proofs.FiledRuns.{known, not_there}
 use Rattle.nv_machine.proofs.FiledWorlds.{picked_in}
 use Rattle.nv_machine.proofs.Lists.{self}
-use Rattle.nv_machine.proofs.Pairs.{HasPair, has_number}
+use Rattle.nv_machine.proofs.Pairs.{IsRecordOf, record_number}
 use Rattle.nv_machine.proofs.PartsFor.{own_all, own_count}
 
 -- the log of a slot is one
@@ -46,13 +47,13 @@ have_marks g start records events ino is_start =
 -- a part that is recorded is covered
 pub filed_covered : (living : List ℕ) (ino epoch : ℕ) (killed : List KilledPart) (rs : List Record) (block : ℕ) (log : List Entry)
     (marks : List Mark) (d : Record) → IsLog log → AreMarks living ino epoch killed rs block log marks → d.ino ≡ ino
-    → (pair : HasPair block log (name_of d) d.birth d.death)
+    → (pair : IsRecordOf living block log d)
     → one (is_filed_on ino log pair.n d) ≤ count (is_filed_on ino log pair.n) rs → is_covered block log pair.n ≡ true
 filed_covered living ino epoch killed rs block log marks d is h mine pair some =
     covered (is_covered block log pair.n)
     (sym (h.current pair.n (pair_low block log pair.n pair.pair pair.is)) ∙ kept_not_current (mark_at marks pair.n) kept) where
       its : is_filed_on ino log pair.n d ≡ true
-      its = rw (mine, self ino, has_number block log (name_of d) d.birth d.death is pair) (self pair.n)
+      its = rw (mine, self ino, record_number living block log d is pair) (self pair.n)
 
       kept : is_kept (mark_at marks pair.n) ≡ true
       kept = bit_is (is_kept (mark_at marks pair.n)) (omega (arith, some, ap one its, h.kept_are pair.n))
@@ -79,7 +80,7 @@ releases_covered g start records events actor is_start = go (actor_at w actor).r
   at (Snapshots (Release draining d)) r is e =
       let cell : CellState = cell_at w.shared d.ino in
       let m = (all_marked g start records events is_start).cells d.ino in
-      let T : Record → Type 0 = IsTold d.ino cell.block (log_of cell) in
+      let T : Record → Type 0 = IsTold (ids w.shared.book.snaps) d.ino cell.block (log_of cell) in
       let had : picked_by_actor (actor_at w actor) ≡ d ∷ [] =
       ap (λ (o : Option Running). picked_by_call o) is ∙ ap (λ (k : Next). picked_by_call (Some (record r { next = k }))) e in
       let low : actor < length w.actors = there (nat_lt actor (length w.actors)) r refl is in
@@ -88,7 +89,7 @@ releases_covered g start records events actor is_start = go (actor_at w actor).r
       let pair = told.0 refl in
       let p : Record → Bool = is_filed_on d.ino (log_of cell) pair.n in
       let number : number_in cell (name_of d) ≡ pair.n = ap (λ (o : Option ℕ). unwrap_or o 0)
-      (has_number cell.block (log_of cell) (name_of d) d.birth d.death (log_in g start records events d.ino is_start) pair) in
+      (record_number (ids w.shared.book.snaps) cell.block (log_of cell) d (log_in g start records events d.ino is_start) pair) in
       ap (is_covered cell.block (log_of cell)) number
       ∙ filed_covered _ d.ino _ _ (rs ++ picked_in w) cell.block (log_of cell) cell.marks d
       (log_in g start records events d.ino is_start) m refl pair

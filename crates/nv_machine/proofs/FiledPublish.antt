@@ -21,7 +21,7 @@ use Rattle.nv_cell.proofs.NamedParts.{are_pairs, dies_at, names_of_parts}
 use Rattle.nv_cell.proofs.Publishing.{total_take}
 use Rattle.nv_cell.proofs.ValuesNow.{IsLog-take}
 use Rattle.nv_entry.specs.Covered.{is_covered, part_total}
-use Rattle.nv_entry.specs.Held.{holds, pair_name}
+use Rattle.nv_entry.specs.Held.{holds}
 use Rattle.nv_entry.specs.Held as held
 use Rattle.nv_entry.specs.Log.{IsLog, pairs}
 use Rattle.nv_entry.specs.declared.held.Pair.{Pair}
@@ -32,7 +32,7 @@ use Rattle.nv_machine.proofs.EachOf.{all_append, all_weaker}
 use Rattle.nv_machine.proofs.FiledLists.{count, count_append, count_cons, count_same, one}
 use Rattle.nv_machine.proofs.FiledMarks.{AreMarks, IsDying, IsTold, bit_none, current_not_kept, is_filed_on, is_killed_on, pair_low}
 use Rattle.nv_machine.proofs.Lists.{self}
-use Rattle.nv_machine.proofs.Pairs.{HasPair, current_is, has_more, has_number, number_front, pair_front, pair_there}
+use Rattle.nv_machine.proofs.Pairs.{current_is, has_number, IsRecordOf, number_front, pair_front, pair_there, record_more, record_number}
 
 -- ---- a range has each of its numbers once
 
@@ -220,23 +220,23 @@ module _ (block : ℕ) (es : List Entry) (tail : ℕ) (is : IsLog es) where
     kept_now false false false old e f = ap bit (f refl)
 
     -- a record's part has its number still
-    same_filed : (n : ℕ) (d : Record) → IsTold ino block (take tail es) d → is_filed_on ino es n d ≡ is_filed_on ino (take tail es) n d
+    same_filed : (n : ℕ) (d : Record) → IsTold living ino block (take tail es) d
+        → is_filed_on ino es n d ≡ is_filed_on ino (take tail es) n d
     same_filed n d told = go (is_of_slot ino d) refl where
       go : (b : Bool) → is_of_slot ino d ≡ b
           → (b && is_number (number_named es (name_of d)) n) ≡ (b && is_number (number_named (take tail es) (name_of d)) n)
       go true e =
           let pair = told (eqb-true d.ino ino e) in
-          let was = has_number block (take tail es) (name_of d) d.birth d.death (IsLog-take tail es is) pair in
+          let was = record_number living block (take tail es) d (IsLog-take tail es is) pair in
           let now : number_named es (name_of d) ≡ Some pair.n =
           ap (λ (l : List Entry). number_named l (name_of d)) (sym whole)
           ∙ number_front (take tail es) (drop tail es) (name_of d) pair.n was in
           rw (now, was) refl
       go false e = refl
 
-    more_told : (d : Record) → IsTold ino block (take tail es) d → IsTold ino block es d
+    more_told : (d : Record) → IsTold living ino block (take tail es) d → IsTold living ino block es d
     more_told d told e =
-        subst (λ (l : List Entry). HasPair block l (name_of d) d.birth d.death) whole
-        (has_more block (take tail es) (drop tail es) (name_of d) d.birth d.death (told e))
+        subst (λ (l : List Entry). IsRecordOf living block l d) whole (record_more living block (take tail es) (drop tail es) d (told e))
 
     -- a part that is out has been so, and its pair is what it was
     out_now : (n : ℕ) (pair : Pair) → slice_get (pairs block es) n ≡ Some pair → (d a c : Bool) → nat_lt n (part_base es tail) ≡ a
@@ -279,14 +279,15 @@ module _ (block : ℕ) (es : List Entry) (tail : ℕ) (is : IsLog es) where
           ∙ killed_now (dies_now n) (nat_lt n (part_base es tail)) (nat_lt n (part_total es)) (mark_at marks n) (was_not_killed n)
           ∙ ap (λ (m : Mark). bit (is_killed m)) (sym (mark_is n));
       kept_are = λ n. count_same (is_filed_on ino es n) (is_filed_on ino (take tail es) n) records
-          (all_weaker (IsTold ino block (take tail es)) (λ d. is_filed_on ino es n d ≡ is_filed_on ino (take tail es) n d) (same_filed n)
+          (all_weaker (IsTold living ino block (take tail es)) (λ d. is_filed_on ino es n d ≡ is_filed_on ino (take tail es) n d)
+          (same_filed n)
           records h.told)
           ∙ h.kept_are n
           ∙ kept_now (dies_now n) (nat_lt n (part_base es tail)) (nat_lt n (part_total es)) (mark_at marks n) (was_not_kept n)
           (λ e. ap is_kept (fresh_out n e))
           ∙ ap (λ (m : Mark). bit (is_kept m)) (sym (mark_is n));
       dying = all_dying epoch fresh (range_with_len 0 (part_total es));
-      told = all_weaker (IsTold ino block (take tail es)) (IsTold ino block es) more_told records h.told;
+      told = all_weaker (IsTold living ino block (take tail es)) (IsTold living ino block es) more_told records h.told;
       out = λ n pair got e. out_now n pair got (dies_now n) (nat_lt n (part_base es tail)) (nat_lt n (part_total es)) refl refl
           (sym (mark_is n) ∙ e);
     }
@@ -304,7 +305,7 @@ module _ (living : List ℕ) (ino epoch : ℕ) (killed : List KilledPart) (recor
       ap (λ (o : Option ℕ). is_number o dying.0.n) (has_number block log k.part k.birth epoch is dying.0) ∙ self dying.0.n in
       absurd (omega (arith, none dying.0.n, count_cons (is_killed_on log dying.0.n) k ks, ap one own))
 
-  none_filed : (rs : List Record) → AllByRecursion (IsTold ino block log) rs → ((n : ℕ) → count (is_filed_on ino log n) rs ≡ 0)
+  none_filed : (rs : List Record) → AllByRecursion (IsTold living ino block log) rs → ((n : ℕ) → count (is_filed_on ino log n) rs ≡ 0)
       → AllByRecursion (λ (d : Record). d.ino ≡ ino → ⊥) rs
   none_filed [] told none = tt
   none_filed (d ∷ rs) told none = (
@@ -315,7 +316,7 @@ module _ (living : List ℕ) (ino epoch : ℕ) (killed : List KilledPart) (recor
     own e =
         let pair = told.0 e in
         let mine : is_filed_on ino log pair.n d ≡ true =
-        rw (e, self ino, has_number block log (name_of d) d.birth d.death is pair) (self pair.n) in
+        rw (e, self ino, record_number living block log d is pair) (self pair.n) in
         absurd (omega (arith, none pair.n, count_cons (is_filed_on ino log pair.n) d rs, ap one mine))
 
   none_there : (n : ℕ) (rs : List Record) → count (is_filed_on ino [] n) rs ≡ 0
@@ -333,7 +334,7 @@ module _ (living : List ℕ) (ino epoch : ℕ) (killed : List KilledPart) (recor
     killed_are = λ n. rw none refl;
     kept_are = λ n. none_there n records;
     dying = rw none tt;
-    told = all_weaker (λ (d : Record). d.ino ≡ ino → ⊥) (IsTold ino block []) (λ d never e. absurd (never e)) records
+    told = all_weaker (λ (d : Record). d.ino ≡ ino → ⊥) (IsTold living ino block []) (λ d never e. absurd (never e)) records
         (none_filed records h.told (λ n. h.kept_are n ∙ ap (λ (m : Mark). bit (is_kept m)) (outs n)));
     out = λ n pair got e. cc;
   } where
@@ -342,26 +343,27 @@ module _ (living : List ℕ) (ino epoch : ℕ) (killed : List KilledPart) (recor
 
 -- ---- snapshots come and go
 
--- other snapshots, in another epoch, while nothing is killed: no part that is out is held by one of these
+-- other snapshots, in another epoch, while nothing is killed: records are held by these as their pairs are, and no part
+-- that is out is held by one
 pub living_marks : (living others : List ℕ) (ino epoch now : ℕ) (records : List Record) (block : ℕ) (log : List Entry) (marks : List Mark)
-    → AreMarks living ino epoch [] records block log marks
+    → AreMarks living ino epoch [] records block log marks → AllByRecursion (IsTold others ino block log) records
     → ((n : ℕ) (pair : Pair) → slice_get (pairs block log) n ≡ Some pair → mark_at marks n ≡ Out
     → AllByRecursion (λ s. holds s pair ≡ false) living → AllByRecursion (λ s. holds s pair ≡ false) others)
     → AreMarks others ino now [] records block log marks
-living_marks living others ino epoch now records block log marks h out = record {
+living_marks living others ino epoch now records block log marks h told out = record {
   len = h.len;
   current = h.current;
   killed_are = h.killed_are;
   kept_are = h.kept_are;
   dying = tt;
-  told = h.told;
+  told = told;
   out = λ n pair got e. out n pair got e (h.out n pair got e);
 }
 
 -- the same records in another order
 pub filed_marks : (living : List ℕ) (ino epoch : ℕ) (killed : List KilledPart) (before after : List Record) (block : ℕ) (log : List Entry)
     (marks : List Mark) → AreMarks living ino epoch killed before block log marks → ((p : Record → Bool) → count p after ≡ count p before)
-    → AllByRecursion (IsTold ino block log) after → AreMarks living ino epoch killed after block log marks
+    → AllByRecursion (IsTold living ino block log) after → AreMarks living ino epoch killed after block log marks
 filed_marks living ino epoch killed before after block log marks h same told = record {
   len = h.len;
   current = h.current;

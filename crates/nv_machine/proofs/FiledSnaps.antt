@@ -1,8 +1,8 @@
 -- Makings, drops, picks and releases keep what marks say of every slot.
-use Rattle.std.proofs.Common.{◌≡◌, ℕ, zero, suc, ◌+◌, ◌-◌, ◌<◌, ◌≤◌, ◌==◌, ◌&&◌, ◌++◌, ◌∙◌, Bool, true, false, cond, not, List, [], ◌∷◌, Option, Some, None, ap, arith, drop, inl, inr, length, nat_le, refl, slice_get, subst, sym, take}
+use Rattle.std.proofs.Common.{◌≡◌, ℕ, zero, suc, ◌+◌, ◌-◌, ◌<◌, ◌≤◌, ◌==◌, ◌++◌, ◌∙◌, Bool, true, false, cond, not, List, [], ◌∷◌, Option, Some, None, ap, arith, drop, inl, inr, length, refl, slice_get, subst, sym, take}
 use Rattle.std.specs.List.{AllByRecursion}
 use Rattle.std.specs.Option.{option_map}
-use Rattle.std.proofs.lemmas.Bool.{cases_lt, false≢true, le-ltb}
+use Rattle.std.proofs.lemmas.Bool.{cases_lt, false≢true}
 use Rattle.std.proofs.lemmas.Option.{same_Some}
 use Rattle.nv_book.specs.Book.{after_drop_snapshot, after_make_snapshot, after_pick}
 use Rattle.nv_book.specs.Listed.{unheld, with_moved, without_first}
@@ -33,14 +33,14 @@ use Rattle.nv_machine.specs.World.{Actor, HandState, Running, Shared, World, act
 use Rattle.nv_machine.proofs.FiledBooks.{ids_made, ids_removed}
 use Rattle.nv_machine.proofs.FiledCommits.{one_cell}
 use Rattle.nv_machine.proofs.FiledDrops.{makes, removes}
-use Rattle.nv_machine.proofs.EachOf.{all_append, all_back, all_filter, all_front, all_weaker}
+use Rattle.nv_machine.proofs.EachOf.{all_append, all_back, all_filter, all_front, all_weaker, all_with}
 use Rattle.nv_machine.proofs.FiledLists.{all_first, all_moved, count, count_append, count_cons, count_first, count_moved, first_among, first_unheld, one}
 use Rattle.nv_machine.proofs.FiledMarks.{IsTold, is_filed_on, pair_low}
 use Rattle.nv_machine.proofs.FiledPublish.{filed_marks, living_marks}
 use Rattle.nv_machine.proofs.FiledSteps.{MarksOf, erased_cell, erased_fresh, other_slot, recounted, released_cell}
 use Rattle.nv_machine.proofs.FiledTurns.{Listed}
 use Rattle.nv_machine.proofs.FiledWorlds.{AreMarked, marks_as, no_killed, picked_in, same_killed, same_picked}
-use Rattle.nv_machine.proofs.Pairs.{current_is}
+use Rattle.nv_machine.proofs.Pairs.{current_is, dead_then, record_dropped, record_made}
 use Rattle.nv_machine.proofs.PartsFor.{own_all, swap_all, swap_count}
 
 -- ---- deaths are of epochs in the log
@@ -86,17 +86,11 @@ not_held_later living ino epoch killed rs cell is by h n pair got out = go pair.
   dead : held.is_current pair ≡ false
   dead = current_is cell.block (log_of cell) is n pair got ∙ sym (h.current n low) ∙ ap is_current out
 
-  never : (b c : Bool) → c ≡ false → (b && c) ≡ false
-  never true c e = e
-  never false c e = refl
-
   go : (o : Option ℕ) → pair.death ≡ o → holds epoch pair ≡ false
   go None e = absurd (false≢true (sym dead ∙ ended)) where
     ended : held.is_current pair ≡ true
     ended = rw e refl
-  go (Some death) e =
-      let le = dead_by cell.block epoch (log_of cell) n death pair by got e in
-      never (nat_le pair.birth epoch) (held.is_before_death epoch pair.death) (rw e (le-ltb epoch death le))
+  go (Some death) e = dead_then epoch death pair e (dead_by cell.block epoch (log_of cell) n death pair by got e)
 
 module _ (w : World) (a : ℕ) (rs : List Record) (locks : AreLocks w) (free : w.shared.holder ≡ None)
     (logs : (ino : ℕ) → IsBefore (w.shared.book.commit + 1) w.shared.book.snaps.epoch (cell_at w.shared ino).chain.entries)
@@ -141,7 +135,7 @@ module _ (w : World) (a : ℕ) (rs : List Record) (locks : AreLocks w) (free : w
             (none_now t ino) (ap (λ (d : List Record). rs ++ d) picked)
             (subst (λ (ss : List ℕ). MarksOf ss ino (epoch + 1) [] (rs ++ picked_in w) (cell_at s ino)) (sym (ids_made s.book.snaps))
             (living_marks living (living ++ epoch ∷ []) ino epoch (epoch + 1) (rs ++ picked_in w) (cell_at s ino).block
-            (log_of (cell_at s ino)) (cell_at s ino).marks (before ino)
+            (log_of (cell_at s ino)) (cell_at s ino).marks (before ino) (told_made ino)
             (λ n pair got out all. all_append (λ x. holds x pair ≡ false) living (epoch ∷ []) all (
               not_held_later living ino epoch [] (rs ++ picked_in w) (cell_at s ino) (log_is ino) (by_now ino) (before ino) n pair got out,
               tt,
@@ -155,6 +149,18 @@ module _ (w : World) (a : ℕ) (rs : List Record) (locks : AreLocks w) (free : w
             m.dead);
       }
     where
+      -- records are of pairs that have died by now, and so have they
+      told_made : (ino : ℕ) → AllByRecursion (IsTold (living ++ epoch ∷ []) ino (cell_at s ino).block (log_of (cell_at s ino)))
+          (rs ++ picked_in w)
+      told_made ino =
+          let cell : CellState = cell_at s ino in
+          all_with (IsTold living ino cell.block (log_of cell)) (λ (d : Record). d.death ≤ epoch)
+          (IsTold (living ++ epoch ∷ []) ino cell.block (log_of cell))
+          (λ d of le same. record_made living epoch cell.block (log_of cell) d le
+          (λ n death pair got dead. dead_by cell.block epoch (log_of cell) n death pair (by_now ino) got dead) (of same))
+          (rs ++ picked_in w) (before ino).told
+          (all_append (λ (d : Record). d.death ≤ epoch) rs (picked_in w) l.dead m.dead)
+
       none_past : (tail : ℕ) (es : List Entry) → tail ≡ length es → AllByRecursion (λ (e : Entry). e.epoch ≡ epoch + 1) (drop tail es)
       none_past tail es e = rw e (go es) where
         go : (es : List Entry) → AllByRecursion (λ (e : Entry). e.epoch ≡ epoch + 1) (drop (length es) es)
@@ -178,8 +184,10 @@ module _ (w : World) (a : ℕ) (rs : List Record) (locks : AreLocks w) (free : w
       let left : List ℕ = without snapshot living in
       record {
         cells = λ ino. let cell : CellState = cell_at s ino in
-            let T : Record → Type 0 = IsTold ino cell.block (log_of cell) in
+            let T : Record → Type 0 = IsTold living ino cell.block (log_of cell) in
             let was = before ino in
+            let told = all_append T moved (picked_in w) (all_moved T snapshot living rs (all_front T rs (picked_in w) was.told))
+            (all_back T rs (picked_in w) was.told) in
             marks_as (ids t.book.snaps) ino epoch [] (killed_in v ino) (moved ++ picked_in w) (moved ++ picked_in v) cell
             (none_now t ino) (ap (λ (d : List Record). moved ++ d) picked)
             (subst (λ (ss : List ℕ). MarksOf ss ino epoch [] (moved ++ picked_in w) cell) (sym (ids_removed s.book.snaps.living snapshot))
@@ -191,8 +199,10 @@ module _ (w : World) (a : ℕ) (rs : List Record) (locks : AreLocks w) (free : w
               count_append p rs (picked_in w),
               count_moved p snapshot living rs,
             ))
-            (all_append T moved (picked_in w) (all_moved T snapshot living rs (all_front T rs (picked_in w) was.told))
-            (all_back T rs (picked_in w) was.told)))
+            told)
+            (all_weaker T (IsTold left ino cell.block (log_of cell))
+            (λ d of same. record_dropped living (λ x. not (x == snapshot)) cell.block (log_of cell) d (of same))
+            (moved ++ picked_in w) told)
             (λ n pair got out all. all_filter (λ x. holds x pair ≡ false) (λ x. not (x == snapshot)) living all)));
         fresh = m.fresh;
         unheld = subst (λ (ss : List ℕ). AllByRecursion (λ d. holder_of ss d ≡ None) (picked_in v))
@@ -226,7 +236,7 @@ module _ (w : World) (a : ℕ) (rs : List Record) (locks : AreLocks w) (free : w
       ) in
       record {
         cells = λ ino. let cell : CellState = cell_at s ino in
-            let T : Record → Type 0 = IsTold ino cell.block (log_of cell) in
+            let T : Record → Type 0 = IsTold living ino cell.block (log_of cell) in
             let was = before ino in
             marks_as living ino epoch [] (killed_in v ino) (left ++ picked_in v) (left ++ picked_in v) cell (none_now t ino) refl
             (filed_marks living ino epoch [] (rs ++ picked_in w) (left ++ picked_in v) cell.block (log_of cell) cell.marks was
@@ -277,11 +287,11 @@ release_marked w a rs d h running there killed had now low log m =
       count_append p rs (picked_in v),
     ) in
     let same : (ino : ℕ) → killed_in v ino ≡ killed_in w ino = λ ino. same_killed w a ino t h running (killed ino) in
-    let told : (ino : ℕ) → AllByRecursion (IsTold ino (cell_at s ino).block (log_of (cell_at s ino))) (rs ++ picked_in v) =
-    λ ino. (let T : Record → Type 0 = IsTold ino (cell_at s ino).block (log_of (cell_at s ino)) in
+    let told : (ino : ℕ) → AllByRecursion (IsTold living ino (cell_at s ino).block (log_of (cell_at s ino))) (rs ++ picked_in v) =
+    λ ino. (let T : Record → Type 0 = IsTold living ino (cell_at s ino).block (log_of (cell_at s ino)) in
     all_append T rs (picked_in v) (all_front T rs (picked_in w) (m.cells ino).told)
     (left T (all_back T rs (picked_in w) (m.cells ino).told))) in
-    let T : Record → Type 0 = IsTold d.ino cell.block (log_of cell) in
+    let T : Record → Type 0 = IsTold living d.ino cell.block (log_of cell) in
     one_cell w a d.ino rs rs t h running (erased (released d cell)) (λ ino. refl) refl low
     (erased_cell living d.ino epoch (killed_in v d.ino) (rs ++ picked_in v) (released d cell) is
     (marks_as living d.ino epoch (killed_in w d.ino) (killed_in v d.ino) (rs ++ picked_in v) (rs ++ picked_in v) (released d cell)

@@ -27,7 +27,7 @@ use Rattle.nv_machine.proofs.EachOf.{all_append}
 use Rattle.nv_machine.proofs.FiledLists.{HasHolder, count, count_cons, one}
 use Rattle.nv_machine.proofs.FiledMarks.{AreMarks, IsTold, freed_marks, is_filed_on, kept_marks, killed_number, released_marks, filed_number}
 use Rattle.nv_machine.proofs.FiledPublish.{erased_marks, published_marks}
-use Rattle.nv_machine.proofs.Pairs.{HasPair}
+use Rattle.nv_machine.proofs.Pairs.{IsRecordOf}
 
 -- ---- the marks of a cell
 
@@ -264,8 +264,8 @@ erased_fresh epoch cell h = go (is_erased cell) where
 
 pub released_cell : (living : List ℕ) (epoch : ℕ) (killed : List KilledPart) (before after : List Record) (d : Record) (cell : CellState)
     → IsLog (log_of cell) → MarksOf living d.ino epoch killed before cell
-    → HasPair cell.block (log_of cell) (name_of d) d.birth d.death → ((p : Record → Bool) → count p before ≡ one (p d) + count p after)
-    → AllByRecursion (IsTold d.ino cell.block (log_of cell)) after → holder_of living d ≡ None
+    → IsRecordOf living cell.block (log_of cell) d → ((p : Record → Bool) → count p before ≡ one (p d) + count p after)
+    → AllByRecursion (IsTold living d.ino cell.block (log_of cell)) after → holder_of living d ≡ None
     → MarksOf living d.ino epoch killed after (released d cell)
 released_cell living epoch killed before after d cell is h pair counts told none =
     let number : number_in cell (name_of d) ≡ pair.n =
@@ -289,7 +289,7 @@ none_other ino log n (d ∷ rs) h =
 -- records whose count is the same for each part, and of which those of this slot are told
 pub recounted : (living : List ℕ) (ino epoch : ℕ) (killed : List KilledPart) (before after : List Record) (cell : CellState)
     → ((n : ℕ) → count (is_filed_on ino (log_of cell) n) after ≡ count (is_filed_on ino (log_of cell) n) before)
-    → AllByRecursion (IsTold ino cell.block (log_of cell)) after → MarksOf living ino epoch killed before cell
+    → AllByRecursion (IsTold living ino cell.block (log_of cell)) after → MarksOf living ino epoch killed before cell
     → MarksOf living ino epoch killed after cell
 recounted living ino epoch killed before after cell same told h = record {
   len = h.len;

@@ -19,7 +19,7 @@ use Rattle.nv_machine.specs.Grown.{AreGrown}
 use Rattle.nv_machine.specs.Hands.{AreNumbers, HandOf}
 use Rattle.nv_machine.specs.Kinds.{entries_for, first_killed, retired_book, retired_cell}
 use Rattle.nv_machine.specs.Locks.{AreLocks, AreSlots}
-use Rattle.nv_machine.specs.PoolScan.{has_entry, has_inode}
+use Rattle.nv_machine.specs.PoolScan.{has_inode}
 use Rattle.nv_machine.specs.Reads.{is_written, pages_needed, slot_at, written_slots}
 use Rattle.nv_machine.specs.Starts.{IsStart}
 use Rattle.nv_machine.specs.Step.{after, go_step, start_step, step, turn, turned}
@@ -49,7 +49,7 @@ AreEarly s = (ino : ℕ) → IsEarly (cell_at s ino)
 
 like_early : (old new : CellState) → IsLike old new → IsEarly old → IsEarly new
 like_early old new like early there =
-    subst (λ (n : ℕ). n < NUMBER) (sym like.generation) (early (sym (ap has_entry like.log) ∙ there))
+    subst (λ (n : ℕ). n < NUMBER) (sym like.generation) (early (sym like.inode ∙ there))
 
 -- ---- the slots of a call
 

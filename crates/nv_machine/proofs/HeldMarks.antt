@@ -8,6 +8,7 @@ use Rattle.std.proofs.lemmas.List.Folds.{list_any-append}
 use Rattle.std.proofs.lemmas.Option.{same_Some}
 use Rattle.nv_base.specs.declared.geometry.GeometryNumbers.{GeometryNumbers}
 use Rattle.nv_book.specs.Listed.{all_records}
+use Rattle.nv_book.specs.Records.{is_held_by}
 use Rattle.nv_book.specs.declared.record.Record.{Record}
 use Rattle.nv_calls.specs.Retiring.{name_of}
 use Rattle.nv_cell.specs.Cell.{CellState, log_of, mark_or_fresh}
@@ -34,12 +35,12 @@ use Rattle.nv_machine.specs.Step.{after}
 use Rattle.nv_machine.specs.World.{Event, World, cell_at}
 use Rattle.nv_machine.proofs.FiledHeld.{any_of}
 use Rattle.nv_machine.proofs.FiledLaw.{all_marked, recorded_all, recorded_once}
-use Rattle.nv_machine.proofs.EachOf.{all_front, all_with}
+use Rattle.nv_machine.proofs.EachOf.{all_at, all_front, all_with}
 use Rattle.nv_machine.proofs.FiledLists.{HasHolder, count, held_filed}
 use Rattle.nv_machine.proofs.FiledMarks.{AreMarks, IsTold, is_filed_on, is_killed_on, pair_low}
 use Rattle.nv_machine.proofs.FiledParts.{log_in}
 use Rattle.nv_machine.proofs.FiledRuns.{all_listed}
-use Rattle.nv_machine.proofs.Pairs.{current_is, has_number, named_same, number_is, pair_there}
+use Rattle.nv_machine.proofs.Pairs.{current_is, named_same, number_is, pair_there, record_number}
 
 -- ---- whether any of a list passes a test
 
@@ -93,7 +94,7 @@ by_mark Out current held pending killed false a k f t o = rw (a, k, f, o refl) r
 module _ (living : List ℕ) (ino epoch : ℕ) (killed : List KilledPart) (rs : List Record) (block : ℕ) (log : List Entry) (ms : List Mark)
     (is : IsLog log) (h : AreMarks living ino epoch killed rs block log ms) (n : ℕ) (pair : Pair)
     (got : slice_get (pairs block log) n ≡ Some pair) (filed pending : List Record)
-    (told : AllByRecursion (IsTold ino block log) filed) (held_by : AllByRecursion (HasHolder living) filed)
+    (told : AllByRecursion (IsTold living ino block log) filed) (held_by : AllByRecursion (HasHolder living) filed)
     (once : count (is_filed_on ino log n) (filed ++ pending) ≡ bit (is_kept (mark_at ms n))) where
   abbrev test : Record → Bool
   test d = is_filed_on ino log n d
@@ -112,18 +113,18 @@ module _ (living : List ℕ) (ino epoch : ℕ) (killed : List KilledPart) (rs : 
       (λ d. ap (λ (b : Bool). is_of_slot ino d && b) (named_same block log is n pair got (name_of d))) pending
 
   -- a record of the pair in a manifest is held by a living snapshot, and so is the pair
-  held_so : (d : Record) → IsTold ino block log d → HasHolder living d → test d ≡ true → is_held living pair ≡ true
+  held_so : (d : Record) → IsTold living ino block log d → HasHolder living d → test d ≡ true → is_held living pair ≡ true
   held_so d told_d holder e =
       let both = and_parts (is_of_slot ino d) (is_number (number_named log (name_of d)) n) e in
       let own = told_d (eqb-true d.ino ino both.0) in
       let number : own.n ≡ n =
-      same_Some own.n n (sym (has_number block log (name_of d) d.birth d.death is own)
+      same_Some own.n n (sym (record_number living block log d is own)
       ∙ number_is (number_named log (name_of d)) n both.1) in
       let same : own.pair ≡ pair = same_Some own.pair pair (sym own.is ∙ ap (slice_get (pairs block log)) number ∙ got) in
-      let birth : pair.birth ≡ d.birth = ap (λ (p : Pair). p.birth) (sym same) ∙ own.birth_is in
-      let death : pair.death ≡ Some d.death = ap (λ (p : Pair). p.death) (sym same) ∙ own.death_is in
       let at = last_passes (holders.holds d.birth d.death) living holder.snapshot holder.is in
-      let it : holds holder.snapshot pair ≡ holders.holds d.birth d.death holder.snapshot = rw (birth, death) refl in
+      let it : holds holder.snapshot pair ≡ is_held_by holder.snapshot d =
+      ap (holds holder.snapshot) (sym same) ∙ sym
+      (all_at (λ s. is_held_by s d ≡ holds s own.pair) living holder.snapshot own.holders at.0) in
       any_there (λ s. holds s pair) living holder.snapshot at.0 (it ∙ at.1)
 
   pub in_use_there : ((is_current pair || is_held living pair)
@@ -138,7 +139,8 @@ module _ (living : List ℕ) (ino epoch : ℕ) (killed : List KilledPart) (rs : 
       (current_is block log is n pair got ∙ sym (h.current n (pair_low block log n pair got))) killed_so
       (sym (list_any-append test filed pending) ∙ any_of test (filed ++ pending) (is_kept (mark_at ms n)) once)
       (any_gives test (is_held living pair ≡ true) filed
-      (all_with (IsTold ino block log) (HasHolder living) (λ d. test d ≡ true → is_held living pair ≡ true) held_so filed told held_by))
+      (all_with (IsTold living ino block log) (HasHolder living) (λ d. test d ≡ true → is_held living pair ≡ true) held_so filed
+      told held_by))
       (λ out. any_none (λ s. holds s pair) living (h.out n pair got out))
 
 -- ---- every world
@@ -174,7 +176,7 @@ used_there g start records events ino n is_start = go (slice_get (pairs cell.blo
   go (Some pair) e =
       let m = (all_marked g start records events is_start).cells ino in
       let l = all_listed g start records events is_start in
-      let T : Record → Type 0 = IsTold ino cell.block (log_of cell) in
+      let T : Record → Type 0 = IsTold (ids w.shared.book.snaps) ino cell.block (log_of cell) in
       let all : AllByRecursion T (recorded_in w) = recorded_all g start records events T is_start m.told in
       in_use_there (ids w.shared.book.snaps) ino w.shared.book.snaps.epoch (killed_in w ino) _ cell.block (log_of cell) cell.marks log
       m n pair e

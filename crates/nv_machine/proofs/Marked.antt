@@ -32,7 +32,7 @@ use Rattle.nv_machine.specs.Whole.{HasItsParts}
 use Rattle.nv_machine.proofs.FiledLists.{count, one}
 use Rattle.nv_machine.proofs.FiledMarks.{filed_number, is_so, kept_not_current, kept_so, killed_not_current, low, low_filed}
 use Rattle.nv_machine.proofs.FiledSteps.{MarksOf, number_is_its, settled_is_log, settled_marks}
-use Rattle.nv_machine.proofs.Pairs.{HasPair}
+use Rattle.nv_machine.proofs.Pairs.{IsRecordOf}
 use Rattle.nv_machine.proofs.Parted.{entry_blocks, sized_first, sized_later}
 
 -- ---- more log pages, and more entries
@@ -183,7 +183,7 @@ retired_parts block living ino epoch (k ∷ parts) rs cell is m h =
 
 pub released_parts : (block : ℕ) (living : List ℕ) (epoch : ℕ) (killed : List KilledPart) (before after : List Record) (d : Record)
     (cell : CellState) → IsLog (log_of cell) → MarksOf living d.ino epoch killed before cell
-    → HasPair cell.block (log_of cell) (name_of d) d.birth d.death → ((p : Record → Bool) → count p before ≡ one (p d) + count p after)
+    → IsRecordOf living cell.block (log_of cell) d → ((p : Record → Bool) → count p before ≡ one (p d) + count p after)
     → HasItsParts block cell → HasItsParts block (released d cell)
 released_parts block living epoch killed before after d cell is m pair counts h =
     one_out block n cell there (kept_not_current (mark_at cell.marks n) kept) h where

@@ -131,7 +131,7 @@ module _ (g : GeometryNumbers) (w : World) (is_known : IsKnown g w) (rs : List R
       let in_slots = rw (b.inside) at b.are.inside in
       let low : d.ino < length s.cells = omega (arith, in_slots.0, b.wide) in
       let mine = m.cells d.ino in
-      let T : Record → Type 0 = IsTold d.ino cell.block (log_of cell) in
+      let T : Record → Type 0 = IsTold (ids s.book.snaps) d.ino cell.block (log_of cell) in
       let had : picked_by_actor (actor_at w a) ≡ d ∷ [] =
       ap (λ (o : Option Running). picked_by_call o) is ∙ ap picked_at e in
       let told : AllByRecursion T (d ∷ []) = rw had at (own_all picked_by_actor T w.actors a there

@@ -1,19 +1,22 @@
 -- Pairs of a log by their numbers and names, and what more entries leave of them.
-use Rattle.std.proofs.Common.{◌≡◌, ℕ, zero, suc, ◌+◌, ◌-◌, ◌<◌, ◌&&◌, ◌++◌, ◌∙◌, Bool, true, false, not, List, [], ◌∷◌, Option, Some, None, ap, ap₂, if◌then◌else◌, nat_lt, refl, slice_get, slice_index_or, sym}
-use Rattle.std.specs.List.{flat_map}
+use Rattle.std.proofs.Common.{◌≡◌, ℕ, zero, suc, ◌+◌, ◌-◌, ◌<◌, ◌≤◌, ◌&&◌, ◌++◌, ◌∙◌, Bool, true, false, not, List, [], ◌∷◌, Option, Some, None, ap, ap₂, filter, if◌then◌else◌, nat_le, nat_lt, refl, slice_get, slice_index_or, sym}
+use Rattle.std.specs.List.{AllByRecursion, flat_map}
 use Rattle.std.specs.Option.{IsSome, option_map, option_or}
-use Rattle.std.proofs.lemmas.Bool.{and_parts, eqb-true, false≢true, ltb-false, ltb-true}
+use Rattle.std.proofs.lemmas.Bool.{and_parts, eqb-true, false≢true, le-ltb, ltb-false, ltb-true}
 use Rattle.std.proofs.lemmas.Option.{same_Some, slice_get-map}
 use Rattle.nv_base.specs.Ids.{is_same_id}
 use Rattle.nv_base.specs.declared.numbers.EntryId.{EntryId}
 use Rattle.nv_base.proofs.Ids.{ordered}
+use Rattle.nv_book.specs.Records.{is_held_by}
+use Rattle.nv_book.specs.declared.record.Record.{Record}
+use Rattle.nv_calls.specs.Retiring.{name_of, record_of}
 use Rattle.nv_cell.specs.Killed.{part_of_pair}
 use Rattle.nv_cell.specs.Named.{number_named, place_of}
 use Rattle.nv_cell.specs.Numbers.{is_number, killed_part}
 use Rattle.nv_cell.specs.declared.killed.KilledPart.{KilledPart}
 use Rattle.nv_cell.proofs.NamedParts.{are_pairs, name_told, names_of_parts, number_told, pair_first, pair_later}
 use Rattle.nv_entry.specs.Covered.{UncoveredAreCurrent, covered_parts, is_covered, part_count, part_total}
-use Rattle.nv_entry.specs.Held.{has_name, is_current, pair_name, same_part}
+use Rattle.nv_entry.specs.Held.{has_name, holds, is_before_death, is_current, pair_name, same_part}
 use Rattle.nv_entry.specs.Keys.{key_of, parts_of}
 use Rattle.nv_entry.specs.Log.{IsLog, first_cover, pair_of, pairs}
 use Rattle.nv_entry.specs.declared.held.Pair.{Pair}
@@ -23,6 +26,7 @@ use Rattle.nv_entry.specs.declared.part.Part.TheVariants as part
 use Rattle.nv_entry.specs.declared.part.PartId.{PartId}
 use Rattle.nv_entry.proofs.Currents.{uncovered_are_current}
 use Rattle.nv_entry.proofs.Values.{first_cover-append}
+use Rattle.nv_machine.proofs.EachOf.{all_append, all_filter}
 use Rattle.nv_machine.proofs.Lists.{self}
 
 -- ---- names
@@ -152,7 +156,7 @@ pair_front block (x ∷ xs) ys n death pair got dead =
           pair_later block x (xs ++ ys) n (ltb-false n (part_count x) q)
           ∙ rec (sym (pair_later block x xs n (ltb-false n (part_count x) q)) ∙ got) dead
 
--- ---- a pair that has died, by its name
+-- ---- a killed pair, by its name
 
 pub record HasPair (block : ℕ) (log : List Entry) (id : PartId) (birth death : ℕ) : Type 0 where
   pub n : ℕ
@@ -167,13 +171,93 @@ pub has_number : (block : ℕ) (log : List Entry) (id : PartId) (birth death : �
 has_number block log id birth death is h =
     ap (number_named log) (sym h.name) ∙ its_number block log is h.n h.pair h.is
 
-pub has_more : (block : ℕ) (xs ys : List Entry) (id : PartId) (birth death : ℕ) → HasPair block xs id birth death
-    → HasPair block (xs ++ ys) id birth death
-has_more block xs ys id birth death h = record {
+-- ---- the pair of a record
+
+-- a record is of a pair of a log: of that birth and no longer current, and with the same living holders
+pub record IsRecordOf (living : List ℕ) (block : ℕ) (log : List Entry) (d : Record) : Type 0 where
+  pub n : ℕ
+  pub pair : Pair
+  pub is : slice_get (pairs block log) n ≡ Some pair
+  pub name : pair_name pair ≡ name_of d
+  pub birth_is : pair.birth ≡ d.birth
+  pub died : is_current pair ≡ false
+  pub holders : AllByRecursion (λ s. is_held_by s d ≡ holds s pair) living
+
+pub record_number : (living : List ℕ) (block : ℕ) (log : List Entry) (d : Record) → IsLog log → (r : IsRecordOf living block log d)
+    → number_named log (name_of d) ≡ Some r.n
+record_number living block log d is r = ap (number_named log) (sym r.name) ∙ its_number block log is r.n r.pair r.is
+
+-- that of a killed pair
+pub record_killed : (living : List ℕ) (ino epoch : ℕ) (k : KilledPart) (block : ℕ) (log : List Entry)
+    → HasPair block log k.part k.birth epoch → IsRecordOf living block log (record_of ino epoch k)
+record_killed living ino epoch k block log h = record {
   n = h.n;
   pair = h.pair;
-  is = pair_front block xs ys h.n death h.pair h.is h.death_is;
+  is = h.is;
   name = h.name;
   birth_is = h.birth_is;
-  death_is = h.death_is;
+  died = rw (h.death_is) refl;
+  holders = all living;
+} where
+  all : (ss : List ℕ) → AllByRecursion (λ s. is_held_by s (record_of ino epoch k) ≡ holds s h.pair) ss
+  all [] = tt
+  all (s ∷ ss) = (rw (h.birth_is, h.death_is) refl, all ss)
+
+-- where a pair is not current it has a death
+death_of : (pair : Pair) → is_current pair ≡ false → (death : ℕ) × (pair.death ≡ Some death)
+death_of pair e = go pair.death refl where
+  go : (o : Option ℕ) → pair.death ≡ o → (death : ℕ) × (pair.death ≡ Some death)
+  go None q = absurd (false≢true (sym e ∙ rw q refl))
+  go (Some death) q = (death, q)
+
+-- behind more entries
+pub record_more : (living : List ℕ) (block : ℕ) (xs ys : List Entry) (d : Record) → IsRecordOf living block xs d
+    → IsRecordOf living block (xs ++ ys) d
+record_more living block xs ys d r =
+    let dead = death_of r.pair r.died in
+    record {
+      n = r.n;
+      pair = r.pair;
+      is = pair_front block xs ys r.n dead.0 r.pair r.is dead.1;
+      name = r.name;
+      birth_is = r.birth_is;
+      died = r.died;
+      holders = r.holders;
+    }
+
+-- where fewer snapshots live, and where one more does whose epoch is not before the deaths of both
+pub record_others : (living others : List ℕ) (block : ℕ) (log : List Entry) (d : Record) → (r : IsRecordOf living block log d)
+    → AllByRecursion (λ s. is_held_by s d ≡ holds s r.pair) others → IsRecordOf others block log d
+record_others living others block log d r holders = record {
+  n = r.n;
+  pair = r.pair;
+  is = r.is;
+  name = r.name;
+  birth_is = r.birth_is;
+  died = r.died;
+  holders = holders;
 }
+
+pub record_dropped : (living : List ℕ) (stays : ℕ → Bool) (block : ℕ) (log : List Entry) (d : Record) → IsRecordOf living block log d
+    → IsRecordOf (filter stays living) block log d
+record_dropped living stays block log d r =
+    record_others living (filter stays living) block log d r
+    (all_filter (λ s. is_held_by s d ≡ holds s r.pair) stays living r.holders)
+
+-- a new snapshot holds nothing that has died by its epoch
+pub dead_then : (epoch death : ℕ) (pair : Pair) → pair.death ≡ Some death → death ≤ epoch → holds epoch pair ≡ false
+dead_then epoch death pair dead le =
+    never (nat_le pair.birth epoch) (is_before_death epoch pair.death) (rw dead (le-ltb epoch death le)) where
+      never : (b c : Bool) → c ≡ false → (b && c) ≡ false
+      never true c e = e
+      never false c e = refl
+
+pub record_made : (living : List ℕ) (epoch block : ℕ) (log : List Entry) (d : Record) → d.death ≤ epoch
+    → ((n death : ℕ) (pair : Pair) → slice_get (pairs block log) n ≡ Some pair → pair.death ≡ Some death → death ≤ epoch)
+    → IsRecordOf living block log d → IsRecordOf (living ++ epoch ∷ []) block log d
+record_made living epoch block log d by all r =
+    let dead = death_of r.pair r.died in
+    let pair = dead_then epoch dead.0 r.pair dead.1 (all r.n dead.0 r.pair r.is dead.1) in
+    let its = dead_then epoch d.death (record { entry = d.entry; part = d.part; birth = d.birth; death = Some d.death }) refl by in
+    record_others living (living ++ epoch ∷ []) block log d r
+    (all_append (λ s. is_held_by s d ≡ holds s r.pair) living (epoch ∷ []) r.holders (its ∙ sym pair, tt))

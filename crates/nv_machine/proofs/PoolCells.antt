@@ -52,19 +52,19 @@ no_inode cell h = go (has_inode cell) (is_withheld cell) h where
 pub not_taken : (cell : CellState) → has_inode cell ≡ false → is_withheld cell ≡ false → taken_once cell ≡ 0
 not_taken cell h k = rw (h, k) refl
 
--- ---- the same log and generation
+-- ---- a log that is empty where it was, and the same generation
 
 pub record IsLike (old new : CellState) : Type 0 where
-  pub log : log_of new ≡ log_of old
+  pub inode : has_inode new ≡ has_inode old
   pub generation : new.generation ≡ old.generation
 
 pub like_taken : (old new : CellState) → IsLike old new → taken_once new ≡ taken_once old
 like_taken old new same =
-    ap (λ (l : List Entry). one_if (has_entry l || nat_le NUMBER new.generation)) same.log
+    ap (λ (b : Bool). one_if (b || nat_le NUMBER new.generation)) same.inode
     ∙ ap (λ (n : ℕ). one_if (has_inode old || nat_le NUMBER n)) same.generation
 
 pub like_inode : (old new : CellState) → IsLike old new → has_inode old ≡ true → has_inode new ≡ true
-like_inode old new same h = ap has_entry same.log ∙ h
+like_inode old new same h = same.inode ∙ h
 
 -- ---- append
 
@@ -87,9 +87,9 @@ appended_like entries blocks pages cell within =
     let rest = more_rest entries blocks more in
     let first = paged_rest pages cell in
     record {
-      log = ap (λ (n : ℕ). take n (with_entries entries blocks more).chain.entries) (rest.0 ∙ first.0)
+      inode = ap has_entry (ap (λ (n : ℕ). take n (with_entries entries blocks more).chain.entries) (rest.0 ∙ first.0)
           ∙ ap (take cell.chain.tail) (entries_more entries blocks more ∙ ap (λ (l : List Entry). l ++ entries) (pages_keep pages cell))
-          ∙ take-append-le cell.chain.tail cell.chain.entries entries within;
+          ∙ take-append-le cell.chain.tail cell.chain.entries entries within);
       generation = rest.1 ∙ first.1;
     }
 
@@ -139,12 +139,12 @@ published_log cell = take_whole cell.chain.entries
 pub retired_like : (living : List ℕ) (ino epoch : ℕ) (parts : List KilledPart) (cell : CellState)
     → IsLike cell (retired living ino epoch parts cell)
 retired_like living ino epoch parts cell = record {
-  log = ap log (chain_stays living ino epoch parts cell);
+  inode = ap has_entry (ap log (chain_stays living ino epoch parts cell));
   generation = generation_stays living ino epoch parts cell;
 }
 
 pub released_like : (picked : Record) (cell : CellState) → IsLike cell (released picked cell)
-released_like picked cell = record { log = refl; generation = refl }
+released_like picked cell = record { inode = refl; generation = refl }
 
 -- one that is gone has a log
 pub gone_inode : (cell : CellState) → is_gone (log_of cell) ≡ true → has_inode cell ≡ true

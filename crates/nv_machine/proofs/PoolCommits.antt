@@ -8,10 +8,12 @@ use Rattle.nv_alloc.proofs.Lists.{has-below}
 use Rattle.nv_base.specs.declared.geometry.GeometryNumbers.{GeometryNumbers}
 use Rattle.nv_calls.specs.Retiring.{erased, is_erased, number_back}
 use Rattle.nv_calls.specs.Slots.{place_in}
+use Rattle.nv_calls.proofs.Retires.{chain_stays}
 use Rattle.nv_cell.specs.Cell.{CellState, log_of, published}
 use Rattle.nv_cell.specs.Readers.{is_gone}
 use Rattle.nv_cell.proofs.Publishing.{take_whole}
 use Rattle.nv_epoch.specs.SnapList.{ids}
+use Rattle.nv_log.specs.Chain.{ChainState, log}
 use Rattle.nv_machine.specs.Grown.{fresh_entries, is_appended, is_behind}
 use Rattle.nv_machine.specs.Kinds.{entries_for, first_killed, retired_book, retired_cell, with_erased, with_freed}
 use Rattle.nv_machine.specs.Locks.{AreSlots, held_at}
@@ -205,6 +207,9 @@ module _ (g : GeometryNumbers) (block a : ℕ) (s : Shared) (h : HandState) (r :
     like : IsLike (cell_at s gone_slot) cell
     like = retired_like (ids s.book.snaps) gone_slot r.epoch (first_killed h.killed) (cell_at s gone_slot)
 
+    same_chain : cell.chain ≡ (cell_at s gone_slot).chain
+    same_chain = chain_stays (ids s.book.snaps) gone_slot r.epoch (first_killed h.killed) (cell_at s gone_slot)
+
     first : has (drop place written) gone_slot ≡ true
     first = has_drop place written gone_slot st.before.inside ∙ (let e = self gone_slot in rw e refl)
 
@@ -218,7 +223,7 @@ module _ (g : GeometryNumbers) (block a : ℕ) (s : Shared) (h : HandState) (r :
 
     -- an inode that is erased leaves by this commit
     erased_leaves : is_erased cell ≡ true → is_gone (entries_for r gone_slot) ≡ true
-    erased_leaves q = st.sees.1 gone_slot first (sym (ap is_gone like.log) ∙ erased_gone cell q)
+    erased_leaves q = st.sees.1 gone_slot first (sym (ap (λ (c : ChainState). is_gone (log c)) same_chain) ∙ erased_gone cell q)
 
     -- and the hand has no number before
     pub erased_number : is_erased cell ≡ true → h.ino ≡ None

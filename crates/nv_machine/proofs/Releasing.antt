@@ -55,7 +55,7 @@ use Rattle.nv_machine.proofs.HeldMarks.{in_use_there, same_default}
 use Rattle.nv_machine.proofs.Lists.{has_filter, has_later}
 use Rattle.nv_machine.proofs.Locked.{Before, lent_cell, owner_is}
 use Rattle.nv_machine.proofs.Locks.{before}
-use Rattle.nv_machine.proofs.Pairs.{HasPair, pair_there}
+use Rattle.nv_machine.proofs.Pairs.{IsRecordOf, pair_there}
 use Rattle.nv_machine.proofs.Parted.{settled_parted}
 use Rattle.nv_machine.proofs.PartsFor.{none_of, none_there, own_all, swap_all, swap_count}
 
@@ -155,7 +155,7 @@ module _ (g : GeometryNumbers) (w : World) (all : IsKnown g w) (actor : ℕ) (dr
   had = ap (λ (o : Option Running). picked_by_call o) runs ∙ ap picked_at next
 
   abbrev T : Record → Type 0
-  T x = IsTold d.ino cell.block (log_of cell) x
+  T x = IsTold living d.ino cell.block (log_of cell) x
 
   told : AllByRecursion T (all.rs ++ picked_in but)
   told =
@@ -163,7 +163,7 @@ module _ (g : GeometryNumbers) (w : World) (all : IsKnown g w) (actor : ℕ) (dr
       all_append T all.rs (picked_in but) (all_front T all.rs (picked_in w) was)
       (swap_all picked_by_actor T w.actors actor (record { hand = empty_hand; running = None }) (all_back T all.rs (picked_in w) was) tt)
 
-  pair : HasPair cell.block (log_of cell) (name_of d) d.birth d.death
+  pair : IsRecordOf living cell.block (log_of cell) d
   pair =
       let own : AllByRecursion T (d ∷ []) =
       rw had at (own_all picked_by_actor T w.actors actor here (all_back T all.rs (picked_in w) (all.marked.cells d.ino).told)) in

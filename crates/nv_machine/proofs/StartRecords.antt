@@ -9,7 +9,6 @@ use Rattle.nv_base.specs.declared.geometry.GeometryNumbers.{GeometryNumbers}
 use Rattle.nv_book.specs.Listed.{all_records}
 use Rattle.nv_book.specs.Records.{holder_of}
 use Rattle.nv_book.specs.declared.record.Record.{Record}
-use Rattle.nv_calls.specs.Retiring.{name_of}
 use Rattle.nv_cell.specs.Cell.{HasMarks, log_of}
 use Rattle.nv_cell.specs.Marks.{bit, mark_at}
 use Rattle.nv_cell.specs.declared.killed.KilledPart.{KilledPart}
@@ -27,7 +26,7 @@ use Rattle.nv_machine.proofs.FiledMarks.{IsTold, is_filed_on}
 use Rattle.nv_machine.proofs.FiledSteps.{MarksOf}
 use Rattle.nv_machine.proofs.FiledTurns.{Listed}
 use Rattle.nv_machine.proofs.FiledWorlds.{AreMarked, picked_in}
-use Rattle.nv_machine.proofs.Pairs.{HasPair}
+use Rattle.nv_machine.proofs.Pairs.{IsRecordOf}
 use Rattle.nv_machine.proofs.PartsFor.{none_of}
 use Rattle.nv_machine.proofs.SnapsAlike.{AreBefore}
 
@@ -48,16 +47,17 @@ none_holds (s ∷ living) pair e = let parts = or_parts (holds s pair) (is_held 
 
 -- what each record is of, told of one slot
 told_of : (w : World) (ino : ℕ) (rs : List Record) → AllByRecursion (IsOfPair w) rs
-    → AllByRecursion (IsTold ino (cell_at w.shared ino).block (log_of (cell_at w.shared ino))) rs
+    → AllByRecursion (IsTold (ids w.shared.book.snaps) ino (cell_at w.shared ino).block (log_of (cell_at w.shared ino))) rs
 told_of w ino [] all = tt
 told_of w ino (d ∷ rs) all = (
-  (λ same. subst (λ (n : ℕ). HasPair (cell_at w.shared n).block (log_of (cell_at w.shared n)) (name_of d) d.birth d.death) same (record {
+  (λ same. subst (λ (n : ℕ). IsRecordOf (ids w.shared.book.snaps) (cell_at w.shared n).block (log_of (cell_at w.shared n)) d) same (record {
     n = all.0.n;
     pair = all.0.pair;
     is = all.0.is;
     name = all.0.name;
     birth_is = all.0.birth;
-    death_is = all.0.death;
+    died = all.0.died;
+    holders = all.0.holders;
   })),
   told_of w ino rs all.1,
 )

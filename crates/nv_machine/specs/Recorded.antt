@@ -1,6 +1,6 @@
 -- Records: which there are after a run, which parts they are of, and which pairs they tell a snapshot to hold.
 use Rattle.std.specs.Prelude.{◌≡◌, ℕ, ◌&&◌, ◌++◌, Bool, true, false, List, [], ◌∷◌, filter, length, map, Option, Some, None, slice_get}
-use Rattle.std.specs.List.{list_any}
+use Rattle.std.specs.List.{AllByRecursion, list_any}
 use Rattle.nv_book.specs.Listed.{all_records, with_moved, with_retired, without_first}
 use Rattle.nv_book.specs.Records.{is_held_by}
 use Rattle.nv_book.specs.declared.record.Record.{Record}
@@ -12,7 +12,7 @@ use Rattle.nv_cell.specs.Numbers.{is_number}
 use Rattle.nv_cell.specs.declared.killed.KilledPart.{KilledPart}
 use Rattle.nv_cell.specs.declared.mark.Mark.{Mark}
 use Rattle.nv_cell.specs.declared.mark.Mark.TheVariants.{Current, Kept, Killed, Out}
-use Rattle.nv_entry.specs.Held.{has_name, is_named, pair_name}
+use Rattle.nv_entry.specs.Held.{has_name, holds, is_current, is_named, pair_name}
 use Rattle.nv_entry.specs.Log.{pairs}
 use Rattle.nv_entry.specs.declared.held.Pair.{Pair}
 use Rattle.nv_epoch.specs.SnapList.{ids}
@@ -80,14 +80,16 @@ is_kept Out = false
 abbrev pub AreRecordedOnce : World → Type 0
 AreRecordedOnce w = (ino n : ℕ) → times_recorded w ino n ≡ bit (is_kept (mark_at (cell_at w.shared ino).marks n))
 
--- a record is of a pair of its slot's log, of that birth and that death
+-- a record is of a pair of its slot's log, of that birth and no longer current; and each living snapshot holds the record
+-- exactly where it holds the pair
 pub record IsOfPair (w : World) (d : Record) : Type 0 where
   pub n : ℕ
   pub pair : Pair
   pub is : slice_get (pairs (cell_at w.shared d.ino).block (log_of (cell_at w.shared d.ino))) n ≡ Some pair
   pub name : pair_name pair ≡ name_of d
   pub birth : pair.birth ≡ d.birth
-  pub death : pair.death ≡ Some d.death
+  pub died : is_current pair ≡ false
+  pub holders : AllByRecursion (λ s. is_held_by s d ≡ holds s pair) (ids w.shared.book.snaps)
 
 -- ---- what a snapshot holds, by records and by killed parts
 
