@@ -37,7 +37,8 @@ ghost use Rattle.nv_machine.specs.World.{Done, Draining, Drop, Ends, Event, Go, 
 /// the youngest to hold; and a pick takes out the first that no living snapshot holds. The manifests and the deferred
 /// list are that list, each record with its youngest living holder, or deferred where it has none. A part is marked
 /// kept exactly where it has one record, in a manifest, deferred, or picked by a drain that has not yet released it;
-/// none has two; and each record is of a pair of its inode's log.
+/// none has two; and each record is of a pair of its inode's log that has died, and each living snapshot holds the record
+/// exactly where it holds the pair.
 pub fn records_are_filed()
     ensures list { (g : GeometryNumbers) (start : World) (records : List Record) (events : List Event)
         → IsStart g start records → IsRecordList (ids (after start events).shared.book.snaps)
