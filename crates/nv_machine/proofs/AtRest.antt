@@ -27,6 +27,7 @@ use Rattle.nv_machine.specs.Order.{IsInOrder}
 use Rattle.nv_machine.specs.PoolScan.{is_number_used}
 use Rattle.nv_machine.specs.Reading.{ArePins, shows_of}
 use Rattle.nv_machine.specs.Settled.{settled_copies, settled_nodes}
+use Rattle.nv_machine.specs.Shapes.{AreShaped}
 use Rattle.nv_machine.specs.Starts.{IsStart}
 use Rattle.nv_machine.specs.Versions.{AreCounted}
 use Rattle.nv_machine.specs.Whole.{HaveTheirParts}
@@ -65,6 +66,7 @@ pub record HasAll (g : GeometryNumbers) (w : World) (records : List Record) : Ty
   pub pages : AllOnPages g.page w.shared
   pub listed : Listed records w.shared
   pub marked : AreMarked w records
+  pub shaped : AreShaped g.block w.shared
   pub sound : AreSound w.shared
   pub tree : AreTree (node_in (settled_nodes w.shared))
   pub copies : (snapshot : ℕ) → Contains (ids w.shared.book.snaps) snapshot → AreTree (settled_copies w.shared snapshot)
@@ -145,6 +147,7 @@ module _ (g : GeometryNumbers) (w : World) (records : List Record) (all : HasAll
         (subst (λ (ks : List KilledPart). count (is_killed_on (log_of (cell_at w.shared ino)) n) ks
         ≡ bit (is_killed (mark_at (cell_at w.shared ino).marks n))) (no_killed ino) ((all.marked.cells ino).killed_are n));
     out = λ ino n pair got gone. not_held (ids w.shared.book.snaps) pair ((all.marked.cells ino).out n pair got gone);
+    shaped = all.shaped;
     sound = all.sound;
     tree = all.tree;
     copies = all.copies;

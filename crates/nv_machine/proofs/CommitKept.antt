@@ -1,5 +1,5 @@
 -- The steps of a commit keep settled logs, and all but its commit point keep every settled node.
-use Rattle.std.proofs.Common.{◌≡◌, ◌≢◌, ℕ, zero, suc, ◌+◌, ◌%◌, ◌<◌, ◌≤◌, ◌==◌, ◌||◌, ◌++◌, ◌∙◌, inr, Bool, true, false, cond, List, [], ◌∷◌, Option, Some, None, add-one, ap, arith, drop, drop-cons, get_or-set_other, get_or-set_same, if◌then◌else◌, length, length-set, mod-lt, nat_lt, refl, set, subst, sym, take}
+use Rattle.std.proofs.Common.{◌≡◌, ◌≢◌, ℕ, zero, suc, ◌+◌, ◌%◌, ◌<◌, ◌≤◌, ◌==◌, ◌||◌, ◌++◌, ◌∙◌, inr, Bool, true, false, cond, List, [], ◌∷◌, Option, Some, None, add-one, ap, arith, drop, drop-cons, get_or-set_other, get_or-set_same, if◌then◌else◌, length, length-set, mod-lt, nat_lt, refl, set, subst, sym, take, inl}
 use Rattle.std.specs.List.{AllByRecursion}
 use Rattle.std.proofs.lemmas.Bool.{eq-eqb, eqb-true, false≢true, ltb-false, ltb-true, true≢false}
 use Rattle.nv_alloc.specs.Block.{BlockValue, numbers_of}
@@ -30,7 +30,7 @@ use Rattle.nv_machine.proofs.CellSteps.{Grows, HaveFront, Retires, append_grows,
 use Rattle.nv_machine.proofs.Journals.{closed_again, closed_tail, open_free, open_same, open_stays}
 use Rattle.nv_machine.proofs.Lists.{drop_apart, rising_filter, take_all, take_apart, take_more, written_inside}
 use Rattle.nv_machine.proofs.Written.{front_of, many_planned, within_of, written_there}
-use Rattle.nv_machine.proofs.LogsKept.{KeptLeft, SameLogs, cell_left, cell_nodes, cell_set, node_at}
+use Rattle.nv_machine.proofs.LogsKept.{IsSameOrEmpty, KeptLeft, SameLogs, cell_left, cell_nodes, cell_set, node_at}
 
 -- what a turn owes: settled logs are kept, nodes stay but at a commit point, and the call knows what it is to know
 abbrev pub OnKept : Bool → ℕ → ℕ → Shared → Turn → Type 0
@@ -156,7 +156,7 @@ module _ (block a : ℕ) (s : Shared) (h : HandState) (r : Running) (kept : AreL
     append_kept pages k = (
       cell_left a s kept slot new s.book low refl own held (subst (λ (l : List Entry). HasPages l new) (sym log) g.pages),
       (λ e. cell_nodes a s kept slot new s.book low refl
-          (λ generation. rw (log, g.generation) (ap (λ (n : _). cond (generation == cell.generation) n None) g.node))
+          (λ generation. rw (log, g.generation) (ap (λ (n : _). cond (generation == cell.generation) n None) g.node)) (inl log)
           (λ x. subst (IsSoundIn new) (sym log) (g.sound x))),
       knows_appending block _ cpu _ r k.1 (place + 1) k.0 k.2
           (λ lt numbers at. let p = k.3 (numbers_of h.blocks) (λ e. refl) in
@@ -215,7 +215,7 @@ module _ (block a : ℕ) (s : Shared) (h : HandState) (r : Running) (kept : AreL
     publish_kept is true several k = (
       cell_left a s kept slot (published cell) s.book low refl own held
           (subst (λ (l : List Entry). HasPages l (published cell)) (sym log) pages),
-      (λ e. cell_nodes a s kept slot (published cell) s.book low refl (λ generation. rw log refl)
+      (λ e. cell_nodes a s kept slot (published cell) s.book low refl (λ generation. rw log refl) (inl log)
           (λ x. subst (IsSoundIn (published cell)) (sym log) x)),
       knows_publishing block after cpu _ r k.1 (place + 1) (publish_killed refl is k.0)
           (subst (λ (b : Bool). IsNotedIf b after cpu written_) (sym several) (record {
@@ -288,7 +288,7 @@ module _ (block a : ℕ) (s : Shared) (h : HandState) (r : Running) (kept : AreL
     retire_kept apart k = (
       cell_left a s kept slot (erased retired_) (retired_book slot parts s r) low refl own held (pages (is_erased retired_)),
       (λ e. cell_nodes a s kept slot (erased retired_) (retired_book slot parts s r) low refl
-          (λ generation. nodes generation (is_erased retired_) refl) (sounds (is_erased retired_))),
+          (λ generation. nodes generation (is_erased retired_) refl) (logs (is_erased retired_)) (sounds (is_erased retired_))),
       knows_retiring block retired_after cpu _ r k.1 (place + 1)
           (subst (AreKilledIn retired_after (drop (place + 1) written_)) (sym (hand_killed (is_erased retired_) _ _ _))
           (same_killed s retired_after (drop (place + 1) written_) (drop 1 h.killed)
@@ -322,6 +322,11 @@ module _ (block a : ℕ) (s : Shared) (h : HandState) (r : Running) (kept : AreL
           → IsSoundIn (by b) (take (settled_tail s.book.journals slot (by b).chain.tail) (by b).chain.entries)
       sounds true x = subst (IsSoundIn (by true)) (sym (take_none _)) (empty_sound (bytes_among (by true).blocks) (by true).block)
       sounds false x = subst (IsSoundIn retired_) (sym same_log) (retired_sound cell retired_ is apart had (subst (IsSoundIn cell) log x))
+
+      logs : (b : Bool)
+          → IsSameOrEmpty (take (settled_tail s.book.journals slot (by b).chain.tail) (by b).chain.entries) (settled s slot)
+      logs true = inr (take_none _)
+      logs false = inl (same_log ∙ sym log)
 
       node : node_by retired_ (log_of cell) ≡ node_by cell (log_of cell)
       node = retired_node cell retired_ is apart had
@@ -362,6 +367,7 @@ module _ (block a : ℕ) (s : Shared) (h : HandState) (r : Running) (kept : AreL
     },
     (λ e. record {
       nodes = λ ino generation. ap (λ (l : List Entry). node_at (cell_at s ino) l generation) (same ino);
+      logs = λ ino. inl (same ino);
       sound = λ sound ino. subst (IsSoundIn (cell_at s ino)) (sym (same ino)) (sound ino);
     }),
     knows_publishing block t cpu h r k.1 0 (none_killed t h.killed k.0)

@@ -1,5 +1,5 @@
 -- One reading of all blocks of all cells, and the plan of a call at its commit point.
-use Rattle.std.proofs.Common.{◌≡◌, ℕ, zero, suc, ◌<◌, ◌≤◌, ◌==◌, ◌∙◌, Bool, true, false, cond, List, [], ◌∷◌, Option, Some, None, ap, arith, flat_map, inl, inr, length, refl, slice_index_or, subst, sym}
+use Rattle.std.proofs.Common.{◌≡◌, ◌⊎◌, ℕ, zero, suc, ◌<◌, ◌≤◌, ◌==◌, ◌∙◌, Bool, true, false, cond, List, [], ◌∷◌, Option, Some, None, ap, arith, flat_map, inl, inr, length, refl, slice_index_or, subst, sym}
 use Rattle.std.specs.List.{AllByRecursion}
 use Rattle.std.specs.Option.{option_map}
 use Rattle.std.specs.Prelude.{Contains}
@@ -11,9 +11,11 @@ use Rattle.nv_alloc.specs.Numbers.{has, times}
 use Rattle.nv_alloc.proofs.Lists.{times-append}
 use Rattle.nv_base.specs.declared.numbers.Handle.{Handle}
 use Rattle.nv_calls.proofs.Keeps.{keeps_to_its}
+use Rattle.nv_calls.proofs.Lawful.{plan_good}
 use Rattle.nv_calls.proofs.Passed.{IsThere}
 use Rattle.nv_calls.proofs.fits.All.{call_fits}
 use Rattle.nv_calls.specs.AllCalls.{IsReady, effect, plan, refusal}
+use Rattle.nv_calls.specs.Lawful.{IsLawfulPlan}
 use Rattle.nv_calls.specs.Locked.{KeepsToIts, locks}
 use Rattle.nv_calls.specs.Plain.{PlainNode, node_in, stamped}
 use Rattle.nv_calls.specs.Refusals.{passes}
@@ -37,6 +39,7 @@ use Rattle.nv_machine.specs.PlainRun.{Commits, deed}
 use Rattle.nv_machine.specs.Reads.{bytes_among, is_written, written_slots}
 use Rattle.nv_machine.specs.Sequence.{beginning}
 use Rattle.nv_machine.specs.Settled.{settled, settled_nodes}
+use Rattle.nv_machine.specs.Shapes.{IsGoneLast}
 use Rattle.nv_machine.specs.Step.{kind_turn}
 use Rattle.nv_machine.specs.World.{Append, Back, Check, Close, Enter, Give, HandState, Leave, Lock, Look, Next, Number, Open, Publish, Ready, Retire, Running, Shared, TakeBlocks, TakePages, Unlock, Visit, World, cell_at, no_cell, Snapshots}
 use Rattle.nv_machine.proofs.Answered.{entered_none, no_commit, no_commit_on}
@@ -49,6 +52,7 @@ use Rattle.nv_machine.proofs.FitsRuns.{is_ready, present_in, taken_of}
 use Rattle.nv_machine.proofs.FitsStages.{Drawn, FitsAt, IsLocked, IsStored, Passed}
 use Rattle.nv_machine.proofs.PoolSlots.{filter_has}
 use Rattle.nv_machine.proofs.Reached.{most_once, twice}
+use Rattle.nv_machine.proofs.Shapes.{Grows, plan_grows, plan_last}
 
 -- ---- one reading of all blocks
 
@@ -214,6 +218,19 @@ module _ (bytes : ℕ → List ℕ) (block : ℕ) (s : Shared) (is : IsRead byte
         (subst (λ (nodes : Handle → Option PlainNode). IsPlan bytes block (settled_slots s) (plan block (node_in nodes) mine r.call)
         (effect (node_in nodes) r.made r.call)) nodes_are
         (call_fits bytes block (settled_slots s) mine some log_sound r.call (passed r some p Stored d) ready))
+
+    -- and its items are lawful for what their slots have
+    lawful : IsLawfulPlan block (node_in (node_under bytes block (settled_slots s))) r.plan
+    lawful = subst (IsLawfulPlan block (node_in (node_under bytes block (settled_slots s))))
+        (ap (λ (nodes : Handle → Option PlainNode). plan block (node_in nodes) mine r.call) nodes_are ∙ sym d.drawn.plan)
+        (plan_good bytes block (settled_slots s) some mine log_sound r.call (passed r some p Stored d) ready)
+
+    pub grows_now : (ino : ℕ) → (items_for r.plan ino ≡ []) ⊎ Grows block (settled s ino) (items_for r.plan ino)
+    grows_now =
+        plan_grows bytes block (settled_slots s) (makes_inode (beginning r.call)) r.made p.free r.plan lawful
+        (plan_there r some p Stored d) fits.all
+        (subst (AllByRecursion (λ (q : Planned). IsGoneLast q.items)) (sym d.drawn.plan)
+        (plan_last block (node_in (settled_nodes s)) mine r.call))
 
     pub plan_now : HasPlanNow bytes block s r
     plan_now = record {

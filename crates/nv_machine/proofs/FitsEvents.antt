@@ -1,6 +1,6 @@
 -- Plans fit at their commit points, whatever events come.
 use Rattle.nv_book.specs.declared.record.Record.{Record}
-use Rattle.std.proofs.Common.{◌≡◌, ◌≢◌, ℕ, zero, suc, ◌-◌, ◌<◌, ◌≤◌, ◌==◌, ◌∙◌, Bool, true, false, cond, List, [], ◌∷◌, Option, Some, None, ap, ap₂, arith, get_or-set_other, get_or-set_same, inl, inr, length, length-set, nat_lt, refl, replicate, set, subst, sym, take}
+use Rattle.std.proofs.Common.{◌≡◌, ◌≢◌, ◌⊎◌, ℕ, zero, suc, ◌-◌, ◌<◌, ◌≤◌, ◌==◌, ◌∙◌, Bool, true, false, cond, List, [], ◌∷◌, Option, Some, None, ap, ap₂, arith, get_or-set_other, get_or-set_same, inl, inr, length, length-set, nat_lt, refl, replicate, set, subst, sym, take}
 use Rattle.std.specs.Prelude.{slice_index_or, unwrap_or}
 use Rattle.std.proofs.lemmas.Bool.{cases_lt, eqb-false, eqb-true, lt-ltb, ltb-true, true≢false}
 use Rattle.std.proofs.lemmas.List.{get_or_past}
@@ -12,7 +12,7 @@ use Rattle.nv_base.specs.Limits.{IsWithinLimits}
 use Rattle.nv_calls.specs.AllCalls.{refusal}
 use Rattle.nv_calls.specs.Refusals.{passes}
 use Rattle.nv_calls.specs.Plain.{node_in}
-use Rattle.nv_calls.specs.Slots.{Slot}
+use Rattle.nv_calls.specs.Slots.{items_for, Slot}
 use Rattle.nv_calls.specs.declared.call.Call.{Call}
 use Rattle.nv_cell.specs.Cell.{CellState, empty_cell, published}
 use Rattle.nv_calls.specs.Retiring.{erased, released}
@@ -37,7 +37,7 @@ use Rattle.nv_machine.specs.World.{Actor, Append, Back, Check, Close, Ends, Ente
 use Rattle.nv_machine.proofs.Answered.{deed_is}
 use Rattle.nv_machine.proofs.Lists.{written_inside}
 use Rattle.nv_machine.proofs.Effects.{new_sound, point_is_sound, take_none}
-use Rattle.nv_machine.proofs.FitsBytes.{all_read, plan_now, point_fits}
+use Rattle.nv_machine.proofs.FitsBytes.{all_read, grows_now, plan_now, point_fits}
 use Rattle.nv_machine.proofs.FitsCells.{append_wider, erased_block, retired_block}
 use Rattle.nv_machine.proofs.FitsPooled.{HaveFreeNumbers, free_numbers}
 use Rattle.nv_machine.proofs.FitsKinds.{own_turn, their_fits}
@@ -54,6 +54,7 @@ use Rattle.nv_machine.proofs.Locks.{all_same, before}
 use Rattle.nv_machine.proofs.LogsKept.{cell_set}
 use Rattle.nv_machine.proofs.Reached.{reached}
 use Rattle.nv_machine.proofs.KeptTurns.{lent_inside_own}
+use Rattle.nv_machine.proofs.Shapes.{Grows}
 use Rattle.nv_calls.proofs.Next.{by_erased}
 use Rattle.nv_machine.specs.Sequence as sequence
 
@@ -261,6 +262,18 @@ module _ (g : GeometryNumbers) (w : World) (known : IsKnown g w) (fit : AreFit w
           let s = w.shared in
           let k = known.reached in
           plan_now (bytes_in s) block s (record {
+            pages = k.kept.logs.pages;
+            apart = k.apart.cells;
+            blocks = all_read g.blocks w known.numbers.once;
+            sizes = fit.sizes;
+          }) fit.sound r k.kept.some at.1 at.2
+
+      -- and its items are lawful for what their slots have
+      pub grow_now : (ino : ℕ) → (items_for r.plan ino ≡ []) ⊎ Grows block (settled w.shared ino) (items_for r.plan ino)
+      grow_now =
+          let s = w.shared in
+          let k = known.reached in
+          grows_now (bytes_in s) block s (record {
             pages = k.kept.logs.pages;
             apart = k.apart.cells;
             blocks = all_read g.blocks w known.numbers.once;

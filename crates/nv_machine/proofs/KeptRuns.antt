@@ -1,5 +1,5 @@
 -- Settled logs are kept whatever events come, and nodes change at commit points alone.
-use Rattle.std.proofs.Common.{◌≡◌, ◌≢◌, ◌-◌, ◌%◌, ◌<◌, ◌==◌, ◌∙◌, ◌∷◌, ◌≤◌, ℕ, zero, suc, Bool, true, false, List, [], Option, Some, None, ap, arith, get_or-set_other, get_or-set_same, if◌then◌else◌, length, map, nat_lt, refl, replicate, set, subst, sym}
+use Rattle.std.proofs.Common.{◌≡◌, ◌≢◌, ◌-◌, ◌%◌, ◌<◌, ◌==◌, ◌∙◌, ◌∷◌, ◌≤◌, ℕ, zero, suc, Bool, true, false, List, [], Option, Some, None, ap, arith, get_or-set_other, get_or-set_same, if◌then◌else◌, length, map, nat_lt, refl, replicate, set, subst, sym, inl}
 use Rattle.std.specs.List.{range_with_len}
 use Rattle.std.specs.Prelude.{slice_index_or, unwrap_or}
 use Rattle.std.proofs.lemmas.Bool.{eqb-false, eqb-true, le-ltb, ltb-true, eq-eqb, false≢true}
@@ -31,7 +31,7 @@ use Rattle.nv_machine.proofs.InOrder.{event_order}
 use Rattle.nv_machine.proofs.KeptTurns.{Standing, kept_turn, same_still}
 use Rattle.nv_machine.proofs.Knowing.{locking_knows}
 use Rattle.nv_machine.proofs.Locks.{all_same, before, event_locks, many_same}
-use Rattle.nv_machine.proofs.LogsKept.{KeptLeft, SameLogs, same_nodes, still_left}
+use Rattle.nv_machine.proofs.LogsKept.{IsSameOrEmpty, KeptLeft, SameLogs, same_nodes, still_left}
 use Rattle.nv_alloc.specs.Numbers.{has}
 use Rattle.nv_machine.proofs.Lists.{has_filter, has_later}
 use Rattle.nv_machine.proofs.Tails.{has_front}
@@ -163,7 +163,7 @@ turned_kept same (Ends result s h) actor w there locks kept on = record {
 }
 
 same_logs : (s : Shared) → SameLogs s s
-same_logs s = record { nodes = λ ino generation. refl; sound = λ sound. sound }
+same_logs s = record { nodes = λ ino generation. refl; logs = λ ino. inl refl; sound = λ sound. sound }
 
 turned_nodes : (t : Turn) (block actor : ℕ) (w : World) → OnKept true block actor w.shared t
     → SameLogs w.shared (turned t actor w).world.shared
@@ -305,6 +305,10 @@ event_nodes w (Start actor c) locks order kept apart same = start_shared (nat_lt
     (actor_at w actor).running w actor c
 event_nodes w (Go actor granted) locks order kept apart same =
     go_nodes (nat_lt actor (length w.actors)) (actor_at w actor).running w actor granted refl locks order kept apart same
+
+pub logs_stay : (w : World) (e : Event) → AreLocks w → IsInOrder w → IsKept w → AreBlocksApart w → keeps_nodes (deed_of w e) ≡ true
+    → (ino : ℕ) → IsSameOrEmpty (settled (step w e).world.shared ino) (settled w.shared ino)
+logs_stay w e locks order kept apart same = (event_nodes w e locks order kept apart same).logs
 
 pub nodes_stay : (w : World) (e : Event) → AreLocks w → IsInOrder w → IsKept w → AreBlocksApart w → keeps_nodes (deed_of w e) ≡ true
     → (handle : Handle) → settled_nodes (step w e).world.shared handle ≡ settled_nodes w.shared handle

@@ -1,3 +1,5 @@
+pub mod Shapes
+pub mod ShapeEvents
 pub mod StartParts
 pub mod StartPool
 pub mod StartRecords

@@ -1,5 +1,5 @@
 -- What a step on the shared parts leaves of settled logs and of the nodes that they give.
-use Rattle.std.proofs.Common.{◌≡◌, ◌≢◌, ℕ, ◌<◌, ◌==◌, ◌∙◌, Bool, true, false, List, Option, Some, None, ap, get_or-set_other, get_or-set_same, if◌then◌else◌, length, refl, subst, sym, take}
+use Rattle.std.proofs.Common.{◌≡◌, ◌⊎◌, ◌≢◌, ℕ, ◌<◌, ◌==◌, ◌∙◌, Bool, true, false, List, [], Option, Some, None, ap, get_or-set_other, get_or-set_same, if◌then◌else◌, length, refl, subst, sym, take, inl}
 use Rattle.std.proofs.lemmas.Bool.{eqb-false, eqb-true}
 use Rattle.nv_base.specs.declared.numbers.Handle.{Handle}
 use Rattle.nv_book.specs.Book.{BookState}
@@ -26,9 +26,14 @@ SameNodes s t = (ino generation : ℕ)
 pub same_nodes : (s t : Shared) → SameNodes s t → (handle : Handle) → settled_nodes t handle ≡ settled_nodes s handle
 same_nodes s t h handle = h handle.ino handle.generation
 
+-- a settled log is as it was, or it is emptied
+abbrev pub IsSameOrEmpty : List Entry → List Entry → Type 0
+IsSameOrEmpty new old = (new ≡ old) ⊎ (new ≡ [])
+
 -- and what is sound stays so
 pub record SameLogs (s t : Shared) : Type 0 where
   pub nodes : SameNodes s t
+  pub logs : (ino : ℕ) → IsSameOrEmpty (settled t ino) (settled s ino)
   pub sound : AreSound s → AreSound t
 
 -- ---- what a turn leaves
@@ -49,6 +54,7 @@ pub record Still (s t : Shared) : Type 0 where
 pub still_nodes : (s t : Shared) → Still s t → SameLogs s t
 still_nodes s t h = record {
   nodes = λ ino generation. rw (h.cells ino, h.journals) refl;
+  logs = λ ino. inl (rw (h.cells ino, h.journals) refl);
   sound = λ sound ino. rw (h.cells ino, h.journals) (sound ino);
 }
 
@@ -107,8 +113,11 @@ module _ (a : ℕ) (s : Shared) (kept : AreLogsKept s) (slot : ℕ) (cell : Cell
 
   pub cell_nodes : ((generation : ℕ) → node_at cell (log_with cell slot) generation
       ≡ node_at (cell_at s slot) (settled s slot) generation)
+      → IsSameOrEmpty (log_with cell slot) (settled s slot)
       → (IsSoundIn (cell_at s slot) (settled s slot) → IsSoundIn cell (log_with cell slot)) → SameLogs s t
-  cell_nodes same sounds = record {
+  cell_nodes same log sounds = record {
+    logs = λ ino. rw (journals) (cell_set s slot cell ino (λ (c : CellState). IsSameOrEmpty (log_with c ino) (settled s ino)) inside
+        (λ e. subst (λ (n : ℕ). IsSameOrEmpty (log_with cell n) (settled s n)) e log) (λ e. inl refl));
     nodes = λ ino generation. rw (journals) (cell_set s slot cell ino
         (λ (c : CellState). node_at c (log_with c ino) generation ≡ node_at (cell_at s ino) (settled s ino) generation) inside
         (λ e. subst (λ (n : ℕ). node_at cell (log_with cell n) generation ≡ node_at (cell_at s n) (settled s n) generation) e

@@ -36,6 +36,7 @@ use Rattle.nv_machine.proofs.PageEvents.{logs_paged, new_all}
 use Rattle.nv_machine.proofs.Pins.{no_shows, pins_of_shows}
 use Rattle.nv_machine.proofs.PoolLaw.{all_pooled, new_pooled}
 use Rattle.nv_machine.proofs.Reached.{reached}
+use Rattle.nv_machine.proofs.ShapeEvents.{all_shaped, new_shaped}
 use Rattle.nv_machine.proofs.SnapRuns.{in_step}
 use Rattle.nv_machine.proofs.Versions.{all_counted, new_counted}
 
@@ -58,6 +59,7 @@ new_start g within = is_at_rest g (formatted g) [] (record {
   pages = new_all g within;
   listed = new_listed g;
   marked = new_marked g;
+  shaped = new_shaped g;
   sound = new_sound g within;
   tree = subst AreTree (sym (new_nodes g within)) root_tree;
   copies = λ snapshot there. absurd (let lt = there.1 in omega (arith, lt));
@@ -86,6 +88,7 @@ module _ (g : GeometryNumbers) (start : World) (records : List Record) (events :
     pages = λ ino. logs_paged g start records events ino is_start;
     listed = all_listed g start records events is_start;
     marked = all_marked g start records events is_start;
+    shaped = all_shaped g start records events is_start;
     sound = all_sound g start records events is_start;
     tree = all_trees g start records events is_start;
     copies =

@@ -1,5 +1,5 @@
 -- A release keeps settled logs, and every settled node.
-use Rattle.std.proofs.Common.{◌≡◌, ◌≢◌, ℕ, zero, suc, ◌+◌, ◌<◌, ◌==◌, ◌∙◌, Bool, true, false, cond, if◌then◌else◌, List, [], Option, Some, None, ap, length, refl, subst, sym, take}
+use Rattle.std.proofs.Common.{◌≡◌, ◌≢◌, ℕ, zero, suc, ◌+◌, ◌<◌, ◌==◌, ◌∙◌, Bool, true, false, cond, if◌then◌else◌, List, [], Option, Some, None, ap, length, refl, subst, sym, take, inl, inr}
 use Rattle.std.specs.Prelude.{unwrap_or}
 use Rattle.nv_book.specs.declared.record.Record.{Record}
 use Rattle.nv_calls.specs.Plain.{PlainNode}
@@ -13,7 +13,7 @@ use Rattle.nv_machine.specs.Reads.{bytes_among}
 use Rattle.nv_machine.specs.Settled.{node_by, settled, settled_tail}
 use Rattle.nv_machine.specs.World.{Shared, cell_at, owner_at, with_cell}
 use Rattle.nv_machine.proofs.CellSteps.{Retires, empty_pages, erased_none, one_retires, retired_node, retired_pages, retired_sound}
-use Rattle.nv_machine.proofs.LogsKept.{KeptLeft, SameLogs, cell_nodes, cell_set, node_at}
+use Rattle.nv_machine.proofs.LogsKept.{IsSameOrEmpty, KeptLeft, SameLogs, cell_nodes, cell_set, node_at}
 use Rattle.nv_entry.proofs.SoundLogs.{empty_sound}
 
 -- what gives up covered parts alone, and is erased where nothing is kept of it; no journal notes its slot
@@ -47,6 +47,10 @@ module _ (a : ℕ) (s : Shared) (kept : AreLogsKept s) (slot : ℕ) (new : CellS
       → IsSoundIn (by b) (take (settled_tail s.book.journals slot (by b).chain.tail) (by b).chain.entries)
   sounds true x = subst (IsSoundIn (by true)) (sym (take_none _)) (empty_sound (bytes_among (by true).blocks) (by true).block)
   sounds false x = subst (IsSoundIn new) (sym same_log) (retired_sound old new is apart had (subst (IsSoundIn old) log x))
+
+  logs : (b : Bool) → IsSameOrEmpty (take (settled_tail s.book.journals slot (by b).chain.tail) (by b).chain.entries) (settled s slot)
+  logs true = inr (take_none _)
+  logs false = inl (same_log ∙ sym log)
 
   node : node_by new (log_of old) ≡ node_by old (log_of old)
   node = retired_node old new is apart had
@@ -90,7 +94,7 @@ module _ (a : ℕ) (s : Shared) (kept : AreLogsKept s) (slot : ℕ) (new : CellS
 
   pub released_logs : SameLogs s (with_cell slot (erased new) s)
   released_logs = cell_nodes a s kept slot (erased new) s.book inside refl
-      (λ generation. nodes generation (is_erased new) refl) (sounds (is_erased new))
+      (λ generation. nodes generation (is_erased new) refl) (logs (is_erased new)) (sounds (is_erased new))
 
 -- the part of a picked record is covered
 pub release_retires : (picked : Record) (cell : CellState)

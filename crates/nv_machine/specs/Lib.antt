@@ -33,6 +33,7 @@ pub mod Refusing
 pub mod Rounds
 pub mod Sequence
 pub mod Settled
+pub mod Shapes
 pub mod Snapshots
 pub mod Starts
 pub mod Step

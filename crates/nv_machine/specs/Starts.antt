@@ -27,6 +27,7 @@ use Rattle.nv_machine.specs.PoolScan.{has_inode, pool_from_scratch}
 use Rattle.nv_machine.specs.Reading.{ArePins}
 use Rattle.nv_machine.specs.Recorded.{AreRecordedOnce, IsOfPair}
 use Rattle.nv_machine.specs.Settled.{settled_copies, settled_nodes}
+use Rattle.nv_machine.specs.Shapes.{AreShaped}
 use Rattle.nv_machine.specs.Versions.{AreVersions}
 use Rattle.nv_machine.specs.World.{World, actor_at, cell_at, idle, owner_at}
 
@@ -79,7 +80,8 @@ pub record IsStart (g : GeometryNumbers) (w : World) (records : List Record) : T
   pub out : (ino n : ℕ) (pair : Pair)
       → slice_get (pairs (cell_at w.shared ino).block (log_of (cell_at w.shared ino))) n ≡ Some pair
       → mark_at (cell_at w.shared ino).marks n ≡ Out → is_held (ids w.shared.book.snaps) pair ≡ false
-  -- logs are sound, and directories form a tree: now, and at each living snapshot
+  -- logs are of their shape and sound, and directories form a tree: now, and at each living snapshot
+  pub shaped : AreShaped g.block w.shared
   pub sound : AreSound w.shared
   pub tree : AreTree (node_in (settled_nodes w.shared))
   pub copies : (snapshot : ℕ) → Contains (ids w.shared.book.snaps) snapshot → AreTree (settled_copies w.shared snapshot)

@@ -27,6 +27,7 @@ ghost use Rattle.nv_machine.specs.Numbers.{IdleHaveNothing, IsEachOnce, all_bloc
 ghost use Rattle.nv_machine.specs.Order.{IsInOrder};
 ghost use Rattle.nv_machine.specs.PoolScan.{pool_from_scratch};
 ghost use Rattle.nv_machine.specs.Reads.{pages_needed, slot_at, written_slots};
+ghost use Rattle.nv_machine.specs.Shapes.{AreShaped};
 ghost use Rattle.nv_machine.specs.Starts.{IsStart};
 ghost use Rattle.nv_machine.specs.Step.{after, kind_turn, stays, step, turn};
 ghost use Rattle.nv_machine.specs.Pages.{AreOnPages, HasLogPages, TakesPages};
@@ -138,6 +139,13 @@ pub fn ids_rise()
         → IsStart g start records → IsInOrder start }
     ensures stays { (events : List Event) (w : World) → AreLocks w → IsInOrder w
         → IsInOrder (after w events) }
+{}
+
+/// Each settled log is of its shape: its items are lawful one after another from nothing, so that it begins with its kind,
+/// and nothing stands behind a Gone.
+pub fn logs_have_their_shape()
+    ensures { (g : GeometryNumbers) (start : World) (records : List Record) (events : List Event)
+        → IsStart g start records → AreShaped g.block (after start events).shared }
 {}
 
 /// From any start on, whatever events come, each block number stands exactly once among the free lists, the
