@@ -189,7 +189,7 @@ none_front queue =
 pub record IsPaged (n : ℕ) (v0 now new : CellValue) (bs : List BlockValue) : Type 0 where
   pub value : new ≡ with_pages (take (n + 1) bs) v0
   pub ready : (items : List Item) → IsReadyFor items now → IsReadyFor items new
-  pub fewer : (entries : ℕ) → pages_for new.state.chain entries ≡ pages_for now.state.chain entries - 1
+  pub more : room_of new.state.chain ≡ room_of now.state.chain + now.state.chain.page
 
 pub page_added : (n : ℕ) (v0 now new : CellValue) (bs : List BlockValue) (b : BlockValue) → Some b ≡ slice_get (drop n bs) 0
     → IsChain now.state.chain → now ≡ with_pages (take n bs) v0
@@ -197,7 +197,7 @@ pub page_added : (n : ℕ) (v0 now new : CellValue) (bs : List BlockValue) (b : 
 page_added n v0 now new bs b here is now_is state room = record {
   value = value_is new _ _ state room ∙ ap (page_more b) now_is ∙ paged bs n b v0 here;
   ready = λ items h. page_ready b items now new is state room h;
-  fewer = λ entries. ap (λ (s : CellState). pages_for s.chain entries) state ∙ (adds_page b now.state.chain is).pages_fall entries;
+  more = ap (λ (s : CellState). room_of s.chain) state ∙ (adds_page b now.state.chain is).room_rises;
 }
 
 -- entries of a later commit may follow, from any place in it on

@@ -4,7 +4,7 @@ use Rattle.std.specs.List.{AllByRecursion, AllPairs, remove}
 use Rattle.std.proofs.lemmas.Bool.{eqb-false, eqb-true}
 use Rattle.nv_entry.specs.declared.item.Item.{Item}
 use Rattle.nv_cell.specs.Cell.{CellRoom, CellValue}
-use Rattle.nv_cell.specs.Room.{HasNoLess, IsReadyFor}
+use Rattle.nv_cell.specs.Room.{HasNoLess, IsReadyToAppend}
 use Rattle.nv_calls.specs.Cells.{OnlyAt, ino_at, state_at, value_at, with_value}
 use Rattle.nv_calls.specs.Prepared.{HaveNoLessRoom, cell_plans, if_items}
 use Rattle.nv_calls.specs.Ready.{CellPlanValue, no_plan, plan_at}
@@ -141,20 +141,20 @@ differ false h k = cc
 -- the cells are ready for one plan more
 pub ready_more : (plans : List CellPlanValue) (now new : List (ℕ × CellValue)) (index k : ℕ) → index < length plans
     → k ≡ (plan_at plans index).at → AllPairs (λ a b. a.at < b.at) plans → OnlyAt k now new
-    → ((j : ℕ) → j < index → IsReadyFor (plan_at plans j).items (value_at now (plan_at plans j).at))
-    → IsReadyFor (plan_at plans index).items (value_at new k)
+    → ((j : ℕ) → j < index → IsReadyToAppend (plan_at plans j).items (value_at now (plan_at plans j).at))
+    → IsReadyToAppend (plan_at plans index).items (value_at new k)
     → (j : ℕ) → j < index + 1
-    → IsReadyFor (plan_at plans j).items (value_at new (plan_at plans j).at)
+    → IsReadyToAppend (plan_at plans j).items (value_at new (plan_at plans j).at)
 ready_more plans now new index k lt is rising only before here j less = go (j == index) refl where
-  go : (b : Bool) → (j == index) ≡ b → IsReadyFor (plan_at plans j).items (value_at new (plan_at plans j).at)
+  go : (b : Bool) → (j == index) ≡ b → IsReadyToAppend (plan_at plans j).items (value_at new (plan_at plans j).at)
   go true q =
       let same : index ≡ j = sym (eqb-true j index q) in
-      subst (λ (n : ℕ). IsReadyFor (plan_at plans n).items (value_at new (plan_at plans n).at)) same
-      (subst (λ (n : ℕ). IsReadyFor (plan_at plans index).items (value_at new n)) is here)
+      subst (λ (n : ℕ). IsReadyToAppend (plan_at plans n).items (value_at new (plan_at plans n).at)) same
+      (subst (λ (n : ℕ). IsReadyToAppend (plan_at plans index).items (value_at new n)) is here)
   go false q =
       let lower : j < index = omega (arith, less, apart_by j index q) in
       let rises : (plan_at plans j).at < (plan_at plans index).at = rising j index no_plan lower lt in
-      subst (λ (v : CellValue). IsReadyFor (plan_at plans j).items v)
+      subst (λ (v : CellValue). IsReadyToAppend (plan_at plans j).items v)
       (sym (ap (λ (xs : List (ℕ × CellValue)). value_at xs (plan_at plans j).at) only
       ∙ value_beside now k (plan_at plans j).at (value_at new k) (λ e. omega (arith, e, rises, is))))
       (before j lower)

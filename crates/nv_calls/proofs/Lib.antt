@@ -9,6 +9,7 @@ pub mod CellPlans
 pub mod Commits
 pub mod Composed
 pub mod Effective
+pub mod FewPages
 pub mod FillChecked
 pub mod FillFresh
 pub mod FillPages

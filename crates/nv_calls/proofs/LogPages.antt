@@ -1,21 +1,17 @@
 -- How many log pages a plan needs, cell by cell.
 use Rattle.std.proofs.Common.{◌≡◌, ℕ, zero, suc, ◌+◌, ◌-◌, ◌*◌, ◌<◌, ◌≤◌, Bool, true, false, cond, List, [], ◌∷◌, Option, Some, None, length, replicate, get_or, drop, not, arith, refl, ap, ap₂, subst, sym, ◌∙◌, ◌^◌}
-use Rattle.std.specs.Int.{div_ceil}
 use Rattle.std.specs.List.{AllByRecursion, sum_by}
 use Rattle.std.specs.Prelude.{option_map, unwrap_or}
-use Rattle.std.proofs.Math.Nat.{div-zero, zero-div}
 use Rattle.std.proofs.Math.Seq.{drop-cons}
 use Rattle.std.proofs.lemmas.List.{length-map}
 use Rattle.std.proofs.lemmas.List.Sums.{sum_by-cons}
-use Rattle.std.proofs.lemmas.Nat.{div-add-mod'}
 use Rattle.nv_alloc.specs.Block.{BlockValue, number_of, numbers_of}
 use Rattle.nv_alloc.specs.declared.hand.Hand.{Hand}
 use Rattle.nv_base.specs.declared.numbers.Handle.{Handle}
 use Rattle.nv_cell.specs.Cell.{CellState, CellValue}
 use Rattle.nv_entry.specs.declared.item.Item.{Item}
 use Rattle.nv_entry.specs.declared.node.NodeCopy.{NodeCopy}
-use Rattle.nv_log.proofs.Parts.{div_ceil-le}
-use Rattle.nv_log.specs.Chain.{ChainState, pages_for, room_of}
+use Rattle.nv_log.specs.Chain.{pages_for}
 use Rattle.nv_calls.specs.AllCalls.{blocks_wanted, refusal}
 use Rattle.nv_calls.specs.Cells.{state_at}
 use Rattle.nv_calls.specs.Committed.{page_count}
@@ -34,15 +30,6 @@ use Rattle.nv_calls.specs.calls.Write.{text_refusal}
 use Rattle.nv_calls.proofs.FillRuns.{runs_begun}
 use Rattle.nv_calls.proofs.Passed.{file_passed}
 use Rattle.nv_calls.proofs.Within.{count_passed}
-
-zero_ceil : (page : ℕ) → div_ceil 0 page ≡ 0
-zero_ceil page = omega (arith, zero-div page, div-add-mod' 0 page)
-
--- no entry needs no page
-none_for : (chain : ChainState) → pages_for chain 0 ≡ 0
-none_for chain =
-    let none : 0 - room_of chain ≡ 0 = omega arith in
-    ap (λ (n : ℕ). div_ceil n chain.page) none ∙ zero_ceil chain.page
 
 -- ---- the pages that a commit counts
 
@@ -66,7 +53,7 @@ counted plan all at (c ∷ cells) same = go (items_for plan c.0) refl (counted p
   go : (items : List Item) → items_for plan c.0 ≡ items → sum_by (page_count all) rest ≡ sum_by (pages_needed plan) cells
       → sum_by (page_count all) (if_items at items rest) ≡ sum_by (pages_needed plan) (c ∷ cells)
   go [] q more =
-      let none : pages_needed plan c ≡ 0 = ap (λ (xs : List Item). pages_for c.1.state.chain (length xs)) q ∙ none_for c.1.state.chain in
+      let none : pages_needed plan c ≡ 0 = ap (λ (xs : List Item). pages_for c.1.state.chain (length xs)) q in
       omega (arith, more, none, sum_by-cons (pages_needed plan) c cells)
   go (item ∷ items) q more =
       let p : CellPlanValue = record { at = at; items = item ∷ items; killed = [] } in
@@ -109,17 +96,6 @@ few_blocks block nodes present (update.Mode handle mode) passed = omega arith
 few_blocks block nodes present (update.Unlink dir name) passed = omega arith
 few_blocks block nodes present (update.Rmdir dir name) passed = omega arith
 few_blocks block nodes present (update.Rename from old to new) passed = omega arith
-
--- entries need no more pages than they are
-ceil_within : (n page : ℕ) → div_ceil n page ≤ n
-ceil_within n zero = omega (arith, div-zero n, div-add-mod' n 0)
-ceil_within n (suc page) = div_ceil-le n (suc page) n (omega arith) (wide n) where
-  wide : (m : ℕ) → m ≤ m * suc page
-  wide zero = omega arith
-  wide (suc m) = omega (arith, wide m)
-
-pub pages_within : (chain : ChainState) (n : ℕ) → pages_for chain n ≤ n
-pages_within chain n = omega (arith, ceil_within (n - room_of chain) chain.page)
 
 -- ---- what a plan is made with
 

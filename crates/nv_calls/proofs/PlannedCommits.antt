@@ -11,7 +11,7 @@ use Rattle.nv_base.specs.declared.numbers.Handle.{Handle}
 use Rattle.nv_book.specs.Book.{BookValue}
 use Rattle.nv_entry.specs.declared.item.Item.{Item}
 use Rattle.nv_cell.specs.Cell.{CellValue}
-use Rattle.nv_cell.specs.Room.{IsReadyFor}
+use Rattle.nv_cell.specs.Room.{IsReadyToAppend}
 use Rattle.nv_calls.specs.AllCalls.{plan}
 use Rattle.nv_calls.specs.CanCommit.{AllowsCommit, CanCommit, CanTakeItems, HasNumber, IsSettledFor, TakesCommit, goes, numbers_of_all}
 use Rattle.nv_calls.specs.Cells.{ino_at, no_cell, value_at}
@@ -232,7 +232,7 @@ module _ (cells now : List (ℕ × CellValue)) (hand : Hand) (u : Update) (book 
 
   each : (j : ℕ) → j < length plans → CanTakeItems (stamp_of book.state) ready.hand (plan_at plans j).items (cell_of_plan j)
   each j lt = record {
-    ready = all_at (λ (p : CellPlanValue). IsReadyFor p.items (value_at now p.at)) plans no_plan j is.cells_ready lt;
+    ready = all_at (λ (p : CellPlanValue). IsReadyToAppend p.items (value_at now p.at)) plans no_plan j is.cells_ready lt;
     later = (takes j lt).later;
     within = (have j lt).within;
     block_size = (have j lt).size ∙ sym (still j lt).size;

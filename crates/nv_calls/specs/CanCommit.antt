@@ -12,7 +12,7 @@ use Rattle.nv_cell.specs.Cell.{CellState, CellValue, fresh_of, log_of, published
 use Rattle.nv_cell.specs.Effects.{items_of}
 use Rattle.nv_cell.specs.Killed.{AreKilled}
 use Rattle.nv_cell.specs.Readers.{is_gone, is_last_word}
-use Rattle.nv_cell.specs.Room.{IsReadyFor}
+use Rattle.nv_cell.specs.Room.{IsReadyFor, IsReadyToAppend}
 use Rattle.nv_cell.specs.Weights.{weights_in}
 use Rattle.nv_entry.specs.declared.item.Item.{Item}
 use Rattle.nv_log.specs.Chain.{last_of}
@@ -26,7 +26,7 @@ use Rattle.nv_calls.specs.Steps.{IsLater, numbers_in}
 
 -- items can be appended to a cell in the commit of that number and epoch, with blocks and pages of a hand
 pub record CanTakeItems (stamp : Stamp) (hand : Hand) (items : List Item) (cell : CellValue) : Type 0 where
-  pub ready : IsReadyFor items cell
+  pub ready : IsReadyToAppend items cell
   pub later : IsLater stamp cell
   pub within : AllByRecursion IsWithinFile items
   pub block_size : hand.data.size ≡ cell.state.block

@@ -9,7 +9,7 @@ use Rattle.nv_base.specs.declared.numbers.Handle.{Handle}
 use Rattle.nv_entry.specs.declared.item.Item.{Item}
 use Rattle.nv_entry.specs.Sound.{blocks_of}
 use Rattle.nv_cell.specs.Cell.{CellState, CellValue}
-use Rattle.nv_cell.specs.Room.{HasNoLess, IsReadyFor}
+use Rattle.nv_cell.specs.Room.{HasNoLess, IsReadyToAppend}
 use Rattle.nv_calls.specs.AllCalls.{blocks_wanted, ends_in_page, is_nothing, plan, refusal}
 use Rattle.nv_calls.specs.Cells.{AreCells, ino_at, state_at, value_at}
 use Rattle.nv_calls.specs.Committed.{page_count}
@@ -93,7 +93,7 @@ pub record HoldsTheSame (old new : Hand) : Type 0 where
 
 -- the planned cells are ready for their items
 abbrev pub AreReady : List (ℕ × CellValue) → List CellPlanValue → Type 0
-AreReady cells plans = AllByRecursion (λ p. IsReadyFor p.items (value_at cells p.at)) plans
+AreReady cells plans = AllByRecursion (λ p. IsReadyToAppend p.items (value_at cells p.at)) plans
 
 -- ---- a call that is ready
 

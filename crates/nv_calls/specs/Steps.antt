@@ -14,7 +14,7 @@ use Rattle.nv_log.specs.Chain.{ChainState, last_epoch, last_id, pages_for}
 use Rattle.nv_entry.specs.Blocks.{item_blocks}
 use Rattle.nv_cell.specs.Append.{IsWithinFile, after_append, appended, blocks_for}
 use Rattle.nv_cell.specs.Cell.{CellValue}
-use Rattle.nv_cell.specs.Room.{IsReadyFor}
+use Rattle.nv_cell.specs.Room.{IsReadyToAppend}
 use Rattle.nv_calls.specs.declared.stamp.Stamp.{Stamp}
 use Rattle.nv_calls.specs.Slots.{entries_of}
 
@@ -73,7 +73,7 @@ without_front n queue = record queue { blocks = drop n queue.blocks; room = queu
 -- entries with these items can be appended to a cell in a commit, from a place in it on, with what a hand holds: the
 -- cell is ready for them, and the hand has the pages that the log needs, and in front the blocks of the items' pages
 pub record CanAppendPlan (stamp : Stamp) (place : ℕ) (items : List Item) (hand : Hand) (cell : CellValue) : Type 0 where
-  pub ready : IsReadyFor items cell
+  pub ready : IsReadyToAppend items cell
   pub later : IsLater stamp cell
   pub pages : pages_for cell.state.chain (length items) ≤ length hand.pages.blocks
   pub page_size : hand.pages.size ≡ cell.state.block

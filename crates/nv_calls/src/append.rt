@@ -1,8 +1,8 @@
 //! The entries of a commit, appended past the tails.
 
-ghost use Rattle.std.specs.Prelude.{◌≡◌, ℕ, List, ◌+◌, ◌-◌, ◌<◌, ◌≤◌, ◌^◌, drop, length, take, []};
+ghost use Rattle.std.specs.Prelude.{◌≡◌, ℕ, List, ◌+◌, ◌*◌, ◌<◌, ◌≤◌, ◌^◌, drop, length, take, []};
 ghost use Rattle.nv_entry.specs.declared.item.Item.{Item as ItemValue};
-ghost use Rattle.nv_log.specs.Chain.{pages_for, room_of};
+ghost use Rattle.nv_log.specs.Chain.{room_of};
 ghost use Rattle.nv_cell.specs.Room.{IsReadyFor};
 ghost use Rattle.nv_calls.specs.Cells.{state_at, value_at, with_value};
 ghost use Rattle.nv_calls.specs.Steps.{CanAppendPlan, HaveBlocks, MayFollow, hand_after, numbers_in, stamped_entries, stamped_entry, with_entries, with_pages, with_plan, without_front};
@@ -23,8 +23,9 @@ fn add_pages<C: Cells>(cells: &mut C, k: usize, count: usize, pages: &mut BlockQ
         (with_pages (take count pages.old.blocks) (value_at (C.cells cells.old) k)) }
     ensures ready { (items : List ItemValue) → IsReadyFor items (value_at (C.cells cells.old) k)
         → IsReadyFor items (value_at (C.cells cells.new) k) }
-    ensures fewer { (entries : ℕ) → pages_for (state_at (C.cells cells.new) k).chain entries
-        ≡ pages_for (state_at (C.cells cells.old) k).chain entries - count }
+    ensures room { room_of (state_at (C.cells cells.new) k).chain
+        ≡ room_of (state_at (C.cells cells.old) k).chain
+        + count * (state_at (C.cells cells.old) k).chain.page }
     ensures pages { pages.new ≡ without_front count pages.old }
     ensures places { C.places cells.new ≡ C.places cells.old }
     ensures beside { C.beside cells.new ≡ C.beside cells.old }

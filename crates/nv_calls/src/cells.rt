@@ -28,7 +28,7 @@ pub trait Cells {
     ghost use Rattle.nv_cell.specs.Killed.{AreKilled};
     ghost use Rattle.nv_cell.specs.Numbers.{killed_part};
     ghost use Rattle.nv_cell.specs.Readers.{is_gone, keeps_nothing};
-    ghost use Rattle.nv_cell.specs.Room.{AddsPage, HasNoLess, IsReadyFor};
+    ghost use Rattle.nv_cell.specs.Room.{AddsPage, HasNoLess, IsReadyFor, IsReadyToAppend};
     ghost use Rattle.nv_cell.specs.Weights.{runs_of, weights_in};
     ghost use Rattle.nv_calls.specs.Cells.{OnlyAt, ino_at, state_at, value_at};
 
@@ -63,8 +63,8 @@ pub trait Cells {
         requires one { BindOne items.now }
         ensures cells { OnlyAt k (cells self.old) (cells self.new) }
         ensures state { state_at (cells self.new) k ≡ state_at (cells self.old) k }
-        ensures ok { OnOk result (IsReadyFor items.now (value_at (cells self.new) k)) }
-        ensures enough { IsReadyFor items.now (value_at (cells self.old) k) → IsOk result }
+        ensures ok { OnOk result (IsReadyToAppend items.now (value_at (cells self.new) k)) }
+        ensures enough { IsReadyToAppend items.now (value_at (cells self.old) k) → IsOk result }
         ensures room { HasNoLess (value_at (cells self.old) k).room
             (value_at (cells self.new) k).room }
         ensures name { OnErr result ((value_at (cells self.new) k).room.name

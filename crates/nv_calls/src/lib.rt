@@ -52,7 +52,7 @@ pub use commit::Commit;
 pub use fill_pages::fill;
 pub use held_nodes::HeldNodes;
 pub use lent::{LastCell, LentCell};
-pub use log_pages::pages_wanted;
+pub use log_pages::{MORE_PAGES, pages_wanted};
 pub use looked::{Looked, found, is_as_looked, look, look_all};
 pub use nodes::Nodes;
 pub use plan::{Plan, Planned, PlannedItems, place_in};

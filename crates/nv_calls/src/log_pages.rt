@@ -3,6 +3,7 @@
 ghost use Rattle.std.specs.Prelude.{◌≡◌, ◌+◌, ◌<◌, ◌≤◌, ◌^◌, ℕ, [], if◌then◌else◌, length, not};
 ghost use Rattle.std.specs.List.{AllByRecursion};
 ghost use Rattle.nv_alloc.specs.Block.{numbers_of};
+ghost use Rattle.nv_calls.specs.declared.log_pages.TheConstants.{MORE_PAGES};
 ghost use Rattle.nv_calls.specs.declared.taken.Taken.{Taken};
 ghost use Rattle.nv_calls.specs.AllCalls.{plan};
 ghost use Rattle.nv_calls.specs.PagesWanted.{goes_on, pages_wanted};
@@ -17,6 +18,10 @@ use crate::looked::{found, look_all};
 use crate::{Cells, HeldNodes, Looked, Nodes, Plan, Update};
 use nv_alloc::{BlockQueue, Hand};
 use nv_base::{Handle, Ino};
+
+/// A call takes at most so many log pages more than data blocks: each of these may have an entry of its own, at most
+/// three logs grow, and each by at most seven pages more than it gets entries.
+pub const MORE_PAGES: u64 = 24;
 
 /// How many items a call appends to the log of an inode, where its blocks are so many runs.
 fn item_count<N: Nodes>(nodes: &N, made: Ino, runs: usize, update: &Update, ino: Ino) -> usize
@@ -106,8 +111,9 @@ fn begins_run(next: Option<u64>, number: u64) -> bool
 /// of the plan for each cell.
 pub fn pages_wanted<C: Cells>(cells: &C, plan: &Plan, hand: &Hand) -> u64
     requires can { CanReady (C.cells cells.now) hand.now plan.now.update }
-    ensures { result ≡ pages_wanted (C.cells cells.now)
+    ensures wanted { result ≡ pages_wanted (C.cells cells.now)
         (planned_by (C.cells cells.now) hand.now plan.now.update) }
+    ensures few { result ≤ length hand.now.data.blocks + MORE_PAGES }
 {
     let nodes = HeldNodes::new(cells);
     let made = hand.ino().unwrap_or(Ino::new(0));

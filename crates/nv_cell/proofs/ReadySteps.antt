@@ -1,8 +1,6 @@
 -- What a cell that is ready for items stays ready for, page by page and entry by entry.
 use Rattle.std.proofs.Common.{◌≡◌, ℕ, zero, suc, ◌+◌, ◌-◌, ◌*◌, ◌<◌, ◌≤◌, List, [], ◌∷◌, ◌++◌, length, drop, arith, refl, ap, sym, ◌∙◌, subst, append_assoc}
-use Rattle.std.specs.Int.{div_ceil}
 use Rattle.std.specs.Option.{ForSome}
-use Rattle.std.proofs.lemmas.Grind.{div_ceil_times}
 use Rattle.std.proofs.lemmas.List.{append-nil, drop-append-le, map-append}
 use Rattle.std.proofs.lemmas.List.Sums.{sum_by-cons}
 use Rattle.nv_alloc.specs.Block.{BlockValue}
@@ -11,9 +9,8 @@ use Rattle.nv_entry.specs.declared.item.Entry.{Entry}
 use Rattle.nv_entry.specs.declared.item.Item.{Item}
 use Rattle.nv_entry.specs.Covered.{part_count}
 use Rattle.nv_entry.specs.Keys.{parts_of}
-use Rattle.nv_log.specs.Chain.{ChainState, IsChain, appended as appended_chain, last_epoch, last_id, pages_for, room_of, with_page}
+use Rattle.nv_log.specs.Chain.{ChainState, IsChain, appended as appended_chain, last_epoch, last_id, room_of, with_page}
 use Rattle.nv_log.proofs.Chains.{appends_entry, room-page}
-use Rattle.nv_log.proofs.Parts.{div_ceil-le}
 use Rattle.nv_cell.specs.Append.{IsWithinFile, MayAppend, after_append, appended}
 use Rattle.nv_cell.specs.Cell.{CanPublish, CellState, CellValue, IsReady, fresh_of}
 use Rattle.nv_cell.specs.Effects.{items_of}
@@ -22,46 +19,21 @@ use Rattle.nv_cell.proofs.Appending.{log_stays}
 
 -- ---- one page more
 
--- a page's worth less is one page less
-one_less : (n page : ℕ) → 0 < page → div_ceil (n - page) page ≡ div_ceil n page - 1
-one_less n page some =
-    let whole = div_ceil_times n page some in
-    let less = div_ceil_times (n - page) page some in
-    let up : div_ceil n page ≤ div_ceil (n - page) page + 1 =
-    div_ceil-le n page (div_ceil (n - page) page + 1) some (omega (arith, less)) in
-    let down : div_ceil (n - page) page ≤ div_ceil n page - 1 = fewer (div_ceil n page) whole.0 in
-    omega (arith, up, down)
-  where
-    fewer : (pages : ℕ) → n ≤ pages * page → div_ceil (n - page) page ≤ pages - 1
-    fewer zero le = let none : n - page ≡ 0 = omega (arith, le) in div_ceil-le (n - page) page 0 some (omega (arith, none))
-    fewer (suc pages) le =
-        let back : suc pages - 1 ≡ pages = omega arith in
-        rw back (div_ceil-le (n - page) page pages some (omega (arith, le)))
-
 pub adds_page : (block : BlockValue) (chain : ChainState) → IsChain chain → AddsPage chain (with_page block chain)
-adds_page block chain is =
-    let more : room_of (with_page block chain) ≡ room_of chain + chain.page = room-page chain block is in
-    record {
-      room_rises = more;
-      pages_fall = λ n.
-          let left : n - room_of (with_page block chain) ≡ n - room_of chain - chain.page = omega (arith, more) in
-          ap (λ (k : ℕ). div_ceil k chain.page) left ∙ one_less (n - room_of chain) chain.page (omega (arith, is.least));
-    }
+adds_page block chain is = record { room_rises = room-page chain block is }
 
-pub none_missing : (entries : ℕ) (chain : ChainState) → IsChain chain → pages_for chain entries ≡ 0 → entries ≤ room_of chain
-none_missing entries chain is none =
-    let page = chain.page in
-    let all : entries - room_of chain ≤ div_ceil (entries - room_of chain) page * page =
-    (div_ceil_times (entries - room_of chain) page (omega (arith, is.least))).0 in
-    let nothing : entries - room_of chain ≤ 0 * page = subst (λ (k : ℕ). entries - room_of chain ≤ k * page) none all in
-    omega (arith, nothing)
+-- one page of those that there is room for
+one_taken : (n room pages page : ℕ) → n ≤ room + pages * page → n ≤ room + page + (pages - 1) * page
+one_taken n room zero page le = omega (arith, le)
+one_taken n room (suc pages) page le = let back : suc pages - 1 ≡ pages = omega arith in rw back (omega (arith, le))
 
 pub page_ready : (block : BlockValue) (items : List Item) (old new : CellValue) → IsChain old.state.chain
     → new.state ≡ record old.state { chain = with_page block old.state.chain } → new.room ≡ record old.room { pages = old.room.pages - 1 }
     → IsReadyFor items old → IsReadyFor items new
 page_ready block items old new is state room h = record {
   append = record {
-    pages = rw (state, room) (omega (arith, (adds_page block old.state.chain is).pages_fall (length items), h.append.pages));
+    pages = rw (state, room) (rw (adds_page block old.state.chain is).room_rises
+        (one_taken (length items) (room_of old.state.chain) old.room.pages old.state.chain.page h.append.pages));
     entries = rw room h.append.entries;
     parts = rw room h.append.parts;
   };
@@ -101,12 +73,11 @@ pub others_ready : (e : Entry) (blocks : List BlockValue) (later : List Item) (o
 others_ready e blocks later old new is page state room h =
     let chain = old.state.chain in
     let falls : room_of (appended_chain e chain) + 1 ≡ room_of chain = (appends_entry chain e is page).room_falls in
-    let left : length later - room_of (appended_chain e chain) ≡ suc (length later) - room_of chain = omega (arith, falls) in
     let fresh = fresh_more chain e later is.within in
     let log = log_stays chain.tail chain.entries e is.within in
     record {
       append = record {
-        pages = rw (state, room) (subst (λ (k : ℕ). div_ceil k chain.page ≤ old.room.pages) (sym left) h.append.pages);
+        pages = rw (state, room) (omega (arith, falls, h.append.pages));
         entries = rw room (omega (arith, h.append.entries));
         parts = rw room (omega (arith, h.append.parts, sum_by-cons (λ item. length (parts_of item)) e.item later));
       };

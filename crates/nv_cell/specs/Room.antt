@@ -1,5 +1,5 @@
 -- Room for what is to follow.
-use Rattle.std.specs.Prelude.{◌≡◌, ℕ, ◌+◌, ◌-◌, ◌≤◌, List, ◌++◌, length, vec_capacity}
+use Rattle.std.specs.Prelude.{◌≡◌, ℕ, ◌+◌, ◌-◌, ◌*◌, ◌≤◌, List, ◌++◌, length, vec_capacity}
 use Rattle.std.specs.Global.{Vec}
 use Rattle.nv_entry.specs.declared.item.Item.{Item}
 use Rattle.nv_entry.specs.Keys.{Key}
@@ -10,9 +10,9 @@ use Rattle.nv_cell.specs.Effects.{items_of}
 use Rattle.nv_cell.specs.Index.{IndexValue, ref_of}
 use Rattle.nv_cell.specs.Weights.{parts_in}
 
--- there is room to append entries with these items
+-- there is room to append entries with these items, on pages that are there or may be added
 pub record CanAppend (items : List Item) (cell : CellValue) : Type 0 where
-  pub pages : pages_for cell.state.chain (length items) ≤ cell.room.pages
+  pub pages : length items ≤ room_of cell.state.chain + cell.room.pages * cell.state.chain.page
   pub entries : length items ≤ cell.room.entries
   pub parts : parts_in items ≤ cell.room.parts
 
@@ -21,10 +21,14 @@ pub record IsReadyFor (items : List Item) (cell : CellValue) : Type 0 where
   pub append : CanAppend items cell
   pub publish : CanPublish (items_of (fresh_of cell.state) ++ items) cell
 
--- a page more: each number of entries needs one page less
+-- the same, and room for as many pages as the log takes for the entries
+pub record IsReadyToAppend (items : List Item) (cell : CellValue) : Type 0 where
+  pub ready : IsReadyFor items cell
+  pub pages : pages_for cell.state.chain (length items) ≤ cell.room.pages
+
+-- a page more: there is room for its entries
 pub record AddsPage (old new : ChainState) : Type 0 where
   pub room_rises : room_of new ≡ room_of old + old.page
-  pub pages_fall : (entries : ℕ) → pages_for new entries ≡ pages_for old entries - 1
 
 -- no room is less; of the name that is reserved this says nothing
 pub record HasNoLess (old new : CellRoom) : Type 0 where

@@ -13,7 +13,7 @@ ghost use Rattle.nv_entry.specs.Node.{file_bytes};
 ghost use Rattle.nv_entry.specs.declared.item.Entry.{Entry};
 ghost use Rattle.nv_entry.specs.declared.item.Item.{Item};
 ghost use Rattle.nv_entry.specs.declared.part.PartId.{PartId};
-ghost use Rattle.nv_log.specs.Chain.{ChainState, IsChain, last_epoch, last_id, log_pages, pages_for, room_of, with_page};
+ghost use Rattle.nv_log.specs.Chain.{ChainState, IsChain, last_epoch, last_id, log_pages, room_of, with_page};
 ghost use Rattle.nv_cell.specs.Append.{IsWithinFile, MayAppend, after_append, appended};
 ghost use Rattle.nv_cell.specs.Cell.{CellState, CellValue, IsCell, IsReady, log_of, mark_named, number_in, with_mark, without_part};
 ghost use Rattle.nv_cell.specs.Killed.{AreKilled, AreNamesOfParts, ArePairs, DiesAt, IsMarkedAnew, IsWithoutBlock};
@@ -52,16 +52,10 @@ pub fn a_page_keeps_ready()
         → IsReadyFor items old → IsReadyFor items new }
 {}
 
-/// With a page more each number of entries needs one page less.
-pub fn a_page_is_one_less()
+/// A page more gives room for its entries.
+pub fn a_page_gives_its_room()
     ensures { (block : BlockValue) (chain : ChainState) → IsChain chain
         → AddsPage chain (with_page block chain) }
-{}
-
-/// Where no page is missing, the pages that are there take the entries.
-pub fn no_page_is_missing()
-    ensures { (entries : ℕ) (chain : ChainState) → IsChain chain → pages_for chain entries ≡ 0
-        → entries ≤ room_of chain }
 {}
 
 /// Once all are appended, the cell can publish them.

@@ -61,11 +61,12 @@ impl InodeCell {
         self.chain.room()
     }
 
-    /// How many more pages it takes to append so many entries.
+    /// How many more pages the log takes to append so many entries.
     pub fn pages_for(&self, entries: usize) -> usize
         ensures value { result ≡ pages_for self.now.state.chain entries }
         ensures enough { entries
-            ≤ result * self.now.state.chain.page + room_of self.now.state.chain }
+            ≤ room_of self.now.state.chain + result * self.now.state.chain.page }
+        ensures few { result ≤ entries + 7 }
     {
         self.chain.pages_for(entries)
     }

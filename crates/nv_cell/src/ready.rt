@@ -1,14 +1,14 @@
 //! Room for what is to follow.
 
-ghost use Rattle.std.specs.Prelude.{◌≡◌, ◌+◌, ◌-◌, ◌<◌, ◌≤◌, ◌^◌, IsOk, OnErr, OnOk, length, min, take, vec_capacity, vec_len};
+ghost use Rattle.std.specs.Prelude.{◌≡◌, ◌+◌, ◌-◌, ◌*◌, ◌<◌, ◌≤◌, ◌^◌, IsOk, OnErr, OnOk, length, min, take, vec_capacity, vec_len};
 ghost use Rattle.std.specs.List.{sum_by};
 ghost use Rattle.nv_base.specs.Refusals.{FailsOnly};
 ghost use Rattle.nv_base.specs.declared.fault.Fault.TheVariants.{OutOfMemory};
-ghost use Rattle.nv_log.specs.Chain.{pages_for};
+ghost use Rattle.nv_log.specs.Chain.{pages_for, room_of};
 ghost use Rattle.nv_nindex.specs.NameIndex.{AreDistinct};
 ghost use Rattle.nv_cell.specs.Cell.{log_of};
 ghost use Rattle.nv_cell.specs.Effects.{BindOne, NamesReady};
-ghost use Rattle.nv_cell.specs.Room.{HasGrown, HasNoLess, HaveGrown, IsReadyFor};
+ghost use Rattle.nv_cell.specs.Room.{HasGrown, HasNoLess, HaveGrown, IsReadyToAppend};
 ghost use Rattle.nv_cell.specs.Tallies.{HasSpare};
 ghost use Rattle.nv_cell.specs.Weights.{parts_in, runs_of, weights_by, weights_in};
 
@@ -31,8 +31,8 @@ impl InodeCell {
         requires settled { self.old.state.chain.tail ≡ length self.old.state.chain.entries }
         requires one { BindOne items.now }
         ensures state { self.new.state ≡ self.old.state }
-        ensures ok { OnOk result (IsReadyFor items.now self.new) }
-        ensures enough { IsReadyFor items.now self.old → IsOk result }
+        ensures ok { OnOk result (IsReadyToAppend items.now self.new) }
+        ensures enough { IsReadyToAppend items.now self.old → IsOk result }
         ensures room { HasNoLess self.old.room self.new.room }
         ensures name { OnErr result (self.new.room.name ≡ self.old.room.name) }
         ensures err { FailsOnly OutOfMemory result }
@@ -98,6 +98,8 @@ fn grow_log(
     ensures blocks { HasGrown blocks.old blocks.new }
     ensures pages { length chain.new.state.blocks + chain.new.spare ≤ vec_capacity marks.new.pages }
     ensures reserved { OnOk result (pages_for chain.new.state entries ≤ chain.new.spare) }
+    ensures entries { OnOk result (entries
+        ≤ room_of chain.new.state + chain.new.spare * chain.new.state.page) }
     ensures room { OnOk result (HasSpare marks.new parts entries) }
     ensures places { OnOk result (vec_len blocks.new + parts ≤ vec_capacity blocks.new) }
     ensures counted { OnOk result (parts < 2 ^ 63) }

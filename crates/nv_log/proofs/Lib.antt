@@ -5,3 +5,4 @@ pub mod Flags
 pub mod Logs
 pub mod Removals
 pub mod Chains
+pub mod Growth

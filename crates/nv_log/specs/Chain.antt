@@ -1,5 +1,5 @@
 -- Chains: the pages of a log, its entries in append order, and how many of them count.
-use Rattle.std.specs.Prelude.{◌≡◌, ℕ, ◌+◌, ◌-◌, ◌*◌, ◌<◌, ◌≤◌, Bool, true, false, not, if◌then◌else◌, nat_lt, min, List, [], ◌∷◌, ◌++◌, length, take, drop, map, replicate, find, position, Option, Some, slice_get, slice_index_or}
+use Rattle.std.specs.Prelude.{◌≡◌, ℕ, zero, suc, ◌==◌, nat_le, ◌+◌, ◌-◌, ◌*◌, ◌<◌, ◌≤◌, Bool, true, false, not, if◌then◌else◌, nat_lt, min, List, [], ◌∷◌, ◌++◌, length, take, drop, map, replicate, find, position, Option, Some, slice_get, slice_index_or}
 use Rattle.std.specs.Int.{div_ceil}
 use Rattle.std.specs.List.{flat_map, range_with_len}
 use Rattle.std.specs.Option.{option_map}
@@ -93,9 +93,20 @@ open_of chain = open_page chain.page chain.ends (length chain.entries)
 abbrev pub room_of : ChainState → ℕ
 room_of chain = chain.page * (length chain.blocks - open_of chain) - (length chain.entries - start_of chain (open_of chain))
 
+-- by how many pages a log with so many grows: it doubles up to eight, and then grows by eight
+abbrev pub growth : ℕ → ℕ
+growth pages = if pages == 0 then 1 else if nat_lt pages 8 then min pages (8 - pages) else 8
+
+-- the pages of as many growths, one after the other, as make the room at least so many entries; `steps` bounds how many
+abbrev pub pages_in : ℕ → ℕ → ℕ → ℕ → ℕ → ℕ
+pages_in zero page pages room entries = 0
+pages_in (suc steps) page pages room entries =
+    if nat_le entries room then 0
+    else growth pages + pages_in steps page (pages + growth pages) (room + growth pages * page) entries
+
 -- how many more pages it takes to append so many entries
 abbrev pub pages_for : ChainState → ℕ → ℕ
-pages_for chain n = div_ceil (n - room_of chain) chain.page
+pages_for chain n = pages_in n chain.page (length chain.blocks) (room_of chain) n
 
 -- the chain with one more page, which has no entry
 abbrev pub with_page : BlockValue → ChainState → ChainState

@@ -246,12 +246,21 @@ impl Chain {
         self.page * (self.blocks.len() - open) - held
     }
 
-    /// How many more pages it takes to append so many entries.
+    /// How many more pages the log takes to append so many entries: those of as many growths as make room for
+    /// them. The time grows with an eighth of these pages.
     pub fn pages_for(&self, entries: usize) -> usize
         ensures value { result ≡ pages_for self.now.state entries }
-        ensures enough { entries ≤ result * self.now.state.page + room_of self.now.state }
+        ensures enough { entries ≤ room_of self.now.state + result * self.now.state.page }
+        ensures few { result ≤ entries + 7 }
     {
-        entries.saturating_sub(self.room()).div_ceil(self.page)
+        let mut pages = 0;
+        let mut room = self.room();
+        while room < entries {
+            let more = pages::growth(self.blocks.len() + pages);
+            pages += more;
+            room = room.saturating_add(more * self.page);
+        }
+        pages
     }
 
     /// How many more pages may be added without memory.

@@ -2,7 +2,7 @@
 
 ghost use Rattle.std.specs.Prelude.{◌≡◌, ℕ, ◌<◌, ◌≤◌, length, vec_capacity};
 ghost use Rattle.std.specs.Int.{div_ceil};
-ghost use Rattle.nv_log.specs.Chain.{AreEnds, end_in, open_page, packed, start_in};
+ghost use Rattle.nv_log.specs.Chain.{AreEnds, end_in, growth, open_page, packed, start_in};
 
 /// Where page `k` begins among `len` entries: one that has none begins where all end.
 pub fn start_of(ends: &[usize], len: usize, k: usize) -> usize
@@ -31,6 +31,17 @@ pub fn open_page(page: usize, ends: &[usize], len: usize) -> usize
         return last;
     }
     ends.len()
+}
+
+/// By how many pages a log with so many grows: it doubles up to eight, and then grows by eight.
+pub fn growth(pages: usize) -> usize
+    ensures { result ≡ growth pages }
+{
+    match pages {
+        0 => 1,
+        1..8 => pages.min(8 - pages),
+        _ => 8,
+    }
 }
 
 /// The page of the entry at a place, found by halving.

@@ -17,7 +17,7 @@ loop-added-init g c =
     record {
       cells = sym (with_same cells k) ∙ ap (with_value cells k) (no_pages (value_at cells k));
       ready = λ items h. h;
-      fewer = λ entries. omega arith;
+      room = omega arith;
       pages = none_front c.args.pages.now;
       places = refl;
       beside = refl;
@@ -48,7 +48,8 @@ loop-added-preserved g c =
       cells = only_again cells (g.C.Cells.cells l.cells) (g.C.Cells.cells c.add_page.new.self) k (with_pages (take n bs) v0)
           (with_pages (take (n + 1) bs) v0) i.cells c.add_page.ensures.cells p.value;
       ready = λ items h. p.ready items (i.ready items h);
-      fewer = λ entries. omega (arith, p.fewer entries, i.fewer entries);
+      room = let page = ap (λ (v : CellValue). v.state.chain.page) (now_is g (goal.at.loop-added-preserved g c).After-add_page-arg-1) in
+          omega (arith, p.more, i.room, page);
       pages = one_front n c.args.pages.now l.pages c.take_next.new.self c.take_next.result c.in-Some.block c.in-Some.is i.pages
           c.take_next.ensures.rest;
       places = c.add_page.ensures.places ∙ i.places;

@@ -1,6 +1,6 @@
-use Rattle.std.proofs.Common.{◌≡◌, ◌-◌, ℕ, List, take}
+use Rattle.std.proofs.Common.{◌≡◌, ◌+◌, ◌*◌, List, take}
 use Rattle.nv_entry.specs.declared.item.Item.{Item}
-use Rattle.nv_log.specs.Chain.{pages_for}
+use Rattle.nv_log.specs.Chain.{room_of}
 use Rattle.nv_cell.specs.Room.{IsReadyFor}
 use Rattle.nv_calls.specs.Cells.{state_at, value_at, with_value}
 use Rattle.nv_calls.specs.Steps.{with_pages, without_front}
@@ -12,8 +12,8 @@ invariant-loop-added g l = record {
       (with_pages (take l._added l.fn.pages.blocks) (value_at (g.C.Cells.cells l.fn.cells) l.k));
   ready : (items : List Item) → IsReadyFor items (value_at (g.C.Cells.cells l.fn.cells) l.k)
       → IsReadyFor items (value_at (g.C.Cells.cells l.cells) l.k);
-  fewer : (entries : ℕ) → pages_for (state_at (g.C.Cells.cells l.cells) l.k).chain entries
-      ≡ pages_for (state_at (g.C.Cells.cells l.fn.cells) l.k).chain entries - l._added;
+  room : let old = (state_at (g.C.Cells.cells l.fn.cells) l.k).chain in
+      room_of (state_at (g.C.Cells.cells l.cells) l.k).chain ≡ room_of old + l._added * old.page;
   pages : l.pages ≡ without_front l._added l.fn.pages;
   places : g.C.Cells.places l.cells ≡ g.C.Cells.places l.fn.cells;
   beside : g.C.Cells.beside l.cells ≡ g.C.Cells.beside l.fn.cells;

@@ -1,4 +1,4 @@
-use Rattle.std.proofs.Common.{◌≡◌, ◌<◌, ℕ, get_or, length, arith, ap, ap₂, subst, sym, ◌∙◌}
+use Rattle.std.proofs.Common.{◌≡◌, ◌<◌, ℕ, get_or, length, arith, ap, ap₂, subst, sym, take, take_all, sum_by, ◌∙◌}
 use Rattle.std.proofs.lemmas.Grind.{common_steps}
 use Rattle.std.proofs.lemmas.List.Sums.{sum_by_more}
 use Rattle.nv_cell.specs.Cell.{CellValue}
@@ -10,7 +10,8 @@ use Rattle.nv_calls.specs.PagesWanted.{pages_needed}
 use Rattle.nv_calls.specs.Prepared.{planned_by, taken_by}
 use Rattle.nv_calls.specs.Slots.{items_for}
 use Rattle.nv_calls.specs.Updates.{blank_call}
-use Rattle.nv_calls.proofs.LogPages.{blocks_below, made_number, pages_within}
+use Rattle.nv_calls.proofs.FewPages.{few_pages, most_for, needed_within}
+use Rattle.nv_calls.proofs.LogPages.{blocks_below, made_number}
 use Rattle.nv_calls.proofs.log_pages.pages_wanted.Goals as goal
 
 pub item_count-items-requires : goal.item_count-items-requires
@@ -28,8 +29,7 @@ overflow_add-wanted g c =
       c.run_count-runs.ensures.few,
       blocks_below (g.C.Cells.cells c.args.cells.now) c.args.hand.now c.args.plan.now.update c.requires.can,
       c.item_count-items.ensures.few,
-      c.pages_for.ensures.value,
-      pages_within c.cell.result.now.state.chain c.item_count-items.result,
+      c.pages_for.ensures.few,
       c.loop-k.invariant.few,
       c.loop-k-test.true,
       c.count-k-end.ensures,
@@ -55,15 +55,32 @@ loop-k-preserved g c =
     c.pages_for.ensures.value
     ∙ ap₂ (λ (v : CellValue) (n : ℕ). pages_for v.state.chain n) c.cell.ensures
     (here ∙ ap (λ (n : ℕ). length (items_for (planned_by cells hand u) n)) c.ino-in-loop-k.ensures) in
+    let plan = planned_by cells hand u in
+    let there = get_or cells k no_cell in
+    let items : c.item_count-items.result ≡ length (items_for plan there.0) =
+    here ∙ ap (λ (n : ℕ). length (items_for plan n)) c.ino-in-loop-k.ensures in
+    let most = needed_within plan there (omega (arith, own, items, c.pages_for.ensures.few)) in
     record {
+      most = omega (arith, own, most, c.loop-k.invariant.most, sum_by_more (most_for plan) cells k no_cell lt);
       sum = omega (arith, own, c.loop-k.invariant.sum, sum_by_more (pages_needed (planned_by cells hand u)) cells k no_cell lt);
       few = omega (
         arith,
         c.run_count-runs.ensures.few,
         blocks_below cells hand u c.requires.can,
         c.item_count-items.ensures.few,
-        c.pages_for.ensures.value,
-        pages_within c.cell.result.now.state.chain c.item_count-items.result,
+        c.pages_for.ensures.few,
         c.loop-k.invariant.few,
       );
     }
+
+pub returns-clause-few : goal.returns-clause-few
+returns-clause-few g c =
+    let cells = g.C.Cells.cells c.args.cells.now in
+    let plan = planned_by cells c.args.hand.now c.args.plan.now.update in
+    let all : take c.loop-k.k cells ≡ cells = take_all c.loop-k.k cells (omega (arith, c.loop-k-test.false, c.count-k-end.ensures)) in
+    omega (
+      arith,
+      c.loop-k.invariant.most,
+      ap (sum_by (most_for plan)) all,
+      few_pages cells c.args.hand.now c.args.plan.now.update c.requires.can,
+    )

@@ -1,6 +1,6 @@
 use Rattle.std.proofs.Common.{◌≡◌, List, ap, arith, subst, ◌∙◌}
 use Rattle.nv_entry.specs.declared.item.Item.{Item}
-use Rattle.nv_cell.specs.Room.{IsReadyFor}
+use Rattle.nv_cell.specs.Room.{IsReadyToAppend}
 use Rattle.nv_calls.specs.Cells.{value_at}
 use Rattle.nv_calls.specs.Ready.{CellPlanValue, no_plan, plan_at}
 use Rattle.nv_calls.proofs.CellPlans.{all_by, at_place, more_again, ready_more}
@@ -22,8 +22,8 @@ loop-plan-preserved g c =
     let at : c.plan.inside.at ≡ (plan_at plans index).at = ap (λ (p : CellPlanValue). p.at) (c.plan.view_is ∙ item) in
     let items : c.deref.result.now ≡ (plan_at plans index).items = c.deref.ensures.value
     ∙ ap (λ (p : CellPlanValue). p.items) (c.plan.view_is ∙ item) in
-    let here : IsReadyFor (plan_at plans index).items (value_at new c.plan.inside.at) =
-    subst (λ (xs : List Item). IsReadyFor xs (value_at new c.plan.inside.at)) items c.in_ok-ready.ensures.ok in
+    let here : IsReadyToAppend (plan_at plans index).items (value_at new c.plan.inside.at) =
+    subst (λ (xs : List Item). IsReadyToAppend xs (value_at new c.plan.inside.at)) items c.in_ok-ready.ensures.ok in
     record {
       more = more_again (g.C.Cells.cells c.args.cells.now) now new c.plan.inside.at c.loop-plan.invariant.more c.ready.ensures.cells
           c.ready.ensures.state c.ready.ensures.room;
@@ -36,5 +36,5 @@ loop-plan-preserved g c =
 pub returns-clause-ready : goal.returns-clause-ready
 returns-clause-ready g c =
     let now = g.C.Cells.cells c.loop-plan.cells in
-    all_by (λ (p : CellPlanValue). IsReadyFor p.items (value_at now p.at)) c.args.plans.now no_plan
+    all_by (λ (p : CellPlanValue). IsReadyToAppend p.items (value_at now p.at)) c.args.plans.now no_plan
     (λ j lt. c.loop-plan.invariant.ready j (omega (arith, lt, c.loop-plan-test.false)))

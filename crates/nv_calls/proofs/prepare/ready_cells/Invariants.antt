@@ -1,5 +1,5 @@
 use Rattle.std.proofs.Common.{◌≡◌, ℕ, ◌<◌}
-use Rattle.nv_cell.specs.Room.{IsReadyFor}
+use Rattle.nv_cell.specs.Room.{IsReadyToAppend}
 use Rattle.nv_calls.specs.Cells.{value_at}
 use Rattle.nv_calls.specs.Prepared.{HaveNoLessRoom}
 use Rattle.nv_calls.specs.Ready.{plan_at}
@@ -10,7 +10,7 @@ invariant-loop-plan g l =
     let now = g.C.Cells.cells l.cells in
     record {
       more : HaveNoLessRoom (g.C.Cells.cells l.fn.cells) now;
-      ready : (j : ℕ) → j < l.plan-index → IsReadyFor (plan_at l.plans j).items (value_at now (plan_at l.plans j).at);
+      ready : (j : ℕ) → j < l.plan-index → IsReadyToAppend (plan_at l.plans j).items (value_at now (plan_at l.plans j).at);
       places : g.C.Cells.places l.cells ≡ g.C.Cells.places l.fn.cells;
       beside : g.C.Cells.beside l.cells ≡ g.C.Cells.beside l.fn.cells;
     }

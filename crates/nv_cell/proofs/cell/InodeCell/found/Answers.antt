@@ -21,5 +21,5 @@ append-requires-clause-next c =
     omega (arith, c.add_page.ensures.pages.room_rises, c.known.ensures.chain.least) in
     let id : ForSome (last_id c.add_page.new.self.state.chain) (λ last. IsIdBefore last e.id) = rw now (λ last is. absurd cc) in
     let epoch : ForSome (last_epoch c.add_page.new.self.state.chain) (λ last. last ≤ e.epoch) = rw now (λ last is. absurd cc) in
-    let ready : IsReadyFor (e.item ∷ []) c.add_page.new.self = c.add_page.ensures.ready (e.item ∷ []) (c.in_default.ensures.ok) in
+    let ready : IsReadyFor (e.item ∷ []) c.add_page.new.self = c.add_page.ensures.ready (e.item ∷ []) c.in_default.ensures.ok.ready in
     rw c.first_entry.ensures (first_may e [] c.add_page.new.self ready room id epoch tt)

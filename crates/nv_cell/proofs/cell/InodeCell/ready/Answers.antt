@@ -88,33 +88,36 @@ returns-clause-ok c =
     ≡ weights_in i.block (log_of (state_in i)) items =
     ap (λ (s : ChainState). weights_in i.block (take s.tail s.entries) items) c.grow_log.ensures.chain in
     let settled : i.chain.state.tail ≡ length i.chain.state.entries = rw (← c.self.view_is) at c.requires.settled in
-    settled_ready items _ (subst (λ (s : ChainState). s.tail ≡ length s.entries) (sym c.grow_log.ensures.chain) settled)
-    (record {
-      pages = c.in_ok-grow_log.ensures.reserved;
-      entries = omega (arith, entries);
-      parts = omega (arith, parts, all);
-    })
-    (record {
-      runs = c.in_ok-reserve.ensures.runs;
-      names =
-          names_ready items c.reserve.new.self.names
+    record {
+      ready = settled_ready items _ (subst (λ (s : ChainState). s.tail ≡ length s.entries) (sym c.grow_log.ensures.chain) settled)
           (record {
-            names = bindings_of (take c.grow_log.new.chain.state.tail c.grow_log.new.chain.state.entries);
-            reserved = c.reserve.new.self.names.reserved;
+            pages = c.in_ok-grow_log.ensures.entries;
+            entries = omega (arith, entries);
+            parts = omega (arith, parts, all);
           })
-          (λ name.
-          ap (λ (s : ChainState). binding_of name (bindings_of (take s.tail s.entries))) c.grow_log.ensures.chain
-          ∙ sym (inv.names name) ∙ ap (binding_of name) (sym c.reserve.ensures.same.names))
-          refl c.in_ok-reserve.ensures.names;
-      killed = omega (arith, same, bound, kills, room.0, room.1);
-    })
+          (record {
+            runs = c.in_ok-reserve.ensures.runs;
+            names =
+                names_ready items c.reserve.new.self.names
+                (record {
+                  names = bindings_of (take c.grow_log.new.chain.state.tail c.grow_log.new.chain.state.entries);
+                  reserved = c.reserve.new.self.names.reserved;
+                })
+                (λ name.
+                ap (λ (s : ChainState). binding_of name (bindings_of (take s.tail s.entries))) c.grow_log.ensures.chain
+                ∙ sym (inv.names name) ∙ ap (binding_of name) (sym c.reserve.ensures.same.names))
+                refl c.in_ok-reserve.ensures.names;
+            killed = omega (arith, same, bound, kills, room.0, room.1);
+          });
+      pages = c.in_ok-grow_log.ensures.reserved;
+    }
 
 pub returns-in_err-grow_lists-clause-enough : goal.returns-in_err-grow_lists-clause-enough
 returns-in_err-grow_lists-clause-enough c ready =
     let i = c.self.inside in
     let inv = c.self.invariant in
     let items = c.args.items.now in
-    let p = settled_publish items (value_in i) (rw (← c.self.view_is) at c.requires.settled) (rw (← c.self.view_is) at ready) in
+    let p = settled_publish items (value_in i) (rw (← c.self.view_is) at c.requires.settled) (rw (← c.self.view_is) at ready).ready in
     let less = weights_were i.block (log_of (state_in i)) i.index items inv.refs inv.names c.most_killed-killed.ensures.distinct in
     let no : false ≡ true =
     c.in_err-grow_lists.ensures.enough (omega (arith, p.killed, less, c.most_killed-killed.ensures.value, ap length inv.no_numbers))
@@ -128,11 +131,11 @@ returns-in_err-grow_log-clause-enough c ready =
     let r = rw (← c.self.view_is) at ready in
     let no : false ≡ true = c.in_err-grow_log.ensures.enough
     (record {
-      marks = omega (arith, inv.spare.marks, r.append.parts, c.part_total-parts.ensures);
-      ends = omega (arith, inv.spare.ends, r.append.entries);
-      tallies = omega (arith, inv.spare.tallies, r.append.entries);
+      marks = omega (arith, inv.spare.marks, r.ready.append.parts, c.part_total-parts.ensures);
+      ends = omega (arith, inv.spare.ends, r.ready.append.entries);
+      tallies = omega (arith, inv.spare.tallies, r.ready.append.entries);
     })
-    (omega (arith, inv.blocks_room, inv.slots, r.append.parts, c.part_total-parts.ensures)) r.append.pages in
+    (omega (arith, inv.blocks_room, inv.slots, r.ready.append.parts, c.part_total-parts.ensures)) r.pages in
     cc
 
 pub returns-in_err-reserve-clause-enough : goal.returns-in_err-reserve-clause-enough
@@ -140,7 +143,7 @@ returns-in_err-reserve-clause-enough c ready =
     let i = c.self.inside in
     let inv = c.self.invariant in
     let items = c.args.items.now in
-    let p = settled_publish items (value_in i) (rw (← c.self.view_is) at c.requires.settled) (rw (← c.self.view_is) at ready) in
+    let p = settled_publish items (value_in i) (rw (← c.self.view_is) at c.requires.settled) (rw (← c.self.view_is) at ready).ready in
     let no : false ≡ true = c.in_err-reserve.ensures.enough p.runs
     (names_ready items (record { names = bindings_of (log_of (state_in i)); reserved = i.index.names.reserved }) i.index.names inv.names
     refl p.names) in

@@ -1,5 +1,5 @@
--- The entries of a call need few log pages: each of its runs has one, and there are at most four more.
-use Rattle.std.proofs.Common.{◌≡◌, ℕ, zero, suc, ◌+◌, ◌<◌, ◌≤◌, ◌==◌, ◌/◌, Bool, true, false, cond, List, [], ◌∷◌, ◌++◌, length, replicate, slice_index_or, AllPairs, sum_by, Option, Some, None, arith, refl, ap}
+-- A call needs few log pages: each of its runs has an entry, and a log takes at most seven pages more than entries.
+use Rattle.std.proofs.Common.{◌≡◌, ℕ, zero, suc, ◌+◌, ◌<◌, ◌≤◌, ◌==◌, ◌/◌, ◌⊎◌, inl, inr, Bool, true, false, cond, List, [], ◌∷◌, ◌++◌, length, replicate, slice_index_or, AllPairs, sum_by, Option, Some, None, arith, refl, ap}
 use Rattle.std.proofs.lemmas.Bool.{eqb-true}
 use Rattle.std.proofs.lemmas.List.{length-append, length-map}
 use Rattle.std.proofs.lemmas.List.Sums.{sum_by-cons}
@@ -7,13 +7,16 @@ use Rattle.nv_alloc.specs.Block.{number_of, numbers_of}
 use Rattle.nv_alloc.specs.declared.hand.Hand.{Hand}
 use Rattle.nv_base.specs.declared.numbers.Handle.{Handle}
 use Rattle.nv_cell.specs.Cell.{CellValue}
+use Rattle.nv_entry.specs.declared.item.Item.{Item}
 use Rattle.nv_entry.specs.declared.item.Item.TheVariants.{SetSize}
 use Rattle.nv_entry.specs.declared.node.NodeCopy.{NodeCopy}
 use Rattle.nv_entry.specs.Bytes.{written}
 use Rattle.nv_entry.specs.Sound.{write_items}
+use Rattle.nv_log.specs.Chain.{pages_for}
+use Rattle.nv_calls.specs.declared.log_pages.TheConstants.{MORE_PAGES}
 use Rattle.nv_calls.specs.AllCalls.{plan}
 use Rattle.nv_calls.specs.Nodes.{block_in, nodes_in}
-use Rattle.nv_calls.specs.PagesWanted.{pages_needed, pages_wanted}
+use Rattle.nv_calls.specs.PagesWanted.{pages_needed}
 use Rattle.nv_calls.specs.Plain.{same_handle}
 use Rattle.nv_calls.specs.Prepared.{CanReady, planned_by, taken_by}
 use Rattle.nv_calls.specs.Refusals.{bytes_of, found}
@@ -26,11 +29,11 @@ use Rattle.nv_calls.specs.declared.taken.Taken.{Taken}
 use Rattle.nv_calls.specs.declared.update.Update.{Update}
 use Rattle.nv_calls.specs.declared.update.Update.TheVariants as update
 use Rattle.nv_calls.proofs.FillRuns.{count_is, count_within, length-write}
-use Rattle.nv_calls.proofs.LogPages.{numbers_small, pages_within}
+use Rattle.nv_calls.proofs.LogPages.{numbers_small}
 
--- how many items a plan has
-abbrev item_sum : List Planned → ℕ
-item_sum plan = sum_by (λ (p : Planned). length p.items) plan
+-- how many pages the items of a plan need at most, each in a log of its own
+abbrev most_sum : List Planned → ℕ
+most_sum plan = sum_by (λ (p : Planned). length p.items + 7) plan
 
 -- ---- over cells of different numbers
 
@@ -70,98 +73,102 @@ once_for ino n (c ∷ cells) rises = go (ino == c.0) refl (once_for ino n cells 
       let here : only_for ino n c ≡ 0 = ap (λ (b : Bool). cond b n 0) q in
       omega (arith, rest, here, sum_by-cons (only_for ino n) c cells)
 
--- how many items a plan has for a cell
-abbrev count_for : List Planned → ℕ × CellValue → ℕ
-count_for plan c = length (items_for plan c.0)
+-- how many pages a plan needs at most for a cell
+abbrev pub most_for : List Planned → ℕ × CellValue → ℕ
+most_for [] c = 0
+most_for (p ∷ plan) c = only_for p.handle.ino (length p.items + 7) c + most_for plan c
 
-none_for : (cells : List (ℕ × CellValue)) → sum_by (count_for []) cells ≡ 0
+none_for : (cells : List (ℕ × CellValue)) → sum_by (most_for []) cells ≡ 0
 none_for [] = refl
-none_for (c ∷ cells) = omega (arith, none_for cells, sum_by-cons (count_for []) c cells)
+none_for (c ∷ cells) = omega (arith, none_for cells, sum_by-cons (most_for []) c cells)
 
 first_for : (p : Planned) (plan : List Planned) (cells : List (ℕ × CellValue))
-    → sum_by (count_for (p ∷ plan)) cells ≤ sum_by (only_for p.handle.ino (length p.items)) cells + sum_by (count_for plan) cells
-first_for p plan [] = omega arith
+    → sum_by (most_for (p ∷ plan)) cells ≡ sum_by (only_for p.handle.ino (length p.items + 7)) cells + sum_by (most_for plan) cells
+first_for p plan [] = refl
 first_for p plan (c ∷ cells) =
-    let here : count_for (p ∷ plan) c ≤ only_for p.handle.ino (length p.items) c + count_for plan c = at_most (p.handle.ino == c.0) in
     omega (
       arith,
-      here,
       first_for p plan cells,
-      sum_by-cons (only_for p.handle.ino (length p.items)) c cells,
-      sum_by-cons (count_for plan) c cells,
-      sum_by-cons (count_for (p ∷ plan)) c cells,
+      sum_by-cons (only_for p.handle.ino (length p.items + 7)) c cells,
+      sum_by-cons (most_for plan) c cells,
+      sum_by-cons (most_for (p ∷ plan)) c cells,
     )
-  where
-    at_most : (b : Bool)
-        → length (cond b p.items (items_for plan c.0)) ≤ cond b (length p.items) 0 + length (items_for plan c.0)
-    at_most true = omega arith
-    at_most false = omega arith
 
-each_once : (plan : List Planned) (cells : List (ℕ × CellValue)) → Rising cells → sum_by (count_for plan) cells ≤ item_sum plan
+each_once : (plan : List Planned) (cells : List (ℕ × CellValue)) → Rising cells → sum_by (most_for plan) cells ≤ most_sum plan
 each_once [] cells rises = omega (arith, none_for cells)
 each_once (p ∷ plan) cells rises =
     omega (
       arith,
       first_for p plan cells,
-      once_for p.handle.ino (length p.items) cells rises,
+      once_for p.handle.ino (length p.items + 7) cells rises,
       each_once plan cells rises,
-      sum_by-cons (λ (q : Planned). length q.items) p plan,
+      sum_by-cons (λ (q : Planned). length q.items + 7) p plan,
     )
 
-pages_few : (plan : List Planned) (cells : List (ℕ × CellValue)) → pages_wanted cells plan ≤ sum_by (count_for plan) cells
-pages_few plan [] = omega arith
-pages_few plan (c ∷ cells) =
-    omega (
-      arith,
-      pages_few plan cells,
-      pages_within c.1.state.chain (length (items_for plan c.0)),
-      sum_by-cons (pages_needed plan) c cells,
-      sum_by-cons (count_for plan) c cells,
-    )
+-- what a plan needs for a cell, where its log takes at most seven pages more than entries
+items_within : (plan : List Planned) (c : ℕ × CellValue)
+    → (items_for plan c.0 ≡ []) ⊎ (length (items_for plan c.0) + 7 ≤ most_for plan c)
+items_within [] c = inl refl
+items_within (p ∷ plan) c = go (p.handle.ino == c.0) (items_within plan c) where
+  go : (b : Bool) → (items_for plan c.0 ≡ []) ⊎ (length (items_for plan c.0) + 7 ≤ most_for plan c)
+      → (cond b p.items (items_for plan c.0) ≡ [])
+      ⊎ (length (cond b p.items (items_for plan c.0)) + 7 ≤ cond b (length p.items + 7) 0 + most_for plan c)
+  go true rest = inr (omega arith)
+  go false (inl none) = inl none
+  go false (inr le) = inr (omega (arith, le))
+
+pub needed_within : (plan : List Planned) (c : ℕ × CellValue) → pages_needed plan c ≤ length (items_for plan c.0) + 7
+    → pages_needed plan c ≤ most_for plan c
+needed_within plan c few =
+    elim (items_within plan c) [
+      | inl none ↦ let nothing : pages_needed plan c ≡ 0 =
+          ap (λ (items : List Item). pages_for c.1.state.chain (length items)) none in omega (arith, nothing)
+      | inr le ↦ omega (arith, few, le)
+    ]
 
 -- ---- the items of a call
 
-left_few : (n : ℕ) (dir : Handle) (name : List ℕ) (to : Option Handle) → item_sum (leave_plan dir name to) ≤ n + 4
+left_few : (n : ℕ) (dir : Handle) (name : List ℕ) (to : Option Handle) → most_sum (leave_plan dir name to) ≤ n + 24
 left_few n dir name None = omega arith
-left_few n dir name (Some to) = let two : item_sum (leave_plan dir name (Some to)) ≡ 2 = refl in omega (arith, two)
+left_few n dir name (Some to) = let all : most_sum (leave_plan dir name (Some to)) ≡ 16 = refl in omega (arith, all)
 
 replaced_few : (b : Bool) (n : ℕ) (from : Handle) (old : List ℕ) (to : Handle) (new : List ℕ) (moved : Handle) (other : Option Handle)
-    → item_sum (move_plan b from old to new moved (replaced_plan other)) ≤ n + 4
+    → most_sum (move_plan b from old to new moved (replaced_plan other)) ≤ n + 24
 replaced_few true n from old to new moved None =
-    let two : item_sum (move_plan true from old to new moved (replaced_plan None)) ≡ 2 = refl in omega (arith, two)
+    let all : most_sum (move_plan true from old to new moved (replaced_plan None)) ≡ 9 = refl in omega (arith, all)
 replaced_few true n from old to new moved (Some other) =
-    let three : item_sum (move_plan true from old to new moved (replaced_plan (Some other))) ≡ 3 = refl in omega (arith, three)
+    let all : most_sum (move_plan true from old to new moved (replaced_plan (Some other))) ≡ 17 = refl in omega (arith, all)
 replaced_few false n from old to new moved None =
-    let two : item_sum (move_plan false from old to new moved (replaced_plan None)) ≡ 2 = refl in omega (arith, two)
+    let all : most_sum (move_plan false from old to new moved (replaced_plan None)) ≡ 16 = refl in omega (arith, all)
 replaced_few false n from old to new moved (Some other) =
-    let three : item_sum (move_plan false from old to new moved (replaced_plan (Some other))) ≡ 3 = refl in omega (arith, three)
+    let all : most_sum (move_plan false from old to new moved (replaced_plan (Some other))) ≡ 24 = refl in omega (arith, all)
 
 bound_few : (n : ℕ) (from : Handle) (old : List ℕ) (to : Handle) (new : List ℕ) (moved other : Option Handle)
-    → item_sum (bound_plan from old to new moved other) ≤ n + 4
+    → most_sum (bound_plan from old to new moved other) ≤ n + 24
 bound_few n from old to new None other = omega arith
 bound_few n from old to new (Some moved) other = replaced_few (same_handle from to) n from old to new moved other
 
 renamed_few : (b : Bool) (n : ℕ) (from : Handle) (old : List ℕ) (to : Handle) (new : List ℕ) (moved other : Option Handle)
-    → item_sum (cond b [] (bound_plan from old to new moved other)) ≤ n + 4
+    → most_sum (cond b [] (bound_plan from old to new moved other)) ≤ n + 24
 renamed_few true n from old to new moved other = omega arith
 renamed_few false n from old to new moved other = bound_few n from old to new moved other
 
--- one for each run, and at most four more
+-- one for each run, and at most so many more
 items_few : (block : ℕ) (nodes : Handle → Option NodeCopy) (taken : Taken) (u : Update)
-    → item_sum (plan block nodes taken (blank_call u)) ≤ length taken.runs + 4
+    → most_sum (plan block nodes taken (blank_call u)) ≤ length taken.runs + 24
 items_few block nodes taken (update.Create dir name mode) =
-    let two : item_sum (plan block nodes taken (blank_call (update.Create dir name mode))) ≡ 2 = refl in omega (arith, two)
+    let all : most_sum (plan block nodes taken (blank_call (update.Create dir name mode))) ≡ 16 = refl in omega (arith, all)
 items_few block nodes taken (update.Mkdir dir name mode) =
-    let two : item_sum (plan block nodes taken (blank_call (update.Mkdir dir name mode))) ≡ 2 = refl in omega (arith, two)
+    let all : most_sum (plan block nodes taken (blank_call (update.Mkdir dir name mode))) ≡ 16 = refl in omega (arith, all)
 items_few block nodes taken (update.Write file offset zero) = omega arith
 items_few block nodes taken (update.Write file offset (suc m)) =
     let size = length (written offset (replicate (suc m) 0) (bytes_of (nodes file))) in
-    let all : item_sum (plan block nodes taken (blank_call (update.Write file offset (suc m))))
-    ≡ 0 + length (write_items (offset / block) taken.runs size) = refl in
+    let all : most_sum (plan block nodes taken (blank_call (update.Write file offset (suc m))))
+    ≡ 0 + (length (write_items (offset / block) taken.runs size) + 7) = refl in
     omega (arith, all, length-write (offset / block) taken.runs size)
 items_few block nodes taken (update.Size file size) =
-    let all : item_sum (plan block nodes taken (blank_call (update.Size file size)))
-    ≡ 0 + length (write_items (size / block) taken.runs size ++ SetSize size ∷ []) = refl in
+    let all : most_sum (plan block nodes taken (blank_call (update.Size file size)))
+    ≡ 0 + (length (write_items (size / block) taken.runs size ++ SetSize size ∷ []) + 7) = refl in
     omega (
       arith,
       all,
@@ -170,21 +177,20 @@ items_few block nodes taken (update.Size file size) =
           (SetSize size ∷ []),
     )
 items_few block nodes taken (update.Mode handle mode) =
-    let one : item_sum (plan block nodes taken (blank_call (update.Mode handle mode))) ≡ 1 = refl in omega (arith, one)
+    let all : most_sum (plan block nodes taken (blank_call (update.Mode handle mode))) ≡ 8 = refl in omega (arith, all)
 items_few block nodes taken (update.Unlink dir name) = left_few (length taken.runs) dir name (found nodes dir name)
 items_few block nodes taken (update.Rmdir dir name) = left_few (length taken.runs) dir name (found nodes dir name)
 items_few block nodes taken (update.Rename from old to new) =
     renamed_few (own_place from old to new) (length taken.runs) from old to new (found nodes from old) (found nodes to new)
 
--- a call that can be made ready needs no more log pages than its data blocks and four more
+-- a call that can be made ready needs at most so many log pages more than its data blocks
 pub few_pages : (cells : List (ℕ × CellValue)) (hand : Hand) (u : Update) → CanReady cells hand u
-    → pages_wanted cells (planned_by cells hand u) ≤ length hand.«data».blocks + 4
+    → sum_by (most_for (planned_by cells hand u)) cells ≤ length hand.«data».blocks + MORE_PAGES
 few_pages cells hand u can =
     let numbers = numbers_of hand.«data».blocks in
     let runs = count_is numbers (numbers_small hand.«data».blocks can.small) in
     omega (
       arith,
-      pages_few (planned_by cells hand u) cells,
       each_once (planned_by cells hand u) cells can.lent.rising,
       items_few (block_in cells) (nodes_in cells) (taken_by cells hand u) u,
       runs,
