@@ -37,7 +37,7 @@ retried : play (formatted device) (first_four ++ anew ++ anew ++ anew ++ anew ++
 retried = refl
 
 -- ten blocks are free, and six in chains
-retried_space : space (played (formatted device) (first_four ++ anew ++ anew ++ anew ++ anew)) ≡ 10 ∷ 6 ∷ 0 ∷ 0 ∷ 0 ∷ []
+retried_space : space (played (formatted device) (first_four ++ anew ++ anew ++ anew ++ anew)) ≡ 7 ∷ 9 ∷ 0 ∷ 0 ∷ 0 ∷ []
 retried_space = refl
 
 -- ---- names
@@ -140,7 +140,7 @@ full : play (formatted narrow) filling
 full = refl
 
 -- what the refused call took is back
-full_space : space (played (formatted narrow) filling) ≡ 1 ∷ 4 ∷ 3 ∷ 0 ∷ 0 ∷ []
+full_space : space (played (formatted narrow) filling) ≡ 0 ∷ 5 ∷ 3 ∷ 0 ∷ 0 ∷ []
 full_space = refl
 
 -- ---- two takings: a data block, and then a log page, since the page of the file's log is full

@@ -168,13 +168,13 @@ events_pages g limits (e ∷ events) w known fit paged =
 new_on : (g : GeometryNumbers) (n ino : ℕ) → ino < length (replicate n (empty_cell g.block g.page 1 0))
     → AreOnPages g.page (slice_index_or (replicate n (empty_cell g.block g.page 1 0)) ino no_cell).chain
 new_on g zero ino lt = absurd (omega (arith, lt))
-new_on g (suc n) zero lt = record { size = refl; each = refl; parted = refl }
+new_on g (suc n) zero lt = record { size = refl; each = omega arith; parted = refl }
 new_on g (suc n) (suc ino) lt = new_on g n ino (omega (arith, lt))
 
 pub new_all : (g : GeometryNumbers) → IsWithinLimits g → AllOnPages g.page (formatted g).shared
 new_all g limits zero lt = record {
   size = refl;
-  each = refl;
+  each = omega arith;
   parted = (omega arith, (let least = limits.some_entries in omega (arith, least)), refl);
 }
 new_all g limits (suc ino) lt = new_on g (g.inodes - 1) ino (omega (arith, lt))

@@ -1,8 +1,5 @@
 -- The log pages in a hand, after each step of its own call.
-use Rattle.std.proofs.Common.{◌≡◌, ℕ, zero, suc, ◌+◌, ◌-◌, ◌<◌, ◌≤◌, ◌==◌, ◌∙◌, Bool, true, false, cond, List, [], ◌∷◌, Option, Some, None, ap, ap₂, arith, drop, filter, if◌then◌else◌, length, nat_lt, refl, sym}
-use Rattle.std.specs.Int.{div_ceil}
-use Rattle.std.proofs.Math.Nat.{zero-div}
-use Rattle.std.proofs.lemmas.Nat.{div-add-mod'}
+use Rattle.std.proofs.Common.{◌≡◌, ℕ, zero, suc, ◌+◌, ◌<◌, ◌≤◌, ◌==◌, ◌∙◌, Bool, true, false, cond, List, [], ◌∷◌, Option, Some, None, ap, ap₂, arith, drop, filter, if◌then◌else◌, length, nat_lt, refl, sym}
 use Rattle.std.proofs.lemmas.Bool.{ltb-false}
 use Rattle.std.proofs.lemmas.List.Sums.{sum_by-cons}
 use Rattle.nv_alloc.specs.Numbers.{has}
@@ -10,7 +7,7 @@ use Rattle.nv_book.specs.Book.{after_enter}
 use Rattle.nv_calls.specs.Slots.{items_for}
 use Rattle.nv_calls.specs.declared.plan.Planned.{Planned}
 use Rattle.nv_cell.specs.Cell.{CellState}
-use Rattle.nv_log.specs.Chain.{ChainState, pages_for, room_of}
+use Rattle.nv_log.specs.Chain.{pages_for}
 use Rattle.nv_machine.specs.Kinds.{blocks_turn, check_turn, end_turn, enter_turn, pages_turn, wants_blocks, wants_pages}
 use Rattle.nv_machine.specs.Pages.{HasLogPages}
 use Rattle.nv_machine.specs.Reads.{is_written, pages_needed, pages_wanted, slot_at, written_slots}
@@ -22,17 +19,10 @@ use Rattle.nv_machine.proofs.Lists.{or_left, or_right, self}
 
 -- ---- how many pages are wanted
 
--- no entry needs one
-none_for : (chain : ChainState) → pages_for chain 0 ≡ 0
-none_for chain =
-    let none : 0 - room_of chain ≡ 0 = omega arith in
-    let zero_ceil : div_ceil 0 chain.page ≡ 0 = omega (arith, zero-div chain.page, div-add-mod' 0 chain.page) in
-    ap (λ (n : ℕ). div_ceil n chain.page) none ∙ zero_ceil
-
 unwritten : (s : Shared) (plan : List Planned) (ino : ℕ) → is_written plan ino ≡ false → pages_needed s plan ino ≡ 0
 unwritten s plan ino e =
     let none : length (items_for plan ino) ≡ 0 = (let few = ltb-false 0 (length (items_for plan ino)) e in omega (arith, few)) in
-    ap (λ (n : ℕ). pages_for (cell_at s ino).chain n) none ∙ none_for (cell_at s ino).chain
+    ap (λ (n : ℕ). pages_for (cell_at s ino).chain n) none
 
 pub written_want : (s : Shared) (plan : List Planned) (slots : List ℕ)
     → pages_wanted s (filter (is_written plan) slots) plan ≡ pages_wanted s slots plan

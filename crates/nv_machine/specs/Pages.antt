@@ -1,14 +1,14 @@
 -- The pages of logs: each entry stands on one, and a hand has as many as the appends to come need.
-use Rattle.std.specs.Prelude.{◌≡◌, ℕ, ◌+◌, ◌++◌, drop, length, take}
+use Rattle.std.specs.Prelude.{◌≡◌, ◌≤◌, ℕ, ◌+◌, ◌++◌, drop, length, take}
 use Rattle.nv_log.specs.Chain.{AreEnds, ChainState}
 use Rattle.nv_machine.specs.Reads.{pages_wanted, written_slots}
 use Rattle.nv_machine.specs.Wanted.{log_pages_wanted}
 use Rattle.nv_machine.specs.World.{Append, Close, Enter, HandState, Leave, Next, Open, Publish, Ready, Retire, Running, Shared, TakeBlocks, TakePages, cell_at}
 
--- each entry of a chain stands on one of its pages, none of which has more than so many, and none is without an entry
+-- each entry of a chain stands on one of its pages, none of which has more than so many; pages without an entry stand last
 pub record AreOnPages (page : ℕ) (chain : ChainState) : Type 0 where
   pub size : chain.page ≡ page
-  pub each : length chain.ends ≡ length chain.blocks
+  pub each : length chain.ends ≤ length chain.blocks
   pub parted : AreEnds page 0 chain.ends (length chain.entries)
 
 -- how many log pages a hand has before a step: with those still wanted as many as the plan needs; then as many as the
