@@ -20,7 +20,8 @@ use Rattle.nv_entry.proofs.PageBytes.{length-written}
 use Rattle.nv_cell.specs.Effects.{BindOne, LeavesName}
 use Rattle.nv_calls.specs.AllCalls.{IsReady, plan, refusal}
 use Rattle.nv_calls.specs.declared.taken.Taken.{Taken}
-use Rattle.nv_calls.specs.Lawful.{AreLawful, IsLawfulFor, IsLawfulPlan}
+use Rattle.nv_entry.specs.Shape.{AreLawful}
+use Rattle.nv_calls.specs.Lawful.{IsLawfulFor, IsLawfulPlan}
 use Rattle.nv_calls.specs.declared.call.Call.{Call}
 use Rattle.nv_calls.specs.declared.call.Call.TheVariants as call
 use Rattle.nv_calls.specs.declared.plan.Planned.{Planned}

@@ -10,6 +10,7 @@ pub mod Laws
 pub mod Node
 pub mod Bytes
 pub mod Stored
+pub mod Shape
 pub mod Sound
 pub mod Blocks
 pub mod Bindings

@@ -39,7 +39,7 @@ use Rattle.nv_machine.specs.PlainRun.{Commits, deed}
 use Rattle.nv_machine.specs.Reads.{bytes_among, is_written, written_slots}
 use Rattle.nv_machine.specs.Sequence.{beginning}
 use Rattle.nv_machine.specs.Settled.{settled, settled_nodes}
-use Rattle.nv_machine.specs.Shapes.{IsGoneLast}
+use Rattle.nv_entry.specs.Shape.{IsGoneLast}
 use Rattle.nv_machine.specs.Step.{kind_turn}
 use Rattle.nv_machine.specs.World.{Append, Back, Check, Close, Enter, Give, HandState, Leave, Lock, Look, Next, Number, Open, Publish, Ready, Retire, Running, Shared, TakeBlocks, TakePages, Unlock, Visit, World, cell_at, no_cell, Snapshots}
 use Rattle.nv_machine.proofs.Answered.{entered_none, no_commit, no_commit_on}

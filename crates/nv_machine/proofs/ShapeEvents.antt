@@ -13,7 +13,8 @@ use Rattle.nv_machine.specs.Format.{formatted, root_entry}
 use Rattle.nv_machine.specs.PlainRun.{deed_by, deed_of, keeps_nodes}
 use Rattle.nv_machine.specs.Reads.{written_slots}
 use Rattle.nv_machine.specs.Settled.{settled}
-use Rattle.nv_machine.specs.Shapes.{AreShaped, IsShaped, items_of}
+use Rattle.nv_entry.specs.Shape.{IsShaped, items_of}
+use Rattle.nv_machine.specs.Shapes.{AreShaped}
 use Rattle.nv_machine.specs.Starts.{IsStart}
 use Rattle.nv_machine.specs.Step.{after, step}
 use Rattle.nv_machine.specs.World.{Event, Go, Running, Start, World, actor_at, no_cell}

@@ -9,7 +9,8 @@ use Rattle.std.proofs.lemmas.Option.{none-some}
 use Rattle.nv_base.specs.declared.node.Kind.{Kind}
 use Rattle.nv_base.specs.declared.numbers.Handle.{Handle}
 use Rattle.nv_calls.specs.AllCalls.{looked, plan}
-use Rattle.nv_calls.specs.Lawful.{AreLawful, IsLawfulFor, kind_after}
+use Rattle.nv_entry.specs.Shape.{AreLawful, IsGoneLast, IsShaped, items_of, kind_after}
+use Rattle.nv_calls.specs.Lawful.{IsLawfulFor}
 use Rattle.nv_calls.specs.Plain.{PlainNode, node_in, same_handle, stamped}
 use Rattle.nv_calls.specs.Refusals.{bytes_of, found, kind_of}
 use Rattle.nv_calls.specs.Slots.{IsFree, IsPlanned, Slot, items_for, last_commit, node_under}
@@ -33,7 +34,6 @@ use Rattle.nv_entry.specs.declared.key.Datum.TheVariants as datum
 use Rattle.nv_entry.specs.declared.key.Setting.{Setting}
 use Rattle.nv_entry.specs.declared.key.Setting.TheVariants.{Untouched, Absent, Present}
 use Rattle.nv_entry.specs.declared.node.NodeCopy.{NodeCopy}
-use Rattle.nv_machine.specs.Shapes.{IsGoneLast, IsShaped, items_of}
 use Rattle.nv_machine.proofs.FitsCalls.{IsOfNode}
 
 -- ---- the kind that items give
