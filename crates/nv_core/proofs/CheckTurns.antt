@@ -16,6 +16,7 @@ use Rattle.nv_machine.specs.Reads.{copies, has_last_page, pages_wanted, plan_by}
 use Rattle.nv_machine.specs.Step.{ending_at, made_in, with_made}
 use Rattle.nv_machine.specs.World.{HandState}
 use Rattle.nv_machine.specs.World as machine
+use Rattle.nv_calls.specs.declared.log_pages.TheConstants.{MORE_PAGES}
 use Rattle.nv_core.proofs.CheckJobs.{Ends, drains_by_job, ending_told, few_by_job, no_visit, overtaken_by_job, owed_by, wanted_by_job, wants_by_job}
 use Rattle.nv_core.proofs.Takes.{is_changed, over_all}
 use Rattle.nv_core.specs.Parts.{AreHome}
@@ -49,7 +50,7 @@ IsWanted shared hand running wanted u =
 
 -- one that takes none has them
 pub has_its_blocks : (shared : Shared) (hand : Hand) (running : Running) (wanted : ℕ) → wanted ≡ 0 → blocks_of hand ≡ []
-    → wanted + 4 ≤ hand.pages.room → WantsBlocks wanted shared hand running → CanWantPages shared hand running
+    → wanted + MORE_PAGES ≤ hand.pages.room → WantsBlocks wanted shared hand running → CanWantPages shared hand running
 has_its_blocks shared hand running wanted nil empty room has =
     over_all (IsWanted shared hand running wanted)
     (λ u. HasMade shared (slots_in running.slots) hand running.made u
@@ -69,7 +70,7 @@ has_its_blocks shared hand running wanted nil empty room has =
 -- one that takes some has room for them
 pub takes_blocks : (shared : Shared) (hand : Hand) (running : Running) (wanted : ℕ) → IsWithinLimits shared.geometry.numbers
     → AreHome shared → IsHandOf shared.geometry.numbers hand → FitsCall running → blocks_of hand ≡ []
-    → wanted ≤ hand.«data».room → wanted + 4 ≤ hand.pages.room → WantsBlocks wanted shared hand running
+    → wanted ≤ hand.«data».room → wanted + MORE_PAGES ≤ hand.pages.room → WantsBlocks wanted shared hand running
     → HasRooms shared (hold.Hand hand) (record running { next = next.TakeBlocks 0; wanted = wanted })
 takes_blocks shared hand running wanted limits home sized call empty room pages has = (
   record {

@@ -17,7 +17,6 @@ pub mod CommitTurns
 pub mod Consistent
 pub mod Ends
 pub mod Enters
-pub mod FewPages
 pub mod Formats
 pub mod FreshPages
 pub mod Given

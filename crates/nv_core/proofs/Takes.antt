@@ -29,7 +29,7 @@ use Rattle.nv_machine.specs.Kinds.{wants_pages}
 use Rattle.nv_machine.specs.Reads.{copies, nodes, pages_wanted}
 use Rattle.nv_machine.specs.Sequence.{nothing_looked}
 use Rattle.nv_machine.specs.World as machine
-use Rattle.nv_core.proofs.FewPages.{few_pages}
+use Rattle.nv_calls.specs.declared.log_pages.TheConstants.{MORE_PAGES}
 use Rattle.nv_core.proofs.Nodes.{nodes_agree}
 use Rattle.nv_core.proofs.Plans.{block_same, looks_same, pages_same, planned_same}
 use Rattle.nv_core.specs.Parts.{AreHome, IsOfDevice}
@@ -104,11 +104,6 @@ can_ready shared slots hand looked u limits device sizes is count =
           (front_all below hand.«data».blocks hand.pages.blocks (front_all below
           (hand.«data».blocks ++ hand.pages.blocks) hand.chain device));
     }
-
--- the log pages that it takes find room
-pub pages_room : (shared : Shared) (slots : List ℕ) (hand : Hand) (u : Update) → CanReady (lent_cells slots shared.cells.items) hand u
-    → length hand.«data».blocks + 4 ≤ hand.pages.room → pages_to_take shared slots hand u ≤ hand.pages.room
-pages_room shared slots hand u can room = omega (arith, few_pages (lent_cells slots shared.cells.items) hand u can, room)
 
 -- ---- the machine's plan
 
@@ -215,22 +210,21 @@ module _ (shared : Shared) (slots : List ℕ) (hand : Hand) (looked : Looked) (m
     ),
   )
 
-  pub taken_next : Has → IsWithinLimits shared.geometry.numbers → AreHome shared → IsOfDevice shared.geometry.numbers hand
-      → IsHandOf shared.geometry.numbers hand → (n : ℕ) → n ≡ pages_to_take shared slots hand u
+  pub taken_next : Has → IsWithinLimits shared.geometry.numbers → AreHome shared → (n : ℕ) → n ≡ pages_to_take shared slots hand u
+      → n ≤ length hand.«data».blocks + MORE_PAGES
       → HasMade shared slots hand made u × (IsChecked shared slots hand looked u × TakesPages shared slots hand 0 n u)
-  taken_next has limits home device sizes n wants =
-      let can = can_ready shared slots hand looked u limits device sizes has.1 has.2.blocks in (
-        has.0,
-        (
-          has.1,
-          record {
-            blocks = has.2.blocks;
-            count = omega (arith, ap (λ (bs : List BlockValue). length bs) has.2.none, wants);
-            room = omega (arith, pages_room shared slots hand u can has.2.room, wants);
-            list = omega (arith, home.count, limits.some_cpus);
-          },
-        ),
-      )
+  taken_next has limits home n wants few = (
+    has.0,
+    (
+      has.1,
+      record {
+        blocks = has.2.blocks;
+        count = omega (arith, ap (λ (bs : List BlockValue). length bs) has.2.none, wants);
+        room = omega (arith, few, has.2.room);
+        list = omega (arith, home.count, limits.some_cpus);
+      },
+    ),
+  )
 
 -- a call's job stays, and it goes on to take
 pub fits_still : (running new : Running) → FitsCall running → new.job ≡ running.job → new.looked ≡ running.looked
@@ -256,15 +250,16 @@ rooms_none shared now hand running n sizes fits can none wants same =
     )
 
 pub rooms_next : (shared now : Shared) (hand : Hand) (running : Running) (n : ℕ) → IsWithinLimits shared.geometry.numbers → AreHome shared
-    → IsOfDevice shared.geometry.numbers hand → IsHandOf shared.geometry.numbers hand → FitsCall running → CanWantPages shared hand running
+    → IsHandOf shared.geometry.numbers hand → FitsCall running → CanWantPages shared hand running
     → IsChangeWith (λ (u : Update). n ≡ pages_to_take shared (slots_in running.slots) hand u) running.job
+    → n ≤ length hand.«data».blocks + MORE_PAGES
     → now ≡ shared → HasRooms now (hold.Hand hand) (record running { wanted = n; next = next.TakePages 0 })
-rooms_next shared now hand running n limits home device sizes fits can wants same =
+rooms_next shared now hand running n limits home sizes fits can wants few same =
     subst (λ (s : Shared). HasRooms s (hold.Hand hand) (record running { wanted = n; next = next.TakePages 0 })) (sym same) (
       fits_still running (record running { wanted = n; next = next.TakePages 0 }) fits refl refl refl (is_changed _ running.job can),
       sizes,
       over_all _ _ running.job (λ u h.
-          taken_next shared (slots_in running.slots) hand running.looked running.made u h.0 limits home device sizes n h.1)
+          taken_next shared (slots_in running.slots) hand running.looked running.made u h.0 limits home n h.1 few)
           (with_both _ _ running.job can wants),
       tt,
     )

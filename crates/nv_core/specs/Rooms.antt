@@ -17,6 +17,7 @@ use Rattle.nv_calls.specs.Ready.{ReadyValue}
 use Rattle.nv_calls.specs.Refusals.{passes}
 use Rattle.nv_calls.specs.SlotCells.{lent_cells}
 use Rattle.nv_calls.specs.Updates.{blank_call}
+use Rattle.nv_calls.specs.declared.log_pages.TheConstants.{MORE_PAGES}
 use Rattle.nv_calls.specs.declared.looked.Looked.{Looked}
 use Rattle.nv_calls.specs.declared.update.Update.{Update}
 use Rattle.nv_cell.specs.Cell.{CellValue}
@@ -140,14 +141,14 @@ pages_to_take shared slots hand u =
 pub record HasItsBlocks (shared : Shared) (slots : List ℕ) (hand : Hand) (u : Update) : Type 0 where
   pub blocks : length hand.«data».blocks ≡ blocks_to_take shared slots u
   pub none : hand.pages.blocks ≡ []
-  pub room : length hand.«data».blocks + 4 ≤ hand.pages.room
+  pub room : length hand.«data».blocks + MORE_PAGES ≤ hand.pages.room
 
 -- it takes data blocks: so many are wanted yet, there is room for them, and for the log pages that they can need
 pub record TakesBlocks (shared : Shared) (slots : List ℕ) (hand : Hand) (asked wanted : ℕ) (u : Update) : Type 0 where
   pub count : length hand.«data».blocks + wanted ≡ blocks_to_take shared slots u
   pub none : hand.pages.blocks ≡ []
   pub room : wanted ≤ hand.«data».room
-  pub pages : length hand.«data».blocks + wanted + 4 ≤ hand.pages.room
+  pub pages : length hand.«data».blocks + wanted + MORE_PAGES ≤ hand.pages.room
   pub list : asked < length shared.lists.items
 
 -- it has all of them, and takes log pages

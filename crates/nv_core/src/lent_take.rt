@@ -1,9 +1,10 @@
 //! How many log pages a call wants, over the cells of all slots.
 
-ghost use Rattle.std.specs.Prelude.{◌≡◌};
+ghost use Rattle.std.specs.Prelude.{◌≡◌, ◌+◌, ◌≤◌, length};
 ghost use Rattle.nv_calls.specs.PagesWanted.{pages_wanted};
 ghost use Rattle.nv_calls.specs.Prepared.{CanReady, planned_by};
 ghost use Rattle.nv_calls.specs.SlotCells.{lent_cells};
+ghost use Rattle.nv_calls.specs.declared.log_pages.TheConstants.{MORE_PAGES};
 ghost use Rattle.nv_core.specs.Parts.{HaveSlots};
 ghost use Rattle.nv_core.specs.Shown.{slots_in};
 
@@ -19,6 +20,7 @@ pub(crate) fn pages_in(cells: &mut [InodeCell], slots: &Slots, plan: &Plan, hand
     ensures same { cells.new ≡ cells.old }
     ensures wanted { let lent = lent_cells (slots_in slots.now) cells.old in
         result ≡ pages_wanted lent (planned_by lent hand.now plan.now.update) }
+    ensures few { result ≤ length hand.now.data.blocks + MORE_PAGES }
 {
     let slots = slots.as_slice();
     let lent = SlotCells { cells, slots };

@@ -12,6 +12,7 @@ ghost use Rattle.nv_calls.specs.Nodes.{nodes_in};
 ghost use Rattle.nv_calls.specs.Prepared.{makes};
 ghost use Rattle.nv_calls.specs.SlotCells.{lent_cells};
 ghost use Rattle.nv_calls.specs.Updates.{blank_call};
+ghost use Rattle.nv_calls.specs.declared.log_pages.TheConstants.{MORE_PAGES};
 ghost use Rattle.nv_machine.specs.Kinds.{check_turn, wants_blocks};
 ghost use Rattle.nv_machine.specs.Reads.{copies, has_last_page};
 ghost use Rattle.nv_machine.specs.Step.{ending_at, made_in, same_looked, with_made};
@@ -33,14 +34,10 @@ use crate::turn::Turn;
 use nv_alloc::Hand;
 use nv_base::Fault;
 use nv_calls::{
-    HeldNodes, Looked, Nodes, SlotCells, Update, blocks_wanted, check_early, check_late,
-    ends_in_page, is_as_looked, is_nothing,
+    HeldNodes, Looked, MORE_PAGES, Nodes, SlotCells, Update, blocks_wanted, check_early,
+    check_late, ends_in_page, is_as_looked, is_nothing,
 };
 use nv_cell::InodeCell;
-
-/// How many more log pages a call can need than data blocks: each of these in a run of its own has an entry, and
-/// there are at most four more entries.
-const MORE_PAGES: u64 = 4;
 
 /// Tests the call, and settles how many blocks it takes. The hand gets room for them.
 pub(crate) fn check(shared: &mut Shared, hand: &mut Hand, running: &mut Running) -> Turn
@@ -222,7 +219,7 @@ fn make_room(hand: &mut Hand, blocks: u64) -> Result<(), Fault>
       pages = record hand.old.pages { room = hand.new.pages.room };
     } }
     ensures ok { IfOk result
-        (λ _. (blocks ≤ hand.new.data.room) × (blocks + 4 ≤ hand.new.pages.room)) }
+        (λ _. (blocks ≤ hand.new.data.room) × (blocks + MORE_PAGES ≤ hand.new.pages.room)) }
     ensures err { FailsOnly OutOfMemory result }
 {
     hand.data.reserve(blocks)?;
@@ -238,7 +235,7 @@ fn want_blocks(shared: &mut Shared, hand: &Hand, running: &mut Running, wanted: 
     requires call { FitsCall running.old }
     requires empty { blocks_of hand.now ≡ [] }
     requires room { wanted ≤ hand.now.data.room }
-    requires pages { wanted + 4 ≤ hand.now.pages.room }
+    requires pages { wanted + MORE_PAGES ≤ hand.now.pages.room }
     requires can { WantsBlocks wanted shared.old hand.now running.old }
     ensures turn { (told : Told) → IsToldOf running.old told
         → let s = shared_of shared.old in let h = hand_of hand.now in

@@ -5,6 +5,7 @@ ghost use Rattle.nv_machine.specs.Kinds.{asked_list, refuse, take_blocks_turn, t
 ghost use Rattle.nv_machine.specs.Reads.{pages_wanted, plan_by};
 ghost use Rattle.nv_base.specs.declared.fault.Fault.TheVariants.{NoSpace};
 ghost use Rattle.nv_base.specs.Limits.{IsWithinLimits};
+ghost use Rattle.nv_calls.specs.declared.log_pages.TheConstants.{MORE_PAGES};
 ghost use Rattle.nv_core.specs.Parts.{AreHome, IsOfDevice};
 ghost use Rattle.nv_core.specs.Rooms.{CanEnd, CanWantPages, FitsCall, HasRooms, HasRoomsAfter, IsHandOf, pages_to_take};
 ghost use Rattle.nv_core.specs.Shown.{Told, hand_of, shared_of, shown, slots_in, turn_of};
@@ -57,6 +58,7 @@ fn pages_by(shared: &mut Shared, hand: &Hand, running: &Running) -> u64
     ensures same { shared.new ≡ shared.old }
     ensures wanted { let slots = slots_in running.now.slots in IsChangeWith
         (λ u. result ≡ pages_to_take shared.old slots hand.now u) running.now.job }
+    ensures few { result ≤ length hand.now.data.blocks + MORE_PAGES }
 {
     pages_in(&mut shared.cells, &running.slots, running.plan(), hand)
 }

@@ -45,6 +45,5 @@ returns-clause-turn c told is =
 pub returns-clause-rooms : goal.returns-clause-rooms
 returns-clause-rooms c =
     rooms_next c.args.shared.now c.pages_by-running.new.shared c.args.hand.now c.args.running.now c.pages_by-running.result
-    c.requires.limits
-    c.requires.home c.requires.device c.requires.sizes c.requires.call c.requires.can c.pages_by-running.ensures.wanted
-    c.pages_by-running.ensures.same
+    c.requires.limits c.requires.home c.requires.sizes c.requires.call c.requires.can c.pages_by-running.ensures.wanted
+    c.pages_by-running.ensures.few c.pages_by-running.ensures.same
