@@ -1,6 +1,7 @@
 //! Chains of pages of two entries, on a device of 16 blocks of 4 bytes.
 
 mod appends;
+mod growth;
 mod removal;
 
 use crate::compare::same;

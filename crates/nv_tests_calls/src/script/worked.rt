@@ -89,7 +89,7 @@ pub(super) const FAST_CLEANING_REPEATED_TO_LOG: Row = (
      done\n\
      done\n\
      done\n\
-     log 1 9 5 1:1 0:0 0:0 0:0 1:1\n",
+     log 1 9 8 1:1 0:0 0:0 0:0 1:1 0:0 0:0 0:0\n",
 );
 
 pub(super) const BOUNDED_RETRIES: Row = (
@@ -166,7 +166,7 @@ pub(super) const BOUNDED_RETRIES: Row = (
      done 1.9\n\
      refused E20 Contended\n\
      done 1.9\n\
-     free 10 chain 6 data 0 pending 0 hand 0\n",
+     free 7 chain 9 data 0 pending 0 hand 0\n",
 );
 
 pub(super) const NAMES: Row = (

@@ -15,8 +15,8 @@ fn is_new(rt: &impl Abort, chain: &Chain) {
     same(rt, (chain.last_id(), chain.last_epoch()), (None, None));
     assert!(rt; chain.is_empty() && chain.last_published().is_none());
     same(rt, chain.room(), 6);
-    let pages = (chain.pages_for(6), chain.pages_for(7), chain.pages_for(9));
-    same(rt, pages, (0, 1, 2));
+    let pages = (chain.pages_for(6), chain.pages_for(7), chain.pages_for(13));
+    same(rt, pages, (0, 3, 5));
 }
 
 /// The commits 1 to 3, of which none counts.
