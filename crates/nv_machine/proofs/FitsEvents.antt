@@ -1,6 +1,6 @@
 -- Plans fit at their commit points, whatever events come.
 use Rattle.nv_book.specs.declared.record.Record.{Record}
-use Rattle.std.proofs.Common.{◌≡◌, ◌≢◌, ◌⊎◌, ℕ, zero, suc, ◌-◌, ◌<◌, ◌≤◌, ◌==◌, ◌∙◌, Bool, true, false, cond, List, [], ◌∷◌, Option, Some, None, ap, ap₂, arith, get_or-set_other, get_or-set_same, inl, inr, length, length-set, nat_lt, refl, replicate, set, subst, sym, take}
+use Rattle.std.proofs.Common.{◌≡◌, ◌≢◌, ◌⊎◌, ℕ, ◌-◌, ◌<◌, ◌≤◌, ◌==◌, ◌∙◌, Bool, true, false, cond, List, [], ◌∷◌, Option, Some, None, ap, ap₂, arith, get_or-set_other, get_or-set_same, inl, inr, length, length-set, nat_lt, refl, set, subst, sym, take}
 use Rattle.std.specs.Prelude.{slice_index_or, unwrap_or}
 use Rattle.std.proofs.lemmas.Bool.{cases_lt, eqb-false, eqb-true, lt-ltb, ltb-true, true≢false}
 use Rattle.std.proofs.lemmas.List.{get_or_past}
@@ -8,19 +8,17 @@ use Rattle.std.specs.List.{AllByRecursion}
 use Rattle.nv_alloc.specs.Numbers.{has}
 use Rattle.nv_base.specs.declared.geometry.GeometryNumbers.{GeometryNumbers}
 use Rattle.nv_base.specs.declared.numbers.Handle.{Handle}
-use Rattle.nv_base.specs.Limits.{IsWithinLimits}
 use Rattle.nv_calls.specs.AllCalls.{refusal}
 use Rattle.nv_calls.specs.Refusals.{passes}
 use Rattle.nv_calls.specs.Plain.{node_in}
 use Rattle.nv_calls.specs.Slots.{items_for, Slot}
 use Rattle.nv_calls.specs.declared.call.Call.{Call}
-use Rattle.nv_cell.specs.Cell.{CellState, empty_cell, published}
+use Rattle.nv_cell.specs.Cell.{CellState, published}
 use Rattle.nv_calls.specs.Retiring.{erased, released}
 use Rattle.nv_entry.specs.declared.item.Entry.{Entry}
 use Rattle.nv_epoch.specs.SnapList.{ids}
 use Rattle.nv_machine.specs.Effects.{AreSound, HasPlanNow}
 use Rattle.nv_machine.specs.FitsNow.{bytes_in}
-use Rattle.nv_machine.specs.Format.{formatted}
 use Rattle.nv_machine.specs.Frame.{IsFramed, Lent, lent}
 use Rattle.nv_machine.specs.Hands.{AreNumbers, HandAt, HandOf}
 use Rattle.nv_machine.specs.Kinds.{entries_for, first_killed, retired_cell, with_entries, with_pages}
@@ -36,7 +34,7 @@ use Rattle.nv_machine.specs.Step.{after, go_step, start_step, step, turn, turned
 use Rattle.nv_machine.specs.World.{Actor, Append, Back, Check, Close, Ends, Enter, Event, Give, Go, HandState, Leave, Lock, Look, Moves, Next, Number, Open, Publish, Ready, Retire, Running, Shared, Start, TakeBlocks, TakePages, Turn, Unlock, Visit, Waits, World, actor_at, cell_at, empty_hand, idle, no_cell, owner_at, with_cell, Drop, LockPicked, Make, Pick, Pin, Release, Show, Snapshots, Unpin}
 use Rattle.nv_machine.proofs.Answered.{deed_is}
 use Rattle.nv_machine.proofs.Lists.{written_inside}
-use Rattle.nv_machine.proofs.Effects.{new_sound, point_is_sound, take_none}
+use Rattle.nv_machine.proofs.Effects.{point_is_sound, take_none}
 use Rattle.nv_machine.proofs.FitsBytes.{all_read, grows_now, plan_now, point_fits}
 use Rattle.nv_machine.proofs.FitsCells.{append_wider, erased_block, retired_block}
 use Rattle.nv_machine.proofs.FitsPooled.{HaveFreeNumbers, free_numbers}
@@ -50,7 +48,7 @@ use Rattle.nv_machine.proofs.GrownTurns.{grown_turn, standing as grown_standing}
 use Rattle.nv_machine.proofs.Kept.{AfterTurn, deed, number_deed, back_deed, turn_keeps}
 use Rattle.nv_machine.proofs.KeptRuns.{sound_stays, standing as kept_standing}
 use Rattle.nv_machine.proofs.Locked.{Before, owner_is}
-use Rattle.nv_machine.proofs.Locks.{all_same, before}
+use Rattle.nv_machine.proofs.Locks.{before}
 use Rattle.nv_machine.proofs.LogsKept.{cell_set}
 use Rattle.nv_machine.proofs.Reached.{reached}
 use Rattle.nv_machine.proofs.KeptTurns.{lent_inside_own}
@@ -374,26 +372,6 @@ events_fit g [] w known fit = fit
 events_fit g (e ∷ events) w known fit =
     events_fit g events (step w e).world (λ before. known (e ∷ before))
     (event_fits g w (known []) fit e ((known (e ∷ [])).numbers.numbers ∙ sym (known []).numbers.numbers))
-
--- ---- a new world
-
-new_sizes : (g : GeometryNumbers) (n ino : ℕ) → ino < length (replicate n (empty_cell g.block g.page 1 0))
-    → (slice_index_or (replicate n (empty_cell g.block g.page 1 0)) ino no_cell).block ≡ g.block
-new_sizes g zero ino lt = absurd (omega (arith, lt))
-new_sizes g (suc n) zero lt = refl
-new_sizes g (suc n) (suc ino) lt = new_sizes g n ino (omega (arith, lt))
-
-pub new_each : (g : GeometryNumbers) (ino : ℕ) → ino < length (formatted g).shared.cells
-    → (cell_at (formatted g).shared ino).block ≡ g.block
-new_each g zero lt = refl
-new_each g (suc ino) lt = new_sizes g (g.inodes - 1) ino (omega (arith, lt))
-
-pub new_fit : (g : GeometryNumbers) → IsWithinLimits g → AreFit (formatted g)
-new_fit g within = record {
-  sizes = new_each g;
-  sound = new_sound g within;
-  each = λ actor. subst (λ (x : Actor). FitsOf x.running g.block (formatted g).shared x.hand) (sym (all_same g.actors actor idle)) tt;
-}
 
 -- ---- every world
 

@@ -3,7 +3,6 @@ use Rattle.std.proofs.Common.{◌≡◌, ℕ, zero, suc, ◌+◌, ◌<◌, ◌�
 use Rattle.std.specs.Prelude.{Ok, Err}
 use Rattle.std.proofs.lemmas.Bool.{ltb-true, true≢false, false≢true}
 use Rattle.nv_base.specs.declared.fault.Fault.{Fault}
-use Rattle.nv_base.specs.declared.geometry.GeometryNumbers.{GeometryNumbers}
 use Rattle.nv_base.specs.declared.numbers.Handle.{Handle}
 use Rattle.nv_calls.specs.AllCalls.{early, effect, looked, refusal}
 use Rattle.nv_calls.specs.Plain.{same_handle}
@@ -14,16 +13,14 @@ use Rattle.nv_calls.specs.declared.call.Call.TheVariants as call
 use Rattle.nv_calls.specs.declared.looked.Looked.{Looked}
 use Rattle.nv_entry.specs.declared.node.NodeCopy.{NodeCopy}
 use Rattle.nv_machine.specs.Answered.{IsLast}
-use Rattle.nv_machine.specs.Format.{formatted}
 use Rattle.nv_machine.specs.Kinds.{again_turn, back_turn, blocks_turn, check_turn, end_turn, enter_turn, grown, lock_turn, look_turn, number_turn, over_turn, pages_turn, rest_turn, unlocked_turn, visit_turn, wants_blocks, wants_pages, drained_turn, last_turn}
 use Rattle.nv_machine.specs.Reads.{copies, slots_of, written_slots}
 use Rattle.nv_machine.specs.Sequence.{Beginning, Looks, Locks, Numbers, Visits, beginning, begun, directories, locking, looking, nothing_looked, sequel, OnSnapshots}
 use Rattle.nv_machine.specs.Starts.{AreIdle}
 use Rattle.nv_machine.specs.Step.{after, ending_at, go_step, is_numbered, kind_turn, made_in, same_looked, start_step, step, turn, turned, with_made}
-use Rattle.nv_machine.specs.World.{Actor, Answers, Append, Back, Check, Close, Ending, Ends, Enter, Event, Give, Go, HandState, Leave, Lock, Look, Moves, Next, Number, Open, Overtaken, Publish, Ready, Refuses, Retire, Running, Shared, Start, TakeBlocks, TakePages, Turn, Unlock, Visit, Waits, World, actor_at, go_to, idle, Drains, SnapshotStep, Snapshots}
+use Rattle.nv_machine.specs.World.{Actor, Answers, Append, Back, Check, Close, Ending, Ends, Enter, Event, Give, Go, HandState, Leave, Lock, Look, Moves, Next, Number, Open, Overtaken, Publish, Ready, Refuses, Retire, Running, Shared, Start, TakeBlocks, TakePages, Turn, Unlock, Visit, Waits, World, actor_at, go_to, Drains, SnapshotStep, Snapshots}
 use Rattle.nv_machine.proofs.Answered.{appending_last, publishing_last, retiring_last}
 use Rattle.nv_machine.proofs.Caused.{CheckCause, check_told}
-use Rattle.nv_machine.proofs.Locks.{all_same}
 use Rattle.nv_machine.proofs.Numbered.{set_actor}
 use Rattle.nv_machine.specs.Snapshots.{snapshot_turn}
 use Rattle.nv_machine.proofs.SnapshotTurns.{is_quiet, snapshot_any}
@@ -366,9 +363,6 @@ event_looks w (Go actor granted) all =
 pub events_looks : (events : List Event) (w : World) → HaveLooks w → HaveLooks (after w events)
 events_looks [] w all = all
 events_looks (e ∷ events) w all = events_looks events (step w e).world (event_looks w e all)
-
-pub new_looks : (g : GeometryNumbers) → HaveLooks (formatted g)
-new_looks g actor = subst (λ (x : Actor). HasLooksOf x.running) (sym (all_same g.actors actor idle)) tt
 
 pub all_looks : (start : World) (events : List Event) → AreIdle start → HaveLooks (after start events)
 all_looks start events idle_all =
