@@ -1,9 +1,12 @@
 //! Command lines, what they ask for and what they are answered.
 
+mod play_help;
+
 use crate::command_line::Task;
 use crate::play_script;
 use nv_base::Fault;
 use nv_script::play;
+use play_help::PLAY_HELP;
 use std::alloc::{AllocError, Global};
 
 const HELP: &str = "\
@@ -22,19 +25,6 @@ Options:
 Try 'novacore play --help' for what a script is, with one of three lines to begin with.
 
 Exit status: 0 if all was done, 1 after a fault, 2 for a command line that is refused.
-";
-
-const PLAY_HELP_HEAD: &str = "\
-Play a script, and print what each of its lines is answered
-
-Usage: novacore play [FILE]
-
-Arguments:
-  [FILE]  The script; without FILE, or where it is -, from standard input
-
-Options:
-  -h, --help  Print help
-
 ";
 
 const TWO_FILES: &str = "\
@@ -117,7 +107,7 @@ fn help_of_play_shows_what_a_script_prints(rt: HostRuntime) -> Result<(), AllocE
     let alloc = rt.alloc();
     let (status, help) = answered(alloc, &["novacore", "play", "--help"]).expect(&rt, "help");
     assert_eq!(rt; status, 0);
-    assert!(rt; help.as_str().starts_with(PLAY_HELP_HEAD));
+    assert!(rt; help.as_str() == PLAY_HELP);
     for shown in [SHOWN_SCRIPT.as_slice(), &SHOWN_ANSWERS] {
         assert!(rt; help.as_str().contains(lines(alloc, shown, "  ")?.as_str()));
     }
