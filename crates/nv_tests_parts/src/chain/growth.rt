@@ -5,6 +5,7 @@ use crate::compare::{same, same_for};
 use nv_base::Fault;
 use nv_log::Chain;
 use nv_scenes::Row;
+use std::alloc::Global;
 use std::process::Abort;
 
 /// A device of 32 blocks.
@@ -58,12 +59,16 @@ fn grows_as_often_as_it_takes(rt: HostRuntime) {
 }
 
 /// No memory has room for so many pages.
+fn refuses(rt: &impl Abort, alloc: Global, pages: usize) {
+    let mut chain = Chain::new(alloc, 2);
+    same(rt, chain.reserve(pages), Err(Fault::OutOfMemory));
+    same(rt, shape(&chain), [0; 5]);
+    chain.into_blocks().destroy_empty();
+}
+
 #[test]
 fn reserves_all_or_nothing(rt: HostRuntime) {
-    let mut chain = Chain::new(rt.alloc(), 2);
     for pages in [usize::MAX, usize::MAX / 2] {
-        same(&rt, chain.reserve(pages), Err(Fault::OutOfMemory));
-        same(&rt, shape(&chain), [0; 5]);
+        refuses(&rt, rt.alloc(), pages);
     }
-    chain.into_blocks().destroy_empty();
 }
