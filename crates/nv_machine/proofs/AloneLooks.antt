@@ -1,22 +1,26 @@
 -- What the looks of a call find that is made alone is what its check finds, so that it is never overtaken.
 use Rattle.std.proofs.Common.{◌≡◌, ◌∙◌, ℕ, zero, suc, ◌+◌, ◌<◌, Bool, true, false, List, [], ◌∷◌, Option, Some, None, ap, arith, if◌then◌else◌, length, nat_lt, refl, subst, sym}
 use Rattle.std.specs.Prelude.{Ok, Err}
-use Rattle.std.proofs.lemmas.Bool.{eq-eqb}
+use Rattle.std.proofs.lemmas.Bool.{eq-eqb, false≢true}
+use Rattle.nv_base.specs.declared.fault.Fault.{Fault}
 use Rattle.nv_base.specs.declared.numbers.Handle.{Handle}
 use Rattle.nv_calls.specs.AllCalls.{looked}
 use Rattle.nv_calls.specs.Plain.{Change, same_handle}
 use Rattle.nv_calls.specs.Refusals.{Check as Tests, found}
-use Rattle.nv_calls.specs.declared.answer.Answer.{Answer}
 use Rattle.nv_calls.specs.declared.call.Call.{Call}
 use Rattle.nv_calls.specs.declared.call.Call.TheVariants as call
 use Rattle.nv_calls.specs.declared.looked.Looked.{Looked}
 use Rattle.nv_entry.specs.declared.node.NodeCopy.{NodeCopy}
-use Rattle.nv_machine.specs.Kinds.{back_turn, blocks_turn, check_ending, check_turn, drained_turn, end_turn, enter_turn, grown, last_turn, lock_turn, look_turn, number_turn, over_turn, pages_turn, rest_turn, seen_at, unlocked_turn, visit_turn, wants_blocks, wants_pages}
+use Rattle.nv_machine.specs.Kinds.{check_ending, seen_at}
 use Rattle.nv_machine.specs.Reads.{written_slots}
-use Rattle.nv_machine.specs.Sequence.{appending, closing, directories, locking, opening, publishing, retiring}
-use Rattle.nv_machine.specs.Step.{handle_at, same_found, same_looked}
-use Rattle.nv_machine.specs.World.{Answers, Append, Back, Check, Close, Drains, Ending, Ends, Enter, Give, HandState, Leave, Lock, Look, Moves, Next, Number, Open, Overtaken, Publish, Ready, Refuses, Retire, Running, Shared, Snapshots, TakeBlocks, TakePages, Turn, Unlock, Visit, Waits}
+use Rattle.nv_machine.specs.Sequence.{directories, locking, sequel}
+use Rattle.nv_machine.specs.Step.{ending_at, handle_at, kind_turn, same_found, same_looked}
+use Rattle.nv_machine.specs.World.{Append, Check, Close, Ending, Ends, Enter, HandState, Lock, Look, Moves, Next, Number, Open, Overtaken, Publish, Ready, Refuses, Retire, Running, Shared, Snapshots, Turn, Waits}
 use Rattle.nv_machine.proofs.FitsCalls.{handles_same}
+use Rattle.nv_machine.proofs.NextSteps.{Known, KnowsNext, OnKnown, Untold}
+use Rattle.nv_machine.proofs.LoopSteps.{Commits, appending_any, goes_on, locking_any, publishing_any, retiring_any}
+use Rattle.nv_machine.proofs.StepWays.{Closes, EndsBy, StopsBy, any_ends, is_last, is_taking, noted, noted_ending, by_last, by_taking}
+use Rattle.nv_machine.proofs.StepWalk.{walk}
 
 -- ---- what is known of a call before a step
 
@@ -33,10 +37,11 @@ HasFound dirs all (Lock place) r = r.looked ≡ all
 HasFound dirs all Check r = r.looked ≡ all
 HasFound dirs all other r = r.ending ≡ Overtaken → ⊥
 
+abbrev pub FoundBy : List Handle → Looked → Known
+FoundBy dirs all k s h q = HasFound dirs all k q
+
 abbrev pub OnFound : List Handle → Looked → Turn → Type 0
-OnFound dirs all (Moves s h q) = HasFound dirs all q.next q
-OnFound dirs all Waits = Unit {0}
-OnFound dirs all (Ends result s h) = Unit {0}
+OnFound dirs all t = OnKnown (FoundBy dirs all) t
 
 pub upto_none : (dirs : List Handle) (all l : Looked) → Upto dirs all 0 l
 upto_none [] all l = tt
@@ -51,10 +56,11 @@ IsLate (Lock place) = ⊥
 IsLate Check = ⊥
 IsLate other = Unit {0}
 
+abbrev pub LateBy : Known
+LateBy k s h q = IsLate k × (q.ending ≡ Overtaken → ⊥)
+
 abbrev pub OnLate : Turn → Type 0
-OnLate (Moves s h q) = IsLate q.next × (q.ending ≡ Overtaken → ⊥)
-OnLate Waits = Unit {0}
-OnLate (Ends result s h) = Unit {0}
+OnLate t = OnKnown LateBy t
 
 pub late_found : (dirs : List Handle) (all : Looked) (k : Next) (r : Running) → IsLate k → (r.ending ≡ Overtaken → ⊥)
     → HasFound dirs all k r
@@ -62,21 +68,7 @@ late_found dirs all Number r late over = absurd late
 late_found dirs all (Look place) r late over = absurd late
 late_found dirs all (Lock place) r late over = absurd late
 late_found dirs all Check r late over = absurd late
-late_found dirs all (TakeBlocks asked) r late over = over
-late_found dirs all (TakePages asked) r late over = over
-late_found dirs all Ready r late over = over
-late_found dirs all Enter r late over = over
-late_found dirs all (Append place) r late over = over
-late_found dirs all Open r late over = over
-late_found dirs all (Publish place) r late over = over
-late_found dirs all Close r late over = over
-late_found dirs all (Retire place) r late over = over
-late_found dirs all Leave r late over = over
-late_found dirs all (Unlock place) r late over = over
-late_found dirs all (Give cpu) r late over = over
-late_found dirs all Back r late over = over
-late_found dirs all Visit r late over = over
-late_found dirs all (Snapshots kind) r late over = over
+late_found dirs all other r late over = over
 
 pub on_found : (dirs : List Handle) (all : Looked) (t : Turn) → OnLate t → OnFound dirs all t
 on_found dirs all (Moves s h q) on = late_found dirs all q.next q on.0 on.1
@@ -85,122 +77,75 @@ on_found dirs all (Ends result s h) on = tt
 
 -- ---- behind the check
 
-drained_late : (left released : ℕ) (s : Shared) (h : HandState) (r : Running) → OnLate (drained_turn left released s h r)
-drained_late zero released s h r = tt
-drained_late (suc left) released s h r = (tt, λ e. cc)
+last_late : (k : Next) → is_last k ≡ true → IsLate k
+last_late = by_last IsLate (λ place. tt) (λ cpu. tt) tt
 
-last_late : (e : Ending) (s : Shared) (h : HandState) (r : Running) → OnLate (last_turn e s h r)
-last_late Answers s h r = tt
-last_late (Refuses fault) s h r = tt
-last_late Overtaken s h r = tt
-last_late (Drains draining) s h r = drained_late draining.left draining.released s h r
+taking_late : (k : Next) → is_taking k ≡ true → IsLate k
+taking_late = by_taking IsLate (λ asked. tt) (λ asked. tt) tt
 
-pub rest_late : (home number : Option ℕ) (s : Shared) (h : HandState) (r : Running) → (r.ending ≡ Overtaken → ⊥)
-    → OnLate (rest_turn home number s h r)
-rest_late (Some cpu) number s h r over = (tt, over)
-rest_late None (Some ino) s h r over = (tt, over)
-rest_late None None s h r over = last_late r.ending s h r
+commits_late : Commits IsLate
+commits_late = record { append = λ place. tt; opens = tt; publish = λ place. tt; close = tt; retire = λ place. tt; leave = tt }
 
-over_late : (e : Ending) (s : Shared) (h : HandState) (r : Running) → (e ≡ Overtaken → ⊥) → (r.ending ≡ Overtaken → ⊥)
-    → OnLate (over_turn e s h r)
-over_late Answers s h r other over = rest_late _ h.ino s h r over
-over_late (Refuses fault) s h r other over = rest_late _ h.ino s h r over
-over_late (Drains draining) s h r other over = rest_late _ h.ino s h r over
-over_late Overtaken s h r other over = absurd (other refl)
+-- a check leads to such steps, and each of them does
+abbrev pub leads_late : Next → Bool
+leads_late Number = false
+leads_late (Look place) = false
+leads_late (Lock place) = false
+leads_late (Snapshots step) = false
+leads_late other = true
 
-pub end_late : (slots : List ℕ) (e : Ending) (s : Shared) (h : HandState) (r : Running) → (e ≡ Overtaken → ⊥)
-    → OnLate (end_turn slots e s h r)
-end_late [] e s h r other = over_late e s h (record r { ending = e }) other other
-end_late (slot ∷ slots) e s h r other = (tt, other)
+sequel_late : (k : Next) (q : Running) → leads_late k ≡ true → goes_on k ≡ true → IsLate (sequel q k)
+sequel_late Ready q is on = tt
+sequel_late Enter q is on = appending_any IsLate commits_late 0 (written_slots q)
+sequel_late (Append place) q is on = appending_any IsLate commits_late (place + 1) (written_slots q)
+sequel_late Open q is on = publishing_any IsLate commits_late 0 (written_slots q)
+sequel_late (Publish place) q is on = publishing_any IsLate commits_late (place + 1) (written_slots q)
+sequel_late Close q is on = retiring_any IsLate commits_late 0 (written_slots q)
+sequel_late (Retire place) q is on = retiring_any IsLate commits_late (place + 1) (written_slots q)
+sequel_late other q is on = cc
 
-pub grown_late : (granted : Bool) (t : Turn) (s : Shared) (h : HandState) (r : Running) → OnLate t → OnLate (grown granted t s h r)
-grown_late true t s h r on = on
-grown_late false t s h r on = end_late r.slots _ s h r (λ e. cc)
+late_closes : {s : Shared} {h : HandState} {r : Running} (e : Ending) → (e ≡ Overtaken → ⊥) → Closes (KnowsNext LateBy) Untold s h r e
+late_closes e not = record {
+  last = λ k is. (last_late k is, not);
+  told = tt;
+  again = λ n over some. absurd (not over);
+  picks = λ d left drains some. (tt, λ over. cc);
+}
 
-pages_late : (n : ℕ) (s : Shared) (h : HandState) (r : Running) → (r.ending ≡ Overtaken → ⊥) → OnLate (wants_pages n s h r)
-pages_late zero s h r over = (tt, over)
-pages_late (suc n) s h r over = (tt, over)
+stops_late : (k : Next) (block : ℕ) (s : Shared) (h : HandState) (r : Running) (e : Ending)
+    → (k ≡ Check → ending_at block s h r ≡ Some Overtaken → ⊥) → StopsBy k block s h r e → e ≡ Overtaken → ⊥
+stops_late k block s h r (Refuses fault) not by over = cc
+stops_late Check block s h r e not by over = not refl (by ∙ ap (λ (x : Ending). Some x) over)
+stops_late k block s h r e not by over = by
 
-blocks_late : (n block : ℕ) (s : Shared) (h : HandState) (r : Running) → (r.ending ≡ Overtaken → ⊥) → OnLate (wants_blocks n block s h r)
-blocks_late zero block s h r over = pages_late _ s h r over
-blocks_late (suc n) block s h r over = (tt, over)
+pub late_turn : (k : Next) (block a : ℕ) (granted : Bool) (s : Shared) (h : HandState) (r : Running) → leads_late k ≡ true
+    → (k ≡ Check → ending_at block s h r ≡ Some Overtaken → ⊥) → (r.ending ≡ Overtaken → ⊥)
+    → OnLate (kind_turn k block a granted s h r)
+late_turn (Snapshots step) block a granted s h r is not over = absurd (false≢true is)
+late_turn other block a granted s h r is not over = walk (KnowsNext LateBy) Untold block a s h r other granted (record {
+  stops = λ e by. late_closes e (stops_late other block s h r e not by);
+  goes = λ on clear. (sequel_late other (noted other block s h r) is on, λ e. over (sym (noted_ending other block s h r) ∙ e));
+  takes = λ on n next taking. (taking_late next taking, λ e. over (sym (noted_ending other block s h r) ∙ e));
+  over = λ on. late_closes r.ending over;
+  short = λ on. late_closes _ (λ e. cc);
+  told = λ on clear. tt;
+}) refl
 
-pub check_late : (e : Option Ending) (granted : Bool) (wanted block : ℕ) (s : Shared) (h : HandState) (r : Running)
-    → (e ≡ Some Overtaken → ⊥) → (r.ending ≡ Overtaken → ⊥) → OnLate (check_turn e granted wanted block s h r)
-check_late (Some e) granted wanted block s h r other over = end_late r.slots e s h r (λ same. other (ap (λ (x : Ending). Some x) same))
-check_late None granted wanted block s h r other over = grown_late granted _ s h r (blocks_late wanted block s h r over)
-
-pub taking_late : (n : ℕ) (b : Bool) (asked block : ℕ) (s : Shared) (h : HandState) (r : Running) → (r.ending ≡ Overtaken → ⊥)
-    → OnLate (blocks_turn n b asked block s h r)
-taking_late zero b asked block s h r over = pages_late _ s h r over
-taking_late (suc n) true asked block s h r over = (tt, over)
-taking_late (suc n) false asked block s h r over = end_late r.slots _ s h r (λ e. cc)
-
-pub paging_late : (n : ℕ) (b : Bool) (asked : ℕ) (s : Shared) (h : HandState) (r : Running) → (r.ending ≡ Overtaken → ⊥)
-    → OnLate (pages_turn n b asked s h r)
-paging_late zero b asked s h r over = (tt, over)
-paging_late (suc n) true asked s h r over = (tt, over)
-paging_late (suc n) false asked s h r over = end_late r.slots _ s h r (λ e. cc)
-
-late_if : (b : Bool) (k j : Next) → IsLate k → IsLate j → IsLate (if b then k else j)
-late_if true k j a c = a
-late_if false k j a c = c
-
-pub retiring_late : (place : ℕ) (written : List ℕ) → IsLate (retiring place written)
-retiring_late place written = late_if (nat_lt place (length written)) (Retire place) Leave tt tt
-
-closing_late : (written : List ℕ) → IsLate (closing written)
-closing_late written = late_if (nat_lt 1 (length written)) Close (retiring 0 written) tt (retiring_late 0 written)
-
-pub publishing_late : (place : ℕ) (written : List ℕ) → IsLate (publishing place written)
-publishing_late place written = late_if (nat_lt place (length written)) (Publish place) (closing written) tt (closing_late written)
-
-opening_late : (written : List ℕ) → IsLate (opening written)
-opening_late written = late_if (nat_lt 1 (length written)) Open (publishing 0 written) tt (publishing_late 0 written)
-
-pub appending_late : (place : ℕ) (written : List ℕ) → IsLate (appending place written)
-appending_late place written = late_if (nat_lt place (length written)) (Append place) (opening written) tt (opening_late written)
-
-pub enter_late : (holder : Option ℕ) (last granted : Bool) (actor : ℕ) (s : Shared) (h : HandState) (r : Running)
-    → (r.ending ≡ Overtaken → ⊥) → OnLate (enter_turn holder last granted actor s h r)
-enter_late (Some other) last granted actor s h r over = tt
-enter_late None true granted actor s h r over = end_late r.slots _ s h r (λ e. cc)
-enter_late None false granted actor s h r over = grown_late granted _ s h r
-    (appending_late 0 (written_slots (record r { commit = s.book.commit + 1; epoch = s.book.snaps.epoch })), over)
-
-pub unlocked_late : (b : Bool) (place : ℕ) (s : Shared) (h : HandState) (r : Running) → (r.ending ≡ Overtaken → ⊥)
-    → OnLate (unlocked_turn b place s h r)
-unlocked_late true place s h r over = (tt, over)
-unlocked_late false place s h r over = over_late r.ending s h r over over
-
-pub back_late : (number : Option ℕ) (s : Shared) (h : HandState) (r : Running) → OnLate (back_turn number s h r)
-back_late None s h r = last_late r.ending s h r
-back_late (Some ino) s h r = last_late r.ending _ _ r
-
-pub visit_late : (owner : Option ℕ) (tests : Tests) (granted : Bool) (told : Answer) (s : Shared) (h : HandState) (r : Running)
-    → OnLate (visit_turn owner tests granted told s h r)
-visit_late (Some other) tests granted told s h r = tt
-visit_late None (Err fault) granted told s h r = end_late r.slots (Refuses fault) s h r (λ e. cc)
-visit_late None (Ok passed) granted told s h r = grown_late granted _ s h r tt
+-- a look that is refused
+pub refused_found : (dirs : List Handle) (all : Looked) {slots : List ℕ} {s : Shared} {h : HandState} {r : Running} {fault : Fault}
+    → EndsBy (KnowsNext (FoundBy dirs all)) Untold slots s h r (Refuses fault)
+refused_found dirs all = any_ends (record {
+  last = λ k is. late_found dirs all k _ (last_late k is) (λ e. cc);
+  told = tt;
+  again = λ n over some. cc;
+  picks = λ d left drains some. λ e. cc;
+})
 
 -- ---- up to it
 
 pub locking_found : (dirs : List Handle) (all : Looked) (place : ℕ) (slots : List ℕ) (q : Running) → q.looked ≡ all
     → HasFound dirs all (locking place slots) q
-locking_found dirs all place slots q is = go (nat_lt place (length slots)) where
-  go : (b : Bool) → HasFound dirs all (if b then Lock place else Check) q
-  go true = is
-  go false = is
-
-pub number_found : (dirs : List Handle) (all : Looked) (numbers : List ℕ) (s : Shared) (h : HandState) (r : Running) → r.looked ≡ all
-    → OnFound dirs all (number_turn numbers s h r)
-number_found dirs all [] s h r is = locking_found dirs all 0 _ _ is
-number_found dirs all (ino ∷ numbers) s h r is = locking_found dirs all 0 _ _ is
-
-pub lock_found : (dirs : List Handle) (all : Looked) (owner : Option ℕ) (actor place : ℕ) (s : Shared) (h : HandState) (r : Running)
-    → r.looked ≡ all → OnFound dirs all (lock_turn owner actor place s h r)
-lock_found dirs all (Some other) actor place s h r is = tt
-lock_found dirs all None actor place s h r is = locking_found dirs all (place + 1) _ _ is
+locking_found dirs all place slots q is = locking_any (λ (k : Next). HasFound dirs all k q) (λ place. is) is place slots
 
 -- a look in one directory finds all, and in two the name of its own
 one_found : (dir : Handle) (all now before : Looked) (place : ℕ) (slots : List ℕ) (q : Running)
@@ -263,25 +208,7 @@ module _ (copied plain : Handle → Option NodeCopy) (before : Looked) where
   call_sees (call.Unlink dir name) place = leave_sees dir name (call.Unlink dir name) (λ nodes. refl) place
   call_sees (call.Rmdir dir name) place = leave_sees dir name (call.Rmdir dir name) (λ nodes. refl) place
   call_sees (call.Rename from old to new) place = rename_sees from old to new (same_handle from to) refl place
-  call_sees (call.Create dir name mode) place = λ slots q is low upto same. absurd (omega (arith, low))
-  call_sees (call.Mkdir dir name mode) place = λ slots q is low upto same. absurd (omega (arith, low))
-  call_sees (call.Write file offset text) place = λ slots q is low upto same. absurd (omega (arith, low))
-  call_sees (call.Read file offset count) place = λ slots q is low upto same. absurd (omega (arith, low))
-  call_sees (call.Size file size) place = λ slots q is low upto same. absurd (omega (arith, low))
-  call_sees (call.Mode handle mode) place = λ slots q is low upto same. absurd (omega (arith, low))
-  call_sees (call.Stat handle) place = λ slots q is low upto same. absurd (omega (arith, low))
-  call_sees (call.List dir) place = λ slots q is low upto same. absurd (omega (arith, low))
-  call_sees (call.Lookup dir name) place = λ slots q is low upto same. absurd (omega (arith, low))
-  call_sees (call.Snapshots what) place = λ slots q is low upto same. absurd (omega (arith, low))
-
-pub look_found : (all : Looked) (owner : Option ℕ) (tests : Tests) (found : Looked) (place : ℕ) (s : Shared) (h : HandState) (r : Running)
-    → (owner ≡ None → (slots : List ℕ) (q : Running) → q.looked ≡ found
-    → HasFound (directories r.call) all (if nat_lt (place + 1) (length (directories r.call)) then Look (place + 1) else locking 0 slots) q)
-    → OnFound (directories r.call) all (look_turn owner tests found place s h r)
-look_found all (Some other) tests found place s h r sees = tt
-look_found all None (Err fault) found place s h r sees =
-    on_found (directories r.call) all _ (end_late [] (Refuses fault) s h r (λ e. cc))
-look_found all None (Ok passed) found place s h r sees = sees refl _ _ refl
+  call_sees other place = λ slots q is low upto same. absurd (omega (arith, low))
 
 -- ---- a check that finds what the looks found
 

@@ -1,9 +1,10 @@
 -- A call that is made alone is told what the plain world answers on the nodes that stood when it was started.
 use Rattle.nv_book.specs.declared.record.Record.{Record}
-use Rattle.std.proofs.Common.{◌≡◌, ◌⊎◌, ◌∙◌, ℕ, ◌&&◌, ◌++◌, if◌then◌else◌, get_or-set_same, inl, inr, Bool, true, false, cond, List, [], ◌∷◌, Option, Some, None, ap, append-nil, append_assoc, length, nat_lt, refl, subst, sym}
+use Rattle.std.proofs.Common.{◌≡◌, ◌⊎◌, ◌∙◌, ℕ, ◌&&◌, ◌++◌, if◌then◌else◌, inl, inr, Bool, true, false, cond, List, [], ◌∷◌, Option, Some, None, ap, append-nil, append_assoc, length, nat_lt, refl, subst, sym}
 use Rattle.std.specs.Prelude.{Ok, Err, not}
 use Rattle.std.proofs.Math.Path.{fun_ext}
-use Rattle.std.proofs.lemmas.Bool.{false≢true, lt-ltb, ltb-true}
+use Rattle.std.proofs.lemmas.Bool.{false≢true, lt-ltb}
+use Rattle.std.proofs.lemmas.Option.{none-some}
 use Rattle.nv_base.specs.declared.fault.Fault.{Fault}
 use Rattle.nv_base.specs.declared.geometry.GeometryNumbers.{GeometryNumbers}
 use Rattle.nv_base.specs.declared.numbers.Handle.{Handle}
@@ -14,24 +15,25 @@ use Rattle.nv_calls.specs.declared.answer.Answer.{Answer}
 use Rattle.nv_calls.specs.declared.call.Call.{Call}
 use Rattle.nv_calls.specs.declared.call.Call.TheVariants as call
 use Rattle.nv_entry.specs.declared.node.NodeCopy.{NodeCopy}
+use Rattle.nv_machine.proofs.DecidedTurns.{nothing_is as no_change}
 use Rattle.nv_machine.specs.Alone.{IsAnsweredOn, goes}
-use Rattle.nv_machine.specs.EndsDecided.{decided, decides, decision_of, is_no_change, is_on_snapshots, is_pass, unless_started}
-use Rattle.nv_machine.specs.PlainRun.{Commits, Deed, Nothing, Numbers, OnSnapshots, deed, deed_by, deed_of, keeps_nodes}
+use Rattle.nv_machine.specs.EndsDecided.{decided, decides, decision_of, is_on_snapshots, is_pass, unless_started}
+use Rattle.nv_machine.specs.PlainRun.{Commits, Deed, Nothing, deed, deed_by, deed_of, keeps_nodes}
 use Rattle.nv_machine.specs.Reads.{written_slots}
 use Rattle.nv_machine.specs.Sequence as sequence
 use Rattle.nv_machine.specs.Sequence.{Beginning, beginning, begun}
 use Rattle.nv_machine.specs.Settled.{settled_nodes}
 use Rattle.nv_machine.specs.Starts.{IsStart}
-use Rattle.nv_machine.specs.Step.{after, go_step, start_step, step, turn}
-use Rattle.nv_machine.specs.World.{Actor, Append, Back, Check, Close, Done, Enter, Event, Give, Go, Leave, Lock, Look, Next, Number, Open, Publish, Ready, Refused, Reply, Retire, Running, Shared, Snapshots, Start, Started, TakeBlocks, TakePages, Turn, Unlock, Visit, World, actor_at, idle}
+use Rattle.nv_machine.specs.Step.{after, step, turn}
+use Rattle.nv_machine.specs.World.{Actor, Check, Done, Event, Go, Next, Refused, Reply, Running, Shared, Start, Started, Turn, Visit, World, actor_at}
 use Rattle.nv_machine.proofs.CallsStay.{IsCallOf, call_stays}
 use Rattle.nv_machine.proofs.CopiesAll.{after_one}
-use Rattle.nv_machine.proofs.EndsRuns.{decided_more, is_decided, is_undecided, visits_of}
+use Rattle.nv_machine.proofs.DecidedRuns.{decided_more, is_decided, is_undecided, visits_of}
 use Rattle.nv_machine.proofs.FitsLaws.{has_effect, has_passed}
 use Rattle.nv_machine.proofs.FromScratch.{all_numbers}
 use Rattle.nv_machine.proofs.Lists.{self}
 use Rattle.nv_machine.proofs.Reached.{reached, reached_nodes}
-use Rattle.nv_machine.proofs.SnapRefusals.{there_is}
+use Rattle.nv_machine.proofs.OverEvents.{own_goes, runs_inside, started as begins_at, commits_if as commits}
 
 -- ---- what a step decides
 
@@ -48,29 +50,7 @@ undecided : (k : Next) (block : ℕ) (s : Shared) (r : Running) (t : Turn) → d
     → keeps_nodes (deed k (written_slots r) t) ≡ true
 undecided Check block s r t e = refl
 undecided Visit block s r t e = refl
-undecided Number block s r t e = no_not _ e
-undecided (Look place) block s r t e = no_not _ e
-undecided (Lock place) block s r t e = no_not _ e
-undecided (TakeBlocks asked) block s r t e = no_not _ e
-undecided (TakePages asked) block s r t e = no_not _ e
-undecided Ready block s r t e = no_not _ e
-undecided Enter block s r t e = no_not _ e
-undecided (Append place) block s r t e = no_not _ e
-undecided Open block s r t e = no_not _ e
-undecided (Publish place) block s r t e = no_not _ e
-undecided Close block s r t e = no_not _ e
-undecided (Retire place) block s r t e = no_not _ e
-undecided Leave block s r t e = no_not _ e
-undecided (Unlock place) block s r t e = no_not _ e
-undecided (Give cpu) block s r t e = no_not _ e
-undecided Back block s r t e = no_not _ e
-undecided (Snapshots kind) block s r t e = no_not _ e
-
-commits : (d : Deed) → keeps_nodes d ≡ false → d ≡ Commits
-commits Nothing e = absurd (false≢true (sym e))
-commits Numbers e = absurd (false≢true (sym e))
-commits Commits e = refl
-commits (OnSnapshots kind) e = absurd (false≢true (sym e))
+undecided other block s r t e = no_not _ e
 
 all_pass : (tests : Tests) → is_pass tests ≡ true → tests ≡ passes
 all_pass (Ok done) e = refl
@@ -90,24 +70,13 @@ record ChangesNothing (k : Next) (block : ℕ) (s : Shared) (r : Running) (t : T
   keeps : keeps_nodes (deed k (written_slots r) t) ≡ true
   no_effect : effect (node_in (settled_nodes s)) r.made r.call ≡ []
 
-no_change : (effect : List Change) → is_no_change effect ≡ true → effect ≡ []
-no_change [] e = refl
-no_change (change ∷ effect) e = absurd (false≢true e)
-
 visit_effect : (nodes : Handle → Option NodeCopy) (made : Handle) (c : Call) → beginning c ≡ sequence.Visits → effect nodes made c ≡ []
-visit_effect nodes made (call.Create dir name mode) e = cc
-visit_effect nodes made (call.Mkdir dir name mode) e = cc
-visit_effect nodes made (call.Write file offset text) e = cc
 visit_effect nodes made (call.Read file offset count) e = refl
-visit_effect nodes made (call.Size file size) e = cc
-visit_effect nodes made (call.Mode handle mode) e = cc
 visit_effect nodes made (call.Stat handle) e = refl
 visit_effect nodes made (call.List dir) e = refl
 visit_effect nodes made (call.Lookup dir name) e = refl
-visit_effect nodes made (call.Unlink dir name) e = cc
-visit_effect nodes made (call.Rmdir dir name) e = cc
-visit_effect nodes made (call.Rename from old to new) e = cc
 visit_effect nodes made (call.Snapshots what) e = refl
+visit_effect nodes made other e = cc
 
 decided_how : (k : Next) (block : ℕ) (s : Shared) (r : Running) (t : Turn) → (k ≡ Visit → beginning r.call ≡ sequence.Visits)
     → decides k block s r t ≡ true → ChangesNothing k block s r t ⊎ (deed k (written_slots r) t ≡ Commits)
@@ -121,23 +90,7 @@ decided_how Visit block s r t visits e = inl (record {
   keeps = refl;
   no_effect = visit_effect _ r.made r.call (visits refl);
 })
-decided_how Number block s r t visits e = inr (commits _ (a_not _ e))
-decided_how (Look place) block s r t visits e = inr (commits _ (a_not _ e))
-decided_how (Lock place) block s r t visits e = inr (commits _ (a_not _ e))
-decided_how (TakeBlocks asked) block s r t visits e = inr (commits _ (a_not _ e))
-decided_how (TakePages asked) block s r t visits e = inr (commits _ (a_not _ e))
-decided_how Ready block s r t visits e = inr (commits _ (a_not _ e))
-decided_how Enter block s r t visits e = inr (commits _ (a_not _ e))
-decided_how (Append place) block s r t visits e = inr (commits _ (a_not _ e))
-decided_how Open block s r t visits e = inr (commits _ (a_not _ e))
-decided_how (Publish place) block s r t visits e = inr (commits _ (a_not _ e))
-decided_how Close block s r t visits e = inr (commits _ (a_not _ e))
-decided_how (Retire place) block s r t visits e = inr (commits _ (a_not _ e))
-decided_how Leave block s r t visits e = inr (commits _ (a_not _ e))
-decided_how (Unlock place) block s r t visits e = inr (commits _ (a_not _ e))
-decided_how (Give cpu) block s r t visits e = inr (commits _ (a_not _ e))
-decided_how Back block s r t visits e = inr (commits _ (a_not _ e))
-decided_how (Snapshots kind) block s r t visits e = inr (commits _ (a_not _ e))
+decided_how other block s r t visits e = inr (commits _ (a_not _ e))
 
 kept_if : (b : Bool) (d : Deed) → keeps_nodes d ≡ true → keeps_nodes (if b then d else Nothing) ≡ true
 kept_if true d e = e
@@ -197,12 +150,6 @@ module _ (g : GeometryNumbers) (start : World) (records : List Record) (is_start
             };
       }
 
-  idle_call : (b : Bool) (running : Option Running) → running ≡ None
-      → IsCallOf c (actor_at (go_step b running actor granted w).world actor).running
-  idle_call false running is = was.call
-  idle_call true None is = was.call
-  idle_call true (Some r) is = cc
-
   module _ (r : Running) (is : (actor_at w actor).running ≡ Some r) where
     abbrev t : Turn
     t = turn w.numbers.block actor granted w.shared (actor_at w actor).hand r
@@ -241,7 +188,7 @@ module _ (g : GeometryNumbers) (start : World) (records : List Record) (is_start
                 ∙ ap (λ (l : List Change). nodes_after r.commit l (settled_nodes w.shared) handle) (sym quiet_it.no_effect);
           }
           go (inr commits_it) =
-              let there = there_is w actor r is in
+              let there = runs_inside w actor r is in
               let point = deed_is ∙ ap (λ (b : Bool). if b then deed r.next (written_slots r) t else Nothing)
               (lt-ltb actor (length w.actors) there) ∙ commits_it in
               record {
@@ -291,7 +238,7 @@ module _ (g : GeometryNumbers) (start : World) (records : List Record) (is_start
     go : (running : Option Running) → (actor_at w actor).running ≡ running → IsAlone g start records actor c nodes (events ++ e ∷ [])
     go (Some r) is = running_goes r is (decides r.next w.numbers.block w.shared r (t r is)) refl
     go None is =
-        quiet (idle_call (nat_lt actor (length w.actors)) (actor_at w actor).running is)
+        quiet (own_goes (λ (x : Actor). IsCallOf c x.running) w actor granted (λ none. was.call) (λ r there some. absurd (none-some r (sym is ∙ some))))
         (ap (λ (o : Option Running). decision_of o w actor granted) is)
         (ap (λ (o : Option Running). keeps_nodes (if nat_lt actor (length w.actors) then deed_by o w actor granted else Nothing)) is
         ∙ kept_if (nat_lt actor (length w.actors)) Nothing refl)
@@ -300,10 +247,7 @@ module _ (g : GeometryNumbers) (start : World) (records : List Record) (is_start
 
 begun_call : (b : Beginning) (s : Shared) (c : Call) → (begun b s c).call ≡ c
 begun_call sequence.Numbers s c = refl
-begun_call sequence.Looks s c = refl
-begun_call sequence.Locks s c = refl
-begun_call sequence.Visits s c = refl
-begun_call (sequence.OnSnapshots what) s c = refl
+begun_call other s c = refl
 
 module _ (g : GeometryNumbers) (start : World) (records : List Record) (is_start : IsStart g start records) (actor : ℕ) (c : Call)
     (before : List Event)
@@ -314,21 +258,10 @@ module _ (g : GeometryNumbers) (start : World) (records : List Record) (is_start
   abbrev nodes : Handle → Option PlainNode
   nodes = settled_nodes first.shared
 
-  starts_with : (b : Bool) (running : Option Running) → nat_lt actor (length first.actors) ≡ b
-      → (start_step b running actor c first).reply ≡ Started
-      → (actor_at (start_step b running actor c first).world actor).running ≡ Some (begun (beginning c) first.shared c)
-  starts_with false running there e = cc
-  starts_with true (Some r) there e = cc
-  starts_with true None there e =
-      ap (λ (x : Actor). x.running)
-      (get_or-set_same first.actors actor
-      (record { hand = (actor_at first actor).hand; running = Some (begun (beginning c) first.shared c) }) idle
-      (ltb-true actor (length first.actors) there))
-
   pub starts : (actor_at (after start (before ++ Start actor c ∷ [])) actor).running ≡ Some (begun (beginning c) first.shared c)
   starts =
       ap (λ (v : World). (actor_at v actor).running) (sym (after_one before start (Start actor c)))
-      ∙ starts_with (nat_lt actor (length first.actors)) (actor_at first actor).running refl started
+      ∙ ap (λ (x : Actor). x.running) (begins_at first actor c started)
 
   none_yet : decided actor start (before ++ Start actor c ∷ []) [] ≡ []
   none_yet =

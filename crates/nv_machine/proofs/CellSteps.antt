@@ -24,7 +24,7 @@ use Rattle.nv_entry.specs.Log.{IsLog, last_setting, later_of}
 use Rattle.nv_entry.specs.Node.{block_now, node_now}
 use Rattle.nv_entry.specs.declared.item.Entry.{Entry}
 use Rattle.nv_entry.specs.declared.item.Item.{Item}
-use Rattle.nv_entry.specs.declared.item.Item.TheVariants.{Init, Write, SetSize, SetMode, Bind, Unbind, Gone}
+use Rattle.nv_entry.specs.declared.item.Item.TheVariants.{Gone}
 use Rattle.nv_entry.specs.declared.key.Setting.{Setting}
 use Rattle.nv_entry.specs.declared.key.Setting.TheVariants.{Untouched, Absent}
 use Rattle.nv_machine.specs.Effects.{IsSoundIn}
@@ -303,12 +303,7 @@ retired_sound old new r apart h = same_sound old new old.chain.tail r.block (ret
 -- the last word of a log is that its inode is gone
 last_word : (block : ℕ) (item : Item) → is_last_word item ≡ true → sets block item KindKey ≡ Absent
 last_word block Gone h = refl
-last_word block (Init kind mode) h = cc
-last_word block (Write first run size) h = cc
-last_word block (SetSize size) h = cc
-last_word block (SetMode mode) h = cc
-last_word block (Bind name to) h = cc
-last_word block (Unbind name) h = cc
+last_word block other h = cc
 
 one_less : (n : ℕ) → suc n - 1 ≡ n
 one_less n = omega arith

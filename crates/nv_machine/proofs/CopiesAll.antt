@@ -16,20 +16,22 @@ use Rattle.nv_machine.specs.Step.{after, step}
 use Rattle.nv_epoch.specs.declared.snapshot.Snapshot.{Snapshot}
 use Rattle.nv_machine.specs.World.{Shared, Event, World}
 use Rattle.nv_machine.proofs.CopiesKept.{IsWhole, ReadsAs, copied, event_alike, stays, whole}
-use Rattle.nv_machine.proofs.CopyRuns.{HaveMarks, IsReadable, cells_stay}
+use Rattle.nv_machine.proofs.CopyMarks.{all_have_marks}
+use Rattle.nv_machine.proofs.CopyRuns.{IsReadable, cells_stay}
 use Rattle.nv_machine.proofs.DirectoriesChanged.{some_directory}
 use Rattle.nv_machine.proofs.DirectoryLaws.{all_numbered, all_trees}
+use Rattle.nv_machine.proofs.OverEvents.{events_by}
 use Rattle.nv_machine.proofs.FitsPlain.{plain_nodes}
-use Rattle.nv_machine.proofs.MarkedRuns.{all_parts}
+use Rattle.nv_machine.proofs.CellMarksRuns.{all_parts}
 use Rattle.nv_machine.proofs.Reached.{reached}
 use Rattle.nv_machine.proofs.SnapRuns.{all_bare, in_step}
 use Rattle.nv_machine.proofs.SnapSteps.{AreBare}
-use Rattle.nv_machine.proofs.SnapsAlike.{AreAlike}
+use Rattle.nv_machine.proofs.SnapshotCopies.{AreAlike}
 use Rattle.nv_machine.proofs.TreeNumbers.{copies_by_numbers}
 
 pub events_cells : (events : List Event) (w : World) → length (after w events).shared.cells ≡ length w.shared.cells
-events_cells [] w = refl
-events_cells (e ∷ events) w = events_cells events (step w e).world ∙ cells_stay w e
+events_cells events w = events_by (λ (v : World). Unit {0}) (λ (v : World). length v.shared.cells ≡ length w.shared.cells)
+    (λ v e known same. cells_stay v e ∙ same) events w (λ before. tt) refl
 
 pub after_one : (events : List Event) (w : World) (e : Event) → (step (after w events) e).world ≡ after w (events ++ e ∷ [])
 after_one [] w e = refl
@@ -73,8 +75,7 @@ whole_tree s snapshot tree = record {
   one_tree = tree;
 }
 
-module _ (g : GeometryNumbers) (start : World) (records : List Record) (is_start : IsStart g start records)
-    (marks : (events : List Event) → HaveMarks (after start events)) where
+module _ (g : GeometryNumbers) (start : World) (records : List Record) (is_start : IsStart g start records) where
   abbrev at : List Event → World
   at events = after start events
 
@@ -88,7 +89,7 @@ module _ (g : GeometryNumbers) (start : World) (records : List Record) (is_start
   readable events = record {
     reached = reached g start records events is_start;
     parts = all_parts g start records events is_start;
-    marks = marks events;
+    marks = all_have_marks g start records is_start events;
     before = (in_step g start records events is_start).before;
   }
 

@@ -12,31 +12,25 @@ use Rattle.nv_epoch.specs.SnapList.{Snapshots as Living, ids, numbers}
 use Rattle.nv_epoch.specs.declared.snapshot.Snapshot.{Snapshot}
 use Rattle.nv_epoch.proofs.Last.{contains_cases, contains_first, contains_later}
 use Rattle.nv_machine.specs.Directories.{AreTree, HasName}
-use Rattle.nv_machine.specs.PlainRun.{Commits, Copy, Deed, Nothing, Numbers, OnSnapshots, Plain, deed_of, plain_step}
+use Rattle.nv_machine.specs.PlainRun.{Copy, Deed, OnSnapshots, Plain, deed_of, plain_step}
 use Rattle.nv_machine.specs.Reading.{AreCopied}
 use Rattle.nv_machine.specs.Settled.{settled_copies, settled_nodes}
 use Rattle.nv_machine.specs.Step.{step}
-use Rattle.nv_machine.specs.World.{Drop, Event, LockPicked, Make, Pick, Pin, Release, Shared, Show, Unpin, World}
+use Rattle.nv_machine.specs.World.{Drop, Event, Make, Pin, Shared, Unpin, World}
 use Rattle.nv_machine.proofs.CopyMade.{copies_now, is_make, make_copies}
 use Rattle.nv_machine.proofs.CopyRuns.{IsReadable, event_copies}
 use Rattle.nv_epoch.proofs.Pins.{lives-from_pins, pins_at-lives}
 use Rattle.nv_machine.proofs.SnapSteps.{AreBare, event_snaps, snaps_after}
-use Rattle.nv_machine.proofs.SnapsAlike.{AreAlike, Lives, deed_alike, lived, lived_then}
+use Rattle.nv_machine.proofs.SnapshotCopies.{AreAlike, Lives, deed_alike, lived, lived_then}
 
 -- ---- who lives after a deed lived before it, but for a new snapshot
 
-deed_lives : (d : Deed) (l : Living) (n : ℕ) → is_make d ≡ false → Lives (snaps_after d l) n → Lives l n
-deed_lives Nothing l n e is = is
-deed_lives Numbers l n e is = is
-deed_lives Commits l n e is = is
-deed_lives (OnSnapshots Make) l n e is = cc
-deed_lives (OnSnapshots (Drop snapshot)) l n e is = lived_then l n snapshot is
-deed_lives (OnSnapshots (Pin snapshot)) l n e is = lived l n snapshot (λ pins. pins + 1) is
-deed_lives (OnSnapshots (Show snapshot showing)) l n e is = is
-deed_lives (OnSnapshots (Unpin snapshot seen)) l n e is = lived l n snapshot (λ pins. pins - 1) is
-deed_lives (OnSnapshots (Pick draining)) l n e is = is
-deed_lives (OnSnapshots (LockPicked draining picked)) l n e is = is
-deed_lives (OnSnapshots (Release draining picked)) l n e is = is
+work_lives : (d : Deed) (l : Living) (n : ℕ) → is_make d ≡ false → Lives (snaps_after d l) n → Lives l n
+work_lives (OnSnapshots Make) l n e is = cc
+work_lives (OnSnapshots (Drop snapshot)) l n e is = lived_then l n snapshot is
+work_lives (OnSnapshots (Pin snapshot)) l n e is = lived l n snapshot (λ pins. pins + 1) is
+work_lives (OnSnapshots (Unpin snapshot seen)) l n e is = lived l n snapshot (λ pins. pins - 1) is
+work_lives other l n e is = is
 
 -- ---- copies
 
@@ -109,7 +103,7 @@ stays g w e a b bare n lives handle = go (is_make (deed_of w e)) refl where
   go false other =
       event_copies g w e a b n
       (lives-from_pins w.shared.book.snaps.living n
-      (deed_lives (deed_of w e) w.shared.book.snaps n other
+      (work_lives (deed_of w e) w.shared.book.snaps n other
       (subst (λ (l : Living). Lives l n) (event_snaps w e bare) (pins_at-lives v.book.snaps.living n lives)))) lives handle
 
 module _ (g : GeometryNumbers) (inodes : ℕ) (w : World) (e : Event) (a : IsReadable g w) (b : IsReadable g (step w e).world)

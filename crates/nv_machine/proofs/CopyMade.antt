@@ -15,12 +15,13 @@ use Rattle.nv_journal.specs.declared.old_tail.OldTail.{OldTail}
 use Rattle.nv_cell.specs.Cell.{CellState}
 use Rattle.nv_machine.specs.Locks.{commits_at}
 use Rattle.nv_machine.specs.Order.{AreLogsOrdered}
-use Rattle.nv_machine.specs.PlainRun.{Commits, Deed, Nothing, Numbers, OnSnapshots, deed as deed_in, deed_by, deed_of, done_on, entered}
+use Rattle.nv_machine.specs.PlainRun.{Commits, Deed, Nothing, Numbers, OnSnapshots, deed as deed_in, deed_of, done_on, entered}
 use Rattle.nv_machine.specs.Reads.{bytes_among, written_slots}
 use Rattle.nv_machine.specs.Settled.{node_by, settled, settled_copies, settled_nodes, settled_tail}
-use Rattle.nv_machine.specs.Step.{go_step, kind_turn, step, turn, turned}
-use Rattle.nv_machine.specs.World.{Append, Back, Check, Close, Drop, Ends, Enter, Event, Give, Go, HandState, Leave, Lock, LockPicked, Look, Make, Moves, Next, Number, Open, Pick, Pin, Publish, Ready, Release, Retire, Running, Shared, Show, SnapshotStep, Snapshots, Start, TakeBlocks, TakePages, Turn, Unlock, Unpin, Visit, Waits, World, actor_at, cell_at}
-use Rattle.nv_machine.proofs.Kept.{AfterTurn, turn_keeps}
+use Rattle.nv_machine.specs.Step.{kind_turn, step}
+use Rattle.nv_machine.specs.World.{Ends, Enter, Event, HandState, Make, Moves, Next, Publish, Running, Shared, SnapshotStep, Snapshots, Turn, Waits, World, actor_at, cell_at}
+use Rattle.nv_machine.proofs.OverEvents.{event_deed, turn_at, turned_shared}
+use Rattle.nv_machine.proofs.WorkKeeps.{AfterTurn, turn_keeps}
 
 -- ---- which step makes a snapshot
 
@@ -34,32 +35,14 @@ is_make other = false
 
 make_is : (step : SnapshotStep) → is_make_step step ≡ true → step ≡ Make
 make_is Make e = refl
-make_is (Drop snapshot) e = cc
-make_is (Pin snapshot) e = cc
-make_is (Show snapshot showing) e = cc
-make_is (Unpin snapshot seen) e = cc
-make_is (Pick draining) e = cc
-make_is (LockPicked draining picked) e = cc
-make_is (Release draining picked) e = cc
+make_is other e = cc
 
 done_make : (step : SnapshotStep) (t : Turn) → is_make (done_on step t) ≡ true → step ≡ Make
 done_make step (Moves s h r) e = make_is step e
 done_make step Waits e = cc
 done_make Make (Ends result s h) e = refl
-done_make (Drop snapshot) (Ends (Ok found) s h) e = cc
-done_make (Pin snapshot) (Ends (Ok found) s h) e = cc
-done_make (Show snapshot showing) (Ends (Ok found) s h) e = cc
-done_make (Unpin snapshot seen) (Ends (Ok found) s h) e = cc
-done_make (Pick draining) (Ends (Ok found) s h) e = cc
-done_make (LockPicked draining picked) (Ends (Ok found) s h) e = cc
-done_make (Release draining picked) (Ends (Ok found) s h) e = cc
-done_make (Drop snapshot) (Ends (Err fault) s h) e = cc
-done_make (Pin snapshot) (Ends (Err fault) s h) e = cc
-done_make (Show snapshot showing) (Ends (Err fault) s h) e = cc
-done_make (Unpin snapshot seen) (Ends (Err fault) s h) e = cc
-done_make (Pick draining) (Ends (Err fault) s h) e = cc
-done_make (LockPicked draining picked) (Ends (Err fault) s h) e = cc
-done_make (Release draining picked) (Ends (Err fault) s h) e = cc
+done_make other (Ends (Ok found) s h) e = cc
+done_make other (Ends (Err fault) s h) e = cc
 
 entered_none : (t : Turn) → is_make (entered t) ≡ true → ⊥
 entered_none (Moves s h r) e = go (commits_at r.next) e where
@@ -77,22 +60,7 @@ kind_is : (k : Next) (written : List ℕ) (t : Turn) → is_make (deed_in k writ
 kind_is Enter written t e = absurd (entered_none t e)
 kind_is (Publish place) written t e = absurd (published_none (nat_lt 1 (length written)) e)
 kind_is (Snapshots step) written t e = ap Snapshots (done_make step t e)
-kind_is Number written t e = cc
-kind_is (Look place) written t e = cc
-kind_is (Lock place) written t e = cc
-kind_is Check written t e = cc
-kind_is (TakeBlocks asked) written t e = cc
-kind_is (TakePages asked) written t e = cc
-kind_is Ready written t e = cc
-kind_is (Append place) written t e = cc
-kind_is Open written t e = cc
-kind_is Close written t e = cc
-kind_is (Retire place) written t e = cc
-kind_is Leave written t e = cc
-kind_is (Unlock place) written t e = cc
-kind_is (Give cpu) written t e = cc
-kind_is Back written t e = cc
-kind_is Visit written t e = cc
+kind_is other written t e = cc
 
 -- ---- it leaves cells and journals
 
@@ -105,25 +73,12 @@ made_keeps k block a granted s h r e =
     subst (λ (n : Next). AfterTurn (λ (t : Shared) (x : HandState). Leaves s t) (kind_turn n block a granted s h r)) (sym e)
     (turn_keeps (λ (t : Shared) (x : HandState). Leaves s t) (Snapshots Make) block a granted s h r (refl, refl) (refl, refl))
 
-turned_leaves : (t : Turn) (actor : ℕ) (w : World) → AfterTurn (λ (u : Shared) (h : HandState). Leaves w.shared u) t
-    → Leaves w.shared (turned t actor w).world.shared
-turned_leaves (Moves s h r) actor w on = on
-turned_leaves Waits actor w on = (refl, refl)
-turned_leaves (Ends result s h) actor w on = on
-
-go_leaves : (b : Bool) (running : Option Running) (w : World) (actor : ℕ) (granted : Bool)
-    → is_make (if b then deed_by running w actor granted else Nothing) ≡ true
-    → Leaves w.shared (go_step b running actor granted w).world.shared
-go_leaves false running w actor granted e = cc
-go_leaves true None w actor granted e = cc
-go_leaves true (Some r) w actor granted e =
-    let t = turn w.numbers.block actor granted w.shared (actor_at w actor).hand r in
-    turned_leaves t actor w (made_keeps r.next w.numbers.block actor granted w.shared (actor_at w actor).hand r
-    (kind_is r.next (written_slots r) t e))
-
 event_leaves : (w : World) (e : Event) → is_make (deed_of w e) ≡ true → Leaves w.shared (step w e).world.shared
-event_leaves w (Start actor c) e = cc
-event_leaves w (Go actor granted) e = go_leaves (nat_lt actor (length w.actors)) (actor_at w actor).running w actor granted e
+event_leaves w e = event_deed (λ (d : Deed) (v : World). is_make d ≡ true → Leaves w.shared v.shared) w (λ make. cc) e
+    (λ actor c there is make. cc)
+    (λ actor granted r there is make. turned_shared (Leaves w.shared) (turn_at w actor granted r) actor w (refl, refl)
+    (made_keeps r.next w.numbers.block actor granted w.shared (actor_at w actor).hand r
+    (kind_is r.next (written_slots r) (turn_at w actor granted r) make)))
 
 abbrev copies_by : List CellState → List (List OldTail) → Shared → ℕ → Handle → Option NodeCopy
 copies_by cells journals s = settled_copies (record s { cells = cells; book = record s.book { journals = journals } })
@@ -151,7 +106,7 @@ all_front P (suc n) [] all = tt
 all_front P zero (e ∷ log) all = tt
 all_front P (suc n) (e ∷ log) all = (all.0, all_front P n log all.1)
 
-unstamped : (commit : ℕ) (node : Option NodeCopy) → option_map (λ (p : PlainNode). p.node) (stamped commit node) ≡ node
+pub unstamped : (commit : ℕ) (node : Option NodeCopy) → option_map (λ (p : PlainNode). p.node) (stamped commit node) ≡ node
 unstamped commit None = refl
 unstamped commit (Some node) = refl
 

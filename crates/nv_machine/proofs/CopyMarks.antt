@@ -1,12 +1,11 @@
 -- What marks tell of an earlier epoch's log: the parts that it has and has not covered are there, and none
 -- of them goes out next.
-use Rattle.std.proofs.Common.{◌≡◌, ℕ, zero, suc, ◌+◌, ◌<◌, ◌≤◌, ◌++◌, ◌∙◌, ap₂, true, false, List, [], ◌∷◌, drop, inl, inr, length, Option, Some, None, IsSome, ap, arith, refl, subst, sym, take}
+use Rattle.std.proofs.Common.{◌≡◌, ℕ, zero, suc, ◌+◌, ◌<◌, ◌≤◌, ◌++◌, ◌∙◌, ap₂, true, false, List, [], ◌∷◌, drop, length, Option, Some, None, IsSome, ap, arith, refl, subst, sym, take}
 use Rattle.std.specs.List.{AllByRecursion, Contains, flat_map}
 use Rattle.std.specs.Option.{option_map}
 use Rattle.std.specs.Prelude.{slice_get, slice_index_or, unwrap_or}
-use Rattle.std.proofs.lemmas.Bool.{and_from, cases_lt, le-leb, lt-ltb, true≢false}
-use Rattle.std.proofs.lemmas.List.{get_or_default, get_or_past, take-append-drop}
-use Rattle.std.proofs.lemmas.Option.{none-some}
+use Rattle.std.proofs.lemmas.Bool.{and_from, le-leb, lt-ltb, true≢false}
+use Rattle.std.proofs.lemmas.List.{get_or_default, take-append-drop}
 use Rattle.nv_base.specs.declared.geometry.GeometryNumbers.{GeometryNumbers}
 use Rattle.nv_book.specs.Records.{holder_of, is_held_by}
 use Rattle.nv_book.specs.declared.record.Record.{Record}
@@ -17,7 +16,7 @@ use Rattle.nv_cell.specs.Marks.{is_there, mark_at}
 use Rattle.nv_cell.specs.Numbers.{killed_part}
 use Rattle.nv_cell.specs.declared.killed.KilledPart.{KilledPart}
 use Rattle.nv_cell.specs.declared.mark.Mark.{Mark}
-use Rattle.nv_cell.specs.declared.mark.Mark.TheVariants.{Current, Kept, Killed, Out}
+use Rattle.nv_cell.specs.declared.mark.Mark.TheVariants.{Current, Out}
 use Rattle.nv_cell.proofs.NamedParts.{are_pairs}
 use Rattle.nv_cell.proofs.Numbers.{total_append}
 use Rattle.nv_cell.proofs.Publishing.{take_whole}
@@ -34,32 +33,29 @@ use Rattle.nv_epoch.specs.Holders as holders
 use Rattle.nv_epoch.specs.SnapList.{ids}
 use Rattle.nv_epoch.proofs.Last.{none_passes}
 use Rattle.nv_machine.specs.Grown.{HasGrown, HasGrownBy}
-use Rattle.nv_machine.specs.Hands.{AreNumbers, HandAt, HandOf}
+use Rattle.nv_machine.specs.Hands.{HandAt, HandOf}
 use Rattle.nv_machine.specs.Held.{killed_by_actor, killed_by_call, killed_in, killed_slots, parts_for, picked_at, picked_by_actor, picked_by_call}
 use Rattle.nv_machine.specs.Kinds.{first_killed}
-use Rattle.nv_machine.specs.Reached.{IsReached}
 use Rattle.nv_machine.specs.Reads.{slot_at, written_slots}
-use Rattle.nv_machine.specs.Recorded.{records_after}
 use Rattle.nv_machine.specs.Starts.{IsStart}
 use Rattle.nv_machine.specs.Step.{after}
-use Rattle.nv_machine.specs.World.{Actor, Draining, Drop, Event, LockPicked, Make, Next, Pick, Pin, Release, Retire, Running, Show, Snapshots, Unpin, World, actor_at, cell_at, idle}
+use Rattle.nv_machine.specs.World.{Actor, Draining, Event, Next, Release, Retire, Running, Snapshots, World, actor_at, cell_at, idle}
 use Rattle.nv_machine.proofs.CopyRuns.{HaveMarks, earlier}
 use Rattle.nv_machine.proofs.CopySteps.{GoesOut}
 use Rattle.nv_machine.proofs.EpochLogs.{IsHeldAt, born_by, log_at, splits, up_to_within}
 use Rattle.nv_machine.proofs.EpochSteps.{AreParts, spans}
-use Rattle.nv_machine.proofs.FiledLaw.{all_marked}
-use Rattle.nv_machine.proofs.EachOf.{all_at, all_back, all_front}
+use Rattle.nv_machine.proofs.OverEvents.{runs_inside}
+use Rattle.nv_machine.proofs.EachElement.{all_at, all_back, all_front}
 use Rattle.nv_machine.proofs.FiledMarks.{IsDying, IsTold}
 use Rattle.nv_machine.proofs.FiledSteps.{AreFresh, MarksOf}
 use Rattle.nv_machine.proofs.FiledWorlds.{AreMarked, picked_in}
-use Rattle.nv_machine.proofs.FromScratch.{all_numbers}
-use Rattle.nv_machine.proofs.Locked.{Before, lent_cell}
-use Rattle.nv_machine.proofs.Locks.{before}
+use Rattle.nv_machine.proofs.FitsEvents.{IsKnown, all_known}
+use Rattle.nv_machine.proofs.LocksHeld.{Before, lent_cell}
+use Rattle.nv_machine.proofs.LocksOverEvents.{before}
 use Rattle.nv_machine.proofs.Pairs.{has_number, IsRecordOf, pair_there, record_number}
 use Rattle.nv_machine.proofs.PartsFor.{first_for, slots_from}
-use Rattle.nv_machine.proofs.Reached.{reached}
 use Rattle.nv_machine.proofs.SnapRuns.{in_step}
-use Rattle.nv_machine.proofs.SnapsAlike.{AreBefore}
+use Rattle.nv_machine.proofs.SnapshotCopies.{AreBefore}
 
 -- ---- lists
 
@@ -145,10 +141,8 @@ module _ (living : List ℕ) (ino now : ℕ) (killed : List KilledPart) (records
         ∙ all_at (λ s. holds s pair ≡ false) living epoch (marks.out n pair got out) lives)
 
     go : (m : Mark) → mark_at cell.marks n ≡ m → is_there (mark_or_fresh cell.marks n) ≡ true
-    go Current e = ap is_there (here ∙ e)
-    go Killed e = ap is_there (here ∙ e)
-    go Kept e = ap is_there (here ∙ e)
     go Out e = absurd (out_never e (slice_get (pairs cell.block (log_of cell)) n) refl)
+    go other e = ap is_there (here ∙ e)
 
   -- a part that has died and that no living snapshot holds
   no_longer : (d : Record) → IsRecordOf living cell.block (log_of cell) d → holder_of living d ≡ None
@@ -187,13 +181,12 @@ parts_are now cell (k ∷ parts) is tail all = (one all.0, parts_are now cell pa
 
 -- ---- a world
 
-module _ (g : GeometryNumbers) (w : World) (known : IsReached w) (numbers : AreNumbers g w) (rs : List Record) (m : AreMarked w rs)
-    (are : AreBefore w.shared.book.snaps) where
-  there : (actor : ℕ) (r : Running) → (actor_at w actor).running ≡ Some r → actor < length w.actors
-  there actor r is = elim (cases_lt actor (length w.actors)) [
-    | inl low ↦ low
-    | inr past ↦ absurd (none-some r (sym (ap (λ (x : Actor). x.running) (get_or_past w.actors actor idle past)) ∙ is))
-  ]
+module _ (g : GeometryNumbers) (w : World) (known : IsKnown g w) (are : AreBefore w.shared.book.snaps) where
+  abbrev rs : List Record
+  rs = known.rs
+
+  abbrev m : AreMarked w known.rs
+  m = known.marked
 
   abbrev now : ℕ
   now = w.shared.book.snaps.epoch
@@ -207,11 +200,11 @@ module _ (g : GeometryNumbers) (w : World) (known : IsReached w) (numbers : AreN
       let written = written_slots r in
       let slot = slot_at written place in
       let cell = cell_at s slot in
-      let b : Before actor s (Retire place) r = subst (λ (n : Next). Before actor s n r) next (before w actor r known.locks is) in
+      let b : Before actor s (Retire place) r = subst (λ (n : Next). Before actor s n r) next (before w actor r known.reached.locks is) in
       let inside : place < length written = b.inside in
-      let hand : HandOf g h (Some r) = subst (λ (o : Option Running). HandOf g h o) is (numbers.hands actor) in
+      let hand : HandOf g h (Some r) = subst (λ (o : Option Running). HandOf g h o) is (known.numbers.hands actor) in
       let many : length h.killed + place ≡ length written = subst (λ (n : Next). HandAt g n h r) next hand.0 in
-      let by : HasGrownBy (Some r) s actor = subst (λ (o : Option Running). HasGrownBy o s actor) is (known.grown.each actor) in
+      let by : HasGrownBy (Some r) s actor = subst (λ (o : Option Running). HasGrownBy o s actor) is (known.reached.grown.each actor) in
       let grown : HasGrown (Retire place) s actor r = subst (λ (n : Next). HasGrown n s actor r) next by in
       let tail = grown.tails slot (lent_cell (Retire place) (length s.lists) actor s r b slot refl) refl in
       let same : killed_by_actor slot (actor_at w actor) ≡ first_killed h.killed =
@@ -219,9 +212,9 @@ module _ (g : GeometryNumbers) (w : World) (known : IsReached w) (numbers : AreN
       ∙ ap (λ (n : Next). parts_for (killed_slots n written) h.killed slot) next
       ∙ ap (λ (l : List ℕ). parts_for l h.killed slot) (slots_from place written inside)
       ∙ first_for slot (drop (place + 1) written) h.killed (omega (arith, many, inside)) in
-      parts_are now cell (first_killed h.killed) (known.order.logs slot).ordered tail
+      parts_are now cell (first_killed h.killed) (known.reached.order.logs slot).ordered tail
       (subst (AllByRecursion (IsDying now cell.block (log_of cell))) same
-      (all_of (IsDying now cell.block (log_of cell)) (killed_by_actor slot) w.actors actor (there actor r is) (m.cells slot).dying))
+      (all_of (IsDying now cell.block (log_of cell)) (killed_by_actor slot) w.actors actor (runs_inside w actor r is) (m.cells slot).dying))
 
   module _ (epoch : ℕ) (lives : Contains (ids w.shared.book.snaps) epoch) where
     lt : epoch < now
@@ -234,30 +227,23 @@ module _ (g : GeometryNumbers) (w : World) (known : IsReached w) (numbers : AreN
         let cell = cell_at w.shared d.ino in
         let its : picked_by_actor (actor_at w actor) ≡ d ∷ [] = ap picked_by_call is ∙ ap picked_at next in
         let told = subst (AllByRecursion (IsTold (ids w.shared.book.snaps) d.ino cell.block (log_of cell))) its
-        (all_of (IsTold (ids w.shared.book.snaps) d.ino cell.block (log_of cell)) picked_by_actor w.actors actor (there actor r is)
+        (all_of (IsTold (ids w.shared.book.snaps) d.ino cell.block (log_of cell)) picked_by_actor w.actors actor (runs_inside w actor r is)
         (all_back (IsTold (ids w.shared.book.snaps) d.ino cell.block (log_of cell)) rs (picked_in w) (m.cells d.ino).told)) in
         let none = subst (AllByRecursion (λ x. holder_of (ids w.shared.book.snaps) x ≡ None)) its
-        (all_of (λ x. holder_of (ids w.shared.book.snaps) x ≡ None) picked_by_actor w.actors actor (there actor r is) m.unheld) in
+        (all_of (λ x. holder_of (ids w.shared.book.snaps) x ≡ None) picked_by_actor w.actors actor (runs_inside w actor r is) m.unheld) in
         no_longer (ids w.shared.book.snaps) d.ino now (killed_in w d.ino) (rs ++ picked_in w) cell (m.cells d.ino) (m.fresh d.ino)
-        (known.order.logs d.ino).ordered epoch lives lt d (told.0 refl) none.0
+        (known.reached.order.logs d.ino).ordered epoch lives lt d (told.0 refl) none.0
 
     goes_at : (actor : ℕ) (r : Running) → (actor_at w actor).running ≡ Some r → (k : Next) → r.next ≡ k
         → GoesOut epoch k w.shared (actor_at w actor).hand r
     goes_at actor r is (Retire place) next = retired_parts actor place r is next
     goes_at actor r is (Snapshots (Release draining d)) next = released_part actor r draining d is next
-    goes_at actor r is (Snapshots Make) next = tt
-    goes_at actor r is (Snapshots (Drop snapshot)) next = tt
-    goes_at actor r is (Snapshots (Pin snapshot)) next = tt
-    goes_at actor r is (Snapshots (Show snapshot showing)) next = tt
-    goes_at actor r is (Snapshots (Unpin snapshot seen)) next = tt
-    goes_at actor r is (Snapshots (Pick draining)) next = tt
-    goes_at actor r is (Snapshots (LockPicked draining picked)) next = tt
     goes_at actor r is k next = tt
 
     held_at : (ino : ℕ) → IsHeldAt epoch (cell_at w.shared ino)
     held_at ino =
         marks_hold (ids w.shared.book.snaps) ino now (killed_in w ino) (rs ++ picked_in w) (cell_at w.shared ino) (m.cells ino)
-        (m.fresh ino) (known.order.logs ino).ordered epoch lives lt
+        (m.fresh ino) (known.reached.order.logs ino).ordered epoch lives lt
 
   pub have_marks : HaveMarks w
   have_marks = record {
@@ -268,5 +254,4 @@ module _ (g : GeometryNumbers) (w : World) (known : IsReached w) (numbers : AreN
 pub all_have_marks : (g : GeometryNumbers) (start : World) (records : List Record) → IsStart g start records
     → (events : List Event) → HaveMarks (after start events)
 all_have_marks g start records is_start events =
-    have_marks g (after start events) (reached g start records events is_start) (all_numbers g start records events is_start)
-    (records_after start events records) (all_marked g start records events is_start) (in_step g start records events is_start).before
+    have_marks g (after start events) (all_known g start records is_start events) (in_step g start records events is_start).before

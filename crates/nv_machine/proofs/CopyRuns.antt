@@ -1,35 +1,37 @@
 -- The copies of the living snapshots stay, whatever event comes.
-use Rattle.std.proofs.Common.{◌≡◌, ℕ, ◌<◌, ◌==◌, ◌++◌, ◌∙◌, Bool, true, false, List, if◌then◌else◌, inl, inr, length, nat_lt, Option, Some, None, ap, arith, refl, subst, sym}
+use Rattle.std.proofs.Common.{◌≡◌, ℕ, ◌<◌, ◌==◌, ◌++◌, ◌∙◌, Bool, true, false, List, if◌then◌else◌, inl, inr, length, Option, Some, None, ap, arith, refl, subst, sym}
 use Rattle.std.specs.List.{Contains}
-use Rattle.std.proofs.lemmas.Bool.{cases_lt, ltb-true, true≢false}
+use Rattle.std.proofs.lemmas.Bool.{cases_lt, true≢false}
 use Rattle.std.proofs.lemmas.List.{append-nil, get_or_past}
 use Rattle.nv_alloc.specs.Numbers.{has}
 use Rattle.nv_base.specs.declared.geometry.GeometryNumbers.{GeometryNumbers}
 use Rattle.nv_base.specs.declared.numbers.Handle.{Handle}
-use Rattle.nv_calls.specs.declared.call.Call.{Call}
 use Rattle.nv_cell.specs.Cell.{CellState}
 use Rattle.nv_entry.specs.Log.{up_to}
 use Rattle.nv_entry.specs.Node.{node_now}
 use Rattle.nv_entry.specs.declared.item.Entry.{Entry}
 use Rattle.nv_entry.specs.declared.node.NodeCopy.{NodeCopy}
 use Rattle.nv_epoch.specs.SnapList.{ids}
+use Rattle.nv_machine.specs.Frame.{lent}
 use Rattle.nv_machine.specs.Grown.{HasGrown, HasGrownBy, fresh_entries, is_appended}
 use Rattle.nv_machine.specs.Locks.{commits_at, held_by, is_owner}
 use Rattle.nv_machine.specs.Order.{CommitsIn}
 use Rattle.nv_machine.specs.Reached.{IsReached}
 use Rattle.nv_machine.specs.Reads.{bytes_among, written_slots}
 use Rattle.nv_machine.specs.Settled.{settled, settled_copies}
-use Rattle.nv_machine.specs.Step.{go_step, start_step, step, turn, turned}
+use Rattle.nv_machine.specs.Step.{step}
 use Rattle.nv_machine.specs.Whole.{HaveTheirParts}
-use Rattle.nv_machine.specs.World.{Append, Close, Ends, Event, Go, HandState, Moves, Next, Open, Publish, Running, Shared, Start, Turn, Waits, World, actor_at, cell_at, no_cell, owner_at}
-use Rattle.nv_machine.proofs.CopySteps.{GoesOut, Stands, StepsTo, deed_steps, entries_later, same_cell}
+use Rattle.nv_machine.specs.World.{Append, Close, Event, HandState, Next, Open, Publish, Running, Shared, World, actor_at, cell_at, no_cell, owner_at}
+use Rattle.nv_machine.proofs.CopySteps.{GoesOut, Stands, StepsTo, work_steps, entries_later, same_cell}
+use Rattle.nv_machine.proofs.OverEvents.{event_by, event_shared, turn_at}
 use Rattle.nv_machine.proofs.EpochLogs.{IsHeldAt, copies_same, copy_at, log_at}
-use Rattle.nv_machine.proofs.Events.{goes, starts}
-use Rattle.nv_machine.proofs.Kept.{AfterTurn, turn_keeps}
+use Rattle.nv_machine.proofs.SingleEvents.{turned_frame}
+use Rattle.nv_machine.proofs.StepFrames.{framed}
+use Rattle.nv_machine.proofs.WorkKeeps.{turn_keeps}
 use Rattle.nv_epoch.proofs.Pins.{pins_at-lives}
 use Rattle.nv_machine.proofs.Lists.{self}
-use Rattle.nv_machine.proofs.Locks.{before}
-use Rattle.nv_machine.proofs.SnapsAlike.{AreBefore}
+use Rattle.nv_machine.proofs.LocksOverEvents.{before}
+use Rattle.nv_machine.proofs.SnapshotCopies.{AreBefore}
 
 -- ---- what is known of a world
 
@@ -126,41 +128,17 @@ module _ (g : GeometryNumbers) (w : World) (known : IsReadable g w) (epoch : ℕ
   all_same : All w.shared
   all_same ino = same_cell epoch (cell_at w.shared ino)
 
-  turned_steps : (t : Turn) (actor : ℕ) → AfterTurn (λ (u : Shared) (h : HandState). All u) t → All (turned t actor w).world.shared
-  turned_steps (Moves s h r) actor on = on
-  turned_steps Waits actor on = all_same
-  turned_steps (Ends result s h) actor on = on
-
-  go_steps : (b : Bool) (running : Option Running) (actor : ℕ) (granted : Bool) → (actor_at w actor).running ≡ running
-      → All (go_step b running actor granted w).world.shared
-  go_steps false running actor granted is = all_same
-  go_steps true None actor granted is = all_same
-  go_steps true (Some r) actor granted is =
-      let s = w.shared in
-      let h = (actor_at w actor).hand in
-      let block = w.numbers.block in
-      turned_steps (turn block actor granted s h r) actor
-      (turn_keeps (λ (t : Shared) (x : HandState). All t) r.next block actor granted s h r all_same
-      (deed_steps epoch block actor s h r r.next (stands actor r is)))
-
-  start_steps : (b : Bool) (running : Option Running) (actor : ℕ) (c : Call) → All (start_step b running actor c w).world.shared
-  start_steps false running actor c = all_same
-  start_steps true (Some r) actor c = all_same
-  start_steps true None actor c = all_same
-
   event_steps : (e : Event) → All (step w e).world.shared
-  event_steps (Start actor c) = start_steps (nat_lt actor (length w.actors)) (actor_at w actor).running actor c
-  event_steps (Go actor granted) = go_steps (nat_lt actor (length w.actors)) (actor_at w actor).running actor granted refl
+  event_steps e = event_shared All w all_same e (λ actor granted r there is.
+      let h = (actor_at w actor).hand in
+      turn_keeps (λ (t : Shared) (x : HandState). All t) r.next w.numbers.block actor granted w.shared h r all_same
+      (work_steps epoch w.numbers.block actor w.shared h r r.next (stands actor r is)))
 
 -- no cell comes or goes
 pub cells_stay : (w : World) (e : Event) → length (step w e).world.shared.cells ≡ length w.shared.cells
-cells_stay w (Start actor c) = ap (λ (s : Shared). length s.cells) (starts w actor c).shared
-cells_stay w (Go actor granted) = go (nat_lt actor (length w.actors)) refl (actor_at w actor).running refl where
-  go : (b : Bool) → nat_lt actor (length w.actors) ≡ b → (running : Option Running) → (actor_at w actor).running ≡ running
-      → length (step w (Go actor granted)).world.shared.cells ≡ length w.shared.cells
-  go true there (Some r) is = (goes w actor granted r (ltb-true actor (length w.actors) there) is).frame.slots
-  go true there None is = rw there (rw is refl)
-  go false there running is = rw there refl
+cells_stay w e = event_by (λ (v : World). length v.shared.cells ≡ length w.shared.cells) w refl e (λ actor c there is. refl)
+    (λ actor granted r there is. (turned_frame (lent r.next (length w.shared.lists) actor r) (turn_at w actor granted r) actor w
+    (framed r.next w.numbers.block actor granted w.shared (actor_at w actor).hand r)).slots)
 
 module _ (g : GeometryNumbers) (w v : World) (a : IsReadable g w) (b : IsReadable g v) (epoch : ℕ)
     (old : Contains (ids w.shared.book.snaps) epoch) (new : Contains (ids v.shared.book.snaps) epoch)

@@ -1,15 +1,14 @@
 -- What becomes of the copies at the end of an earlier epoch at every kind of step: each cell keeps its own, or had
 -- none and is emptied.
-use Rattle.std.proofs.Common.{◌≡◌, ◌⊎◌, ℕ, ◌+◌, ◌<◌, ◌++◌, ◌∙◌, Bool, true, false, List, [], ◌∷◌, if◌then◌else◌, inl, inr, length, Option, Some, None, ap, refl, set, subst, sym, take}
+use Rattle.std.proofs.Common.{◌≡◌, ◌⊎◌, ℕ, ◌+◌, ◌<◌, ◌++◌, ◌∙◌, Bool, true, false, List, [], ◌∷◌, if◌then◌else◌, inl, inr, length, Option, Some, None, ap, refl, subst, sym, take}
 use Rattle.std.specs.List.{Contains}
 use Rattle.std.specs.Prelude.{slice_index_or}
-use Rattle.std.proofs.lemmas.Bool.{and_parts}
+use Rattle.std.proofs.lemmas.Bool.{and_parts, false≢true}
 use Rattle.std.proofs.lemmas.Option.{same_Some}
 use Rattle.nv_alloc.specs.Block.{BlockValue}
-use Rattle.nv_book.specs.declared.record.Record.{Record}
-use Rattle.nv_calls.specs.Retiring.{erased, is_erased, keeper_of, name_of, released, retired, retired_one, settled as settled_part}
+use Rattle.nv_calls.specs.Retiring.{erased, is_erased, keeper_of, name_of, retired, retired_one, settled as settled_part}
 use Rattle.nv_calls.specs.Slots.{entries_of}
-use Rattle.nv_cell.specs.Cell.{CellState, empty_cell, log_of, number_in, published}
+use Rattle.nv_cell.specs.Cell.{CellState, empty_cell, log_of, number_in}
 use Rattle.nv_cell.specs.Readers.{is_gone, keeps_nothing}
 use Rattle.nv_cell.specs.declared.killed.KilledPart.{KilledPart}
 use Rattle.nv_cell.specs.declared.mark.Mark.TheVariants.{Kept, Out}
@@ -24,20 +23,19 @@ use Rattle.nv_entry.specs.Log.{IsLog, up_to, value_now}
 use Rattle.nv_entry.specs.declared.item.Entry.{Entry}
 use Rattle.nv_epoch.specs.SnapList.{ids}
 use Rattle.nv_log.specs.Chain.{ChainState}
-use Rattle.nv_machine.specs.Grown.{HasGrown}
-use Rattle.nv_machine.specs.Kinds.{entries_for, first_killed, retired_cell, with_entries, with_pages}
+use Rattle.nv_machine.specs.Grown.{HasGrown, is_behind}
+use Rattle.nv_machine.specs.Kinds.{entries_for, first_killed, with_entries, with_pages}
 use Rattle.nv_machine.specs.Locks.{commits_at}
 use Rattle.nv_machine.specs.Reads.{pages_needed, slot_at, written_slots}
-use Rattle.nv_machine.specs.World.{Append, Back, Check, Close, Draining, Drop, Enter, Give, HandState, Leave, Lock, LockPicked, Look, Make, Next, Number, Open, Pick, Pin, Publish, Ready, Release, Retire, Running, Shared, Show, SnapshotStep, Snapshots, TakeBlocks, TakePages, Unlock, Unpin, Visit, cell_at, no_cell}
+use Rattle.nv_machine.specs.World.{Append, cell_at, HandState, Next, Open, Publish, Release, Retire, Running, Shared, Snapshots}
 use Rattle.nv_machine.proofs.CellSteps.{slot_set}
-use Rattle.nv_machine.proofs.Entered.{entries_more, pages_keep}
+use Rattle.nv_machine.proofs.AppendsToCome.{entries_more, pages_keep}
 use Rattle.nv_machine.proofs.EpochLogs.{HaveSameBlocks, IsHeldAt, copy_at, log_at, none_at, nothing_kept}
 use Rattle.nv_machine.proofs.EpochSteps.{AreParts, out_held, retired_held}
 use Rattle.nv_machine.proofs.FitsCells.{append_wider}
-use Rattle.nv_machine.proofs.Kept.{back_deed, deed, number_deed}
-use Rattle.nv_machine.proofs.Locked.{Before, lent_cell}
-use Rattle.nv_machine.proofs.LogsKept.{cell_set}
-use Rattle.nv_machine.proofs.Numbered.{lent_inside}
+use Rattle.nv_machine.proofs.StepWork.{work}
+use Rattle.nv_machine.proofs.LocksHeld.{Before}
+use Rattle.nv_machine.proofs.CellChanges.{cells_after, is_removal, lent_inside_own, lent_removal, removal}
 
 -- ---- one cell
 
@@ -181,92 +179,43 @@ module _ (epoch block a : ℕ) (s : Shared) (h : HandState) (r : Running) where
       let es = (cell_at s ino).chain.entries in
       st.marks ino low ∙ ap (λ (n : ℕ). part_total (take n es)) tail ∙ ap part_total (take_whole es)
 
-  set_steps : (slot : ℕ) (cell : CellState) → slot < length s.cells → StepsTo epoch (cell_at s slot) cell → (ino : ℕ)
-      → StepsTo epoch (cell_at s ino) (slice_index_or (set s.cells slot cell) ino no_cell)
-  set_steps slot cell low to ino =
-      cell_set s slot cell ino (StepsTo epoch (cell_at s ino)) low
-      (λ e. subst (λ (n : ℕ). StepsTo epoch (cell_at s n) cell) e to) (λ ne. same_cell epoch (cell_at s ino))
+  -- a removal has published what it appended
+  none_behind : (k : Next) (written : List ℕ) (ino : ℕ) → is_removal k ≡ true → is_behind k written ino ≡ false
+  none_behind (Append place) written ino is = absurd (false≢true is)
+  none_behind Open written ino is = absurd (false≢true is)
+  none_behind (Publish place) written ino is = absurd (false≢true is)
+  none_behind other written ino is = refl
 
-  append_steps : (place : ℕ) → Stands epoch (Append place) a s h r → (ino : ℕ)
-      → StepsTo epoch (cell_at s ino) (cell_at (deed (Append place) block a s h r).shared ino)
-  append_steps place st =
+  -- what a removal leaves holds what a snapshot holds
+  removal_held : (k : Next) → Stands epoch k a s h r → is_removal k ≡ true → let x = removal k s h r in
+      Fewer (cell_at s x.slot) x.cell × IsHeldAt epoch x.cell
+  removal_held (Retire place) st is =
       let slot = slot_at (written_slots r) place in
-      let pages = take (pages_needed s r.plan slot) h.pages in
-      set_steps slot (with_entries (entries_for r slot) h.blocks (with_pages pages (cell_at s slot)))
-      (lent_inside (Append place) a s r st.before slot refl)
-      (inl (append_continues epoch (entries_for r slot) h.blocks pages (cell_at s slot)
-      (entries_later epoch r slot (cell_at s slot).chain.entries (st.later refl))))
+      let living = ids s.book.snaps in
+      let parts = first_killed h.killed in (
+        retired_fewer living slot r.epoch parts (cell_at s slot),
+        retired_held living epoch slot r.epoch parts (cell_at s slot) st.lives (st.later refl) (st.logs slot) st.goes (st.held slot),
+      )
+  removal_held (Snapshots (Release draining picked)) st is =
+      let cell = cell_at s picked.ino in
+      let k = number_in cell (name_of picked) in (one_fewer None k cell, out_held epoch k cell st.goes (st.held picked.ino))
+  removal_held other st is = absurd (false≢true is)
 
-  publish_steps : (place : ℕ) → Stands epoch (Publish place) a s h r → (ino : ℕ)
-      → StepsTo epoch (cell_at s ino) (cell_at (deed (Publish place) block a s h r).shared ino)
-  publish_steps place st =
-      let slot = slot_at (written_slots r) place in
-      set_steps slot (published (cell_at s slot)) (lent_inside (Publish place) a s r st.before slot refl)
-      (inl (record { block = refl; generation = refl; log = refl; same = λ n x y e f. same_Some x y (sym e ∙ f) }))
-
-  retire_steps : (place : ℕ) → Stands epoch (Retire place) a s h r → (ino : ℕ)
-      → StepsTo epoch (cell_at s ino) (cell_at (deed (Retire place) block a s h r).shared ino)
-  retire_steps place st =
-      let slot = slot_at (written_slots r) place in
-      let cell = cell_at s slot in
-      let parts = first_killed h.killed in
-      let low = lent_inside (Retire place) a s r st.before slot refl in
-      let tail = st.grown.tails slot (lent_cell (Retire place) (length s.lists) a s r st.before slot refl) refl in
-      set_steps slot (erased (retired_cell slot parts s r)) low
-      (erased_steps epoch cell (retired_cell slot parts s r) (retired_fewer (ids s.book.snaps) slot r.epoch parts cell) (st.logs slot)
-      (all_marks (Retire place) st slot low tail)
-      (retired_held (ids s.book.snaps) epoch slot r.epoch parts cell st.lives (st.later refl) (st.logs slot) st.goes (st.held slot)))
-
-  release_steps : (draining : Draining) (picked : Record) → Stands epoch (Snapshots (Release draining picked)) a s h r → (ino : ℕ)
-      → StepsTo epoch (cell_at s ino) (cell_at (deed (Snapshots (Release draining picked)) block a s h r).shared ino)
-  release_steps draining picked st =
-      let k : Next = Snapshots (Release draining picked) in
-      let slot = picked.ino in
-      let cell = cell_at s slot in
-      let low = lent_inside k a s r st.before slot refl in
-      let tail = st.grown.tails slot (lent_cell k (length s.lists) a s r st.before slot refl) refl in
-      set_steps slot (erased (released picked cell)) low
-      (erased_steps epoch cell (released picked cell) (one_fewer None (number_in cell (name_of picked)) cell) (st.logs slot)
-      (all_marks k st slot low tail)
-      (out_held epoch (number_in cell (name_of picked)) cell st.goes (st.held slot)))
-
-  number_steps : (numbers : List ℕ) (ino : ℕ) → StepsTo epoch (cell_at s ino) (cell_at (number_deed numbers s h).shared ino)
-  number_steps [] ino = same_cell epoch (cell_at s ino)
-  number_steps (n ∷ numbers) ino = same_cell epoch (cell_at s ino)
-
-  back_steps : (number : Option ℕ) (ino : ℕ) → StepsTo epoch (cell_at s ino) (cell_at (back_deed number s h).shared ino)
-  back_steps None ino = same_cell epoch (cell_at s ino)
-  back_steps (Some n) ino = same_cell epoch (cell_at s ino)
-
-  snapshot_steps : (step : SnapshotStep) → Stands epoch (Snapshots step) a s h r → (ino : ℕ)
-      → StepsTo epoch (cell_at s ino) (cell_at (deed (Snapshots step) block a s h r).shared ino)
-  snapshot_steps (Release draining picked) st ino = release_steps draining picked st ino
-  snapshot_steps Make st ino = same_cell epoch (cell_at s ino)
-  snapshot_steps (Drop snapshot) st ino = same_cell epoch (cell_at s ino)
-  snapshot_steps (Pin snapshot) st ino = same_cell epoch (cell_at s ino)
-  snapshot_steps (Show snapshot showing) st ino = same_cell epoch (cell_at s ino)
-  snapshot_steps (Unpin snapshot seen) st ino = same_cell epoch (cell_at s ino)
-  snapshot_steps (Pick draining) st ino = same_cell epoch (cell_at s ino)
-  snapshot_steps (LockPicked draining picked) st ino = same_cell epoch (cell_at s ino)
-
-  pub deed_steps : (k : Next) → Stands epoch k a s h r → (ino : ℕ)
-      → StepsTo epoch (cell_at s ino) (cell_at (deed k block a s h r).shared ino)
-  deed_steps Number st ino = number_steps s.pool.numbers ino
-  deed_steps (Look place) st ino = same_cell epoch (cell_at s ino)
-  deed_steps (Lock place) st ino = same_cell epoch (cell_at s ino)
-  deed_steps Check st ino = same_cell epoch (cell_at s ino)
-  deed_steps (TakeBlocks asked) st ino = same_cell epoch (cell_at s ino)
-  deed_steps (TakePages asked) st ino = same_cell epoch (cell_at s ino)
-  deed_steps Ready st ino = same_cell epoch (cell_at s ino)
-  deed_steps Enter st ino = same_cell epoch (cell_at s ino)
-  deed_steps (Append place) st ino = append_steps place st ino
-  deed_steps Open st ino = same_cell epoch (cell_at s ino)
-  deed_steps (Publish place) st ino = publish_steps place st ino
-  deed_steps Close st ino = same_cell epoch (cell_at s ino)
-  deed_steps (Retire place) st ino = retire_steps place st ino
-  deed_steps Leave st ino = same_cell epoch (cell_at s ino)
-  deed_steps (Unlock place) st ino = same_cell epoch (cell_at s ino)
-  deed_steps (Give cpu) st ino = same_cell epoch (cell_at s ino)
-  deed_steps Back st ino = back_steps h.ino ino
-  deed_steps Visit st ino = same_cell epoch (cell_at s ino)
-  deed_steps (Snapshots step) st ino = snapshot_steps step st ino
+  pub work_steps : (k : Next) → Stands epoch k a s h r → (ino : ℕ)
+      → StepsTo epoch (cell_at s ino) (cell_at (work k block a s h r).shared ino)
+  work_steps k st =
+      cells_after (λ (ino : ℕ). StepsTo epoch (cell_at s ino)) block a s h r (λ ino. same_cell epoch (cell_at s ino)) k st.before
+      (record {
+        appends = λ place is inside low.
+            let slot = slot_at (written_slots r) place in
+            inl (append_continues epoch (entries_for r slot) h.blocks (take (pages_needed s r.plan slot) h.pages) (cell_at s slot)
+            (entries_later epoch r slot (cell_at s slot).chain.entries (st.later (ap commits_at is))));
+        publishes = λ place is inside low.
+            inl (record { block = refl; generation = refl; log = refl; same = λ n x y e f. same_Some x y (sym e ∙ f) });
+        removes = λ is low left.
+            let x = removal k s h r in
+            let held = removal_held k st is in
+            let own = (lent_inside_own k a s r st.before x.slot (lent_removal k (length s.lists) a s h r is)).1 in
+            let tail = st.grown.tails x.slot own (none_behind k (written_slots r) x.slot is) in
+            erased_steps epoch (cell_at s x.slot) x.cell held.0 (st.logs x.slot) (all_marks k st x.slot low tail) held.1;
+      })

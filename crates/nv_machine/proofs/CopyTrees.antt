@@ -15,7 +15,6 @@ use Rattle.nv_entry.specs.declared.tree.TreeNode.{TreeNode}
 use Rattle.nv_epoch.specs.SnapList.{ids, numbers}
 use Rattle.nv_epoch.specs.declared.snapshot.Snapshot.{Snapshot}
 use Rattle.nv_machine.proofs.CopiesAll.{all_copied}
-use Rattle.nv_machine.proofs.CopyMarks.{all_have_marks}
 use Rattle.nv_machine.proofs.FitsPlain.{plain_nodes}
 use Rattle.nv_machine.specs.PlainRun.{Copy, is_of, plain_after, plain_of}
 use Rattle.nv_machine.specs.Reading.{AreCopied, IsCopied, copied_tree, plain_tree}
@@ -62,5 +61,5 @@ trees_are_copied g start records events snapshot is_start lives =
     let w = after start events in
     copy_reads w.shared (length w.shared.cells) snapshot w.shared.book.snaps.living
     (plain_after start events (plain_of start)).copies lives.0
-    (all_copied g start records is_start (all_have_marks g start records is_start) events)
+    (all_copied g start records is_start events)
     lives.1 lives.2

@@ -2,14 +2,14 @@
 use Rattle.std.proofs.Common.{◌≡◌, ◌≢◌, ◌⊎◌, inl, inr, ℕ, Bool, true, false, cond, if◌then◌else◌, List, [], ◌∷◌, filter, Option, Some, None, arith, refl, ap, sym, subst, ◌∙◌}
 use Rattle.std.proofs.Math.Path.{fun_ext}
 use Rattle.std.specs.List.{Contains}
-use Rattle.std.specs.Prelude.{option_map, is_some, Ok, Err}
+use Rattle.std.specs.Prelude.{is_some, Ok, Err}
 use Rattle.nv_base.specs.Names.{same_name}
 use Rattle.nv_base.specs.declared.fault.Fault.TheVariants as fault
 use Rattle.nv_base.specs.declared.node.Kind.{Kind}
 use Rattle.nv_base.specs.declared.node.Kind.TheVariants.{File, Dir}
 use Rattle.nv_base.specs.declared.numbers.Handle.{Handle}
 use Rattle.nv_calls.proofs.Passed.{HasKind, directory_passed, if_passed, lawful_passed}
-use Rattle.nv_calls.specs.Plain.{Change, PlainNode, begins, change, goes, node_in, nodes_after, same_handle, stamped, with_names}
+use Rattle.nv_calls.specs.Plain.{Change, PlainNode, begins, change, goes, node_in, nodes_after, same_handle, with_names}
 use Rattle.nv_calls.specs.Refusals.{Check, and_find, found, found_by, is_directory, kind_of, lookup, passes}
 use Rattle.nv_calls.specs.calls.Create.{begin_effect, create_refusal}
 use Rattle.nv_calls.specs.calls.Unlink.{leave_effect}
@@ -17,6 +17,7 @@ use Rattle.nv_entry.specs.Index.{bound_to, with_last, without}
 use Rattle.nv_entry.specs.Tree.{names_under}
 use Rattle.nv_entry.specs.declared.names.BoundName.{BoundName}
 use Rattle.nv_entry.specs.declared.node.NodeCopy.{NodeCopy}
+use Rattle.nv_machine.proofs.CopyMade.{unstamped}
 use Rattle.nv_machine.proofs.DirectoriesBegun.{KeepsNames, stays_begun, stays_named}
 use Rattle.nv_machine.proofs.DirectoriesChanged.{changed_at, changed_elsewhere, changed_here, found_in, other_handle, stays_left}
 use Rattle.nv_machine.proofs.DirectoriesStay.{same_or, same_self}
@@ -27,10 +28,6 @@ use Rattle.nv_machine.specs.Directories.{AreTree, HasName, HaveOneName}
 abbrev pub changed_by : List Change → (Handle → Option NodeCopy) → Handle → Option NodeCopy
 changed_by [] nodes handle = nodes handle
 changed_by (c ∷ rest) nodes handle = if same_handle c.handle handle then c.becomes (nodes handle) else changed_by rest nodes handle
-
-unstamped : (commit : ℕ) (node : Option NodeCopy) → option_map (λ (p : PlainNode). p.node) (stamped commit node) ≡ node
-unstamped commit None = refl
-unstamped commit (Some n) = refl
 
 pub changed_nodes : (commit : ℕ) (changes : List Change) (nodes : Handle → Option PlainNode) (handle : Handle)
     → node_in (nodes_after commit changes nodes) handle ≡ changed_by changes (node_in nodes) handle

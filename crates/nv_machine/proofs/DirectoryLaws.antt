@@ -2,7 +2,7 @@
 use Rattle.nv_book.specs.declared.record.Record.{Record}
 use Rattle.std.proofs.Common.{◌≡◌, ℕ, if◌then◌else◌, ◌<◌, Bool, true, false, not, ◌&&◌, ◌||◌, cond, nat_lt, List, [], ◌∷◌, length, get_or, Option, Some, None, IsSome, arith, refl, ap, sym, subst, ◌∙◌}
 use Rattle.std.proofs.Math.Path.{fun_ext}
-use Rattle.std.proofs.lemmas.Bool.{ltb-false, ltb-true, true≢false}
+use Rattle.std.proofs.lemmas.Bool.{ltb-false}
 use Rattle.std.proofs.lemmas.List.Elements.{Contains-get_or}
 use Rattle.std.specs.Prelude.{option_map}
 use Rattle.nv_base.specs.Limits.{IsWithinLimits}
@@ -32,22 +32,23 @@ use Rattle.nv_machine.proofs.DirectoriesKept.{begin_kept, changed_by, changed_no
 use Rattle.nv_machine.proofs.DirectoriesMoved.{CanMove, moves, other_effect, other_replaced, replaces, same_effect, same_replaced}
 use Rattle.nv_machine.proofs.DirectoriesStay.{same_self}
 use Rattle.nv_machine.proofs.FitsCalls.{handles_same}
-use Rattle.nv_machine.proofs.Effects.{point_effect}
-use Rattle.nv_machine.proofs.FitsEvents.{AreFit, IsKnown, all_known, commits_if, event_fits, fits_now, first_fit, passes_now}
-use Rattle.nv_machine.proofs.Fresh.{no_node}
-use Rattle.nv_machine.proofs.KeptRuns.{nodes_stay}
+use Rattle.nv_machine.proofs.CommitEffects.{point_effect}
+use Rattle.nv_machine.proofs.OverEvents.{by_points, events_by}
+use Rattle.nv_machine.proofs.FitsEvents.{IsKnown, all_known, fits_now, passes_now}
+use Rattle.nv_machine.proofs.NewHandles.{no_node}
+use Rattle.nv_machine.proofs.LogsKeptRuns.{nodes_stay}
 use Rattle.nv_machine.proofs.PlainStart.{plain_start}
 use Rattle.nv_machine.proofs.TreeNumbers.{settled_by_numbers}
 use Rattle.nv_machine.specs.Directories.{AreTree, HasName, HaveOneName}
 use Rattle.nv_machine.specs.FitsNow.{bytes_in}
 use Rattle.nv_machine.specs.Format.{formatted}
 use Rattle.nv_machine.specs.Hands.{makes_inode}
-use Rattle.nv_machine.specs.PlainRun.{Commits, deed_by, deed_of, keeps_nodes, root_alone}
+use Rattle.nv_machine.specs.PlainRun.{Commits, deed_of, keeps_nodes, root_alone}
 use Rattle.nv_machine.specs.Sequence.{beginning}
 use Rattle.nv_machine.specs.Settled.{settled_nodes}
 use Rattle.nv_machine.specs.Starts.{IsStart}
 use Rattle.nv_machine.specs.Step.{after, step}
-use Rattle.nv_machine.specs.World.{Event, Go, Running, Start, World, actor_at}
+use Rattle.nv_machine.specs.World.{Event, Go, Running, World, actor_at}
 
 -- ---- nodes that keep their names
 
@@ -202,29 +203,24 @@ module _ (block : ℕ) (nodes : Handle → Option NodeCopy) (tree : AreTree node
       → AreTree (changed_by (effect nodes made c) nodes)
   call_kept made (call.Create dir name mode) passed new = begin_kept nodes tree dir name File mode made passed (new refl)
   call_kept made (call.Mkdir dir name mode) passed new = begin_kept nodes tree dir name Dir mode made passed (new refl)
-  call_kept made (call.Write file offset []) passed new = tree
   call_kept made (call.Write file offset (byte ∷ rest)) passed new = one_kept nodes tree file
       (option_map (rewritten offset (byte ∷ rest))) (texts_keep offset (byte ∷ rest))
-  call_kept made (call.Read file offset count) passed new = tree
   call_kept made (call.Size file size) passed new = one_kept nodes tree file (option_map (resized_node size)) (sizes_keep size)
   call_kept made (call.Mode handle mode) passed new = one_kept nodes tree handle (with_mode mode) (modes_keep mode)
-  call_kept made (call.Stat handle) passed new = tree
-  call_kept made (call.List dir) passed new = tree
-  call_kept made (call.Lookup dir name) passed new = tree
-  call_kept made (call.Snapshots what) passed new = tree
   call_kept made (call.Unlink dir name) passed new =
       unlink_kept dir name (found nodes dir name) refl (both_passed (lookup_refusal nodes dir name) _ passed).1
   call_kept made (call.Rmdir dir name) passed new =
       rmdir_kept dir name (found nodes dir name) refl (both_passed (lookup_refusal nodes dir name) _ passed).1
   call_kept made (call.Rename from old to new_name) passed new = rename_kept from old to new_name passed
       (own_place from old to new_name) refl
+  call_kept made other passed new = tree
 
 -- ---- every event
 
 abbrev nodes_of : World → Handle → Option NodeCopy
 nodes_of w = node_in (settled_nodes w.shared)
 
-module _ (g : GeometryNumbers) (w : World) (known : IsKnown g w) (fit : AreFit w) (tree : AreTree (nodes_of w)) where
+module _ (g : GeometryNumbers) (w : World) (known : IsKnown g w) (tree : AreTree (nodes_of w)) where
   stays_tree : (e : Event) → keeps_nodes (deed_of w e) ≡ true → AreTree (nodes_of (step w e).world)
   stays_tree e keeps =
       let k = known.reached in
@@ -240,33 +236,12 @@ module _ (g : GeometryNumbers) (w : World) (known : IsKnown g w) (fit : AreFit w
       (sym (fun_ext (changed_nodes r.commit changes nodes))
       ∙ sym (ap (λ (n : Handle → Option PlainNode). node_in n)
       (fun_ext (point_effect (bytes_in w.shared) w actor granted r k.locks k.order k.kept k.grown k.apart there is e
-      (fits_now g w known fit actor granted r is there e)))))
-      (call_kept w.numbers.block (node_in nodes) tree r.made r.call (passes_now g w known fit actor granted r is there e)
-      (λ makes. ap (option_map (λ (p : PlainNode). p.node)) (no_node g w known fit actor granted r there is e makes)))
-
-  go_tree : (b : Bool) (running : Option Running) (actor : ℕ) (granted : Bool) → nat_lt actor (length w.actors) ≡ b
-      → (actor_at w actor).running ≡ running → (d : Bool) → keeps_nodes (deed_of w (Go actor granted)) ≡ d
-      → AreTree (nodes_of (step w (Go actor granted)).world)
-  go_tree b running actor granted there is true keeps = stays_tree (Go actor granted) keeps
-  go_tree true (Some r) actor granted there is false keeps =
-      commit_tree actor granted r (ltb-true actor (length w.actors) there) is (commits_if (deed_of w (Go actor granted)) keeps)
-  go_tree true None actor granted there is false keeps =
-      absurd (true≢false (sym (rw there (ap (λ (o : Option Running). keeps_nodes (deed_by o w actor granted)) is)) ∙ keeps))
-  go_tree false running actor granted there is false keeps = absurd (true≢false (sym (rw there refl) ∙ keeps))
+      (fits_now g w known actor granted r is there e)))))
+      (call_kept w.numbers.block (node_in nodes) tree r.made r.call (passes_now g w known actor granted r is there e)
+      (λ makes. ap (option_map (λ (p : PlainNode). p.node)) (no_node g w known actor granted r there is e makes)))
 
   event_tree : (e : Event) → AreTree (nodes_of (step w e).world)
-  event_tree (Start actor c) = stays_tree (Start actor c) refl
-  event_tree (Go actor granted) =
-      go_tree (nat_lt actor (length w.actors)) (actor_at w actor).running actor granted refl refl
-      (keeps_nodes (deed_of w (Go actor granted))) refl
-
-events_tree : (g : GeometryNumbers) (events : List Event) (w : World) → ((before : List Event) → IsKnown g (after w before))
-    → AreFit w → AreTree (nodes_of w) → AreTree (nodes_of (after w events))
-events_tree g [] w known fit tree = tree
-events_tree g (e ∷ events) w known fit tree =
-    events_tree g events (step w e).world (λ before. known (e ∷ before))
-    (event_fits g w (known []) fit e ((known (e ∷ [])).numbers.numbers ∙ sym (known []).numbers.numbers))
-    (event_tree g w (known []) fit tree e)
+  event_tree = by_points w (λ (e : Event). AreTree (nodes_of (step w e).world)) commit_tree stays_tree
 
 -- ---- a new world
 
@@ -311,7 +286,8 @@ root_tree = record { one_name = one_name; reached = λ handle some. ([], only ha
 pub all_trees : (g : GeometryNumbers) (start : World) (records : List Record) (events : List Event) → IsStart g start records
     → AreTree (node_in (settled_nodes (after start events).shared))
 all_trees g start records events is_start =
-    events_tree g events start (all_known g start records is_start) (first_fit g start records is_start) is_start.tree
+    events_by (IsKnown g) (λ (v : World). AreTree (nodes_of v)) (λ v e known tree. event_tree g v known tree e) events start
+    (all_known g start records is_start) is_start.tree
 
 -- ---- numbers of inodes
 

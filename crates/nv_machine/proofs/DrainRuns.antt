@@ -1,8 +1,8 @@
 -- Whatever events come but drops, what is deferred, and picked and not yet answered for, falls by what
 -- drains are answered.
-use Rattle.std.proofs.Common.{◌≡◌, ◌≢◌, ℕ, suc, ◌+◌, ◌<◌, ◌≤◌, ◌==◌, ◌++◌, ◌∙◌, Bool, true, false, List, [], ◌∷◌, length, nat_lt, Option, Some, None, ap, arith, get_or-set_other, refl, set, slice_index_or, sym}
+use Rattle.std.proofs.Common.{◌≡◌, ℕ, suc, ◌+◌, ◌<◌, ◌≤◌, ◌++◌, ◌∙◌, Bool, true, false, List, [], ◌∷◌, length, nat_lt, Option, Some, None, ap, arith, refl, set, slice_index_or, sym}
 use Rattle.std.specs.List.{sum_by}
-use Rattle.std.proofs.lemmas.Bool.{eqb-false, eqb-true, ltb-true, true≢false}
+use Rattle.std.proofs.lemmas.Bool.{ltb-true, true≢false}
 use Rattle.std.proofs.lemmas.List.Sums.{sum_by-cons, sum_by-set}
 use Rattle.nv_base.specs.declared.fault.Fault.{Fault}
 use Rattle.nv_base.specs.declared.fault.Fault.TheVariants.{NoActor}
@@ -13,10 +13,10 @@ use Rattle.nv_calls.specs.declared.snapshot_call.SnapshotCall.TheVariants as on
 use Rattle.nv_machine.specs.Needed.{AreNoDrops, IsAtRest, IsNoDrop, count_in, drained, is_drop, told_in, told_to, told_to_call}
 use Rattle.nv_machine.specs.Sequence.{beginning, begun, locking}
 use Rattle.nv_machine.specs.Step.{after, go_step, start_step, step, turn, turned}
-use Rattle.nv_machine.specs.World.{Actor, Answers, Ends, Event, Go, Moves, Refused, Running, Start, Turn, Waits, World, actor_at, idle}
+use Rattle.nv_machine.specs.World.{Actor, Answers, Ends, Event, Go, Moves, Refused, Running, Start, Turn, Waits, World, actor_at, idle, Shared}
 use Rattle.nv_machine.proofs.DrainSteps.{OnDeferred, drops_at, kind_owed, owed_at, owed_same, told_few}
-use Rattle.nv_machine.proofs.Events.{set_is, turned_others}
-use Rattle.nv_machine.proofs.Sequels.{locking_on}
+use Rattle.nv_machine.proofs.OverEvents.{begun_at, set_begun, set_one, with_call}
+use Rattle.nv_machine.proofs.LoopSteps.{locking_on}
 
 -- ---- a world
 
@@ -62,21 +62,16 @@ turned_owes (Ends result s h) actor w r there is on =
     let change = owed_change w actor (record { hand = h; running = None }) there in
     omega (arith, on, own, change)
 
-turned_drops : (most : ℕ) (c : Call) (t : Turn) (actor : ℕ) (w : World) → actor < length w.actors → OnDeferred most c t → NoneDrops w
-    → drops_by (actor_at (turned t actor w).world actor).running ≡ false
-turned_drops most c (Moves s h q) actor w there on none =
-    ap (λ (x : Actor). drops_by x.running) (set_is actor (record { hand = h; running = Some q }) w s there) ∙ on.1
-turned_drops most c Waits actor w there on none = none actor
-turned_drops most c (Ends result s h) actor w there on none =
-    ap (λ (x : Actor). drops_by x.running) (set_is actor (record { hand = h; running = None }) w s there)
+abbrev DropsNone : ℕ → Shared → Actor → Type 0
+DropsNone b s x = drops_by x.running ≡ false
 
--- what one actor's event leaves of the others
-among_others : (w v : World) (actor : ℕ) → ((b : ℕ) → b ≢ actor → actor_at v b ≡ actor_at w b)
-    → drops_by (actor_at v actor).running ≡ false → NoneDrops w → NoneDrops v
-among_others w v actor others own none b = go (b == actor) refl where
-  go : (c : Bool) → (b == actor) ≡ c → drops_by (actor_at v b).running ≡ false
-  go true e = ap (λ (n : ℕ). drops_by (actor_at v n).running) (eqb-true b actor e) ∙ own
-  go false e = ap (λ (x : Actor). drops_by x.running) (others b (eqb-false b actor e)) ∙ none b
+turned_drops : (most : ℕ) (c : Call) (t : Turn) (actor : ℕ) (w : World) → actor < length w.actors → OnDeferred most c t → NoneDrops w
+    → NoneDrops (turned t actor w).world
+turned_drops most c (Moves s h q) actor w there on none =
+    set_one DropsNone w actor (with_call h (Some q)) s there on.1 (λ b ne. none b)
+turned_drops most c Waits actor w there on none = none
+turned_drops most c (Ends result s h) actor w there on none =
+    set_one DropsNone w actor (with_call h None) s there refl (λ b ne. none b)
 
 -- what an event leaves, and how much drains are told by it
 record IsLess (w v : World) (told : ℕ) : Type 0 where
@@ -94,8 +89,7 @@ go_less true (Some r) w actor granted there is none =
     let on = kind_owed r.next w.numbers.block actor granted w.shared (actor_at w actor).hand r (sym (ap drops_by is) ∙ none actor) in
     record {
       less = turned_owes t actor w r inside is on;
-      none = among_others w (turned t actor w).world actor (turned_others t actor w).others
-          (turned_drops (length w.shared.book.deferred + owed_at r.next r.ending) r.call t actor w inside on none) none;
+      none = turned_drops (length w.shared.book.deferred + owed_at r.next r.ending) r.call t actor w inside on none;
     }
 
 -- a call that starts is owed nothing, and drops nothing unless it is a drop
@@ -107,22 +101,11 @@ locks_first : (slots : List ℕ) → (owed_at (locking 0 slots) Answers ≡ 0) �
 locks_first slots = owed_same (locking 0 slots) Answers (locking_on 0 slots)
 
 begun_first : (w : World) (c : Call) → is_drop c ≡ false → IsFirst (begun (beginning c) w.shared c)
-begun_first w (call.Create dir name mode) apart = record { owed = refl; none = refl }
-begun_first w (call.Mkdir dir name mode) apart = record { owed = refl; none = refl }
 begun_first w (call.Write file offset text) apart = let first = locks_first _ in record { owed = first.0; none = first.1 }
-begun_first w (call.Read file offset count) apart = record { owed = refl; none = refl }
 begun_first w (call.Size file size) apart = let first = locks_first _ in record { owed = first.0; none = first.1 }
 begun_first w (call.Mode handle mode) apart = let first = locks_first _ in record { owed = first.0; none = first.1 }
-begun_first w (call.Stat handle) apart = record { owed = refl; none = refl }
-begun_first w (call.List dir) apart = record { owed = refl; none = refl }
-begun_first w (call.Lookup dir name) apart = record { owed = refl; none = refl }
-begun_first w (call.Unlink dir name) apart = record { owed = refl; none = refl }
-begun_first w (call.Rmdir dir name) apart = record { owed = refl; none = refl }
-begun_first w (call.Rename from old to new) apart = record { owed = refl; none = refl }
-begun_first w (call.Snapshots on.Snap) apart = record { owed = refl; none = refl }
 begun_first w (call.Snapshots (on.Drop snapshot)) apart = absurd (true≢false apart)
-begun_first w (call.Snapshots (on.Show snapshot)) apart = record { owed = refl; none = refl }
-begun_first w (call.Snapshots (on.Drain count)) apart = record { owed = refl; none = refl }
+begun_first w other apart = record { owed = refl; none = refl }
 
 start_less : (b : Bool) (running : Option Running) (w : World) (actor : ℕ) (c : Call) → nat_lt actor (length w.actors) ≡ b
     → (actor_at w actor).running ≡ running → is_drop c ≡ false → NoneDrops w → IsLess w (start_step b running actor c w).world 0
@@ -130,18 +113,11 @@ start_less false running w actor c there is apart none = record { less = omega a
 start_less true (Some r) w actor c there is apart none = record { less = omega arith; none = none }
 start_less true None w actor c there is apart none =
     let inside = ltb-true actor (length w.actors) there in
-    let r : Running = begun (beginning c) w.shared c in
-    let x : Actor = record { hand = (actor_at w actor).hand; running = Some r } in
-    let first : IsFirst r = begun_first w c apart in
+    let first : IsFirst (begun (beginning c) w.shared c) = begun_first w c apart in
     let own = ap owed_to_call is in
     let owed = first.owed in
-    let change = owed_change w actor x inside in
-    record {
-      less = omega (arith, own, owed, change);
-      none = among_others w (record w { actors = set w.actors actor x }) actor
-          (λ b ne. get_or-set_other w.actors actor b x idle ne)
-          (ap (λ (y : Actor). drops_by y.running) (set_is actor x w w.shared inside) ∙ first.none) none;
-    }
+    let change = owed_change w actor (begun_at w actor c) inside in
+    record { less = omega (arith, own, owed, change); none = set_begun DropsNone w actor c inside first.none none }
 
 event_less : (w : World) (e : Event) → IsNoDrop e → NoneDrops w → IsLess w (step w e).world (told_in w e)
 event_less w (Start actor c) apart none =

@@ -83,9 +83,8 @@ some_scanned block (e ∷ later) key h =
     more (Some m) some = refl
 
     own : (s : Setting) (place : ℕ) → is_present s ≡ true → is_some (cond (is_present s) (Some place) None) ≡ true
-    own Untouched place some = cc
-    own Absent place some = cc
     own (Present v) place some = refl
+    own other place some = cc
 
     go : (l : Setting) (b : Bool) → last_setting block later key ≡ l → touches (last_setting block later key) ≡ b
         → (is_present (last_setting block later key) ≡ true → is_some (scan_n block later key) ≡ true)
@@ -170,9 +169,8 @@ scanned_uncovered block log key n q =
     low_and (nat_lt n (part_total log)) (is_covered block log n) (sym at ∙ scan_names block log n)
 
 unset : (s : Setting) → (is_present s ≡ true → ⊥) → value_of s ≡ None
-unset Untouched never = refl
-unset Absent never = refl
 unset (Present v) never = absurd (never refl)
+unset other never = refl
 
 abbrev pub kind_at : ℕ → CellState → Option Datum
 kind_at epoch cell = value_now cell.block (log_at epoch cell) KindKey

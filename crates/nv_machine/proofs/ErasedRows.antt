@@ -10,7 +10,7 @@ use Rattle.nv_machine.specs.Erasing.{IsErasedWhole, IsOnItsWayOrBack, IsOver}
 use Rattle.nv_machine.specs.Format.{formatted}
 use Rattle.nv_machine.specs.Held.{pending_in}
 use Rattle.nv_machine.specs.World.{HandState, World, actor_at, cell_at, with_cell, with_numbers}
-use Rattle.nv_machine.proofs.Scripts.{DoCall, Goes, Line, StartCall, device, handle, line, played}
+use Rattle.nv_machine.proofs.ScriptRows.{DoCall, Goes, Line, StartCall, device, handle, line, played}
 
 -- a file with its log page in block 1 and its page in block 2, and its unlinking, so many steps on: 13 retires the file
 abbrev first_steps : List Line

@@ -19,7 +19,7 @@ use Rattle.nv_epoch.specs.declared.snapshot.Snapshot.{Snapshot}
 use Rattle.nv_epoch.proofs.Last.{IsRising-filter, IsRising-push, last_passes}
 use Rattle.nv_machine.specs.Recorded.{with_parts}
 use Rattle.nv_machine.proofs.FiledDrops.{makes, removes}
-use Rattle.nv_machine.proofs.EachOf.{all_append}
+use Rattle.nv_machine.proofs.EachElement.{all_append}
 use Rattle.nv_machine.proofs.FiledLists.{all_first, all_moved}
 
 -- the living snapshots rise and are below the epoch; the manifests and the deferred list are told by the list; and what

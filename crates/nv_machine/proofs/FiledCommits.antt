@@ -22,10 +22,10 @@ use Rattle.nv_machine.specs.Recorded.{with_parts}
 use Rattle.nv_machine.specs.Sequence.{sequel}
 use Rattle.nv_machine.specs.Step.{changed, turned}
 use Rattle.nv_machine.specs.World.{Append, HandState, Next, Publish, Retire, Running, Shared, World, actor_at, cell_at, with_cell}
-use Rattle.nv_machine.proofs.EachOf.{all_append, all_back, all_front, all_weaker}
+use Rattle.nv_machine.proofs.EachElement.{all_append, all_back, all_front, all_weaker}
 use Rattle.nv_machine.proofs.FiledLists.{count_append}
 use Rattle.nv_machine.proofs.FiledMarks.{IsTold, is_filed_on}
-use Rattle.nv_machine.proofs.FiledPicks.{erased_killed}
+use Rattle.nv_machine.proofs.HandsInCommits.{erased_killed}
 use Rattle.nv_machine.proofs.FiledSteps.{AreFresh, MarksOf, appended_fresh, appended_marks, erased_cell, erased_fresh, none_other, parts_are_of, parts_behind, published_cell, published_fresh, recounted, retired_chain, retired_log, retired_marks}
 use Rattle.nv_machine.proofs.FiledWorlds.{AreMarked, marks_as, new_killed, own_killed, picked_in, same_killed, same_picked}
 use Rattle.nv_machine.proofs.Lists.{drop_apart, take_apart}

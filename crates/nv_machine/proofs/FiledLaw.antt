@@ -1,51 +1,43 @@
 -- Whatever events come, marks say of every slot what is killed, recorded and out; so each part that is
 -- kept has one record.
-use Rattle.std.proofs.Common.{◌≡◌, ℕ, zero, suc, ◌-◌, ◌<◌, ◌≤◌, ◌++◌, ◌∙◌, Bool, true, false, List, [], ◌∷◌, Option, Some, None, ap, arith, flat_map, if◌then◌else◌, length, nat_lt, refl, replicate, subst, sym}
-use Rattle.std.specs.Prelude.{not, slice_index_or}
+use Rattle.std.proofs.Common.{◌≡◌, ℕ, ◌++◌, ◌∙◌, Bool, true, false, List, [], ◌∷◌, Option, Some, None, ap, arith, if◌then◌else◌, length, nat_lt, refl, sym}
 use Rattle.std.specs.List.{AllByRecursion}
-use Rattle.std.proofs.lemmas.Bool.{ltb-true}
+use Rattle.std.proofs.lemmas.Bool.{ltb-false, ltb-true}
 use Rattle.nv_base.specs.declared.geometry.GeometryNumbers.{GeometryNumbers}
 use Rattle.nv_book.specs.Listed.{all_records}
-use Rattle.nv_book.specs.Records.{holder_of}
 use Rattle.nv_book.specs.declared.record.Record.{Record}
 use Rattle.nv_calls.specs.declared.call.Call.{Call}
-use Rattle.nv_cell.specs.Cell.{CellState, empty_cell, log_of}
-use Rattle.nv_cell.specs.Marks.{bit, is_current, is_killed, mark_at}
-use Rattle.nv_cell.specs.declared.killed.KilledPart.{KilledPart}
-use Rattle.nv_entry.specs.Covered.{is_covered}
+use Rattle.nv_cell.specs.Cell.{log_of}
 use Rattle.nv_epoch.specs.SnapList.{ids}
-use Rattle.nv_machine.specs.Format.{formatted, root_cell}
-use Rattle.nv_machine.specs.Held.{killed_by_actor, killed_by_call, picked_by_actor, picked_by_call}
+use Rattle.nv_machine.specs.Held.{killed_by_call, picked_by_call}
 use Rattle.nv_machine.specs.PlainRun as plain
-use Rattle.nv_machine.specs.Recorded.{AreRecordedOnce, IsOfPair, after_deed, is_kept, recorded_in, records_after, records_in, retired_in}
+use Rattle.nv_machine.specs.Recorded.{AreRecordedOnce, IsOfPair, after_deed, recorded_in, records_after, records_in, retired_in}
 use Rattle.nv_machine.specs.Sequence.{beginning, begun}
 use Rattle.nv_machine.specs.Starts.{IsStart}
 use Rattle.nv_machine.specs.Step.{after, go_step, start_step, step}
-use Rattle.nv_machine.specs.World.{Actor, Event, Go, Running, Start, World, actor_at, cell_at, idle, no_cell}
+use Rattle.nv_machine.specs.World.{Event, Go, Running, Start, World, actor_at, cell_at}
+use Rattle.nv_machine.proofs.OverEvents.{runs_inside}
 use Rattle.nv_machine.proofs.FiledKinds.{kind_marked}
-use Rattle.nv_machine.proofs.EachOf.{all_append, all_back, all_front}
+use Rattle.nv_machine.proofs.EachElement.{all_append, all_back, all_front}
 use Rattle.nv_machine.proofs.FiledLists.{all_filed, count_append, count_filed}
 use Rattle.nv_machine.proofs.FiledMarks.{IsTold, is_filed_on}
 use Rattle.nv_machine.proofs.FiledPicks.{begun_none}
-use Rattle.nv_machine.proofs.FiledRuns.{IsKnown, all_listed, event_listed, known, not_there}
-use Rattle.nv_machine.proofs.FiledSteps.{AreFresh, MarksOf}
+use Rattle.nv_machine.proofs.FiledRuns.{IsListable, all_listed, event_listed, known}
 use Rattle.nv_machine.proofs.FiledTurns.{Listed}
 use Rattle.nv_machine.proofs.FiledWorlds.{AreMarked, outside, picked_in, quiet_marked, same_quiet}
-use Rattle.nv_machine.proofs.InOrder.{begun_commits}
-use Rattle.nv_machine.proofs.Locks.{all_same}
-use Rattle.nv_machine.proofs.PartsFor.{none_of}
+use Rattle.nv_machine.proofs.LogsInOrder.{begun_commits}
 use Rattle.nv_machine.proofs.StartRecords.{first_listed, first_marked}
 
 -- ---- events
 
-module _ (g : GeometryNumbers) (w : World) (is_known : IsKnown g w) (rs : List Record) (l : Listed rs w.shared) (m : AreMarked w rs) where
+module _ (g : GeometryNumbers) (w : World) (is_known : IsListable g w) (rs : List Record) (l : Listed rs w.shared) (m : AreMarked w rs) where
   go_marked : (b : Bool) (running : Option Running) (actor : ℕ) (granted : Bool) → nat_lt actor (length w.actors) ≡ b
       → (actor_at w actor).running ≡ running
       → AreMarked (go_step b running actor granted w).world
       (after_deed (if b then plain.deed_by running w actor granted else plain.Nothing) (ids w.shared.book.snaps)
       (retired_in w (Go actor granted) running rs))
   go_marked false None actor granted there e = m
-  go_marked false (Some r) actor granted there e = absurd (not_there w actor r there e)
+  go_marked false (Some r) actor granted there e = absurd (omega (arith, ltb-false actor (length w.actors) there, runs_inside w actor r e))
   go_marked true None actor granted there e = m
   go_marked true (Some r) actor granted there e =
       kind_marked g w is_known rs l m actor w.numbers.block granted r (ltb-true actor (length w.actors) there) e r.next refl
@@ -67,89 +59,12 @@ module _ (g : GeometryNumbers) (w : World) (is_known : IsKnown g w) (rs : List R
   event_marked (Go actor granted) = go_marked (nat_lt actor (length w.actors)) (actor_at w actor).running actor granted refl refl
 
 events_marked : (g : GeometryNumbers) (events : List Event) (w : World) (rs : List Record)
-    → ((before : List Event) → IsKnown g (after w before)) → Listed rs w.shared → AreMarked w rs
+    → ((before : List Event) → IsListable g (after w before)) → Listed rs w.shared → AreMarked w rs
     → AreMarked (after w events) (records_after w events rs)
 events_marked g [] w rs each l m = m
 events_marked g (e ∷ events) w rs each l m =
     events_marked g events (step w e).world (records_in w e rs) (λ before. each (e ∷ before)) (event_listed g w (each []) rs l e)
     (event_marked g w (each []) rs l m e)
-
--- ---- a new world
-
-root_marks : (g : GeometryNumbers) (ino : ℕ) → MarksOf [] ino 1 [] [] (root_cell g)
-root_marks g ino = record {
-  len = refl;
-  current = current;
-  killed_are = killed;
-  kept_are = kept;
-  dying = tt;
-  told = tt;
-  out = λ n pair got e. tt;
-} where
-  current : (n : ℕ) → n < 3 → is_current (mark_at (root_cell g).marks n) ≡ not (is_covered g.block (log_of (root_cell g)) n)
-  current zero lt = refl
-  current (suc zero) lt = refl
-  current (suc (suc zero)) lt = refl
-  current (suc (suc (suc n))) lt = absurd (omega (arith, lt))
-
-  killed : (n : ℕ) → 0 ≡ bit (is_killed (mark_at (root_cell g).marks n))
-  killed zero = refl
-  killed (suc zero) = refl
-  killed (suc (suc zero)) = refl
-  killed (suc (suc (suc n))) = refl
-
-  kept : (n : ℕ) → 0 ≡ bit (is_kept (mark_at (root_cell g).marks n))
-  kept zero = refl
-  kept (suc zero) = refl
-  kept (suc (suc zero)) = refl
-  kept (suc (suc (suc n))) = refl
-
-empty_marks : (ino block page : ℕ) → MarksOf [] ino 1 [] [] (empty_cell block page 1 0)
-empty_marks ino block page = record {
-  len = refl;
-  current = λ n lt. absurd (omega (arith, lt));
-  killed_are = λ n. refl;
-  kept_are = λ n. refl;
-  dying = tt;
-  told = tt;
-  out = λ n pair got e. tt;
-}
-
-record IsNew (ino : ℕ) (cell : CellState) : Type 0 where
-  marks : MarksOf [] ino 1 [] [] cell
-  fresh : AreFresh 1 cell
-
-new_cells : (g : GeometryNumbers) (n ino slot : ℕ) → IsNew slot (slice_index_or (replicate n (empty_cell g.block g.page 1 0)) ino no_cell)
-new_cells g zero ino slot = record { marks = no_marks; fresh = tt } where
-  no_marks : MarksOf [] slot 1 [] [] no_cell
-  no_marks = record {
-    len = refl;
-    current = λ n lt. absurd (omega (arith, lt));
-    killed_are = λ n. refl;
-    kept_are = λ n. refl;
-    dying = tt;
-    told = tt;
-    out = λ n pair got e. tt;
-  }
-new_cells g (suc n) zero slot = record { marks = empty_marks slot g.block g.page; fresh = tt }
-new_cells g (suc n) (suc ino) slot = new_cells g n ino slot
-
-new_cell : (g : GeometryNumbers) (ino : ℕ) → IsNew ino (cell_at (formatted g).shared ino)
-new_cell g zero = record { marks = root_marks g 0; fresh = tt }
-new_cell g (suc ino) = new_cells g (g.inodes - 1) ino (suc ino)
-
-pub new_marked : (g : GeometryNumbers) → AreMarked (formatted g) []
-new_marked g = record {
-  cells = λ ino. subst (λ (killed : List KilledPart). MarksOf [] ino 1 killed (picked_in (formatted g)) (cell_at (formatted g).shared ino))
-      (sym (nobody (killed_by_actor ino) refl))
-      (subst (λ (ds : List Record). MarksOf [] ino 1 [] ds (cell_at (formatted g).shared ino)) (sym (nobody picked_by_actor refl))
-      (new_cell g ino).marks);
-  fresh = λ ino. (new_cell g ino).fresh;
-  unheld = subst (AllByRecursion (λ d. holder_of [] d ≡ None)) (sym (nobody picked_by_actor refl)) tt;
-  dead = subst (AllByRecursion (λ (d : Record). d.death ≤ 1)) (sym (nobody picked_by_actor refl)) tt;
-} where
-  nobody : {X : Type 0} (f : Actor → List X) → f idle ≡ [] → flat_map f (formatted g).actors ≡ []
-  nobody f e = none_of f (formatted g).actors (λ b. ap f (all_same g.actors b idle) ∙ e)
 
 -- ---- every world
 

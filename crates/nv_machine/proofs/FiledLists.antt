@@ -11,7 +11,7 @@ use Rattle.nv_book.specs.declared.manifest.Manifest.{Manifest}
 use Rattle.nv_book.specs.declared.record.Record.{Record}
 use Rattle.nv_epoch.specs.Holders.{IsRising, holds}
 use Rattle.nv_epoch.proofs.Last.{last_passes}
-use Rattle.nv_machine.proofs.EachOf.{all_append, all_filter}
+use Rattle.nv_machine.proofs.EachElement.{all_append, all_filter}
 
 -- ---- how many of a list pass a test
 

@@ -24,7 +24,7 @@ use Rattle.nv_epoch.specs.Holders as holders
 use Rattle.nv_epoch.proofs.Last.{none_passes}
 use Rattle.nv_machine.specs.Held.{is_of_slot}
 use Rattle.nv_machine.specs.Recorded.{is_kept}
-use Rattle.nv_machine.proofs.EachOf.{all_append, all_at}
+use Rattle.nv_machine.proofs.EachElement.{all_append, all_at}
 use Rattle.nv_machine.proofs.FiledLists.{count, count_append, count_cons, one}
 use Rattle.nv_machine.proofs.Lists.{self}
 use Rattle.nv_machine.proofs.Pairs.{HasPair, IsRecordOf, has_number, record_killed, record_number}
@@ -73,34 +73,24 @@ bit_one true = refl
 bit_one false = refl
 
 killed_not_kept : (m : Mark) → is_killed m ≡ true → is_kept m ≡ false
-killed_not_kept Current e = refl
-killed_not_kept Killed e = refl
 killed_not_kept Kept e = absurd (false≢true e)
-killed_not_kept Out e = refl
+killed_not_kept other e = refl
 
 pub killed_not_current : (m : Mark) → is_killed m ≡ true → is_current m ≡ false
 killed_not_current Current e = absurd (false≢true e)
-killed_not_current Killed e = refl
-killed_not_current Kept e = refl
-killed_not_current Out e = refl
+killed_not_current other e = refl
 
 kept_not_killed : (m : Mark) → is_kept m ≡ true → is_killed m ≡ false
-kept_not_killed Current e = refl
 kept_not_killed Killed e = absurd (false≢true e)
-kept_not_killed Kept e = refl
-kept_not_killed Out e = refl
+kept_not_killed other e = refl
 
 pub kept_not_current : (m : Mark) → is_kept m ≡ true → is_current m ≡ false
 kept_not_current Current e = absurd (false≢true e)
-kept_not_current Killed e = refl
-kept_not_current Kept e = refl
-kept_not_current Out e = refl
+kept_not_current other e = refl
 
 pub current_not_kept : (m : Mark) → is_current m ≡ true → is_kept m ≡ false
-current_not_kept Current e = refl
-current_not_kept Killed e = refl
 current_not_kept Kept e = absurd (false≢true e)
-current_not_kept Out e = refl
+current_not_kept other e = refl
 
 pub pair_low : (block : ℕ) (log : List Entry) (n : ℕ) (pair : Pair) → slice_get (pairs block log) n ≡ Some pair → n < part_total log
 pair_low block [] n pair got = cc

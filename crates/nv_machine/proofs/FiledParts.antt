@@ -1,8 +1,7 @@
 -- What the marks of every slot tell: which parts are current, and that a part is covered that a drain is to release.
-use Rattle.std.proofs.Common.{◌≡◌, ℕ, ◌<◌, ◌≤◌, ◌++◌, ◌∙◌, Bool, true, false, not, List, [], ◌∷◌, Option, Some, None, ap, arith, length, nat_lt, refl, sym}
+use Rattle.std.proofs.Common.{◌≡◌, ℕ, ◌<◌, ◌≤◌, ◌++◌, ◌∙◌, Bool, true, false, not, List, [], ◌∷◌, Option, Some, None, ap, arith, length, refl, sym}
 use Rattle.std.specs.Prelude.{unwrap_or}
 use Rattle.std.specs.List.{AllByRecursion}
-use Rattle.std.proofs.lemmas.Bool.{ltb-true}
 use Rattle.nv_base.specs.declared.geometry.GeometryNumbers.{GeometryNumbers}
 use Rattle.nv_book.specs.declared.record.Record.{Record}
 use Rattle.nv_calls.specs.Retiring.{name_of}
@@ -21,11 +20,12 @@ use Rattle.nv_machine.specs.Recorded.{is_kept, records_after}
 use Rattle.nv_machine.specs.Starts.{IsStart}
 use Rattle.nv_machine.specs.Step.{after}
 use Rattle.nv_machine.specs.World.{Event, Next, Release, Running, Snapshots, World, actor_at, cell_at}
+use Rattle.nv_machine.proofs.OverEvents.{runs_inside}
 use Rattle.nv_machine.proofs.FiledLaw.{all_marked}
-use Rattle.nv_machine.proofs.EachOf.{all_back}
+use Rattle.nv_machine.proofs.EachElement.{all_back}
 use Rattle.nv_machine.proofs.FiledLists.{count, count_append, count_cons, one}
 use Rattle.nv_machine.proofs.FiledMarks.{AreMarks, IsTold, bit_is, is_filed_on, kept_not_current, pair_low}
-use Rattle.nv_machine.proofs.FiledRuns.{known, not_there}
+use Rattle.nv_machine.proofs.FiledRuns.{known}
 use Rattle.nv_machine.proofs.FiledWorlds.{picked_in}
 use Rattle.nv_machine.proofs.Lists.{self}
 use Rattle.nv_machine.proofs.Pairs.{IsRecordOf, record_number}
@@ -72,10 +72,6 @@ releases_covered g start records events actor is_start = go (actor_at w actor).r
   rs : List Record
   rs = records_after start events records
 
-  there : (b : Bool) (r : Running) → nat_lt actor (length w.actors) ≡ b → (actor_at w actor).running ≡ Some r → actor < length w.actors
-  there true r e is = ltb-true actor (length w.actors) e
-  there false r e is = absurd (not_there w actor r e is)
-
   at : (k : Next) (r : Running) → (actor_at w actor).running ≡ Some r → r.next ≡ k → IsReleaseCovered w.shared k
   at (Snapshots (Release draining d)) r is e =
       let cell : CellState = cell_at w.shared d.ino in
@@ -83,7 +79,7 @@ releases_covered g start records events actor is_start = go (actor_at w actor).r
       let T : Record → Type 0 = IsTold (ids w.shared.book.snaps) d.ino cell.block (log_of cell) in
       let had : picked_by_actor (actor_at w actor) ≡ d ∷ [] =
       ap (λ (o : Option Running). picked_by_call o) is ∙ ap (λ (k : Next). picked_by_call (Some (record r { next = k }))) e in
-      let low : actor < length w.actors = there (nat_lt actor (length w.actors)) r refl is in
+      let low : actor < length w.actors = runs_inside w actor r is in
       let told : AllByRecursion T (d ∷ []) = rw had at (own_all picked_by_actor T w.actors actor low
       (all_back T rs (picked_in w) m.told)) in
       let pair = told.0 refl in

@@ -28,7 +28,7 @@ use Rattle.nv_entry.specs.declared.held.Pair.{Pair}
 use Rattle.nv_entry.specs.declared.item.Entry.{Entry}
 use Rattle.nv_machine.specs.Held.{is_of_slot}
 use Rattle.nv_machine.specs.Recorded.{is_kept}
-use Rattle.nv_machine.proofs.EachOf.{all_append, all_weaker}
+use Rattle.nv_machine.proofs.EachElement.{all_append, all_weaker}
 use Rattle.nv_machine.proofs.FiledLists.{count, count_append, count_cons, count_same, one}
 use Rattle.nv_machine.proofs.FiledMarks.{AreMarks, IsDying, IsTold, bit_none, current_not_kept, is_filed_on, is_killed_on, pair_low}
 use Rattle.nv_machine.proofs.Lists.{self}

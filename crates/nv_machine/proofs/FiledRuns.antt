@@ -1,14 +1,11 @@
 -- What is filed is told by the record list, whatever events come.
-use Rattle.std.proofs.Common.{◌≡◌, ℕ, ◌∙◌, Bool, true, false, if◌then◌else◌, List, [], ◌∷◌, Option, Some, None, ap, arith, length, nat_lt, refl, subst, sym}
+use Rattle.std.proofs.Common.{◌≡◌, ℕ, Bool, true, false, if◌then◌else◌, List, [], ◌∷◌, Option, Some, None, arith, length, nat_lt, refl, subst, sym}
 use Rattle.std.proofs.lemmas.Bool.{ltb-false}
-use Rattle.std.proofs.lemmas.List.{get_or_past}
-use Rattle.std.proofs.lemmas.Option.{none-some}
 use Rattle.nv_base.specs.declared.geometry.GeometryNumbers.{GeometryNumbers}
 use Rattle.nv_book.specs.Listed.{IsRecordList, unheld}
 use Rattle.nv_book.specs.declared.record.Record.{Record}
 use Rattle.nv_calls.specs.declared.call.Call.{Call}
 use Rattle.nv_epoch.specs.SnapList.{ids}
-use Rattle.nv_machine.specs.Format.{formatted}
 use Rattle.nv_machine.specs.Hands.{AreNumbers, HandAt, HandOf}
 use Rattle.nv_machine.specs.Locks.{AreLocks, HasSlots, IsInside, slots_on}
 use Rattle.nv_machine.specs.Order.{CommitsIn, IsInOrder}
@@ -16,29 +13,30 @@ use Rattle.nv_machine.specs.PlainRun as plain
 use Rattle.nv_machine.specs.Recorded.{after_deed, records_after, records_in, retired_in}
 use Rattle.nv_machine.specs.Starts.{IsStart}
 use Rattle.nv_machine.specs.Step.{after, go_step, start_step, step, turn, turned}
-use Rattle.nv_machine.specs.World.{Actor, Ends, Event, Go, HandState, Moves, Next, Running, SnapshotStep, Snapshots, Start, Turn, Waits, World, actor_at, empty_hand, idle}
+use Rattle.nv_machine.specs.World.{Ends, Event, Go, HandState, Moves, Next, Running, SnapshotStep, Snapshots, Start, Turn, Waits, World, actor_at, empty_hand}
+use Rattle.nv_machine.proofs.OverEvents.{runs_inside}
 use Rattle.nv_machine.proofs.FiledTurns.{CanList, Listed, OnListed, list_after, turn_listed, waits_listed}
 use Rattle.nv_machine.proofs.FromScratch.{all_numbers}
-use Rattle.nv_machine.proofs.InOrder.{events_order}
-use Rattle.nv_machine.proofs.Locks.{events_locks}
+use Rattle.nv_machine.proofs.LogsInOrder.{events_order}
+use Rattle.nv_machine.proofs.LocksOverEvents.{events_locks}
 use Rattle.nv_machine.proofs.StartParts.{first_locks, first_order}
 use Rattle.nv_machine.proofs.StartRecords.{first_listed}
 
 -- what is known of each world that events lead to
-pub record IsKnown (g : GeometryNumbers) (w : World) : Type 0 where
+pub record IsListable (g : GeometryNumbers) (w : World) : Type 0 where
   pub locks : AreLocks w
   pub order : IsInOrder w
   pub numbers : AreNumbers g w
 
 pub known : (g : GeometryNumbers) (start : World) (records : List Record) (events : List Event) → IsStart g start records
-    → IsKnown g (after start events)
+    → IsListable g (after start events)
 known g start records events is_start = record {
   locks = events_locks events start (first_locks g start records is_start);
   order = events_order events start (first_locks g start records is_start) (first_order g start records is_start);
   numbers = all_numbers g start records events is_start;
 }
 
-pub can_list : (g : GeometryNumbers) (w : World) (actor : ℕ) (r : Running) → IsKnown g w → (actor_at w actor).running ≡ Some r
+pub can_list : (g : GeometryNumbers) (w : World) (actor : ℕ) (r : Running) → IsListable g w → (actor_at w actor).running ≡ Some r
     → CanList r.next w.shared (actor_at w actor).hand r
 can_list g w actor r known is = record {
   epoch = λ c. (own c).epoch;
@@ -70,18 +68,13 @@ turned_listed k rs (Moves s g q) actor w h r is waits on = on
 turned_listed k rs Waits actor w h r is waits on = subst (λ (l : List Record). Listed l w.shared) (sym (waits refl)) is
 turned_listed k rs (Ends result s g) actor w h r is waits on = on
 
--- an actor that is not there has no call
-pub not_there : (w : World) (actor : ℕ) (r : Running) → nat_lt actor (length w.actors) ≡ false → (actor_at w actor).running ≡ Some r → ⊥
-not_there w actor r e is =
-    none-some r (sym (ap (λ (x : Actor). x.running) (get_or_past w.actors actor idle (ltb-false actor (length w.actors) e))) ∙ is)
-
-module _ (g : GeometryNumbers) (w : World) (known : IsKnown g w) (rs : List Record) (is : Listed rs w.shared) where
+module _ (g : GeometryNumbers) (w : World) (known : IsListable g w) (rs : List Record) (is : Listed rs w.shared) where
   go_listed : (b : Bool) (running : Option Running) (actor : ℕ) (granted : Bool) → nat_lt actor (length w.actors) ≡ b
       → (actor_at w actor).running ≡ running
       → Listed (after_deed (if b then plain.deed_by running w actor granted else plain.Nothing) (ids w.shared.book.snaps)
       (retired_in w (Go actor granted) running rs)) (go_step b running actor granted w).world.shared
   go_listed false None actor granted there e = is
-  go_listed false (Some r) actor granted there e = absurd (not_there w actor r there e)
+  go_listed false (Some r) actor granted there e = absurd (omega (arith, ltb-false actor (length w.actors) there, runs_inside w actor r e))
   go_listed true None actor granted there e = is
   go_listed true (Some r) actor granted there e =
       let h = (actor_at w actor).hand in
@@ -100,21 +93,13 @@ module _ (g : GeometryNumbers) (w : World) (known : IsKnown g w) (rs : List Reco
   event_listed (Go actor granted) = go_listed (nat_lt actor (length w.actors)) (actor_at w actor).running actor granted refl refl
 
 events_listed : (g : GeometryNumbers) (events : List Event) (w : World) (rs : List Record)
-    → ((before : List Event) → IsKnown g (after w before)) → Listed rs w.shared
+    → ((before : List Event) → IsListable g (after w before)) → Listed rs w.shared
     → Listed (records_after w events rs) (after w events).shared
 events_listed g [] w rs each is = is
 events_listed g (e ∷ events) w rs each is =
     events_listed g events (step w e).world (records_in w e rs) (λ before. each (e ∷ before)) (event_listed g w (each []) rs is e)
 
 -- ---- every world
-
-pub new_listed : (g : GeometryNumbers) → Listed [] (formatted g).shared
-new_listed g = record {
-  rising = tt;
-  below = λ k d lt. absurd (omega (arith, lt));
-  list = record { manifests_are = refl; deferred_is = refl };
-  dead = tt;
-}
 
 pub all_listed : (g : GeometryNumbers) (start : World) (records : List Record) (events : List Event) → IsStart g start records
     → Listed (records_after start events records) (after start events).shared

@@ -33,7 +33,7 @@ use Rattle.nv_machine.specs.World.{Actor, HandState, Running, Shared, World, act
 use Rattle.nv_machine.proofs.FiledBooks.{ids_made, ids_removed}
 use Rattle.nv_machine.proofs.FiledCommits.{one_cell}
 use Rattle.nv_machine.proofs.FiledDrops.{makes, removes}
-use Rattle.nv_machine.proofs.EachOf.{all_append, all_back, all_filter, all_front, all_weaker, all_with}
+use Rattle.nv_machine.proofs.EachElement.{all_append, all_back, all_filter, all_front, all_weaker, all_with}
 use Rattle.nv_machine.proofs.FiledLists.{all_first, all_moved, count, count_append, count_cons, count_first, count_moved, first_among, first_unheld, one}
 use Rattle.nv_machine.proofs.FiledMarks.{IsTold, is_filed_on, pair_low}
 use Rattle.nv_machine.proofs.FiledPublish.{filed_marks, living_marks}

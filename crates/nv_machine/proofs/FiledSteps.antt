@@ -23,7 +23,7 @@ use Rattle.nv_entry.specs.Log.{IsLog}
 use Rattle.nv_entry.specs.declared.item.Entry.{Entry}
 use Rattle.nv_machine.specs.Kinds.{with_entries, with_pages}
 use Rattle.nv_machine.specs.Recorded.{with_parts}
-use Rattle.nv_machine.proofs.EachOf.{all_append}
+use Rattle.nv_machine.proofs.EachElement.{all_append}
 use Rattle.nv_machine.proofs.FiledLists.{HasHolder, count, count_cons, one}
 use Rattle.nv_machine.proofs.FiledMarks.{AreMarks, IsTold, freed_marks, is_filed_on, kept_marks, killed_number, released_marks, filed_number}
 use Rattle.nv_machine.proofs.FiledPublish.{erased_marks, published_marks}

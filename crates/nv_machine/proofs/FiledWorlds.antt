@@ -14,7 +14,7 @@ use Rattle.nv_machine.specs.Reads.{written_slots}
 use Rattle.nv_machine.specs.Step.{changed, turned}
 use Rattle.nv_machine.specs.World.{Actor, Append, Close, Ends, HandState, Leave, Moves, Next, Open, Publish, Retire, Running, Shared, Turn, Waits, World, actor_at, cell_at, idle}
 use Rattle.nv_machine.proofs.FiledSteps.{AreFresh, MarksOf}
-use Rattle.nv_machine.proofs.Kept.{AfterTurn}
+use Rattle.nv_machine.proofs.WorkKeeps.{AfterTurn}
 use Rattle.nv_machine.proofs.PartsFor.{alone, none_of, same_of}
 
 -- what drains have picked and not yet released

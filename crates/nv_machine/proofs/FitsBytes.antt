@@ -41,10 +41,10 @@ use Rattle.nv_machine.specs.Sequence.{beginning}
 use Rattle.nv_machine.specs.Settled.{settled, settled_nodes}
 use Rattle.nv_entry.specs.Shape.{IsGoneLast}
 use Rattle.nv_machine.specs.Step.{kind_turn}
-use Rattle.nv_machine.specs.World.{Append, Back, Check, Close, Enter, Give, HandState, Leave, Lock, Look, Next, Number, Open, Publish, Ready, Retire, Running, Shared, TakeBlocks, TakePages, Unlock, Visit, World, cell_at, no_cell, Snapshots}
-use Rattle.nv_machine.proofs.Answered.{entered_none, no_commit, no_commit_on}
+use Rattle.nv_machine.specs.World.{Close, Enter, HandState, Next, Publish, Running, Shared, World, cell_at, no_cell, Snapshots}
+use Rattle.nv_machine.proofs.EndingsStay.{entered_none, no_commit, no_commit_on}
 use Rattle.nv_machine.proofs.CellPages.{among_at, sound_read}
-use Rattle.nv_machine.proofs.Effects.{IsRead, outside, read_nodes, read_page}
+use Rattle.nv_machine.proofs.CommitEffects.{IsRead, outside, read_nodes, read_page}
 use Rattle.nv_machine.proofs.FitsCalls.{IsOfNode, planned_there}
 use Rattle.nv_machine.proofs.FitsCells.{behind, longer}
 use Rattle.nv_calls.specs.Filled.{AreRead}
@@ -250,18 +250,4 @@ point_fits Close block a granted s h r e f = (refl, f.0, f.1)
 point_fits (Publish place) block a granted s h r e f = (refl, f.0, f.1)
 point_fits Enter block a granted s h r e f = absurd (entered_none _ e)
 point_fits (Snapshots step) block a granted s h r e f = absurd (no_commit_on step _ e)
-point_fits Number block a granted s h r e f = absurd (no_commit e)
-point_fits (Look place) block a granted s h r e f = absurd (no_commit e)
-point_fits (Lock place) block a granted s h r e f = absurd (no_commit e)
-point_fits Check block a granted s h r e f = absurd (no_commit e)
-point_fits (TakeBlocks asked) block a granted s h r e f = absurd (no_commit e)
-point_fits (TakePages asked) block a granted s h r e f = absurd (no_commit e)
-point_fits Ready block a granted s h r e f = absurd (no_commit e)
-point_fits (Append place) block a granted s h r e f = absurd (no_commit e)
-point_fits Open block a granted s h r e f = absurd (no_commit e)
-point_fits (Retire place) block a granted s h r e f = absurd (no_commit e)
-point_fits Leave block a granted s h r e f = absurd (no_commit e)
-point_fits (Unlock place) block a granted s h r e f = absurd (no_commit e)
-point_fits (Give cpu) block a granted s h r e f = absurd (no_commit e)
-point_fits Back block a granted s h r e f = absurd (no_commit e)
-point_fits Visit block a granted s h r e f = absurd (no_commit e)
+point_fits other block a granted s h r e f = absurd (no_commit e)

@@ -95,13 +95,8 @@ module _ (bytes : ℕ → List ℕ) (block : ℕ) (slots : ℕ → Slot) (taken 
   planned_there (call.Create dir name mode) h = (inr (there Dir (nodes dir) (directory_passed (nodes dir) _ h).0), (inl (refl, refl), tt))
   planned_there (call.Mkdir dir name mode) h = (inr (there Dir (nodes dir) (directory_passed (nodes dir) _ h).0), (inl (refl, refl), tt))
   planned_there (call.Write file offset text) h = write_there file offset text h
-  planned_there (call.Read file offset count) h = tt
   planned_there (call.Size file size) h = (inr (there File (nodes file) (file_passed (nodes file) _ h).0), tt)
   planned_there (call.Mode handle mode) h = (inr (node_passed (nodes handle) _ h).0, tt)
-  planned_there (call.Stat handle) h = tt
-  planned_there (call.List dir) h = tt
-  planned_there (call.Lookup dir name) h = tt
-  planned_there (call.Snapshots what) h = tt
   planned_there (call.Unlink dir name) h =
       let both = both_passed _ _ h in
       leave_there dir name (found nodes dir name) _ (there Dir (nodes dir) (look_passed nodes dir name both.0).0)
@@ -114,6 +109,7 @@ module _ (bytes : ℕ → List ℕ) (block : ℕ) (slots : ℕ → Slot) (taken 
       let names = names_passed block nodes from old to new h in
       bound_there (own_place from old to new) from old to new (found nodes from old) (found nodes to new) refl
       (there Dir (nodes from) names.0) (there Dir (nodes to) names.1) names.4
+  planned_there other h = tt
 
 -- ---- a plan uses all blocks of a call that has as many as it wants
 
@@ -124,17 +120,8 @@ no_length (x ∷ xs) e = cc
 pub plan_all : (block : ℕ) (nodes : Handle → Option NodeCopy) (taken : Taken) (c : Call)
     → length (blocks_of taken.runs) ≡ blocks_wanted block nodes taken.present c
     → plan_blocks (plan block nodes taken c) ≡ blocks_of taken.runs
-plan_all block nodes taken (call.Write file offset []) e = sym (no_length (blocks_of taken.runs) e)
 plan_all block nodes taken (call.Write file offset (byte ∷ rest)) e = append-nil _ ∙ write_blocks-are _ taken.runs _
 plan_all block nodes taken (call.Size file size) e = append-nil _ ∙ cut_blocks-are _ taken.runs size
-plan_all block nodes taken (call.Create dir name mode) e = sym (no_length (blocks_of taken.runs) e)
-plan_all block nodes taken (call.Mkdir dir name mode) e = sym (no_length (blocks_of taken.runs) e)
-plan_all block nodes taken (call.Read file offset count) e = sym (no_length (blocks_of taken.runs) e)
-plan_all block nodes taken (call.Mode handle mode) e = sym (no_length (blocks_of taken.runs) e)
-plan_all block nodes taken (call.Stat handle) e = sym (no_length (blocks_of taken.runs) e)
-plan_all block nodes taken (call.List dir) e = sym (no_length (blocks_of taken.runs) e)
-plan_all block nodes taken (call.Lookup dir name) e = sym (no_length (blocks_of taken.runs) e)
-plan_all block nodes taken (call.Snapshots what) e = sym (no_length (blocks_of taken.runs) e)
 plan_all block nodes taken (call.Unlink dir name) e =
     leave_none block nodes taken dir name (found nodes dir name) ∙ sym (no_length (blocks_of taken.runs) e)
 plan_all block nodes taken (call.Rmdir dir name) e =
@@ -142,3 +129,4 @@ plan_all block nodes taken (call.Rmdir dir name) e =
 plan_all block nodes taken (call.Rename from old to new) e =
     bound_none block nodes taken from old to new (own_place from old to new) (found nodes from old) (found nodes to new)
     ∙ sym (no_length (blocks_of taken.runs) e)
+plan_all block nodes taken other e = sym (no_length (blocks_of taken.runs) e)

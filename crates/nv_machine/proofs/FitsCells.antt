@@ -4,24 +4,23 @@ use Rattle.std.specs.List.{AllByRecursion}
 use Rattle.std.proofs.lemmas.List.{take-append-drop, take-append-le}
 use Rattle.nv_alloc.specs.Block.{BlockValue, numbers_of}
 use Rattle.nv_alloc.specs.Numbers.{has}
-use Rattle.nv_calls.specs.Retiring.{erased, is_erased, keeper_of, retired, retired_one, settled as settled_part}
+use Rattle.nv_calls.specs.Retiring.{erased, is_erased, settled as settled_part}
 use Rattle.nv_cell.specs.Append.{appended, blocks_for, part_blocks}
-use Rattle.nv_cell.specs.Cell.{CellState, empty_cell, number_in, published}
-use Rattle.nv_cell.specs.declared.killed.KilledPart.{KilledPart}
+use Rattle.nv_cell.specs.Cell.{CellState, empty_cell, published}
 use Rattle.nv_entry.specs.Blocks.{item_blocks}
 use Rattle.nv_entry.specs.declared.item.Entry.{Entry}
 use Rattle.nv_entry.specs.declared.item.Item.{Item}
-use Rattle.nv_entry.specs.declared.item.Item.TheVariants.{Init, Write, SetSize, SetMode, Bind, Unbind, Gone}
+use Rattle.nv_entry.specs.declared.item.Item.TheVariants.{Write}
 use Rattle.nv_machine.specs.Kept.{AreClosed, HasNoted}
 use Rattle.nv_machine.specs.Kinds.{with_entries, with_pages}
 use Rattle.nv_machine.specs.Settled.{settled, settled_tail}
 use Rattle.nv_machine.specs.World.{Shared, cell_at, with_cell}
 use Rattle.nv_machine.proofs.CellSteps.{HaveFront, first_blocks, items_in, later_blocks, later_rest}
-use Rattle.nv_machine.proofs.Entered.{entries_more, pages_keep}
+use Rattle.nv_machine.proofs.AppendsToCome.{entries_more, pages_keep}
 use Rattle.nv_machine.proofs.Journals.{closed_tail}
 use Rattle.nv_machine.proofs.LogsKept.{cell_set}
-use Rattle.nv_machine.proofs.Settling.{paged_tail, tail_keeps}
-use Rattle.nv_machine.proofs.EachOf.{all_append}
+use Rattle.nv_machine.proofs.CommitPoints.{paged_tail, tail_keeps}
+use Rattle.nv_machine.proofs.EachElement.{all_append}
 
 -- ---- a cell that has what it had, and more
 
@@ -94,12 +93,7 @@ one_stored e (Write first run size) is bs cell h =
     all_to (λ (b : BlockValue). (n : ℕ) × (slice_index_or (map Some bs) n None ≡ Some b)) (IsIn (appended e bs cell))
     (λ b m. subst (λ (i : Item). (n : ℕ) × (slice_index_or (cell.blocks ++ part_blocks i bs) n None ≡ Some b)) (sym is)
     (behind cell.blocks (None ∷ map Some bs) (suc m.0) b m.1)) bs (each_some bs)
-one_stored e (Init kind mode) is bs cell h = none_here (appended e bs cell) bs h
-one_stored e (SetSize size) is bs cell h = none_here (appended e bs cell) bs h
-one_stored e (SetMode mode) is bs cell h = none_here (appended e bs cell) bs h
-one_stored e (Bind name to) is bs cell h = none_here (appended e bs cell) bs h
-one_stored e (Unbind name) is bs cell h = none_here (appended e bs cell) bs h
-one_stored e Gone is bs cell h = none_here (appended e bs cell) bs h
+one_stored e other is bs cell h = none_here (appended e bs cell) bs h
 
 pub entries_stored : (entries : List Entry) (bs : List BlockValue) (cell : CellState) (front : HaveFront (items_in entries) (numbers_of bs))
     → front.rest ≡ [] → AllByRecursion (IsIn (with_entries entries bs cell)) bs
@@ -120,13 +114,6 @@ entries_stored (e ∷ entries) bs cell front none =
 part_block : (keeper : Option ℕ) (n : ℕ) (cell : CellState) → (settled_part keeper n cell).block ≡ cell.block
 part_block None n cell = refl
 part_block (Some s) n cell = refl
-
-pub retired_block : (living : List ℕ) (ino epoch : ℕ) (parts : List KilledPart) (cell : CellState)
-    → (retired living ino epoch parts cell).block ≡ cell.block
-retired_block living ino epoch [] cell = refl
-retired_block living ino epoch (killed ∷ later) cell =
-    retired_block living ino epoch later (retired_one living ino epoch killed cell)
-    ∙ part_block (keeper_of living ino epoch killed) (number_in cell killed.part) cell
 
 pub erased_block : (cell : CellState) → (erased cell).block ≡ cell.block
 erased_block cell = go (is_erased cell) where

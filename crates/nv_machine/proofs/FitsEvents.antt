@@ -1,8 +1,8 @@
 -- Plans fit at their commit points, whatever events come.
 use Rattle.nv_book.specs.declared.record.Record.{Record}
-use Rattle.std.proofs.Common.{◌≡◌, ◌≢◌, ◌⊎◌, ℕ, ◌-◌, ◌<◌, ◌≤◌, ◌==◌, ◌∙◌, Bool, true, false, cond, List, [], ◌∷◌, Option, Some, None, ap, ap₂, arith, get_or-set_other, get_or-set_same, inl, inr, length, length-set, nat_lt, refl, set, subst, sym, take}
+use Rattle.std.proofs.Common.{◌≡◌, ◌≢◌, ◌⊎◌, ℕ, ◌<◌, ◌≤◌, ◌==◌, ◌∙◌, Bool, true, cond, List, [], Option, Some, None, ap, ap₂, arith, inl, inr, length, nat_lt, subst, sym, take}
 use Rattle.std.specs.Prelude.{slice_index_or, unwrap_or}
-use Rattle.std.proofs.lemmas.Bool.{cases_lt, eqb-false, eqb-true, lt-ltb, ltb-true, true≢false}
+use Rattle.std.proofs.lemmas.Bool.{cases_lt, lt-ltb}
 use Rattle.std.proofs.lemmas.List.{get_or_past}
 use Rattle.std.specs.List.{AllByRecursion}
 use Rattle.nv_alloc.specs.Numbers.{has}
@@ -13,128 +13,93 @@ use Rattle.nv_calls.specs.Refusals.{passes}
 use Rattle.nv_calls.specs.Plain.{node_in}
 use Rattle.nv_calls.specs.Slots.{items_for, Slot}
 use Rattle.nv_calls.specs.declared.call.Call.{Call}
-use Rattle.nv_cell.specs.Cell.{CellState, published}
-use Rattle.nv_calls.specs.Retiring.{erased, released}
+use Rattle.nv_cell.specs.Cell.{CellState}
 use Rattle.nv_entry.specs.declared.item.Entry.{Entry}
-use Rattle.nv_epoch.specs.SnapList.{ids}
 use Rattle.nv_machine.specs.Effects.{AreSound, HasPlanNow}
 use Rattle.nv_machine.specs.FitsNow.{bytes_in}
 use Rattle.nv_machine.specs.Frame.{IsFramed, Lent, lent}
 use Rattle.nv_machine.specs.Hands.{AreNumbers, HandAt, HandOf}
-use Rattle.nv_machine.specs.Kinds.{entries_for, first_killed, retired_cell, with_entries, with_pages}
+use Rattle.nv_machine.specs.Kinds.{entries_for}
 use Rattle.nv_machine.specs.Locks.{AreSlots, HoldsIts, commits_at}
 use Rattle.nv_machine.specs.Order.{CommitsIn}
-use Rattle.nv_machine.specs.PlainRun.{Commits, Deed, Nothing, Numbers as FixesNumber, deed_by, deed_of, keeps_nodes, OnSnapshots}
+use Rattle.nv_machine.specs.PlainRun.{Commits, deed_of}
 use Rattle.nv_machine.specs.Reached.{IsReached}
+use Rattle.nv_machine.specs.Recorded.{records_after}
 use Rattle.nv_machine.specs.Reads.{pages_needed, slot_at, slots_of, written_slots}
-use Rattle.nv_machine.specs.Sequence.{Beginning, Looks, Locks, Numbers, Visits, beginning, begun, nothing_looked}
+use Rattle.nv_machine.specs.Sequence.{Beginning, Locks, beginning, begun, nothing_looked}
 use Rattle.nv_machine.specs.Settled.{node_by, settled, settled_nodes, settled_tail}
 use Rattle.nv_machine.specs.Starts.{IsStart}
-use Rattle.nv_machine.specs.Step.{after, go_step, start_step, step, turn, turned}
-use Rattle.nv_machine.specs.World.{Actor, Append, Back, Check, Close, Ends, Enter, Event, Give, Go, HandState, Leave, Lock, Look, Moves, Next, Number, Open, Publish, Ready, Retire, Running, Shared, Start, TakeBlocks, TakePages, Turn, Unlock, Visit, Waits, World, actor_at, cell_at, empty_hand, idle, no_cell, owner_at, with_cell, Drop, LockPicked, Make, Pick, Pin, Release, Show, Snapshots, Unpin}
-use Rattle.nv_machine.proofs.Answered.{deed_is}
-use Rattle.nv_machine.proofs.Lists.{written_inside}
-use Rattle.nv_machine.proofs.Effects.{point_is_sound, take_none}
+use Rattle.nv_machine.specs.Step.{after, step, turn, turned}
+use Rattle.nv_machine.specs.World.{Actor, Ends, Event, Go, HandState, Moves, Next, Running, Shared, Turn, Waits, World, actor_at, cell_at, empty_hand, no_cell, owner_at}
+use Rattle.nv_machine.proofs.EndingsStay.{deed_is}
+use Rattle.nv_machine.proofs.CommitEffects.{IsRead, point_is_sound, take_none}
 use Rattle.nv_machine.proofs.FitsBytes.{all_read, grows_now, plan_now, point_fits}
-use Rattle.nv_machine.proofs.FitsCells.{append_wider, erased_block, retired_block}
+use Rattle.nv_machine.proofs.FitsCells.{append_wider, erased_block}
+use Rattle.nv_machine.proofs.OverEvents.{by_points, event_by, event_numbers, events_by, set_begun, set_one, turn_at, with_call}
+use Rattle.nv_machine.proofs.FiledLaw.{all_marked}
+use Rattle.nv_machine.proofs.FiledRuns as filed
+use Rattle.nv_machine.proofs.FiledRuns.{all_listed}
+use Rattle.nv_machine.proofs.FiledTurns.{Listed}
+use Rattle.nv_machine.proofs.FiledWorlds.{AreMarked}
 use Rattle.nv_machine.proofs.FitsPooled.{HaveFreeNumbers, free_numbers}
 use Rattle.nv_machine.proofs.FitsKinds.{own_turn, their_fits}
 use Rattle.nv_machine.proofs.FitsStages.{Drawn, FitsAt, FitsOf, IsLocked, IsStored, Passed, SameStored}
 use Rattle.nv_machine.proofs.FitsTurns.{OnFits, locking_fits}
-use Rattle.nv_machine.proofs.Framed.{framed}
+use Rattle.nv_machine.proofs.StepFrames.{framed}
 use Rattle.nv_machine.proofs.FromScratch.{all_numbers}
-use Rattle.nv_machine.proofs.Grown.{CellsLeft, OnGrown}
-use Rattle.nv_machine.proofs.GrownTurns.{grown_turn, standing as grown_standing}
-use Rattle.nv_machine.proofs.Kept.{AfterTurn, deed, number_deed, back_deed, turn_keeps}
-use Rattle.nv_machine.proofs.KeptRuns.{sound_stays, standing as kept_standing}
-use Rattle.nv_machine.proofs.Locked.{Before, owner_is}
-use Rattle.nv_machine.proofs.Locks.{before}
-use Rattle.nv_machine.proofs.LogsKept.{cell_set}
+use Rattle.nv_machine.proofs.UnsettledLogs.{CellsLeft, OnGrown}
+use Rattle.nv_machine.proofs.UnsettledTurns.{grown_turn, standing as grown_standing}
+use Rattle.nv_machine.proofs.StepWork.{work}
+use Rattle.nv_machine.proofs.WorkKeeps.{AfterTurn, turn_keeps}
+use Rattle.nv_machine.proofs.LogsKeptRuns.{sound_stays, standing as kept_standing}
+use Rattle.nv_machine.proofs.LocksHeld.{Before, owner_is}
+use Rattle.nv_machine.proofs.LocksOverEvents.{before}
+use Rattle.nv_machine.proofs.PoolLaw.{all_pooled}
+use Rattle.nv_machine.proofs.PoolRuns.{ArePooled}
 use Rattle.nv_machine.proofs.Reached.{reached}
-use Rattle.nv_machine.proofs.KeptTurns.{lent_inside_own}
 use Rattle.nv_machine.proofs.Shapes.{Grows}
-use Rattle.nv_calls.proofs.Next.{by_erased}
-use Rattle.nv_machine.specs.Sequence as sequence
+use Rattle.nv_machine.proofs.CellChanges.{cells_after, removal, slots_stay}
 
 -- ---- blocks have one size
 
 abbrev pub AreSizes : ℕ → Shared → Type 0
 AreSizes block s = (ino : ℕ) → ino < length s.cells → (cell_at s ino).block ≡ block
 
-with_size : (block : ℕ) (s : Shared) (slot : ℕ) (new : CellState) → slot < length s.cells → new.block ≡ (cell_at s slot).block
-    → AreSizes block s → AreSizes block (with_cell slot new s)
-with_size block s slot new low same sizes ino lt = cell_set s slot new ino (λ (c : CellState). c.block ≡ block) low
-    (λ e. same ∙ sizes slot low) (λ ne. sizes ino (let n = length-set s.cells slot new in omega (arith, lt, n)))
-
-number_sizes : (block : ℕ) (numbers : List ℕ) (s : Shared) (h : HandState) → AreSizes block s
-    → AreSizes block (number_deed numbers s h).shared
-number_sizes block [] s h sizes = sizes
-number_sizes block (ino ∷ numbers) s h sizes = sizes
-
-back_sizes : (block : ℕ) (number : Option ℕ) (s : Shared) (h : HandState) → AreSizes block s → AreSizes block (back_deed number s h).shared
-back_sizes block None s h sizes = sizes
-back_sizes block (Some ino) s h sizes = sizes
-
 pub slots_in_cells : (k : Next) (a : ℕ) (s : Shared) (r : Running) → Before a s k r → AreSlots (length s.cells) r.slots
 slots_in_cells k a s r b = subst (λ (n : ℕ). AreSlots n r.slots) b.wide b.are
 
-deed_sizes : (k : Next) (block a : ℕ) (s : Shared) (h : HandState) (r : Running) → Before a s k r → AreSizes block s
-    → AreSizes block (deed k block a s h r).shared
-deed_sizes Number block a s h r b sizes = number_sizes block s.pool.numbers s h sizes
-deed_sizes (Snapshots Make) block a s h r b sizes = sizes
-deed_sizes (Snapshots (Drop snapshot)) block a s h r b sizes = sizes
-deed_sizes (Snapshots (Pin snapshot)) block a s h r b sizes = sizes
-deed_sizes (Snapshots (Show snapshot showing)) block a s h r b sizes = sizes
-deed_sizes (Snapshots (Unpin snapshot seen)) block a s h r b sizes = sizes
-deed_sizes (Snapshots (Pick draining)) block a s h r b sizes = sizes
-deed_sizes (Snapshots (LockPicked draining picked)) block a s h r b sizes = sizes
-deed_sizes (Snapshots (Release draining picked)) block a s h r b sizes =
-    let cell = released picked (cell_at s picked.ino) in
-    with_size block s picked.ino (erased cell)
-    (lent_inside_own (Snapshots (Release draining picked)) a s r b picked.ino refl).0
-    (by_erased (λ (c : CellState). c.block ≡ (cell_at s picked.ino).block) cell refl refl) sizes
-deed_sizes (Look place) block a s h r b sizes = sizes
-deed_sizes (Lock place) block a s h r b sizes = sizes
-deed_sizes Check block a s h r b sizes = sizes
-deed_sizes (TakeBlocks asked) block a s h r b sizes = sizes
-deed_sizes (TakePages asked) block a s h r b sizes = sizes
-deed_sizes Ready block a s h r b sizes = sizes
-deed_sizes Enter block a s h r b sizes = sizes
-deed_sizes (Append place) block a s h r b sizes =
-    let slot = slot_at (written_slots r) place in
-    let pages = take (pages_needed s r.plan slot) h.pages in
-    with_size block s slot (with_entries (entries_for r slot) h.blocks (with_pages pages (cell_at s slot)))
-    (written_inside (length s.cells) r place (slots_in_cells (Append place) a s r b) b.inside)
-    (append_wider (entries_for r slot) h.blocks pages (cell_at s slot)).block sizes
-deed_sizes Open block a s h r b sizes = sizes
-deed_sizes (Publish place) block a s h r b sizes =
-    let slot = slot_at (written_slots r) place in
-    with_size block s slot (published (cell_at s slot))
-    (written_inside (length s.cells) r place (slots_in_cells (Publish place) a s r b) b.inside) refl sizes
-deed_sizes Close block a s h r b sizes = sizes
-deed_sizes (Retire place) block a s h r b sizes =
-    let slot = slot_at (written_slots r) place in
-    let cell = retired_cell slot (first_killed h.killed) s r in
-    with_size block s slot (erased cell)
-    (written_inside (length s.cells) r place (slots_in_cells (Retire place) a s r b) b.inside)
-    (erased_block cell ∙ retired_block (ids s.book.snaps) slot r.epoch (first_killed h.killed) (cell_at s slot)) sizes
-deed_sizes Leave block a s h r b sizes = sizes
-deed_sizes (Unlock place) block a s h r b sizes = sizes
-deed_sizes (Give cpu) block a s h r b sizes = sizes
-deed_sizes Back block a s h r b sizes = back_sizes block h.ino s h sizes
-deed_sizes Visit block a s h r b sizes = sizes
+work_sizes : (k : Next) (block a : ℕ) (s : Shared) (h : HandState) (r : Running) → Before a s k r → AreSizes block s
+    → AreSizes block (work k block a s h r).shared
+work_sizes k block a s h r b sizes ino lt =
+    cells_after (λ (n : ℕ) (c : CellState). n < length s.cells → c.block ≡ block) block a s h r sizes k b (record {
+      appends = λ place is inside low there.
+          let slot = slot_at (written_slots r) place in
+          (append_wider (entries_for r slot) h.blocks (take (pages_needed s r.plan slot) h.pages) (cell_at s slot)).block ∙ sizes slot low;
+      publishes = λ place is inside low there. sizes (slot_at (written_slots r) place) low;
+      removes = λ is low left there.
+          let x = removal k s h r in erased_block x.cell ∙ left.keeps.block ∙ sizes x.slot low;
+    }) ino (let n = slots_stay k block a s h r in omega (arith, lt, n))
 
 -- ---- what is known of a world
-
-pub record IsKnown (g : GeometryNumbers) (w : World) : Type 0 where
-  pub reached : IsReached w
-  pub numbers : AreNumbers g w
-  pub free : HaveFreeNumbers w
 
 pub record AreFit (w : World) : Type 0 where
   pub sizes : AreSizes w.numbers.block w.shared
   pub sound : AreSound w.shared
   pub each : (actor : ℕ) → FitsOf (actor_at w actor).running w.numbers.block w.shared (actor_at w actor).hand
+
+-- WHAT IS KNOWN of each world that events lead to from a start
+pub record IsKnown (g : GeometryNumbers) (w : World) : Type 0 where
+  pub reached : IsReached w
+  pub numbers : AreNumbers g w
+  pub rs : List Record
+  pub listed : Listed rs w.shared
+  pub marked : AreMarked w rs
+  pub pooled : ArePooled g w
+  pub free : HaveFreeNumbers w
+  pub fit : AreFit w
+
+pub filed_known : (g : GeometryNumbers) (w : World) → IsKnown g w → filed.IsListable g w
+filed_known g w known = record { locks = known.reached.locks; order = known.reached.order; numbers = known.numbers }
 
 -- ---- what others leave
 
@@ -188,40 +153,42 @@ others_fit a b block s t h (Some r) ne left many holds f = their_fits r.next blo
 
 -- ---- one event
 
-module _ (g : GeometryNumbers) (w : World) (known : IsKnown g w) (fit : AreFit w) (actor : ℕ) where
+abbrev FitsBy : ℕ → ℕ → Shared → Actor → Type 0
+FitsBy block b s x = FitsOf x.running block s x.hand
+
+-- what is left by a turn
+abbrev EachFits : ℕ → World → Type 0
+EachFits block v = AreSizes block v.shared × ((b : ℕ) → FitsOf (actor_at v b).running block v.shared (actor_at v b).hand)
+
+-- the pages of its settled logs are read
+pub is_read : (g : GeometryNumbers) (w : World) → IsKnown g w → IsRead (bytes_in w.shared) w.numbers.block w.shared
+is_read g w known = record {
+  pages = known.reached.kept.logs.pages;
+  apart = known.reached.apart.cells;
+  blocks = all_read g.blocks w known.numbers.once;
+  sizes = known.fit.sizes;
+}
+
+module _ (g : GeometryNumbers) (w : World) (known : IsKnown g w) (actor : ℕ) where
   abbrev block : ℕ
   block = w.numbers.block
 
-  set_fits : (x : Actor) (t : Shared) → actor < length w.actors → CellsLeft actor w.shared t → length t.cells ≡ length w.shared.cells
-      → FitsOf x.running block t x.hand
-      → (b : ℕ) → FitsOf (slice_index_or (set w.actors actor x) b idle).running block t (slice_index_or (set w.actors actor x) b idle).hand
-  set_fits x t there left many own b = go (actor == b) refl where
-    go : (c : Bool) → (actor == b) ≡ c
-        → FitsOf (slice_index_or (set w.actors actor x) b idle).running block t (slice_index_or (set w.actors actor x) b idle).hand
-    go true e = subst (λ (n : ℕ). FitsOf (slice_index_or (set w.actors actor x) n idle).running block t
-        (slice_index_or (set w.actors actor x) n idle).hand) (eqb-true actor b e)
-        (subst (λ (y : Actor). FitsOf y.running block t y.hand) (sym (get_or-set_same w.actors actor x idle there)) own)
-    go false e = subst (λ (y : Actor). FitsOf y.running block t y.hand)
-        (sym (get_or-set_other w.actors actor b x idle (λ is. eqb-false actor b e (sym is))))
-        (others_fit actor b block w.shared t (actor_at w b).hand (actor_at w b).running (λ is. eqb-false actor b e (sym is)) left many
-        (known.reached.locks.each b) (fit.each b))
-
-  -- what is left by a turn
-  abbrev Each : World → Type 0
-  Each v = AreSizes block v.shared
-      × ((b : ℕ) → FitsOf (actor_at v b).running block v.shared (actor_at v b).hand)
+  others : (t : Shared) → CellsLeft actor w.shared t → length t.cells ≡ length w.shared.cells → (b : ℕ) → b ≢ actor
+      → FitsBy block b t (actor_at w b)
+  others t left many b ne = others_fit actor b block w.shared t (actor_at w b).hand (actor_at w b).running ne left many
+      (known.reached.locks.each b) (known.fit.each b)
 
   turned_fits : (l : Lent) (t : Turn) → actor < length w.actors → OnGrown actor w.shared t → IsFramed l w.shared t → OnFits block t
-      → AfterTurn (λ (s : Shared) (h : HandState). AreSizes block s) t → Each (turned t actor w).world
+      → AfterTurn (λ (s : Shared) (h : HandState). AreSizes block s) t → EachFits block (turned t actor w).world
   turned_fits l (Moves s h r) there grown frame on sizes =
-      (sizes, set_fits (record { hand = h; running = Some r }) s there grown.0 frame.slots on)
-  turned_fits l Waits there grown frame on sizes = (fit.sizes, fit.each)
+      (sizes, set_one (FitsBy block) w actor (with_call h (Some r)) s there on (others s grown.0 frame.slots))
+  turned_fits l Waits there grown frame on sizes = (known.fit.sizes, known.fit.each)
   turned_fits l (Ends result s h) there grown frame on sizes =
-      (sizes, set_fits (record { hand = h; running = None }) s there grown.0 frame.slots tt)
+      (sizes, set_one (FitsBy block) w actor (with_call h None) s there tt (others s grown.0 frame.slots))
 
   module _ (granted : Bool) (r : Running) (is : (actor_at w actor).running ≡ Some r) where
     own_fits : FitsAt r.next block w.shared (actor_at w actor).hand r
-    own_fits = subst (λ (o : Option Running). FitsOf o block w.shared (actor_at w actor).hand) is (fit.each actor)
+    own_fits = subst (λ (o : Option Running). FitsOf o block w.shared (actor_at w actor).hand) is (known.fit.each actor)
 
     pub own_hand : HandAt w.numbers r.next (actor_at w actor).hand r
     own_hand =
@@ -229,7 +196,7 @@ module _ (g : GeometryNumbers) (w : World) (known : IsKnown g w) (fit : AreFit w
         subst (λ (o : Option Running). HandOf g (actor_at w actor).hand o) is (known.numbers.hands actor) in
         subst (λ (n : GeometryNumbers). HandAt n r.next (actor_at w actor).hand r) (sym known.numbers.numbers) own.0
 
-    own_each : actor < length w.actors → Each (turned (turn block actor granted w.shared (actor_at w actor).hand r) actor w).world
+    own_each : actor < length w.actors → EachFits block (turned (turn_at w actor granted r) actor w).world
     own_each there =
         let s = w.shared in
         let h = (actor_at w actor).hand in
@@ -245,8 +212,8 @@ module _ (g : GeometryNumbers) (w : World) (known : IsKnown g w) (fit : AreFit w
           fits = own_fits;
           free = λ e ino has_it. known.free actor ino r is e has_it;
         }))
-        (turn_keeps (λ (t : Shared) (h : HandState). AreSizes block t) r.next block actor granted s h r fit.sizes
-        (deed_sizes r.next block actor s h r b fit.sizes))
+        (turn_keeps (λ (t : Shared) (h : HandState). AreSizes block t) r.next block actor granted s h r known.fit.sizes
+        (work_sizes r.next block actor s h r b known.fit.sizes))
 
     module _ (there : actor < length w.actors) (e : deed_of w (Go actor granted) ≡ Commits) where
       at : (commits_at r.next ≡ true) × Passed block w.shared r × Drawn block w.shared r (AllByRecursion (IsStored w.shared r.slots))
@@ -256,27 +223,11 @@ module _ (g : GeometryNumbers) (w : World) (known : IsKnown g w) (fit : AreFit w
 
       -- at a commit point the plan fits
       pub fits_now : HasPlanNow (bytes_in w.shared) block w.shared r
-      fits_now =
-          let s = w.shared in
-          let k = known.reached in
-          plan_now (bytes_in s) block s (record {
-            pages = k.kept.logs.pages;
-            apart = k.apart.cells;
-            blocks = all_read g.blocks w known.numbers.once;
-            sizes = fit.sizes;
-          }) fit.sound r k.kept.some at.1 at.2
+      fits_now = plan_now (bytes_in w.shared) block w.shared (is_read g w known) known.fit.sound r known.reached.kept.some at.1 at.2
 
       -- and its items are lawful for what their slots have
       pub grow_now : (ino : ℕ) → (items_for r.plan ino ≡ []) ⊎ Grows block (settled w.shared ino) (items_for r.plan ino)
-      grow_now =
-          let s = w.shared in
-          let k = known.reached in
-          grows_now (bytes_in s) block s (record {
-            pages = k.kept.logs.pages;
-            apart = k.apart.cells;
-            blocks = all_read g.blocks w known.numbers.once;
-            sizes = fit.sizes;
-          }) fit.sound r k.kept.some at.1 at.2
+      grow_now = grows_now (bytes_in w.shared) block w.shared (is_read g w known) known.fit.sound r known.reached.kept.some at.1 at.2
 
       -- it is that of blocks that the call has filled
       pub drawn_now : Drawn block w.shared r (AllByRecursion (IsStored w.shared r.slots))
@@ -295,95 +246,44 @@ module _ (g : GeometryNumbers) (w : World) (known : IsKnown g w) (fit : AreFit w
           let entered : CommitsIn w.shared (Some r) =
           subst (λ (o : Option Running). CommitsIn w.shared o) is (known.reached.order.each actor) in (entered at.0).commit
 
-  go_each : (b : Bool) (running : Option Running) (granted : Bool) → nat_lt actor (length w.actors) ≡ b
-      → (actor_at w actor).running ≡ running → Each (go_step b running actor granted w).world
-  go_each false running granted e is = (fit.sizes, fit.each)
-  go_each true None granted e is = (fit.sizes, fit.each)
-  go_each true (Some r) granted e is = own_each granted r is (ltb-true actor (length w.actors) e)
-
   begun_fits : (b : Beginning) (c : Call) (h : HandState) → h ≡ empty_hand
       → FitsOf (Some (begun b w.shared c)) block w.shared h
-  begun_fits Numbers c h empty = tt
-  begun_fits Looks c h empty = tt
-  begun_fits Visits c h empty = tt
-  begun_fits (sequence.OnSnapshots what) c h empty = tt
   begun_fits Locks c h empty = locking_fits block 0 (slots_of w.shared None nothing_looked c) w.shared h (begun Locks w.shared c)
       (ap (λ (x : HandState). slots_of w.shared x.ino nothing_looked c) (sym empty))
+  begun_fits other c h empty = tt
 
-  start_each : (b : Bool) (running : Option Running) (c : Call) → nat_lt actor (length w.actors) ≡ b
-      → (actor_at w actor).running ≡ running → Each (start_step b running actor c w).world
-  start_each false running c e is = (fit.sizes, fit.each)
-  start_each true (Some r) c e is = (fit.sizes, fit.each)
-  start_each true None c e is = (
-    fit.sizes,
-    set_fits (record { hand = (actor_at w actor).hand; running = Some (begun (beginning c) w.shared c) }) w.shared
-        (ltb-true actor (length w.actors) e) (record { cells = λ ino out. refl; logs = λ ino out. refl }) refl
-        (begun_fits (beginning c) c (actor_at w actor).hand (known.reached.apart.idle actor is)),
-  )
+module _ (g : GeometryNumbers) (w : World) (known : IsKnown g w) where
+  event_each : (e : Event) → EachFits w.numbers.block (step w e).world
+  event_each e = event_by (EachFits w.numbers.block) w (known.fit.sizes, known.fit.each) e
+      (λ actor c there is. (
+        known.fit.sizes,
+        set_begun (FitsBy w.numbers.block) w actor c there
+            (begun_fits g w known actor (beginning c) c (actor_at w actor).hand (known.reached.apart.idle actor is)) known.fit.each,
+      ))
+      (λ actor granted r there is. own_each g w known actor granted r is there)
 
-pub commits_if : (d : Deed) → keeps_nodes d ≡ false → d ≡ Commits
-commits_if Nothing e = cc
-commits_if (OnSnapshots step) e = cc
-commits_if FixesNumber e = cc
-commits_if Commits e = refl
-
-module _ (g : GeometryNumbers) (w : World) (known : IsKnown g w) (fit : AreFit w) where
-  go_sound : (b : Bool) (running : Option Running) (actor : ℕ) (granted : Bool) → nat_lt actor (length w.actors) ≡ b
-      → (actor_at w actor).running ≡ running → (d : Bool) → keeps_nodes (deed_of w (Go actor granted)) ≡ d
-      → AreSound (step w (Go actor granted)).world.shared
-  go_sound b running actor granted there is true keeps =
+  event_sound : (e : Event) → AreSound (step w e).world.shared
+  event_sound = by_points w (λ (e : Event). AreSound (step w e).world.shared)
+      (λ actor granted r there is e.
       let k = known.reached in
-      sound_stays w (Go actor granted) k.locks k.order k.kept k.apart keeps fit.sound
-  go_sound true (Some r) actor granted there is false keeps =
-      let k = known.reached in
-      let lt = ltb-true actor (length w.actors) there in
-      let commits = commits_if (deed_of w (Go actor granted)) keeps in
-      point_is_sound (bytes_in w.shared) w actor granted r k.locks k.order k.kept k.grown k.apart lt is commits
-      (fits_now g w known fit actor granted r is lt commits)
-  go_sound true None actor granted there is false keeps =
-      absurd (true≢false (sym (rw there (ap (λ (o : Option Running). keeps_nodes (deed_by o w actor granted)) is)) ∙ keeps))
-  go_sound false running actor granted there is false keeps = absurd (true≢false (sym (rw there refl) ∙ keeps))
+      point_is_sound (bytes_in w.shared) w actor granted r k.locks k.order k.kept k.grown k.apart there is e
+      (fits_now g w known actor granted r is there e))
+      (λ e keeps. let k = known.reached in sound_stays w e k.locks k.order k.kept k.apart keeps known.fit.sound)
 
-  fit_as : (v : World) → v.numbers ≡ w.numbers → AreSizes w.numbers.block v.shared
-      → ((b : ℕ) → FitsOf (actor_at v b).running w.numbers.block v.shared (actor_at v b).hand) → AreSound v.shared → AreFit v
-  fit_as v same sizes each sound = record {
-    sizes = subst (λ (n : GeometryNumbers). AreSizes n.block v.shared) (sym same) sizes;
-    sound = sound;
-    each = λ b. subst (λ (n : GeometryNumbers). FitsOf (actor_at v b).running n.block v.shared (actor_at v b).hand) (sym same) (each b);
-  }
-
-  pub event_fits : (e : Event) → (step w e).world.numbers ≡ w.numbers → AreFit (step w e).world
-  event_fits (Start actor c) same =
-      let each = start_each g w known fit actor (nat_lt actor (length w.actors)) (actor_at w actor).running c refl refl in
-      let k = known.reached in
-      fit_as (step w (Start actor c)).world same each.0 each.1
-      (sound_stays w (Start actor c) k.locks k.order k.kept k.apart refl fit.sound)
-  event_fits (Go actor granted) same =
-      let each = go_each g w known fit actor (nat_lt actor (length w.actors)) (actor_at w actor).running granted refl refl in
-      fit_as (step w (Go actor granted)).world same each.0 each.1
-      (go_sound (nat_lt actor (length w.actors)) (actor_at w actor).running actor granted refl refl
-      (keeps_nodes (deed_of w (Go actor granted))) refl)
-
--- ---- all events
-
-pub events_fit : (g : GeometryNumbers) (events : List Event) (w : World) → ((before : List Event) → IsKnown g (after w before)) → AreFit w
-    → AreFit (after w events)
-events_fit g [] w known fit = fit
-events_fit g (e ∷ events) w known fit =
-    events_fit g events (step w e).world (λ before. known (e ∷ before))
-    (event_fits g w (known []) fit e ((known (e ∷ [])).numbers.numbers ∙ sym (known []).numbers.numbers))
+  event_fits : (e : Event) → AreFit (step w e).world
+  event_fits e =
+      let v = (step w e).world in
+      let same = sym (event_numbers w e) in
+      record {
+        sizes = subst (λ (n : GeometryNumbers). AreSizes n.block v.shared) same (event_each e).0;
+        sound = event_sound e;
+        each = λ b. subst (λ (n : GeometryNumbers). FitsOf (actor_at v b).running n.block v.shared (actor_at v b).hand) same
+            ((event_each e).1 b);
+      }
 
 -- ---- every world
 
-pub all_known : (g : GeometryNumbers) (start : World) (records : List Record) → IsStart g start records → (events : List Event)
-    → IsKnown g (after start events)
-all_known g start records is_start events = record {
-  reached = reached g start records events is_start;
-  numbers = all_numbers g start records events is_start;
-  free = free_numbers g start records is_start events;
-}
-
-pub first_fit : (g : GeometryNumbers) (start : World) (records : List Record) → IsStart g start records → AreFit start
+first_fit : (g : GeometryNumbers) (start : World) (records : List Record) → IsStart g start records → AreFit start
 first_fit g start records is_start = record {
   sizes =
       subst (λ (n : GeometryNumbers). AreSizes n.block start.shared) (sym is_start.numbers)
@@ -392,7 +292,27 @@ first_fit g start records is_start = record {
   each = λ actor. subst (λ (x : Actor). FitsOf x.running start.numbers.block start.shared x.hand) (sym (is_start.idle_all actor)) tt;
 }
 
+known_with : (g : GeometryNumbers) (start : World) (records : List Record) → IsStart g start records → (events : List Event)
+    → AreFit (after start events) → IsKnown g (after start events)
+known_with g start records is_start events fit =
+    let pooled = all_pooled g start records events is_start in
+    record {
+      reached = reached g start records events is_start;
+      numbers = all_numbers g start records events is_start;
+      rs = records_after start events records;
+      listed = all_listed g start records events is_start;
+      marked = all_marked g start records events is_start;
+      pooled = pooled;
+      free = free_numbers g (after start events) pooled;
+      fit = fit;
+    }
+
 pub all_fit : (g : GeometryNumbers) (start : World) (records : List Record) → IsStart g start records → (events : List Event)
     → AreFit (after start events)
 all_fit g start records is_start events =
-    events_fit g events start (all_known g start records is_start) (first_fit g start records is_start)
+    events_by (λ (v : World). AreFit v → IsKnown g v) AreFit (λ v e known fit. event_fits g v (known fit) e) events start
+    (known_with g start records is_start) (first_fit g start records is_start)
+
+pub all_known : (g : GeometryNumbers) (start : World) (records : List Record) → IsStart g start records → (events : List Event)
+    → IsKnown g (after start events)
+all_known g start records is_start events = known_with g start records is_start events (all_fit g start records is_start events)

@@ -17,21 +17,25 @@ use Rattle.nv_machine.specs.Kinds.{asked_list, blocks_left, entries_for, old_tai
 use Rattle.nv_machine.specs.Locks.{AreSlots, held_at}
 use Rattle.nv_machine.specs.PlainRun.{Commits, Nothing, keeps_nodes}
 use Rattle.nv_machine.specs.Reads.{if_number, is_written, pages_needed, slot_at, slots_in, written_slots}
-use Rattle.nv_machine.specs.Sequence.{appending, publishing}
+use Rattle.nv_machine.specs.Sequence.{appending, locking, publishing}
 use Rattle.nv_machine.specs.Settled.{settled}
-use Rattle.nv_machine.specs.Step.{ending_at, kind_turn, with_made}
-use Rattle.nv_machine.specs.World.{Append, Back, Check, Close, Enter, Give, HandState, Leave, Lock, Look, Next, Number, Open, Publish, Ready, Retire, Running, Shared, TakeBlocks, TakePages, Unlock, Visit, cell_at, go_to, owner_at, with_book, with_cell, Snapshots}
+use Rattle.nv_machine.specs.Step.{kind_turn}
+use Rattle.nv_machine.specs.World.{Append, Check, Close, Enter, HandState, Lock, Look, Next, Number, Open, Publish, Ready, Retire, Running, Shared, TakeBlocks, TakePages, cell_at, go_to, list_at, owner_at, with_book, with_cell}
 use Rattle.nv_machine.proofs.FitsCells.{append_logs, append_wider, publish_logs, same_wider, wider_cells}
-use Rattle.nv_machine.proofs.FitsOwn.{IsNumberFree, all_in, all_stored, passed_check, ready_fits, same_stored, wanted_check}
-use Rattle.nv_machine.proofs.FitsStages.{Drawn, FitsAt, IsDrawn, IsStored, Passed, SameStored, drawn_on, fits_still, passed_on, stored_on, view}
-use Rattle.nv_machine.proofs.FitsTurns.{OnFits, appending_fits, back_fits, check_fits, end_fits, enter_fits, lock_fits, look_fits, number_fits, publishing_fits, rest_fits, retiring_fits, single_fits, take_fits, taken_fits, unlock_fits, visit_fits, snapshot_fits}
-use Rattle.nv_machine.proofs.Grown.{is_settled}
+use Rattle.nv_machine.proofs.FitsOwn.{IsNumberFree, all_in, all_stored, passed_check, ready_drawn, same_stored, wanted_check}
+use Rattle.nv_machine.proofs.FitsStages.{Drawn, FitsAt, IsDrawn, IsStored, Passed, SameStored, drawn_on, fits_still, passed_on, stored_on, view, wanted_in}
+use Rattle.nv_machine.proofs.StepWork.{work}
+use Rattle.nv_machine.proofs.FitsTurns.{Fits, OnFits, appending_fits, entering_fits, fits_quiet, locking_fits, looking_fits, number_fits, publishing_fits, retiring_fits, single_fits}
+use Rattle.nv_machine.proofs.NextSteps.{KnowsNext, QuietWays, Untold, quiet_walk}
+use Rattle.nv_machine.proofs.StepWays.{noted, take_sum}
+use Rattle.nv_machine.proofs.StepWalk.{Works, counted}
+use Rattle.nv_machine.proofs.UnsettledLogs.{is_settled}
 use Rattle.nv_machine.proofs.Journals.{closed_tail, open_same}
-use Rattle.nv_machine.proofs.KeptTurns.{Standing, kept_turn}
+use Rattle.nv_machine.proofs.LogsKeptTurns.{Standing, kept_turn}
 use Rattle.nv_machine.proofs.Lists.{has_filter, written_inside}
-use Rattle.nv_machine.proofs.Locked.{owner_is}
+use Rattle.nv_machine.proofs.LocksHeld.{owner_is}
 use Rattle.nv_machine.proofs.LogsKept.{same_nodes}
-use Rattle.nv_machine.proofs.Written.{written_there}
+use Rattle.nv_machine.proofs.WrittenSlots.{written_there}
 
 -- ---- a step of its own
 
@@ -57,7 +61,7 @@ module _ (g : GeometryNumbers) (a : ℕ) (s : Shared) (h : HandState) (r : Runni
   slots_of_cells : (k : Next) → Own g k a s h r → AreSlots (length s.cells) r.slots
   slots_of_cells k st = subst (λ (n : ℕ). AreSlots n r.slots) st.kept.before.wide st.kept.before.are
 
-  module _ (place : ℕ) (granted : Bool) (st : Own g (Append place) a s h r) where
+  module _ (place : ℕ) (st : Own g (Append place) a s h r) where
     abbrev slot : ℕ
     slot = slot_at written place
 
@@ -81,7 +85,7 @@ module _ (g : GeometryNumbers) (a : ℕ) (s : Shared) (h : HandState) (r : Runni
 
     append_same : SameStored s t r.slots
     append_same = same_stored s t r.slots (length-set s.cells slot new)
-        (same_nodes s t ((kept_turn (Append place) g.block a granted s h r st.kept).1 refl).nodes)
+        (same_nodes s t ((kept_turn (Append place) g.block a true s h r st.kept).1 refl).nodes)
         (append_logs s slot (entries_for r slot) h.blocks (take pages h.pages) low st.kept.knows.2 (st.kept.kept.pages slot).within)
         (wider_cells s slot new low (append_wider (entries_for r slot) h.blocks (take pages h.pages) (cell_at s slot)))
 
@@ -103,14 +107,14 @@ module _ (g : GeometryNumbers) (a : ℕ) (s : Shared) (h : HandState) (r : Runni
         drawn_on g.block s t h r append_same (AllByRecursion (IsStored s r.slots)) (AllByRecursion (IsStored t r.slots))
         (stored_on g.block s t h r append_same) p f.1
 
-    pub append_own : OnFits g.block (kind_turn (Append place) g.block a granted s h r)
+    append_own : Works (KnowsNext (Fits g.block)) (Append place) g.block a s h r
     append_own =
         let hand = record h { blocks = blocks_left (entries_for r slot) h.blocks; pages = drop pages h.pages } in
         subst (λ (n : ℕ). FitsAt (appending n written) g.block t hand (go_to (appending n written) r)) (sym (add-one place))
         (appending_fits g.block t hand (go_to (appending (suc place) written) r) (passed_on g.block s t h r append_same st.fits.0) place
         written (append_stored place refl st.fits.0 st.fits))
 
-  open_own : Own g Open a s h r → OnFits g.block (kind_turn Open g.block a true s h r)
+  open_own : Own g Open a s h r → Works (KnowsNext (Fits g.block)) Open g.block a s h r
   open_own st = publishing_fits g.block t h (go_to (publishing 0 written) r) (passed_on g.block s t h r same st.fits.0) 0 written
       (drawn_on g.block s t h r same (AllByRecursion (IsStored s r.slots)) (AllByRecursion (IsStored t r.slots))
       (stored_on g.block s t h r same) st.fits.0 st.fits.1) where
@@ -133,7 +137,7 @@ module _ (g : GeometryNumbers) (a : ℕ) (s : Shared) (h : HandState) (r : Runni
             (λ ino. same_wider (cell_at s ino))
 
   publish_own : (place : ℕ) → Own g (Publish place) a s h r → (b : Bool) → nat_lt 1 (length written) ≡ b
-      → OnFits g.block (kind_turn (Publish place) g.block a true s h r)
+      → Works (KnowsNext (Fits g.block)) (Publish place) g.block a s h r
   publish_own place st false one =
       single_fits g.block place written (with_cell slot_ (published (cell_at s slot_)) s)
       (with_killed (killed_by (cell_at s slot_)) h) (go_to (publishing (place + 1) written) r) one where
@@ -175,36 +179,44 @@ module _ (g : GeometryNumbers) (a : ℕ) (s : Shared) (h : HandState) (r : Runni
   logs_at_ready st ino held = logs_of Ready s a r st.grown ino refl refl
       (owner_is a (owner_at s ino) (st.kept.before.mine.owners ino ∙ held))
 
+  -- a taking leaves the call with what is wanted
+  abbrev Wants : Shared → ℕ → Type 0
+  Wants t n = n ≡ wanted_in g.block (view t) r.call
+
+  ways : (k : Next) → Own g k a s h r → QuietWays (Fits g.block) k g.block a s h r
+  ways Number st = number_fits g.block s.pool.numbers s h r (ap (λ (x : HandState). x.ino) st.at.0)
+  ways (Look place) st =
+      looking_fits g.block (place + 1) s h (noted (Look place) g.block s h r) (ap (λ (x : HandState). x.ino) st.at.0) refl
+  ways (Lock place) st = locking_fits g.block (place + 1) r.slots _ h (go_to (locking (place + 1) r.slots) r) st.fits
+  ways Check st = λ e.
+      let p = passed_check g.block s h r (logs_at_check st) st.fits (st.free refl) e in
+      let none = ap (λ (l : List BlockValue). length l) st.kept.knows.0.blocks in
+      let wanted = wanted_check g.block s h r (logs_at_check st) st.fits (st.free refl) e in
+      counted (KnowsNext (Fits g.block)) Untold g.block a s h r Check (Wants s) (omega (arith, none, wanted)) (λ n q. (p, q))
+      (λ n q. (p, q)) (λ q. (p, q))
+  ways (TakeBlocks asked) st =
+      counted (KnowsNext (Fits g.block)) Untold g.block a s h r (TakeBlocks asked) (Wants s)
+      (take_sum h.blocks (list_at s (asked_list (length s.lists) a asked)).blocks r.wanted ∙ st.fits.1) (λ n q. (st.fits.0, q))
+      (λ n q. (st.fits.0, q)) (λ q. (st.fits.0, q))
+  ways (TakePages asked) st = record { more = λ n is ask. st.fits; pages = λ n none is. st.fits; ready = λ none is. st.fits }
+  ways Ready st = (st.fits.0, ready_drawn g.block s h r (logs_at_ready st) st.fits.0 st.fits.1 st.kept.small)
+  ways Enter st = λ clear.
+      entering_fits g.block (work Enter g.block a s h r).shared h (go_to (appending 0 (written_slots r)) (noted Enter g.block s h r))
+      st.fits.0 (written_slots r) st.fits.1
+  ways (Append place) st = append_own place st
+  ways Open st = open_own st
+  ways (Publish place) st = publish_own place st (nat_lt 1 (length (written_slots r))) refl
+  ways Close st = retiring_fits g.block 0 (written_slots r) _ _ _
+  ways (Retire place) st = retiring_fits g.block (place + 1) (written_slots r) _ _ _
+  ways other st = tt
+
   pub own_turn : (k : Next) (granted : Bool) → Own g k a s h r → OnFits g.block (kind_turn k g.block a granted s h r)
-  own_turn Number granted st = number_fits g.block s.pool.numbers s h r (ap (λ (x : HandState). x.ino) st.at.0)
-  own_turn (Look place) granted st = look_fits g.block _ _ _ place s h r (ap (λ (x : HandState). x.ino) st.at.0)
-  own_turn (Lock place) granted st = lock_fits g.block _ a place s h r st.fits
-  own_turn Check granted st = check_fits g.block (ending_at g.block s h r) granted _ s h (with_made s h r) (λ e. (
-    passed_check g.block s h r (logs_at_check st) st.fits (st.free refl) e,
-    (let none = ap (λ (l : List BlockValue). length l) st.kept.knows.0.blocks in
-        let wanted = wanted_check g.block s h r (logs_at_check st) st.fits (st.free refl) e in omega (arith, none, wanted)),
-  ))
-  own_turn (TakeBlocks asked) granted st = take_fits g.block asked (asked_list (length s.lists) a asked) s h r st.fits.0 st.fits.1
-  own_turn (TakePages asked) granted st = taken_fits g.block _ _ asked _ _ r st.fits.0 st.fits.1
-  own_turn Ready granted st = ready_fits g.block s h r (logs_at_ready st) st.fits.0 st.fits.1 st.kept.small granted
-  own_turn Enter granted st = enter_fits g.block s.holder _ granted a s h r st.fits.0 st.fits.1
-  own_turn (Append place) granted st = append_own place granted st
-  own_turn Open granted st = open_own st
-  own_turn (Publish place) granted st = publish_own place st (nat_lt 1 (length (written_slots r))) refl
-  own_turn Close granted st = retiring_fits g.block 0 (written_slots r) _ _ _
-  own_turn (Retire place) granted st = retiring_fits g.block (place + 1) (written_slots r) _ _ _
-  own_turn Leave granted st = end_fits g.block r.slots r.ending _ h r
-  own_turn (Unlock place) granted st = unlock_fits g.block _ place _ h r
-  own_turn (Give cpu) granted st = rest_fits g.block _ h.ino _ _ r
-  own_turn Back granted st = back_fits g.block h.ino s h r
-  own_turn Visit granted st = visit_fits g.block _ _ _ _ s h r
-  own_turn (Snapshots step) granted st = snapshot_fits g.block step a granted s h r
+  own_turn k granted st = quiet_walk (Fits g.block) (fits_quiet g.block) g.block a granted s h r k (ways k st)
 
 -- ---- a step of another
 
 pub their_fits : (k : Next) (block : ℕ) (s t : Shared) (h : HandState) (r : Running) → length t.cells ≡ length s.cells
     → (held_at k r.slots ≡ r.slots → SameStored s t r.slots) → FitsAt k block s h r → FitsAt k block t h r
-their_fits (Snapshots step) block s t h r many same f = tt
 their_fits (Lock place) block s t h r many same f =
     f ∙ ap (λ (n : ℕ). slots_in n (if_number h.ino ++ map (λ (x : Handle). x.ino) (handles r.looked r.call))) (sym many)
 their_fits Check block s t h r many same f = fits_still block s t h r (same refl) Check f
@@ -216,11 +228,4 @@ their_fits (Append place) block s t h r many same f = fits_still block s t h r (
 their_fits Open block s t h r many same f = fits_still block s t h r (same refl) Open f
 their_fits (Publish place) block s t h r many same f = fits_still block s t h r (same refl) (Publish place) f
 their_fits Close block s t h r many same f = fits_still block s t h r (same refl) Close f
-their_fits Number block s t h r many same f = tt
-their_fits (Look place) block s t h r many same f = tt
-their_fits (Retire place) block s t h r many same f = tt
-their_fits Leave block s t h r many same f = tt
-their_fits (Unlock place) block s t h r many same f = tt
-their_fits (Give cpu) block s t h r many same f = tt
-their_fits Back block s t h r many same f = tt
-their_fits Visit block s t h r many same f = tt
+their_fits other block s t h r many same f = tt

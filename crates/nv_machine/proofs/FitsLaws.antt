@@ -12,8 +12,8 @@ use Rattle.nv_machine.specs.PlainRun.{Commits, deed_of}
 use Rattle.nv_machine.specs.Settled.{settled_nodes}
 use Rattle.nv_machine.specs.Starts.{IsStart}
 use Rattle.nv_machine.specs.Step.{after, step}
-use Rattle.nv_machine.specs.World.{Append, Back, Check, Close, Enter, Event, Give, Go, HandState, Leave, Lock, Look, Next, Number, Open, Publish, Ready, Retire, Running, Shared, TakeBlocks, TakePages, Unlock, Visit, World, actor_at, Snapshots}
-use Rattle.nv_machine.proofs.Effects.{point_effect}
+use Rattle.nv_machine.specs.World.{Append, Close, Enter, Event, Go, HandState, Next, Open, Publish, Ready, Running, Shared, TakeBlocks, TakePages, World, actor_at}
+use Rattle.nv_machine.proofs.CommitEffects.{point_effect}
 use Rattle.nv_machine.proofs.FitsEvents.{all_fit, all_known, fits_now, passes_now}
 use Rattle.nv_machine.proofs.FitsStages.{FitsAt, FitsOf, Passed}
 
@@ -28,17 +28,7 @@ checked_passed (Append place) block s h r e f = f.0
 checked_passed Open block s h r e f = f.0
 checked_passed (Publish place) block s h r e f = f.0
 checked_passed Close block s h r e f = f.0
-checked_passed (Snapshots step) block s h r e f = cc
-checked_passed Number block s h r e f = cc
-checked_passed (Look place) block s h r e f = cc
-checked_passed (Lock place) block s h r e f = cc
-checked_passed Check block s h r e f = cc
-checked_passed (Retire place) block s h r e f = cc
-checked_passed Leave block s h r e f = cc
-checked_passed (Unlock place) block s h r e f = cc
-checked_passed (Give cpu) block s h r e f = cc
-checked_passed Back block s h r e f = cc
-checked_passed Visit block s h r e f = cc
+checked_passed other block s h r e f = cc
 
 pub still_passes : (g : GeometryNumbers) (start : World) (records : List Record) (events : List Event) (actor : ℕ) (r : Running)
     → IsStart g start records
@@ -58,12 +48,12 @@ module _ (g : GeometryNumbers) (start : World) (records : List Record) (events :
   module _ (there : actor < length w.actors) (is : (actor_at w actor).running ≡ Some r) (e : deed_of w (Go actor granted) ≡ Commits) where
     -- at a commit point the plan fits the effect of its call
     pub has_plan : HasPlanNow (bytes_in w.shared) w.numbers.block w.shared r
-    has_plan = fits_now g w (all_known g start records is_start events) (all_fit g start records is_start events) actor granted r is there e
+    has_plan = fits_now g w (all_known g start records is_start events) actor granted r is there e
 
     -- and the plain world does not refuse the call
     pub has_passed : refusal w.numbers.block (node_in (settled_nodes w.shared)) r.call ≡ passes
     has_passed =
-        passes_now g w (all_known g start records is_start events) (all_fit g start records is_start events) actor granted r is there e
+        passes_now g w (all_known g start records is_start events) actor granted r is there e
 
     -- so it has this effect
     pub has_effect : (handle : Handle) → settled_nodes (step w (Go actor granted)).world.shared handle

@@ -24,24 +24,23 @@ use Rattle.nv_entry.specs.Blocks.{item_blocks}
 use Rattle.nv_entry.specs.Sound.{blocks_of}
 use Rattle.nv_entry.specs.declared.item.Entry.{Entry}
 use Rattle.nv_machine.specs.Hands.{makes_inode}
-use Rattle.nv_machine.specs.Kinds.{check_ending, entries_for, ready_turn, with_entries}
+use Rattle.nv_machine.specs.Kinds.{check_ending, entries_for, with_entries}
 use Rattle.nv_calls.proofs.FillPages.{filled_numbers, length_filled}
 use Rattle.nv_calls.specs.FillPages.{filled, fresh_pages}
 use Rattle.nv_machine.specs.Reads.{copies, has_last_page, if_number, is_written, nodes, plan_by, slots_of, written_slots}
-use Rattle.nv_machine.specs.Sequence.{Beginning, Looks, Locks, Numbers, Visits, beginning, OnSnapshots}
+use Rattle.nv_machine.specs.Sequence.{Beginning, Numbers, beginning}
 use Rattle.nv_machine.specs.Settled.{node_by, settled, settled_nodes, settled_tail}
 use Rattle.nv_machine.specs.Step.{ending_at, is_numbered, made_in, same_looked}
 use Rattle.nv_machine.specs.World.{HandState, Running, Shared, cell_at, no_cell, with_cell}
 use Rattle.nv_machine.proofs.CellSteps.{items_in}
-use Rattle.nv_machine.proofs.Effects.{take_none}
+use Rattle.nv_machine.proofs.CommitEffects.{take_none}
 use Rattle.nv_machine.proofs.FitsCalls.{looked_is, plan_all}
 use Rattle.nv_machine.proofs.FitsCells.{IsIn, IsWider, entries_stored}
 use Rattle.nv_machine.proofs.FitsRuns.{present_in, taken_of}
-use Rattle.nv_machine.proofs.FitsStages.{IsDrawn, IsLocked, IsPassed, IsStored, Passed, SameFor, SameStored, View, drawn_still, passed_still, view, wanted_in, wanted_still}
-use Rattle.nv_machine.proofs.FitsTurns.{OnFits, grown_fits}
+use Rattle.nv_machine.proofs.FitsStages.{HasDrawn, IsDrawn, IsLocked, IsPassed, IsStored, Passed, SameFor, SameStored, View, drawn_still, passed_still, view, wanted_in, wanted_still}
 use Rattle.nv_machine.proofs.Lists.{or_left, or_right, self}
 use Rattle.nv_machine.proofs.PoolSlots.{filtered, in_range}
-use Rattle.nv_machine.proofs.Planned.{length_numbers, runs_are, small_numbers}
+use Rattle.nv_machine.proofs.PlansOfBlocks.{length_numbers, runs_are, small_numbers}
 
 -- ---- a call that does not commit reads the settled logs of what it has locked
 
@@ -87,18 +86,7 @@ module _ (s : Shared) (locked : List ℕ) (logs : (ino : ℕ) → has locked ino
 
 pub last_page : (block : ℕ) (s : Shared) (c : Call) → has_last_page block s c ≡ present_in block (now s).slots c
 last_page block s (call.Size file size) = refl
-last_page block s (call.Create dir name mode) = refl
-last_page block s (call.Mkdir dir name mode) = refl
-last_page block s (call.Write file offset text) = refl
-last_page block s (call.Read file offset count) = refl
-last_page block s (call.Mode handle mode) = refl
-last_page block s (call.Stat handle) = refl
-last_page block s (call.List dir) = refl
-last_page block s (call.Lookup dir name) = refl
-last_page block s (call.Snapshots what) = refl
-last_page block s (call.Unlink dir name) = refl
-last_page block s (call.Rmdir dir name) = refl
-last_page block s (call.Rename from old to new) = refl
+last_page block s other = refl
 
 -- ---- what is locked
 
@@ -124,26 +112,13 @@ cover_made P s None made (call.Create dir name mode) list e f all = cc
 cover_made P s None made (call.Mkdir dir name mode) list e f all = cc
 cover_made P s (Some ino) made (call.Create dir name mode) list e f all = (f ino refl, all)
 cover_made P s (Some ino) made (call.Mkdir dir name mode) list e f all = (f ino refl, all)
-cover_made P s number made (call.Write file offset text) list e f all = all
-cover_made P s number made (call.Read file offset count) list e f all = all
-cover_made P s number made (call.Size file size) list e f all = all
-cover_made P s number made (call.Mode handle mode) list e f all = all
-cover_made P s number made (call.Stat handle) list e f all = all
-cover_made P s number made (call.List dir) list e f all = all
-cover_made P s number made (call.Lookup dir name) list e f all = all
-cover_made P s number made (call.Snapshots what) list e f all = all
-cover_made P s number made (call.Unlink dir name) list e f all = all
-cover_made P s number made (call.Rmdir dir name) list e f all = all
-cover_made P s number made (call.Rename from old to new) list e f all = all
+cover_made P s number made other list e f all = all
 
 makes_number : (b : Beginning) (number : Option ℕ) → makes_inode b ≡ true → is_numbered b number ≡ true
     → (ino : ℕ) × (number ≡ Some ino)
 makes_number Numbers None e f = cc
 makes_number Numbers (Some ino) e f = (ino, refl)
-makes_number Looks number e f = cc
-makes_number Locks number e f = cc
-makes_number Visits number e f = cc
-makes_number (OnSnapshots what) number e f = cc
+makes_number other number e f = cc
 
 -- ---- the check
 
@@ -235,16 +210,13 @@ module _ (block : ℕ) (s : Shared) (h : HandState) (r : Running)
       };
     }
 
-    pub ready_fits : (granted : Bool) → OnFits block (ready_turn granted block s h r)
-    ready_fits granted = grown_fits block granted _ s h r (
-      p,
-      record {
-        fresh = fresh;
-        drawn = drawn_still block (now s) (view s) r.call r.looked r.made r.slots (same_now s r.slots logs) passed_then
-            (plan_by block s h r) fresh drawn_now;
-        at = refl;
-      },
-    )
+    pub ready_drawn : HasDrawn block (view s) r.call r.made (plan_by block s h r) (λ (bs : List BlockValue). fresh ≡ bs)
+    ready_drawn = record {
+      fresh = fresh;
+      drawn = drawn_still block (now s) (view s) r.call r.looked r.made r.slots (same_now s r.slots logs) passed_then
+          (plan_by block s h r) fresh drawn_now;
+      at = refl;
+    }
 
 -- ---- the first append puts all blocks of the plan into the cell
 

@@ -1,40 +1,34 @@
 -- The plain world has the nodes of the settled logs, whatever events come.
 use Rattle.nv_book.specs.declared.record.Record.{Record}
-use Rattle.std.proofs.Common.{◌≡◌, ℕ, ◌<◌, ◌∙◌, Bool, true, false, List, [], ◌∷◌, Option, Some, None, ap, length, nat_lt, refl, sym}
+use Rattle.std.proofs.Common.{◌≡◌, ℕ, ◌<◌, ◌∙◌, Bool, true, List, [], ◌∷◌, Option, Some, ap, length, refl, sym}
 use Rattle.std.proofs.Math.Path.{fun_ext}
-use Rattle.std.proofs.lemmas.Bool.{ltb-true, true≢false}
+use Rattle.std.proofs.lemmas.Bool.{true≢false}
 use Rattle.nv_base.specs.declared.geometry.GeometryNumbers.{GeometryNumbers}
 use Rattle.nv_base.specs.declared.numbers.Handle.{Handle}
 use Rattle.nv_calls.specs.AllCalls.{effect}
 use Rattle.nv_calls.specs.Plain.{PlainNode, node_in, nodes_after}
 use Rattle.nv_machine.specs.Effects.{AreSound}
 use Rattle.nv_machine.specs.FitsNow.{bytes_in}
-use Rattle.nv_machine.specs.PlainRun.{Commits, Deed, Nothing, Numbers as FixesNumber, Plain, deed_by, deed_of, done, keeps_nodes, plain_after, plain_of, plain_step, OnSnapshots, after_step}
+use Rattle.nv_machine.specs.PlainRun.{Commits, Deed, Plain, actor_of, deed_of, done, keeps_nodes, plain_after, plain_of, plain_step, OnSnapshots, after_step}
 use Rattle.nv_machine.specs.Settled.{settled_nodes}
 use Rattle.nv_machine.specs.Starts.{IsStart}
 use Rattle.nv_machine.specs.Step.{after, step}
-use Rattle.nv_machine.specs.World.{Drop, Event, Go, LockPicked, Make, Pick, Pin, Release, Running, Show, SnapshotStep, Start, Unpin, World, actor_at}
+use Rattle.nv_machine.specs.World.{Event, Go, Make, Running, SnapshotStep, World, actor_at}
 use Rattle.nv_machine.proofs.CommitNumbers.{events_counted}
-use Rattle.nv_machine.proofs.Effects.{point_effect}
-use Rattle.nv_machine.proofs.FitsEvents.{AreFit, IsKnown, all_fit, all_known, commits_if, event_fits, fits_now, first_fit, number_now}
-use Rattle.nv_machine.proofs.KeptRuns.{nodes_stay}
+use Rattle.nv_machine.proofs.CommitEffects.{point_effect}
+use Rattle.nv_machine.proofs.OverEvents.{by_points}
+use Rattle.nv_machine.proofs.FitsEvents.{IsKnown, all_fit, all_known, fits_now, number_now}
+use Rattle.nv_machine.proofs.LogsKeptRuns.{nodes_stay}
 
 same_done : (d : Deed) (running : Option Running) (p : Plain) → keeps_nodes d ≡ true → (done d running p).nodes ≡ p.nodes
-same_done Nothing running p e = refl
-same_done FixesNumber running p e = refl
 same_done Commits running p e = absurd (true≢false (sym e))
 same_done (OnSnapshots what) running p e = step_nodes what p where
   step_nodes : (what : SnapshotStep) (p : Plain) → (after_step what p).nodes ≡ p.nodes
   step_nodes Make p = refl
-  step_nodes (Drop snapshot) p = refl
-  step_nodes (Pin snapshot) p = refl
-  step_nodes (Show snapshot showing) p = refl
-  step_nodes (Unpin snapshot seen) p = refl
-  step_nodes (Pick draining) p = refl
-  step_nodes (LockPicked draining picked) p = refl
-  step_nodes (Release draining picked) p = refl
+  step_nodes other p = refl
+same_done other running p e = refl
 
-module _ (g : GeometryNumbers) (w : World) (known : IsKnown g w) (fit : AreFit w) (p : Plain)
+module _ (g : GeometryNumbers) (w : World) (known : IsKnown g w) (p : Plain)
     (nodes : p.nodes ≡ settled_nodes w.shared) (number : w.shared.book.commit ≡ p.commit) where
   stays_plain : (e : Event) (running : Option Running) → keeps_nodes (deed_of w e) ≡ true
       → (done (deed_of w e) running p).nodes ≡ settled_nodes (step w e).world.shared
@@ -48,44 +42,31 @@ module _ (g : GeometryNumbers) (w : World) (known : IsKnown g w) (fit : AreFit w
   commit_plain actor granted r there is e =
       let k = known.reached in
       ap (λ (n : ℕ). nodes_after n (effect (node_in p.nodes) r.made r.call) p.nodes)
-      (sym number ∙ sym (number_now g w known fit actor granted r is there e))
+      (sym number ∙ sym (number_now g w known actor granted r is there e))
       ∙ ap (λ (f : Handle → Option PlainNode). nodes_after r.commit (effect (node_in f) r.made r.call) f) nodes
       ∙ sym (fun_ext (point_effect (bytes_in w.shared) w actor granted r k.locks k.order k.kept k.grown k.apart there is e
-      (fits_now g w known fit actor granted r is there e)))
-
-  go_plain : (b : Bool) (running : Option Running) (actor : ℕ) (granted : Bool) → nat_lt actor (length w.actors) ≡ b
-      → (actor_at w actor).running ≡ running → (d : Bool) → keeps_nodes (deed_of w (Go actor granted)) ≡ d
-      → (plain_step w (Go actor granted) p).nodes ≡ settled_nodes (step w (Go actor granted)).world.shared
-  go_plain b running actor granted there is true keeps = stays_plain (Go actor granted) (actor_at w actor).running keeps
-  go_plain true (Some r) actor granted there is false keeps =
-      let commits = commits_if (deed_of w (Go actor granted)) keeps in
-      ap (λ (d : Deed). (done d (actor_at w actor).running p).nodes) commits
-      ∙ ap (λ (o : Option Running). (done Commits o p).nodes) is
-      ∙ commit_plain actor granted r (ltb-true actor (length w.actors) there) is commits
-  go_plain true None actor granted there is false keeps =
-      absurd (true≢false (sym (rw there (ap (λ (o : Option Running). keeps_nodes (deed_by o w actor granted)) is)) ∙ keeps))
-  go_plain false running actor granted there is false keeps = absurd (true≢false (sym (rw there refl) ∙ keeps))
+      (fits_now g w known actor granted r is there e)))
 
   event_plain : (e : Event) → (plain_step w e p).nodes ≡ settled_nodes (step w e).world.shared
-  event_plain (Start actor c) = stays_plain (Start actor c) (actor_at w actor).running refl
-  event_plain (Go actor granted) = go_plain (nat_lt actor (length w.actors)) (actor_at w actor).running actor granted refl refl
-      (keeps_nodes (deed_of w (Go actor granted))) refl
+  event_plain = by_points w (λ (e : Event). (plain_step w e p).nodes ≡ settled_nodes (step w e).world.shared)
+      (λ actor granted r there is e. ap (λ (d : Deed). (done d (actor_at w actor).running p).nodes) e
+      ∙ ap (λ (o : Option Running). (done Commits o p).nodes) is ∙ commit_plain actor granted r there is e)
+      (λ e keeps. stays_plain e (actor_at w (actor_of e)).running keeps)
 
 events_plain : (g : GeometryNumbers) (events : List Event) (w : World) (p : Plain) → ((before : List Event) → IsKnown g (after w before))
-    → AreFit w → p.nodes ≡ settled_nodes w.shared → w.shared.book.commit ≡ p.commit
+    → p.nodes ≡ settled_nodes w.shared → w.shared.book.commit ≡ p.commit
     → (plain_after w events p).nodes ≡ settled_nodes (after w events).shared
-events_plain g [] w p known fit nodes number = nodes
-events_plain g (e ∷ events) w p known fit nodes number =
-    events_plain g events (step w e).world (plain_step w e p) (λ before. known (e ∷ before))
-    (event_fits g w (known []) fit e ((known (e ∷ [])).numbers.numbers ∙ sym (known []).numbers.numbers))
-    (event_plain g w (known []) fit p nodes number e) (events_counted (e ∷ []) w p number)
+events_plain g [] w p known nodes number = nodes
+events_plain g (e ∷ events) w p known nodes number =
+    events_plain g events (step w e).world (plain_step w e p) (λ before. known (e ∷ before)) (event_plain g w (known []) p nodes number e)
+    (events_counted (e ∷ []) w p number)
 
 pub plain_nodes : (g : GeometryNumbers) (start : World) (records : List Record) (events : List Event) → IsStart g start records
     → (handle : Handle)
     → settled_nodes (after start events).shared handle ≡ (plain_after start events (plain_of start)).nodes handle
 plain_nodes g start records events is_start handle =
     sym (ap (λ (f : Handle → Option PlainNode). f handle)
-    (events_plain g events start (plain_of start) (all_known g start records is_start) (first_fit g start records is_start) refl refl))
+    (events_plain g events start (plain_of start) (all_known g start records is_start) refl refl))
 
 -- and all settled logs are sound
 pub all_sound : (g : GeometryNumbers) (start : World) (records : List Record) (events : List Event) → IsStart g start records

@@ -22,7 +22,7 @@ use Rattle.nv_calls.specs.FillPages.{fresh_pages}
 use Rattle.nv_calls.specs.Filled.{AreFilled, AreRead}
 use Rattle.nv_calls.proofs.Filled.{IsTold, is_ready as filled_is_ready}
 use Rattle.nv_machine.specs.Sequence.{beginning}
-use Rattle.nv_machine.proofs.Planned.{all_end, runs_are, small_numbers}
+use Rattle.nv_machine.proofs.PlansOfBlocks.{all_end, runs_are, small_numbers}
 
 -- ---- runs are maximal
 

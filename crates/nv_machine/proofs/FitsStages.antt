@@ -22,10 +22,10 @@ use Rattle.nv_calls.specs.FillPages.{filled}
 use Rattle.nv_machine.specs.Reads.{if_number, slots_in, slots_of}
 use Rattle.nv_machine.specs.Sequence.{beginning}
 use Rattle.nv_machine.specs.Settled.{settled_nodes}
-use Rattle.nv_machine.specs.World.{Append, Back, Check, Close, Enter, Give, HandState, Leave, Lock, Look, Next, Number, Open, Publish, Ready, Retire, Running, Shared, TakeBlocks, TakePages, Unlock, Visit, cell_at, Snapshots}
+use Rattle.nv_machine.specs.World.{Append, Check, Close, Enter, HandState, Lock, Next, Open, Publish, Ready, Running, Shared, TakeBlocks, TakePages, cell_at}
 use Rattle.nv_calls.specs.Filled.{AreFilled}
 use Rattle.nv_machine.proofs.FitsRuns.{fresh_same, present_in, taken_of}
-use Rattle.nv_machine.proofs.EachOf.{all_back}
+use Rattle.nv_machine.proofs.EachElement.{all_back}
 
 -- ---- what a call reads
 
@@ -109,18 +109,7 @@ module _ (block : ℕ) (v w : View) (c : Call) (seen : Looked) (new : Handle) (l
   present_same = go c p.covers where
     go : (c : Call) → AllByRecursion (IsLocked v.many locked) (locks seen new c) → present_in block w.slots c ≡ present_in block v.slots c
     go (call.Size file size) all = rw (same.slots file all.0) refl
-    go (call.Create dir name mode) all = refl
-    go (call.Mkdir dir name mode) all = refl
-    go (call.Write file offset text) all = refl
-    go (call.Read file offset count) all = refl
-    go (call.Mode handle mode) all = refl
-    go (call.Stat handle) all = refl
-    go (call.List dir) all = refl
-    go (call.Lookup dir name) all = refl
-    go (call.Snapshots what) all = refl
-    go (call.Unlink dir name) all = refl
-    go (call.Rmdir dir name) all = refl
-    go (call.Rename from old to name) all = refl
+    go other all = refl
 
   pub wanted_still : wanted_in block w c ≡ wanted_in block v c
   wanted_still =
@@ -230,7 +219,6 @@ module _ (block : ℕ) (s t : Shared) (h : HandState) (r : Running) (same : Same
 
   -- a step of another actor
   pub fits_still : (k : Next) → FitsAt k block s h r → FitsAt k block t h r
-  fits_still (Snapshots step) f = tt
   fits_still (Lock place) f = f ∙ ap slots_among (sym same.same.many)
   fits_still Check f = f ∙ ap slots_among (sym same.same.many)
   fits_still (TakeBlocks asked) f = (passed_on f.0, wanted_on _ f.0 f.1)
@@ -241,11 +229,4 @@ module _ (block : ℕ) (s t : Shared) (h : HandState) (r : Running) (same : Same
   fits_still Open f = (passed_on f.0, drawn_on _ _ stored_on f.0 f.1)
   fits_still (Publish place) f = (passed_on f.0, drawn_on _ _ stored_on f.0 f.1)
   fits_still Close f = (passed_on f.0, drawn_on _ _ stored_on f.0 f.1)
-  fits_still Number f = tt
-  fits_still (Look place) f = tt
-  fits_still (Retire place) f = tt
-  fits_still Leave f = tt
-  fits_still (Unlock place) f = tt
-  fits_still (Give cpu) f = tt
-  fits_still Back f = tt
-  fits_still Visit f = tt
+  fits_still other f = tt

@@ -17,7 +17,6 @@ use Rattle.nv_calls.specs.Plan.{plan_blocks, run_if, runs_of, stretches, with_nu
 use Rattle.nv_calls.specs.Refusals.{Check as Tests, found, passes}
 use Rattle.nv_calls.specs.Slots.{items_for}
 use Rattle.nv_calls.specs.calls.Rename.{bound_plan, move_plan, own_place, replaced_plan}
-use Rattle.nv_calls.specs.calls.Unlink.{leave_plan}
 use Rattle.nv_calls.specs.declared.call.Call.{Call}
 use Rattle.nv_calls.specs.declared.call.Call.TheVariants as call
 use Rattle.nv_calls.specs.declared.plan.Planned.{Planned}
@@ -31,6 +30,7 @@ use Rattle.nv_entry.specs.declared.item.Item.{Item}
 use Rattle.nv_entry.specs.declared.item.Item.TheVariants.{SetSize}
 use Rattle.nv_entry.specs.declared.item.Run.{Run}
 use Rattle.nv_entry.specs.declared.node.NodeCopy.{NodeCopy}
+use Rattle.nv_machine.proofs.PlansOfBlocks.{leave_within, replaced_within}
 use Rattle.nv_machine.specs.Hands.{FitsFile, planned_blocks}
 use Rattle.nv_machine.specs.Kinds.{check_ending}
 
@@ -300,14 +300,6 @@ written_within first size (run ∷ runs) rest few more = (
   written_within (first + run.len) size runs rest (omega (arith, few, run_count run runs)) more,
 )
 
-leave_within : (dir : Handle) (name : List ℕ) (bound : Option Handle) → AllWithin (leave_plan dir name bound)
-leave_within dir name None = tt
-leave_within dir name (Some to) = ((tt, tt), ((tt, tt), tt))
-
-replaced_within : (bound : Option Handle) → AllWithin (replaced_plan bound)
-replaced_within None = tt
-replaced_within (Some to) = ((tt, tt), tt)
-
 move_within : (same : Bool) (from : Handle) (old : List ℕ) (to : Handle) (new : List ℕ) (moved : Handle) (rest : List Planned)
     → AllWithin rest → AllWithin (move_plan same from old to new moved rest)
 move_within true from old to new moved rest h = ((tt, (tt, tt)), h)
@@ -335,10 +327,7 @@ all_within block count nodes taken (call.Rmdir dir name) few fits = leave_within
 all_within block count nodes taken (call.Rename from old to new) few fits =
     bound_within (own_place from old to new) from old to new (found nodes from old) (found nodes to new)
 all_within block count nodes taken (call.Read file offset many) few fits = tt
-all_within block count nodes taken (call.Stat handle) few fits = tt
-all_within block count nodes taken (call.List dir) few fits = tt
-all_within block count nodes taken (call.Lookup dir name) few fits = tt
-all_within block count nodes taken (call.Snapshots what) few fits = tt
+all_within block count nodes taken other few fits = tt
 
 pub plan_within : (block : ℕ) (nodes : Handle → Option NodeCopy) (taken : Taken) (c : Call) (numbers : List ℕ)
     → taken.runs ≡ runs_of numbers → FitsFile block c (length numbers) → (ino : ℕ)
@@ -374,13 +363,4 @@ wants_fitting block nodes made present (call.Write file offset (byte ∷ rest)) 
 wants_fitting block nodes made present (call.Size file size) some passed any =
     size_within block nodes some file size present _ passed refl
 wants_fitting block nodes made present (call.Create dir name mode) some passed any = refl
-wants_fitting block nodes made present (call.Mkdir dir name mode) some passed any = refl
-wants_fitting block nodes made present (call.Read file offset count) some passed any = refl
-wants_fitting block nodes made present (call.Mode handle mode) some passed any = refl
-wants_fitting block nodes made present (call.Stat handle) some passed any = refl
-wants_fitting block nodes made present (call.List dir) some passed any = refl
-wants_fitting block nodes made present (call.Lookup dir name) some passed any = refl
-wants_fitting block nodes made present (call.Snapshots what) some passed any = refl
-wants_fitting block nodes made present (call.Unlink dir name) some passed any = refl
-wants_fitting block nodes made present (call.Rmdir dir name) some passed any = refl
-wants_fitting block nodes made present (call.Rename from old to new) some passed any = refl
+wants_fitting block nodes made present other some passed any = refl

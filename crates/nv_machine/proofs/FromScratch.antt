@@ -1,6 +1,6 @@
 -- Each free list is what one scan of all cells and hands leaves.
 use Rattle.nv_book.specs.declared.record.Record.{Record}
-use Rattle.std.proofs.Common.{◌≡◌, ◌≢◌, ℕ, zero, suc, ◌+◌, ◌-◌, ◌^◌, ◌<◌, ◌≤◌, ◌==◌, ◌∙◌, Bool, true, false, List, [], ◌∷◌, Option, None, ap, arith, inl, inr, length, nat_lt, not, refl, subst, sym}
+use Rattle.std.proofs.Common.{◌≡◌, ◌≢◌, ℕ, zero, suc, ◌+◌, ◌-◌, ◌<◌, ◌≤◌, ◌==◌, ◌∙◌, Bool, true, false, List, [], ◌∷◌, Option, None, ap, arith, inl, inr, length, nat_lt, not, refl, subst, sym}
 use Rattle.std.specs.Prelude.{◌&&◌, ◌||◌, nat_le, slice_index_or}
 use Rattle.std.specs.List.{AllByRecursion, flat_map}
 use Rattle.std.proofs.lemmas.Bool.{cases_lt, eqb-true, false≢true, le-leb, le-ltb, lt-leb, lt-ltb, true≢false}
@@ -18,8 +18,8 @@ use Rattle.nv_machine.specs.Numbers.{IdleHaveNothing, IsEachOnce, all_blocks, fr
 use Rattle.nv_machine.specs.Starts.{IsStart}
 use Rattle.nv_machine.specs.Step.{after}
 use Rattle.nv_machine.specs.World.{Event, Running, World, actor_at, cell_at, list_at, no_list}
-use Rattle.nv_machine.proofs.Locks.{events_locks}
-use Rattle.nv_machine.proofs.NumberedRuns.{events_numbers}
+use Rattle.nv_machine.proofs.LocksOverEvents.{events_locks}
+use Rattle.nv_machine.proofs.BlockNumbersRuns.{events_numbers}
 use Rattle.nv_machine.proofs.StartParts.{first_locks, first_numbers}
 
 -- ---- what stands in a list is counted
@@ -168,9 +168,7 @@ is_scan g w cpu n some all inside = elim (cases_lt n low) [
 pub all_numbers : (g : GeometryNumbers) (start : World) (records : List Record) (events : List Event) → IsStart g start records
     → AreNumbers g (after start events)
 all_numbers g start records events is_start =
-    let small : g.blocks < 2 ^ 64 = omega (arith, is_start.limits.blocks_fit) in
-    events_numbers g events start (omega (arith, is_start.limits.some_cpus)) (omega (arith, is_start.limits.some_bytes)) small
-    (first_locks g start records is_start) (first_numbers g start records is_start)
+    events_numbers g events start is_start.limits (first_locks g start records is_start) (first_numbers g start records is_start)
 
 pub each_once : (g : GeometryNumbers) (start : World) (records : List Record) (events : List Event) → IsStart g start records
     → IsEachOnce g.blocks (all_blocks (after start events))

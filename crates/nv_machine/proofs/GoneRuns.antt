@@ -1,27 +1,27 @@
 -- Whatever events come, a slot whose inode is gone is one that a commit has published and not yet retired.
 use Rattle.nv_book.specs.declared.record.Record.{Record}
-use Rattle.std.proofs.Common.{◌≡◌, ℕ, zero, suc, ◌-◌, ◌<◌, ◌==◌, ◌∙◌, Bool, true, false, List, [], ◌∷◌, Option, Some, None, ap, get_or-set_other, get_or-set_same, length, nat_lt, refl, replicate, set, slice_index_or, subst, sym}
-use Rattle.std.proofs.lemmas.Bool.{eqb-false, eqb-true, false≢true, ltb-true, true≢false}
+use Rattle.std.proofs.Common.{◌≡◌, ℕ, ◌<◌, ◌==◌, ◌∙◌, Bool, true, false, List, [], Option, Some, None, ap, get_or-set_other, get_or-set_same, length, refl, set, subst, sym}
+use Rattle.std.proofs.lemmas.Bool.{eqb-false, eqb-true, false≢true, true≢false}
 use Rattle.nv_alloc.specs.Numbers.{has}
 use Rattle.nv_base.specs.declared.geometry.GeometryNumbers.{GeometryNumbers}
-use Rattle.nv_calls.specs.declared.call.Call.{Call}
 use Rattle.nv_calls.specs.Retiring.{is_erased}
-use Rattle.nv_cell.specs.Cell.{empty_cell}
+use Rattle.nv_cell.specs.Cell.{CellState}
 use Rattle.nv_machine.specs.Format.{formatted}
 use Rattle.nv_machine.specs.Hands.{AreNumbers}
 use Rattle.nv_machine.specs.Held.{killed_slots}
 use Rattle.nv_machine.specs.Locks.{AreLocks, commits_at, commits_by, is_owner}
 use Rattle.nv_machine.specs.Reads.{written_slots}
-use Rattle.nv_machine.specs.Sequence.{beginning, begun}
 use Rattle.nv_machine.specs.Starts.{IsStart}
-use Rattle.nv_machine.specs.Step.{after, go_step, kind_turn, start_step, step, turned}
-use Rattle.nv_machine.specs.World.{Actor, Append, Close, Ends, Event, Go, HandState, Leave, Moves, Next, Open, Publish, Retire, Running, Shared, Start, Turn, Waits, World, actor_at, cell_at, idle, no_cell}
+use Rattle.nv_machine.specs.Step.{after, kind_turn, step, turned}
+use Rattle.nv_machine.specs.World.{Actor, Append, Close, Ends, Event, HandState, Leave, Moves, Next, Open, Publish, Retire, Running, Shared, Turn, Waits, World, actor_at, cell_at, idle}
+use Rattle.nv_machine.proofs.NewWorld.{each_cell}
 use Rattle.nv_machine.proofs.FiledWorlds.{others_out}
-use Rattle.nv_machine.proofs.FromScratch.{all_numbers}
+use Rattle.nv_machine.proofs.OverEvents.{begun_at, event_by, events_by}
+use Rattle.nv_machine.proofs.FitsEvents.{IsKnown, all_known}
 use Rattle.nv_machine.proofs.GoneTurns.{IsGoneAt, OnGone, OnlyGone, WasGone, gone_kept, turn_was}
-use Rattle.nv_machine.proofs.Kept.{AfterTurn}
-use Rattle.nv_machine.proofs.Locked.{lent_holder}
-use Rattle.nv_machine.proofs.Locks.{before}
+use Rattle.nv_machine.proofs.WorkKeeps.{AfterTurn}
+use Rattle.nv_machine.proofs.LocksHeld.{lent_holder}
+use Rattle.nv_machine.proofs.LocksOverEvents.{before}
 use Rattle.nv_machine.proofs.Reached.{reached}
 
 -- ---- what holds of each world
@@ -121,54 +121,22 @@ running_retiring g w a granted r there is locks all was b c = go b c where
   go false c =
       turned_other t a w r is c was (turn_was w.numbers.block a w.shared h r r.next granted c (before w a r locks is))
 
-go_retiring : (g : GeometryNumbers) (b : Bool) (running : Option Running) (w : World) (a : ℕ) (granted : Bool)
-    → nat_lt a (length w.actors) ≡ b → (actor_at w a).running ≡ running → AreLocks w → AreNumbers g w → AreRetiring w
-    → AreRetiring (go_step b running a granted w).world
-go_retiring g false running w a granted e is locks all was = was
-go_retiring g true None w a granted e is locks all was = was
-go_retiring g true (Some r) w a granted e is locks all was =
-    running_retiring g w a granted r (ltb-true a (length w.actors) e) is locks all was (commits_at r.next) refl
-
-start_retiring : (b : Bool) (running : Option Running) (w : World) (a : ℕ) (c : Call) → (actor_at w a).running ≡ running → AreRetiring w
-    → AreRetiring (start_step b running a c w).world
-start_retiring false running w a c is was = was
-start_retiring true (Some r) w a c is was = was
-start_retiring true None w a c is was = λ ino gone.
-    others_retiring w a (record { hand = (actor_at w a).hand; running = Some (begun (beginning c) w.shared c) }) w.shared ino
-    (ap commits_by is) (was ino gone)
-
 event_retiring : (g : GeometryNumbers) (w : World) (e : Event) → AreLocks w → AreNumbers g w → AreRetiring w
     → AreRetiring (step w e).world
-event_retiring g w (Start a c) locks all was =
-    start_retiring (nat_lt a (length w.actors)) (actor_at w a).running w a c refl was
-event_retiring g w (Go a granted) locks all was =
-    go_retiring g (nat_lt a (length w.actors)) (actor_at w a).running w a granted refl refl locks all was
+event_retiring g w e locks all was = event_by AreRetiring w was e
+    (λ a c there is ino gone. others_retiring w a (begun_at w a c) w.shared ino (ap commits_by is) (was ino gone))
+    (λ a granted r there is. running_retiring g w a granted r there is locks all was (commits_at r.next) refl)
 
 -- ---- every world
 
-new_cells : (g : GeometryNumbers) (n ino : ℕ)
-    → is_erased (slice_index_or (replicate n (empty_cell g.block g.page 1 0)) ino no_cell) ≡ false
-new_cells g zero ino = refl
-new_cells g (suc n) zero = refl
-new_cells g (suc n) (suc ino) = new_cells g n ino
-
-pub new_cell : (g : GeometryNumbers) (ino : ℕ) → is_erased (cell_at (formatted g).shared ino) ≡ false
-new_cell g zero = refl
-new_cell g (suc ino) = new_cells g (g.inodes - 1) ino
-
-events_retiring : (g : GeometryNumbers) (events : List Event) (w : World) → ((before : List Event) → AreLocks (after w before))
-    → ((before : List Event) → AreNumbers g (after w before)) → AreRetiring w → AreRetiring (after w events)
-events_retiring g [] w locks all was = was
-events_retiring g (e ∷ events) w locks all was =
-    events_retiring g events (step w e).world (λ before. locks (e ∷ before)) (λ before. all (e ∷ before))
-    (event_retiring g w e (locks []) (all []) was)
+pub new_erased : (g : GeometryNumbers) (ino : ℕ) → is_erased (cell_at (formatted g).shared ino) ≡ false
+new_erased g = each_cell g (λ (c : CellState). is_erased c ≡ false) refl (λ block page generation. refl)
 
 pub all_retiring : (g : GeometryNumbers) (start : World) (records : List Record) (events : List Event) → IsStart g start records
     → AreRetiring (after start events)
 all_retiring g start records events is_start =
-    events_retiring g events start (λ before. (reached g start records before is_start).locks)
-    (λ before. all_numbers g start records before is_start)
-    (λ ino gone. absurd (true≢false (sym gone ∙ is_start.erased ino)))
+    events_by (IsKnown g) AreRetiring (λ v e known was. event_retiring g v e known.reached.locks known.numbers was) events start
+    (all_known g start records is_start) (λ ino gone. absurd (true≢false (sym gone ∙ is_start.erased ino)))
 
 -- with the commit lock free none is
 pub none_retiring : (g : GeometryNumbers) (start : World) (records : List Record) (events : List Event) (ino : ℕ) → IsStart g start records

@@ -1,11 +1,10 @@
 -- The slots whose inodes are gone are those that a commit has published and not yet retired: every
 -- kind of step keeps that.
-use Rattle.std.proofs.Common.{◌≡◌, ◌≢◌, ℕ, ◌+◌, ◌<◌, ◌≤◌, ◌==◌, ◌∙◌, Bool, true, false, List, [], ◌∷◌, Option, Some, None, ap, arith, drop, if◌then◌else◌, length, refl, subst, sym, take}
+use Rattle.std.proofs.Common.{◌≡◌, ◌≢◌, ℕ, ◌+◌, ◌<◌, ◌≤◌, ◌==◌, ◌∙◌, Bool, true, false, List, [], ap, drop, if◌then◌else◌, length, refl, subst, sym, take}
 use Rattle.std.specs.Prelude.{◌||◌}
 use Rattle.std.proofs.lemmas.Bool.{eqb-true, false≢true, true≢false}
 use Rattle.nv_alloc.specs.Numbers.{has}
-use Rattle.nv_book.specs.declared.record.Record.{Record}
-use Rattle.nv_calls.specs.Retiring.{erased, is_erased, released}
+use Rattle.nv_calls.specs.Retiring.{erased, is_erased}
 use Rattle.nv_cell.specs.Cell.{CellState, published}
 use Rattle.nv_machine.specs.Erasing.{emptied}
 use Rattle.nv_machine.specs.Held.{killed_slots}
@@ -13,13 +12,15 @@ use Rattle.nv_machine.specs.Kinds.{entries_for, first_killed, retired_book, reti
 use Rattle.nv_machine.specs.Locks.{commits_at}
 use Rattle.nv_machine.specs.Reads.{pages_needed, slot_at, written_slots}
 use Rattle.nv_machine.specs.Step.{kind_turn}
-use Rattle.nv_machine.specs.World.{Append, Back, Check, Close, Draining, Drop, Ends, Enter, Give, HandState, Leave, Lock, LockPicked, Look, Make, Moves, Next, Number, Open, Pick, Pin, Publish, Ready, Release, Retire, Running, Shared, Show, SnapshotStep, Snapshots, TakeBlocks, TakePages, Turn, Unlock, Unpin, Visit, Waits, cell_at, with_book, with_cell}
+use Rattle.nv_machine.specs.World.{Append, Close, Ends, HandState, Leave, Moves, Next, Open, Publish, Retire, Running, Shared, Turn, Waits, cell_at, with_book, with_cell}
 use Rattle.nv_machine.proofs.FiledSteps.{appended_gone}
-use Rattle.nv_machine.proofs.Kept.{AfterTurn, back_deed, deed, number_deed, turn_keeps}
+use Rattle.nv_machine.proofs.CellChanges.{cells_after, removal}
+use Rattle.nv_machine.proofs.StepWork.{work}
+use Rattle.nv_machine.proofs.WorkKeeps.{AfterTurn, turn_keeps}
 use Rattle.nv_machine.proofs.Lists.{has_drop, has_take, or_left, or_right, self}
-use Rattle.nv_machine.proofs.Locked.{Before}
+use Rattle.nv_machine.proofs.LocksHeld.{Before}
 use Rattle.nv_machine.proofs.LogsKept.{cell_set}
-use Rattle.nv_machine.proofs.Numbered.{lent_inside}
+use Rattle.nv_machine.proofs.BlockNumbers.{lent_inside}
 use Rattle.nv_machine.proofs.PartsFor.{publishing_slots, retiring_slots}
 
 -- ---- what is gone
@@ -111,31 +112,19 @@ gone_kept Open block a granted s h r c b within only = from_none (kind_turn Open
 gone_kept (Publish place) block a granted s h r c b within only =
     let written = written_slots r in
     let slot = slot_at written place in
-    subst (λ (slots : List ℕ). OnlyGone slots (deed (Publish place) block a s h r).shared) (sym (publishing_slots (place + 1) written))
+    subst (λ (slots : List ℕ). OnlyGone slots (work (Publish place) block a s h r).shared) (sym (publishing_slots (place + 1) written))
     (publish_gone s h r place b.inside (lent_inside (Publish place) a s r b slot refl) only)
 gone_kept Close block a granted s h r c b within only =
-    subst (λ (slots : List ℕ). OnlyGone slots (deed Close block a s h r).shared) (sym (retiring_slots 0 (written_slots r))) only
+    subst (λ (slots : List ℕ). OnlyGone slots (work Close block a s h r).shared) (sym (retiring_slots 0 (written_slots r))) only
 gone_kept (Retire place) block a granted s h r c b within only =
     let written = written_slots r in
     let slot = slot_at written place in
-    subst (λ (slots : List ℕ). OnlyGone slots (deed (Retire place) block a s h r).shared) (sym (retiring_slots (place + 1) written))
+    subst (λ (slots : List ℕ). OnlyGone slots (work (Retire place) block a s h r).shared) (sym (retiring_slots (place + 1) written))
     (retire_gone s h r place b.inside (lent_inside (Retire place) a s r b slot refl) only)
 gone_kept Leave block a granted s h r c b within only =
     from_none (kind_turn Leave block a granted s h r)
     (turn_keeps (λ (t : Shared) (h : HandState). OnlyGone [] t) Leave block a granted s h r only only)
-gone_kept Number block a granted s h r c b within only = absurd (true≢false (sym c))
-gone_kept (Look place) block a granted s h r c b within only = absurd (true≢false (sym c))
-gone_kept (Lock place) block a granted s h r c b within only = absurd (true≢false (sym c))
-gone_kept Check block a granted s h r c b within only = absurd (true≢false (sym c))
-gone_kept (TakeBlocks asked) block a granted s h r c b within only = absurd (true≢false (sym c))
-gone_kept (TakePages asked) block a granted s h r c b within only = absurd (true≢false (sym c))
-gone_kept Ready block a granted s h r c b within only = absurd (true≢false (sym c))
-gone_kept Enter block a granted s h r c b within only = absurd (true≢false (sym c))
-gone_kept (Unlock place) block a granted s h r c b within only = absurd (true≢false (sym c))
-gone_kept (Give cpu) block a granted s h r c b within only = absurd (true≢false (sym c))
-gone_kept Back block a granted s h r c b within only = absurd (true≢false (sym c))
-gone_kept Visit block a granted s h r c b within only = absurd (true≢false (sym c))
-gone_kept (Snapshots step) block a granted s h r c b within only = absurd (true≢false (sym c))
+gone_kept other block a granted s h r c b within only = absurd (true≢false (sym c))
 
 -- ---- every other kind
 
@@ -144,54 +133,16 @@ abbrev pub WasGone : Shared → Shared → Type 0
 WasGone s t = (ino : ℕ) → IsGoneAt t ino → IsGoneAt s ino
 
 module _ (block a : ℕ) (s : Shared) (h : HandState) (r : Running) where
-  number_was : (numbers : List ℕ) → WasGone s (number_deed numbers s h).shared
-  number_was [] ino gone = gone
-  number_was (n ∷ numbers) ino gone = gone
-
-  back_was : (number : Option ℕ) → WasGone s (back_deed number s h).shared
-  back_was None ino gone = gone
-  back_was (Some n) ino gone = gone
-
-  release_was : (draining : Draining) (picked : Record) → Before a s (Snapshots (Release draining picked)) r
-      → WasGone s (deed (Snapshots (Release draining picked)) block a s h r).shared
-  release_was draining picked b ino =
-      let cell = released picked (cell_at s picked.ino) in
-      let slots = rw b.inside at b.are.inside in
-      cell_set s picked.ino (erased cell) ino (λ (c : CellState). is_erased c ≡ true → IsGoneAt s ino) (omega (arith, slots.0, b.wide))
-      (λ same gone. absurd (false≢true (sym (erased_not_gone cell) ∙ gone))) (λ other gone. gone)
-
-  step_was : (step : SnapshotStep) → Before a s (Snapshots step) r → WasGone s (deed (Snapshots step) block a s h r).shared
-  step_was Make b ino gone = gone
-  step_was (Drop snapshot) b ino gone = gone
-  step_was (Pin snapshot) b ino gone = gone
-  step_was (Show snapshot showing) b ino gone = gone
-  step_was (Unpin snapshot seen) b ino gone = gone
-  step_was (Pick draining) b ino gone = gone
-  step_was (LockPicked draining picked) b ino gone = gone
-  step_was (Release draining picked) b ino gone = release_was draining picked b ino gone
-
-  deed_was : (k : Next) → commits_at k ≡ false → Before a s k r → WasGone s (deed k block a s h r).shared
-  deed_was Number c b ino gone = number_was s.pool.numbers ino gone
-  deed_was (Look place) c b ino gone = gone
-  deed_was (Lock place) c b ino gone = gone
-  deed_was Check c b ino gone = gone
-  deed_was (TakeBlocks asked) c b ino gone = gone
-  deed_was (TakePages asked) c b ino gone = gone
-  deed_was Ready c b ino gone = gone
-  deed_was Enter c b ino gone = gone
-  deed_was (Append place) c b ino gone = absurd (true≢false c)
-  deed_was Open c b ino gone = absurd (true≢false c)
-  deed_was (Publish place) c b ino gone = absurd (true≢false c)
-  deed_was Close c b ino gone = absurd (true≢false c)
-  deed_was (Retire place) c b ino gone = absurd (true≢false c)
-  deed_was Leave c b ino gone = absurd (true≢false c)
-  deed_was (Unlock place) c b ino gone = gone
-  deed_was (Give cpu) c b ino gone = gone
-  deed_was Back c b ino gone = back_was h.ino ino gone
-  deed_was Visit c b ino gone = gone
-  deed_was (Snapshots step) c b ino gone = step_was step b ino gone
+  work_was : (k : Next) → commits_at k ≡ false → Before a s k r → WasGone s (work k block a s h r).shared
+  work_was k c b =
+      cells_after (λ (ino : ℕ) (cell : CellState). is_erased cell ≡ true → IsGoneAt s ino) block a s h r (λ ino gone. gone) k b
+      (record {
+        appends = λ place is inside low. absurd (true≢false (sym (ap commits_at is) ∙ c));
+        publishes = λ place is inside low. absurd (true≢false (sym (ap commits_at is) ∙ c));
+        removes = λ is low left gone. absurd (false≢true (sym (erased_not_gone (removal k s h r).cell) ∙ gone));
+      })
 
   pub turn_was : (k : Next) (granted : Bool) → commits_at k ≡ false → Before a s k r
       → AfterTurn (λ (t : Shared) (g : HandState). WasGone s t) (kind_turn k block a granted s h r)
   turn_was k granted c b =
-      turn_keeps (λ (t : Shared) (g : HandState). WasGone s t) k block a granted s h r (λ ino gone. gone) (deed_was k c b)
+      turn_keeps (λ (t : Shared) (g : HandState). WasGone s t) k block a granted s h r (λ ino gone. gone) (work_was k c b)

@@ -13,9 +13,9 @@ use Rattle.nv_machine.specs.Kinds.{blocks_in}
 use Rattle.nv_machine.specs.Locks.{AreLocks}
 use Rattle.nv_machine.specs.Numbers.{all_blocks, of_part, stored_in}
 use Rattle.nv_machine.specs.World.{Give, World, actor_at, cell_at, list_at, no_cell}
-use Rattle.nv_machine.proofs.Erased.{block_times}
+use Rattle.nv_machine.proofs.ErasedCells.{block_times}
 use Rattle.nv_machine.proofs.FromScratch.{counted, none_true}
-use Rattle.nv_machine.proofs.Numbered.{all_times, can_give, each_below, goes_home, once_below, part_times, was_kept}
+use Rattle.nv_machine.proofs.BlockNumbers.{all_times, can_give, each_below, goes_home, once_below, part_times, was_kept}
 use Rattle.nv_machine.proofs.PoolCells.{with_inode}
 use Rattle.nv_machine.proofs.PoolHands.{counts, once}
 use Rattle.nv_machine.proofs.PoolRuns.{ArePooled, own_loose, past_of}

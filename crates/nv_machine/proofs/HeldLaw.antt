@@ -22,7 +22,7 @@ use Rattle.nv_machine.specs.Step.{after}
 use Rattle.nv_machine.specs.World.{Event, World, cell_at, list_at, no_cell}
 use Rattle.nv_machine.proofs.FromScratch.{scanned}
 use Rattle.nv_machine.proofs.HeldMarks.{used_there}
-use Rattle.nv_machine.proofs.MarkedRuns.{all_parts}
+use Rattle.nv_machine.proofs.CellMarksRuns.{all_parts}
 
 -- a list that is gone over by its places
 by_place : {X : Type 0} (f : X → List ℕ) (g : ℕ → List ℕ) (d : X) (xs : List X) (from : ℕ)

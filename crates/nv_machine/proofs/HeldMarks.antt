@@ -35,7 +35,7 @@ use Rattle.nv_machine.specs.Step.{after}
 use Rattle.nv_machine.specs.World.{Event, World, cell_at}
 use Rattle.nv_machine.proofs.FiledHeld.{any_of}
 use Rattle.nv_machine.proofs.FiledLaw.{all_marked, recorded_all, recorded_once}
-use Rattle.nv_machine.proofs.EachOf.{all_at, all_front, all_with}
+use Rattle.nv_machine.proofs.EachElement.{all_at, all_front, all_with}
 use Rattle.nv_machine.proofs.FiledLists.{HasHolder, count, held_filed}
 use Rattle.nv_machine.proofs.FiledMarks.{AreMarks, IsTold, is_filed_on, is_killed_on, pair_low}
 use Rattle.nv_machine.proofs.FiledParts.{log_in}

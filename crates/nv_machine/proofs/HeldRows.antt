@@ -9,7 +9,7 @@ use Rattle.nv_machine.specs.Format.{formatted}
 use Rattle.nv_machine.specs.Held.{free_by_logs, killed_in}
 use Rattle.nv_machine.specs.Numbers.{free_from_scratch, free_of}
 use Rattle.nv_machine.specs.World.{HandState, World, actor_at, cell_at, list_at, with_cell}
-use Rattle.nv_machine.proofs.Scripts.{DoCall, Goes, Line, StartCall, device, handle, line, played}
+use Rattle.nv_machine.proofs.ScriptRows.{DoCall, Goes, Line, StartCall, device, handle, line, played}
 
 -- a file with one page in block 2, and a write over it, so many steps on: 6 append, 7 publish, 8 retire
 abbrev first_steps : List Line

@@ -8,7 +8,7 @@ use Rattle.nv_alloc.specs.Numbers.{IsRising, has}
 use Rattle.nv_machine.specs.Locks.{AreSlots}
 use Rattle.nv_machine.specs.Reads.{is_written, slot_at, slots_in, with_slot, written_slots}
 use Rattle.nv_machine.specs.World.{Running}
-use Rattle.nv_machine.proofs.EachOf.{all_filter}
+use Rattle.nv_machine.proofs.EachElement.{all_filter}
 
 -- ---- one more of a list
 
@@ -91,7 +91,7 @@ all_with P n (x ∷ xs) new all = go (n == x) (nat_lt n x) (all_with P n xs new 
   go false true more = (new, all)
   go false false more = (all.0, more)
 
-all_over : (n m : ℕ) (xs : List ℕ) → n < m → AllByRecursion (λ k. m < k) xs → AllByRecursion (λ k. n < k) xs
+pub all_over : (n m : ℕ) (xs : List ℕ) → n < m → AllByRecursion (λ k. m < k) xs → AllByRecursion (λ k. n < k) xs
 all_over n m [] h all = tt
 all_over n m (x ∷ xs) h all = (omega (arith, h, all.0), all_over n m xs h all.1)
 

@@ -1,5 +1,5 @@
--- A new world: each block number stands once, lists are in order, and hands are empty.
-use Rattle.std.proofs.Common.{◌≡◌, ℕ, zero, suc, ◌+◌, ◌-◌, ◌*◌, ◌<◌, ◌≤◌, ◌==◌, ◌∙◌, Bool, true, false, List, [], ◌∷◌, Option, Some, None, ap, arith, drop, if◌then◌else◌, inl, inr, length, map, nat_lt, refl, replicate, subst, sym}
+-- A new world: each block number stands once, and lists are in order.
+use Rattle.std.proofs.Common.{◌≡◌, ℕ, zero, suc, ◌+◌, ◌-◌, ◌*◌, ◌<◌, ◌≤◌, ◌==◌, ◌∙◌, Bool, true, false, List, [], ◌∷◌, ap, arith, drop, if◌then◌else◌, inl, inr, length, map, nat_lt, refl, replicate, subst, sym}
 use Rattle.std.specs.Prelude.{slice_index_or}
 use Rattle.std.specs.List.{AllByRecursion, flat_map, range_with_len}
 use Rattle.std.proofs.lemmas.Bool.{cases_lt, eqb-false, eqb-true, le-ltb, lt-ltb}
@@ -7,7 +7,7 @@ use Rattle.std.proofs.Math.Nat.{one-mul}
 use Rattle.std.proofs.lemmas.Nat.{le-div}
 use Rattle.std.proofs.lemmas.List.{length-replicate}
 use Rattle.std.proofs.lemmas.List.FromFn.{get_or-map-range_with_len, length-map-range_with_len}
-use Rattle.nv_alloc.specs.Block.{AreSized, BlockValue, numbers_of, zero_block, zero_blocks}
+use Rattle.nv_alloc.specs.Block.{AreSized, numbers_of, zero_block, zero_blocks}
 use Rattle.nv_alloc.specs.FreeList.{FreeBlocks}
 use Rattle.nv_alloc.specs.Numbers.{IsRising, times}
 use Rattle.nv_alloc.proofs.Lists.{times-append, times-cons, times-no, times-yes}
@@ -16,15 +16,12 @@ use Rattle.nv_base.specs.Limits.{IsWithinLimits}
 use Rattle.nv_base.specs.declared.geometry.GeometryNumbers.{GeometryNumbers}
 use Rattle.nv_base.proofs.HomeRanges.{cuts}
 use Rattle.nv_cell.specs.Cell.{empty_cell}
-use Rattle.nv_machine.specs.Format.{formatted, full_list, root_cell, without_lowest}
-use Rattle.nv_machine.specs.Hands.{AreLists, AreNumbers, HandOf, IsHomeList, IsParted}
-use Rattle.nv_machine.specs.Kinds.{blocks_in}
+use Rattle.nv_machine.specs.Format.{formatted, full_list, without_lowest}
+use Rattle.nv_machine.specs.Hands.{AreLists, IsHomeList}
 use Rattle.nv_machine.specs.Numbers.{IsEachOnce, all_blocks, free_of, held_by_actor, stored_in}
-use Rattle.nv_machine.specs.World.{Actor, cell_at, idle, no_cell, no_list}
-use Rattle.nv_machine.proofs.Locks.{all_same}
-use Rattle.nv_machine.proofs.Numbered.{all_times}
-use Rattle.nv_machine.proofs.Parted.{empty_parted}
-use Rattle.nv_machine.proofs.Sorted.{less_free}
+use Rattle.nv_machine.specs.World.{idle, no_list}
+use Rattle.nv_machine.proofs.BlockNumbers.{all_times}
+use Rattle.nv_machine.proofs.SortedLists.{less_free}
 
 -- ---- how often a number stands in ranges that go on from one another
 
@@ -130,7 +127,7 @@ no_held : (k : ℕ) → flat_map held_by_actor (replicate k idle) ≡ []
 no_held zero = refl
 no_held (suc k) = no_held k
 
-new_once : (g : GeometryNumbers) → IsWithinLimits g → IsEachOnce g.blocks (all_blocks (formatted g))
+pub new_once : (g : GeometryNumbers) → IsWithinLimits g → IsEachOnce g.blocks (all_blocks (formatted g))
 new_once g within n =
     let some : 0 < g.cpus = omega (arith, within.some_cpus) in
     let cut = cuts g.blocks g.cpus some in
@@ -200,63 +197,10 @@ without_count : (lists : List FreeBlocks) → length (without_lowest lists) ≡ 
 without_count [] = refl
 without_count (list ∷ lists) = refl
 
-new_lists : (g : GeometryNumbers) → 0 < g.cpus → AreLists g (formatted g).shared
+pub new_lists : (g : GeometryNumbers) → 0 < g.cpus → AreLists g (formatted g).shared
 new_lists g some = record {
   cpus = without_count (map (full_list g) (range_with_len 0 g.cpus)) ∙ length-map-range_with_len (full_list g) 0 g.cpus;
   each = λ cpu lt. without_home g cpu (map (full_list g) (range_with_len 0 g.cpus))
       (subst (λ (l : FreeBlocks). IsHomeList g cpu l)
       (sym (get_or-map-range_with_len (full_list g) 0 g.cpus cpu cpu no_list lt (omega arith))) (full_home g cpu some));
-}
-
--- ---- cells
-
-root_out : (n : ℕ) → slice_index_or (replicate {A = Option BlockValue} 3 None) n None ≡ None
-root_out zero = refl
-root_out (suc zero) = refl
-root_out (suc (suc zero)) = refl
-root_out (suc (suc (suc n))) = refl
-
-root_parted : (g : GeometryNumbers) → IsParted g.block (root_cell g)
-root_parted g = record {
-  within = omega arith;
-  marks = refl;
-  places = refl;
-  out = λ n gone. root_out n;
-  told = λ n b e. let z : None ≡ Some b = sym (root_out n) ∙ e in cc;
-  sized = λ n b e. let z : None ≡ Some b = sym (root_out n) ∙ e in cc;
-  pages = (length-replicate g.block 0, tt);
-}
-
-empty_at : (g : GeometryNumbers) (k n : ℕ) → IsParted g.block (slice_index_or (replicate k (empty_cell g.block g.page 1 0)) n no_cell)
-empty_at g zero n = empty_parted g.block 0 0 0 0
-empty_at g (suc k) zero = empty_parted g.block g.block g.page 1 0
-empty_at g (suc k) (suc n) = empty_at g k n
-
-new_cells : (g : GeometryNumbers) (ino : ℕ) → IsParted g.block (cell_at (formatted g).shared ino)
-new_cells g zero = root_parted g
-new_cells g (suc ino) = empty_at g (g.inodes - 1) ino
-
-empty_tail : (g : GeometryNumbers) (k n : ℕ)
-    → (slice_index_or (replicate k (empty_cell g.block g.page 1 0)) n no_cell).chain.tail
-    ≡ length (slice_index_or (replicate k (empty_cell g.block g.page 1 0)) n no_cell).chain.entries
-empty_tail g zero n = refl
-empty_tail g (suc k) zero = refl
-empty_tail g (suc k) (suc n) = empty_tail g k n
-
-new_tails : (g : GeometryNumbers) (ino : ℕ)
-    → (cell_at (formatted g).shared ino).chain.tail ≡ length (cell_at (formatted g).shared ino).chain.entries
-new_tails g zero = refl
-new_tails g (suc ino) = empty_tail g (g.inodes - 1) ino
-
--- ---- the whole
-
-pub new_numbers : (g : GeometryNumbers) → IsWithinLimits g → AreNumbers g (formatted g)
-new_numbers g within = record {
-  numbers = refl;
-  once = new_once g within;
-  lists = new_lists g (omega (arith, within.some_cpus));
-  cells = new_cells g;
-  tails = λ ino none. new_tails g ino;
-  sized = λ actor. subst (λ (x : Actor). AreSized g.block (blocks_in x.hand)) (sym (all_same g.actors actor idle)) tt;
-  hands = λ actor. subst (λ (x : Actor). HandOf g x.hand x.running) (sym (all_same g.actors actor idle)) refl;
 }

@@ -1,101 +1,123 @@
--- A new world is one where a run may start, without records; and so is each world at rest that events lead to, with its
--- records.
-use Rattle.std.proofs.Common.{List, [], ap, arith, refl, subst, sym}
+-- A new world is one where a run may start, without records.
+use Rattle.std.proofs.Common.{◌≡◌, ◌∙◌, ℕ, zero, suc, ◌+◌, ◌-◌, ◌<◌, ◌≤◌, ◌||◌, Bool, false, List, [], ◌∷◌, None, ap, ap₂, arith, filter, length, not, refl, subst, sym}
+use Rattle.std.specs.List.{range_with_len}
 use Rattle.std.proofs.lemmas.List.{length-replicate}
+use Rattle.nv_alloc.specs.Block.{AreSized}
+use Rattle.nv_alloc.specs.Numbers.{has, unused}
 use Rattle.nv_base.specs.Limits.{IsWithinLimits}
 use Rattle.nv_base.specs.declared.geometry.GeometryNumbers.{GeometryNumbers}
-use Rattle.nv_book.specs.declared.record.Record.{Record}
-use Rattle.nv_calls.specs.Retiring.{is_erased}
+use Rattle.nv_cell.specs.Cell.{CellState, empty_cell, log_of}
+use Rattle.nv_cell.specs.Marks.{bit, is_killed, mark_at}
 use Rattle.nv_machine.specs.Directories.{AreTree}
-use Rattle.nv_machine.specs.Format.{formatted}
-use Rattle.nv_machine.specs.Needed.{IsAtRest}
-use Rattle.nv_machine.specs.Reached.{IsReached}
-use Rattle.nv_machine.specs.Recorded.{records_after}
+use Rattle.nv_machine.specs.Format.{formatted, root_cell}
+use Rattle.nv_machine.specs.Held.{picked_by_actor}
+use Rattle.nv_machine.specs.PoolScan.{has_inode, is_number_used, is_withheld, number_held, pool_from_scratch}
+use Rattle.nv_machine.specs.Recorded.{is_kept, recorded_in}
 use Rattle.nv_machine.specs.Starts.{IsStart}
-use Rattle.nv_machine.specs.Step.{after}
-use Rattle.nv_machine.specs.World.{Actor, Event, World, cell_at, idle}
-use Rattle.nv_machine.proofs.AtRest.{HasAll, is_at_rest}
-use Rattle.nv_machine.proofs.CopiesAll.{all_whole}
-use Rattle.nv_machine.proofs.CopyMarks.{all_have_marks}
-use Rattle.nv_machine.proofs.Counts.{of_numbers}
-use Rattle.nv_machine.proofs.DirectoryLaws.{all_trees, new_nodes, root_tree}
-use Rattle.nv_machine.proofs.Effects.{new_sound}
-use Rattle.nv_machine.proofs.FiledLaw.{all_marked, new_marked}
-use Rattle.nv_machine.proofs.FiledRuns.{all_listed, new_listed}
-use Rattle.nv_machine.proofs.FitsPlain.{all_sound}
-use Rattle.nv_machine.proofs.FromScratch.{all_numbers, none_true}
-use Rattle.nv_machine.proofs.Generations.{all_early, new_early}
-use Rattle.nv_machine.proofs.GoneRuns.{new_cell, none_retiring}
-use Rattle.nv_machine.proofs.GrownRuns.{new_grown}
-use Rattle.nv_machine.proofs.InOrder.{new_order}
-use Rattle.nv_machine.proofs.KeptRuns.{new_kept}
-use Rattle.nv_machine.proofs.Locks.{all_same, new_locks}
-use Rattle.nv_machine.proofs.MarkedRuns.{all_parts, new_parts}
-use Rattle.nv_machine.proofs.NewNumbers.{new_numbers}
-use Rattle.nv_machine.proofs.PageEvents.{logs_paged, new_all}
-use Rattle.nv_machine.proofs.Pins.{no_shows, pins_of_shows}
-use Rattle.nv_machine.proofs.PoolLaw.{all_pooled, new_pooled}
-use Rattle.nv_machine.proofs.Reached.{reached}
-use Rattle.nv_machine.proofs.ShapeEvents.{all_shaped, new_shaped}
-use Rattle.nv_machine.proofs.SnapRuns.{in_step}
-use Rattle.nv_machine.proofs.Versions.{all_counted, new_counted}
+use Rattle.nv_machine.specs.World.{World, cell_at, idle}
+use Rattle.nv_machine.proofs.DirectoryLaws.{new_nodes, root_tree}
+use Rattle.nv_machine.proofs.CommitEffects.{new_sound}
+use Rattle.nv_machine.proofs.FiledLists.{count}
+use Rattle.nv_machine.proofs.FiledMarks.{is_filed_on}
+use Rattle.nv_machine.proofs.Generations.{new_early}
+use Rattle.nv_machine.proofs.GoneRuns.{new_erased}
+use Rattle.nv_machine.proofs.LogsInOrder.{new_order}
+use Rattle.nv_machine.proofs.LocksOverEvents.{all_same, many_same}
+use Rattle.nv_machine.proofs.CellMarksRuns.{is_cell, new_parts}
+use Rattle.nv_machine.proofs.NewNumbers.{new_lists, new_once}
+use Rattle.nv_machine.proofs.NewWorld.{each_cell, new_cell, new_tails, none_closed}
+use Rattle.nv_machine.proofs.PageEvents.{new_all}
+use Rattle.nv_machine.proofs.PartsFor.{none_of}
+use Rattle.nv_machine.proofs.ShapeEvents.{new_shaped}
+use Rattle.nv_machine.proofs.Versions.{new_versions}
+
+-- ---- the pool
+
+all_unused : (used : ℕ → Bool) → ((n : ℕ) → 1 ≤ n → used n ≡ false) → (a len : ℕ) → 1 ≤ a
+    → filter (λ n. not (used n)) (range_with_len a len) ≡ range_with_len a len
+all_unused used none a zero le = refl
+all_unused used none a (suc len) le =
+    rw (none a le) (ap (λ (l : List ℕ). a ∷ l) (all_unused used none (a + 1) len (omega (arith, le))))
+
+-- of the numbers the root's alone is in use
+new_unused : (g : GeometryNumbers) (n : ℕ) → 1 ≤ n → is_number_used (formatted g) n ≡ false
+new_unused g n le =
+    ap₂ (λ (b : Bool) (l : List ℕ). b || has l n)
+    (new_cell g (λ (m : ℕ) (c : CellState). 1 ≤ m → (has_inode c || is_withheld c) ≡ false) (λ some. absurd (omega (arith, some)))
+    (λ m some. refl) (λ m past some. refl) n le)
+    (none_of number_held (formatted g).actors (λ b. ap number_held (all_same g.actors b idle)))
+
+new_pool : (g : GeometryNumbers) → IsWithinLimits g → range_with_len 1 (g.inodes - 1) ≡ pool_from_scratch g (formatted g)
+new_pool g within =
+    let used : ℕ → Bool = is_number_used (formatted g) in
+    let some : g.inodes ≡ suc (g.inodes - 1) = omega (arith, within.some_inodes) in
+    sym (ap (unused used 0) some ∙ all_unused used (new_unused g) 1 (g.inodes - 1) (omega arith))
+
+-- ---- records and marks
+
+none_recorded : (g : GeometryNumbers) → recorded_in (formatted g) ≡ []
+none_recorded g = none_of picked_by_actor (formatted g).actors (λ b. ap picked_by_actor (all_same g.actors b idle))
+
+abbrev IsPlain : CellState → Type 0
+IsPlain c = (n : ℕ) → (is_killed (mark_at c.marks n) ≡ false) × (is_kept (mark_at c.marks n) ≡ false)
+
+root_plain : (g : GeometryNumbers) → IsPlain (root_cell g)
+root_plain g zero = (refl, refl)
+root_plain g (suc zero) = (refl, refl)
+root_plain g (suc (suc zero)) = (refl, refl)
+root_plain g (suc (suc (suc n))) = (refl, refl)
+
+new_plain : (g : GeometryNumbers) (ino : ℕ) → IsPlain (cell_at (formatted g).shared ino)
+new_plain g = each_cell g IsPlain (root_plain g) (λ block page generation n. (refl, refl))
+
+-- ---- the whole
 
 pub new_start : (g : GeometryNumbers) → IsWithinLimits g → IsStart g (formatted g) []
-new_start g within = is_at_rest g (formatted g) [] (record {
+new_start g within = record {
   limits = within;
-  counts = record { pool = refl; actors = length-replicate g.actors idle };
+  numbers = refl;
+  actors = length-replicate g.actors idle;
+  slots = many;
+  owners = many_same g.inodes None;
+  inodes = refl;
+  journals = many_same g.cpus [];
   most = refl;
-  pins = λ snapshot. no_shows snapshot (formatted g).actors (λ actor. all_same g.actors actor idle);
-  locks = new_locks g within;
-  order = new_order g;
-  kept = new_kept g within;
-  grown = new_grown g;
-  numbers = new_numbers g within;
-  pooled = new_pooled g within;
-  counted = new_counted g;
+  idle_all = λ actor. all_same g.actors actor idle;
+  unlocked = λ ino. all_same g.inodes ino None;
+  uncommitted = refl;
+  closed = none_closed g.cpus;
+  unpinned = λ snapshot. refl;
+  once = new_once g within;
+  lists = new_lists g (omega (arith, within.some_cpus));
+  pool = new_pool g within;
+  cells = λ ino lt. is_cell g (cell_at w.shared ino) within (new_parts g ino (inside ino lt)) (new_all g within ino (inside ino lt))
+      ((new_order g).logs ino).ordered
+      (each_cell g (λ (c : CellState). AreSized g.block c.chain.blocks) (length-replicate g.block 0, tt) (λ block page generation. tt) ino);
+  sizes = λ ino lt. (new_parts g ino (inside ino lt)).size;
+  pages = λ ino lt. new_all g within ino (inside ino lt);
+  tails = new_tails g;
+  order = (new_order g).logs;
+  versions = new_versions g;
   early = new_early g;
-  erased = λ free. new_cell g;
-  parts = new_parts g;
-  pages = new_all g within;
-  listed = new_listed g;
-  marked = new_marked g;
+  erased = new_erased g;
+  rising = tt;
+  before = λ k d lt. absurd (omega (arith, lt));
+  list = record { manifests_are = refl; deferred_is = refl };
+  dead = tt;
+  paired = tt;
+  recorded = λ ino n. ap (count (is_filed_on ino (log_of (cell_at w.shared ino)) n)) (none_recorded g) ∙ sym (ap bit (new_plain g ino n).1);
+  alive = λ ino n. (new_plain g ino n).0;
+  out = λ ino n pair got gone. refl;
   shaped = new_shaped g;
   sound = new_sound g within;
   tree = subst AreTree (sym (new_nodes g within)) root_tree;
   copies = λ snapshot there. absurd (let lt = there.1 in omega (arith, lt));
-}) (λ actor. ap (λ (x : Actor). x.running) (all_same g.actors actor idle))
+} where
+  w : World
+  w = formatted g
 
-module _ (g : GeometryNumbers) (start : World) (records : List Record) (events : List Event) (is_start : IsStart g start records) where
-  abbrev w : World
-  w = after start events
+  many : length (formatted g).shared.cells ≡ g.inodes
+  many = let same = many_same (g.inodes - 1) (empty_cell g.block g.page 1 0) in omega (arith, same, within.some_inodes)
 
-  has_all : HasAll g w (records_after start events records)
-  has_all = record {
-    limits = is_start.limits;
-    counts = of_numbers g start records events is_start;
-    most = (in_step g start records events is_start).most;
-    pins = λ snapshot. pins_of_shows g start records events snapshot is_start;
-    locks = is_reached.locks;
-    order = is_reached.order;
-    kept = is_reached.kept;
-    grown = is_reached.grown;
-    numbers = all_numbers g start records events is_start;
-    pooled = all_pooled g start records events is_start;
-    counted = all_counted g start records events is_start;
-    early = all_early g start records events is_start;
-    erased = λ free ino. none_true (is_erased (cell_at w.shared ino)) (none_retiring g start records events ino is_start free);
-    parts = all_parts g start records events is_start;
-    pages = λ ino. logs_paged g start records events ino is_start;
-    listed = all_listed g start records events is_start;
-    marked = all_marked g start records events is_start;
-    shaped = all_shaped g start records events is_start;
-    sound = all_sound g start records events is_start;
-    tree = all_trees g start records events is_start;
-    copies =
-        λ snapshot there. (all_whole g start records is_start (all_have_marks g start records is_start) events snapshot there).one_tree;
-  } where
-    is_reached : IsReached w
-    is_reached = reached g start records events is_start
-
-  pub start_again : IsAtRest w → IsStart g w (records_after start events records)
-  start_again at_rest = is_at_rest g w (records_after start events records) has_all at_rest
+  inside : (ino : ℕ) → ino < g.inodes → ino < length (formatted g).shared.cells
+  inside ino lt = omega (arith, lt, many)

@@ -1,13 +1,12 @@
 -- Each entry of a chain stands on one of its pages, whatever a step does to the chain.
-use Rattle.std.proofs.Common.{◌≡◌, ℕ, suc, ◌+◌, ◌*◌, ◌<◌, ◌≤◌, ◌++◌, ◌∙◌, Bool, true, false, List, [], ◌∷◌, Option, Some, None, ap, append_assoc, arith, if◌then◌else◌, length, refl, subst, sym, take}
+use Rattle.std.proofs.Common.{◌≡◌, ℕ, suc, ◌+◌, ◌*◌, ◌<◌, ◌≤◌, ◌++◌, ◌∙◌, Bool, true, false, List, [], ◌∷◌, ap, append_assoc, arith, if◌then◌else◌, length, refl, subst, sym, take}
 use Rattle.std.specs.List.{AllByRecursion}
 use Rattle.std.proofs.lemmas.List.{length-take-le, length_push}
 use Rattle.nv_alloc.specs.Block.{BlockValue}
 use Rattle.nv_base.specs.declared.limits.TheConstants.{LEAST_PAGE_ENTRIES, PAGE_ENTRIES}
-use Rattle.nv_calls.specs.Retiring.{erased, is_erased, keeper_of, retired, retired_one, settled as settled_part, released}
+use Rattle.nv_calls.specs.Retiring.{erased, is_erased}
 use Rattle.nv_cell.specs.Append.{appended, blocks_for}
-use Rattle.nv_cell.specs.Cell.{CellState, empty_cell, number_in, published}
-use Rattle.nv_cell.specs.declared.killed.KilledPart.{KilledPart}
+use Rattle.nv_cell.specs.Cell.{CellState, empty_cell, published}
 use Rattle.nv_cell.proofs.ReadySteps.{adds_page}
 use Rattle.nv_entry.specs.Log.{IsLog, MayFollow}
 use Rattle.nv_entry.specs.declared.item.Entry.{Entry}
@@ -15,9 +14,9 @@ use Rattle.nv_log.proofs.Growth.{enough}
 use Rattle.nv_log.specs.Chain.{AreEnds, ChainState, IsChain, appended as appended_chain, open_of, pages_for, room_of, start_of, with_page}
 use Rattle.nv_log.proofs.Chains.{IsOpen, appends_entry, is_open, open_within}
 use Rattle.nv_log.proofs.Parts.{AreEnds-push, AreEnds-take}
+use Rattle.nv_calls.proofs.Next.{Keeps}
 use Rattle.nv_machine.specs.Kinds.{with_entries, with_pages}
 use Rattle.nv_machine.specs.Pages.{AreOnPages}
-use Rattle.nv_book.specs.declared.record.Record.{Record}
 
 -- ---- a log at the front of another
 
@@ -125,21 +124,10 @@ module _ (page : ℕ) (least : LEAST_PAGE_ENTRIES ≤ page) (most : page ≤ PAG
       (subst (λ (es : List Entry). IsLog (es ++ entries)) (sym (same_entries pages cell)) log)
       (pages_serve pages (length entries) cell on (front_log cell.chain.entries entries log) e)
 
--- ---- a publish and a retire
+-- ---- a publish and a removal
 
 pub publish_on : (page : ℕ) (cell : CellState) → AreOnPages page cell.chain → AreOnPages page (published cell).chain
 publish_on page cell on = record { size = on.size; each = on.each; parted = on.parted }
-
-part_chain : (keeper : Option ℕ) (n : ℕ) (cell : CellState) → (settled_part keeper n cell).chain ≡ cell.chain
-part_chain None n cell = refl
-part_chain (Some s) n cell = refl
-
-retired_chain : (living : List ℕ) (ino epoch : ℕ) (parts : List KilledPart) (cell : CellState)
-    → (retired living ino epoch parts cell).chain ≡ cell.chain
-retired_chain living ino epoch [] cell = refl
-retired_chain living ino epoch (killed ∷ later) cell =
-    retired_chain living ino epoch later (retired_one living ino epoch killed cell)
-    ∙ part_chain (keeper_of living ino epoch killed) (number_in cell killed.part) cell
 
 erased_on : (page : ℕ) (cell : CellState) → AreOnPages page cell.chain → AreOnPages page (erased cell).chain
 erased_on page cell on = go (is_erased cell) where
@@ -147,12 +135,6 @@ erased_on page cell on = go (is_erased cell) where
   go true = record { size = on.size; each = omega arith; parted = refl }
   go false = on
 
-pub retire_on : (page : ℕ) (living : List ℕ) (ino epoch : ℕ) (parts : List KilledPart) (cell : CellState) → AreOnPages page cell.chain
-    → AreOnPages page (erased (retired living ino epoch parts cell)).chain
-retire_on page living ino epoch parts cell on =
-    erased_on page (retired living ino epoch parts cell)
-    (subst (AreOnPages page) (sym (retired_chain living ino epoch parts cell)) on)
-
-pub release_on : (page : ℕ) (picked : Record) (cell : CellState) → AreOnPages page cell.chain
-    → AreOnPages page (erased (released picked cell)).chain
-release_on page picked cell on = erased_on page (released picked cell) on
+-- what gives up parts alone keeps its log
+pub remove_on : (page : ℕ) (old new : CellState) → Keeps old new → AreOnPages page old.chain → AreOnPages page (erased new).chain
+remove_on page old new kept on = erased_on page new (subst (AreOnPages page) (sym kept.chain) on)

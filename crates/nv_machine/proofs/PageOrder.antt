@@ -14,7 +14,7 @@ use Rattle.nv_machine.specs.Reads.{is_written, pages_needed, slot_at, written_sl
 use Rattle.nv_machine.specs.Step.{kind_turn}
 use Rattle.nv_machine.specs.World.{Append, HandState, Running, Shared, World, actor_at, cell_at, no_cell}
 use Rattle.nv_machine.proofs.Lists.{rising_filter}
-use Rattle.nv_machine.proofs.Locks.{before}
+use Rattle.nv_machine.proofs.LocksOverEvents.{before}
 
 more_pages : (pages : List BlockValue) (cell : CellState) → (with_pages pages cell).chain.blocks ≡ cell.chain.blocks ++ pages
 more_pages [] cell = sym (append-nil cell.chain.blocks)

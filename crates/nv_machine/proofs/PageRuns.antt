@@ -1,5 +1,5 @@
 -- Logs keep their pages, and hands those of the appends to come, at each step of their own and of others.
-use Rattle.std.proofs.Common.{◌≡◌, ℕ, zero, suc, ◌+◌, ◌<◌, ◌==◌, ◌++◌, ◌∙◌, Bool, true, false, cond, List, [], ◌∷◌, Option, Some, None, add-one, ap, arith, drop, inl, inr, length, length-append, length-drop, length-set, length-take, refl, subst, sym, take}
+use Rattle.std.proofs.Common.{◌≡◌, ℕ, zero, suc, ◌+◌, ◌<◌, ◌==◌, ◌++◌, ◌∙◌, Bool, true, false, cond, List, [], ◌∷◌, Some, None, add-one, ap, arith, drop, inl, inr, length, length-append, length-drop, length-take, refl, subst, sym, take}
 use Rattle.std.proofs.lemmas.Bool.{cases_lt, false≢true}
 use Rattle.std.proofs.lemmas.List.{get_or_past}
 use Rattle.nv_alloc.specs.Block.{BlockValue}
@@ -9,37 +9,37 @@ use Rattle.nv_base.specs.declared.geometry.GeometryNumbers.{GeometryNumbers}
 use Rattle.nv_base.specs.declared.numbers.Handle.{Handle}
 use Rattle.nv_calls.specs.AllCalls.{plan}
 use Rattle.nv_calls.specs.Plain.{node_in}
-use Rattle.nv_calls.specs.Retiring.{erased, is_erased, released}
+use Rattle.nv_calls.specs.Retiring.{is_erased}
 use Rattle.nv_calls.specs.Slots.{Slot, entries_of, items_for, place_in}
-use Rattle.nv_cell.specs.Cell.{CellState, log_of, published}
+use Rattle.nv_cell.specs.Cell.{CellState, log_of}
 use Rattle.nv_entry.specs.Log.{IsLog}
 use Rattle.nv_entry.specs.declared.item.Item.{Item}
-use Rattle.nv_epoch.specs.SnapList.{ids}
 use Rattle.nv_log.specs.Chain.{pages_for}
 use Rattle.nv_machine.specs.Grown.{HasGrown, is_appended, is_behind}
 use Rattle.nv_machine.specs.Hands.{HandAt}
-use Rattle.nv_machine.specs.Kinds.{asked_list, entries_for, first_killed, less_list, retired_cell, with_entries, with_freed, with_pages}
+use Rattle.nv_machine.specs.Kinds.{asked_list, entries_for, first_killed, retired_cell, with_entries, with_freed, with_pages}
 use Rattle.nv_machine.specs.Locks.{AreSlots, commits_at, held_at}
 use Rattle.nv_machine.specs.Order.{entries_at, to_append}
 use Rattle.nv_machine.specs.Pages.{AreOnPages, HasLogPages}
 use Rattle.nv_machine.specs.Reads.{is_written, node_of, pages_needed, pages_wanted, plan_by, slot_at, written_slots}
-use Rattle.nv_machine.specs.Sequence.{appending}
-use Rattle.nv_machine.specs.Step.{ending_at, kind_turn, with_made}
+use Rattle.nv_machine.specs.Sequence.{appending, locking, looking}
+use Rattle.nv_machine.specs.Step.{kind_turn}
 use Rattle.nv_machine.specs.Wanted.{log_pages_wanted}
-use Rattle.nv_machine.specs.World.{Append, Back, Check, Close, Enter, Give, HandState, Leave, Lock, Look, Next, Number, Open, Publish, Ready, Retire, Running, Shared, TakeBlocks, TakePages, Unlock, Visit, cell_at, go_to, list_at, no_cell, owner_at, with_cell, Drop, LockPicked, Make, Pick, Pin, Release, Show, Snapshots, Unpin}
-use Rattle.nv_machine.proofs.Firsts.{plain}
-use Rattle.nv_machine.proofs.FitsEvents.{slots_in_cells}
+use Rattle.nv_machine.specs.World.{Append, Check, Close, Enter, HandState, Lock, Look, Next, Number, Open, Publish, Ready, Retire, Running, Shared, TakeBlocks, TakePages, cell_at, go_to, list_at, no_cell, owner_at, with_cell}
 use Rattle.nv_machine.proofs.FitsKinds.{logs_of}
 use Rattle.nv_machine.proofs.FitsOwn.{last_page, now, same_then}
 use Rattle.nv_machine.proofs.FitsRuns.{present_in, taken_of}
 use Rattle.nv_machine.proofs.FitsStages.{FitsAt, IsLocked, IsPassed, Passed, SameFor, passed_still, plan_still, view}
-use Rattle.nv_machine.proofs.Kept.{deed, number_deed, back_deed}
+use Rattle.nv_machine.proofs.StepWork.{work}
 use Rattle.nv_machine.proofs.Lists.{drop_apart, has_filter, has_later, or_left, rising_filter, self, written_inside}
-use Rattle.nv_machine.proofs.Locked.{Before}
+use Rattle.nv_machine.proofs.LocksHeld.{Before}
 use Rattle.nv_machine.proofs.LogsKept.{cell_set}
-use Rattle.nv_machine.proofs.PageCells.{append_on, publish_on, retire_on, release_on}
-use Rattle.nv_machine.proofs.PageTurns.{OnPages, appending_pages, blocks_pages, check_pages, end_pages, enter_pages, erased_pages, from_plain, next_want, publishing_pages, retiring_pages, same_want, taken_pages}
-use Rattle.nv_machine.proofs.KeptTurns.{lent_inside_own}
+use Rattle.nv_machine.proofs.PageCells.{append_on, publish_on, remove_on}
+use Rattle.nv_machine.proofs.NextSteps.{QuietWays, quiet_walk}
+use Rattle.nv_machine.proofs.PageTurns.{OnPages, Pages, appending_pages, erased_pages, next_want, pages_quiet, publishing_pages, retiring_pages, same_want, written_want}
+use Rattle.nv_machine.proofs.LoopSteps.{locking_any, looking_any}
+use Rattle.nv_machine.proofs.StepWays.{noted, take_sum}
+use Rattle.nv_machine.proofs.CellChanges.{cells_after, removal, slots_stay}
 
 -- ---- an append
 
@@ -97,65 +97,60 @@ module _ (g : GeometryNumbers) (a : ℕ) (granted : Bool) (s : Shared) (h : Hand
       let front = length-append h.blocks h.pages in
       omega (arith, none, split, front)
 
-  pub own_pages : (k : Next) → HandAt g k h r → Before a s k r → HasLogPages k g.block s h r
-      → OnPages g.block (kind_turn k g.block a granted s h r)
-  own_pages Number at b has_them = from_plain g.block _ (plain Number g.block a granted s h r refl)
-  own_pages (Look place) at b has_them = from_plain g.block _ (plain (Look place) g.block a granted s h r refl)
-  own_pages (Lock place) at b has_them = from_plain g.block _ (plain (Lock place) g.block a granted s h r refl)
-  own_pages Check at b has_them = check_pages g.block (ending_at g.block s h r) granted _ s h (with_made s h r) (no_pages at)
-  own_pages (TakeBlocks asked) at b has_them = blocks_pages g.block _ _ asked _ _ r has_them
-  own_pages (TakePages asked) at b has_them =
-      taken_pages g.block _ _ asked (less_list (asked_list (length s.lists) a asked) r.wanted s)
-      (record h { pages = h.pages ++ take r.wanted (list_at s (asked_list (length s.lists) a asked)).blocks }) r
-      (let list = (list_at s (asked_list (length s.lists) a asked)).blocks in
-      let sum = length-append h.pages (take r.wanted list) in
-      let some = length-take r.wanted list in
-      omega (arith, sum, some, has_them))
-  own_pages Ready at b has_them = go granted where
-    go : (b : Bool) → OnPages g.block (kind_turn Ready g.block a b s h r)
-    go true = has_them
-    go false = end_pages g.block _ s h r
-  own_pages Enter at b has_them = enter_pages g.block s.holder _ granted a s h r has_them
-  own_pages (Append place) at b has_them =
+  ways : (k : Next) → HandAt g k h r → Before a s k r → HasLogPages k g.block s h r → QuietWays (Pages g.block) k g.block a s h r
+  ways Check at b has_them = λ none.
+      let few = no_pages at in
+      record { more = λ n is ask. few; pages = λ n enough is. omega (arith, few, is); ready = λ enough is. few ∙ sym is }
+  ways (TakeBlocks asked) at b has_them = record {
+    more = λ n is ask. has_them;
+    pages = λ n enough is. omega (arith, has_them, is);
+    ready = λ enough is. has_them ∙ sym is;
+  }
+  ways (TakePages asked) at b has_them =
+      let sum = take_sum h.pages (list_at s (asked_list (length s.lists) a asked)).blocks r.wanted in
+      record {
+        more = λ n is ask. omega (arith, sum, is, has_them);
+        pages = λ n enough is. cc;
+        ready = λ enough is. omega (arith, sum, enough, has_them);
+      }
+  ways Ready at b has_them = has_them
+  ways Enter at b has_them = λ clear.
+      appending_pages g.block (work Enter g.block a s h r).shared h
+      (go_to (appending 0 (written_slots r)) (noted Enter g.block s h r)) 0 (has_them ∙ sym (written_want s r.plan r.slots))
+  ways (Append place) at b has_them =
       let slot = slot_at (written_slots r) place in
       let pages = pages_needed s r.plan slot in
       let new = with_entries (entries_for r slot) h.blocks (with_pages (take pages h.pages) (cell_at s slot)) in
-      appending_pages g.block (place + 1) (with_cell slot new s) _ (go_to (appending (place + 1) (written_slots r)) r)
+      appending_pages g.block (with_cell slot new s) _ (go_to (appending (place + 1) (written_slots r)) r) (place + 1)
       (subst (λ (n : ℕ). length (drop pages h.pages) ≡ pages_wanted (with_cell slot new s) (drop n (written_slots r)) r.plan)
       (sym (add-one place)) (left_are s h r place b.inside has_them (length s.owners) b.are b.wide new))
-  own_pages Open at b has_them = publishing_pages g.block 0 (written_slots r) _ h _ has_them
-  own_pages (Publish place) at b has_them = publishing_pages g.block (place + 1) (written_slots r) _ _ _ has_them
-  own_pages Close at b has_them = retiring_pages g.block 0 (written_slots r) _ _ _ has_them
-  own_pages (Retire place) at b has_them =
+  ways Open at b has_them = publishing_pages g.block _ h _ (written_slots r) has_them 0
+  ways (Publish place) at b has_them = publishing_pages g.block _ _ _ (written_slots r) has_them (place + 1)
+  ways Close at b has_them = retiring_pages g.block _ _ _ (written_slots r) has_them 0
+  ways (Retire place) at b has_them =
       let slot = slot_at (written_slots r) place in
-      retiring_pages g.block (place + 1) (written_slots r) _ _ _
+      retiring_pages g.block _ _ _ (written_slots r)
       (erased_pages (is_erased (retired_cell slot (first_killed h.killed) s r)) h (with_freed slot (first_killed h.killed) s r h) _
-      has_them has_them)
-  own_pages Leave at b has_them = from_plain g.block _ (plain Leave g.block a granted s h r refl)
-  own_pages (Unlock place) at b has_them = from_plain g.block _ (plain (Unlock place) g.block a granted s h r refl)
-  own_pages (Give cpu) at b has_them = from_plain g.block _ (plain (Give cpu) g.block a granted s h r refl)
-  own_pages Back at b has_them = from_plain g.block _ (plain Back g.block a granted s h r refl)
-  own_pages Visit at b has_them = from_plain g.block _ (plain Visit g.block a granted s h r refl)
-  own_pages (Snapshots step) at b has_them = from_plain g.block _ (plain (Snapshots step) g.block a granted s h r refl)
+      has_them has_them) (place + 1)
+  ways Number at b has_them =
+      let q = noted Number g.block s h r in
+      let d = work Number g.block a s h r in
+      locking_any (λ (k : Next). Pages g.block k d.shared d.hand (go_to (locking 0 q.slots) q)) (λ place. tt) tt 0 q.slots
+  ways (Look place) at b has_them =
+      let q = noted (Look place) g.block s h r in
+      looking_any (λ (k : Next). Pages g.block k s h (go_to (looking (place + 1) q) q)) (λ place. tt) (λ place. tt) tt (place + 1) q
+  ways (Lock place) at b has_them =
+      locking_any (λ (k : Next). Pages g.block k (work (Lock place) g.block a s h r).shared h (go_to (locking (place + 1) r.slots) r)) (λ place. tt) tt (place + 1) r.slots
+  ways other at b has_them = tt
+
+  pub own_pages : (k : Next) → HandAt g k h r → Before a s k r → HasLogPages k g.block s h r
+      → OnPages g.block (kind_turn k g.block a granted s h r)
+  own_pages k at b has_them = quiet_walk (Pages g.block) (pages_quiet g.block) g.block a granted s h r k (ways k at b has_them)
 
 -- ---- cells
 
 abbrev pub AllOnPages : ℕ → Shared → Type 0
 AllOnPages page s = (ino : ℕ) → ino < length s.cells → AreOnPages page (cell_at s ino).chain
-
-with_on : (page : ℕ) (s : Shared) (slot : ℕ) (new : CellState) → slot < length s.cells → AreOnPages page new.chain
-    → AllOnPages page s → AllOnPages page (with_cell slot new s)
-with_on page s slot new low on all ino lt = cell_set s slot new ino (λ (c : CellState). AreOnPages page c.chain) low (λ e. on)
-    (λ ne. all ino (let n = length-set s.cells slot new in omega (arith, lt, n)))
-
-number_on : (page : ℕ) (numbers : List ℕ) (s : Shared) (h : HandState) → AllOnPages page s
-    → AllOnPages page (number_deed numbers s h).shared
-number_on page [] s h on = on
-number_on page (ino ∷ numbers) s h on = on
-
-back_on : (page : ℕ) (number : Option ℕ) (s : Shared) (h : HandState) → AllOnPages page s → AllOnPages page (back_deed number s h).shared
-back_on page None s h on = on
-back_on page (Some ino) s h on = on
 
 has_from : (place : ℕ) (slots : List ℕ) → place < length slots → has (drop place slots) (slot_at slots place) ≡ true
 has_from place [] lt = absurd (omega (arith, lt))
@@ -164,41 +159,23 @@ has_from (suc place) (ino ∷ slots) lt = has_from place slots (omega (arith, lt
 
 module _ (g : GeometryNumbers) (within : IsWithinLimits g) (a : ℕ) (s : Shared) (h : HandState) (r : Running)
     (all : AllOnPages g.page s) where
-  pub deed_on : (k : Next) → Before a s k r → HasLogPages k g.block s h r
+  pub work_on : (k : Next) → Before a s k r → HasLogPages k g.block s h r
       → ((ino : ℕ) → has (to_append k (written_slots r)) ino ≡ true → IsLog (entries_at s ino ++ entries_for r ino))
-      → AllOnPages g.page (deed k g.block a s h r).shared
-  deed_on Number b has_them logs = number_on g.page s.pool.numbers s h all
-  deed_on (Append place) b has_them logs =
-      let slot = slot_at (written_slots r) place in
-      let pages = take (pages_needed s r.plan slot) h.pages in
-      let low = written_inside (length s.cells) r place (slots_in_cells (Append place) a s r b) b.inside in
-      with_on g.page s slot (with_entries (entries_for r slot) h.blocks (with_pages pages (cell_at s slot))) low
-      (append_on g.page within.some_entries within.entries_fit (entries_for r slot) h.blocks pages (cell_at s slot) (all slot low)
-      (logs slot (has_from place (written_slots r) b.inside)) (taken_are s h r place b.inside has_them)) all
-  deed_on (Publish place) b has_them logs =
-      let slot = slot_at (written_slots r) place in
-      let low = written_inside (length s.cells) r place (slots_in_cells (Publish place) a s r b) b.inside in
-      with_on g.page s slot (published (cell_at s slot)) low (publish_on g.page (cell_at s slot) (all slot low)) all
-  deed_on (Retire place) b has_them logs =
-      let slot = slot_at (written_slots r) place in
-      let killed = first_killed h.killed in
-      let low = written_inside (length s.cells) r place (slots_in_cells (Retire place) a s r b) b.inside in
-      with_on g.page s slot (erased (retired_cell slot killed s r)) low
-      (retire_on g.page (ids s.book.snaps) slot r.epoch killed (cell_at s slot) (all slot low)) all
-  deed_on Back b has_them logs = back_on g.page h.ino s h all
-  deed_on (Snapshots Make) b has_them logs = all
-  deed_on (Snapshots (Drop snapshot)) b has_them logs = all
-  deed_on (Snapshots (Pin snapshot)) b has_them logs = all
-  deed_on (Snapshots (Show snapshot showing)) b has_them logs = all
-  deed_on (Snapshots (Unpin snapshot seen)) b has_them logs = all
-  deed_on (Snapshots (Pick draining)) b has_them logs = all
-  deed_on (Snapshots (LockPicked draining picked)) b has_them logs = all
-  deed_on (Snapshots (Release draining picked)) b has_them logs =
-      let cell = released picked (cell_at s picked.ino) in
-      let low = (lent_inside_own (Snapshots (Release draining picked)) a s r b picked.ino refl).0 in
-      with_on g.page s picked.ino (erased cell) low
-      (release_on g.page picked (cell_at s picked.ino) (all picked.ino low)) all
-  deed_on other b has_them logs = all
+      → AllOnPages g.page (work k g.block a s h r).shared
+  work_on k b has_them logs ino lt =
+      cells_after (λ (n : ℕ) (c : CellState). n < length s.cells → AreOnPages g.page c.chain) g.block a s h r all k b (record {
+        appends = λ place is inside low there.
+            let slot = slot_at (written_slots r) place in
+            append_on g.page within.some_entries within.entries_fit (entries_for r slot) h.blocks
+            (take (pages_needed s r.plan slot) h.pages) (cell_at s slot) (all slot low)
+            (logs slot (subst (λ (k : Next). has (to_append k (written_slots r)) slot ≡ true) (sym is)
+            (has_from place (written_slots r) inside)))
+            (taken_are s h r place inside (subst (λ (k : Next). HasLogPages k g.block s h r) is has_them));
+        publishes = λ place is inside low there.
+            let slot = slot_at (written_slots r) place in publish_on g.page (cell_at s slot) (all slot low);
+        removes = λ is low left there.
+            let x = removal k s h r in remove_on g.page (cell_at s x.slot) x.cell left.keeps (all x.slot low);
+      }) ino (let n = slots_stay k g.block a s h r in omega (arith, lt, n))
 
 pub appends_commit : (k : Next) (written : List ℕ) (ino : ℕ) → has (to_append k written) ino ≡ true → commits_at k ≡ true
 appends_commit (Append place) written ino e = refl

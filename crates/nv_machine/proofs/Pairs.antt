@@ -26,7 +26,7 @@ use Rattle.nv_entry.specs.declared.part.Part.TheVariants as part
 use Rattle.nv_entry.specs.declared.part.PartId.{PartId}
 use Rattle.nv_entry.proofs.Currents.{uncovered_are_current}
 use Rattle.nv_entry.proofs.Values.{first_cover-append}
-use Rattle.nv_machine.proofs.EachOf.{all_append, all_filter}
+use Rattle.nv_machine.proofs.EachElement.{all_append, all_filter}
 use Rattle.nv_machine.proofs.Lists.{self}
 
 -- ---- names
@@ -40,11 +40,8 @@ same_part_is (part.Page p) (part.Page q) e = ap (λ (n : ℕ). part.Page n) (eqb
 same_part_is a b e = absurd (false≢true e)
 
 own_part : (a : Part) → same_part a a ≡ true
-own_part part.Kind = refl
-own_part part.Mode = refl
-own_part part.Size = refl
-own_part part.Bound = refl
 own_part (part.Page p) = self p
+own_part other = refl
 
 both_true : (b c : Bool) → b ≡ true → c ≡ true → (b && c) ≡ true
 both_true true true e f = refl

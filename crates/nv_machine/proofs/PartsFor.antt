@@ -10,8 +10,9 @@ use Rattle.nv_machine.specs.Held.{killed_slots, parts_for}
 use Rattle.nv_machine.specs.Kinds.{first_killed}
 use Rattle.nv_machine.specs.Reads.{slot_at}
 use Rattle.nv_machine.specs.Sequence.{closing, publishing, retiring}
-use Rattle.nv_machine.specs.World.{Actor, Close, Leave, Publish, Retire, idle}
-use Rattle.nv_machine.proofs.EachOf.{all_append, all_back, all_front}
+use Rattle.nv_machine.specs.World.{Actor, Close, Leave, Publish, Retire, idle, Next}
+use Rattle.nv_machine.proofs.LoopSteps.{by_test, either}
+use Rattle.nv_machine.proofs.EachElement.{all_append, all_back, all_front}
 use Rattle.nv_machine.proofs.FiledLists.{count, count_append}
 use Rattle.nv_machine.proofs.Lists.{drop_all, self, take_all, take_more}
 
@@ -74,22 +75,16 @@ later_for slot ino slots (parts ∷ rest) some ne = go (slot == ino) refl where
 -- ---- loops
 
 pub retiring_slots : (place : ℕ) (written : List ℕ) → killed_slots (retiring place written) written ≡ drop place written
-retiring_slots place written = go (nat_lt place (length written)) refl where
-  go : (b : Bool) → nat_lt place (length written) ≡ b
-      → killed_slots (if b then Retire place else Leave) written ≡ drop place written
-  go true e = refl
-  go false e = sym (drop_all place written (ltb-false place (length written) e))
+retiring_slots place written =
+    by_test (λ (k : Next). killed_slots k written ≡ drop place written) (nat_lt place (length written)) (Retire place) Leave (λ e. refl)
+    (λ e. sym (drop_all place written (ltb-false place (length written) e)))
 
 pub publishing_slots : (place : ℕ) (written : List ℕ) → killed_slots (publishing place written) written ≡ take place written
-publishing_slots place written = go (nat_lt place (length written)) refl where
-  end : (b : Bool) → killed_slots (if b then Close else retiring 0 written) written ≡ written
-  end true = refl
-  end false = retiring_slots 0 written
-
-  go : (b : Bool) → nat_lt place (length written) ≡ b
-      → killed_slots (if b then Publish place else closing written) written ≡ take place written
-  go true e = refl
-  go false e = end (nat_lt 1 (length written)) ∙ sym (take_all place written (ltb-false place (length written) e))
+publishing_slots place written =
+    by_test (λ (k : Next). killed_slots k written ≡ take place written) (nat_lt place (length written)) (Publish place) (closing written)
+    (λ e. refl)
+    (λ e. either (λ (k : Next). killed_slots k written ≡ written) (nat_lt 1 (length written)) Close (retiring 0 written) refl
+    (retiring_slots 0 written) ∙ sym (take_all place written (ltb-false place (length written) e)))
 
 -- the slot of a place, and those behind it
 pub slots_from : (place : ℕ) (written : List ℕ) → place < length written

@@ -6,9 +6,10 @@ use Rattle.std.proofs.lemmas.Bool.{and_parts, false≢true}
 use Rattle.std.proofs.lemmas.List.{take-append-le}
 use Rattle.nv_alloc.specs.Block.{BlockValue}
 use Rattle.nv_base.specs.declared.limits.TheConstants.{NUMBER}
-use Rattle.nv_calls.specs.Retiring.{is_erased, retired, released}
+use Rattle.nv_calls.specs.Retiring.{is_erased, retired}
 use Rattle.nv_calls.specs.Slots.{entries_of, items_for, place_in}
 use Rattle.nv_calls.proofs.Grown.{last_step}
+use Rattle.nv_calls.proofs.Next.{Keeps}
 use Rattle.nv_calls.proofs.Retires.{chain_stays, generation_stays}
 use Rattle.nv_cell.specs.Append.{appended, blocks_for}
 use Rattle.nv_cell.specs.Cell.{CellState, log_of, published}
@@ -23,8 +24,7 @@ use Rattle.nv_machine.specs.Kinds.{entries_for, with_entries, with_pages}
 use Rattle.nv_machine.specs.PoolScan.{has_entry, has_inode, is_withheld}
 use Rattle.nv_machine.specs.Reads.{is_written}
 use Rattle.nv_machine.specs.World.{Running}
-use Rattle.nv_machine.proofs.Entered.{entries_more, pages_keep}
-use Rattle.nv_book.specs.declared.record.Record.{Record}
+use Rattle.nv_machine.proofs.AppendsToCome.{entries_more, pages_keep}
 
 -- ---- one for a slot whose number is not free
 
@@ -143,8 +143,8 @@ retired_like living ino epoch parts cell = record {
   generation = generation_stays living ino epoch parts cell;
 }
 
-pub released_like : (picked : Record) (cell : CellState) → IsLike cell (released picked cell)
-released_like picked cell = record { inode = refl; generation = refl }
+pub keeps_like : (old new : CellState) → Keeps old new → IsLike old new
+keeps_like old new kept = record { inode = ap has_entry (ap log kept.chain); generation = kept.generation }
 
 -- one that is gone has a log
 pub gone_inode : (cell : CellState) → is_gone (log_of cell) ≡ true → has_inode cell ≡ true

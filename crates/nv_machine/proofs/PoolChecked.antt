@@ -104,11 +104,7 @@ module _ (nodes : Handle → Option NodeCopy) where
           moved_there (own_place from old to new) from to old new (found nodes from old) (found nodes to new) refl any both.1,
         ),
       )
-  handles_there block made (call.Read file offset count) passed any = absurd (omega (arith, any))
-  handles_there block made (call.Stat handle) passed any = absurd (omega (arith, any))
-  handles_there block made (call.List dir) passed any = absurd (omega (arith, any))
-  handles_there block made (call.Lookup dir name) passed any = absurd (omega (arith, any))
-  handles_there block made (call.Snapshots what) passed any = absurd (omega (arith, any))
+  handles_there block made other passed any = absurd (omega (arith, any))
 
 -- ---- and the handles that the looks found are these
 
@@ -138,16 +134,6 @@ module _ (s : Shared) where
 
   pub same_handles : (c : Call) (now before : Looked) → same_looked now before ≡ true → HaveInode s (handles now c)
       → HaveInode s (handles before c)
-  same_handles (call.Create dir name mode) now before same all = all
-  same_handles (call.Mkdir dir name mode) now before same all = all
-  same_handles (call.Write file offset text) now before same all = all
-  same_handles (call.Read file offset count) now before same all = all
-  same_handles (call.Size file size) now before same all = all
-  same_handles (call.Mode handle mode) now before same all = all
-  same_handles (call.Stat handle) now before same all = all
-  same_handles (call.List dir) now before same all = all
-  same_handles (call.Lookup dir name) now before same all = all
-  same_handles (call.Snapshots what) now before same all = all
   same_handles (call.Unlink dir name) now before same all =
       let both = and_parts (same_found now.first before.first) (same_found now.second before.second) same in
       (all.0, same_any now.first before.first both.0 all.1)
@@ -157,6 +143,7 @@ module _ (s : Shared) where
   same_handles (call.Rename from old to new) now before same all =
       let both = and_parts (same_found now.first before.first) (same_found now.second before.second) same in
       (all.0, (all.1.0, both_any now.first now.second before.first before.second both.0 both.1 all.1.1))
+  same_handles other now before same all = all
 
 -- the handles of a call that passes its check have inodes
 pub checked_inodes : (block : ℕ) (s : Shared) (made : Handle) (before : Looked) (c : Call) → refusal block (copies s) c ≡ passes

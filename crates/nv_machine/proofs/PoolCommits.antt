@@ -20,18 +20,18 @@ use Rattle.nv_machine.specs.Locks.{AreSlots, held_at}
 use Rattle.nv_machine.specs.PoolScan.{has_entry, has_inode}
 use Rattle.nv_machine.specs.Reads.{is_written, pages_needed, slot_at, written_slots}
 use Rattle.nv_machine.specs.Settled.{settled}
-use Rattle.nv_machine.specs.World.{Append, Back, Check, Close, Enter, Give, HandState, Leave, Lock, Look, Next, Number, Open, Publish, Ready, Retire, Running, Shared, TakeBlocks, TakePages, Unlock, Visit, cell_at, owner_at, with_book, with_cell, Snapshots}
-use Rattle.nv_machine.proofs.Kept.{deed}
+use Rattle.nv_machine.specs.World.{Append, Close, HandState, Next, Publish, Retire, Running, Shared, cell_at, owner_at, with_book, with_cell}
+use Rattle.nv_machine.proofs.StepWork.{work}
 use Rattle.nv_machine.proofs.Lists.{drop_apart, has_drop, has_filter, has_later, or_right, rising_filter, self, written_inside}
-use Rattle.nv_machine.proofs.Locked.{Before, owner_is}
+use Rattle.nv_machine.proofs.LocksHeld.{Before, owner_is}
 use Rattle.nv_machine.proofs.LogsKept.{cell_set}
 use Rattle.nv_machine.proofs.PoolCells.{EndsWith, IsLike, appended_like, ends_gone, ends_some, erased_gone, like_inode, published_log, retired_like, written_some}
 use Rattle.nv_machine.proofs.PoolKnown.{HasPlan, IsRetiring}
 use Rattle.nv_machine.proofs.PoolSlots.{filtered, two_of}
 use Rattle.nv_machine.proofs.PoolTally.{is_begun}
 use Rattle.nv_machine.proofs.PoolTurns.{Standing, set_inodes}
-use Rattle.nv_machine.proofs.Tails.{has_front}
-use Rattle.nv_machine.proofs.Written.{written_there}
+use Rattle.nv_machine.proofs.LogTails.{has_front}
+use Rattle.nv_machine.proofs.WrittenSlots.{written_there}
 
 -- a number in a list of one is its first
 only_one : (xs : List ℕ) (n m : ℕ) → length xs ≤ 1 → has xs n ≡ true → has xs m ≡ true → n ≡ m
@@ -72,7 +72,7 @@ module _ (g : GeometryNumbers) (block a : ℕ) (s : Shared) (h : HandState) (r :
       written_inside (length s.cells) r place (inside_slots (Append place) st.before) st.before.inside
 
   pub append_plan : (place : ℕ) → Standing g (Append place) a s h r
-      → HasPlan (deed (Append place) block a s h r).shared h.ino r.slots written r.plan
+      → HasPlan (work (Append place) block a s h r).shared h.ino r.slots written r.plan
   append_plan place st =
       let slot = slot_at written place in
       let pages = take (pages_needed s r.plan slot) h.pages in
@@ -160,23 +160,7 @@ module _ (g : GeometryNumbers) (block a : ℕ) (s : Shared) (h : HandState) (r :
       ends_some (entries_for r n) _ (log_ends (Publish place) st refl (λ ino. refl) n there (first_alone place written n rising is))
       (some_for n there)
   begun_inode Close st n is = ends_some (entries_for r n) _ (log_ends Close st refl (λ ino. refl) n is refl) (some_for n is)
-  begun_inode (Snapshots step) st n is = absurd (false≢true is)
-  begun_inode Number st n is = absurd (false≢true is)
-  begun_inode (Look place) st n is = absurd (false≢true is)
-  begun_inode (Lock place) st n is = absurd (false≢true is)
-  begun_inode Check st n is = absurd (false≢true is)
-  begun_inode (TakeBlocks asked) st n is = absurd (false≢true is)
-  begun_inode (TakePages asked) st n is = absurd (false≢true is)
-  begun_inode Ready st n is = absurd (false≢true is)
-  begun_inode Enter st n is = absurd (false≢true is)
-  begun_inode (Append place) st n is = absurd (false≢true is)
-  begun_inode Open st n is = absurd (false≢true is)
-  begun_inode (Retire place) st n is = absurd (false≢true is)
-  begun_inode Leave st n is = absurd (false≢true is)
-  begun_inode (Unlock place) st n is = absurd (false≢true is)
-  begun_inode (Give cpu) st n is = absurd (false≢true is)
-  begun_inode Back st n is = absurd (false≢true is)
-  begun_inode Visit st n is = absurd (false≢true is)
+  begun_inode other st n is = absurd (false≢true is)
 
   -- ---- close
 

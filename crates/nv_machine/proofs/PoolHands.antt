@@ -14,18 +14,18 @@ use Rattle.nv_machine.specs.PoolScan.{has_inode}
 use Rattle.nv_machine.specs.Reads.{is_written, written_slots}
 use Rattle.nv_machine.specs.Starts.{IsStart}
 use Rattle.nv_machine.specs.Step.{after}
-use Rattle.nv_machine.specs.World.{Append, Back, Check, Close, Enter, Event, Give, Leave, Lock, Look, Next, Number, Open, Publish, Ready, Retire, Running, TakeBlocks, TakePages, Unlock, Visit, World, actor_at, cell_at, idle, owner_at, Snapshots}
+use Rattle.nv_machine.specs.World.{Close, Event, Next, Publish, Running, World, actor_at, cell_at, idle, owner_at}
 use Rattle.nv_machine.proofs.FromScratch.{all_numbers}
 use Rattle.nv_machine.proofs.Lists.{has_filter, self}
-use Rattle.nv_machine.proofs.Locked.{owner_is}
-use Rattle.nv_machine.proofs.Numbered.{part_times}
+use Rattle.nv_machine.proofs.LocksHeld.{owner_is}
+use Rattle.nv_machine.proofs.BlockNumbers.{part_times}
 use Rattle.nv_machine.proofs.PoolCells.{with_inode}
 use Rattle.nv_machine.proofs.PoolCommits.{begun_inode}
 use Rattle.nv_machine.proofs.PoolLaw.{all_pooled}
 use Rattle.nv_machine.proofs.PoolRuns.{ArePooled, own_loose, standing}
 use Rattle.nv_machine.proofs.PoolTally.{is_begun, loose_by, loose_of, tally}
 use Rattle.nv_machine.proofs.Reached.{reached}
-use Rattle.nv_machine.proofs.Tails.{has_front}
+use Rattle.nv_machine.proofs.LogTails.{has_front}
 
 -- ---- two parts of all
 
@@ -47,23 +47,7 @@ two_times f n (x ∷ xs) (suc i) (suc j) d none ne =
 begun_held : (k : Next) (r : Running) (n : ℕ) → is_begun k (written_slots r) n ≡ true → has (held_at k r.slots) n ≡ true
 begun_held (Publish place) r n is = has_filter (is_written r.plan) r.slots n (has_front place (written_slots r) n is)
 begun_held Close r n is = has_filter (is_written r.plan) r.slots n is
-begun_held Number r n is = absurd (false≢true is)
-begun_held (Look place) r n is = absurd (false≢true is)
-begun_held (Lock place) r n is = absurd (false≢true is)
-begun_held Check r n is = absurd (false≢true is)
-begun_held (TakeBlocks asked) r n is = absurd (false≢true is)
-begun_held (TakePages asked) r n is = absurd (false≢true is)
-begun_held Ready r n is = absurd (false≢true is)
-begun_held Enter r n is = absurd (false≢true is)
-begun_held (Append place) r n is = absurd (false≢true is)
-begun_held Open r n is = absurd (false≢true is)
-begun_held (Retire place) r n is = absurd (false≢true is)
-begun_held Leave r n is = absurd (false≢true is)
-begun_held (Unlock place) r n is = absurd (false≢true is)
-begun_held (Give cpu) r n is = absurd (false≢true is)
-begun_held Back r n is = absurd (false≢true is)
-begun_held Visit r n is = absurd (false≢true is)
-begun_held (Snapshots step) r n is = absurd (false≢true is)
+begun_held other r n is = absurd (false≢true is)
 
 -- its inode is published, and the slot is locked
 pub record HasBegun (w : World) (actor n : ℕ) : Type 0 where

@@ -1,6 +1,6 @@
 -- The pool is what one scan of all logs and hands leaves.
 use Rattle.nv_book.specs.declared.record.Record.{Record}
-use Rattle.std.proofs.Common.{◌≡◌, inl, inr, ℕ, zero, suc, ◌+◌, ◌-◌, ◌<◌, ◌≤◌, ◌==◌, ◌∙◌, Bool, true, false, cond, List, [], ◌∷◌, Option, Some, None, ap, ap₂, arith, if◌then◌else◌, nat_lt, not, refl, replicate, subst, sym}
+use Rattle.std.proofs.Common.{◌≡◌, inl, inr, ℕ, suc, ◌+◌, ◌<◌, ◌≤◌, ◌==◌, ◌∙◌, Bool, true, false, cond, List, [], ◌∷◌, Option, Some, None, ap, ap₂, arith, nat_lt, not, refl, sym}
 use Rattle.std.specs.Prelude.{◌&&◌, ◌||◌, nat_le, slice_index_or}
 use Rattle.std.specs.List.{flat_map}
 use Rattle.std.proofs.lemmas.Bool.{cases_lt, eqb-true, false≢true, le-leb, le-ltb, lt-ltb, or_parts}
@@ -8,10 +8,7 @@ use Rattle.std.proofs.lemmas.List.Folds.{list_any-append}
 use Rattle.nv_alloc.specs.Numbers.{has, times}
 use Rattle.nv_alloc.proofs.FromScratch.{from_scratch}
 use Rattle.nv_alloc.proofs.Lists.{times-append}
-use Rattle.nv_base.specs.Limits.{IsWithinLimits}
 use Rattle.nv_base.specs.declared.geometry.GeometryNumbers.{GeometryNumbers}
-use Rattle.nv_cell.specs.Cell.{empty_cell}
-use Rattle.nv_machine.specs.Format.{formatted}
 use Rattle.nv_machine.specs.Grown.{AreGrown}
 use Rattle.nv_machine.specs.Hands.{AreNumbers}
 use Rattle.nv_machine.specs.Locks.{AreLocks}
@@ -19,50 +16,15 @@ use Rattle.nv_machine.specs.PoolScan.{has_inode, is_number_used, is_withheld, nu
 use Rattle.nv_machine.specs.Reads.{if_number, written_slots}
 use Rattle.nv_machine.specs.Starts.{IsStart}
 use Rattle.nv_machine.specs.Step.{after}
-use Rattle.nv_machine.specs.World.{Actor, Event, Running, World, actor_at, cell_at, idle, no_cell}
+use Rattle.nv_machine.specs.World.{Actor, Event, Running, World, actor_at, cell_at, idle}
+use Rattle.nv_machine.proofs.OverEvents.{events_by}
 use Rattle.nv_machine.proofs.FromScratch.{all_numbers, counted, none_true, not_counted}
-use Rattle.nv_machine.proofs.Locks.{all_same, many_same}
-use Rattle.nv_machine.proofs.NewNumbers.{below, range_rising, range_times}
 use Rattle.nv_machine.proofs.PoolCells.{no_inode, not_taken, taken_once}
 use Rattle.nv_machine.proofs.PoolCommits.{begun_inode}
-use Rattle.nv_machine.proofs.PoolKnown.{SeesOf}
-use Rattle.nv_machine.proofs.PoolRuns.{ArePooled, events_pooled, own_loose, standing}
+use Rattle.nv_machine.proofs.PoolRuns.{ArePooled, event_pooled, own_loose, standing}
 use Rattle.nv_machine.proofs.PoolTally.{is_begun, loose, loose_by, loose_of, tally}
 use Rattle.nv_machine.proofs.Reached.{reached}
 use Rattle.nv_machine.proofs.StartPool.{first_pooled}
-
--- ---- a new world
-
-no_loose : (k : ℕ) → flat_map loose_by (replicate k idle) ≡ []
-no_loose zero = refl
-no_loose (suc k) = no_loose k
-
-empty_taken : (g : GeometryNumbers) (k n : ℕ) → taken_once (slice_index_or (replicate k (empty_cell g.block g.page 1 0)) n no_cell) ≡ 0
-empty_taken g zero n = refl
-empty_taken g (suc k) zero = refl
-empty_taken g (suc k) (suc n) = empty_taken g k n
-
--- the root's slot alone has an inode
-new_taken : (g : GeometryNumbers) (n : ℕ) → taken_once (cell_at (formatted g).shared n) ≡ (if nat_lt n 1 then 1 else 0)
-new_taken g zero = refl
-new_taken g (suc n) =
-    let none : nat_lt (suc n) 1 ≡ false = le-ltb (suc n) 1 (omega arith) in
-    empty_taken g (g.inodes - 1) n ∙ sym (rw none refl)
-
-pub new_pooled : (g : GeometryNumbers) → IsWithinLimits g → ArePooled g (formatted g)
-new_pooled g within =
-    let some = within.some_inodes in
-    let all : 1 + (g.inodes - 1) ≡ g.inodes = omega (arith, some) in
-    record {
-      once = λ n.
-          let hands = ap (times n) (no_loose g.actors) in
-          let range = range_times n 1 (g.inodes - 1) in
-          let end = ap (below n) all in
-          omega (arith, hands, range, end, new_taken g n);
-      slots = (let same = many_same (g.inodes - 1) (empty_cell g.block g.page 1 0) in omega (arith, same, some));
-      rising = range_rising 1 (g.inodes - 1);
-      each = λ actor. subst (λ (x : Actor). SeesOf x.running (formatted g).shared x.hand) (sym (all_same g.actors actor idle)) tt;
-    }
 
 -- ---- what stands in a list of lists
 
@@ -188,9 +150,12 @@ is_scan g w n locks all grown pooled = elim (cases_lt n g.inodes) [
 pub all_pooled : (g : GeometryNumbers) (start : World) (records : List Record) (events : List Event) → IsStart g start records
     → ArePooled g (after start events)
 all_pooled g start records events is_start =
-    events_pooled g events start (λ before. (reached g start records before is_start).locks)
-    (λ before. all_numbers g start records before is_start)
-    (λ before. (reached g start records before is_start).grown) (first_pooled g start records is_start)
+    events_by (λ (v : World). AreLocks v × AreNumbers g v × AreGrown v) (ArePooled g)
+    (λ v e is pooled. event_pooled g v e is.0 is.1 is.2 pooled) events start
+    (λ before.
+    let is = reached g start records before is_start in
+    (is.locks, all_numbers g start records before is_start, is.grown))
+    (first_pooled g start records is_start)
 
 pub pool_scanned : (g : GeometryNumbers) (start : World) (records : List Record) (events : List Event) → IsStart g start records
     → (after start events).shared.pool.numbers ≡ pool_from_scratch g (after start events)

@@ -86,10 +86,7 @@ one_leaves block nodes taken (call.Rmdir dir name) = left_leaves dir name (found
 one_leaves block nodes taken (call.Rename from old to new) =
     renamed_leaves (own_place from old to new) from old to new (found nodes from old) (found nodes to new)
 one_leaves block nodes taken (call.Read file offset count) = (0, tt)
-one_leaves block nodes taken (call.Stat handle) = (0, tt)
-one_leaves block nodes taken (call.List dir) = (0, tt)
-one_leaves block nodes taken (call.Lookup dir name) = (0, tt)
-one_leaves block nodes taken (call.Snapshots what) = (0, tt)
+one_leaves block nodes taken other = (0, tt)
 
 pub plan_leaves : (block : ℕ) (nodes : Handle → Option NodeCopy) (taken : Taken) (c : Call) → LeavesOne (plan block nodes taken c)
 plan_leaves block nodes taken c commit epoch p q i j first second =
@@ -114,14 +111,4 @@ plan_makes block nodes taken (call.Create dir name mode) makes ne =
     record { own = rw (ne, self taken.made.ino) refl; above = rw (self dir.ino) refl }
 plan_makes block nodes taken (call.Mkdir dir name mode) makes ne =
     record { own = rw (ne, self taken.made.ino) refl; above = rw (self dir.ino) refl }
-plan_makes block nodes taken (call.Write file offset text) makes ne = absurd (false≢true makes)
-plan_makes block nodes taken (call.Read file offset count) makes ne = absurd (false≢true makes)
-plan_makes block nodes taken (call.Size file size) makes ne = absurd (false≢true makes)
-plan_makes block nodes taken (call.Mode handle mode) makes ne = absurd (false≢true makes)
-plan_makes block nodes taken (call.Stat handle) makes ne = absurd (false≢true makes)
-plan_makes block nodes taken (call.List dir) makes ne = absurd (false≢true makes)
-plan_makes block nodes taken (call.Lookup dir name) makes ne = absurd (false≢true makes)
-plan_makes block nodes taken (call.Snapshots what) makes ne = absurd (false≢true makes)
-plan_makes block nodes taken (call.Unlink dir name) makes ne = absurd (false≢true makes)
-plan_makes block nodes taken (call.Rmdir dir name) makes ne = absurd (false≢true makes)
-plan_makes block nodes taken (call.Rename from old to new) makes ne = absurd (false≢true makes)
+plan_makes block nodes taken other makes ne = absurd (false≢true makes)

@@ -4,7 +4,7 @@ use Rattle.nv_calls.specs.declared.call.Call.TheVariants as call
 use Rattle.nv_machine.specs.Format.{formatted}
 use Rattle.nv_machine.specs.PoolScan.{numbers_held, pool_from_scratch}
 use Rattle.nv_machine.specs.World.{World}
-use Rattle.nv_machine.proofs.Scripts.{DoCall, Goes, StartCall, device, handle, played}
+use Rattle.nv_machine.proofs.ScriptRows.{DoCall, Goes, StartCall, device, handle, played}
 
 -- a file is made, up to so many steps of its call
 abbrev making : ℕ → World

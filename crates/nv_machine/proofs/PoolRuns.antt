@@ -1,8 +1,8 @@
 -- Whatever events come, each inode number stands once in the pool, in a hand, or as a slot's that is in use.
-use Rattle.std.proofs.Common.{◌≡◌, ◌≢◌, ℕ, ◌<◌, ◌≤◌, ◌==◌, ◌++◌, ◌∙◌, Bool, true, false, List, [], ◌∷◌, Option, Some, None, ap, arith, get_or-set_other, get_or-set_same, if◌then◌else◌, length, nat_lt, refl, set, subst, sym}
+use Rattle.std.proofs.Common.{◌≡◌, ◌≢◌, ℕ, ◌<◌, ◌≤◌, ◌++◌, ◌∙◌, Bool, true, false, List, [], ◌∷◌, Option, Some, None, ap, arith, if◌then◌else◌, length, nat_lt, refl, set, subst, sym}
 use Rattle.std.specs.Prelude.{slice_index_or, unwrap_or}
 use Rattle.std.specs.List.{AllByRecursion, flat_map}
-use Rattle.std.proofs.lemmas.Bool.{eqb-false, eqb-true, le-ltb, ltb-false, ltb-true}
+use Rattle.std.proofs.lemmas.Bool.{le-ltb, ltb-false, ltb-true}
 use Rattle.std.proofs.lemmas.Option.{none-some}
 use Rattle.nv_alloc.specs.Numbers.{IsRising, has, put_by, times}
 use Rattle.nv_alloc.proofs.Lists.{all_above, times-cons, times-yes}
@@ -15,15 +15,17 @@ use Rattle.nv_machine.specs.Hands.{AreNumbers, HandOf}
 use Rattle.nv_machine.specs.Locks.{AreLocks, HoldsIts, held_at}
 use Rattle.nv_machine.specs.Reads.{if_number, is_written, slots_in, slots_of, written_slots}
 use Rattle.nv_machine.specs.Sequence.{Beginning, Looks, Locks, Numbers, Visits, beginning, begun, nothing_looked, started, OnSnapshots}
-use Rattle.nv_machine.specs.Step.{after, go_step, kind_turn, start_step, step, turned}
-use Rattle.nv_machine.specs.World.{Actor, Append, Back, Check, Close, Ends, Enter, Event, Give, Go, HandState, Leave, Lock, Look, Moves, Next, Number, Open, Publish, Ready, Retire, Running, Shared, Start, TakeBlocks, TakePages, Turn, Unlock, Visit, Waits, World, actor_at, cell_at, idle, owner_at, Drop, LockPicked, Make, Pick, Pin, Release, Show, Snapshots, Unpin}
-use Rattle.nv_machine.proofs.Counting.{set_times}
-use Rattle.nv_machine.proofs.Framed.{framed}
-use Rattle.nv_machine.proofs.Kept.{AfterTurn, back_deed, deed, number_deed, turn_keeps}
+use Rattle.nv_machine.specs.Step.{kind_turn, step, turned}
+use Rattle.nv_machine.specs.World.{Actor, Append, Back, Check, Close, Ends, Enter, Event, HandState, Lock, Moves, Next, Number, Open, Publish, Ready, Retire, Running, Shared, TakeBlocks, TakePages, Turn, Waits, World, actor_at, cell_at, idle, owner_at, Make, Snapshots}
+use Rattle.nv_machine.proofs.Occurrences.{set_times}
+use Rattle.nv_machine.proofs.OverEvents.{begun_at, begun_in, event_by, set_one, turn_at}
+use Rattle.nv_machine.proofs.StepFrames.{framed}
+use Rattle.nv_machine.proofs.StepWork.{back_work, work, number_work}
+use Rattle.nv_machine.proofs.WorkKeeps.{AfterTurn, turn_keeps}
 use Rattle.nv_machine.proofs.Lists.{has_filter, has_later, self}
-use Rattle.nv_machine.proofs.Locked.{lent_cell, owner_is}
-use Rattle.nv_machine.proofs.Locks.{before}
-use Rattle.nv_machine.proofs.Numbered.{part_times}
+use Rattle.nv_machine.proofs.LocksHeld.{lent_cell, owner_is}
+use Rattle.nv_machine.proofs.LocksOverEvents.{before}
+use Rattle.nv_machine.proofs.BlockNumbers.{part_times}
 use Rattle.nv_machine.proofs.PoolKnown.{HaveInodes, OnSeen, Sees, SeesOf, begun_by}
 use Rattle.nv_machine.proofs.PoolSlots.{inos_of}
 use Rattle.nv_machine.proofs.PoolSteps.{OnTally, turn_seen, turn_tally}
@@ -68,14 +70,7 @@ module _ (s t : Shared) (h : HandState) (r : Running) (many : length t.cells ≡
     λ ino there. rw (same ino (has_filter (is_written r.plan) r.slots ino (has_later place (written_slots r) ino there))) (e.1 ino there),
     e.2,
   )
-  their_sees (Snapshots step) same e = tt
-  their_sees Number same e = tt
-  their_sees (Look place) same e = tt
-  their_sees Leave same e = tt
-  their_sees (Unlock place) same e = tt
-  their_sees (Give cpu) same e = tt
-  their_sees Back same e = tt
-  their_sees Visit same e = tt
+  their_sees other same e = tt
 
 -- the slots of another actor's call are not lent
 their_own : (a b : ℕ) (s t : Shared) (slot : Option ℕ) (h : HandState) (running : Option Running) → b ≢ a
@@ -95,17 +90,9 @@ set_sees : (w : World) (actor : ℕ) (x : Actor) (t : Shared) (slot : Option ℕ
     → ((ino : ℕ) → slot ≡ Some ino → owner_at w.shared ino ≡ Some actor)
     → SeesOf x.running t x.hand → ((b : ℕ) → SeesOf (actor_at w b).running w.shared (actor_at w b).hand)
     → (b : ℕ) → SeesOf (slice_index_or (set w.actors actor x) b idle).running t (slice_index_or (set w.actors actor x) b idle).hand
-set_sees w actor x t slot there locks many cells own mine all b = go (actor == b) refl where
-  Has : Actor → Type 0
-  Has y = SeesOf y.running t y.hand
-
-  go : (c : Bool) → (actor == b) ≡ c → Has (slice_index_or (set w.actors actor x) b idle)
-  go true e = subst (λ (n : ℕ). Has (slice_index_or (set w.actors actor x) n idle)) (eqb-true actor b e)
-      (subst Has (sym (get_or-set_same w.actors actor x idle there)) mine)
-  go false e =
-      let ne : b ≢ actor = λ is. eqb-false actor b e (sym is) in
-      subst Has (sym (get_or-set_other w.actors actor b x idle ne))
-      (their_own actor b w.shared t slot (actor_at w b).hand (actor_at w b).running ne many cells own (locks.each b) (all b))
+set_sees w actor x t slot there locks many cells own mine all =
+    set_one (λ (b : ℕ) (s : Shared) (y : Actor). SeesOf y.running s y.hand) w actor x t there mine
+    (λ b ne. their_own actor b w.shared t slot (actor_at w b).hand (actor_at w b).running ne many cells own (locks.each b) (all b))
 
 -- ---- the count of a world
 
@@ -162,46 +149,24 @@ rising_put n (x ∷ xs) none rising =
           (all_put (λ m. x < m) n xs (omega (arith, high, other)) rising.0, more)
 
 number_rising : (numbers : List ℕ) (s : Shared) (h : HandState) → s.pool.numbers ≡ numbers → IsRising s.pool.numbers
-    → IsRising (number_deed numbers s h).shared.pool.numbers
+    → IsRising (number_work numbers s h).shared.pool.numbers
 number_rising [] s h is rising = rising
 number_rising (ino ∷ numbers) s h is rising = (subst IsRising is rising).1
 
 back_rising : (number : Option ℕ) (s : Shared) (h : HandState) → ((n : ℕ) → number ≡ Some n → times n s.pool.numbers ≡ 0)
-    → IsRising s.pool.numbers → IsRising (back_deed number s h).shared.pool.numbers
+    → IsRising s.pool.numbers → IsRising (back_work number s h).shared.pool.numbers
 back_rising None s h none rising = rising
 back_rising (Some ino) s h none rising = rising_put ino s.pool.numbers (none ino refl) rising
 
-deed_rising : (g : GeometryNumbers) (k : Next) (block a : ℕ) (s : Shared) (h : HandState) (r : Running) → Standing g k a s h r
-    → IsRising s.pool.numbers → IsRising (deed k block a s h r).shared.pool.numbers
-deed_rising g Number block a s h r st rising = number_rising s.pool.numbers s h refl rising
-deed_rising g (Snapshots Make) block a s h r st rising = rising
-deed_rising g (Snapshots (Drop snapshot)) block a s h r st rising = rising
-deed_rising g (Snapshots (Pin snapshot)) block a s h r st rising = rising
-deed_rising g (Snapshots (Show snapshot showing)) block a s h r st rising = rising
-deed_rising g (Snapshots (Unpin snapshot seen)) block a s h r st rising = rising
-deed_rising g (Snapshots (Pick draining)) block a s h r st rising = rising
-deed_rising g (Snapshots (LockPicked draining picked)) block a s h r st rising = rising
-deed_rising g (Snapshots (Release draining picked)) block a s h r st rising = rising
-deed_rising g (Look place) block a s h r st rising = rising
-deed_rising g (Lock place) block a s h r st rising = rising
-deed_rising g Check block a s h r st rising = rising
-deed_rising g (TakeBlocks asked) block a s h r st rising = rising
-deed_rising g (TakePages asked) block a s h r st rising = rising
-deed_rising g Ready block a s h r st rising = rising
-deed_rising g Enter block a s h r st rising = rising
-deed_rising g (Append place) block a s h r st rising = rising
-deed_rising g Open block a s h r st rising = rising
-deed_rising g (Publish place) block a s h r st rising = rising
-deed_rising g Close block a s h r st rising = rising
-deed_rising g (Retire place) block a s h r st rising = rising
-deed_rising g Leave block a s h r st rising = rising
-deed_rising g (Unlock place) block a s h r st rising = rising
-deed_rising g (Give cpu) block a s h r st rising = rising
-deed_rising g Back block a s h r st rising = back_rising h.ino s h (λ n is.
+work_rising : (g : GeometryNumbers) (k : Next) (block a : ℕ) (s : Shared) (h : HandState) (r : Running) → Standing g k a s h r
+    → IsRising s.pool.numbers → IsRising (work k block a s h r).shared.pool.numbers
+work_rising g Number block a s h r st rising = number_rising s.pool.numbers s h refl rising
+work_rising g (Snapshots Make) block a s h r st rising = rising
+work_rising g Back block a s h r st rising = back_rising h.ino s h (λ n is.
     let few = subst (λ (o : Option ℕ). tally n s (loose Back (written_slots r) o) ≤ 1) is (st.few n) in
     let one = times-yes n n [] (self n) in
     omega (arith, few, one)) rising
-deed_rising g Visit block a s h r st rising = rising
+work_rising g other block a s h r st rising = rising
 
 -- ---- a Go
 
@@ -222,7 +187,7 @@ standing g w actor r locks all grown pooled is =
     }
 
 -- what is known of a turn
-record IsKnown (g : GeometryNumbers) (w : World) (actor : ℕ) (r : Running) (t : Turn) : Type 0 where
+record IsKnownTurn (g : GeometryNumbers) (w : World) (actor : ℕ) (r : Running) (t : Turn) : Type 0 where
   seen : OnSeen (begun_by r.next (written_slots r)) t
   tallied : (n : ℕ) → OnTally n (tally n w.shared (loose_by (actor_at w actor))) t
   rising : AfterTurn (λ (s : Shared) (h : HandState). IsRising s.pool.numbers) t
@@ -230,24 +195,24 @@ record IsKnown (g : GeometryNumbers) (w : World) (actor : ℕ) (r : Running) (t 
 
 known : (g : GeometryNumbers) (w : World) (actor block : ℕ) (granted : Bool) (r : Running) → AreLocks w → AreNumbers g w → AreGrown w
     → ArePooled g w → (actor_at w actor).running ≡ Some r
-    → IsKnown g w actor r (kind_turn r.next block actor granted w.shared (actor_at w actor).hand r)
+    → IsKnownTurn g w actor r (kind_turn r.next block actor granted w.shared (actor_at w actor).hand r)
 known g w actor block granted r locks all grown pooled is =
     let s = w.shared in
     let h = (actor_at w actor).hand in
     let st = standing g w actor r locks all grown pooled is in
     record {
-      seen = turn_seen g r.next block actor granted s h r st;
+      seen = turn_seen g block actor granted s h r r.next st;
       tallied = λ n. subst (λ (o : Option Running). OnTally n (tally n s (loose_of o h.ino)) (kind_turn r.next block actor granted s h r))
           (sym is) (turn_tally g r.next n block actor granted s h r st);
       rising = turn_keeps (λ (t : Shared) (x : HandState). IsRising t.pool.numbers) r.next block actor granted s h r pooled.rising
-          (deed_rising g r.next block actor s h r st pooled.rising);
+          (work_rising g r.next block actor s h r st pooled.rising);
       frame = framed r.next block actor granted s h r;
     }
 
 turned_pooled : (g : GeometryNumbers) (w : World) (actor : ℕ) (r : Running) (t : Turn) → actor < length w.actors → AreLocks w
     → ArePooled g w
     → ((ino : ℕ) → (lent r.next (length w.shared.lists) actor r).cell ≡ Some ino → owner_at w.shared ino ≡ Some actor)
-    → IsKnown g w actor r t → ArePooled g (turned t actor w).world
+    → IsKnownTurn g w actor r t → ArePooled g (turned t actor w).world
 turned_pooled g w actor r (Moves t h q) there locks pooled own k = record {
   once = new_once g w actor (record { hand = h; running = Some q }) t there k.tallied pooled.once;
   slots = k.frame.slots ∙ pooled.slots;
@@ -263,17 +228,6 @@ turned_pooled g w actor r (Ends result t h) there locks pooled own k = record {
   each = set_sees w actor (record { hand = h; running = None }) t (lent r.next (length w.shared.lists) actor r).cell there locks
       k.frame.slots k.frame.cells own tt pooled.each;
 }
-
-go_pooled : (g : GeometryNumbers) (b : Bool) (running : Option Running) (w : World) (actor : ℕ) (granted : Bool)
-    → nat_lt actor (length w.actors) ≡ b → (actor_at w actor).running ≡ running → AreLocks w → AreNumbers g w → AreGrown w
-    → ArePooled g w → ArePooled g (go_step b running actor granted w).world
-go_pooled g false running w actor granted e is locks all grown pooled = pooled
-go_pooled g true None w actor granted e is locks all grown pooled = pooled
-go_pooled g true (Some r) w actor granted e is locks all grown pooled =
-    turned_pooled g w actor r (kind_turn r.next w.numbers.block actor granted w.shared (actor_at w actor).hand r)
-    (ltb-true actor (length w.actors) e) locks pooled
-    (λ ino here. lent_cell r.next (length w.shared.lists) actor w.shared r (before w actor r locks is) ino here)
-    (known g w actor w.numbers.block granted r locks all grown pooled is)
 
 -- ---- a Start
 
@@ -297,15 +251,11 @@ begun_sees Locks s c h none = go (nat_lt 0 (length slots)) where
   go true = same
   go false = same
 
-start_pooled : (g : GeometryNumbers) (b : Bool) (running : Option Running) (w : World) (actor : ℕ) (c : Call)
-    → nat_lt actor (length w.actors) ≡ b → (actor_at w actor).running ≡ running → AreLocks w → AreNumbers g w → ArePooled g w
-    → ArePooled g (start_step b running actor c w).world
-start_pooled g false running w actor c e is locks all pooled = pooled
-start_pooled g true (Some r) w actor c e is locks all pooled = pooled
-start_pooled g true None w actor c e is locks all pooled =
+start_pooled : (g : GeometryNumbers) (w : World) → AreLocks w → AreNumbers g w → ArePooled g w → (actor : ℕ) (c : Call) → actor < length w.actors
+    → (actor_at w actor).running ≡ None → ArePooled g (begun_in w actor c)
+start_pooled g w locks all pooled actor c there is =
     let h = (actor_at w actor).hand in
-    let x : Actor = record { hand = h; running = Some (begun (beginning c) w.shared c) } in
-    let there = ltb-true actor (length w.actors) e in
+    let x : Actor = begun_at w actor c in
     let empty : HandOf g h None = subst (λ (o : Option Running). HandOf g h o) is (all.hands actor) in
     let none : h.ino ≡ None = ap (λ (y : HandState). y.ino) empty in
     let new = ap (loose_of x.running) none ∙ none_in_hand x.running in
@@ -320,17 +270,9 @@ start_pooled g true None w actor c e is locks all pooled =
 
 -- ---- events
 
-event_pooled : (g : GeometryNumbers) (w : World) (e : Event) → AreLocks w → AreNumbers g w → AreGrown w → ArePooled g w
+pub event_pooled : (g : GeometryNumbers) (w : World) (e : Event) → AreLocks w → AreNumbers g w → AreGrown w → ArePooled g w
     → ArePooled g (step w e).world
-event_pooled g w (Start actor c) locks all grown pooled =
-    start_pooled g (nat_lt actor (length w.actors)) (actor_at w actor).running w actor c refl refl locks all pooled
-event_pooled g w (Go actor granted) locks all grown pooled =
-    go_pooled g (nat_lt actor (length w.actors)) (actor_at w actor).running w actor granted refl refl locks all grown pooled
-
-pub events_pooled : (g : GeometryNumbers) (events : List Event) (w : World) → ((before : List Event) → AreLocks (after w before))
-    → ((before : List Event) → AreNumbers g (after w before)) → ((before : List Event) → AreGrown (after w before)) → ArePooled g w
-    → ArePooled g (after w events)
-events_pooled g [] w locks all grown pooled = pooled
-events_pooled g (e ∷ events) w locks all grown pooled =
-    events_pooled g events (step w e).world (λ before. locks (e ∷ before)) (λ before. all (e ∷ before)) (λ before. grown (e ∷ before))
-    (event_pooled g w e (locks []) (all []) (grown []) pooled)
+event_pooled g w e locks all grown pooled = event_by (ArePooled g) w pooled e (start_pooled g w locks all pooled)
+    (λ actor granted r there is. turned_pooled g w actor r (turn_at w actor granted r) there locks pooled
+    (λ ino here. lent_cell r.next (length w.shared.lists) actor w.shared r (before w actor r locks is) ino here)
+    (known g w actor w.numbers.block granted r locks all grown pooled is))

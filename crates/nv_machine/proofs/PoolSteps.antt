@@ -1,5 +1,5 @@
 -- After each kind of step: what the call knows of inodes, and that each number stands as often as before.
-use Rattle.std.proofs.Common.{◌≡◌, ◌⊎◌, inl, inr, ℕ, ◌+◌, ◌==◌, ◌∙◌, Bool, true, false, cond, List, [], ◌∷◌, Option, Some, None, ap, arith, refl, subst, sym, take}
+use Rattle.std.proofs.Common.{◌≡◌, ◌⊎◌, inl, inr, ℕ, ◌+◌, ◌==◌, ◌∙◌, Bool, true, false, cond, List, [], ◌∷◌, Option, Some, None, ap, arith, refl, subst, sym, take, length}
 use Rattle.std.specs.Prelude.{◌||◌}
 use Rattle.std.proofs.lemmas.Bool.{eqb-true, false≢true}
 use Rattle.std.proofs.lemmas.Option.{none-some}
@@ -7,62 +7,56 @@ use Rattle.nv_alloc.specs.Numbers.{has, times}
 use Rattle.nv_alloc.proofs.Lists.{times-yes}
 use Rattle.nv_base.specs.declared.geometry.GeometryNumbers.{GeometryNumbers}
 use Rattle.nv_cell.specs.Cell.{published}
-use Rattle.nv_machine.specs.Kinds.{enter_turn}
 use Rattle.nv_machine.specs.Reads.{if_number, is_written, slot_at, written_slots}
-use Rattle.nv_machine.specs.Step.{ending_at, kind_turn, with_made}
-use Rattle.nv_machine.specs.World.{Append, Back, Check, Close, Ends, Enter, Give, HandState, Leave, Lock, Look, Moves, Next, Number, Open, Publish, Ready, Retire, Running, Shared, TakeBlocks, TakePages, Turn, Unlock, Visit, Waits, cell_at, with_cell, Drop, LockPicked, Make, Pick, Pin, Release, Show, SnapshotStep, Snapshots, Unpin}
-use Rattle.nv_machine.proofs.Kept.{AfterTurn, deed, turn_keeps}
+use Rattle.nv_machine.specs.Step.{kind_turn}
+use Rattle.nv_machine.specs.World.{Append, Check, Close, Ends, Enter, HandState, Lock, Look, Moves, Next, Number, Open, Publish, Ready, Retire, Running, Shared, TakeBlocks, TakePages, Turn, Waits, cell_at, with_cell, SnapshotStep, Snapshots}
+use Rattle.nv_machine.proofs.StepWork.{work}
+use Rattle.nv_machine.proofs.WorkKeeps.{AfterTurn, turn_keeps}
 use Rattle.nv_machine.proofs.Lists.{has_filter, has_take, rising_filter, self, take_apart}
 use Rattle.nv_machine.proofs.LogsKept.{cell_set}
 use Rattle.nv_machine.proofs.PoolCells.{taken_once, with_inode}
 use Rattle.nv_machine.proofs.PoolCommits.{append_inside, append_plan, close_retiring, erased_number, publish_inode, publish_inside, publish_plan, publish_retiring, retire_inside, retire_retiring}
-use Rattle.nv_machine.proofs.PoolKnown.{HasPlan, OnSeen, appending_seen, back_seen, beginning_seen, begun_by, blocks_seen, check_seen, end_seen, give_seen, grown_seen, lock_seen, look_seen, none_begun, number_seen, publishing_seen, retiring_seen, taken_seen, unlock_seen, visit_seen, snapshot_seen}
-use Rattle.nv_machine.proofs.PoolTally.{CanTally, deed_tally, is_begun, loose, not_begun, other_times, tally}
+use Rattle.nv_machine.proofs.NextSteps.{QuietWays, quiet_walk}
+use Rattle.nv_machine.proofs.PoolKnown.{OnSeen, SeesBy, appending_seen, beginning_seen, begun_by, locking_sees, looking_sees, none_begun, number_sees, publishing_seen, retiring_seen, sees_quiet}
+use Rattle.nv_machine.proofs.PoolTally.{CanTally, work_tally, is_begun, loose, not_begun, other_times, tally}
 use Rattle.nv_machine.proofs.PoolTurns.{Standing, check_taken, ready_plan}
-use Rattle.nv_machine.proofs.Written.{written_there}
-use Rattle.nv_machine.proofs.KeptTurns.{lent_inside_own}
+use Rattle.nv_machine.proofs.StepWays.{noted}
+use Rattle.nv_machine.proofs.WrittenSlots.{written_there}
+use Rattle.nv_machine.proofs.CellChanges.{lent_inside_own, lent_removal}
 
 -- ---- what the call knows
 
-enter_seen : (holder : Option ℕ) (last granted : Bool) (a : ℕ) (s : Shared) (h : HandState) (r : Running)
-    → HasPlan s h.ino r.slots (written_slots r) r.plan → OnSeen none_begun (enter_turn holder last granted a s h r)
-enter_seen (Some other) last granted a s h r plan = tt
-enter_seen None true granted a s h r plan = end_seen r.slots _ s h r
-enter_seen None false granted a s h r plan =
-    grown_seen granted _ s h r
-    (appending_seen _ h (record r { commit = s.book.commit + 1; epoch = s.book.snaps.epoch }) 0 plan)
+module _ (g : GeometryNumbers) (block a : ℕ) (granted : Bool) (s : Shared) (h : HandState) (r : Running) where
+  ways : (k : Next) → Standing g k a s h r → QuietWays (SeesBy (begun_by k (written_slots r))) k block a s h r
+  ways Number st = number_sees s.pool.numbers s h r (ap (λ (x : HandState). x.ino) st.hand.0)
+  ways (Look place) st =
+      looking_sees (place + 1) s h (noted (Look place) block s h r) (ap (λ (x : HandState). x.ino) st.hand.0) refl
+  ways (Lock place) st = locking_sees (place + 1) _ h r st.sees
+  ways Check st = λ none.
+      let t = check_taken g block a s h r st none in
+      record { more = λ n is ask. (t, λ n. refl); pages = λ n few is. (t, λ n. refl); ready = λ few is. (t, λ n. refl) }
+  ways (TakeBlocks asked) st =
+      record { more = λ n is ask. (st.sees, λ n. refl); pages = λ n few is. (st.sees, λ n. refl); ready = λ few is. (st.sees, λ n. refl) }
+  ways (TakePages asked) st =
+      record { more = λ n is ask. (st.sees, λ n. refl); pages = λ n few is. (st.sees, λ n. refl); ready = λ few is. (st.sees, λ n. refl) }
+  ways Ready st = (ready_plan g block a s h r st.sees, λ n. refl)
+  ways Enter st = λ clear. appending_seen (work Enter block a s h r).shared h (noted Enter block s h r) 0 st.sees
+  ways (Append place) st =
+      appending_seen _ (work (Append place) block a s h r).hand r (place + 1) (append_plan g block a s h r place st)
+  ways Open st = beginning_seen (work Open block a s h r).shared h r st.sees
+  ways Close st =
+      retiring_seen (work Close block a s h r).shared (record h { ino = None }) r 0 (close_retiring g block a s h r st)
+  ways (Retire place) st =
+      retiring_seen (work (Retire place) block a s h r).shared (work (Retire place) block a s h r).hand r (place + 1)
+      (retire_retiring g block a s h r place st)
+  ways (Publish place) st =
+      publishing_seen _ (work (Publish place) block a s h r).hand r (place + 1) (publish_plan g block a s h r place st)
+      (λ past single. publish_retiring g block a s h r place st single) (omega arith)
+  ways other st = tt
 
-pub turn_seen : (g : GeometryNumbers) (k : Next) (block a : ℕ) (granted : Bool) (s : Shared) (h : HandState) (r : Running)
-    → Standing g k a s h r → OnSeen (begun_by k (written_slots r)) (kind_turn k block a granted s h r)
-turn_seen g Number block a granted s h r st =
-    number_seen s.pool.numbers s h r (ap (λ (x : HandState). x.ino) st.hand.0)
-turn_seen g (Look place) block a granted s h r st =
-    look_seen _ _ _ place s h r (ap (λ (x : HandState). x.ino) st.hand.0)
-turn_seen g (Lock place) block a granted s h r st = lock_seen _ a place s h r st.sees
-turn_seen g Check block a granted s h r st =
-    check_seen (ending_at block s h r) granted _ block s h (with_made s h r) (check_taken g block a s h r st)
-turn_seen g (TakeBlocks asked) block a granted s h r st = blocks_seen _ _ asked block _ _ r st.sees
-turn_seen g (TakePages asked) block a granted s h r st = taken_seen _ _ asked _ _ r st.sees
-turn_seen g Ready block a granted s h r st =
-    grown_seen granted _ s h r (ready_plan g block a s h r st.sees, λ n. refl)
-turn_seen g Enter block a granted s h r st = enter_seen s.holder _ granted a s h r st.sees
-turn_seen g (Append place) block a granted s h r st =
-    appending_seen _ (deed (Append place) block a s h r).hand r (place + 1) (append_plan g block a s h r place st)
-turn_seen g Open block a granted s h r st = beginning_seen (deed Open block a s h r).shared h r st.sees
-turn_seen g (Publish place) block a granted s h r st =
-    publishing_seen _ (deed (Publish place) block a s h r).hand r (place + 1) (publish_plan g block a s h r place st)
-    (λ past single. publish_retiring g block a s h r place st single) (omega arith)
-turn_seen g Close block a granted s h r st =
-    retiring_seen (deed Close block a s h r).shared (record h { ino = None }) r 0 (close_retiring g block a s h r st)
-turn_seen g (Retire place) block a granted s h r st =
-    retiring_seen (deed (Retire place) block a s h r).shared (deed (Retire place) block a s h r).hand r (place + 1)
-    (retire_retiring g block a s h r place st)
-turn_seen g Leave block a granted s h r st = end_seen r.slots r.ending _ h r
-turn_seen g (Unlock place) block a granted s h r st = unlock_seen _ place _ h r
-turn_seen g (Give cpu) block a granted s h r st = give_seen _ h.ino _ _ r
-turn_seen g Back block a granted s h r st = back_seen h.ino s h r
-turn_seen g Visit block a granted s h r st = visit_seen _ _ _ _ s h r
-turn_seen g (Snapshots step) block a granted s h r st = snapshot_seen step a granted s h r
+  pub turn_seen : (k : Next) → Standing g k a s h r → OnSeen (begun_by k (written_slots r)) (kind_turn k block a granted s h r)
+  turn_seen (Publish place) st = ways (Publish place) st
+  turn_seen other st = quiet_walk (SeesBy none_begun) sees_quiet block a granted s h r other (ways other st)
 
 -- ---- each number
 
@@ -92,7 +86,7 @@ quiet_tally g k n block a granted s h r can none seen =
     let same = ap (tally n s) (none_loose k (written_slots r) h.ino none) in
     settles n _ (kind_turn k block a granted s h r)
     (turn_keeps (λ (t : Shared) (x : HandState). tally n t (if_number x.ino) ≡ tally n s (loose k (written_slots r) h.ino)) k block a
-    granted s h r (sym same) (deed_tally k n block a s h r can ∙ sym same)) seen
+    granted s h r (sym same) (work_tally k n block a s h r can ∙ sym same)) seen
 
 -- ---- publish
 
@@ -222,15 +216,8 @@ close_tally g block a s h r st n = ap (tally n s) (go h.ino refl) where
 
 can_tally : (g : GeometryNumbers) (step : SnapshotStep) (a : ℕ) (s : Shared) (h : HandState) (r : Running)
     → Standing g (Snapshots step) a s h r → CanTally (Snapshots step) s h r
-can_tally g Make a s h r st = tt
-can_tally g (Drop snapshot) a s h r st = tt
-can_tally g (Pin snapshot) a s h r st = tt
-can_tally g (Show snapshot showing) a s h r st = tt
-can_tally g (Unpin snapshot seen) a s h r st = tt
-can_tally g (Pick draining) a s h r st = tt
-can_tally g (LockPicked draining picked) a s h r st = tt
-can_tally g (Release draining picked) a s h r st = (
-  (lent_inside_own (Snapshots (Release draining picked)) a s r st.before picked.ino refl).0,
+can_tally g step a s h r st = λ is. (
+  (lent_inside_own (Snapshots step) a s r st.before _ (lent_removal (Snapshots step) (length s.lists) a s h r is)).0,
   λ q. ap (λ (x : HandState). x.ino) st.hand,
 )
 
@@ -238,42 +225,18 @@ pub turn_tally : (g : GeometryNumbers) (k : Next) (n block a : ℕ) (granted : B
     → Standing g k a s h r
     → OnTally n (tally n s (loose k (written_slots r) h.ino)) (kind_turn k block a granted s h r)
 turn_tally g Number n block a granted s h r st = quiet_tally g Number n block a granted s h r
-    (ap (λ (x : HandState). x.ino) st.hand.0) (λ m. refl) (turn_seen g Number block a granted s h r st)
-turn_tally g (Look place) n block a granted s h r st = quiet_tally g (Look place) n block a granted s h r tt (λ m. refl)
-    (turn_seen g (Look place) block a granted s h r st)
-turn_tally g (Lock place) n block a granted s h r st = quiet_tally g (Lock place) n block a granted s h r tt (λ m. refl)
-    (turn_seen g (Lock place) block a granted s h r st)
-turn_tally g Check n block a granted s h r st = quiet_tally g Check n block a granted s h r tt (λ m. refl)
-    (turn_seen g Check block a granted s h r st)
-turn_tally g (TakeBlocks asked) n block a granted s h r st = quiet_tally g (TakeBlocks asked) n block a granted s h r tt (λ m. refl)
-    (turn_seen g (TakeBlocks asked) block a granted s h r st)
-turn_tally g (TakePages asked) n block a granted s h r st = quiet_tally g (TakePages asked) n block a granted s h r tt (λ m. refl)
-    (turn_seen g (TakePages asked) block a granted s h r st)
-turn_tally g Ready n block a granted s h r st = quiet_tally g Ready n block a granted s h r tt (λ m. refl)
-    (turn_seen g Ready block a granted s h r st)
-turn_tally g Enter n block a granted s h r st = quiet_tally g Enter n block a granted s h r tt (λ m. refl)
-    (turn_seen g Enter block a granted s h r st)
+    (ap (λ (x : HandState). x.ino) st.hand.0) (λ m. refl) (turn_seen g block a granted s h r Number st)
 turn_tally g (Append place) n block a granted s h r st = quiet_tally g (Append place) n block a granted s h r
-    (append_inside g block a s h r place st, st.within _) (λ m. refl) (turn_seen g (Append place) block a granted s h r st)
-turn_tally g Open n block a granted s h r st = quiet_tally g Open n block a granted s h r tt (λ m. refl)
-    (turn_seen g Open block a granted s h r st)
+    (append_inside g block a s h r place st, st.within _) (λ m. refl) (turn_seen g block a granted s h r (Append place) st)
 turn_tally g (Publish place) n block a granted s h r st =
-    ap (λ (numbers : List ℕ). tally n (deed (Publish place) block a s h r).shared numbers)
-    (same_begun h.ino _ _ (turn_seen g (Publish place) block a granted s h r st).1)
+    ap (λ (numbers : List ℕ). tally n (work (Publish place) block a s h r).shared numbers)
+    (same_begun h.ino _ _ (turn_seen g block a granted s h r (Publish place) st).1)
     ∙ published_tally g block a s h r place st n
 turn_tally g Close n block a granted s h r st = close_tally g block a s h r st n
 turn_tally g (Retire place) n block a granted s h r st = quiet_tally g (Retire place) n block a granted s h r
     (retire_inside g block a s h r place st, erased_number g block a s h r place st) (λ m. refl)
-    (turn_seen g (Retire place) block a granted s h r st)
-turn_tally g Leave n block a granted s h r st = quiet_tally g Leave n block a granted s h r tt (λ m. refl)
-    (turn_seen g Leave block a granted s h r st)
-turn_tally g (Unlock place) n block a granted s h r st = quiet_tally g (Unlock place) n block a granted s h r tt (λ m. refl)
-    (turn_seen g (Unlock place) block a granted s h r st)
-turn_tally g (Give cpu) n block a granted s h r st = quiet_tally g (Give cpu) n block a granted s h r tt (λ m. refl)
-    (turn_seen g (Give cpu) block a granted s h r st)
-turn_tally g Back n block a granted s h r st = quiet_tally g Back n block a granted s h r tt (λ m. refl)
-    (turn_seen g Back block a granted s h r st)
-turn_tally g Visit n block a granted s h r st = quiet_tally g Visit n block a granted s h r tt (λ m. refl)
-    (turn_seen g Visit block a granted s h r st)
+    (turn_seen g block a granted s h r (Retire place) st)
 turn_tally g (Snapshots step) n block a granted s h r st = quiet_tally g (Snapshots step) n block a granted s h r
-    (can_tally g step a s h r st) (λ m. refl) (turn_seen g (Snapshots step) block a granted s h r st)
+    (can_tally g step a s h r st) (λ m. refl) (turn_seen g block a granted s h r (Snapshots step) st)
+turn_tally g other n block a granted s h r st = quiet_tally g other n block a granted s h r tt (λ m. refl)
+    (turn_seen g block a granted s h r other st)

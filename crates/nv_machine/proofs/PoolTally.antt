@@ -6,19 +6,16 @@ use Rattle.std.proofs.lemmas.List.{map-id}
 use Rattle.nv_alloc.specs.Numbers.{has, put_by, times}
 use Rattle.nv_alloc.proofs.Lists.{times-cons, times-no, times-put_by, times-yes}
 use Rattle.nv_base.specs.declared.limits.TheConstants.{NUMBER}
-use Rattle.nv_calls.specs.Retiring.{erased, is_erased, number_back, released}
+use Rattle.nv_calls.specs.Retiring.{erased, is_erased, number_back}
 use Rattle.nv_cell.specs.Cell.{CellState, empty_cell}
-use Rattle.nv_cell.specs.declared.killed.KilledPart.{KilledPart}
-use Rattle.nv_epoch.specs.SnapList.{ids}
-use Rattle.nv_machine.specs.Kinds.{entries_for, first_killed, retired_cell, with_erased, with_freed}
+use Rattle.nv_machine.specs.Kinds.{entries_for, with_erased}
 use Rattle.nv_machine.specs.Reads.{if_number, pages_needed, slot_at, written_slots}
-use Rattle.nv_machine.specs.World.{Actor, Append, Back, Check, Close, Enter, Give, HandState, Leave, Lock, Look, Next, Number, Open, Publish, Ready, Retire, Running, Shared, TakeBlocks, TakePages, Unlock, Visit, cell_at, with_cell, Drop, LockPicked, Make, Pick, Pin, Release, Show, Snapshots, Unpin}
-use Rattle.nv_machine.proofs.Kept.{back_deed, deed, number_deed, retire_deed, release_deed}
+use Rattle.nv_machine.specs.World.{Actor, Append, Back, Close, HandState, Next, Number, Publish, Retire, Running, Shared, cell_at, with_cell, Snapshots}
+use Rattle.nv_machine.proofs.StepWork.{back_work, work, number_work}
 use Rattle.nv_machine.proofs.Lists.{self}
 use Rattle.nv_machine.proofs.LogsKept.{cell_set}
-use Rattle.nv_machine.proofs.PoolCells.{IsLike, appended_like, erased_gone, gone_inode, like_taken, one_if, retired_like, taken_once, with_inode, released_like}
-use Rattle.nv_book.specs.declared.record.Record.{Record}
-use Rattle.nv_machine.specs.Snapshots.{with_released}
+use Rattle.nv_machine.proofs.PoolCells.{IsLike, appended_like, erased_gone, gone_inode, like_taken, one_if, keeps_like, taken_once, with_inode}
+use Rattle.nv_machine.proofs.CellChanges.{IsRemoval, Removal, hand_freed, is_removal_on, is_removed, on_step, removal, removal_on, removed}
 
 -- ---- how often a number stands
 
@@ -58,7 +55,7 @@ set_taken s slot cell n inside same =
 -- ---- number and back
 
 number_tally : (n : ℕ) (numbers : List ℕ) (s : Shared) (h : HandState) → s.pool.numbers ≡ numbers → h.ino ≡ None
-    → tally n (number_deed numbers s h).shared (if_number (number_deed numbers s h).hand.ino) ≡ tally n s (if_number h.ino)
+    → tally n (number_work numbers s h).shared (if_number (number_work numbers s h).hand.ino) ≡ tally n s (if_number h.ino)
 number_tally n [] s h is none = refl
 number_tally n (ino ∷ numbers) s h is none =
     let all = ap (times n) is in
@@ -66,7 +63,7 @@ number_tally n (ino ∷ numbers) s h is none =
     omega (arith, all, hand, times-cons n ino numbers)
 
 back_tally : (n : ℕ) (number : Option ℕ) (s : Shared) (h : HandState) → h.ino ≡ number
-    → tally n (back_deed number s h).shared (if_number (back_deed number s h).hand.ino) ≡ tally n s (if_number h.ino)
+    → tally n (back_work number s h).shared (if_number (back_work number s h).hand.ino) ≡ tally n s (if_number h.ino)
 back_tally n None s h is = refl
 back_tally n (Some ino) s h is =
     let numbers = s.pool.numbers in
@@ -139,24 +136,18 @@ hand_erased ino cell h = go (is_erased cell) refl where
   go true q = rw q refl
   go false q = rw q refl
 
-retire_tally : (n ino : ℕ) (killed : List KilledPart) (s : Shared) (h : HandState) (r : Running) → ino < length s.cells
-    → (is_erased (retired_cell ino killed s r) ≡ true → h.ino ≡ None)
-    → tally n (retire_deed ino killed s h r).shared (if_number (retire_deed ino killed s h r).hand.ino) ≡ tally n s (if_number h.ino)
-retire_tally n ino killed s h r inside none =
-    let cell = retired_cell ino killed s r in
-    ap (λ (o : Option ℕ). tally n (retire_deed ino killed s h r).shared (if_number o)) (hand_erased ino cell (with_freed ino killed s r h))
-    ∙ erased_tally n ino cell s h.ino inside (retired_like (ids s.book.snaps) ino r.epoch killed (cell_at s ino)) none
-
-release_tally : (n : ℕ) (picked : Record) (s : Shared) (h : HandState) → picked.ino < length s.cells
-    → (is_erased (released picked (cell_at s picked.ino)) ≡ true → h.ino ≡ None)
-    → tally n (release_deed picked s h).shared (if_number (release_deed picked s h).hand.ino) ≡ tally n s (if_number h.ino)
-release_tally n picked s h inside none =
-    let cell = released picked (cell_at s picked.ino) in
-    ap (λ (o : Option ℕ). tally n (release_deed picked s h).shared (if_number o))
-    (hand_erased picked.ino cell (with_released picked s h))
-    ∙ erased_tally n picked.ino cell s h.ino inside (released_like picked (cell_at s picked.ino)) none
+removal_tally : (n : ℕ) (x : Removal) (s : Shared) (h : HandState) → IsRemoval s x → x.slot < length s.cells
+    → (is_erased x.cell ≡ true → h.ino ≡ None)
+    → tally n (removed x s h).shared (if_number (removed x s h).hand.ino) ≡ tally n s (if_number h.ino)
+removal_tally n x s h is inside none =
+    ap (λ (o : Option ℕ). tally n (removed x s h).shared (if_number o)) (hand_erased x.slot x.cell (hand_freed x h))
+    ∙ erased_tally n x.slot x.cell s h.ino inside (keeps_like (cell_at s x.slot) x.cell is.keeps) none
 
 -- ---- every kind but publish and close
+
+-- no number is in the hand of one that erases a cell
+abbrev pub CanErase : Removal → Shared → HandState → Type 0
+CanErase x s h = (x.slot < length s.cells) × (is_erased x.cell ≡ true → h.ino ≡ None)
 
 -- what a kind needs to know
 abbrev pub CanTally : Next → Shared → HandState → Running → Type 0
@@ -165,42 +156,25 @@ CanTally (Append place) s h r = (slot_at (written_slots r) place < length s.cell
     × ((cell_at s (slot_at (written_slots r) place)).chain.tail ≤ length (cell_at s (slot_at (written_slots r) place)).chain.entries)
 CanTally (Publish place) s h r = ⊥
 CanTally Close s h r = ⊥
-CanTally (Retire place) s h r = (slot_at (written_slots r) place < length s.cells)
-    × (is_erased (retired_cell (slot_at (written_slots r) place) (first_killed h.killed) s r) ≡ true → h.ino ≡ None)
-CanTally (Snapshots (Release draining picked)) s h r = (picked.ino < length s.cells)
-    × (is_erased (released picked (cell_at s picked.ino)) ≡ true → h.ino ≡ None)
+CanTally (Retire place) s h r = CanErase (removal (Retire place) s h r) s h
+CanTally (Snapshots step) s h r = is_removal_on step ≡ true → CanErase (removal_on step s h) s h
 CanTally other s h r = Unit {0}
 
-pub deed_tally : (k : Next) (n block actor : ℕ) (s : Shared) (h : HandState) (r : Running) → CanTally k s h r
-    → tally n (deed k block actor s h r).shared (if_number (deed k block actor s h r).hand.ino) ≡ tally n s (if_number h.ino)
-deed_tally Number n block actor s h r can = number_tally n s.pool.numbers s h refl can
-deed_tally (Look place) n block actor s h r can = refl
-deed_tally (Lock place) n block actor s h r can = refl
-deed_tally Check n block actor s h r can = refl
-deed_tally (TakeBlocks asked) n block actor s h r can = refl
-deed_tally (TakePages asked) n block actor s h r can = refl
-deed_tally Ready n block actor s h r can = refl
-deed_tally Enter n block actor s h r can = refl
-deed_tally (Append place) n block actor s h r can =
+pub work_tally : (k : Next) (n block actor : ℕ) (s : Shared) (h : HandState) (r : Running) → CanTally k s h r
+    → tally n (work k block actor s h r).shared (if_number (work k block actor s h r).hand.ino) ≡ tally n s (if_number h.ino)
+work_tally Number n block actor s h r can = number_tally n s.pool.numbers s h refl can
+work_tally (Append place) n block actor s h r can =
     let ino = slot_at (written_slots r) place in
     let e = set_taken s ino _ n can.0
     (appended_like (entries_for r ino) h.blocks (take (pages_needed s r.plan ino) h.pages) (cell_at s ino) can.1) in
     omega (arith, e)
-deed_tally Open n block actor s h r can = refl
-deed_tally (Publish place) n block actor s h r can = absurd can
-deed_tally Close n block actor s h r can = absurd can
-deed_tally (Retire place) n block actor s h r can =
-    retire_tally n (slot_at (written_slots r) place) (first_killed h.killed) s h r can.0 can.1
-deed_tally Leave n block actor s h r can = refl
-deed_tally (Unlock place) n block actor s h r can = refl
-deed_tally (Give cpu) n block actor s h r can = refl
-deed_tally Back n block actor s h r can = back_tally n h.ino s h refl
-deed_tally Visit n block actor s h r can = refl
-deed_tally (Snapshots Make) n block actor s h r can = refl
-deed_tally (Snapshots (Drop snapshot)) n block actor s h r can = refl
-deed_tally (Snapshots (Pin snapshot)) n block actor s h r can = refl
-deed_tally (Snapshots (Show snapshot showing)) n block actor s h r can = refl
-deed_tally (Snapshots (Unpin snapshot seen)) n block actor s h r can = refl
-deed_tally (Snapshots (Pick draining)) n block actor s h r can = refl
-deed_tally (Snapshots (LockPicked draining picked)) n block actor s h r can = refl
-deed_tally (Snapshots (Release draining picked)) n block actor s h r can = release_tally n picked s h can.0 can.1
+work_tally (Publish place) n block actor s h r can = absurd can
+work_tally Close n block actor s h r can = absurd can
+work_tally (Retire place) n block actor s h r can =
+    removal_tally n (removal (Retire place) s h r) s h (is_removed (Retire place) s h r refl) can.0 can.1
+work_tally Back n block actor s h r can = back_tally n h.ino s h refl
+work_tally (Snapshots step) n block actor s h r can =
+    on_step (λ (t : Shared) (g : HandState). tally n t (if_number g.ino) ≡ tally n s (if_number h.ino)) step actor s h
+    (λ is. let ok = can is in removal_tally n (removal_on step s h) s h (is_removed (Snapshots step) s h r is) ok.0 ok.1)
+    (λ book owners. refl)
+work_tally other n block actor s h r can = refl

@@ -20,7 +20,7 @@ use Rattle.nv_machine.specs.Step.{ending_at, is_numbered, made_in, same_looked}
 use Rattle.nv_machine.specs.World.{Check, HandState, Next, Running, Shared, cell_at, with_cell}
 use Rattle.nv_machine.proofs.Fitting.{checked}
 use Rattle.nv_machine.proofs.Lists.{or_right, self}
-use Rattle.nv_machine.proofs.Locked.{Before}
+use Rattle.nv_machine.proofs.LocksHeld.{Before}
 use Rattle.nv_machine.proofs.LogsKept.{cell_set}
 use Rattle.nv_machine.proofs.PoolCells.{with_inode}
 use Rattle.nv_machine.proofs.PoolChecked.{HaveInode, checked_inodes}
@@ -45,17 +45,7 @@ pub record Standing (g : GeometryNumbers) (k : Next) (a : ℕ) (s : Shared) (h :
 parent_read : (c : Call) (found : _) → makes_inode (beginning c) ≡ true → handles found c ≡ parent_of c ∷ []
 parent_read (call.Create dir name mode) found makes = refl
 parent_read (call.Mkdir dir name mode) found makes = refl
-parent_read (call.Write file offset text) found makes = absurd (false≢true makes)
-parent_read (call.Read file offset count) found makes = absurd (false≢true makes)
-parent_read (call.Size file size) found makes = absurd (false≢true makes)
-parent_read (call.Mode handle mode) found makes = absurd (false≢true makes)
-parent_read (call.Stat handle) found makes = absurd (false≢true makes)
-parent_read (call.List dir) found makes = absurd (false≢true makes)
-parent_read (call.Lookup dir name) found makes = absurd (false≢true makes)
-parent_read (call.Snapshots what) found makes = absurd (false≢true makes)
-parent_read (call.Unlink dir name) found makes = absurd (false≢true makes)
-parent_read (call.Rmdir dir name) found makes = absurd (false≢true makes)
-parent_read (call.Rename from old to new) found makes = absurd (false≢true makes)
+parent_read other found makes = absurd (false≢true makes)
 
 module _ (g : GeometryNumbers) (block a : ℕ) (s : Shared) (h : HandState) (r : Running) where
   check_new : Standing g Check a s h r → HaveInode s (handles r.looked r.call) → (n : ℕ) → h.ino ≡ Some n

@@ -22,10 +22,10 @@ use Rattle.nv_machine.specs.World.{Actor, Event, World, actor_at, cell_at, idle,
 use Rattle.nv_base.specs.declared.numbers.Handle.{Handle}
 use Rattle.nv_machine.proofs.FiledParts.{releases_covered}
 use Rattle.nv_machine.proofs.FromScratch.{each_once, idle_nothing}
-use Rattle.nv_machine.proofs.GrownRuns.{events_grown}
-use Rattle.nv_machine.proofs.InOrder.{events_order}
-use Rattle.nv_machine.proofs.KeptRuns.{events_kept, nodes_stay}
-use Rattle.nv_machine.proofs.Locks.{events_locks}
+use Rattle.nv_machine.proofs.UnsettledRuns.{events_grown}
+use Rattle.nv_machine.proofs.LogsInOrder.{events_order}
+use Rattle.nv_machine.proofs.LogsKeptRuns.{events_kept, nodes_stay}
+use Rattle.nv_machine.proofs.LocksOverEvents.{events_locks}
 use Rattle.nv_machine.proofs.StartParts.{first_grown, first_kept, first_locks, first_order}
 
 -- ---- how often a number stands in a part of all

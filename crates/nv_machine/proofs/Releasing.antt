@@ -1,7 +1,6 @@
 -- The law of erasing, of the release step: where the record that it releases was the last that kept a gone inode,
 -- this is erased whole.
 use Rattle.std.proofs.Common.{◌≡◌, ◌≢◌, ℕ, ◌<◌, ◌==◌, ◌||◌, ◌++◌, ◌∙◌, Bool, true, false, List, [], ◌∷◌, Option, Some, None, ap, append-nil, arith, filter, get_or-set_same, if◌then◌else◌, inl, inr, length, map, refl, slice_get, slice_index_or, subst, sym, take}
-use Rattle.std.specs.Prelude.{suc, zero}
 use Rattle.std.specs.List.{AllByRecursion, list_any}
 use Rattle.std.specs.Option.{IsSome}
 use Rattle.std.proofs.lemmas.Bool.{cases_lt, eqb-false, eqb-true, false≢true}
@@ -27,6 +26,7 @@ use Rattle.nv_entry.specs.declared.item.Entry.{Entry}
 use Rattle.nv_entry.specs.declared.part.PartId.{PartId}
 use Rattle.nv_entry.proofs.Covering.{at_place_of}
 use Rattle.nv_epoch.specs.SnapList.{ids}
+use Rattle.nv_machine.proofs.LogTails.{has_front}
 use Rattle.nv_machine.specs.Erasing.{IsErasedWhole, IsOnItsWay, IsOver, emptied, keepers_of, pending_but}
 use Rattle.nv_machine.specs.Grown.{HasGrown, HasGrownBy}
 use Rattle.nv_machine.specs.Hands.{IsParted}
@@ -41,33 +41,26 @@ use Rattle.nv_machine.specs.Snapshots.{one_more, with_released}
 use Rattle.nv_machine.specs.Starts.{IsStart}
 use Rattle.nv_machine.specs.Step.{Step, after, changed, kind_turn, step, turned}
 use Rattle.nv_machine.specs.World.{Actor, Close, Draining, Drains, Event, Go, HandState, Next, Publish, Release, Retire, Running, Shared, Snapshots, Unlock, World, actor_at, cell_at, empty_hand, idle, no_cell, owner_at, with_cell}
-use Rattle.nv_machine.proofs.Counted.{settled_times}
-use Rattle.nv_machine.proofs.Erased.{all_freed, behind, gone_erased}
-use Rattle.nv_machine.proofs.Erasing.{IsKnown, known, runs_inside}
-use Rattle.nv_machine.proofs.Events.{goes}
-use Rattle.nv_machine.proofs.EachOf.{all_append, all_back, all_front}
+use Rattle.nv_machine.proofs.ErasedCells.{all_freed, behind, gone_erased}
+use Rattle.nv_machine.proofs.OverEvents.{runs_inside}
+use Rattle.nv_machine.proofs.FitsEvents.{IsKnown, all_known, filed_known}
+use Rattle.nv_machine.proofs.SingleEvents.{goes}
+use Rattle.nv_machine.proofs.EachElement.{all_append, all_back, all_front}
 use Rattle.nv_machine.proofs.FiledLists.{all_filed, count, count_append, count_cons, count_filed, held_filed}
 use Rattle.nv_machine.proofs.FiledMarks.{IsTold, is_filed_on}
-use Rattle.nv_machine.proofs.FiledRuns as filed
+use Rattle.nv_machine.proofs.FiledRuns.{can_list}
 use Rattle.nv_machine.proofs.FiledSteps.{MarksOf, released_cell}
 use Rattle.nv_machine.proofs.FiledWorlds.{marks_as, picked_in}
 use Rattle.nv_machine.proofs.HeldMarks.{in_use_there, same_default}
 use Rattle.nv_machine.proofs.Lists.{has_filter, has_later}
-use Rattle.nv_machine.proofs.Locked.{Before, lent_cell, owner_is}
-use Rattle.nv_machine.proofs.Locks.{before}
+use Rattle.nv_machine.proofs.LocksHeld.{Before, lent_cell, owner_is}
+use Rattle.nv_machine.proofs.LocksOverEvents.{before}
 use Rattle.nv_machine.proofs.Pairs.{IsRecordOf, pair_there}
-use Rattle.nv_machine.proofs.Parted.{settled_parted}
+use Rattle.nv_machine.proofs.PartPlaces.{settled_parted}
 use Rattle.nv_machine.proofs.PartsFor.{none_of, none_there, own_all, swap_all, swap_count}
+use Rattle.nv_machine.proofs.CellChanges.{settled_times}
 
 -- ---- of a slot that an actor has locked no other has killed parts
-
-has_front : (p : ℕ) (xs : List ℕ) (n : ℕ) → has (take p xs) n ≡ true → has xs n ≡ true
-has_front zero xs n h = absurd (false≢true h)
-has_front (suc p) [] n h = h
-has_front (suc p) (x ∷ xs) n h = go (x == n) h (has_front p xs n) where
-  go : (b : Bool) → (b || has (take p xs) n) ≡ true → (has (take p xs) n ≡ true → has xs n ≡ true) → (b || has xs n) ≡ true
-  go true e more = refl
-  go false e more = more e
 
 pub killed_held : (k : Next) (r : Running) (ino : ℕ) → has (killed_slots k (written_slots r)) ino ≡ true
     → has (held_at k r.slots) ino ≡ true
@@ -125,7 +118,7 @@ module _ (g : GeometryNumbers) (w : World) (all : IsKnown g w) (actor : ℕ) (dr
 
   alone : (h ≡ empty_hand) × (r.slots ≡ d.ino ∷ [])
   alone =
-      (filed.can_list g w actor r (record { locks = all.reached.locks; order = all.reached.order; numbers = all.numbers }) runs).alone
+      (can_list g w actor r (filed_known g w all) runs).alone
       (Release draining d) next
 
   lock_is : Before actor s (Snapshots (Release draining d)) r
@@ -307,7 +300,7 @@ pub release_erases : (g : GeometryNumbers) (start : World) (records : List Recor
     → IsErasedWhole actor picked.ino (after start events) (step (after start events) (Go actor granted)).world
 release_erases g start records events actor draining picked granted r is_start runs next over =
     let w = after start events in
-    let all = known g start records events is_start in
+    let all = all_known g start records is_start events in
     subst (λ (v : World). IsErasedWhole actor picked.ino w v) (sym (stepped g w all actor draining picked r runs next over granted))
     (is_erased_whole g w all actor draining picked r runs next over)
 
@@ -320,7 +313,7 @@ pub released_has_it : (g : GeometryNumbers) (start : World) (records : List Reco
     → IsOnItsWay actor picked.ino (step (after start events) (Go actor granted)).world
 released_has_it g start records events actor draining picked granted r is_start runs next over free =
     let w = after start events in
-    let all = known g start records events is_start in
+    let all = all_known g start records is_start events in
     let is = stepped g w all actor draining picked r runs next over granted in
     subst (λ (v : World). IsOnItsWay actor picked.ino v) (sym is)
     (is_on_its_way g w all actor draining picked r runs next over

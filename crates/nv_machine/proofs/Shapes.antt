@@ -28,7 +28,7 @@ use Rattle.nv_entry.specs.Node.{node_now, node_of_kind}
 use Rattle.nv_entry.specs.Sound.{write_items}
 use Rattle.nv_entry.specs.declared.item.Entry.{Entry}
 use Rattle.nv_entry.specs.declared.item.Item.{Item}
-use Rattle.nv_entry.specs.declared.item.Item.TheVariants.{Bind, Gone, Init, SetMode, SetSize, Unbind, Write}
+use Rattle.nv_entry.specs.declared.item.Item.TheVariants.{Gone, Init, SetSize, Write}
 use Rattle.nv_entry.specs.declared.item.Run.{Run}
 use Rattle.nv_entry.specs.declared.key.Datum.TheVariants as datum
 use Rattle.nv_entry.specs.declared.key.Setting.{Setting}
@@ -50,12 +50,7 @@ kind_by (Present other) before = None
 
 one_kind : (block : ℕ) (item : Item) (before : Option Kind) → kind_after item before ≡ kind_by (sets block item KindKey) before
 one_kind block (Init kind mode) before = refl
-one_kind block (Write first run size) before = refl
-one_kind block (SetSize size) before = refl
-one_kind block (SetMode mode) before = refl
-one_kind block (Bind name to) before = refl
-one_kind block (Unbind name) before = refl
-one_kind block Gone before = refl
+one_kind block other before = refl
 
 all_kinds : (block : ℕ) (log : List Entry) (before : Option Kind)
     → kinds_after (items_of log) before ≡ kind_by (last_setting block log KindKey) before
@@ -161,11 +156,7 @@ plan_last block nodes taken (call.Mode handle mode) = (tt, tt)
 plan_last block nodes taken (call.Unlink dir name) = leave_last dir name (found nodes dir name)
 plan_last block nodes taken (call.Rmdir dir name) = leave_last dir name (found nodes dir name)
 plan_last block nodes taken (call.Rename from old to new) = rename_last from old to new (looked nodes (call.Rename from old to new))
-plan_last block nodes taken (call.Stat handle) = tt
-plan_last block nodes taken (call.Read handle offset count) = tt
-plan_last block nodes taken (call.List dir) = tt
-plan_last block nodes taken (call.Lookup dir name) = tt
-plan_last block nodes taken (call.Snapshots what) = tt
+plan_last block nodes taken other = tt
 
 -- ---- a log grows by what is planned for it
 

@@ -24,10 +24,9 @@ use Rattle.nv_machine.specs.Starts.{IsStart}
 use Rattle.nv_machine.specs.Step.{after, step}
 use Rattle.nv_machine.specs.World.{Actor, Done, Event, Go, Running, Snapshots, Unpin, World, actor_at, cell_at, owner_at}
 use Rattle.nv_machine.proofs.CopiesAll.{all_stay, all_whole, events_cells}
-use Rattle.nv_machine.proofs.CopyRuns.{HaveMarks}
 use Rattle.nv_epoch.proofs.Pins.{lives-from_pins}
 use Rattle.nv_machine.proofs.Lists.{self}
-use Rattle.nv_machine.proofs.Locks.{many_same}
+use Rattle.nv_machine.proofs.LocksOverEvents.{many_same}
 use Rattle.nv_machine.proofs.Pins.{pins_of_shows}
 use Rattle.nv_machine.proofs.Reached.{reached}
 use Rattle.nv_machine.proofs.ShowRuns.{AllShow, IsShown, events_show, show_told, shown_lives}
@@ -60,8 +59,7 @@ many_cells g start records events is_start =
       is_start.limits.some_inodes,
     )
 
-module _ (g : GeometryNumbers) (start : World) (records : List Record) (is_start : IsStart g start records)
-    (marks : (events : List Event) → HaveMarks (after start events)) where
+module _ (g : GeometryNumbers) (start : World) (records : List Record) (is_start : IsStart g start records) where
   abbrev at : List Event → World
   at events = after start events
 
@@ -72,7 +70,7 @@ module _ (g : GeometryNumbers) (start : World) (records : List Record) (is_start
       let copies = settled_copies (at events).shared snapshot in
       let inodes = length (at events).shared.cells in
       let lives = lives-from_pins (at events).shared.book.snaps.living snapshot (subst IsSome (sym is) refl) in
-      let whole = all_whole g start records is_start marks events snapshot lives in
+      let whole = all_whole g start records is_start events snapshot lives in
       record {
         seen = tree_to_come copies inodes root;
         enough = omega (arith, root_few copies whole.leads inodes inodes whole.tree whole.top, many_cells g start records events is_start);
@@ -92,7 +90,7 @@ module _ (g : GeometryNumbers) (start : World) (records : List Record) (is_start
 
   all_show : (events : List Event) → AllShow (at events)
   all_show events =
-      events_show events start is_shown (λ before e. all_stay g start records is_start marks before e) none_shown
+      events_show events start is_shown (λ before e. all_stay g start records is_start before e) none_shown
 
   pub all_told : (events : List Event) (actor snapshot : ℕ) (granted : Bool) (r : Running) (seen : List TreeNode) (told : Answer)
       → (actor_at (at events) actor).running ≡ Some r → r.next ≡ Snapshots (Unpin snapshot seen)

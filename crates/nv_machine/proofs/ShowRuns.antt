@@ -1,15 +1,14 @@
 -- What shows have seen, whatever events come; and so what they are answered.
-use Rattle.std.proofs.Common.{◌≡◌, ℕ, ◌<◌, ◌≤◌, ◌==◌, ◌∙◌, Bool, true, false, List, [], ◌∷◌, length, nat_lt, Option, Some, None, IsSome, ap, arith, get_or-set_other, refl, set, subst, sym, inl, inr}
+use Rattle.std.proofs.Common.{◌≡◌, ℕ, ◌<◌, ◌≤◌, ◌∙◌, Bool, true, false, List, [], ◌∷◌, length, nat_lt, Option, Some, None, IsSome, ap, arith, refl, subst, sym, inl, inr}
 use Rattle.std.proofs.Math.Path.{fun_ext}
 use Rattle.std.specs.List.{Contains}
-use Rattle.std.proofs.lemmas.Bool.{cases_lt, eqb-false, eqb-true, ltb-true}
+use Rattle.std.proofs.lemmas.Bool.{cases_lt}
 use Rattle.std.proofs.lemmas.List.{get_or_past}
 use Rattle.std.proofs.lemmas.List.Sums.{get_or-le-sum_by}
 use Rattle.std.proofs.lemmas.Option.{none-some, same_Some}
 use Rattle.nv_base.specs.declared.numbers.Handle.{Handle}
 use Rattle.nv_calls.specs.declared.answer.Answer.{Answer}
 use Rattle.nv_calls.specs.declared.answer.Answer.TheVariants as answers
-use Rattle.nv_calls.specs.declared.call.Call.{Call}
 use Rattle.nv_entry.specs.declared.node.NodeCopy.{NodeCopy}
 use Rattle.nv_entry.specs.declared.tree.TreeNode.{TreeNode}
 use Rattle.nv_epoch.specs.SnapList.{ids, pins_of}
@@ -17,10 +16,10 @@ use Rattle.nv_machine.specs.Reading.{ArePins, pins_at, pins_by_call, shows_of}
 use Rattle.nv_machine.specs.Sequence.{beginning, begun}
 use Rattle.nv_machine.specs.Settled.{settled_copies}
 use Rattle.nv_machine.specs.Snapshots.{copies_at, first_showing, if_free, shown_by, unpin_turn}
-use Rattle.nv_machine.specs.Step.{after, go_step, kind_turn, reply_of, start_step, step, turn, turned}
-use Rattle.nv_machine.specs.World.{Actor, Answers, Done, Drains, Drop, Ending, Ends, Event, Go, HandState, LockPicked, Make, Moves, Next, Overtaken, Pick, Pin, Refuses, Release, Running, Shared, Show, Snapshots, Start, Turn, Unpin, Waits, World, actor_at, idle, owner_at}
+use Rattle.nv_machine.specs.Step.{after, go_step, kind_turn, reply_of, step, turn, turned}
+use Rattle.nv_machine.specs.World.{Actor, Done, Ending, Ends, Event, Go, HandState, Moves, Next, Refuses, Running, Shared, Show, Snapshots, Turn, Unpin, Waits, World, actor_at, idle, owner_at}
 use Rattle.nv_machine.proofs.CopyRuns.{cells_stay}
-use Rattle.nv_machine.proofs.Events.{set_is}
+use Rattle.nv_machine.proofs.OverEvents.{event_by, set_begun, set_one, turn_at, with_call}
 use Rattle.nv_epoch.proofs.Pins.{lives-from_pins}
 use Rattle.nv_machine.proofs.Lists.{self}
 use Rattle.nv_machine.proofs.Pins.{begun_none}
@@ -61,12 +60,6 @@ same_shows copies other inodes (Snapshots (Show snapshot showing)) e same is =
     subst (λ (f : Handle → Option NodeCopy). IsSeen f (tree_by (λ n. f) inodes snapshot) showing) (sym (same snapshot (self snapshot))) is
 same_shows copies other inodes (Snapshots (Unpin snapshot seen)) e same is =
     subst (λ (f : Handle → Option NodeCopy). HasSeen e seen (tree_by (λ n. f) inodes snapshot)) (sym (same snapshot (self snapshot))) is
-same_shows copies other inodes (Snapshots Make) e same is = tt
-same_shows copies other inodes (Snapshots (Drop snapshot)) e same is = tt
-same_shows copies other inodes (Snapshots (Pin snapshot)) e same is = tt
-same_shows copies other inodes (Snapshots (Pick draining)) e same is = tt
-same_shows copies other inodes (Snapshots (LockPicked draining picked)) e same is = tt
-same_shows copies other inodes (Snapshots (Release draining picked)) e same is = tt
 same_shows copies other inodes k e same is = tt
 
 -- ---- one event
@@ -95,53 +88,28 @@ module _ (w : World) (known : IsShown w) (all : AllShow w) where
   abbrev inodes : ℕ
   inodes = length w.shared.cells
 
-  set_seen : (actor : ℕ) (x : Actor) (t : Shared) → actor < length w.actors
-      → ((r : Running) → x.running ≡ Some r → ShowsAt Copies inodes r.next r.ending)
-      → AllSeen Copies inodes (record w { shared = t; actors = set w.actors actor x })
-  set_seen actor x t there own b r is = go (actor == b) refl where
-    v : World
-    v = record w { shared = t; actors = set w.actors actor x }
+  abbrev ShowsBy : ℕ → Shared → Actor → Type 0
+  ShowsBy b s x = (r : Running) → x.running ≡ Some r → ShowsAt Copies inodes r.next r.ending
 
-    go : (c : Bool) → (actor == b) ≡ c → ShowsAt Copies inodes r.next r.ending
-    go true e =
-        own r (sym (ap (λ (y : Actor). y.running) (set_is actor x w t there))
-        ∙ ap (λ (n : ℕ). (actor_at v n).running) (eqb-true actor b e) ∙ is)
-    go false e =
-        all b r (sym (ap (λ (y : Actor). y.running)
-        (get_or-set_other w.actors actor b x idle (λ same. eqb-false actor b e (sym same)))) ∙ is)
+  own_shows : (q : Running) → ShowsAt Copies inodes q.next q.ending → (r : Running) → Some q ≡ Some r
+      → ShowsAt Copies inodes r.next r.ending
+  own_shows q on r is = subst (λ (x : Running). ShowsAt Copies inodes x.next x.ending) (same_Some q r is) on
 
   turned_seen : (t : Turn) (actor : ℕ) → actor < length w.actors → OnShows Copies inodes t
       → AllSeen Copies inodes (turned t actor w).world
-  turned_seen (Moves s h q) actor there on =
-      set_seen actor (record { hand = h; running = Some q }) s there
-      (λ r is. subst (λ (x : Running). ShowsAt Copies inodes x.next x.ending) (same_Some q r is) on)
+  turned_seen (Moves s h q) actor there on = set_one ShowsBy w actor (with_call h (Some q)) s there (own_shows q on) (λ b ne. all b)
   turned_seen Waits actor there on = all
   turned_seen (Ends result s h) actor there on =
-      set_seen actor (record { hand = h; running = None }) s there (λ r is. absurd (none-some r is))
-
-  go_seen : (b : Bool) (running : Option Running) (actor : ℕ) (granted : Bool) → nat_lt actor (length w.actors) ≡ b
-      → (actor_at w actor).running ≡ running → AllSeen Copies inodes (go_step b running actor granted w).world
-  go_seen false running actor granted there is = all
-  go_seen true None actor granted there is = all
-  go_seen true (Some r) actor granted there is =
-      let h = (actor_at w actor).hand in
-      turned_seen (turn w.numbers.block actor granted w.shared h r) actor (ltb-true actor (length w.actors) there)
-      (kind_shows Copies inodes w.numbers.block actor granted w.shared h r r.next (known.bare actor r is) known.found known.first
-      (all actor r is))
-
-  start_seen : (b : Bool) (running : Option Running) (actor : ℕ) (c : Call) → nat_lt actor (length w.actors) ≡ b
-      → AllSeen Copies inodes (start_step b running actor c w).world
-  start_seen false running actor c there = all
-  start_seen true (Some r) actor c there = all
-  start_seen true None actor c there =
-      let q = begun (beginning c) w.shared c in
-      set_seen actor (record { hand = (actor_at w actor).hand; running = Some q }) w.shared (ltb-true actor (length w.actors) there)
-      (λ r is. subst (λ (x : Running). ShowsAt Copies inodes x.next x.ending) (same_Some q r is)
-      (no_show Copies inodes q.next q.ending (λ n. begun_none n c w.shared)))
+      set_one ShowsBy w actor (with_call h None) s there (λ r is. absurd (none-some r is)) (λ b ne. all b)
 
   event_seen : (e : Event) → AllSeen Copies inodes (step w e).world
-  event_seen (Start actor c) = start_seen (nat_lt actor (length w.actors)) (actor_at w actor).running actor c refl
-  event_seen (Go actor granted) = go_seen (nat_lt actor (length w.actors)) (actor_at w actor).running actor granted refl refl
+  event_seen e = event_by (AllSeen Copies inodes) w all e
+      (λ actor c there is.
+      let q = begun (beginning c) w.shared c in
+      set_begun ShowsBy w actor c there (own_shows q (no_show Copies inodes q.next q.ending (λ n. begun_none n c w.shared))) all)
+      (λ actor granted r there is. turned_seen (turn_at w actor granted r) actor there
+      (kind_shows Copies inodes w.numbers.block actor granted w.shared (actor_at w actor).hand r r.next (known.bare actor r is)
+      known.found known.first (all actor r is)))
 
   event_shows : (e : Event) → IsShown (step w e).world
       → ((n : ℕ) → Contains (ids (step w e).world.shared.book.snaps) n → (handle : Handle)
@@ -170,9 +138,7 @@ events_show (e ∷ events) w known stays all =
 ends_seen : (e : Ending) (seen tree : List TreeNode) (told : Answer) → HasSeen e seen tree → reply_of (shown_by e seen) ≡ Done told
     → told ≡ answers.Tree tree
 ends_seen (Refuses fault) seen tree told is reply = cc
-ends_seen Answers seen tree told is reply = let same : answers.Tree seen ≡ told = cc in sym same ∙ ap answers.Tree is
-ends_seen Overtaken seen tree told is reply = let same : answers.Tree seen ≡ told = cc in sym same ∙ ap answers.Tree is
-ends_seen (Drains draining) seen tree told is reply = let same : answers.Tree seen ≡ told = cc in sym same ∙ ap answers.Tree is
+ends_seen other seen tree told is reply = let same : answers.Tree seen ≡ told = cc in sym same ∙ ap answers.Tree is
 
 unpins_seen : (holder : Option ℕ) (snapshot actor : ℕ) (seen tree : List TreeNode) (w : World) (s : Shared) (h : HandState) (r : Running)
     (told : Answer) → HasSeen r.ending seen tree → (turned (if_free holder (unpin_turn snapshot seen s h r)) actor w).reply ≡ Done told

@@ -1,24 +1,25 @@
 -- A show has seen the front of its snapshot's tree, and what is to come of its walk is the rest: kind by kind.
+use Rattle.nv_machine.proofs.StepWays.{IsClearOn}
+use Rattle.nv_machine.proofs.SnapshotWalk.{goes_next, next_on, picked_next}
+use Rattle.nv_machine.proofs.SnapshotsAlone.{alone_walk}
 use Rattle.std.proofs.Common.{◌≡◌, ℕ, zero, suc, ◌-◌, ◌≤◌, ◌++◌, ◌∙◌, Bool, true, false, List, [], ◌∷◌, Option, Some, None, ap, append_assoc, arith, refl, subst, sym}
 use Rattle.std.specs.Option.{option_to_list}
-use Rattle.std.specs.Prelude.{Ok, Err}
-use Rattle.std.proofs.lemmas.Bool.{true≢false}
+use Rattle.std.specs.Prelude.{is_some}
+use Rattle.std.proofs.lemmas.Bool.{true≢false, false≢true}
 use Rattle.std.proofs.lemmas.List.{append-nil}
 use Rattle.std.proofs.lemmas.List.Sums.{sum_by-cons}
 use Rattle.nv_base.specs.declared.numbers.Handle.{Handle}
 use Rattle.nv_book.specs.declared.record.Record.{Record}
-use Rattle.nv_calls.specs.Refusals.{Check as Tests}
 use Rattle.nv_entry.specs.Tree.{root, tree_from}
 use Rattle.nv_entry.specs.declared.node.NodeCopy.{NodeCopy}
 use Rattle.nv_entry.specs.declared.tree.TreeNode.{TreeNode}
 use Rattle.nv_epoch.specs.SnapList.{Snapshots as Living, pins_of}
-use Rattle.nv_machine.specs.Kinds.{grown}
 use Rattle.nv_machine.specs.Reading.{ArePins, pins_at}
-use Rattle.nv_machine.specs.Snapshots.{copies_at, drop_tests, drop_turn, first_showing, if_free, lock_picked_turn, make_tests, make_turn, picked_turn, pin_turn, seen_on, show_or_unpin, show_turn, showing_on, snapshot_turn, visited}
+use Rattle.nv_machine.specs.Snapshots.{copies_at, first_showing, seen_on, show_or_unpin, showing_on, snapshot_turn, visited}
 use Rattle.nv_machine.specs.Step.{kind_turn}
-use Rattle.nv_machine.specs.World.{Append, Back, Check, Close, Draining, Drop, Ending, Ends, Enter, Give, HandState, Leave, Lock, LockPicked, Look, Make, Moves, Next, Number, Open, Pick, Pin, Publish, Ready, Refuses, Release, Retire, Running, Shared, Show, Showing, SnapshotStep, Snapshots, TakeBlocks, TakePages, Turn, Unlock, Unpin, Visit, Waits, empty_hand, owner_at}
-use Rattle.nv_machine.proofs.FiledTurns.{refused_at_once}
-use Rattle.nv_machine.proofs.Kept.{AfterTurn, deed, turn_keeps}
+use Rattle.nv_machine.specs.World.{Back, Ending, Ends, HandState, LockPicked, Moves, Next, Number, Pick, Pin, Refuses, Running, Shared, Show, Showing, SnapshotStep, Snapshots, Turn, Unpin, Waits, empty_hand, owner_at}
+use Rattle.nv_machine.proofs.StepWork.{work}
+use Rattle.nv_machine.proofs.WorkKeeps.{AfterTurn, turn_keeps}
 use Rattle.nv_machine.proofs.Lists.{self}
 use Rattle.nv_machine.proofs.PinSteps.{Fits, OnPins, kind_pins}
 use Rattle.nv_machine.proofs.SnapSteps.{IsBare, back_same, number_same}
@@ -108,12 +109,6 @@ pub no_show : (copies : ℕ → Handle → Option NodeCopy) (inodes : ℕ) (k : 
     → ShowsAt copies inodes k e
 no_show copies inodes (Snapshots (Show snapshot showing)) e none = absurd (true≢false (sym (self snapshot) ∙ none snapshot))
 no_show copies inodes (Snapshots (Unpin snapshot seen)) e none = absurd (true≢false (sym (self snapshot) ∙ none snapshot))
-no_show copies inodes (Snapshots Make) e none = tt
-no_show copies inodes (Snapshots (Drop snapshot)) e none = tt
-no_show copies inodes (Snapshots (Pin snapshot)) e none = tt
-no_show copies inodes (Snapshots (Pick draining)) e none = tt
-no_show copies inodes (Snapshots (LockPicked draining picked)) e none = tt
-no_show copies inodes (Snapshots (Release draining picked)) e none = tt
 no_show copies inodes other e none = tt
 
 -- where pins and shows went together and no pin came, no show came
@@ -135,12 +130,8 @@ module _ (copies : ℕ → Handle → Option NodeCopy) (inodes : ℕ) where
   OnShows Waits = Unit {0}
   OnShows (Ends result t h) = Unit {0}
 
-  free_shows : (holder : Option ℕ) (t : Turn) → OnShows t → OnShows (if_free holder t)
-  free_shows (Some other) t on = tt
-  free_shows None t on = on
-
   module _ (block a : ℕ) (granted : Bool) (s : Shared) (h : HandState) (r : Running) where
-    plain_shows : (k : Next) → ((n : ℕ) → pins_at n k ≡ false) → (deed k block a s h r).shared.book.snaps ≡ s.book.snaps
+    plain_shows : (k : Next) → ((n : ℕ) → pins_at n k ≡ false) → (work k block a s h r).shared.book.snaps ≡ s.book.snaps
         → OnShows (kind_turn k block a granted s h r)
     plain_shows k none same =
         go (kind_turn k block a granted s h r) (λ n. kind_pins n k block a granted s h r)
@@ -159,55 +150,35 @@ module _ (copies : ℕ → Handle → Option NodeCopy) (inodes : ℕ) where
         (found : (snapshot : ℕ) (handle : Handle) → owner_at s handle.ino ≡ None → copies_at s snapshot handle ≡ copies snapshot handle)
         (first : (snapshot pins : ℕ) → pins_of s.book.snaps snapshot ≡ Some pins
         → IsSeen (copies snapshot) (tree_by copies inodes snapshot) (first_showing s)) where
-      make_shows : (tests : Tests) → r.slots ≡ [] → OnShows (make_turn tests s h r)
-      make_shows (Err fault) none = subst OnShows (sym (refused_at_once fault s h r empty none)) tt
-      make_shows (Ok passed) none = tt
-
-      drop_shows : (snapshot : ℕ) (tests : Tests) → r.slots ≡ [] → OnShows (drop_turn snapshot tests s h r)
-      drop_shows snapshot (Err fault) none = subst OnShows (sym (refused_at_once fault s h r empty none)) tt
-      drop_shows snapshot (Ok passed) none = tt
-
-      pin_shows : (snapshot : ℕ) (pins : Option ℕ) → pins_of s.book.snaps snapshot ≡ pins → r.slots ≡ []
-          → OnShows (pin_turn snapshot pins s h r)
-      pin_shows snapshot None is none = subst OnShows (sym (refused_at_once _ s h r empty none)) tt
-      pin_shows snapshot (Some pins) is none =
-          next_shows copies inodes snapshot (first_showing s) r.ending (first snapshot pins is)
-
-      show_shows : (owner : Option ℕ) (given : Bool) (snapshot : ℕ) (showing : Showing) → owner_at s (visited showing.visits).ino ≡ owner
-          → IsSeen (copies snapshot) (tree_by copies inodes snapshot) showing
-          → OnShows (show_turn owner given (copies_at s snapshot (visited showing.visits)) snapshot showing s h r)
-      show_shows (Some other) given snapshot showing is seen = tt
-      show_shows None true snapshot showing is seen =
+      goes_shows : (step : SnapshotStep) → ShowsOn copies inodes step r.ending → goes_next step ≡ true → IsClearOn step s
+          → ShowsOn copies inodes (next_on step s) r.ending
+      goes_shows (Pin snapshot) is on clear = go (pins_of s.book.snaps snapshot) refl clear.1 where
+        go : (pins : Option ℕ) → pins_of s.book.snaps snapshot ≡ pins → is_some pins ≡ true
+            → ShowsOn copies inodes (showing_on snapshot (first_showing s)) r.ending
+        go None q some = cc
+        go (Some pins) q some = next_shows copies inodes snapshot (first_showing s) r.ending (first snapshot pins q)
+      goes_shows (Show snapshot showing) is on clear =
           next_shows copies inodes snapshot (seen_on (copies_at s snapshot (visited showing.visits)) showing) r.ending
-          (visit_seen (copies snapshot) (tree_by copies inodes snapshot) showing (copies_at s snapshot (visited showing.visits)) seen
-          (found snapshot (visited showing.visits) is))
-      show_shows None false snapshot showing is seen = tt
-
-      picked_shows : (deferred : List Record) (draining : Draining) → OnShows (picked_turn deferred draining s h r)
-      picked_shows [] draining = tt
-      picked_shows (picked ∷ deferred) draining = tt
-
-      grown_shows : (given : Bool) (t : Turn) → r.slots ≡ [] → OnShows t → OnShows (grown given t s h r)
-      grown_shows true t none on = on
-      grown_shows false t none on = subst OnShows (sym (refused_at_once _ s h r empty none)) tt
-
-      locked_shows : (owner : Option ℕ) (draining : Draining) (picked : Record) → OnShows (lock_picked_turn owner a draining picked s h r)
-      locked_shows (Some other) draining picked = tt
-      locked_shows None draining picked = tt
+          (visit_seen (copies snapshot) (tree_by copies inodes snapshot) showing (copies_at s snapshot (visited showing.visits)) is
+          (found snapshot (visited showing.visits) clear))
+      goes_shows (Pick draining) is on clear = go s.book.deferred where
+        go : (deferred : List Record) → ShowsOn copies inodes (picked_next deferred draining) r.ending
+        go [] = tt
+        go (picked ∷ deferred) = tt
+      goes_shows (LockPicked draining picked) is on clear = tt
+      goes_shows other is on clear = absurd (false≢true on)
 
       step_shows : (step : SnapshotStep) → IsBare (Snapshots step) h r → ShowsOn copies inodes step r.ending
           → OnShows (snapshot_turn step a granted s h r)
-      step_shows Make bare is = free_shows s.holder _ (make_shows (make_tests s.book.snaps) bare.1)
-      step_shows (Drop snapshot) bare is =
-          free_shows s.holder _ (drop_shows snapshot (drop_tests (pins_of s.book.snaps snapshot)) bare.1)
-      step_shows (Pin snapshot) bare is = free_shows s.holder _ (pin_shows snapshot (pins_of s.book.snaps snapshot) refl bare.1)
-      step_shows (Show snapshot showing) bare is =
-          show_shows (owner_at s (visited showing.visits).ino) granted snapshot showing refl is
-      step_shows (Unpin snapshot seen) bare is = free_shows s.holder _ tt
-      step_shows (Pick draining) bare is =
-          free_shows s.holder _ (grown_shows _ _ bare.1 (picked_shows s.book.deferred draining))
-      step_shows (LockPicked draining picked) bare is = locked_shows _ draining picked
-      step_shows (Release draining picked) bare is = plain_shows (Snapshots (Release draining picked)) (λ n. refl) refl
+      step_shows step bare is = alone_walk OnShows step a granted s h r empty bare.1 (record {
+        waits = tt;
+        refused = λ fault on. tt;
+        goes = goes_shows step is;
+        told = λ on clear. tt;
+        denied = λ snapshot showing on. tt;
+        over = λ draining picked on. tt;
+        none = λ draining on nothing. tt;
+      })
 
     pub kind_shows : (k : Next) → IsBare k h r
         → ((snapshot : ℕ) (handle : Handle) → owner_at s handle.ino ≡ None → copies_at s snapshot handle ≡ copies snapshot handle)
@@ -216,20 +187,5 @@ module _ (copies : ℕ → Handle → Option NodeCopy) (inodes : ℕ) where
         → ShowsAt copies inodes k r.ending → OnShows (kind_turn k block a granted s h r)
     kind_shows (Snapshots step) bare found first is = step_shows bare.0 found first step bare is
     kind_shows Number bare found first is = plain_shows Number (λ n. refl) (number_same s.pool.numbers s h)
-    kind_shows (Look place) bare found first is = plain_shows (Look place) (λ n. refl) refl
-    kind_shows (Lock place) bare found first is = plain_shows (Lock place) (λ n. refl) refl
-    kind_shows Check bare found first is = plain_shows Check (λ n. refl) refl
-    kind_shows (TakeBlocks asked) bare found first is = plain_shows (TakeBlocks asked) (λ n. refl) refl
-    kind_shows (TakePages asked) bare found first is = plain_shows (TakePages asked) (λ n. refl) refl
-    kind_shows Ready bare found first is = plain_shows Ready (λ n. refl) refl
-    kind_shows Enter bare found first is = plain_shows Enter (λ n. refl) refl
-    kind_shows (Append place) bare found first is = plain_shows (Append place) (λ n. refl) refl
-    kind_shows Open bare found first is = plain_shows Open (λ n. refl) refl
-    kind_shows (Publish place) bare found first is = plain_shows (Publish place) (λ n. refl) refl
-    kind_shows Close bare found first is = plain_shows Close (λ n. refl) refl
-    kind_shows (Retire place) bare found first is = plain_shows (Retire place) (λ n. refl) refl
-    kind_shows Leave bare found first is = plain_shows Leave (λ n. refl) refl
-    kind_shows (Unlock place) bare found first is = plain_shows (Unlock place) (λ n. refl) refl
-    kind_shows (Give cpu) bare found first is = plain_shows (Give cpu) (λ n. refl) refl
     kind_shows Back bare found first is = plain_shows Back (λ n. refl) (back_same h.ino s h)
-    kind_shows Visit bare found first is = plain_shows Visit (λ n. refl) refl
+    kind_shows other bare found first is = plain_shows other (λ n. refl) refl

@@ -14,9 +14,9 @@ use Rattle.nv_machine.specs.Snapshots.{drop_tests, drop_turn, if_free, make_test
 use Rattle.nv_machine.specs.Starts.{IsStart}
 use Rattle.nv_machine.specs.Step.{Step, after, kind_turn, reply_of, step, turned}
 use Rattle.nv_machine.specs.World.{Done, Drop, Ending, Event, Go, HandState, Make, Next, Refused, Refuses, Running, SnapshotStep, Snapshots, Turn, Unpin, Waiting, World, actor_at, empty_hand}
-use Rattle.nv_machine.proofs.Events.{goes}
+use Rattle.nv_machine.proofs.SingleEvents.{goes}
 use Rattle.nv_machine.proofs.FiledTurns.{refused_at_once}
-use Rattle.nv_machine.proofs.SnapRefusals.{there_is}
+use Rattle.nv_machine.proofs.OverEvents.{runs_inside}
 use Rattle.nv_machine.proofs.SnapRuns.{all_bare, in_step}
 use Rattle.nv_machine.proofs.SnapSteps.{IsBare}
 
@@ -59,7 +59,7 @@ module _ (w : World) (actor : ℕ) (granted : Bool) (r : Running) (is : (actor_a
   of_event : (P : Step → Type 0) (kind : SnapshotStep) → r.next ≡ Snapshots kind
       → P (turned (kind_turn (Snapshots kind) w.numbers.block actor granted w.shared h r) actor w) → P (step w (Go actor granted))
   of_event P kind next holds =
-      subst P (sym (goes w actor granted r (there_is w actor r is) is).is_turn)
+      subst P (sym (goes w actor granted r (runs_inside w actor r is) is).is_turn)
       (subst (λ (k : Next). P (turned (kind_turn k w.numbers.block actor granted w.shared h r) actor w)) (sym next) holds)
 
   pub unpin_refused : (snapshot : ℕ) (seen : List TreeNode) (fault : Fault) → r.next ≡ Snapshots (Unpin snapshot seen)

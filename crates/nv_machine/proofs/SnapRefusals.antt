@@ -1,10 +1,7 @@
 -- A step that the list of snapshots may refuse waits, or it goes by its tests.
 use Rattle.nv_book.specs.declared.record.Record.{Record}
-use Rattle.std.proofs.Common.{◌≡◌, ◌⊎◌, ℕ, ◌<◌, ◌∙◌, Bool, true, List, [], inl, inr, length, Option, Some, None, ap, refl, subst, sym}
+use Rattle.std.proofs.Common.{◌≡◌, ◌⊎◌, ℕ, Bool, true, List, [], inl, inr, Option, Some, None, refl, subst, sym}
 use Rattle.std.specs.Prelude.{Ok, Err}
-use Rattle.std.proofs.lemmas.Bool.{cases_lt}
-use Rattle.std.proofs.lemmas.List.{get_or_past}
-use Rattle.std.proofs.lemmas.Option.{none-some}
 use Rattle.nv_base.specs.declared.geometry.GeometryNumbers.{GeometryNumbers}
 use Rattle.nv_calls.specs.Refusals.{Check as Tests}
 use Rattle.nv_epoch.specs.SnapList.{pins_of}
@@ -13,8 +10,9 @@ use Rattle.nv_machine.specs.Reading.{GoesBy, is_tested, plain_tests, test_there,
 use Rattle.nv_machine.specs.Snapshots.{drop_turn, if_free, make_tests, make_turn, pin_turn, snapshot_turn}
 use Rattle.nv_machine.specs.Starts.{IsStart}
 use Rattle.nv_machine.specs.Step.{Step, after, kind_turn, step, turned}
-use Rattle.nv_machine.specs.World.{Actor, Drop, Event, Go, HandState, LockPicked, Make, Next, Pick, Pin, Release, Running, Show, SnapshotStep, Snapshots, Turn, Unpin, Waiting, World, actor_at, empty_hand, idle}
-use Rattle.nv_machine.proofs.Events.{goes}
+use Rattle.nv_machine.specs.World.{Drop, Event, Go, HandState, Make, Next, Pin, Running, SnapshotStep, Snapshots, Turn, Waiting, World, actor_at, empty_hand}
+use Rattle.nv_machine.proofs.OverEvents.{runs_inside}
+use Rattle.nv_machine.proofs.SingleEvents.{goes}
 use Rattle.nv_machine.proofs.FiledTurns.{refused_at_once}
 use Rattle.nv_machine.proofs.SnapRuns.{all_bare, refusals_told}
 use Rattle.nv_machine.proofs.SnapSteps.{IsBare}
@@ -50,23 +48,13 @@ module _ (a : ℕ) (granted : Bool) (w : World) (h : HandState) (r : Running) (e
   step_tested (Pin snapshot) is bare =
       free_tested (tests_on (Pin snapshot) w.shared.book.snaps) w.shared.holder _
       (pin_tested snapshot (pins_of w.shared.book.snaps snapshot) bare.1)
-  step_tested (Show snapshot showing) is bare = cc
-  step_tested (Unpin snapshot seen) is bare = cc
-  step_tested (Pick draining) is bare = cc
-  step_tested (LockPicked draining picked) is bare = cc
-  step_tested (Release draining picked) is bare = cc
+  step_tested other is bare = cc
 
   kind_tested : (k : Next) (kind : SnapshotStep) → k ≡ Snapshots kind → is_tested kind ≡ true → IsBare k h r
       → Tested (tests_on kind w.shared.book.snaps) (kind_turn k w.numbers.block a granted w.shared h r)
   kind_tested k kind next is bare =
       subst (λ (n : Next). Tested (tests_on kind w.shared.book.snaps) (kind_turn n w.numbers.block a granted w.shared h r)) (sym next)
       (step_tested kind is (subst (λ (n : Next). IsBare n h r) next bare))
-
-pub there_is : (w : World) (actor : ℕ) (r : Running) → (actor_at w actor).running ≡ Some r → actor < length w.actors
-there_is w actor r is = elim (cases_lt actor (length w.actors)) [
-  | inl low ↦ low
-  | inr past ↦ absurd (none-some r (sym (ap (λ (x : Actor). x.running) (get_or_past w.actors actor idle past)) ∙ is))
-]
 
 pub replies_told : (g : GeometryNumbers) (start : World) (records : List Record) (events : List Event) (actor : ℕ)
     (granted : Bool) (r : Running) (kind : SnapshotStep)
@@ -81,7 +69,7 @@ replies_told g start records events actor granted r kind is_start is next tested
     subst (λ (tests : Tests). ((step w (Go actor granted)).reply ≡ Waiting) ⊎ GoesBy tests (step w (Go actor granted)).reply)
     (refusals_told g start records events kind is_start)
     (subst (λ (made : Step). (made.reply ≡ Waiting) ⊎ GoesBy (tests_on kind w.shared.book.snaps) made.reply)
-    (sym (goes w actor granted r (there_is w actor r is) is).is_turn)
+    (sym (goes w actor granted r (runs_inside w actor r is) is).is_turn)
     (kind_tested actor granted w h r (empty_of r.next bare next) r.next kind next tested bare)) where
       empty_of : (k : Next) → IsBare k (actor_at (after start events) actor).hand r → k ≡ Snapshots kind
           → (actor_at (after start events) actor).hand ≡ empty_hand

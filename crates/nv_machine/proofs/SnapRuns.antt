@@ -16,11 +16,11 @@ use Rattle.nv_machine.specs.Snapshots.{drop_tests}
 use Rattle.nv_machine.specs.Starts.{IsStart}
 use Rattle.nv_machine.specs.Step.{after, step}
 use Rattle.nv_epoch.specs.declared.snapshot.Snapshot.{Snapshot}
-use Rattle.nv_machine.specs.World.{Shared, Drop, Event, LockPicked, Make, Pick, Pin, Release, Show, SnapshotStep, Unpin, World}
+use Rattle.nv_machine.specs.World.{Shared, Drop, Event, Make, Pin, SnapshotStep, World}
 use Rattle.nv_machine.proofs.FromScratch.{all_numbers}
 use Rattle.nv_machine.proofs.Reached.{reached}
 use Rattle.nv_machine.proofs.SnapSteps.{AreBare, are_bare, event_snaps}
-use Rattle.nv_machine.proofs.SnapsAlike.{AreAlike, AreBefore, as_many, deed_alike, deed_before, deed_epoch, deed_most, same_pins}
+use Rattle.nv_machine.proofs.SnapshotCopies.{AreAlike, AreBefore, as_many, deed_alike, deed_before, deed_epoch, deed_most, same_pins}
 use Rattle.nv_machine.proofs.StartRecords.{first_before}
 
 pub all_bare : (g : GeometryNumbers) (start : World) (records : List Record) (events : List Event) → IsStart g start records
@@ -94,11 +94,7 @@ refusals_same g l p Make is =
 refusals_same g l p (Drop snapshot) is =
     same_drop (pins_of l snapshot) ∙ ap test_pins (same_pins Any l.living p.copies snapshot is.alike)
 refusals_same g l p (Pin snapshot) is = ap test_there (same_pins Any l.living p.copies snapshot is.alike)
-refusals_same g l p (Show snapshot showing) is = refl
-refusals_same g l p (Unpin snapshot seen) is = refl
-refusals_same g l p (Pick draining) is = refl
-refusals_same g l p (LockPicked draining picked) is = refl
-refusals_same g l p (Release draining picked) is = refl
+refusals_same g l p other is = refl
 
 pub refusals_told : (g : GeometryNumbers) (start : World) (records : List Record) (events : List Event) (kind : SnapshotStep)
     → IsStart g start records

@@ -12,7 +12,7 @@ use Rattle.nv_epoch.specs.SnapList.{ids}
 use Rattle.nv_machine.specs.Format.{formatted}
 use Rattle.nv_machine.specs.Step.{step}
 use Rattle.nv_machine.specs.World.{Done, Go, Moved, Refused, Reply, Started, World}
-use Rattle.nv_machine.proofs.Scripts.{DoCall, Goes, Line, StartCall, device, handle, line, play, played, shown, space}
+use Rattle.nv_machine.proofs.ScriptRows.{DoCall, Goes, Line, StartCall, device, handle, line, play, played, shown, space}
 
 abbrev pub snap : Line
 snap = DoCall 0 (call.Snapshots on.Snap)

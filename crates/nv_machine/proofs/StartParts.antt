@@ -14,7 +14,7 @@ use Rattle.nv_book.specs.declared.record.Record.{Record}
 use Rattle.nv_cell.specs.Cell.{CellState, IsCell, log_of, mark_or_fresh, page_block}
 use Rattle.nv_cell.specs.Marks.{is_current, is_there, mark_at}
 use Rattle.nv_cell.specs.declared.mark.Mark.{Mark}
-use Rattle.nv_cell.specs.declared.mark.Mark.TheVariants.{Current, Kept, Killed, Out}
+use Rattle.nv_cell.specs.declared.mark.Mark.TheVariants.{Current}
 use Rattle.nv_entry.specs.Covered.{is_covered, part_total}
 use Rattle.nv_entry.specs.declared.item.Entry.{Entry}
 use Rattle.nv_entry.specs.Log.{pairs}
@@ -33,9 +33,9 @@ use Rattle.nv_machine.specs.Versions.{AreCounted, HasUnseenBy}
 use Rattle.nv_machine.specs.Whole.{HaveTheirParts}
 use Rattle.nv_machine.specs.World.{Actor, World, actor_at, cell_at, idle, no_cell}
 use Rattle.nv_machine.proofs.CellSteps.{empty_pages}
-use Rattle.nv_machine.proofs.EachOf.{all_filter}
+use Rattle.nv_machine.proofs.EachElement.{all_filter}
 use Rattle.nv_machine.proofs.Journals.{closed_tail}
-use Rattle.nv_machine.proofs.Parted.{empty_parted}
+use Rattle.nv_machine.proofs.PartPlaces.{empty_parted}
 
 -- ---- records are of slots
 
@@ -66,9 +66,7 @@ current_there : (marks : List Mark) (n : ℕ) → is_current (mark_at marks n) �
 current_there [] n e = cc
 current_there (m ∷ marks) (suc n) e = current_there marks n e
 current_there (Current ∷ marks) zero e = refl
-current_there (Killed ∷ marks) zero e = cc
-current_there (Kept ∷ marks) zero e = cc
-current_there (Out ∷ marks) zero e = cc
+current_there other zero e = cc
 
 -- a log that ends at its tail is published as a whole
 whole_log : (cell : CellState) → cell.chain.tail ≡ length cell.chain.entries → log_of cell ≡ cell.chain.entries

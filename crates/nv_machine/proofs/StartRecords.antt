@@ -28,7 +28,7 @@ use Rattle.nv_machine.proofs.FiledTurns.{Listed}
 use Rattle.nv_machine.proofs.FiledWorlds.{AreMarked, picked_in}
 use Rattle.nv_machine.proofs.Pairs.{IsRecordOf}
 use Rattle.nv_machine.proofs.PartsFor.{none_of}
-use Rattle.nv_machine.proofs.SnapsAlike.{AreBefore}
+use Rattle.nv_machine.proofs.SnapshotCopies.{AreBefore}
 
 -- ---- the living snapshots
 

@@ -1,34 +1,33 @@
 -- What a step leaves of versions: a publish counts one more, in a slot that has not seen its commit.
-use Rattle.std.proofs.Common.{◌≡◌, ℕ, ◌+◌, ◌<◌, ◌≤◌, ◌==◌, ◌∙◌, Bool, true, false, List, [], ◌∷◌, Option, Some, None, ap, arith, drop, if◌then◌else◌, length, nat_lt, refl, set, subst, sym, take}
-use Rattle.std.specs.Prelude.{nat_le, slice_index_or}
+use Rattle.std.proofs.Common.{◌≡◌, ℕ, ◌+◌, ◌<◌, ◌≤◌, ◌==◌, ◌∙◌, Bool, true, false, List, [], ◌∷◌, Option, Some, None, ap, arith, drop, if◌then◌else◌, length, nat_lt, refl, subst, sym, take}
+use Rattle.std.specs.Prelude.{nat_le}
 use Rattle.std.proofs.lemmas.Bool.{false≢true, leb-false}
 use Rattle.nv_alloc.specs.Block.{BlockValue}
 use Rattle.nv_alloc.specs.Numbers.{has}
 use Rattle.nv_base.specs.declared.limits.TheConstants.{NUMBER}
-use Rattle.nv_calls.specs.Retiring.{erased, released}
-use Rattle.nv_calls.proofs.Next.{by_erased, keeps}
+use Rattle.nv_calls.proofs.Next.{by_erased}
 use Rattle.nv_cell.specs.Append.{appended, blocks_for}
 use Rattle.nv_cell.specs.Cell.{CellState, published}
 use Rattle.nv_entry.specs.Blocks.{item_blocks}
 use Rattle.nv_entry.specs.declared.item.Entry.{Entry}
-use Rattle.nv_epoch.specs.SnapList.{ids}
 use Rattle.nv_machine.specs.Frame.{IsFramed, Lent, Stays, lent}
-use Rattle.nv_machine.specs.Kinds.{enter_turn, entries_for, first_killed, retired_book, retired_cell, with_entries, with_pages}
+use Rattle.nv_machine.specs.Kinds.{enter_turn, entries_for, with_entries, with_pages}
 use Rattle.nv_machine.specs.Locks.{AreSlots, HoldsIts, commits_at, held_at, is_owner}
 use Rattle.nv_machine.specs.Reads.{is_written, pages_needed, slot_at, written_slots}
 use Rattle.nv_machine.specs.Sequence.{closing, opening, publishing, retiring}
 use Rattle.nv_machine.specs.Step.{kind_turn}
 use Rattle.nv_machine.specs.Versions.{AreVersions, HasUnseen, to_publish}
-use Rattle.nv_machine.specs.World.{Append, Back, Check, Close, Ends, Enter, Give, HandState, Leave, Lock, Look, Moves, Next, Number, Open, Publish, Ready, Retire, Running, Shared, TakeBlocks, TakePages, Turn, Unlock, Visit, Waits, cell_at, no_cell, with_book, with_cell, Drop, LockPicked, Make, Pick, Pin, Release, Show, Snapshots, Unpin}
-use Rattle.nv_machine.proofs.Entered.{OnShared, end_shared}
-use Rattle.nv_machine.proofs.Framed.{framed}
-use Rattle.nv_machine.proofs.Holding.{OnLocks}
-use Rattle.nv_machine.proofs.Kept.{AfterTurn, back_deed, deed, end_keeps, number_deed, turn_keeps}
+use Rattle.nv_machine.specs.World.{Append, Close, Ends, Enter, HandState, Leave, Moves, Next, Open, Publish, Retire, Running, Shared, Turn, Waits, cell_at, Make, Snapshots}
+use Rattle.nv_machine.proofs.AppendsToCome.{OnShared, end_shared}
+use Rattle.nv_machine.proofs.StepFrames.{framed}
+use Rattle.nv_machine.proofs.LocksAlongCalls.{OnLocks}
+use Rattle.nv_machine.proofs.StepWork.{work}
+use Rattle.nv_machine.proofs.WorkKeeps.{AfterTurn, end_keeps, turn_keeps}
 use Rattle.nv_machine.proofs.Lists.{drop_apart, has_drop, has_filter, has_later, or_right, rising_filter, self, written_inside}
-use Rattle.nv_machine.proofs.Locked.{Before, locks_kept}
+use Rattle.nv_machine.proofs.LocksHeld.{Before, locks_kept}
 use Rattle.nv_machine.proofs.LogsKept.{cell_set}
-use Rattle.nv_machine.proofs.Written.{written_there}
-use Rattle.nv_machine.proofs.KeptTurns.{lent_inside_own}
+use Rattle.nv_machine.proofs.WrittenSlots.{written_there}
+use Rattle.nv_machine.proofs.CellChanges.{cells_after, commit_stays, enters, removal}
 
 -- ---- cells
 
@@ -81,22 +80,7 @@ pub publish_held : (next : Next) (r : Running) (ino : ℕ) → has (to_publish n
 publish_held (Append place) r ino there = has_filter (is_written r.plan) r.slots ino there
 publish_held Open r ino there = has_filter (is_written r.plan) r.slots ino there
 publish_held (Publish place) r ino there = has_filter (is_written r.plan) r.slots ino (has_later place (written_slots r) ino there)
-publish_held (Snapshots step) r ino there = absurd (false≢true there)
-publish_held Number r ino there = absurd (false≢true there)
-publish_held (Look place) r ino there = absurd (false≢true there)
-publish_held (Lock place) r ino there = absurd (false≢true there)
-publish_held Check r ino there = absurd (false≢true there)
-publish_held (TakeBlocks asked) r ino there = absurd (false≢true there)
-publish_held (TakePages asked) r ino there = absurd (false≢true there)
-publish_held Ready r ino there = absurd (false≢true there)
-publish_held Enter r ino there = absurd (false≢true there)
-publish_held Close r ino there = absurd (false≢true there)
-publish_held (Retire place) r ino there = absurd (false≢true there)
-publish_held Leave r ino there = absurd (false≢true there)
-publish_held (Unlock place) r ino there = absurd (false≢true there)
-publish_held (Give cpu) r ino there = absurd (false≢true there)
-publish_held Back r ino there = absurd (false≢true there)
-publish_held Visit r ino there = absurd (false≢true there)
+publish_held other r ino there = absurd (false≢true there)
 
 -- ---- the call that moves
 
@@ -141,7 +125,7 @@ module _ (block a : ℕ) (s : Shared) (h : HandState) (r : Running) (are : AreVe
 
   append_unseen : (place : ℕ) → Before a s (Append place) r
       → ((ino : ℕ) → has written ino ≡ true → (cell_at s ino).version < r.commit)
-      → (ino : ℕ) → has written ino ≡ true → (cell_at (deed (Append place) block a s h r).shared ino).version < r.commit
+      → (ino : ℕ) → has written ino ≡ true → (cell_at (work (Append place) block a s h r).shared ino).version < r.commit
   append_unseen place b yet ino there =
       let slot = slot_at written place in
       let pages = take (pages_needed s r.plan slot) h.pages in
@@ -152,7 +136,7 @@ module _ (block a : ℕ) (s : Shared) (h : HandState) (r : Running) (are : AreVe
 
   publish_unseen : (place : ℕ) → Before a s (Publish place) r
       → ((ino : ℕ) → has (drop place written) ino ≡ true → (cell_at s ino).version < r.commit)
-      → (ino : ℕ) → has (drop (place + 1) written) ino ≡ true → (cell_at (deed (Publish place) block a s h r).shared ino).version < r.commit
+      → (ino : ℕ) → has (drop (place + 1) written) ino ≡ true → (cell_at (work (Publish place) block a s h r).shared ino).version < r.commit
   publish_unseen place b yet ino there =
       let slot = slot_at written place in
       cell_set s slot (published (cell_at s slot)) ino (λ (c : CellState). c.version < r.commit) (inside (Publish place) place b b.inside)
@@ -168,13 +152,6 @@ module _ (block a : ℕ) (s : Shared) (h : HandState) (r : Running) (are : AreVe
   pub turn_unseen : (k : Next) (granted : Bool) → Before a s k r
       → (commits_at k ≡ true → (ino : ℕ) → has (to_publish k written) ino ≡ true → (cell_at s ino).version < r.commit)
       → OnUnseen (kind_turn k block a granted s h r)
-  turn_unseen Number granted b yet = silent Number granted refl refl b
-  turn_unseen (Look place) granted b yet = silent (Look place) granted refl refl b
-  turn_unseen (Lock place) granted b yet = silent (Lock place) granted refl refl b
-  turn_unseen Check granted b yet = silent Check granted refl refl b
-  turn_unseen (TakeBlocks asked) granted b yet = silent (TakeBlocks asked) granted refl refl b
-  turn_unseen (TakePages asked) granted b yet = silent (TakePages asked) granted refl refl b
-  turn_unseen Ready granted b yet = silent Ready granted refl refl b
   turn_unseen Enter granted b yet =
       enter_unseen a s.holder _ granted s h r _ refl are (locks_kept Enter block a granted s h r b)
   turn_unseen (Append place) granted b yet = λ e ino there. append_unseen place b (yet refl) ino
@@ -189,44 +166,38 @@ module _ (block a : ℕ) (s : Shared) (h : HandState) (r : Running) (are : AreVe
       (none_retiring (place + 1) written (nat_lt (place + 1) (length written))) there)
   turn_unseen Leave granted b yet =
       ended a s (record s { holder = None }) _ _ refl (end_shared r.slots _ _ h r) (locks_kept Leave block a granted s h r b)
-  turn_unseen (Unlock place) granted b yet = silent (Unlock place) granted refl refl b
-  turn_unseen (Give cpu) granted b yet = silent (Give cpu) granted refl refl b
-  turn_unseen Back granted b yet = silent Back granted refl refl b
-  turn_unseen Visit granted b yet = silent Visit granted refl refl b
   turn_unseen (Snapshots Make) granted b yet = silent (Snapshots Make) granted refl refl b
-  turn_unseen (Snapshots (Drop snapshot)) granted b yet = silent (Snapshots (Drop snapshot)) granted refl refl b
-  turn_unseen (Snapshots (Pin snapshot)) granted b yet = silent (Snapshots (Pin snapshot)) granted refl refl b
-  turn_unseen (Snapshots (Show snapshot showing)) granted b yet = silent (Snapshots (Show snapshot showing)) granted refl refl b
-  turn_unseen (Snapshots (Unpin snapshot seen)) granted b yet = silent (Snapshots (Unpin snapshot seen)) granted refl refl b
-  turn_unseen (Snapshots (Pick draining)) granted b yet = silent (Snapshots (Pick draining)) granted refl refl b
-  turn_unseen (Snapshots (LockPicked draining picked)) granted b yet = silent (Snapshots (LockPicked draining picked)) granted refl refl b
-  turn_unseen (Snapshots (Release draining picked)) granted b yet = silent (Snapshots (Release draining picked)) granted refl refl b
+  turn_unseen other granted b yet = silent other granted refl refl b
 
   -- ---- all cells
 
-  -- where one cell changes
-  with_version : (t : Shared) (slot : ℕ) (cell : CellState) → t.cells ≡ s.cells → t.book.commit ≡ s.book.commit → slot < length s.cells
-      → cell.version ≤ s.book.commit → AreVersions (with_cell slot cell t)
-  with_version t slot cell cells commit low new = record {
-    cells = λ ino. subst (λ (l : List CellState). (slice_index_or (set l slot cell) ino no_cell).version ≤ t.book.commit) (sym cells)
-        (subst (λ (n : ℕ). (cell_at (with_cell slot cell s) ino).version ≤ n) (sym commit)
-        (cell_set s slot cell ino (λ (c : CellState). c.version ≤ s.book.commit) low (λ is. new) (λ ne. are.cells ino)));
-    limit = omega (arith, commit, are.limit);
-  }
-
-  number_versions : (numbers : List ℕ) → AreVersions (number_deed numbers s h).shared
-  number_versions [] = are
-  number_versions (ino ∷ numbers) = record { cells = are.cells; limit = are.limit }
-
-  back_versions : (number : Option ℕ) → AreVersions (back_deed number s h).shared
-  back_versions None = are
-  back_versions (Some ino) = record { cells = are.cells; limit = are.limit }
+  work_versions : (k : Next) → enters k ≡ false → Before a s k r
+      → (commits_at k ≡ true → (ino : ℕ) → has (to_publish k written) ino ≡ true → (cell_at s ino).version < s.book.commit)
+      → AreVersions (work k block a s h r).shared
+  work_versions k out b yet =
+      let commit = commit_stays k block a s h r out in
+      record { cells = λ ino. let low = each ino in omega (arith, low, commit); limit = omega (arith, commit, are.limit) } where
+        each : (ino : ℕ) → (cell_at (work k block a s h r).shared ino).version ≤ s.book.commit
+        each = cells_after (λ (ino : ℕ) (c : CellState). c.version ≤ s.book.commit) block a s h r are.cells k b (record {
+          appends = λ place is lt low.
+              let slot = slot_at written place in
+              subst (λ (n : ℕ). n ≤ s.book.commit)
+              (sym (appended_version (entries_for r slot) h.blocks (take (pages_needed s r.plan slot) h.pages) (cell_at s slot)))
+              (are.cells slot);
+          publishes = λ place is lt low.
+              let slot = slot_at written place in
+              let here : has (drop place written) slot ≡ true = has_drop place written slot lt ∙ (let e = self slot in rw e refl) in
+              let yet_to = yet (ap commits_at is) slot (subst (λ (k : Next). has (to_publish k written) slot ≡ true) (sym is) here) in
+              omega (arith, yet_to);
+          removes = λ is low left.
+              let x = removal k s h r in
+              let same : x.cell.version ≤ s.book.commit =
+              subst (λ (n : ℕ). n ≤ s.book.commit) (sym left.keeps.version) (are.cells x.slot) in
+              by_erased (λ (c : CellState). c.version ≤ s.book.commit) x.cell same same;
+        })
 
   abbrev After : Turn → Type 0
   After t = AfterTurn (λ (u : Shared) (x : HandState). AreVersions u) t
-
-  keeps_versions : (k : Next) (granted : Bool) → AreVersions (deed k block a s h r).shared → After (kind_turn k block a granted s h r)
-  keeps_versions k granted new = turn_keeps (λ (u : Shared) (x : HandState). AreVersions u) k block a granted s h r are new
 
   enter_versions : (holder : Option ℕ) (last granted : Bool) → nat_le NUMBER s.book.commit ≡ last
       → After (enter_turn holder last granted a s h r)
@@ -241,60 +212,6 @@ module _ (block a : ℕ) (s : Shared) (h : HandState) (r : Running) (are : AreVe
   pub turn_versions : (k : Next) (granted : Bool) → Before a s k r
       → (commits_at k ≡ true → (ino : ℕ) → has (to_publish k written) ino ≡ true → (cell_at s ino).version < s.book.commit)
       → After (kind_turn k block a granted s h r)
-  turn_versions Number granted b yet = keeps_versions Number granted (number_versions s.pool.numbers)
-  turn_versions (Look place) granted b yet = keeps_versions (Look place) granted are
-  turn_versions (Lock place) granted b yet =
-      keeps_versions (Lock place) granted (record { cells = are.cells; limit = are.limit })
-  turn_versions Check granted b yet = keeps_versions Check granted are
-  turn_versions (TakeBlocks asked) granted b yet =
-      keeps_versions (TakeBlocks asked) granted (record { cells = are.cells; limit = are.limit })
-  turn_versions (TakePages asked) granted b yet =
-      keeps_versions (TakePages asked) granted (record { cells = are.cells; limit = are.limit })
-  turn_versions Ready granted b yet = keeps_versions Ready granted are
   turn_versions Enter granted b yet = enter_versions s.holder (nat_le NUMBER s.book.commit) granted refl
-  turn_versions (Append place) granted b yet =
-      let slot = slot_at written place in
-      let pages = take (pages_needed s r.plan slot) h.pages in
-      with_version s slot _ refl refl (inside (Append place) place b b.inside)
-      (subst (λ (n : ℕ). n ≤ s.book.commit) (sym (appended_version (entries_for r slot) h.blocks pages (cell_at s slot))) (are.cells slot))
-  turn_versions Open granted b yet = record { cells = are.cells; limit = are.limit }
-  turn_versions (Publish place) granted b yet =
-      let slot = slot_at written place in
-      let here : has (drop place written) slot ≡ true = has_drop place written slot b.inside ∙ (let e = self slot in rw e refl) in
-      let low : (cell_at s slot).version < s.book.commit = yet refl slot here in
-      with_version s slot (published (cell_at s slot)) refl refl (inside (Publish place) place b b.inside) (omega (arith, low))
-  turn_versions Close granted b yet = record { cells = are.cells; limit = are.limit }
-  turn_versions (Retire place) granted b yet =
-      let slot = slot_at written place in
-      let killed = first_killed h.killed in
-      let cell = retired_cell slot killed s r in
-      let same : cell.version ≤ s.book.commit = subst (λ (n : ℕ). n ≤ s.book.commit)
-      (sym (keeps (ids s.book.snaps) slot r.epoch killed (cell_at s slot)).version) (are.cells slot) in
-      with_version (with_book (retired_book slot killed s r) s) slot (erased cell) refl refl (inside (Retire place) place b b.inside)
-      (by_erased (λ (c : CellState). c.version ≤ s.book.commit) cell same same)
-  turn_versions Leave granted b yet = keeps_versions Leave granted (record { cells = are.cells; limit = are.limit })
-  turn_versions (Unlock place) granted b yet =
-      keeps_versions (Unlock place) granted (record { cells = are.cells; limit = are.limit })
-  turn_versions (Give cpu) granted b yet = keeps_versions (Give cpu) granted (record { cells = are.cells; limit = are.limit })
-  turn_versions Back granted b yet = keeps_versions Back granted (back_versions h.ino)
-  turn_versions Visit granted b yet = keeps_versions Visit granted are
-  turn_versions (Snapshots Make) granted b yet =
-      keeps_versions (Snapshots Make) granted (record { cells = are.cells; limit = are.limit })
-  turn_versions (Snapshots (Drop snapshot)) granted b yet =
-      keeps_versions (Snapshots (Drop snapshot)) granted (record { cells = are.cells; limit = are.limit })
-  turn_versions (Snapshots (Pin snapshot)) granted b yet =
-      keeps_versions (Snapshots (Pin snapshot)) granted (record { cells = are.cells; limit = are.limit })
-  turn_versions (Snapshots (Show snapshot showing)) granted b yet = keeps_versions (Snapshots (Show snapshot showing)) granted are
-  turn_versions (Snapshots (Unpin snapshot seen)) granted b yet =
-      keeps_versions (Snapshots (Unpin snapshot seen)) granted (record { cells = are.cells; limit = are.limit })
-  turn_versions (Snapshots (Pick draining)) granted b yet =
-      keeps_versions (Snapshots (Pick draining)) granted (record { cells = are.cells; limit = are.limit })
-  turn_versions (Snapshots (LockPicked draining picked)) granted b yet =
-      keeps_versions (Snapshots (LockPicked draining picked)) granted (record { cells = are.cells; limit = are.limit })
-  turn_versions (Snapshots (Release draining picked)) granted b yet =
-      let cell = released picked (cell_at s picked.ino) in
-      let same : cell.version ≤ s.book.commit = are.cells picked.ino in
-      keeps_versions (Snapshots (Release draining picked)) granted
-      (with_version s picked.ino (erased cell) refl refl
-      (lent_inside_own (Snapshots (Release draining picked)) a s r b picked.ino refl).0
-      (by_erased (λ (c : CellState). c.version ≤ s.book.commit) cell same same))
+  turn_versions other granted b yet =
+      turn_keeps (λ (u : Shared) (x : HandState). AreVersions u) other block a granted s h r are (work_versions other refl b yet)

@@ -23,7 +23,7 @@ use Rattle.nv_machine.specs.Recorded.{AreRecordedOnce, records_in}
 use Rattle.nv_machine.specs.Settled.{settled_copies, snapshot_tree, tree_of}
 use Rattle.nv_machine.specs.Step.{step}
 use Rattle.nv_machine.specs.World.{Done, Drop, Event, Go, Refused, Start, World, cell_at, idle, list_at, with_book, with_cell}
-use Rattle.nv_machine.proofs.Scripts.{DoCall, Goes, StartCall, device, handle}
+use Rattle.nv_machine.proofs.ScriptRows.{DoCall, Goes, StartCall, device, handle}
 use Rattle.nv_machine.proofs.SnapshotRows.{after_lines, deferring, made, page, snap, twice_held, twice_written, write}
 
 -- a world whose book has these manifests and this deferred list

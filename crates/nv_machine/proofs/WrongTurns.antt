@@ -6,8 +6,8 @@ use Rattle.nv_machine.specs.Pages.{HasLogPages}
 use Rattle.nv_machine.specs.Sequence.{started}
 use Rattle.nv_machine.specs.Wanted.{TakesInTurn, data_wanted, lacking}
 use Rattle.nv_machine.specs.World.{Check, HandState, Moves, Next, Ready, Running, Shared, TakeBlocks, TakePages, Turn, World, actor_at}
-use Rattle.nv_machine.proofs.MoreRows.{two_takings}
-use Rattle.nv_machine.proofs.Scripts.{device, handle, played}
+use Rattle.nv_machine.proofs.LimitRows.{two_takings}
+use Rattle.nv_machine.proofs.ScriptRows.{device, handle, played}
 
 -- after so many of its steps: 1 stands before the check, 2 and 3 before the takings, 4 before the ready
 abbrev at : ℕ → World

@@ -1,4 +1,4 @@
-use Rattle.nv_machine.proofs.Moves.{calls_stop, moves_end, steps_few}
+use Rattle.nv_machine.proofs.MoveBounds.{calls_stop, moves_end, steps_few}
 use Rattle.nv_machine.proofs.call_laws.no_call_goes_on_for_ever.Goals as goal
 
 pub returns-clause-steps : goal.returns-clause-steps

@@ -1,6 +1,6 @@
-use Rattle.nv_machine.proofs.Erasing.{hand_has_it, none_stays, retire_erases}
+use Rattle.nv_machine.proofs.ErasingLaw.{hand_has_it, none_stays, retire_erases}
 use Rattle.nv_machine.proofs.Releasing.{release_erases, released_has_it}
-use Rattle.nv_machine.proofs.Returning.{number_returns}
+use Rattle.nv_machine.proofs.NumbersReturn.{number_returns}
 use Rattle.nv_machine.proofs.erasing_laws.gone_inodes_are_erased.Goals as goal
 
 pub returns-clause-retire : goal.returns-clause-retire

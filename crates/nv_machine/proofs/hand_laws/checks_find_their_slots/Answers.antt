@@ -1,4 +1,4 @@
-use Rattle.nv_machine.proofs.Checking.{held_tails, own_handles, own_number, some_slots, taken_none}
+use Rattle.nv_machine.proofs.SlotsBeforeCheck.{held_tails, own_handles, own_number, some_slots, taken_none}
 use Rattle.nv_machine.proofs.FitsEvents.{all_known}
 use Rattle.nv_machine.proofs.FromScratch.{all_numbers}
 use Rattle.nv_machine.proofs.PoolLaw.{all_pooled}

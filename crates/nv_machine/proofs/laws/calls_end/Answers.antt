@@ -1,4 +1,4 @@
-use Rattle.nv_machine.proofs.Events.{events_bound, start_bound}
+use Rattle.nv_machine.proofs.SingleEvents.{events_bound, start_bound}
 use Rattle.nv_machine.proofs.laws.calls_end.Goals as goal
 
 pub returns-clause-starts : goal.returns-clause-starts

@@ -1,4 +1,4 @@
-use Rattle.nv_machine.proofs.Wanting.{takes_in_turn}
+use Rattle.nv_machine.proofs.TakingOrder.{takes_in_turn}
 use Rattle.nv_machine.proofs.laws.data_is_taken_before_log_pages.Goals as goal
 
 pub returns : goal.returns

@@ -1,4 +1,4 @@
-use Rattle.nv_machine.proofs.InOrder.{events_order, new_order}
+use Rattle.nv_machine.proofs.LogsInOrder.{events_order, new_order}
 use Rattle.nv_machine.proofs.StartParts.{first_order}
 use Rattle.nv_machine.proofs.laws.ids_rise.Goals as goal
 

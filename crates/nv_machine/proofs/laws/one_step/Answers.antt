@@ -1,4 +1,4 @@
-use Rattle.nv_machine.proofs.Events.{busy, goes, idles, nobody, starts}
+use Rattle.nv_machine.proofs.SingleEvents.{busy, goes, idles, nobody, starts}
 use Rattle.nv_machine.proofs.laws.one_step.Goals as goal
 
 pub returns-clause-goes : goal.returns-clause-goes

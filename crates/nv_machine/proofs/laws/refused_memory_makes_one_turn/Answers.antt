@@ -1,5 +1,5 @@
-use Rattle.nv_machine.proofs.Denied.{denied_alike, ungrown}
-use Rattle.nv_machine.proofs.Granted.{granted_none}
+use Rattle.nv_machine.proofs.RefusedMemory.{denied_alike, ungrown}
+use Rattle.nv_machine.proofs.GrantedMemory.{granted_none}
 use Rattle.nv_machine.proofs.laws.refused_memory_makes_one_turn.Goals as goal
 
 pub returns-clause-refused : goal.returns-clause-refused

@@ -1,4 +1,4 @@
-use Rattle.nv_machine.proofs.Exactly.{data_taken, number_taken, pages_taken}
+use Rattle.nv_machine.proofs.LowestTaken.{data_taken, number_taken, pages_taken}
 use Rattle.nv_machine.proofs.laws.the_lowest_are_taken.Goals as goal
 
 pub returns-clause-blocks : goal.returns-clause-blocks

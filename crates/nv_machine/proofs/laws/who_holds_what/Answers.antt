@@ -1,4 +1,4 @@
-use Rattle.nv_machine.proofs.Locks.{events_locks, has_lent}
+use Rattle.nv_machine.proofs.LocksOverEvents.{events_locks, has_lent}
 use Rattle.nv_machine.proofs.StartParts.{first_locks}
 use Rattle.nv_machine.proofs.laws.who_holds_what.Goals as goal
 

@@ -1,5 +1,5 @@
-use Rattle.nv_machine.proofs.Alone.{never_waits}
-use Rattle.nv_machine.proofs.Locks.{waits}
+use Rattle.nv_machine.proofs.AloneNeverWaits.{never_waits}
+use Rattle.nv_machine.proofs.LocksOverEvents.{waits}
 use Rattle.nv_machine.proofs.laws.who_waits.Goals as goal
 
 pub returns-clause-why : goal.returns-clause-why

@@ -1,4 +1,4 @@
-use Rattle.nv_machine.proofs.Effects.{point_effect, point_sound}
+use Rattle.nv_machine.proofs.CommitEffects.{point_effect, point_sound}
 use Rattle.nv_machine.proofs.plain_laws.a_commit_point_has_its_effect.Goals as goal
 
 pub returns-clause-nodes : goal.returns-clause-nodes

@@ -1,5 +1,5 @@
-use Rattle.nv_machine.proofs.GrownRuns.{events_grown, new_grown}
-use Rattle.nv_machine.proofs.GrownTurns.{point_settles}
+use Rattle.nv_machine.proofs.UnsettledRuns.{events_grown, new_grown}
+use Rattle.nv_machine.proofs.UnsettledTurns.{point_settles}
 use Rattle.nv_machine.proofs.StartParts.{first_grown}
 use Rattle.nv_machine.proofs.plain_laws.a_commit_settles_its_entries.Goals as goal
 

@@ -1,4 +1,4 @@
-use Rattle.nv_machine.proofs.EndsRuns.{commits_something, is_decided, is_undecided}
+use Rattle.nv_machine.proofs.DecidedRuns.{commits_something, is_decided, is_undecided}
 use Rattle.nv_machine.proofs.plain_laws.calls_are_decided_once.Goals as goal
 
 pub returns-clause-done : goal.returns-clause-done

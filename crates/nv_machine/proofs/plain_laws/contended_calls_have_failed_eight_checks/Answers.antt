@@ -1,4 +1,4 @@
-use Rattle.nv_machine.proofs.Contended.{eight_failed, events_rounds, start_rounds}
+use Rattle.nv_machine.proofs.RoundsOfLooks.{eight_failed, events_rounds, start_rounds}
 use Rattle.nv_machine.proofs.plain_laws.contended_calls_have_failed_eight_checks.Goals as goal
 
 pub returns-clause-starts : goal.returns-clause-starts

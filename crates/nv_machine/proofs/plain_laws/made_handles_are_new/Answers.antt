@@ -1,4 +1,4 @@
-use Rattle.nv_machine.proofs.Fresh.{made_node, made_once, no_node_before}
+use Rattle.nv_machine.proofs.NewHandles.{made_node, made_once, no_node_before}
 use Rattle.nv_machine.proofs.plain_laws.made_handles_are_new.Goals as goal
 
 pub returns-clause-no_node : goal.returns-clause-no_node

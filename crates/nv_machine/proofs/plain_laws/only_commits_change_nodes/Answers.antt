@@ -1,4 +1,4 @@
-use Rattle.nv_machine.proofs.KeptRuns.{events_kept, nodes_stay}
+use Rattle.nv_machine.proofs.LogsKeptRuns.{events_kept, nodes_stay}
 use Rattle.nv_machine.proofs.StartParts.{first_kept}
 use Rattle.nv_machine.proofs.plain_laws.only_commits_change_nodes.Goals as goal
 

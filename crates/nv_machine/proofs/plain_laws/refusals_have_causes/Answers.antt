@@ -1,8 +1,8 @@
 use Rattle.std.proofs.Common.{refl}
 use Rattle.std.proofs.lemmas.Bool.{le-leb}
 use Rattle.nv_base.specs.declared.limits.TheConstants.{NUMBER}
-use Rattle.nv_machine.proofs.Caused.{caused, contended, finds_none}
-use Rattle.nv_machine.proofs.EndsCaused.{plainly_caused}
+use Rattle.nv_machine.proofs.RefusalCauses.{caused, contended, finds_none}
+use Rattle.nv_machine.proofs.DecidedRefusals.{plainly_caused}
 use Rattle.nv_machine.proofs.plain_laws.refusals_have_causes.Goals as goal
 
 pub returns-clause-causes : goal.returns-clause-causes

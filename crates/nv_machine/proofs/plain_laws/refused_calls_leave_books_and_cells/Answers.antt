@@ -1,4 +1,4 @@
-use Rattle.nv_machine.proofs.Refusing.{all_refused, refused_books}
+use Rattle.nv_machine.proofs.RefusedCalls.{all_refused, refused_books}
 use Rattle.nv_machine.proofs.plain_laws.refused_calls_leave_books_and_cells.Goals as goal
 
 pub returns-clause-kept : goal.returns-clause-kept

@@ -1,5 +1,5 @@
-use Rattle.nv_machine.proofs.Effects.{point_is_sound}
-use Rattle.nv_machine.proofs.KeptRuns.{sound_stays}
+use Rattle.nv_machine.proofs.CommitEffects.{point_is_sound}
+use Rattle.nv_machine.proofs.LogsKeptRuns.{sound_stays}
 use Rattle.nv_machine.proofs.plain_laws.settled_logs_stay_sound.Goals as goal
 
 pub returns-clause-start : goal.returns-clause-start

@@ -1,4 +1,4 @@
-use Rattle.nv_machine.proofs.Visiting.{visit_answers, visit_same}
+use Rattle.nv_machine.proofs.VisitsRead.{visit_answers, visit_same}
 use Rattle.nv_machine.proofs.plain_laws.visits_read_settled_nodes.Goals as goal
 
 pub returns-clause-reads : goal.returns-clause-reads

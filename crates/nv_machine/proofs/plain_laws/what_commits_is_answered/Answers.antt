@@ -1,4 +1,4 @@
-use Rattle.nv_machine.proofs.Answered.{cells_are_answered, commits_to_answer, goes_to_end, no_node_tells}
+use Rattle.nv_machine.proofs.EndingsStay.{cells_are_answered, commits_to_answer, goes_to_end, no_node_tells}
 use Rattle.nv_machine.proofs.plain_laws.what_commits_is_answered.Goals as goal
 
 pub returns-clause-commits : goal.returns-clause-commits

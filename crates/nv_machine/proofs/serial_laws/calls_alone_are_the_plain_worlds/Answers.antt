@@ -1,4 +1,4 @@
-use Rattle.nv_machine.proofs.AloneEnds.{refused_for}
+use Rattle.nv_machine.proofs.AloneRefusals.{refused_for}
 use Rattle.nv_machine.proofs.AloneRuns.{refused_alone, told_alone}
 use Rattle.nv_machine.proofs.serial_laws.calls_alone_are_the_plain_worlds.Goals as goal
 

@@ -1,4 +1,4 @@
-use Rattle.nv_machine.proofs.Drained.{drain_refused, drain_told, pick_nothing}
+use Rattle.nv_machine.proofs.DrainAnswers.{drain_refused, drain_told, pick_nothing}
 use Rattle.nv_machine.specs.Step.{after}
 use Rattle.nv_machine.proofs.snapshot_laws.drains_count_their_releases.Goals as goal
 

@@ -1,4 +1,5 @@
-use Rattle.nv_machine.proofs.NewStart.{new_start, start_again}
+use Rattle.nv_machine.proofs.WorldsAtRest.{start_again}
+use Rattle.nv_machine.proofs.NewStart.{new_start}
 use Rattle.nv_machine.proofs.start_laws.runs_may_start_where_nothing_runs.Goals as goal
 
 pub returns-clause-new : goal.returns-clause-new

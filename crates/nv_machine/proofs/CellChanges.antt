@@ -1,0 +1,363 @@
+-- WHAT A STEP MAKES OF THE CELL THAT IT IS LENT, told once for all laws: entries come to it, it is published, or parts go
+-- out of it. Every other cell stays.
+use Rattle.std.proofs.Common.{◌≡◌, ◌∙◌, ℕ, ◌+◌, ◌<◌, ◌++◌, Bool, true, false, List, [], ◌∷◌, Option, Some, None, ap, arith, drop, inl, inr, length, refl, subst, sym, take}
+use Rattle.std.specs.List.{flat_map}
+use Rattle.std.proofs.lemmas.Bool.{cases_lt, false≢true, true≢false}
+use Rattle.std.proofs.lemmas.List.{get_or_past}
+use Rattle.std.proofs.lemmas.Option.{none-some}
+use Rattle.nv_alloc.specs.Block.{AreSized, BlockValue, numbers_of}
+use Rattle.nv_alloc.specs.Numbers.{times}
+use Rattle.nv_alloc.proofs.GivingLemmas.{times-blocks}
+use Rattle.nv_alloc.proofs.Lists.{times-append}
+use Rattle.nv_book.specs.Book.{BookState}
+use Rattle.nv_calls.specs.Retiring.{erased, freed, freed_by, freed_one, keeper_of, name_of, released, released_blocks, retired, retired_one, settled}
+use Rattle.nv_calls.proofs.Next.{Keeps, keeps}
+use Rattle.nv_cell.specs.Cell.{CellState, number_in, published}
+use Rattle.nv_cell.specs.declared.killed.KilledPart.{KilledPart}
+use Rattle.nv_epoch.specs.SnapList.{ids}
+use Rattle.nv_machine.specs.Frame.{lent, lent_on}
+use Rattle.nv_machine.specs.Hands.{IsParted, unpublished_at}
+use Rattle.nv_machine.specs.Kinds.{entries_for, first_killed, retired_book, retired_cell, with_entries, with_erased, with_pages}
+use Rattle.nv_machine.specs.Numbers.{of_part, stored_in}
+use Rattle.nv_machine.specs.Reads.{pages_needed, slot_at, written_slots}
+use Rattle.nv_machine.specs.World.{Append, Back, Close, Enter, HandState, Leave, Make, Next, Number, Open, Publish, Release, Retire, Running, Shared, SnapshotStep, Snapshots, cell_at, no_cell, owner_at, with_book, with_cell}
+use Rattle.nv_machine.proofs.Occurrences.{set_times}
+use Rattle.nv_machine.proofs.StepWork.{Both, both, work, snapshot_work, by_number, by_back}
+use Rattle.nv_machine.proofs.StepFrames.{work_framed}
+use Rattle.nv_machine.proofs.LocksHeld.{Before, lent_cell}
+use Rattle.nv_machine.proofs.LogsKept.{cell_set}
+use Rattle.nv_machine.proofs.PartPlaces.{freed_by_sized, freed_sized, retired_parted, settled_parted}
+
+-- ---- the numbers of blocks in a cell that gives up parts
+
+pub stored_times : (n : ℕ) (cell : CellState)
+    → times n (stored_in cell) ≡ times n (numbers_of cell.chain.blocks) + times n (flat_map of_part cell.blocks)
+stored_times n cell = times-append n (numbers_of cell.chain.blocks) (flat_map of_part cell.blocks)
+
+pub settled_times : (n : ℕ) (keeper : Option ℕ) (k : ℕ) (cell : CellState)
+    → times n (stored_in (settled keeper k cell)) + times n (numbers_of (freed keeper k cell)) ≡ times n (stored_in cell)
+settled_times n (Some s) k cell = omega (arith, stored_times n cell, stored_times n (settled (Some s) k cell))
+settled_times n None k cell =
+    let e = set_times of_part n cell.blocks k None None (λ past. refl) in
+    omega (arith, e, stored_times n cell, stored_times n (settled None k cell))
+
+pub retired_times : (n : ℕ) (living : List ℕ) (ino epoch : ℕ) (parts : List KilledPart) (cell : CellState)
+    → times n (stored_in (retired living ino epoch parts cell)) + times n (numbers_of (freed_by living ino epoch parts cell))
+    ≡ times n (stored_in cell)
+retired_times n living ino epoch [] cell = omega arith
+retired_times n living ino epoch (killed ∷ later) cell =
+    let next = retired_one living ino epoch killed cell in
+    let more = retired_times n living ino epoch later next in
+    let one = settled_times n (keeper_of living ino epoch killed) (number_in cell killed.part) cell in
+    omega (arith, more, one, times-blocks n (freed_one living ino epoch killed cell) (freed_by living ino epoch later next))
+
+-- ---- a removal
+
+-- parts go out of the cell of a slot, and their blocks to the hand. Where this erases the cell, its chain and its number go
+-- there too
+pub record Removal : Type 0 where
+  pub slot : ℕ
+  pub cell : CellState
+  pub freed : List BlockValue
+  pub killed : List (List KilledPart)
+  pub book : BookState
+
+abbrev pub hand_freed : Removal → HandState → HandState
+hand_freed x h = record h { blocks = h.blocks ++ x.freed; killed = x.killed }
+
+abbrev pub removed : Removal → Shared → HandState → Both
+removed x s h =
+    both (with_cell x.slot (erased x.cell) (with_book x.book s)) (with_erased x.slot x.cell (hand_freed x h))
+
+-- the kinds that remove parts: a commit retires them, and a drain releases one
+abbrev pub is_removal_on : SnapshotStep → Bool
+is_removal_on (Release draining picked) = true
+is_removal_on other = false
+
+abbrev pub is_removal : Next → Bool
+is_removal (Retire place) = true
+is_removal (Snapshots step) = is_removal_on step
+is_removal other = false
+
+abbrev pub removal_on : SnapshotStep → Shared → HandState → Removal
+removal_on (Release draining picked) s h = record {
+  slot = picked.ino;
+  cell = released picked (cell_at s picked.ino);
+  freed = released_blocks picked (cell_at s picked.ino);
+  killed = h.killed;
+  book = s.book;
+}
+removal_on other s h = record { slot = 0; cell = no_cell; freed = []; killed = h.killed; book = s.book }
+
+abbrev pub removal : Next → Shared → HandState → Running → Removal
+removal (Retire place) s h r =
+    let ino = slot_at (written_slots r) place in
+    let killed = first_killed h.killed in record {
+      slot = ino;
+      cell = retired_cell ino killed s r;
+      freed = freed_by (ids s.book.snaps) ino r.epoch killed (cell_at s ino);
+      killed = drop 1 h.killed;
+      book = retired_book ino killed s r;
+    }
+removal (Snapshots step) s h r = removal_on step s h
+removal other s h r = record { slot = 0; cell = no_cell; freed = []; killed = h.killed; book = s.book }
+
+-- WHAT A REMOVAL LEAVES: log, generation, version and size of the cell, blocks of one size, each number as often as it
+-- stood; and of the book all but the manifests
+pub record IsRemoval (s : Shared) (x : Removal) : Type 0 where
+  pub keeps : Keeps (cell_at s x.slot) x.cell
+  pub parted : (size : ℕ) → IsParted size (cell_at s x.slot) → IsParted size x.cell
+  pub sized : (size : ℕ) → IsParted size (cell_at s x.slot) → AreSized size x.freed
+  pub times : (n : ℕ) → times n (stored_in x.cell) + times n (numbers_of x.freed) ≡ times n (stored_in (cell_at s x.slot))
+  pub journals : x.book.journals ≡ s.book.journals
+  pub snaps : x.book.snaps ≡ s.book.snaps
+  pub commit : x.book.commit ≡ s.book.commit
+
+removed_on : (step : SnapshotStep) (s : Shared) (h : HandState) → is_removal_on step ≡ true → IsRemoval s (removal_on step s h)
+removed_on (Release draining picked) s h is =
+    let cell = cell_at s picked.ino in
+    let k = number_in cell (name_of picked) in record {
+      keeps = record { chain = refl; generation = refl; version = refl; block = refl };
+      parted = λ size. settled_parted size None k cell;
+      sized = λ size. freed_sized size None k cell;
+      times = λ n. settled_times n None k cell;
+      journals = refl;
+      snaps = refl;
+      commit = refl;
+    }
+removed_on other s h is = absurd (false≢true is)
+
+pub is_removed : (k : Next) (s : Shared) (h : HandState) (r : Running) → is_removal k ≡ true → IsRemoval s (removal k s h r)
+is_removed (Retire place) s h r is =
+    let ino = slot_at (written_slots r) place in
+    let killed = first_killed h.killed in
+    let living = ids s.book.snaps in record {
+      keeps = keeps living ino r.epoch killed (cell_at s ino);
+      parted = λ size. retired_parted size living ino r.epoch killed (cell_at s ino);
+      sized = λ size. freed_by_sized size living ino r.epoch killed (cell_at s ino);
+      times = λ n. retired_times n living ino r.epoch killed (cell_at s ino);
+      journals = refl;
+      snaps = refl;
+      commit = refl;
+    }
+is_removed (Snapshots step) s h r is = removed_on step s h is
+is_removed other s h r is = absurd (false≢true is)
+
+lent_removal_on : (step : SnapshotStep) (cpus a : ℕ) (s : Shared) (h : HandState) (r : Running) → is_removal_on step ≡ true
+    → (lent (Snapshots step) cpus a r).cell ≡ Some (removal_on step s h).slot
+lent_removal_on (Release draining picked) cpus a s h r is = refl
+lent_removal_on other cpus a s h r is = absurd (false≢true is)
+
+-- its cell is lent
+pub lent_removal : (k : Next) (cpus a : ℕ) (s : Shared) (h : HandState) (r : Running) → is_removal k ≡ true
+    → (lent k cpus a r).cell ≡ Some (removal k s h r).slot
+lent_removal (Retire place) cpus a s h r is = refl
+lent_removal (Snapshots step) cpus a s h r is = lent_removal_on step cpus a s h r is
+lent_removal other cpus a s h r is = absurd (false≢true is)
+
+-- and all that was appended is published
+pub removes_published : (k : Next) (written : List ℕ) → is_removal k ≡ true → unpublished_at k written ≡ []
+removes_published (Append place) written is = absurd (false≢true is)
+removes_published Open written is = absurd (false≢true is)
+removes_published (Publish place) written is = absurd (false≢true is)
+removes_published other written is = refl
+
+stays_lent : (step : SnapshotStep) → is_removal_on step ≡ false → (lent_on step).cell ≡ None
+stays_lent (Release draining picked) is = absurd (true≢false is)
+stays_lent other is = refl
+
+-- a step of a call on snapshots is lent a cell to remove parts of it
+pub lent_removes : (step : SnapshotStep) (ino : ℕ) → (lent_on step).cell ≡ Some ino → is_removal_on step ≡ true
+lent_removes step ino is = go (is_removal_on step) refl where
+  go : (b : Bool) → is_removal_on step ≡ b → b ≡ true
+  go true e = refl
+  go false e = absurd (none-some ino (sym (stays_lent step e) ∙ is))
+
+-- what a drain releases leaves the killed parts in the hand
+pub killed_on : (step : SnapshotStep) (s : Shared) (h : HandState) → (removal_on step s h).killed ≡ h.killed
+killed_on Make s h = refl
+killed_on other s h = refl
+
+-- A STEP OF A CALL ON SNAPSHOTS removes parts, or leaves all but the book and the locks of slots
+pub on_step : (P : Shared → HandState → Type 0) (step : SnapshotStep) (a : ℕ) (s : Shared) (h : HandState)
+    → (is_removal_on step ≡ true → let d = removed (removal_on step s h) s h in P d.shared d.hand)
+    → ((book : BookState) (owners : List (Option ℕ)) → P (record s { book = book; owners = owners }) h)
+    → P (snapshot_work step a s h).shared (snapshot_work step a s h).hand
+on_step P (Release draining picked) a s h removes stays = removes refl
+on_step P other a s h removes stays = stays _ _
+
+-- ---- the cell that is lent is its actor's, and one of the world
+
+pub lent_inside_own : (k : Next) (a : ℕ) (s : Shared) (r : Running) → Before a s k r → (ino : ℕ)
+    → (lent k (length s.lists) a r).cell ≡ Some ino → (ino < length s.cells) × (owner_at s ino ≡ Some a)
+lent_inside_own k a s r b ino is =
+    let own = lent_cell k (length s.lists) a s r b ino is in (inside own, own) where
+      inside : owner_at s ino ≡ Some a → ino < length s.cells
+      inside own = elim (cases_lt ino (length s.owners)) [
+        | inl lt ↦ omega (arith, lt, b.wide)
+        | inr ge ↦ absurd (none-some a (sym (get_or_past s.owners ino None ge) ∙ own))
+      ]
+
+-- ---- all cells
+
+-- the cell of a slot with the entries of a call
+abbrev pub appended_at : ℕ → Shared → HandState → Running → CellState
+appended_at ino s h r = with_entries (entries_for r ino) h.blocks (with_pages (take (pages_needed s r.plan ino) h.pages) (cell_at s ino))
+
+-- WHAT A LAW SAYS OF THE CELL that a kind changes
+pub record CellWays (P : ℕ → CellState → Type 0) (k : Next) (s : Shared) (h : HandState) (r : Running) : Type 0 where
+  pub appends : (place : ℕ) → k ≡ Append place → place < length (written_slots r) → let ino = slot_at (written_slots r) place in
+      ino < length s.cells → P ino (appended_at ino s h r)
+  pub publishes : (place : ℕ) → k ≡ Publish place → place < length (written_slots r) → let ino = slot_at (written_slots r) place in
+      ino < length s.cells → P ino (published (cell_at s ino))
+  pub removes : is_removal k ≡ true → let x = removal k s h r in x.slot < length s.cells → IsRemoval s x → P x.slot (erased x.cell)
+
+-- the kinds that add to a log
+abbrev pub adds : Next → Bool
+adds (Append place) = true
+adds (Publish place) = true
+adds other = false
+
+-- of a kind that adds to none
+pub no_more : (P : ℕ → CellState → Type 0) (k : Next) (s : Shared) (h : HandState) (r : Running) → adds k ≡ false
+    → (is_removal k ≡ true → let x = removal k s h r in x.slot < length s.cells → IsRemoval s x → P x.slot (erased x.cell))
+    → CellWays P k s h r
+no_more P k s h r none removes = record {
+  appends = λ place is inside low. absurd (true≢false (sym (ap adds is) ∙ none));
+  publishes = λ place is inside low. absurd (true≢false (sym (ap adds is) ∙ none));
+  removes = removes;
+}
+
+module _ (P : ℕ → CellState → Type 0) (block a : ℕ) (s : Shared) (h : HandState) (r : Running)
+    (was : (ino : ℕ) → P ino (cell_at s ino)) where
+  set_cell : (slot : ℕ) (cell : CellState) → slot < length s.cells → P slot cell → (ino : ℕ) → P ino (cell_at (with_cell slot cell s) ino)
+  set_cell slot cell low new ino =
+      cell_set s slot cell ino (P ino) low (λ is. subst (λ (n : ℕ). P n cell) is new) (λ ne. was ino)
+
+  stays : (k : Next) → (lent k (length s.lists) a r).cell ≡ None → (ino : ℕ) → P ino (cell_at (work k block a s h r).shared ino)
+  stays k none ino = subst (P ino) (sym ((work_framed k block a s h r).cells ino (λ is. none-some ino (sym none ∙ is)))) (was ino)
+
+  low : (k : Next) → Before a s k r → (ino : ℕ) → (lent k (length s.lists) a r).cell ≡ Some ino → ino < length s.cells
+  low k b ino is = (lent_inside_own k a s r b ino is).0
+
+  cells_on : (step : SnapshotStep) → Before a s (Snapshots step) r → CellWays P (Snapshots step) s h r → (ino : ℕ)
+      → P ino (cell_at (work (Snapshots step) block a s h r).shared ino)
+  cells_on (Release draining picked) b w =
+      let k : Next = Snapshots (Release draining picked) in
+      let inside = low k b picked.ino refl in
+      set_cell picked.ino _ inside (w.removes refl inside (is_removed k s h r refl))
+  cells_on other b w = stays (Snapshots other) refl
+
+  -- WHAT HOLDS OF EACH CELL before a step holds of each behind its work, where it holds of the one that the step changes
+  pub cells_after : (k : Next) → Before a s k r → CellWays P k s h r → (ino : ℕ) → P ino (cell_at (work k block a s h r).shared ino)
+  cells_after (Append place) b w =
+      let inside = low (Append place) b _ refl in set_cell _ _ inside (w.appends place refl b.inside inside)
+  cells_after (Publish place) b w =
+      let inside = low (Publish place) b _ refl in set_cell _ _ inside (w.publishes place refl b.inside inside)
+  cells_after (Retire place) b w =
+      let inside = low (Retire place) b _ refl in
+      set_cell _ _ inside (w.removes refl inside (is_removed (Retire place) s h r refl))
+  cells_after (Snapshots step) b w = cells_on step b w
+  cells_after other b w = stays other refl
+
+pub slots_stay : (k : Next) (block a : ℕ) (s : Shared) (h : HandState) (r : Running)
+    → length (work k block a s h r).shared.cells ≡ length s.cells
+slots_stay k block a s h r = (work_framed k block a s h r).slots
+
+-- ---- the book
+
+-- the kinds that write a journal
+abbrev pub notes : Next → Bool
+notes Open = true
+notes Close = true
+notes other = false
+
+journals_on : (step : SnapshotStep) (a : ℕ) (s : Shared) (h : HandState)
+    → (snapshot_work step a s h).shared.book.journals ≡ s.book.journals
+journals_on Make a s h = refl
+journals_on other a s h = refl
+
+pub journals_stay : (k : Next) (block a : ℕ) (s : Shared) (h : HandState) (r : Running) → notes k ≡ false
+    → (work k block a s h r).shared.book.journals ≡ s.book.journals
+journals_stay Number block a s h r is = ap (λ (b : BookState). b.journals) (work_framed Number block a s h r).book
+journals_stay Open block a s h r is = absurd (true≢false is)
+journals_stay Close block a s h r is = absurd (true≢false is)
+journals_stay Back block a s h r is = ap (λ (b : BookState). b.journals) (work_framed Back block a s h r).book
+journals_stay (Snapshots step) block a s h r is = journals_on step a s h
+journals_stay other block a s h r is = refl
+
+commit_on : (step : SnapshotStep) (a : ℕ) (s : Shared) (h : HandState) → (snapshot_work step a s h).shared.book.commit ≡ s.book.commit
+commit_on Make a s h = refl
+commit_on other a s h = refl
+
+abbrev pub enters : Next → Bool
+enters Enter = true
+enters other = false
+
+pub commit_stays : (k : Next) (block a : ℕ) (s : Shared) (h : HandState) (r : Running) → enters k ≡ false
+    → (work k block a s h r).shared.book.commit ≡ s.book.commit
+commit_stays Number block a s h r is = ap (λ (b : BookState). b.commit) (work_framed Number block a s h r).book
+commit_stays Enter block a s h r is = absurd (true≢false is)
+commit_stays Back block a s h r is = ap (λ (b : BookState). b.commit) (work_framed Back block a s h r).book
+commit_stays (Snapshots step) block a s h r is = commit_on step a s h
+commit_stays other block a s h r is = refl
+
+-- the step that begins an epoch
+abbrev makes_on : SnapshotStep → Bool
+makes_on Make = true
+makes_on other = false
+
+abbrev pub makes : Next → Bool
+makes (Snapshots step) = makes_on step
+makes other = false
+
+epoch_on : (step : SnapshotStep) (a : ℕ) (s : Shared) (h : HandState) → makes_on step ≡ false
+    → (snapshot_work step a s h).shared.book.snaps.epoch ≡ s.book.snaps.epoch
+epoch_on Make a s h is = absurd (true≢false is)
+epoch_on other a s h is = refl
+
+pub epoch_stays : (k : Next) (block a : ℕ) (s : Shared) (h : HandState) (r : Running) → makes k ≡ false
+    → (work k block a s h r).shared.book.snaps.epoch ≡ s.book.snaps.epoch
+epoch_stays Number block a s h r is = ap (λ (b : BookState). b.snaps.epoch) (work_framed Number block a s h r).book
+epoch_stays Back block a s h r is = ap (λ (b : BookState). b.snaps.epoch) (work_framed Back block a s h r).book
+epoch_stays (Snapshots step) block a s h r is = epoch_on step a s h is
+epoch_stays other block a s h r is = refl
+
+-- ---- the commit lock
+
+lock_on : (step : SnapshotStep) (a : ℕ) (s : Shared) (h : HandState) → (snapshot_work step a s h).shared.holder ≡ s.holder
+lock_on Make a s h = refl
+lock_on other a s h = refl
+
+-- the kinds that take it or leave it
+abbrev pub locks : Next → Bool
+locks Enter = true
+locks Leave = true
+locks other = false
+
+pub holder_stays : (k : Next) (block a : ℕ) (s : Shared) (h : HandState) (r : Running) → locks k ≡ false
+    → (work k block a s h r).shared.holder ≡ s.holder
+holder_stays Number block a s h r is = (work_framed Number block a s h r).holder
+holder_stays Enter block a s h r is = absurd (true≢false is)
+holder_stays Leave block a s h r is = absurd (true≢false is)
+holder_stays Back block a s h r is = (work_framed Back block a s h r).holder
+holder_stays (Snapshots step) block a s h r is = lock_on step a s h
+holder_stays other block a s h r is = refl
+
+-- ---- the killed parts in the hand
+
+-- the kinds that may change them
+abbrev pub kills : Next → Bool
+kills (Publish place) = true
+kills (Retire place) = true
+kills (Snapshots step) = true
+kills other = false
+
+pub killed_stays : (k : Next) (block a : ℕ) (s : Shared) (h : HandState) (r : Running) → kills k ≡ false
+    → (work k block a s h r).hand.killed ≡ h.killed
+killed_stays Number block a s h r is = by_number (λ (t : Shared) (g : HandState). g.killed ≡ h.killed) s h (λ numbers ino. refl)
+killed_stays Back block a s h r is = by_back (λ (t : Shared) (g : HandState). g.killed ≡ h.killed) s h (λ numbers ino. refl)
+killed_stays (Publish place) block a s h r is = absurd (true≢false is)
+killed_stays (Retire place) block a s h r is = absurd (true≢false is)
+killed_stays (Snapshots step) block a s h r is = absurd (true≢false is)
+killed_stays other block a s h r is = refl

@@ -1,0 +1,295 @@
+-- What the hand of an actor has along a commit, and after every kind of step.
+use Rattle.nv_machine.proofs.CellChanges.{hand_freed, killed_on, on_step, removal_on}
+use Rattle.std.proofs.Common.{Bool, List, None, Option, Some, [], add-one, ap, arith, drop, drop-cons, false, if◌then◌else◌, length, length-append, nat_lt, refl, subst, suc, sym, take, true, zero, ℕ, ◌++◌, ◌+◌, ◌-◌, ◌<◌, ◌^◌, ◌∙◌, ◌∷◌, ◌≡◌, ◌≤◌}
+use Rattle.std.specs.List.{flat_map}
+use Rattle.std.proofs.lemmas.Bool.{false≢true, ltb-false}
+use Rattle.std.proofs.lemmas.List.{drop-drop}
+use Rattle.nv_alloc.specs.Block.{AreSized, BlockValue, numbers_of}
+use Rattle.nv_alloc.specs.Numbers.{times}
+use Rattle.nv_base.specs.declared.geometry.GeometryNumbers.{GeometryNumbers}
+use Rattle.nv_calls.specs.Retiring.{is_erased, number_back}
+use Rattle.nv_calls.specs.Slots.{entries_of, items_for, place_in}
+use Rattle.nv_calls.proofs.Appends.{front, map-drop}
+use Rattle.nv_cell.specs.Cell.{CellState}
+use Rattle.nv_entry.specs.Blocks.{item_blocks}
+use Rattle.nv_entry.specs.declared.item.Entry.{Entry}
+use Rattle.nv_entry.specs.declared.item.Item.{Item}
+use Rattle.nv_machine.specs.Hands.{AreGiven, FitsFile, HandAt, HandOf, HasPlanned, is_going, planned_blocks}
+use Rattle.nv_machine.specs.Kinds.{asked_list, blocks_in, blocks_left, entries_for, first_killed, given, retired_cell, with_erased, with_freed, with_given}
+use Rattle.nv_machine.specs.Reads.{slot_at, written_slots}
+use Rattle.nv_machine.specs.Sequence.{appending, closing, opening, publishing, retiring}
+use Rattle.nv_machine.specs.Snapshots.{snapshot_turn}
+use Rattle.nv_machine.specs.Step.{kind_turn}
+use Rattle.nv_machine.specs.World.{Answers, Append, Back, Check, Close, Drop, Ending, Enter, Give, HandState, Leave, Lock, LockPicked, Look, Make, Next, Number, Open, Pick, Pin, Publish, Ready, Retire, Running, Shared, Show, SnapshotStep, Snapshots, TakeBlocks, TakePages, Unlock, Unpin, Visit, empty_hand, go_to, list_at}
+use Rattle.nv_machine.proofs.BlockCounts.{given_all}
+use Rattle.nv_machine.proofs.StepWork.{back_work, work, snapshot_work}
+use Rattle.nv_machine.proofs.HandsAfterSteps.{GoesHome, HandGoes, HandTold, OnHand, denied_hand, ends_hand, is_empty, lasts_hand, locking_hand, looking_hand, number_hand, overs_hand, rests_hand}
+use Rattle.nv_machine.proofs.HandsInTakings.{check_fits, check_overtaken, first_below, ready_planned}
+use Rattle.nv_machine.proofs.Homes.{all_given}
+use Rattle.nv_machine.proofs.LocksHeld.{Before}
+use Rattle.nv_machine.proofs.PartPlaces.{entry_blocks}
+use Rattle.nv_machine.proofs.LoopSteps.{by_test, either}
+use Rattle.nv_machine.proofs.StepWays.{is_overtaken, noted, take_sum}
+use Rattle.nv_machine.proofs.StepWalk.{WaysOf, counted, walk_of}
+use Rattle.nv_machine.proofs.SnapshotWalk.{goes_next, next_on, slots_next, snapshot_walk, tells}
+
+-- ---- along a commit
+
+no_length : {X : Type 0} (xs : List X) → length xs ≡ 0 → xs ≡ []
+no_length [] h = refl
+no_length (x ∷ xs) h = absurd (omega (arith, h))
+
+abbrev Goes : GeometryNumbers → HandState → Next → Running → Type 0
+Goes g h next r = HandOf g h (Some (go_to next r))
+
+module _ (g : GeometryNumbers) (h : HandState) (r : Running) (going : r.ending ≡ Answers) where
+  abbrev written_ : List ℕ
+  written_ = written_slots r
+
+  abbrev To : Next → Type 0
+  To next = Goes g h next r
+
+  retiring_hand : (place : ℕ) → length h.killed + place ≡ length written_ → To (retiring place written_)
+  retiring_hand place killed =
+      by_test To (nat_lt place (length written_)) (Retire place) Leave (λ e. (killed, λ e. going))
+      (λ e. (no_length h.killed (omega (arith, killed, ltb-false place (length written_) e)), λ e. going))
+
+  publishing_hand : (place : ℕ) → length h.killed ≡ place → place ≤ length written_ → To (publishing place written_)
+  publishing_hand place killed few =
+      by_test To (nat_lt place (length written_)) (Publish place) (closing written_) (λ e. (killed, λ e. going))
+      (λ e. let all : length h.killed ≡ length written_ = omega (arith, killed, few, ltb-false place (length written_) e) in
+      either To (nat_lt 1 (length written_)) Close (retiring 0 written_) (all, λ e. going) (retiring_hand 0 (omega (arith, all))))
+
+  appending_hand : (place : ℕ) → HasPlanned h r (drop place written_) → To (appending place written_)
+  appending_hand place planned =
+      either To (nat_lt place (length written_)) (Append place) (opening written_)
+      (record { killed = planned.killed; enough = planned.enough; first = planned.first; within = planned.within }, λ e. going)
+      (either To (nat_lt 1 (length written_)) Open (publishing 0 written_) (planned.killed, λ e. going)
+      (publishing_hand 0 (ap length planned.killed) (omega arith)))
+
+-- what an append leaves in the hand
+pub entry_blocks_are : (commit epoch place : ℕ) (items : List Item)
+    → entry_blocks (entries_of commit epoch place items) ≡ flat_map item_blocks items
+entry_blocks_are commit epoch place [] = refl
+entry_blocks_are commit epoch place (item ∷ items) =
+    ap (λ (l : List ℕ). item_blocks item ++ l) (entry_blocks_are commit epoch (place + 1) items)
+
+left_count : (entries : List _) (bs : List BlockValue) → length (blocks_left entries bs) ≡ length bs - length (entry_blocks entries)
+left_count [] bs = omega arith
+left_count (e ∷ entries) bs =
+    let k = length (item_blocks e.item) in
+    let more = left_count entries (drop k bs) in
+    omega (arith, more, later k bs, length-append (item_blocks e.item) (entry_blocks entries)) where
+      later : (n : ℕ) (xs : List BlockValue) → length (drop n xs) ≡ length xs - n
+      later zero xs = omega arith
+      later (suc n) [] = omega arith
+      later (suc n) (x ∷ xs) = later n xs ∙ (let e : length xs - n ≡ suc (length xs) - suc n = omega arith in e)
+
+-- what is left are the blocks behind those
+left_numbers : (entries : List Entry) (bs : List BlockValue)
+    → numbers_of (blocks_left entries bs) ≡ drop (length (entry_blocks entries)) (numbers_of bs)
+left_numbers [] bs = refl
+left_numbers (e ∷ entries) bs =
+    let k = length (item_blocks e.item) in
+    let total : length (item_blocks e.item ++ entry_blocks entries) ≡ k + length (entry_blocks entries) =
+    length-append (item_blocks e.item) (entry_blocks entries) in
+    left_numbers entries (drop k bs) ∙ ap (drop (length (entry_blocks entries))) (map-drop k bs)
+    ∙ drop-drop (length (entry_blocks entries)) k (numbers_of bs) ∙ ap (λ (n : ℕ). drop n (numbers_of bs)) (sym total)
+
+-- the blocks of the slot at a place, and of those behind it
+planned_next : (r : Running) (place : ℕ) → place < length (written_slots r)
+    → planned_blocks r.plan (drop place (written_slots r))
+    ≡ entry_blocks (entries_for r (slot_at (written_slots r) place)) ++ planned_blocks r.plan (drop (place + 1) (written_slots r))
+planned_next r place inside =
+    let slots = written_slots r in
+    let ino = slot_at slots place in
+    ap (planned_blocks r.plan) (drop-cons slots place 0 inside)
+    ∙ ap (λ (l : List ℕ). l ++ planned_blocks r.plan (drop (suc place) slots))
+    (sym (entry_blocks_are r.commit r.epoch (place_in r.plan ino) (items_for r.plan ino)))
+    ∙ ap (λ (n : ℕ). entry_blocks (entries_for r ino) ++ planned_blocks r.plan (drop n slots)) (sym (add-one place))
+
+abbrev Cut : ℕ → HandState → Running → Type 0
+Cut place h r =
+    (take (length (entry_blocks (entries_for r (slot_at (written_slots r) place)))) (numbers_of h.blocks)
+    ≡ entry_blocks (entries_for r (slot_at (written_slots r) place)))
+    × (take (length (planned_blocks r.plan (drop (place + 1) (written_slots r))))
+    (drop (length (entry_blocks (entries_for r (slot_at (written_slots r) place)))) (numbers_of h.blocks))
+    ≡ planned_blocks r.plan (drop (place + 1) (written_slots r)))
+
+cut_at : (place : ℕ) (h : HandState) (r : Running) → place < length (written_slots r) → HasPlanned h r (drop place (written_slots r))
+    → Cut place h r
+cut_at place h r inside planned =
+    let own = entry_blocks (entries_for r (slot_at (written_slots r) place)) in
+    let rest = planned_blocks r.plan (drop (place + 1) (written_slots r)) in
+    front own rest (numbers_of h.blocks)
+    (subst (λ (l : List ℕ). take (length l) (numbers_of h.blocks) ≡ l) (planned_next r place inside) planned.first)
+
+pub slot_first : (place : ℕ) (h : HandState) (r : Running) → place < length (written_slots r)
+    → HasPlanned h r (drop place (written_slots r))
+    → take (length (entry_blocks (entries_for r (slot_at (written_slots r) place)))) (numbers_of h.blocks)
+    ≡ entry_blocks (entries_for r (slot_at (written_slots r) place))
+slot_first place h r inside planned = (cut_at place h r inside planned).0
+
+append_planned : (place pages : ℕ) (h : HandState) (r : Running) → place < length (written_slots r)
+    → HasPlanned h r (drop place (written_slots r))
+    → HasPlanned
+    (record h { blocks = blocks_left (entries_for r (slot_at (written_slots r) place)) h.blocks; pages = drop pages h.pages }) r
+    (drop (place + 1) (written_slots r))
+append_planned place pages h r inside planned =
+    let ino = slot_at (written_slots r) place in
+    let rest = planned_blocks r.plan (drop (place + 1) (written_slots r)) in
+    let own = entry_blocks (entries_for r ino) in
+    let all = ap length (planned_next r place inside) in
+    record {
+      killed = planned.killed;
+      enough = omega (arith, planned.enough, all, length-append own rest, left_count (entries_for r ino) h.blocks);
+      first = ap (take (length rest)) (left_numbers (entries_for r ino) h.blocks) ∙ (cut_at place h r inside planned).1;
+      within = planned.within;
+    }
+
+pub erased_killed : (ino : ℕ) (cell : CellState) (h : HandState) → (with_erased ino cell h).killed ≡ h.killed
+erased_killed ino cell h = go (is_erased cell) where
+  go : (b : Bool) → (if b then record h { chain = h.chain ++ cell.chain.blocks; ino = number_back ino cell h.ino } else h).killed ≡ h.killed
+  go true = refl
+  go false = refl
+
+dropped : {X : Type 0} (xs : List X) (n m : ℕ) → length xs + n ≡ m → n < m → length (drop 1 xs) + (n + 1) ≡ m
+dropped [] n m e lt = absurd (omega (arith, e, lt))
+dropped (x ∷ xs) n m e lt = omega (arith, e)
+
+-- what is shared and the hand before the last steps, where a step makes them in its turn
+abbrev pub AllGoHome : GeometryNumbers → Next → Shared → HandState → Running → ℕ → ℕ → Type 0
+AllGoHome g k s h r block a =
+    GoesHome g s h × GoesHome g (work k block a s h r).shared (work k block a s h r).hand
+
+-- blocks at home on a CPU are taken there
+abbrev pub CanGive : GeometryNumbers → Next → Shared → HandState → Type 0
+CanGive g (Give cpu) s h = AreSized g.block (blocks_in h)
+    × ((n : ℕ) → times n (numbers_of (blocks_in h)) + times n (numbers_of (list_at s cpu).blocks) ≤ 1)
+CanGive g other s h = Unit {0}
+
+-- ---- calls on snapshots
+
+snapshot_hand : (g : GeometryNumbers) (step : SnapshotStep) (a : ℕ) (granted : Bool) (s : Shared) (h : HandState) (r : Running)
+    → AllGoHome g (Snapshots step) s h r g.block a → h ≡ empty_hand → (is_going (Snapshots step) ≡ true → r.ending ≡ Answers)
+    → OnHand g (snapshot_turn step a granted s h r)
+snapshot_hand g step a granted s h r goes empty going = snapshot_walk (HandGoes g) HandTold a s h r step granted (record {
+  stops = λ fault cause. denied_hand g s h goes.0 (ap (λ (x : HandState). x.killed) empty);
+  goes = λ on clear. moves step on going;
+  told = λ on clear. told_empty step on;
+  denied = λ snapshot showing on. (empty, λ e. absurd (false≢true e));
+  over = λ draining picked on. ends_hand g _ _ goes.1 (none_killed step) (λ over. absurd (false≢true (ap is_overtaken over)));
+  none = λ draining on nothing. empty;
+}) where
+  moves : (k : SnapshotStep) → goes_next k ≡ true → (is_going (Snapshots k) ≡ true → r.ending ≡ Answers)
+      → HandGoes g (snapshot_work k a s h).shared (snapshot_work k a s h).hand
+      (record r { slots = slots_next k s r; next = Snapshots (next_on k s) })
+  moves (Pin snapshot) on going = (empty, λ e. going refl)
+  moves (Show snapshot showing) on going = (empty, λ e. going refl)
+  moves (Pick draining) on going = (empty, λ e. going refl)
+  moves (LockPicked draining picked) on going = (empty, λ e. going refl)
+  moves other on going = absurd (false≢true on)
+
+  told_empty : (k : SnapshotStep) → tells k ≡ true → (snapshot_work k a s h).hand ≡ empty_hand
+  told_empty Make on = empty
+  told_empty (Drop snapshot) on = empty
+  told_empty (Unpin snapshot seen) on = empty
+  told_empty other on = absurd (false≢true on)
+
+  none_killed : (k : SnapshotStep) → (snapshot_work k a s h).hand.killed ≡ []
+  none_killed k =
+      let none : h.killed ≡ [] = ap (λ (x : HandState). x.killed) empty in
+      let x = removal_on k s h in
+      on_step (λ (t : Shared) (g : HandState). g.killed ≡ []) k a s h
+      (λ is. erased_killed x.slot x.cell (hand_freed x h) ∙ killed_on k s h ∙ none) (λ book owners. none)
+
+-- ---- every kind
+
+back_empty : (number : Option ℕ) (s : Shared) (h : HandState) → h.ino ≡ number → h.killed ≡ [] → blocks_in h ≡ []
+    → (back_work number s h).hand ≡ empty_hand
+back_empty None s h is killed none = is_empty h none is killed
+back_empty (Some ino) s h is killed none = is_empty (record h { ino = None }) none refl killed
+
+module _ (g : GeometryNumbers) (a : ℕ) (granted : Bool) (s : Shared) (h : HandState) (r : Running) (some : 0 < g.block)
+    (small : g.blocks < 2 ^ 64) where
+  ways : (k : Next) → Before a s k r → AllGoHome g k s h r g.block a → CanGive g k s h → HandAt g k h r
+      → (is_going k ≡ true → r.ending ≡ Answers) → WaysOf (HandGoes g) HandTold k g.block a granted s h r
+  ways Number b goes give at going = number_hand g s.pool.numbers s h r at.0 at.1 at.2 (going refl)
+  ways (Look place) b goes give at going = (
+    λ fault free by. denied_hand g s h goes.0 (ap (λ (x : HandState). x.killed) at.0),
+    λ clear. looking_hand g (place + 1) s h (noted (Look place) g.block s h r) at.0 at.1 (going refl),
+  )
+  ways (Lock place) b goes give at going = λ free. locking_hand g (place + 1) (work (Lock place) g.block a s h r).shared h r at (going refl)
+  ways Check b goes give at going = (
+    λ e by. ends_hand g s h goes.0 at.killed (λ over.
+        let o = check_overtaken g.block s h r at (by ∙ ap (λ (x : Ending). Some x) over) in
+        record { empty = o.empty; looks = o.looks }),
+    λ none lacks. denied_hand g s h goes.0 at.killed,
+    λ none. counted (HandGoes g) HandTold g.block a s h r Check (FitsFile g.block r.call) (check_fits g s h r some at none).fits
+        (λ n q. (record { killed = at.killed; fits = q }, λ e. going refl))
+        (λ n q. (record { killed = at.killed; fits = q }, λ e. going refl))
+        (λ q. (record { killed = at.killed; fits = q }, λ e. going refl)),
+  )
+  ways (TakeBlocks asked) b goes give at going = (
+    counted (HandGoes g) HandTold g.block a s h r (TakeBlocks asked) (FitsFile g.block r.call)
+        (subst (FitsFile g.block r.call) (sym (take_sum h.blocks (list_at s (asked_list (length s.lists) a asked)).blocks r.wanted)) at.fits)
+        (λ n q. (record { killed = at.killed; fits = q }, λ e. going refl))
+        (λ n q. (record { killed = at.killed; fits = q }, λ e. going refl))
+        (λ q. (record { killed = at.killed; fits = q }, λ e. going refl)),
+    λ n is last. denied_hand g _ _ goes.1 at.killed,
+  )
+  ways (TakePages asked) b goes give at going = (
+    record {
+      more = λ n is ask. (record { killed = at.killed; fits = at.fits }, λ e. going refl);
+      pages = λ n none is. (record { killed = at.killed; fits = at.fits }, λ e. going refl);
+      ready = λ none is. (record { killed = at.killed; fits = at.fits }, λ e. going refl);
+    },
+    λ n is last. denied_hand g _ _ goes.1 at.killed,
+  )
+  ways Ready b goes give at going =
+      (λ lacks. denied_hand g s h goes.0 at.killed, (ready_planned g a s h r at small (first_below g.blocks h goes.0.below) b, going))
+  ways Enter b goes give at going = (
+    λ free last. denied_hand g s h goes.0 at.killed,
+    λ clear lacks. denied_hand g s h goes.0 at.killed,
+    λ clear. appending_hand g h (noted Enter g.block s h r) (going refl) 0
+        (record { killed = at.killed; enough = at.enough; first = at.first; within = at.within }),
+  )
+  ways (Append place) b goes give at going =
+      appending_hand g (work (Append place) g.block a s h r).hand r (going refl) (place + 1) (append_planned place _ h r b.inside at)
+  ways Open b goes give at going = publishing_hand g h r (going refl) 0 (ap length at) (omega arith)
+  ways (Publish place) b goes give at going =
+      publishing_hand g (work (Publish place) g.block a s h r).hand r (going refl) (place + 1)
+      (length-append h.killed _ ∙ ap (λ (n : ℕ). n + 1) at) (let inside = b.inside in omega (arith, inside))
+  ways Close b goes give at going = retiring_hand g (record h { ino = None }) r (going refl) 0 (omega (arith, at))
+  ways (Retire place) b goes give at going =
+      let cell = retired_cell (slot_at (written_slots r) place) (first_killed h.killed) s r in
+      let freed = with_freed (slot_at (written_slots r) place) (first_killed h.killed) s r h in
+      let same = ap length (erased_killed (slot_at (written_slots r) place) cell freed) in
+      retiring_hand g (work (Retire place) g.block a s h r).hand r (going refl) (place + 1)
+      (omega (arith, same, dropped h.killed place (length (written_slots r)) at b.inside))
+  ways Leave b goes give at going =
+      ends_hand g _ h goes.1 at (λ over. absurd (false≢true (ap is_overtaken (sym (going refl) ∙ over))))
+  ways (Unlock place) b goes give at going = (
+    λ more. ((at.0, λ is. let was = at.1 is in record { empty = was.empty; looks = was.looks }), λ e. absurd (false≢true e)),
+    λ past. overs_hand g _ h goes.1 at.0 at.1,
+  )
+  ways (Give cpu) b goes give at going =
+      let kept = all_given g cpu (list_at s cpu) (blocks_in h) (goes.0.lists.each cpu at.1) give.0 give.1 at.2 in
+      rests_hand g (cpu + 1) s (with_given cpu h s) (given cpu s h)
+      (record { some = goes.1.some; lists = goes.0.lists; below = goes.1.below }) refl (let inside = at.1 in omega (arith, inside))
+      (subst (λ (l : List BlockValue). AreGiven g (cpu + 1) l) (sym (given_all cpu s h)) kept) at.0
+  ways Back b goes give at going = lasts_hand g (back_empty h.ino s h refl at.0 at.1)
+  ways Visit b goes give at going = (
+    λ fault free by. denied_hand g s h goes.0 (ap (λ (x : HandState). x.killed) at),
+    λ free passed lacks. denied_hand g s h goes.0 (ap (λ (x : HandState). x.killed) at),
+    λ free passed. at,
+  )
+  ways (Snapshots step) b goes give at going = tt
+
+pub hand_kept : (g : GeometryNumbers) (k : Next) (a : ℕ) (granted : Bool) (s : Shared) (h : HandState) (r : Running) → 0 < g.block
+    → g.blocks < 2 ^ 64 → Before a s k r → AllGoHome g k s h r g.block a → CanGive g k s h → HandAt g k h r → (is_going k ≡ true
+    → r.ending ≡ Answers)
+    → OnHand g (kind_turn k g.block a granted s h r)
+hand_kept g (Snapshots step) a granted s h r some small b goes give at going = snapshot_hand g step a granted s h r goes at going
+hand_kept g other a granted s h r some small b goes give at going =
+    walk_of (HandGoes g) HandTold g.block a s h r other granted (ways g a granted s h r some small other b goes give at going) refl
