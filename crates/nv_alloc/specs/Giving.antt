@@ -1,5 +1,5 @@
 -- What goes home when blocks are offered to a free list one after another.
-use Rattle.std.specs.Prelude.{ℕ, ◌==◌, ◌&&◌, Bool, not, if◌then◌else◌, List, [], ◌∷◌, ◌++◌, length}
+use Rattle.std.specs.Prelude.{◌==◌, ◌&&◌, Bool, not, if◌then◌else◌, List, [], ◌∷◌, ◌++◌, length}
 use Rattle.nv_alloc.specs.Block.{BlockValue, numbers_of, put_block}
 use Rattle.nv_alloc.specs.FreeList.{FreeBlocks, is_home}
 use Rattle.nv_alloc.specs.Numbers.{has}

@@ -14,6 +14,7 @@ use nv_base::Fault;
 use std::alloc::Global;
 use std::collections::{VecDeque, vec_deque};
 use std::marker::Model;
+use std::mem;
 
 /// Blocks of one size, first in, first out, with room that is reserved before. Contracts see the blocks in the
 /// order taken, their bytes, and the room: how many more blocks fit without memory.
@@ -130,6 +131,15 @@ impl BlockQueue {
         } }
     {
         self.blocks.pop_front()
+    }
+
+    /// Takes out all blocks, without memory, and with them the room that they stood in.
+    pub fn take_all(&mut self) -> Vec<Block>
+        ensures blocks { result.items ≡ self.old.blocks }
+        ensures rest { self.new ≡ record self.old { blocks = []; room = 0 } }
+    {
+        let none = Vec::new(*self.blocks.allocator());
+        mem::replace(&mut self.blocks, VecDeque::from_vec(none)).into_vec()
     }
 
     /// Gives the list the blocks that it takes, one after another, and keeps the others in their order.

@@ -65,7 +65,7 @@ all_out (Killed ∷ marks) h = cc
 all_out (Kept ∷ marks) h = cc
 
 -- the marks of the first entry, and of the others
-first_alike : (r : Retention) (e : Entry) (later : List Entry) (marks : List Mark) → length marks ≡ part_total (e ∷ later)
+pub first_alike : (r : Retention) (e : Entry) (later : List Entry) (marks : List Mark) → length marks ≡ part_total (e ∷ later)
     → AreAlike is_there (keeps r) r.block (e ∷ later) marks → list_any is_there (take (part_count e) marks) ≡ is_kept r e later
 first_alike r e later marks len alike =
     let c = part_count e in
@@ -76,7 +76,7 @@ first_alike r e later marks len alike =
     ap is_there (front_mark marks c n lt)
     ∙ alike n pair (pair_first r.block e later n lt ∙ sym (slice_get-map (pair_of r.block e later) (parts_of e.item) n) ∙ q))
 
-later_alike : (r : Retention) (e : Entry) (later : List Entry) (marks : List Mark) → AreAlike is_there (keeps r) r.block (e ∷ later) marks
+pub later_alike : (r : Retention) (e : Entry) (later : List Entry) (marks : List Mark) → AreAlike is_there (keeps r) r.block (e ∷ later) marks
     → AreAlike is_there (keeps r) r.block later (drop (part_count e) marks)
 later_alike r e later marks alike n pair q =
     let c = part_count e in

@@ -20,9 +20,9 @@ use Rattle.nv_log.proofs.Flags.{gone_at}
 use Rattle.nv_cell.specs.declared.mark.Mark.TheVariants.{Out}
 use Rattle.nv_cell.specs.Cell.{CellState, HasMarks, log_of}
 use Rattle.nv_cell.specs.Marks.{is_current, mark_at}
-use Rattle.nv_cell.specs.Removal.{HideNoneLeft, MayGo, part_flags}
+use Rattle.nv_cell.specs.Removal.{HideNoneLeft, MayGo, part_flags, source}
 use Rattle.nv_cell.proofs.RunFlags.{left_of-goes, left_of-stays}
-use Rattle.nv_cell.proofs.Sources.{source, at_source, length-part_flags}
+use Rattle.nv_cell.proofs.Sources.{at_source, length-part_flags}
 
 -- ---- which parts are covered
 

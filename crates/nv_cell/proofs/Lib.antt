@@ -48,3 +48,11 @@ pub mod FieldsLeft
 pub mod Growing
 pub mod Numbered
 pub mod MayGoing
+pub mod NamedPairs
+pub mod Renumbered
+pub mod Cleaning
+pub mod CleanNodes
+pub mod CleanWalks
+pub mod CleanParts
+pub mod DeadPairs
+pub mod MarksKeep

@@ -107,7 +107,7 @@ entry_marks chain ends marks i within bases lt =
     rw (from, to) (sym (marks_at es marks i (omega (arith, size, lt))))
 
 -- a tally counts the marks of its entry
-tally_marks : (test : Mark → Bool) (f : Tally → ℕ) (chain : ChainState) (ends : List ℕ) (tallies : List Tally) (marks : List Mark) (i : ℕ)
+pub tally_marks : (test : Mark → Bool) (f : Tally → ℕ) (chain : ChainState) (ends : List ℕ) (tallies : List Tally) (marks : List Mark) (i : ℕ)
     → chain.tail ≤ length chain.entries → length ends ≡ chain.tail
     → ((j : ℕ) → j < chain.tail → end_at ends j ≡ part_base chain.entries (j + 1))
     → ((j : ℕ) → j < length ends → f (tally_at tallies j) ≡ count_in test marks (start_at ends j) (end_at ends j))

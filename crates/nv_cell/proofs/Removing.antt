@@ -29,7 +29,7 @@ use Rattle.nv_cell.specs.Marks.{is_current, is_there}
 use Rattle.nv_cell.specs.Readers.{is_last_word}
 use Rattle.nv_cell.specs.Reading.{stat_now}
 use Rattle.nv_cell.specs.declared.stat.Stat.{Stat}
-use Rattle.nv_cell.specs.Removal.{KeepsTheLast, MayGo, flags_by, left_in, part_flags, slot_flags}
+use Rattle.nv_cell.specs.Removal.{KeepsTheLast, MayGo, flags_by, left_in, part_flags, slot_flags, source}
 use Rattle.nv_cell.specs.Slots.{by_part, slot_count, slot_total}
 use Rattle.nv_cell.proofs.LastStays.{last_left}
 use Rattle.nv_cell.proofs.Publishing.{total_take}
@@ -37,7 +37,7 @@ use Rattle.nv_cell.proofs.Leaving.{covered_left, cell_may_leave}
 use Rattle.nv_cell.proofs.NamesLeft.{bindings_left}
 use Rattle.nv_cell.proofs.RunFlags.{part_totals, slot_totals}
 use Rattle.nv_cell.proofs.Slots.{slots_gone, slots_left}
-use Rattle.nv_cell.proofs.Sources.{source, at_source, source_within, block_left, left_within, length-part_flags, total_left}
+use Rattle.nv_cell.proofs.Sources.{at_source, source_within, block_left, left_within, length-part_flags, total_left}
 
 -- ---- the cell
 
@@ -108,7 +108,7 @@ module _ {flags : List Bool} {cell : CellState} {chain : ChainState} (taken : Ar
   pub may_leave : MayAllLeave cell.block [] (log_of cell) flags
   may_leave = cell_may_leave flags cell left.flags_len marks may
 
-  few : length (part_flags flags (log_of cell)) ≤ length cell.marks
+  pub few : length (part_flags flags (log_of cell)) ≤ length cell.marks
   few = omega (arith, length-part_flags flags (log_of cell), marks.len)
 
   pub marks_count : length (left_of (part_flags flags (log_of cell)) cell.marks) ≡ part_total (log chain)
@@ -126,7 +126,7 @@ module _ {flags : List Bool} {cell : CellState} {chain : ChainState} (taken : Ar
         ∙ covered_left cell.block flags (log_of cell) n left.flags_len may_leave));
   }
 
-  some : length (part_flags flags (log_of cell)) ≤ length cell.blocks
+  pub some : length (part_flags flags (log_of cell)) ≤ length cell.blocks
   some = omega (arith, length-part_flags flags (log_of cell), blocks.len, total_take cell.chain.entries cell.chain.tail)
 
   pub blocks_left : HasBlocks (left_in flags chain cell)

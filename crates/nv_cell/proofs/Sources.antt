@@ -6,14 +6,8 @@ use Rattle.nv_entry.specs.declared.item.Entry.{Entry}
 use Rattle.nv_entry.specs.Covered.{part_count, part_total}
 use Rattle.nv_log.specs.Chain.{left_of}
 use Rattle.nv_cell.specs.Cell.{page_block}
-use Rattle.nv_cell.specs.Removal.{flags_by, part_flags}
+use Rattle.nv_cell.specs.Removal.{flags_by, part_flags, source}
 use Rattle.nv_cell.proofs.RunFlags.{IsTotal, left_of-goes, left_of-stays}
-
-abbrev pub source : List Bool → ℕ → ℕ
-source [] n = n
-source (true ∷ flags) zero = zero
-source (true ∷ flags) (suc n) = suc (source flags n)
-source (false ∷ flags) n = suc (source flags n)
 
 pub at_source : {X : Type 0} (flags : List Bool) (xs : List X) (n : ℕ) (d : X) → length flags ≤ length xs
     → get_or (left_of flags xs) n d ≡ get_or xs (source flags n) d
@@ -32,16 +26,16 @@ source_within (true ∷ flags) (x ∷ xs) zero le lt = omega arith
 source_within (true ∷ flags) (x ∷ xs) (suc n) le lt = omega (arith, source_within flags xs n (omega (arith, le)) (omega (arith, lt)))
 source_within (false ∷ flags) (x ∷ xs) n le lt = omega (arith, source_within flags xs n (omega (arith, le)) lt)
 
-source_goes : (k : ℕ) (flags : List Bool) (n : ℕ) → source (replicate k false ++ flags) n ≡ k + source flags n
+pub source_goes : (k : ℕ) (flags : List Bool) (n : ℕ) → source (replicate k false ++ flags) n ≡ k + source flags n
 source_goes zero flags n = omega arith
 source_goes (suc k) flags n = omega (arith, source_goes k flags n)
 
-source_front : (k : ℕ) (flags : List Bool) (n : ℕ) → n < k → source (replicate k true ++ flags) n ≡ n
+pub source_front : (k : ℕ) (flags : List Bool) (n : ℕ) → n < k → source (replicate k true ++ flags) n ≡ n
 source_front zero flags n lt = absurd (omega arith)
 source_front (suc k) flags zero lt = refl
 source_front (suc k) flags (suc n) lt = omega (arith, source_front k flags n (omega (arith, lt)))
 
-source_behind : (k : ℕ) (flags : List Bool) (n : ℕ) → k ≤ n → source (replicate k true ++ flags) n ≡ k + source flags (n - k)
+pub source_behind : (k : ℕ) (flags : List Bool) (n : ℕ) → k ≤ n → source (replicate k true ++ flags) n ≡ k + source flags (n - k)
 source_behind zero flags n le = let z : n - 0 ≡ n = omega arith in rw z (omega arith)
 source_behind (suc k) flags zero le = absurd (omega arith)
 source_behind (suc k) flags (suc n) le =

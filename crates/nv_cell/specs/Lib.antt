@@ -16,5 +16,6 @@ pub mod Readers
 pub mod Reading
 pub mod Weights
 pub mod Removal
+pub mod Cleaned
 pub mod Retained
 pub mod Room

@@ -1,5 +1,5 @@
 -- What callers ask of a cell.
-use Rattle.std.specs.Prelude.{ℕ, Bool, true, false, not, List, [], ◌∷◌, take, drop, count_by, slice_index_or, unwrap_or}
+use Rattle.std.specs.Prelude.{ℕ, Bool, true, false, not, List, [], ◌∷◌, take, drop, count_by, map, slice_index_or, unwrap_or}
 use Rattle.std.specs.List.{list_any}
 use Rattle.std.specs.Option.{option_map}
 use Rattle.nv_entry.specs.declared.item.Entry.{Entry}
@@ -16,6 +16,10 @@ use Rattle.nv_cell.specs.Marks.{is_current, is_killed, is_there}
 abbrev pub marks_by_entry : List Entry → List Mark → List (List Mark)
 marks_by_entry [] marks = []
 marks_by_entry (e ∷ later) marks = take (part_count e) marks ∷ marks_by_entry later (drop (part_count e) marks)
+
+-- of each published entry whether one of its parts is not out
+abbrev pub there_flags : CellState → List Bool
+there_flags cell = map (list_any is_there) (marks_by_entry (log_of cell) cell.marks)
 
 -- the marks of the published entries of a page, entry by entry
 abbrev pub marks_of_page : CellState → ℕ → List (List Mark)

@@ -1,5 +1,5 @@
 -- What is left of a cell once entries are taken out of its log.
-use Rattle.std.specs.Prelude.{◌≡◌, ℕ, ◌-◌, ◌≤◌, Bool, true, false, List, [], ◌∷◌, ◌++◌, length, replicate, slice_index_or, take}
+use Rattle.std.specs.Prelude.{◌≡◌, ℕ, zero, suc, ◌-◌, ◌≤◌, Bool, true, false, List, [], ◌∷◌, ◌++◌, length, replicate, slice_index_or, take}
 use Rattle.std.specs.List.{AllByRecursion}
 use Rattle.nv_entry.specs.declared.item.Entry.{Entry}
 use Rattle.nv_entry.specs.Covered.{part_count}
@@ -31,6 +31,13 @@ part_flags flags log = flags_by part_count flags log
 
 abbrev pub slot_flags : List Bool → List Entry → List Bool
 slot_flags flags log = flags_by slot_count flags log
+
+-- the number that an item had before some went, by its number among those that flags leave
+abbrev pub source : List Bool → ℕ → ℕ
+source [] n = n
+source (true ∷ flags) zero = zero
+source (true ∷ flags) (suc n) = suc (source flags n)
+source (false ∷ flags) n = suc (source flags n)
 
 -- a flag for each entry of the log, by those of the pages
 abbrev pub log_flags : List Bool → ChainState → List Bool

@@ -1,18 +1,32 @@
 -- Marks that are what keeps the parts of a log.
-use Rattle.std.specs.Prelude.{◌≡◌, ℕ, ◌<◌, [], Some, drop, length, slice_get, slice_index_or}
+use Rattle.std.specs.Prelude.{◌≡◌, ℕ, ◌<◌, if◌then◌else◌, List, [], ◌∷◌, Some, drop, length, slice_get, slice_index_or}
 use Rattle.nv_entry.specs.declared.held.Pair.{Pair}
+use Rattle.nv_entry.specs.declared.part.PartId.{PartId}
 use Rattle.nv_entry.specs.Counts.{live_of, valid_of}
-use Rattle.nv_entry.specs.Held.{Retention, keeps}
+use Rattle.nv_entry.specs.Held.{Retention, keeps, pair_name}
 use Rattle.nv_entry.specs.Log.{pairs}
 use Rattle.nv_log.specs.Chain.{log_pages, start_of}
 use Rattle.nv_cell.specs.Cell.{CellState, log_of}
 use Rattle.nv_cell.specs.Marks.{is_there, mark_at}
+use Rattle.nv_cell.specs.declared.mark.Mark.{Mark}
 use Rattle.nv_cell.specs.Readers.{counts_of}
 
 -- a part is current, killed or kept exactly where its pair is needed or pending
 pub record AreMarksOf (r : Retention) (cell : CellState) : Type 0 where
   pub block : r.block ≡ cell.block
   pub there : (n : ℕ) (pair : Pair) → slice_get (pairs r.block (log_of cell)) n ≡ Some pair → is_there (mark_at cell.marks n) ≡ keeps r pair
+
+-- the names of the pairs whose parts are not out
+abbrev pub names_there : List Pair → List Mark → List PartId
+names_there [] marks = []
+names_there (pair ∷ later) [] = []
+names_there (pair ∷ later) (mark ∷ marks) =
+    if is_there mark then pair_name pair ∷ names_there later marks else names_there later marks
+
+-- what the marks of a cell keep, as a retention: no snapshot, and by name each part that is not out
+abbrev pub retention_by_marks : CellState → Retention
+retention_by_marks cell =
+    record { block = cell.block; snapshots = []; pending = names_there (pairs cell.block (log_of cell)) cell.marks }
 
 -- how many published entries a page has
 abbrev pub published_on : CellState → ℕ → ℕ

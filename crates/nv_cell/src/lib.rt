@@ -3,6 +3,7 @@
 
 mod append;
 mod cell;
+pub mod clean_laws;
 mod closing;
 mod effects;
 mod erase;

@@ -1,9 +1,9 @@
 //! The parts of a cell's log: what keeps each, and the block of each page.
 
-ghost use Rattle.std.specs.Prelude.{◌≡◌, ◌<◌, [], slice_index_or};
+ghost use Rattle.std.specs.Prelude.{◌≡◌, ◌<◌, [], false, slice_index_or};
 ghost use Rattle.std.specs.Option.{option_copied};
 ghost use Rattle.nv_cell.specs.Cell.{block_named, log_of};
-ghost use Rattle.nv_cell.specs.Readers.{has_killed, marks_by_entry};
+ghost use Rattle.nv_cell.specs.Readers.{has_killed, marks_by_entry, there_flags};
 
 use crate::number::find_part;
 use crate::read::block_at;
@@ -23,6 +23,17 @@ impl InodeCell {
         let first = self.marks.first(entry);
         let end = self.marks.ends.end(entry);
         &self.marks.marks[first..end]
+    }
+
+    /// Whether anything keeps a part of a published entry, by the entry's place in the log: one of its parts is not
+    /// out. The time is the same at any size of the log.
+    pub fn keeps_entry(&self, entry: usize) -> bool
+        requires { entry < self.now.state.chain.tail }
+        ensures { result ≡ slice_index_or (there_flags self.now.state) entry false }
+    {
+        // The chain is one, so that its tail is no further than its entries.
+        let _ends = self.chain.ends();
+        self.marks.tallies[entry].there > 0
     }
 
     /// The block of a part of a published entry; none where the log has no such part, where it is no page, and where

@@ -1,4 +1,5 @@
 pub mod Binders
+pub mod ByFlags
 pub mod BlockSize
 pub mod Covering
 pub mod Currents

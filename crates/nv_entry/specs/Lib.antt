@@ -6,6 +6,7 @@ pub mod Held
 pub mod Index
 pub mod Counts
 pub mod Clean
+pub mod ByFlags
 pub mod Laws
 pub mod Node
 pub mod Bytes

@@ -1,7 +1,8 @@
 //! Laws of logs, each the contract of a function that does nothing.
 
 ghost use Rattle.std.specs.Prelude.{◌≡◌, ◌↔◌, ℕ, List, [], ◌∷◌, ◌++◌, false, true};
-ghost use Rattle.nv_entry.specs.Clean.{IsDroppable, entries_of, is_droppable};
+ghost use Rattle.nv_entry.specs.ByFlags.{kept_flags, pages_stay_by, stays_by};
+ghost use Rattle.nv_entry.specs.Clean.{IsDroppable, entries_of, entries_stay, is_droppable, pages_stay};
 ghost use Rattle.nv_entry.specs.Held.{Retention};
 ghost use Rattle.nv_entry.specs.Keys.{Key, is_page_key, parts_of};
 ghost use Rattle.nv_entry.specs.Laws.{IsFast, IsThorough, KeepsReads, OneMore, PartsAreSet, PartsRise, SetsAreParts};
@@ -61,4 +62,14 @@ pub fn thorough_takes_what_is_droppable()
 pub fn fast_takes_what_is_droppable()
     ensures { (r : Retention) (pages : List (List Entry)) → IsLog (entries_of pages)
         → IsFast r pages }
+{}
+
+/// A walk need not know what keeps the pairs of a log: a flag for each entry that says whether anything keeps one of
+/// its parts is enough, for single entries and for whole pages.
+pub fn walks_go_by_flags()
+    ensures entries { (r : Retention) (kept log : List Entry)
+        → stays_by r.block (kept_flags r log) kept log ≡ entries_stay r kept log }
+    ensures pages { (r : Retention) (kept : List Entry) (pages : List (List Entry))
+        → pages_stay_by r.block (kept_flags r (entries_of pages)) kept pages
+        ≡ pages_stay r kept pages }
 {}

@@ -85,6 +85,12 @@ fn takes_the_lowest_and_shows_runs(rt: HostRuntime) {
     give_next(&rt, &mut hand.pages, &mut list, 5);
     assert_runs(&rt, &list, &[(0, 0), (2, 2), (5, 5), (7, 7)]);
     has_numbers(&rt, &hand.data, &[3, 4, 1]);
+    assert!(rt; hand.chain.is_empty());
+    hand.chain.put(hand.data.take_all());
+    same(&rt, (hand.data.len(), hand.data.room()), (0, 0));
+    for (block, number) in hand.chain.iter().zip(&[3, 4, 1]) {
+        same(&rt, block.number(), BlockNo::new(*number));
+    }
     hand.dismantle();
     list.dismantle();
 }

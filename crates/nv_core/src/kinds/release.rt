@@ -1,11 +1,6 @@
 //! A deferred record is released.
 
-ghost use Rattle.std.specs.Prelude.{◌≡◌, ◌≢◌, ◌<◌, ◌∷◌, ℕ, Some, [], length, true};
-ghost use Rattle.nv_calls.specs.Retired.{CanTakeGone};
-ghost use Rattle.nv_calls.specs.Retiring.{erased, hand_with, name_of, released, released_blocks, with_back};
-ghost use Rattle.nv_cell.specs.Cell.{log_of, mark_named};
-ghost use Rattle.nv_cell.specs.Readers.{is_gone};
-ghost use Rattle.nv_cell.specs.declared.mark.Mark.TheVariants.{Kept};
+ghost use Rattle.std.specs.Prelude.{◌≡◌, ◌≢◌, ◌∷◌, ℕ, []};
 ghost use Rattle.nv_machine.specs.Snapshots.{release_turn};
 ghost use Rattle.nv_machine.specs.World.{empty_hand};
 ghost use Rattle.nv_machine.specs.Locks.{held_at};
@@ -23,10 +18,8 @@ use crate::running::Running;
 use crate::shared::Shared;
 use crate::turn::Turn;
 use nv_alloc::Hand;
-use nv_base::Ino;
 use nv_book::Record;
-use nv_cell::InodeCell;
-use nv_entry::PartId;
+use nv_clean::release_on;
 
 /// Releases the picked record: its part goes out. The drain turns to the last steps of this record.
 pub(crate) fn release(
@@ -61,49 +54,4 @@ pub(crate) fn release(
         left: draining.left,
     };
     end(shared, hand, running, Ending::Drains(drained))
-}
-
-/// Puts the part of a record out, and its block to the hand. An inode that is gone and keeps nothing more is erased,
-/// and its chain and number go to the hand. Takes no memory.
-fn release_on(cell: &mut InodeCell, picked: Record, hand: &mut Hand)
-    requires kept { mark_named cell.old.state (name_of picked) ≡ Some Kept }
-    requires room { 0 < hand.old.data.room }
-    requires size { hand.old.data.size ≡ cell.old.state.block }
-    requires settled { cell.old.state.chain.tail ≡ length cell.old.state.chain.entries }
-    requires gone { is_gone (log_of cell.old.state) ≡ true → CanTakeGone hand.old cell.old.state }
-    ensures cell { cell.new.state ≡ erased (released picked cell.old.state) }
-    ensures hand { hand.new ≡ hand_with picked.ino (released picked cell.old.state)
-        (record hand.old {
-          «data» = with_back (released_blocks picked cell.old.state) hand.old.data;
-        }) }
-{
-    let part = PartId {
-        entry: picked.entry,
-        part: picked.part,
-    };
-    // Each block that the cell has is of the size that it says.
-    cell.known();
-    if let Some(block) = cell.release(part) {
-        hand.data.put(block);
-    }
-    erase_gone(cell, picked.ino, hand);
-}
-
-/// Erases a cell whose inode is gone and keeps nothing: its chain goes to the hand, and its number unless the slot has
-/// had its last generation.
-fn erase_gone(cell: &mut InodeCell, ino: Ino, hand: &mut Hand)
-    requires settled { cell.old.state.chain.tail ≡ length cell.old.state.chain.entries }
-    requires gone { is_gone (log_of cell.old.state) ≡ true → CanTakeGone hand.old cell.old.state }
-    ensures cell { cell.new.state ≡ erased cell.old.state }
-    ensures hand { hand.new ≡ hand_with ino cell.old.state hand.old }
-{
-    if !cell.is_gone() || !cell.keeps_nothing() {
-        return;
-    }
-    let chain = cell.erase();
-    hand.chain.put(chain.into_blocks());
-    if cell.is_withheld() {
-        return;
-    }
-    hand.put_ino(ino);
 }

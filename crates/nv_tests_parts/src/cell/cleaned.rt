@@ -4,7 +4,9 @@ use super::entries::Says;
 use super::steps::{End, Step, play};
 use End::{Kept, Out};
 use Says::{Bind, Directory, File, Mode, Unbind, Write};
-use Step::{Commit, Counts, Fast, Free, MayGo, Names, PagesMayGo, Read, Release, Stat, Thorough};
+use Step::{
+    Commit, Counts, Fast, Free, Keeps, MayGo, Names, PagesMayGo, Read, Release, Stat, Thorough,
+};
 use nv_base::Kind;
 use nv_entry::Part;
 
@@ -36,12 +38,14 @@ const KILLER: &[Step] = &[
             (3, 0, Part::Page(0), 2, Out(Some(3))),
         ],
     ),
+    Keeps(&[true, true, false, true]),
     Counts(&[(2, 3)]),
     MayGo(&[true, true, false, true], true),
     MayGo(&[true, false, true, true], false),
     MayGo(&[true, true, true, false], false),
     Fast(Some(1), 0, 0),
     Thorough(Some(1), 1, 0),
+    Keeps(&[true, true, true]),
     Counts(&[(2, 3)]),
     Free(&[(1, 1), (5, 7)]),
     Read(b"cccc"),
@@ -50,6 +54,7 @@ const KILLER: &[Step] = &[
     // the snapshot is dropped
     Release(2, 0, Part::Size, None),
     Release(2, 0, Part::Page(0), Some(2)),
+    Keeps(&[true, false, true]),
     Thorough(None, 1, 0),
     Counts(&[(2, 2)]),
     Free(&[(2, 3), (5, 7)]),
@@ -72,10 +77,12 @@ const TOMBSTONE: &[Step] = &[
     Commit(1, 0, 1, &[Bind(b"a", 1)], &[]),
     Commit(2, 0, 2, &[Unbind(b"a")], &[(1, 0, Part::Bound, 1, Kept)]),
     Commit(3, 0, 2, &[Bind(b"b", 2)], &[]),
+    Keeps(&[true, true, false, true]),
     Thorough(Some(1), 0, 0),
     Names(&[(b"b", 2)]),
     MayGo(&[true, false, false, true], false),
     Release(1, 0, Part::Bound, None),
+    Keeps(&[true, false, false, true]),
     MayGo(&[true, true, false, true], false),
     MayGo(&[true, false, false, true], true),
     PagesMayGo(&[true], true),
@@ -102,6 +109,7 @@ const MODES: &[Step] = &[
     PagesMayGo(&[true, true, true, true, false], false),
     PagesMayGo(&[false, true, true, true, true], false),
     Fast(None, 6, 3),
+    Keeps(&[true, false, true]),
     Counts(&[(1, 1), (1, 1)]),
     Free(&[(2, 4), (6, 7)]),
     Stat(Kind::File, 8, 0, 9),

@@ -1,29 +1,30 @@
 //! What cleaners take out of a cell's log: the entries, or the pages, that are droppable by what keeps its parts.
 
 ghost use Rattle.std.specs.Prelude.{◌≡◌, ℕ, ◌↔◌, [], IfOk, IsTrue, Some, slice_get};
-ghost use Rattle.nv_alloc.specs.Block.{AreSized};
 ghost use Rattle.nv_entry.specs.declared.held.Pair.{Pair as PairValue};
 ghost use Rattle.nv_entry.specs.Clean.{entries_stay, pages_stay};
 ghost use Rattle.nv_entry.specs.Held.{keeps, retention_of};
 ghost use Rattle.nv_entry.specs.Log.{pairs_of};
 ghost use Rattle.nv_log.specs.Chain.{log_pages};
 ghost use Rattle.nv_cell.specs.Marks.{is_there, mark_at};
-ghost use Rattle.nv_cell.specs.Removal.{ArePublished, MayGo, log_flags};
+ghost use Rattle.nv_clean.specs.Plans.{unlinkable_of, wanted_of};
 ghost use Rattle.nv_cell.specs.Retained.{AreMarksOf};
 
 use super::device::Device;
-use crate::compare::push;
-use crate::device::queue_for;
-use nv_alloc::Block;
-use nv_cell::laws::{droppable_entries_may_go, droppable_pages_may_go};
+use super::whole::whole;
+use crate::compare::{push, same};
+use nv_base::{EntryId, Fault};
 use nv_cell::{InodeCell, Mark};
-use nv_entry::laws::{fast_takes_what_is_droppable, thorough_takes_what_is_droppable};
+use nv_clean::{
+    Cleaned, Unlinkable, Wanted, fast_on, prefers_thorough, thorough_on, unlinkable, wanted,
+};
 use nv_entry::{Entry, Pair, Retention, fast_keeps, thorough_keeps};
 use nv_log::Chain;
 use std::alloc::{AllocError, Global};
 use std::process::Abort;
 
-/// Takes the droppable entries out, and says how many entries and pages the log loses.
+/// Takes the droppable entries out, and says how many entries and pages the log loses. What stays is what the slow walk by
+/// a retention leaves.
 pub fn thorough(
     rt: &impl Abort,
     alloc: Global,
@@ -31,23 +32,33 @@ pub fn thorough(
     device: &mut Device,
     retention: &Retention<'_>,
 ) -> (usize, usize) {
-    let stays = entries_to_stay(rt, alloc, cell, retention);
-    assert!(rt; stays.len() == cell.tail());
-    let staying = cell.log().staying(&stays);
-    if staying >= cell.len() {
-        return (0, 0);
-    }
-    let entries = cell.len() - staying;
-    let count = staying.div_ceil(cell.entries_per_page());
-    let fresh = take_pages(rt, alloc, device, count);
-    assert!(rt; fresh.len() == count && are_sized(&fresh, cell.block_bytes() as usize));
-    let old = cell.compact(&stays, fresh);
-    let pages = old.len().saturating_sub(count);
-    device.give_pages(rt, alloc, old);
-    (entries, pages)
+    marks_are(rt, cell, retention);
+    let stays = thorough_flags(rt, alloc, retention, cell.log().log());
+    let want = ids_left(rt, alloc, cell.log().log(), &stays);
+    let found = walk_entries(rt, alloc, cell);
+    same(rt, found.entries(), want.len());
+    same(rt, found.is_all(), want.len() == cell.len());
+    let is_less_than_half = want.len() * 2 < cell.len();
+    same(rt, prefers_thorough(&found, cell.len()), is_less_than_half);
+    let pages = if found.is_all() {
+        0
+    } else {
+        found.pages() as u64
+    };
+    let mut hand = device.hand(rt, alloc, pages, 0);
+    assert!(rt; cell.tail() == cell.len() && !cell.has_killed());
+    assert!(rt; hand.pages.block_bytes() as u64 == cell.block_bytes());
+    assert!(rt; found.is_all() || hand.pages.len() as usize == found.pages());
+    assert!(rt; hand.chain.is_empty());
+    let cleaned = thorough_on(cell, found, &mut hand);
+    device.give_hand(rt, hand);
+    same(rt, cleaned.thorough, true);
+    has_ids(rt, cell, &want);
+    (cleaned.entries, cleaned.pages)
 }
 
-/// Takes the pages out of which each entry is droppable, and says how many entries and pages the log loses.
+/// Takes the pages out of which each entry is droppable, and says how many entries and pages the log loses. What stays is
+/// what the slow walk by a retention leaves.
 pub fn fast(
     rt: &impl Abort,
     alloc: Global,
@@ -55,47 +66,96 @@ pub fn fast(
     device: &mut Device,
     retention: &Retention<'_>,
 ) -> (usize, usize) {
-    let before = (cell.len(), cell.log().blocks().len());
-    let stays = pages_to_stay(rt, alloc, cell, retention);
-    let mut queue = queue_for(rt, alloc, stays.len() as u64);
-    assert!(rt; stays.len() == cell.log().ends().len());
-    assert!(rt; stays.iter().filter(|stays| !**stays).count() as u64 <= queue.room());
-    assert!(rt; queue.block_bytes() as u64 == cell.block_bytes());
-    cell.remove_pages(&stays, &mut queue);
-    device.give_queue(rt, queue);
-    (
-        before.0.saturating_sub(cell.len()),
-        before.1.saturating_sub(cell.log().blocks().len()),
-    )
-}
-
-fn take_pages(rt: &impl Abort, alloc: Global, device: &mut Device, count: usize) -> Vec<Block> {
-    let mut pages = Vec::new(alloc);
-    for _ in 0..count {
-        push(rt, &mut pages, device.take_page(rt));
-    }
-    pages
-}
-
-fn are_sized(blocks: &[Block], size: usize) -> bool
-    ensures { IsTrue result ↔ AreSized size blocks.now }
-{
-    blocks.iter().all(|block| block.bytes().len() == size)
-}
-
-fn entries_to_stay(
-    rt: &impl Abort,
-    alloc: Global,
-    cell: &InodeCell,
-    retention: &Retention<'_>,
-) -> Vec<bool>
-    ensures { MayGo result.items cell.now.state }
-{
     marks_are(rt, cell, retention);
-    cell.known();
-    thorough_takes_what_is_droppable();
-    droppable_entries_may_go();
-    thorough_flags(rt, alloc, retention, cell.log().log())
+    let stays = fast_flags(rt, alloc, retention, cell.log());
+    let want = ids_on_pages(rt, alloc, cell.log(), &stays);
+    let found = walk_pages(rt, alloc, cell);
+    same(
+        rt,
+        found.pages() as usize,
+        stays.iter().filter(|stays| !**stays).count(),
+    );
+    let mut hand = device.hand(rt, alloc, 0, found.pages());
+    assert!(rt; cell.tail() == cell.len() && !cell.has_killed());
+    assert!(rt; hand.pages.block_bytes() as u64 == cell.block_bytes());
+    assert!(rt; found.pages() <= hand.pages.room());
+    let (entries, pages) = (found.entries(), found.pages() as usize);
+    let cleaned = fast_on(cell, found, &mut hand);
+    device.give_hand(rt, hand);
+    same(
+        rt,
+        cleaned,
+        Cleaned {
+            thorough: false,
+            entries,
+            pages,
+        },
+    );
+    has_ids(rt, cell, &want);
+    (cleaned.entries, cleaned.pages)
+}
+
+/// The walk by entries: once more where a growth is refused, which leaves the cell as it was.
+fn walk_entries(rt: &impl Abort, alloc: Global, cell: &InodeCell) -> Wanted
+    ensures { result ≡ wanted_of cell.now.state }
+{
+    let before = whole(cell);
+    match wanted(alloc, cell) {
+        Ok(found) => found,
+        Err(fault) => {
+            same(rt, fault, Fault::OutOfMemory);
+            same(rt, whole(cell), before);
+            wanted(alloc, cell).expect(rt, "memory for a walk")
+        }
+    }
+}
+
+/// The walk by pages: once more where a growth is refused, which leaves the cell as it was.
+fn walk_pages(rt: &impl Abort, alloc: Global, cell: &InodeCell) -> Unlinkable
+    ensures { result ≡ unlinkable_of cell.now.state }
+{
+    let before = whole(cell);
+    match unlinkable(alloc, cell) {
+        Ok(found) => found,
+        Err(fault) => {
+            same(rt, fault, Fault::OutOfMemory);
+            same(rt, whole(cell), before);
+            unlinkable(alloc, cell).expect(rt, "memory for a walk")
+        }
+    }
+}
+
+/// The ids of the entries that stay.
+fn ids_left(rt: &impl Abort, alloc: Global, log: &[Entry], stays: &[bool]) -> Vec<EntryId> {
+    let mut ids = Vec::new(alloc);
+    for (entry, stays) in log.iter().zip(stays) {
+        if *stays {
+            push(rt, &mut ids, entry.id);
+        }
+    }
+    ids
+}
+
+/// The ids of the entries on the pages that stay.
+fn ids_on_pages(rt: &impl Abort, alloc: Global, chain: &Chain, stays: &[bool]) -> Vec<EntryId> {
+    let mut ids = Vec::new(alloc);
+    for (k, stays) in stays.iter().enumerate() {
+        if *stays {
+            for entry in chain.page_entries(k) {
+                push(rt, &mut ids, entry.id);
+            }
+        }
+    }
+    ids
+}
+
+/// The log has the entries of these ids.
+fn has_ids(rt: &impl Abort, cell: &InodeCell, want: &[EntryId]) {
+    let log = cell.log().log();
+    same(rt, log.len(), want.len());
+    for (entry, want) in log.iter().zip(want) {
+        same(rt, entry.id, *want);
+    }
 }
 
 fn thorough_flags(
@@ -110,22 +170,6 @@ fn thorough_flags(
         Ok(stays) => stays,
         Err(_) => thorough_keeps(alloc, retention, log).expect(rt, "memory for flags"),
     }
-}
-
-fn pages_to_stay(
-    rt: &impl Abort,
-    alloc: Global,
-    cell: &InodeCell,
-    retention: &Retention<'_>,
-) -> Vec<bool>
-    ensures may { MayGo (log_flags result.items cell.now.state.chain) cell.now.state }
-    ensures published { ArePublished result.items cell.now.state.chain }
-{
-    marks_are(rt, cell, retention);
-    cell.known();
-    fast_takes_what_is_droppable();
-    droppable_pages_may_go();
-    fast_flags(rt, alloc, retention, cell.log())
 }
 
 fn fast_flags(rt: &impl Abort, alloc: Global, retention: &Retention<'_>, chain: &Chain) -> Vec<bool>

@@ -1,8 +1,8 @@
 //! The blocks that a cell is given: those of the first of two CPUs, of which the root has block 0.
 
 use crate::compare::same;
-use crate::device::{free_list, next, queue_for, take};
-use nv_alloc::{Block, BlockQueue, ChainPages, FreeList, FreeRun};
+use crate::device::{free_list, next, queue_for, reserve, take};
+use nv_alloc::{Block, BlockQueue, ChainPages, FreeList, FreeRun, Hand};
 use nv_base::BlockNo;
 use nv_scenes::Row;
 use std::alloc::Global;
@@ -78,6 +78,23 @@ impl Device {
         queue.give_home(&mut self.list);
         same(rt, queue.len(), 0);
         queue.dismantle();
+    }
+
+    /// A hand with so many log pages, and with room for more.
+    pub fn hand(&mut self, rt: &impl Abort, alloc: Global, pages: u64, room: u64) -> Hand {
+        let device = nv_scenes::geometry(geometry(16)).expect(rt, "a geometry");
+        let mut hand = Hand::new(alloc, &device);
+        assert!(rt; pages < 1_000 && room < 1_000);
+        reserve(rt, &mut hand.pages, pages + room);
+        same(rt, take(rt, &mut self.list, &mut hand.pages, pages), pages);
+        hand
+    }
+
+    /// Gives all blocks of a hand back.
+    pub fn give_hand(&mut self, rt: &impl Abort, mut hand: Hand) {
+        hand.give_home(&mut self.list);
+        same(rt, hand.is_empty(), true);
+        hand.dismantle();
     }
 
     /// The runs of free blocks are these, from the first number to the last.

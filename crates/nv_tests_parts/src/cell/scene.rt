@@ -74,18 +74,28 @@ impl Scene {
         same(rt, self.cell.mark(part), Some(Mark::Out));
     }
 
-    /// Cleans the log, thoroughly or fast, while these snapshots live and nothing is pending; and says how many entries
-    /// and pages go.
+    /// Puts a part out, whatever block it has.
+    pub fn put_out(&mut self, rt: &impl Abort, part: PartId) {
+        let mark = self.cell.mark(part);
+        assert!(rt; mark == Some(Mark::Killed) || mark == Some(Mark::Kept));
+        if let Some(block) = self.cell.release(part) {
+            self.device.give(rt, block);
+        }
+    }
+
+    /// Cleans the log, thoroughly or fast, while these snapshots live and these parts are pending; and says how many
+    /// entries and pages go.
     pub fn clean(
         &mut self,
         rt: &impl Abort,
         is_thorough: bool,
         snapshots: &[Epoch],
+        pending: &[PartId],
     ) -> (usize, usize) {
         let retention = Retention {
             block: BLOCK,
             snapshots,
-            pending: &[],
+            pending,
         };
         let (cell, device) = (&mut self.cell, &mut self.device);
         if is_thorough {

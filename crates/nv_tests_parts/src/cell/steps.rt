@@ -43,6 +43,8 @@ pub enum Step {
     Counts(&'static [(usize, usize)]),
     /// Whether the inode is gone, nothing of it is kept, and the slot is withheld; its generation and version.
     Slot([bool; 3], u64, u64),
+    /// Whether anything keeps a part of each entry.
+    Keeps(&'static [bool]),
     /// Thorough cleaning, while at most this snapshot lives, and how many entries and pages the log loses.
     Thorough(Option<u64>, usize, usize),
     /// The same of fast cleaning.
@@ -90,6 +92,7 @@ fn make(rt: &impl Abort, scene: &mut Scene, step: &Step) {
         Step::Slot(is, generation, version) => {
             is_slot(rt, &scene.cell, *is, *generation, *version)
         }
+        Step::Keeps(want) => keeps(rt, &scene.cell, want),
         Step::Thorough(snapshot, entries, pages) => {
             cleans(rt, scene, true, *snapshot, (*entries, *pages))
         }
@@ -100,6 +103,14 @@ fn make(rt: &impl Abort, scene: &mut Scene, step: &Step) {
         Step::PagesMayGo(stays, want) => pages_may_go(rt, &scene.cell, stays, *want),
         Step::Erase => scene.erase(rt),
         Step::Free(want) => scene.device.has_free(rt, want),
+    }
+}
+
+fn keeps(rt: &impl Abort, cell: &InodeCell, want: &[bool]) {
+    same(rt, cell.tail(), want.len());
+    for (place, want) in want.iter().enumerate() {
+        assert!(rt; place < cell.tail());
+        same_for(rt, &place, cell.keeps_entry(place), *want);
     }
 }
 
@@ -121,8 +132,8 @@ fn cleans(
     want: (usize, usize),
 ) {
     let found = match snapshot {
-        None => scene.clean(rt, is_thorough, &[]),
-        Some(snapshot) => scene.clean(rt, is_thorough, &[Epoch::new(snapshot)]),
+        None => scene.clean(rt, is_thorough, &[], &[]),
+        Some(snapshot) => scene.clean(rt, is_thorough, &[Epoch::new(snapshot)], &[]),
     };
     same(rt, found, want);
 }

@@ -5,7 +5,8 @@ ghost use Rattle.std.specs.Prelude.{◌≡◌, IfSome, sum};
 use crate::compare::same_for;
 use nv_base::Epoch;
 use nv_entry::{
-    Entry, Part, PartId, Retention, fast_keeps, is_droppable, is_kept, live, thorough_keeps, valid,
+    Entry, Part, PartId, Retention, fast_keeps, hides, is_droppable, is_kept, live, thorough_keeps,
+    valid,
 };
 use nv_scenes::id;
 use nv_scenes::logs::{BLOCK, Line, epochs, log_of, retention};
@@ -320,9 +321,32 @@ fn are_walked(
     let retention = scene.retention();
     let thorough = thorough_keeps(alloc, &retention, &scene.log)?;
     same_for(rt, &counts, thorough.as_slice(), entries);
+    let by_flags = walked_by_flags(alloc, &retention, &scene.log)?;
+    same_for(rt, &counts, by_flags.as_slice(), entries);
     let fast = fast_cleaned(rt, alloc, &retention, &scene.log, counts)?;
     same_for(rt, &counts, fast.as_slice(), pages);
     Ok(())
+}
+
+/// Which entries stay in a walk that knows of each only whether anything keeps it.
+fn walked_by_flags(
+    alloc: Global,
+    retention: &Retention<'_>,
+    log: &[Entry],
+) -> Result<Vec<bool>, Fail> {
+    let mut stays = Vec::new(alloc);
+    for place in 0..log.len() {
+        let later = &log[place + 1..];
+        let flag = is_kept(retention, &log[place], later);
+        let goes = !flag && !later.is_empty() && !hides_any(&log[place], log, &stays);
+        stays.push(!goes)?;
+    }
+    Ok(stays)
+}
+
+/// Whether an entry sets a key to absent that one of the earlier entries covers which stay.
+fn hides_any(entry: &Entry, log: &[Entry], stays: &[bool]) -> bool {
+    log.iter().zip(stays).any(|(earlier, stays)| *stays && hides(BLOCK, &entry.item, &earlier.item))
 }
 
 fn fast_cleaned(

@@ -1,7 +1,8 @@
 //! Small callers of the laws.
 
-ghost use Rattle.std.specs.Prelude.{◌≡◌, ◌<◌, ℕ, false, true, List, ◌∷◌, ◌++◌};
+ghost use Rattle.std.specs.Prelude.{◌≡◌, ◌<◌, ℕ, false, true, List, [], ◌∷◌, ◌++◌};
 ghost use Rattle.std.specs.List.{AllByRecursion};
+ghost use Rattle.nv_entry.specs.ByFlags.{kept_flags, pages_stay_by, stays_by};
 ghost use Rattle.nv_entry.specs.Clean.{IsDroppable, entries_of, is_droppable, kept_of, pages_left};
 ghost use Rattle.nv_entry.specs.Held.{Retention};
 ghost use Rattle.nv_entry.specs.Index.{names_of};
@@ -14,10 +15,12 @@ ghost use Rattle.nv_entry.specs.declared.item.Item.{Item};
 ghost use Rattle.nv_entry.specs.declared.key.Datum.{Datum};
 ghost use Rattle.nv_entry.specs.declared.key.Setting.TheVariants.{Present};
 ghost use Rattle.nv_entry.specs.declared.part.Part.{Part};
+ghost use Rattle.nv_tests_parts.specs.Rows.{killer, modes, modes_left, tombstone};
 
 use nv_entry::laws::{
     block_size_matters_to_pages_alone, droppable_is_tested, fast_takes_what_is_droppable,
     parts_are_in_order, removal_keeps_reads, sets_are_parts, thorough_takes_what_is_droppable,
+    walks_go_by_flags,
 };
 
 fn a_set_value_has_a_part()
@@ -67,6 +70,30 @@ fn names_keep_their_order_in_fast_cleaning()
     fast_takes_what_is_droppable();
 }
 
+fn retentions_with_the_same_flags_clean_alike()
+    ensures { (r s : Retention) (log : List Entry) → r.block ≡ s.block
+        → kept_flags r log ≡ kept_flags s log → kept_of r log ≡ kept_of s log }
+{
+    walks_go_by_flags();
+}
+
+/// The walk by flags of the worked logs: what is kept of the first one's binding keeps its tombstone.
+fn walks_by_flags_are_computed()
+    ensures held { stays_by 4 (true ∷ true ∷ false ∷ true ∷ []) [] tombstone
+        ≡ true ∷ true ∷ true ∷ true ∷ [] }
+    ensures released { stays_by 4 (true ∷ false ∷ false ∷ true ∷ []) [] tombstone
+        ≡ true ∷ false ∷ false ∷ true ∷ [] }
+    ensures killer { stays_by 4 (true ∷ true ∷ false ∷ true ∷ []) [] killer
+        ≡ true ∷ true ∷ false ∷ true ∷ [] }
+    ensures last { stays_by 4 (true ∷ false ∷ false ∷ false ∷ []) [] killer
+        ≡ true ∷ false ∷ false ∷ true ∷ [] }
+    ensures fast { pages_stay_by 4
+        (true ∷ false ∷ false ∷ false ∷ false ∷ false ∷ false ∷ false ∷ true ∷ []) [] modes
+        ≡ true ∷ false ∷ false ∷ false ∷ true ∷ [] }
+    ensures repeated { pages_stay_by 4 (true ∷ false ∷ true ∷ []) [] modes_left
+        ≡ true ∷ true ∷ [] }
+{}
+
 fn a_mode_is_read_with_any_block_size()
     ensures { (block : ℕ) (log : List Entry)
         → value_now block log ModeKey ≡ value_now 1 log ModeKey }
@@ -82,5 +109,7 @@ fn laws_are_called(_rt: HostRuntime) {
     the_node_stays_without_a_droppable_entry();
     a_thoroughly_cleaned_node_is_the_same();
     names_keep_their_order_in_fast_cleaning();
+    retentions_with_the_same_flags_clean_alike();
+    walks_by_flags_are_computed();
     a_mode_is_read_with_any_block_size();
 }

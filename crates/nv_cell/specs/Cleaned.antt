@@ -1,0 +1,102 @@
+-- What a cleaning keeps of a cell: the nodes that its log gives, its blocks, and its parts under
+-- their new numbers.
+use Rattle.std.specs.Prelude.{◌≡◌, ◌≤◌, ℕ, Bool, true, false, List, Some, None, option_to_list, slice_get, slice_index_or}
+use Rattle.std.specs.List.{AllByRecursion, flat_map}
+use Rattle.nv_alloc.specs.Block.{BlockValue}
+use Rattle.nv_entry.specs.Held.{Retention, holds, is_current, pair_name}
+use Rattle.nv_entry.specs.Laws.{SpansAreKept}
+use Rattle.nv_entry.specs.Log.{pairs}
+use Rattle.nv_entry.specs.Node.{node_at, node_now}
+use Rattle.nv_entry.specs.Sound.{IsSound}
+use Rattle.nv_entry.specs.declared.held.Pair.{Pair}
+use Rattle.nv_entry.specs.declared.item.Entry.{Entry}
+use Rattle.nv_entry.specs.declared.part.PartId.{PartId}
+use Rattle.nv_cell.specs.Cell.{CellState, HasBlocks, HasMarks, log_of}
+use Rattle.nv_cell.specs.Marks.{is_there, mark_at}
+use Rattle.nv_cell.specs.Named.{number_named}
+use Rattle.nv_cell.specs.Numbers.{is_number}
+use Rattle.nv_cell.specs.Removal.{part_flags, source}
+
+-- ---- nodes
+
+-- the blocks of a cell's parts, in the order of the parts
+abbrev pub blocks_there : CellState → List BlockValue
+blocks_there cell = flat_map option_to_list cell.blocks
+
+-- the node at the end of an epoch is the same, whatever the blocks have
+abbrev pub IsSameAt : CellState → CellState → ℕ → Type 0
+IsSameAt old new epoch =
+    (bytes : ℕ → List ℕ)
+    → node_at bytes new.block epoch (log_of new) ≡ node_at bytes old.block epoch (log_of old)
+
+-- the node of now is the same, that of each living snapshot, and that of each epoch whose pairs are
+-- all needed or pending; the log is sound if it was; the same blocks stand in the same order; and
+-- each part that is left has its mark and, if it is there, its block
+pub record KeepsNodes (r : Retention) (old new : CellState) : Type 0 where
+  pub now : (bytes : ℕ → List ℕ)
+      → node_now bytes new.block (log_of new) ≡ node_now bytes old.block (log_of old)
+  pub held : AllByRecursion (IsSameAt old new) r.snapshots
+  pub kept : (epoch : ℕ) → SpansAreKept r epoch (log_of old) → IsSameAt old new epoch
+  pub sound : (bytes : ℕ → List ℕ) → IsSound bytes old.block (log_of old)
+      → IsSound bytes new.block (log_of new)
+  pub blocks_stay : blocks_there new ≡ blocks_there old
+  pub marks : HasMarks new
+  pub blocks : HasBlocks new
+
+-- ---- parts
+
+-- a log has a pair of that name and birth which is no longer current, and the living snapshots that
+-- hold it are those which are said to do so
+pub record HasDeadPair (living : List ℕ) (block : ℕ) (log : List Entry) (id : PartId) (birth : ℕ)
+    (is_held_by : ℕ → Bool) : Type 0 where
+  pub n : ℕ
+  pub pair : Pair
+  pub is : slice_get (pairs block log) n ≡ Some pair
+  pub name : pair_name pair ≡ id
+  pub birth_is : pair.birth ≡ birth
+  pub died : is_current pair ≡ false
+  pub holders : AllByRecursion (λ s. is_held_by s ≡ holds s pair) living
+
+-- each pair of a log that has died had died by that epoch
+abbrev pub AreDeadBy : ℕ → ℕ → List Entry → Type 0
+AreDeadBy epoch block log =
+    (n : ℕ) (pair : Pair) (death : ℕ) → slice_get (pairs block log) n ≡ Some pair
+    → pair.death ≡ Some death → death ≤ epoch
+
+-- a pair was the pair `n` of a log: of its name and birth, current where it is, and held by the
+-- same living snapshots
+pub record WasPair (living : List ℕ) (block : ℕ) (log : List Entry) (n : ℕ)
+    (pair : Pair) : Type 0 where
+  pub old : Pair
+  pub is : slice_get (pairs block log) n ≡ Some old
+  pub name : pair_name old ≡ pair_name pair
+  pub birth : old.birth ≡ pair.birth
+  pub current : is_current pair ≡ is_current old
+  pub holders : AllByRecursion (λ s. holds s pair ≡ holds s old) living
+
+-- one of the items that are left had this number
+pub record HasNumber (flags : List Bool) (was : ℕ) : Type 0 where
+  pub n : ℕ
+  pub is : source flags n ≡ was
+
+-- the number that the part `n` of what flags leave of a cell had before
+abbrev pub was_number : List Bool → CellState → ℕ → ℕ
+was_number flags old n = source (part_flags flags (log_of old)) n
+
+-- each part of the new cell has the mark, the block, the name and the pair that it had before; each
+-- part that is there has a number; and a dead pair whose part is there is told as before
+pub record KeepsRecords (r : Retention) (flags : List Bool) (old new : CellState) : Type 0 where
+  pub marks : (n : ℕ) → mark_at new.marks n ≡ mark_at old.marks (was_number flags old n)
+  pub blocks : (n : ℕ)
+      → slice_index_or new.blocks n None ≡ slice_index_or old.blocks (was_number flags old n) None
+  pub names : (id : PartId) (n : ℕ)
+      → is_number (number_named (log_of new) id) n
+      ≡ is_number (number_named (log_of old) id) (was_number flags old n)
+  pub pairs : (n : ℕ) (pair : Pair) → slice_get (pairs new.block (log_of new)) n ≡ Some pair
+      → WasPair r.snapshots old.block (log_of old) (was_number flags old n) pair
+  pub there : (was : ℕ) → is_there (mark_at old.marks was) ≡ true
+      → HasNumber (part_flags flags (log_of old)) was
+  pub recorded : (id : PartId) (birth : ℕ) (is_held_by : ℕ → Bool)
+      → (h : HasDeadPair r.snapshots old.block (log_of old) id birth is_held_by)
+      → is_there (mark_at old.marks h.n) ≡ true
+      → HasDeadPair r.snapshots new.block (log_of new) id birth is_held_by

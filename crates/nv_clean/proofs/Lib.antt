@@ -1,0 +1,5 @@
+mod Counted
+pub mod Cleanings
+pub mod Covering
+pub mod Pages
+pub mod Walking

@@ -1,0 +1,3 @@
+pub mod Cleaned
+pub mod Cover
+pub mod Plans
