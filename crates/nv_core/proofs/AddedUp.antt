@@ -8,7 +8,7 @@ use Rattle.nv_machine.proofs.FromScratch.{each_once}
 use Rattle.nv_machine.specs.Held.{pending_in}
 use Rattle.nv_machine.specs.Numbers.{IsEachOnce, all_blocks}
 use Rattle.nv_machine.specs.World as machine
-use Rattle.nv_machine.proofs.Counts.{IsOfNumbers, of_numbers}
+use Rattle.nv_machine.proofs.WorldSizes.{IsOfNumbers, of_numbers}
 use Rattle.nv_core.proofs.Pending.{pending_counts}
 use Rattle.nv_core.proofs.PendingKept.{pending_few}
 use Rattle.nv_core.proofs.SpaceLaw.{adds_up}

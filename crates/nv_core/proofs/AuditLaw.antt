@@ -26,7 +26,7 @@ use Rattle.nv_machine.proofs.FiledRuns.{known}
 use Rattle.nv_machine.proofs.FromScratch.{scanned}
 use Rattle.nv_machine.proofs.HeldLaw.{pairs_told}
 use Rattle.nv_machine.proofs.HeldMarks.{same_default, used_there}
-use Rattle.nv_machine.proofs.MarkedRuns.{are_cells}
+use Rattle.nv_machine.proofs.CellMarksRuns.{are_cells}
 use Rattle.nv_core.specs.Audited.{device_of, parts_by_actor}
 use Rattle.nv_core.proofs.AuditNamed.{named_so}
 use Rattle.nv_core.proofs.AuditRecords.{alike}

@@ -38,7 +38,7 @@ use Rattle.nv_machine.specs.Recorded.{is_kept, is_record_of, recorded_in}
 use Rattle.nv_machine.specs.Starts.{IsStart}
 use Rattle.nv_machine.specs.Step.{after}
 use Rattle.nv_machine.specs.World.{Event, World, cell_at, no_cell}
-use Rattle.nv_machine.proofs.EachOf.{all_at, all_back, all_weaker, all_with}
+use Rattle.nv_machine.proofs.EachElement.{all_at, all_back, all_weaker, all_with}
 use Rattle.nv_machine.proofs.FiledHeld.{recorded_for}
 use Rattle.nv_machine.proofs.FiledLaw.{all_marked, recorded_all, recorded_once}
 use Rattle.nv_machine.proofs.FiledLists.{count, count_append, count_cons, one}

@@ -3,7 +3,7 @@ use Rattle.std.proofs.Common.{◌≡◌, ◌∙◌, ℕ, ◌<◌, ◌≤◌, Boo
 use Rattle.std.specs.Prelude.{slice_index_or}
 use Rattle.std.proofs.lemmas.Bool.{ltb-false, ltb-true}
 use Rattle.std.proofs.lemmas.List.{get_or_past}
-use Rattle.nv_machine.proofs.Moves.{moves_end, steps_few}
+use Rattle.nv_machine.proofs.MoveBounds.{moves_end, steps_few}
 use Rattle.nv_machine.specs.Bound.{bound_at, bound_of, most_steps}
 use Rattle.nv_machine.specs.World as machine
 use Rattle.nv_machine.specs.World.{actor_at, idle}

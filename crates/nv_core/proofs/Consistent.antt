@@ -4,7 +4,6 @@ use Rattle.nv_base.specs.declared.geometry.GeometryNumbers.{GeometryNumbers}
 use Rattle.nv_book.specs.declared.record.Record.{Record}
 use Rattle.nv_machine.proofs.CommitNumbers.{events_counted}
 use Rattle.nv_machine.proofs.CopiesAll.{all_copied}
-use Rattle.nv_machine.proofs.CopyMarks.{all_have_marks}
 use Rattle.nv_machine.proofs.CopyTrees.{trees_are_copied, trees_are_plain}
 use Rattle.nv_machine.proofs.FiledRuns.{are_deferred}
 use Rattle.nv_machine.proofs.FitsPlain.{plain_nodes}
@@ -29,7 +28,7 @@ consistent_after g start records events is_start = record {
   tree = trees_are_plain g start records events is_start;
   commit = events_counted events start (plain_of start) refl;
   epoch = (in_step g start records events is_start).epoch;
-  snapshots = all_copied g start records is_start (all_have_marks g start records is_start) events;
+  snapshots = all_copied g start records is_start events;
   snapshot_trees = λ snapshot lives. trees_are_copied g start records events snapshot is_start lives;
 }
 

@@ -25,7 +25,7 @@ use Rattle.nv_core.specs.declared.running.Running.{Running}
 use Rattle.nv_core.specs.declared.shared.Shared.{Shared}
 use Rattle.nv_core.specs.declared.world.Actor.{Actor}
 use Rattle.nv_core.proofs.GivenCells.{given_home, given_slots, many_cells}
-use Rattle.nv_machine.proofs.Counts.{of_numbers}
+use Rattle.nv_machine.proofs.WorldSizes.{of_numbers}
 use Rattle.nv_core.proofs.GivenEnter.{given_takes, no_journal}
 use Rattle.nv_core.proofs.GivenKinds.{given_kind}
 use Rattle.nv_core.proofs.GivenLaws.{IsGiven, given_after}

@@ -60,6 +60,7 @@ pub mod Settled
 pub mod SettledLogs
 pub mod SettledPages
 pub mod ShownCalls
+pub mod Sinks
 pub mod SlotLists
 pub mod SnapRest
 pub mod SnapTests

@@ -29,8 +29,8 @@ use Rattle.nv_machine.specs.Recorded.{IsOfPair, is_kept, is_record_of}
 use Rattle.nv_machine.specs.Starts.{IsStart}
 use Rattle.nv_machine.specs.Step.{after}
 use Rattle.nv_machine.specs.World.{Actor, Draining, Drop, Event, LockPicked, Make, Next, Pick, Pin, Release, Running, Show, SnapshotStep, Snapshots, Unpin, World, actor_at, cell_at, idle, owner_at}
-use Rattle.nv_machine.proofs.EachOf.{all_back}
-use Rattle.nv_machine.proofs.Erasing.{runs_inside}
+use Rattle.nv_machine.proofs.EachElement.{all_back}
+use Rattle.nv_machine.proofs.OverEvents.{runs_inside}
 use Rattle.nv_machine.proofs.FiledLaw.{recorded_once, recorded_pairs}
 use Rattle.nv_machine.proofs.FiledLists.{count, count_append}
 use Rattle.nv_machine.proofs.FiledMarks.{bit_is}
@@ -38,9 +38,9 @@ use Rattle.nv_machine.proofs.FromScratch.{all_numbers}
 use Rattle.nv_machine.proofs.Generations.{inodes_early}
 use Rattle.nv_machine.proofs.HandNumbers.{chains_below, parts_below}
 use Rattle.nv_machine.proofs.Lists.{self}
-use Rattle.nv_machine.proofs.Locked.{lent_cell}
-use Rattle.nv_machine.proofs.MarkedRuns.{all_parts}
-use Rattle.nv_machine.proofs.Numbered.{lent_inside}
+use Rattle.nv_machine.proofs.LocksHeld.{lent_cell}
+use Rattle.nv_machine.proofs.CellMarksRuns.{all_parts}
+use Rattle.nv_machine.proofs.BlockNumbers.{lent_inside}
 use Rattle.nv_machine.proofs.Pairs.{its_number}
 use Rattle.nv_machine.proofs.PartsFor.{own_all, own_count}
 use Rattle.nv_machine.proofs.Pins.{pins_of_shows}
@@ -49,7 +49,7 @@ use Rattle.nv_machine.proofs.PoolLaw.{all_pooled}
 use Rattle.nv_machine.proofs.PoolRuns.{standing}
 use Rattle.nv_machine.proofs.PoolTurns.{Standing}
 use Rattle.nv_machine.proofs.Reached.{reached}
-use Rattle.nv_machine.proofs.Counts.{of_numbers}
+use Rattle.nv_machine.proofs.WorldSizes.{of_numbers}
 use Rattle.nv_core.proofs.GivenOn.{HasOn, HasPicked}
 use Rattle.nv_core.proofs.HeldPages.{none_out_at}
 

@@ -39,7 +39,7 @@ use Rattle.nv_entry.specs.Log.{IsLog, pairs, value_of}
 use Rattle.nv_entry.specs.declared.item.Entry.{Entry}
 use Rattle.nv_entry.specs.declared.part.Part.TheVariants as part
 use Rattle.nv_entry.specs.declared.part.PartId.{PartId}
-use Rattle.nv_machine.proofs.EachOf.{all_back}
+use Rattle.nv_machine.proofs.EachElement.{all_back}
 use Rattle.nv_machine.proofs.FiledLaw.{recorded_once, recorded_pairs}
 use Rattle.nv_machine.proofs.FiledLists.{count, count_append, count_cons}
 use Rattle.nv_machine.proofs.Pairs.{its_number}

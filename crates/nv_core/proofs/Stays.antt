@@ -26,7 +26,7 @@ use Rattle.nv_machine.specs.Locks.{AreLocks, HoldsIts, commits_at, held_at, is_o
 use Rattle.nv_machine.specs.World as machine
 use Rattle.nv_machine.specs.World.{actor_at, owner_at}
 use Rattle.nv_machine.proofs.Lists.{or_right}
-use Rattle.nv_machine.proofs.Locked.{owner_is}
+use Rattle.nv_machine.proofs.LocksHeld.{owner_is}
 use Rattle.nv_core.specs.Committing.{IsCommitting}
 use Rattle.nv_core.specs.Frames.{LeavesRest}
 use Rattle.nv_core.specs.Nodes.{CanRead, HasOwn, HoldHandles, wanted_over}

@@ -13,6 +13,7 @@ pub mod Reports
 pub mod Rooms
 pub mod Settled
 pub mod Shown
+pub mod Sinks
 pub mod Steps
 pub mod Takings
 pub mod Told

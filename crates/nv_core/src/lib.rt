@@ -25,10 +25,12 @@ mod reports;
 mod running;
 mod shared;
 mod showing;
+mod sink;
 mod slots;
 mod snaps;
 mod step;
 mod tree;
+mod tree_to;
 mod turn;
 mod whole;
 mod world;
@@ -41,8 +43,9 @@ pub use nv_base::{
     Kind, Mode, Name,
 };
 pub use nv_calls::{Answer, Call, SnapshotCall};
-pub use nv_entry::{Path, Tree, TreeNode};
+pub use nv_entry::{NodeCopy, Path, Tree, TreeNode};
 pub use reports::{Lists, LogCounts, Space};
+pub use sink::{Sink, SinkFault};
 pub use snaps::{SnapCounts, Snaps};
 pub use whole::CallFault;
 pub use world::World;

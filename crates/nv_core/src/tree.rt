@@ -82,7 +82,7 @@ impl Shared {
     }
 
     /// The node under a handle in a living snapshot: at its epoch the settled logs have the nodes of the logs.
-    fn snapshot_node(
+    pub(crate) fn snapshot_node(
         &self,
         alloc: Global,
         handle: &Handle,
@@ -120,7 +120,11 @@ impl Shared {
     }
 
     /// The node under a handle by its settled log; none where the handle is stale.
-    fn settled_node(&self, alloc: Global, handle: &Handle) -> Result<Option<NodeCopy>, Fault>
+    pub(crate) fn settled_node(
+        &self,
+        alloc: Global,
+        handle: &Handle,
+    ) -> Result<Option<NodeCopy>, Fault>
         requires { AreSettled (shared_of self.now) }
         ensures ok { IfOk result (λ node.
             node ≡ node_in (settled_nodes (shared_of self.now)) handle.now) }

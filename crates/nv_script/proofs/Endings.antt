@@ -2,6 +2,9 @@
 use Rattle.std.proofs.Common.{◌≡◌, ◌≢◌, ℕ, ◌+◌, ◌<◌, ◌≤◌, ◌⊎◌, inl, inr, Bool, true, false, List, [], ◌∷◌, ◌++◌, length, length-append, Option, Some, None, IfSome, is_some, Result, Ok, Err, refl, sym, ap, subst, ◌∙◌, append_assoc, append-nil, arith}
 use Rattle.std.proofs.KnownBytes.{Appends-nil, Consumes-nil, Consumes-trans}
 use Rattle.std.proofs.lemmas.Bool.{cases_lt, le-ltb, lt-ltb}
+use Rattle.std.proofs.lemmas.Grind.{flat_map-append}
+use Rattle.std.specs.List.{flat_map}
+use Rattle.std.specs.Prelude.{codes}
 use Rattle.std.specs.Io.KnownBytes.{Appends, Consumes, IsAtEnd, prepend_known}
 use Rattle.nv_base.specs.declared.fault.Fault.{Fault}
 use Rattle.nv_base.specs.declared.fault.Fault.TheVariants as fault
@@ -13,12 +16,14 @@ use Rattle.nv_script.specs.declared.fault.LineFault.TheVariants as line_fault
 use Rattle.nv_script.specs.declared.feed.Taken.{Taken}
 use Rattle.nv_script.specs.declared.feed.Taken.TheVariants as taken
 use Rattle.nv_script.specs.Lines.{IsLine, TakenIs, WritesFront, WritesSome, ended}
-use Rattle.nv_script.specs.Play.{LineFails, Ends, EndsBy, EndsWell, IsFault, Played, Plays, PlaysAll, most_lines}
-use Rattle.nv_core.specs.Worlds.{WorldState}
-use Rattle.nv_core.specs.Worlds.{ShowsAny}
+use Rattle.nv_script.specs.Play.{Ends, EndsBy, EndsWell, IsFault, ListsWords, Played, Plays, PlaysAll, Stops, most_lines, nodes_listed}
 use Rattle.nv_script.specs.Grammar.{is_skipped}
-use Rattle.nv_script.specs.Results.{AtLine, LineFaultIs, ending_of, is_line, within_lines}
+use Rattle.nv_script.specs.Texts.{line_of, node_line, tree_lines}
+use Rattle.nv_script.specs.Words.{words_of}
+use Rattle.nv_script.specs.Results.{AtLine, LineFaultIs, Sent, ending_of, is_line, within_lines}
 use Rattle.nv_script.proofs.Breaks.{breaks_at}
+use Rattle.nv_script.proofs.Handed.{lists_text}
+use Rattle.nv_script.proofs.Played.{is_list_of, plays_listed}
 use Rattle.nv_script.proofs.Known.{writes_all, writes_grown, writes_none, writes_rest, writes_some, writes_some_of}
 use Rattle.nv_script.proofs.Lines.{ended-append, ended-push}
 
@@ -55,7 +60,7 @@ none_left (Some rest) (first ∷ ahead) end = cc
 pub no_room : (input left old : Option (List ℕ)) → EndsBy fault.OutOfMemory input left (λ text. Appends old old text)
 no_room input left old =
     let all = whole input in
-    ([], all.0, [], None, record { split = all.1; few = omega arith; plays = (refl, refl) }, inl refl, Appends-nil old)
+    ([], all.0, [], [], None, record { split = all.1; few = omega arith; plays = (refl, refl) }, inl (refl, refl), Appends-nil old)
   where
     whole : (input : Option (List ℕ)) → (rest : List ℕ) × IfSome input (λ bytes. bytes ≡ ended [] ++ rest)
     whole None = ([], tt)
@@ -114,6 +119,21 @@ split-push input lines line rest is =
     let same = sym (append_assoc (ended lines) (line ++ 10 ∷ []) rest) ∙ ap (λ front. front ++ rest) (sym (ended-push lines line)) in
     if_same input _ _ same is
 
+-- a tree of which lines were sent is the text of the line that asks for it
+lists_plays : (world : Option World) (line sent : List ℕ) → is_skipped line ≡ false → ListsWords world (words_of line) sent
+    → (own : List ℕ) × Plays world line (sent ++ own) world
+lists_plays None line sent skipped lists = absurd lists
+lists_plays (Some old) line sent skipped lists =
+    let front = lists.2 in
+    let own = flat_map node_line front.1 ++ line_of (codes "end") in
+    let text : sent ++ own ≡ tree_lines (front.0 ++ front.1) =
+    ap (λ t. t ++ own) front.3 ∙ sym (append_assoc (flat_map node_line front.0) (flat_map node_line front.1) (line_of (codes "end")))
+    ∙ ap (λ t. t ++ line_of (codes "end")) (sym (flat_map-append node_line front.0 front.1)) in (
+      own,
+      plays_listed old line (sent ++ own) lists.0 skipped lists.1 (is_list_of old lists.0 (front.0 ++ front.1) front.2)
+          (lists_text (nodes_listed old lists.0) (front.0 ++ front.1) (sent ++ own) front.2 text),
+    )
+
 -- the fault of the next line where not all of the text of some lines was written
 broken : (input left old new : Option (List ℕ)) (lines : List (List ℕ)) (rest text : List ℕ) (world : Option World)
     → IfSome input (λ bytes. bytes ≡ ended lines ++ rest) → length lines ≤ most_lines + 1
@@ -143,7 +163,7 @@ pub ends_on : (result : Result (Unit {0}) Fault) (input left : Option (List ℕ)
 ends_on (Ok done) input left Old New turn e = (e.0, e.1, e.2, e.3, e.4, turn e.1 e.5)
 ends_on (Err (fault.ScriptFault why number)) input left Old New turn e = (e.0, e.1, e.2, e.3, e.4, e.5, turn e.2 e.6)
 ends_on (Err fault.Read) input left Old New turn e = (e.0, e.1, e.2, e.3, e.4, e.5, turn e.2 e.6)
-ends_on (Err fault.OutOfMemory) input left Old New turn e = (e.0, e.1, e.2, e.3, e.4, e.5, turn e.2 e.6)
+ends_on (Err fault.OutOfMemory) input left Old New turn e = (e.0, e.1, e.2, e.3, e.4, e.5, e.6, turn (e.2 ++ e.3) e.7)
 ends_on (Err fault.Write) input left Old New turn e = (e.0, e.1, e.2, e.3, e.4, e.5, e.6, turn (e.2 ++ e.3) e.7)
 ends_on (Err _) input left Old New turn e = absurd e
 
@@ -156,6 +176,38 @@ broken_played input left old mid new gathered lines rest text world played front
     broken input left old new lines rest text world played.split (omega (arith, few)) played.plays
     (writes_some old mid new text gathered front some)
 
+-- the same where some of the next line's text was sent too
+broken_line : (input left old mid new : Option (List ℕ)) (gathered : List ℕ) (lines : List (List ℕ)) (rest text sent : List ℕ)
+    (world : Option World) → Played input lines rest text world → (line after own : List ℕ) (n : Option World)
+    → IsLine line → rest ≡ (line ++ 10 ∷ []) ++ after → Plays world line (sent ++ own) n
+    → WritesFront old mid (text ++ sent) gathered → WritesSome mid new gathered
+    → EndsBy fault.Write input left (λ text. Appends old new text)
+broken_line input left old mid new gathered lines rest text sent world played line after own n lawful rest_is plays front some =
+    let part = writes_some_of old new (text ++ sent) own (writes_some old mid new (text ++ sent) gathered front some) in
+    let split = split-push input lines line after (if_same input _ _ (ap (λ bytes. ended lines ++ bytes) rest_is) played.split) in
+    let few = played.few in
+    broken input left old new (lines ++ line ∷ []) after (text ++ (sent ++ own)) n split
+    (omega (arith, few, length-append lines (line ∷ [])))
+    (plays-push None lines text world line (sent ++ own) n played.plays lawful plays)
+    (subst (λ (t : List ℕ). WritesSome old new t) (append_assoc text sent own) part)
+
+-- the same where memory was refused
+broken_stop : (input left old mid new : Option (List ℕ)) (gathered : List ℕ) (lines : List (List ℕ)) (rest text sent : List ℕ)
+    (world : Option World) → Played input lines rest text world → Stops lines rest world sent
+    → WritesFront old mid (text ++ sent) gathered → WritesSome mid new gathered
+    → EndsBy fault.Write input left (λ text. Appends old new text)
+broken_stop input left old mid new gathered lines rest text sent world played stops front some = by stops where
+  unsent : sent ≡ [] → EndsBy fault.Write input left (λ text. Appends old new text)
+  unsent none = broken_played input left old mid new gathered lines rest text world played
+      (subst (λ (t : List ℕ). WritesFront old mid t gathered) (ap (λ t. text ++ t) none ∙ append-nil text) front) some
+
+  by : Stops lines rest world sent → EndsBy fault.Write input left (λ text. Appends old new text)
+  by (inl first) = unsent first.1
+  by (inr (line, after, lawful, is, (skipped, inl none))) = unsent none
+  by (inr (line, after, lawful, is, (skipped, inr lists))) =
+      let whole = lists_plays world line sent skipped lists in
+      broken_line input left old mid new gathered lines rest text sent world played line after whole.0 world lawful is whole.1 front some
+
 -- not all of what was gathered at the end was written
 pub broken_off : (result : Result (Unit {0}) Fault) (input left old mid new : Option (List ℕ)) (gathered : List ℕ)
     → Ends result input left (λ text. WritesFront old mid text gathered) → WritesSome mid new gathered
@@ -165,19 +217,12 @@ broken_off (Err (fault.ScriptFault why number)) input left old mid new gathered 
     e.1 e.2 e.3 e.4 e.6 some
 broken_off (Err fault.Read) input left old mid new gathered e some = broken_played input left old mid new gathered e.0 e.1 e.2 e.3 e.4 e.6
     some
-broken_off (Err fault.OutOfMemory) input left old mid new gathered e some = broken_played input left old mid new gathered e.0 e.1 e.2 e.3
-    e.4 e.6 some
+broken_off (Err fault.OutOfMemory) input left old mid new gathered e some =
+    broken_stop input left old mid new gathered e.0 e.1 e.2 e.3 e.4 e.5 e.6 e.7 some
 broken_off (Err fault.Write) input left old mid new gathered e some =
     let next = e.6 in
-    let own = next.7 in
-    let part = writes_some_of old new (e.2 ++ e.3) own.0 (writes_some old mid new (e.2 ++ e.3) gathered e.7 some) in
-    let whole : (e.2 ++ e.3) ++ own.0 ≡ e.2 ++ next.2 = append_assoc e.2 e.3 own.0 ∙ ap (λ t. e.2 ++ t) (sym own.1) in
-    let rest_is = next.5 in
-    let split = split-push input e.0 next.0 next.1 (if_same input _ _ (ap (λ bytes. ended e.0 ++ bytes) rest_is) e.5.split) in
-    let few = e.5.few in
-    broken input left old new (e.0 ++ next.0 ∷ []) next.1 (e.2 ++ next.2) next.3 split (omega (arith, few, length-append e.0 (next.0 ∷ [])))
-    (plays-push None e.0 e.2 e.4 next.0 next.2 next.3 e.5.plays next.4 next.6)
-    (subst (λ (t : List ℕ). WritesSome old new t) whole part)
+    let plays = subst (λ (t : List ℕ). Plays e.4 next.0 t next.3) next.7.1 next.6 in
+    broken_line input left old mid new gathered e.0 e.1 e.2 e.3 e.4 e.5 next.0 next.1 next.7.0 next.3 next.4 next.5 plays e.7 some
 broken_off (Err _) input left old mid new gathered e some = absurd e
 
 -- a fault of a line that is past the last, and of one that is not
@@ -226,6 +271,14 @@ some_after (first ∷ bytes) rest some is = cc
 some_with : (bytes : List ℕ) (byte : ℕ) → bytes ++ byte ∷ [] ≢ []
 some_with [] byte is = cc
 some_with (first ∷ bytes) byte is = cc
+
+-- after a failed write nothing is gathered
+pub none_gathered : (input left old new : Option (List ℕ)) (gathered : List ℕ) → gathered ≡ []
+    → EndsBy fault.Write input left (λ text. Appends old new text)
+    → EndsBy fault.Write input left (λ text. WritesFront old new text gathered)
+none_gathered input left old new gathered none e =
+    ends_on (Err fault.Write) input left (λ text. Appends old new text) (λ text. WritesFront old new text gathered)
+    (λ text all. subst (λ (rest : List ℕ). WritesFront old new text rest) (sym none) (writes_all old new text all)) e
 
 module _ (input known old new : Option (List ℕ)) (gathered : List ℕ) (number : ℕ) (world : Option World) (few : number ≤ 1048577)
     (at : AtLine input known old new gathered number world) where
@@ -351,16 +404,6 @@ module _ (input known old new : Option (List ℕ)) (gathered : List ℕ) (number
     pub within_last : number ≤ most_lines
     within_last = (line_taken number t known after line is took).1
 
-    -- a line that is not played
-    pub not_played : (left : Option (List ℕ)) (why : LineFault) (world' : Option World) → LineFaultIs why world line world'
-        → EndsBy (ending_of number why) input left Written
-    not_played left line_fault.OutOfMemory world' why =
-        let p = played after (line ++ 10 ∷ []) here in
-        (at.lines, (line ++ 10 ∷ []) ++ p.0, at.text, world, p.1, inr (line, p.0, lawful, refl, why), at.written)
-    not_played left (line_fault.Faulty fault) world' why =
-        faulty after left (line ++ 10 ∷ []) fault here
-        (λ rest. within number (is_some world) _ fault within_last (inr (inr (line, rest, lawful, refl, why.0))))
-
     -- a line that was played, and its text gathered, or written in part
     pub next : (new' : Option (List ℕ)) (more gathered' : List ℕ) (world' : Option World) → Plays world line more world'
         → WritesFront new new' (gathered ++ more) gathered' → AtLine input after old new' gathered' (number + 1) world'
@@ -385,34 +428,39 @@ module _ (input known old new : Option (List ℕ)) (gathered : List ℕ) (number
         (let count = at.count in omega (arith, few, count, length-append at.lines (line ∷ [])))
         (plays-push None at.lines at.text world line more world' at.plays lawful plays) part
 
--- after a failed write nothing is gathered
-pub none_gathered : (input left old new : Option (List ℕ)) (gathered : List ℕ) → gathered ≡ []
-    → EndsBy fault.Write input left (λ text. Appends old new text)
-    → EndsBy fault.Write input left (λ text. WritesFront old new text gathered)
-none_gathered input left old new gathered none e =
-    ends_on (Err fault.Write) input left (λ text. Appends old new text) (λ text. WritesFront old new text gathered)
-    (λ text all. subst (λ (rest : List ℕ). WritesFront old new text rest) (sym none) (writes_all old new text all)) e
+    -- a line that is not played to its end
+    pub not_played : (left : Option (List ℕ)) (why : LineFault) (to : Sent)
+        → LineFaultIs why (record { written = new; gathered = gathered }) to world line
+        → EndsBy (ending_of number why) input left (λ text. WritesFront old to.written text to.gathered)
+    not_played left line_fault.OutOfMemory to why =
+        let p = played after (line ++ 10 ∷ []) here in (
+          at.lines,
+          (line ++ 10 ∷ []) ++ p.0,
+          at.text,
+          why.0,
+          world,
+          p.1,
+          inr (line, p.0, lawful, refl, why.1),
+          writes_rest old new to.written (at.text ++ why.0) (gathered ++ why.0) to.gathered
+              (writes_grown old new at.text gathered why.0 at.written) why.2,
+        )
+    not_played left line_fault.Write to why =
+        none_gathered input left old to.written to.gathered why.3.1 (breaks_off left to.written why.0 why.1 why.2 why.3.0)
+    not_played left (line_fault.Faulty reason) to why =
+        subst (λ (s : Sent). EndsBy (fault.ScriptFault reason number) input left (λ text. WritesFront old s.written text s.gathered))
+        (sym why.1)
+        (faulty after left (line ++ 10 ∷ []) reason here
+        (λ rest. within number (is_some world) _ reason within_last (inr (inr (line, rest, lawful, refl, why.0)))))
 
 -- the same end, told by an equation
 pub ends_told : (told why : Fault) (input left : Option (List ℕ)) (Writes : List ℕ → Type 0) → told ≡ why → EndsBy why input left Writes
     → EndsBy told input left Writes
 ends_told told why input left Writes same e = subst (λ (f : Fault). EndsBy f input left Writes) (sym same) e
 
--- a fault of a line on a world is one on what the world shows
-pub why_at : (why : LineFault) (old new : Option WorldState) (m : Option World) (slice line : List ℕ) → slice ≡ line → ShowsAny old m
-    → LineFaultIs why old slice new → LineFaultIs why m line m
-why_at line_fault.OutOfMemory old new m slice line same shown is = subst (λ (bytes : List ℕ). is_skipped bytes ≡ false) same is
-why_at (line_fault.Faulty fault) old new m slice line same shown is = (
-  subst (λ (made : Bool). LineFails made line fault) (as_many old m shown)
-      (subst (λ (bytes : List ℕ). LineFails (is_some old) bytes fault) same is.0),
-  refl,
-)
-  where
-    as_many : (old : Option WorldState) (m : Option World) → ShowsAny old m → is_some old ≡ is_some m
-    as_many None None shown = refl
-    as_many None (Some m) shown = absurd shown
-    as_many (Some w) None shown = absurd shown
-    as_many (Some w) (Some m) shown = refl
+-- a fault of a slice is one of its bytes
+pub why_at : (why : LineFault) (from to : Sent) (m : Option World) (slice line : List ℕ) → slice ≡ line → LineFaultIs why from to m slice
+    → LineFaultIs why from to m line
+why_at why from to m slice line same is = subst (λ (bytes : List ℕ). LineFaultIs why from to m bytes) same is
 
 pub plays_at : (world : Option World) (slice line text : List ℕ) (world' : Option World) → slice ≡ line
     → Plays world slice text world' → Plays world line text world'

@@ -4,6 +4,7 @@ pub mod Commands
 pub mod Endings
 pub mod Escapes
 pub mod Firsts
+pub mod Handed
 pub mod Handles
 pub mod Known
 pub mod Lines

@@ -1,18 +1,29 @@
 -- A line that is played on what a world shows.
-use Rattle.std.proofs.Common.{◌≡◌, ℕ, Bool, false, List, [], Option, Some, None, Ok, inl, refl, subst, sym}
+use Rattle.std.proofs.Common.{◌≡◌, ◌⊎◌, ℕ, ◌++◌, Bool, false, true, List, [], Option, Some, None, Result, Ok, Err, inl, inr, option_map, is_some, refl, subst, sym}
+use Rattle.std.proofs.lemmas.Bool.{false≢true}
 use Rattle.std.specs.Prelude.{MatchBool, codes}
+use Rattle.nv_base.specs.Limits.{first_bad_field}
 use Rattle.nv_base.specs.declared.fault.GeometryField.{GeometryField}
+use Rattle.nv_base.specs.declared.fault.ScriptFaultKind.{ScriptFaultKind}
 use Rattle.nv_base.specs.declared.geometry.GeometryNumbers.{GeometryNumbers}
+use Rattle.nv_entry.specs.declared.tree.TreeNode.{TreeNode}
+use Rattle.nv_epoch.specs.SnapList.{pins_of}
 use Rattle.nv_machine.specs.Format.{formatted}
 use Rattle.nv_machine.specs.World as machine
 use Rattle.nv_script.specs.declared.command.Command.{Command}
-use Rattle.nv_script.specs.Grammar.{command_of, is_skipped}
-use Rattle.nv_script.specs.Play.{Acts, PlaysWords}
-use Rattle.nv_script.specs.Results.{IsNewWorld, MakesWorld, PlaysShown}
+use Rattle.nv_script.specs.declared.command.Command.TheVariants as command
+use Rattle.nv_script.specs.declared.fault.LineFault.{LineFault}
+use Rattle.nv_script.specs.declared.fault.LineFault.TheVariants as line_fault
+use Rattle.nv_script.specs.Grammar.{IsLineFault, Parsed, command_of, format_of, is_skipped}
+use Rattle.nv_script.specs.Play.{Acts, LineFails, ListsFront, ListsWords, Plays, PlaysWords, ShowsTree, WordsFail, is_list, nodes_listed}
+use Rattle.nv_script.specs.Results.{IsNewWorld, LineFaultIs, LineIs, ListIs, ListsText, MakesWorld, PlaysShown, SendsBut, Sent}
 use Rattle.nv_script.specs.Texts.{line_of}
 use Rattle.nv_script.specs.Words.{words_of}
+use Rattle.nv_core.specs.Settled.{snapshot_tree}
 use Rattle.nv_core.specs.Worlds.{WorldState}
-use Rattle.nv_core.specs.Worlds.{Leads, ShowsAny}
+use Rattle.nv_core.specs.Worlds.{Leads, Shows, ShowsAny}
+use Rattle.nv_script.proofs.Handed.{sends_none}
+use Rattle.nv_script.proofs.Known.{writes_none}
 
 -- a world that was made
 pub made : (field : Option GeometryField) (numbers : GeometryNumbers) (text : List ℕ) (world : WorldState)
@@ -20,20 +31,135 @@ pub made : (field : Option GeometryField) (numbers : GeometryNumbers) (text : Li
 made (Some field) numbers text world new is = absurd (cc)
 made None numbers text world shows is = (Some (formatted numbers), inl (is, refl), shows)
 
+-- ---- a line that asks for a tree
+
+acts_snapshot : (pins : Option ℕ) (snapshot : ℕ) (old : machine.World) (text : List ℕ)
+    → ListsText (option_map (λ (p : ℕ). snapshot_tree old snapshot) pins) text → ShowsTree (is_some pins) snapshot old text old
+acts_snapshot None snapshot old text is = (is, refl)
+acts_snapshot (Some pins) snapshot old text is = (is, refl)
+
+acts_listed : (old : machine.World) (c : Command) (text : List ℕ) → is_list c ≡ true → ListsText (nodes_listed old c) text
+    → Acts old c text old
+acts_listed old command.Tree text lists is = (is, refl)
+acts_listed old (command.SnapTree snapshot) text lists is = acts_snapshot (pins_of old.shared.book.snaps snapshot) snapshot old text is
+acts_listed old _ text lists is = absurd (false≢true lists)
+
+pub is_list_of : (old : machine.World) (c : Command) (nodes : List TreeNode) → nodes_listed old c ≡ Some nodes → is_list c ≡ true
+is_list_of old command.Tree nodes is = refl
+is_list_of old (command.SnapTree snapshot) nodes is = refl
+is_list_of old _ nodes is = cc
+
+plays_words : (old new : Option machine.World) (line text : List ℕ) → is_skipped line ≡ false → PlaysWords old (words_of line) text new
+    → Plays old line text new
+plays_words old new line text skipped plays =
+    subst (λ (b : Bool). MatchBool b ((text ≡ []) × (new ≡ old)) (PlaysWords old (words_of line) text new)) (sym skipped) plays
+
+pub plays_listed : (old : machine.World) (line text : List ℕ) (c : Command) → is_skipped line ≡ false → command_of (words_of line) ≡ Ok c
+    → is_list c ≡ true → ListsText (nodes_listed old c) text → Plays (Some old) line text (Some old)
+plays_listed old line text c skipped read lists is =
+    plays_words (Some old) (Some old) line text skipped (c, old, read, acts_listed old c text lists is, refl)
+
+-- what a tree's line is answered is the answer of the line
+pub lists_line : (result : Result (Unit {0}) LineFault) (from to : Sent) (old : Option WorldState) (world : WorldState) (line rest : List ℕ)
+    (c : Command) → old ≡ Some world → is_skipped line ≡ false → command_of (words_of line) ≡ Ok c → is_list c ≡ true
+    → ((m : machine.World) → Shows world m → ListIs result from to rest (nodes_listed m c))
+    → LineIs result from to old line rest (Some world)
+lists_line result from to old world line rest c there skipped read lists given = by result given where
+  shown_at : (P : Option machine.World → Type 0) → ((m : machine.World) → Shows world m → P (Some m))
+      → (m : Option machine.World) → ShowsAny old m → P m
+  shown_at P each m shows = go m (subst (λ (w : Option WorldState). ShowsAny w m) there shows) where
+    go : (m : Option machine.World) → ShowsAny (Some world) m → P m
+    go None shown = absurd shown
+    go (Some m) shown = each m shown
+
+  stops : (m : machine.World) (text : List ℕ) → (text ≡ []) ⊎ ListsFront (nodes_listed m c) text
+      → (text ≡ []) ⊎ ListsWords (Some m) (words_of line) text
+  stops m text (inl none) = inl none
+  stops m text (inr front) = inr (c, read, front)
+
+  by : (r : Result (Unit {0}) LineFault) → ((m : machine.World) → Shows world m → ListIs r from to rest (nodes_listed m c))
+      → LineIs r from to old line rest (Some world)
+  by (Ok done) given =
+      shown_at (λ m. (n : Option machine.World) × (text : List ℕ) × Plays m line text n × ShowsAny (Some world) n × SendsBut rest from to text)
+      (λ m shown. let it = given m shown in (Some m, it.0, plays_listed m line it.0 c skipped read lists it.1, shown, it.2))
+  by (Err line_fault.OutOfMemory) given =
+      shown_at (λ m. LineFaultIs line_fault.OutOfMemory from to m line)
+      (λ m shown. let it = given m shown in (it.0, (skipped, stops m it.0 it.1), it.2))
+  by (Err line_fault.Write) given =
+      shown_at (λ m. LineFaultIs line_fault.Write from to m line)
+      (λ m shown. let it = given m shown in (it.0, Some m, plays_listed m line it.0 c skipped read lists it.1, it.2))
+  by (Err (line_fault.Faulty why)) given =
+      shown_at (λ m. LineFaultIs (line_fault.Faulty why) from to m line) (λ m shown. absurd (given m shown))
+
+-- memory is refused before anything of a line is sent
+pub starved : (from : Sent) (world : Option WorldState) (line rest : List ℕ) (new : Option WorldState) → is_skipped line ≡ false
+    → LineIs {A = Unit {0}} (Err line_fault.OutOfMemory) from from world line rest new
+starved from world line rest new skipped m shown = ([], (skipped, inl refl), sends_none from)
+
+-- a line has a fault, or memory is refused while it is read
+pub unread : {A : Type 0} (why : LineFault) (from : Sent) (old : Option WorldState) (line rest : List ℕ) (new : Option WorldState)
+    (parsed : Parsed A) → is_skipped line ≡ false → IsLineFault why parsed
+    → ((kind : ScriptFaultKind) → parsed ≡ Err kind → WordsFail (is_some old) (words_of line) kind)
+    → LineIs {A = Unit {0}} (Err why) from from old line rest new
+unread line_fault.OutOfMemory from old line rest new parsed skipped is fails = starved from old line rest new skipped
+unread line_fault.Write from old line rest new parsed skipped is fails = absurd is
+unread (line_fault.Faulty kind) from old line rest new parsed skipped is fails = λ m shown.
+    (subst (λ (made : Bool). LineFails made line kind) (as_many old m shown) (skipped, fails kind is), refl)
+  where
+    as_many : (old : Option WorldState) (m : Option machine.World) → ShowsAny old m → is_some old ≡ is_some m
+    as_many None None shown = refl
+    as_many None (Some m) shown = absurd shown
+    as_many (Some w) None shown = absurd shown
+    as_many (Some w) (Some m) shown = refl
+
 -- a command on a world
-pub played : (old : Option WorldState) (world new : WorldState) (line text : List ℕ) (command : Command) → old ≡ Some world
+pub played : (old : Option WorldState) (world new : WorldState) (line text : List ℕ) (from : Sent) (command : Command) → old ≡ Some world
     → is_skipped line ≡ false
-    → command_of (words_of line) ≡ Ok command → Leads (λ m n. Acts m command text n) world new → PlaysShown old line text (Some new)
-played old world new line text command there skipped read leads m shows =
+    → command_of (words_of line) ≡ Ok command → Leads (λ m n. Acts m command text n) world new
+    → PlaysShown old line (SendsBut text from from) (Some new)
+played old world new line text from command there skipped read leads m shows =
     go m (subst (λ (w : Option WorldState). ShowsAny w m) there shows) where
       go : (m : Option machine.World) → ShowsAny (Some world) m
-          → (n : Option machine.World) × MatchBool (is_skipped line) ((text ≡ []) × (n ≡ m)) (PlaysWords m (words_of line) text n)
-          × ShowsAny (Some new) n
+          → (n : Option machine.World) × (text' : List ℕ) × Plays m line text' n × ShowsAny (Some new) n × SendsBut text from from text'
       go None shown = absurd shown
       go (Some m) shown =
           let by = leads m shown in (
             Some by.0,
-            subst (λ (b : Bool). MatchBool b ((text ≡ []) × (Some by.0 ≡ Some m)) (PlaysWords (Some m) (words_of line) text (Some by.0)))
-                (sym skipped) (command, by.0, read, by.1, refl),
+            text,
+            plays_words (Some m) (Some by.0) line text skipped (command, by.0, read, by.1, refl),
             by.2,
+            writes_none from.written (from.gathered ++ text),
           )
+
+-- a line that is skipped, and one that makes a world
+pub skips : (old : Option WorldState) (line rest : List ℕ) (from : Sent) → is_skipped line ≡ true → rest ≡ []
+    → PlaysShown old line (SendsBut rest from from) old
+skips old line rest from skipped empty m shown = (
+  m,
+  rest,
+  subst (λ (b : Bool). MatchBool b ((rest ≡ []) × (m ≡ m)) (PlaysWords m (words_of line) rest m)) (sym skipped) (empty, refl),
+  shown,
+  writes_none from.written (from.gathered ++ rest),
+)
+
+pub formats : (old new : Option WorldState) (line text : List ℕ) (from : Sent) (numbers : GeometryNumbers) → old ≡ None
+    → is_skipped line ≡ false → format_of (words_of line) ≡ Ok numbers → MakesWorld (first_bad_field numbers) numbers text new
+    → PlaysShown old line (SendsBut text from from) new
+formats old new line text from numbers none skipped read makes m shown =
+    go m (subst (λ (w : Option WorldState). ShowsAny w m) none shown) where
+      go : (m : Option machine.World) → ShowsAny None m
+          → (n : Option machine.World) × (text' : List ℕ) × Plays m line text' n × ShowsAny new n × SendsBut text from from text'
+      go None shown = (
+        makes.0,
+        text,
+        plays_words None makes.0 line text skipped (numbers, read, makes.1),
+        makes.2,
+        writes_none from.written (from.gathered ++ text),
+      )
+      go (Some m) shown = absurd shown
+
+-- a command that lists no tree
+pub no_list : (c : Command) → (c ≡ command.Tree → ⊥) → ((s : ℕ) → c ≡ command.SnapTree s → ⊥) → is_list c ≡ false
+no_list command.Tree tree snapshot = absurd (tree refl)
+no_list (command.SnapTree s) tree snapshot = absurd (snapshot s refl)
+no_list _ tree snapshot = refl

@@ -277,6 +277,7 @@ texts words = map (λ w. w.now) words
 
 abbrev pub IsLineFault : {A : Type 0} → LineFault → Parsed A → Type 0
 IsLineFault line.OutOfMemory read = Unit {0}
+IsLineFault line.Write read = ⊥
 IsLineFault (line.Faulty fault) read = read ≡ Err fault
 
 -- what was read, unless memory was refused

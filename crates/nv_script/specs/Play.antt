@@ -1,6 +1,7 @@
 -- What a whole script writes.
-use Rattle.std.specs.Prelude.{◌≡◌, ◌≢◌, ◌⊎◌, ◌≤◌, ◌<◌, ℕ, replicate, ◌+◌, Bool, true, false, nat_lt, List, [], ◌∷◌, ◌++◌, length, codes, Option, Some, None, IfSome, is_some, Result, Ok, Err, MatchBool}
+use Rattle.std.specs.Prelude.{◌≡◌, ◌≢◌, ◌⊎◌, ◌≤◌, ℕ, ◌+◌, Bool, true, false, nat_lt, List, [], ◌∷◌, ◌++◌, length, codes, Option, Some, None, IfSome, is_some, Result, Ok, Err, MatchBool, option_map}
 use Rattle.std.specs.Io.KnownBytes.{Appends, Consumes, IsAtEnd}
+use Rattle.std.specs.List.{flat_map}
 use Rattle.nv_base.specs.Limits.{first_bad_field}
 use Rattle.nv_base.specs.declared.fault.Fault.{Fault}
 use Rattle.nv_base.specs.declared.fault.Fault.TheVariants as fault
@@ -8,6 +9,7 @@ use Rattle.nv_base.specs.declared.fault.GeometryField.{GeometryField}
 use Rattle.nv_base.specs.declared.fault.ScriptFaultKind.{ScriptFaultKind}
 use Rattle.nv_base.specs.declared.fault.ScriptFaultKind.TheVariants as kind
 use Rattle.nv_base.specs.declared.geometry.GeometryNumbers.{GeometryNumbers}
+use Rattle.nv_entry.specs.declared.tree.TreeNode.{TreeNode}
 use Rattle.nv_machine.specs.Format.{formatted}
 use Rattle.nv_machine.specs.Step.{step}
 use Rattle.nv_machine.specs.World.{Reply, Start, World}
@@ -19,7 +21,7 @@ use Rattle.nv_script.specs.declared.command.Command.{Command}
 use Rattle.nv_script.specs.declared.command.Command.TheVariants as command
 use Rattle.nv_script.specs.Grammar.{command_of, format_of, is_skipped}
 use Rattle.nv_script.specs.Lines.{IsCutOff, IsLine, ended}
-use Rattle.nv_script.specs.Texts.{line_of, lists_lines, log_line, refused_line, reply_line, snaps_lines, space_line, tree_lines}
+use Rattle.nv_script.specs.Texts.{line_of, lists_lines, log_line, node_line, refused_line, reply_line, snaps_lines, space_line, tree_lines}
 use Rattle.nv_script.specs.Words.{words_of}
 
 -- a `format` makes an empty world; or it is refused, for a number or for want of memory, and there is still none
@@ -41,6 +43,27 @@ Reports lines old text new = ((text ≡ lines) ⊎ (text ≡ refused_line fault.
 abbrev pub ShowsLog : Bool → ℕ → World → List ℕ → World → Type 0
 ShowsLog true ino old text new = Reports (log_line ino (log_at old.shared ino)) old text new
 ShowsLog false ino old text new = (text ≡ refused_line fault.Stale) × (new ≡ old)
+
+-- the nodes of the tree now, or of a snapshot, where it lives
+abbrev pub nodes_at : World → Option ℕ → Option (List TreeNode)
+nodes_at old None = Some (tree_of old)
+nodes_at old (Some snapshot) = option_map (λ pins. snapshot_tree old snapshot) (pins_of old.shared.book.snaps snapshot)
+
+-- a command lists a tree
+abbrev pub is_list : Command → Bool
+is_list command.Tree = true
+is_list (command.SnapTree snapshot) = true
+is_list _ = false
+
+-- the nodes that a command lists
+abbrev pub nodes_listed : World → Command → Option (List TreeNode)
+nodes_listed old command.Tree = nodes_at old None
+nodes_listed old (command.SnapTree snapshot) = nodes_at old (Some snapshot)
+nodes_listed old _ = None
+
+-- the lines of the first of these nodes
+abbrev pub ListsFront : Option (List TreeNode) → List ℕ → Type 0
+ListsFront nodes sent = (front rest : List TreeNode) × (nodes ≡ Some (front ++ rest)) × (sent ≡ flat_map node_line front)
 
 -- the tree of a snapshot, or a refusal where it does not live
 abbrev pub ShowsTree : Bool → ℕ → World → List ℕ → World → Type 0
@@ -116,14 +139,24 @@ IsFault number made bytes fault = MatchBool (nat_lt most_lines number)
     ((fault ≡ kind.Lines) × (bytes ≢ []))
     (((fault ≡ kind.Long) × IsLong bytes) ⊎ (((fault ≡ kind.Unended) × IsUnended bytes) ⊎ IsFaulty made bytes fault))
 
--- the next line is a command and not skipped
-abbrev pub HasCommand : List ℕ → Type 0
-HasCommand bytes = (line rest : List ℕ) × IsLine line × (bytes ≡ (line ++ 10 ∷ []) ++ rest) × (is_skipped line ≡ false)
+-- the first lines of the tree that these words ask for
+abbrev pub ListsWords : Option World → List (List ℕ) → List ℕ → Type 0
+ListsWords None words sent = ⊥
+ListsWords (Some old) words sent = (command : Command) × (command_of words ≡ Ok command) × ListsFront (nodes_listed old command) sent
 
 -- the next line was played, and of its text these bytes alone were written
 abbrev pub BreaksOff : List ℕ → Option World → List ℕ → Type 0
 BreaksOff bytes world sent = (line rest text : List ℕ) × (new : Option World) × IsLine line × (bytes ≡ (line ++ 10 ∷ []) ++ rest)
     × Plays world line text new × IsCutOff sent text
+
+-- memory is refused at a command: nothing of its text is written, or whole lines of a tree
+abbrev pub StopsAt : Option World → (line sent : List ℕ) → Type 0
+StopsAt world line sent = (is_skipped line ≡ false) × ((sent ≡ []) ⊎ ListsWords world (words_of line) sent)
+
+-- memory is refused before the first line, or at the next one
+abbrev pub Stops : List (List ℕ) → List ℕ → Option World → List ℕ → Type 0
+Stops lines bytes world sent = ((lines ≡ []) × (sent ≡ []))
+    ⊎ ((line rest : List ℕ) × IsLine line × (bytes ≡ (line ++ 10 ∷ []) ++ rest) × StopsAt world line sent)
 
 -- all lines were played and their text was written, and nothing is left
 abbrev pub EndsWell : (input left : Option (List ℕ)) → (List ℕ → Type 0) → Type 0
@@ -136,14 +169,16 @@ EndsAfter input Writes Also = (lines : List (List ℕ)) × (rest text : List ℕ
     × Also lines rest world × Writes text
 
 -- how a script ends early: by a fault of the next line, with the number of that line; by a failed read, of whose
--- reader no more than a piece of the next line is gone; for want of memory, before the first line or at a command;
--- by a failed write, which leaves a front of the text of the line after them
+-- reader no more than a piece of the next line is gone; for want of memory, before the first line or at a command,
+-- of whose tree the first lines may be written; by a failed write, which leaves a front of the text of the line after
+-- them
 abbrev pub EndsBy : Fault → (input left : Option (List ℕ)) → (List ℕ → Type 0) → Type 0
 EndsBy (fault.ScriptFault why number) input left Writes =
     EndsAfter input Writes (λ lines rest world. (number ≡ length lines + 1) × IsFault number (is_some world) rest why)
 EndsBy fault.Read input left Writes =
     EndsAfter input Writes (λ lines rest world. (piece : List ℕ) × IsLine piece × Consumes input left (ended lines ++ piece))
-EndsBy fault.OutOfMemory input left Writes = EndsAfter input Writes (λ lines rest world. (lines ≡ []) ⊎ HasCommand rest)
+EndsBy fault.OutOfMemory input left Writes = (lines : List (List ℕ)) × (rest text sent : List ℕ) × (world : Option World)
+    × Played input lines rest text world × Stops lines rest world sent × Writes (text ++ sent)
 EndsBy fault.Write input left Writes = (lines : List (List ℕ)) × (rest text sent : List ℕ) × (world : Option World)
     × Played input lines rest text world × BreaksOff rest world sent × Writes (text ++ sent)
 EndsBy _ input left Writes = ⊥

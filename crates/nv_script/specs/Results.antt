@@ -1,12 +1,14 @@
 -- What inner functions of a script's run tell each other.
-use Rattle.std.specs.Prelude.{◌≡◌, ◌≤◌, ℕ, ◌+◌, Bool, true, false, nat_lt, if◌then◌else◌, List, ◌++◌, length, replicate, Option, Some, None, is_some, Result, Ok, Err, MatchResult}
+use Rattle.std.specs.Prelude.{◌≡◌, ◌⊎◌, ◌≤◌, ℕ, ◌+◌, Bool, true, false, nat_lt, if◌then◌else◌, List, [], ◌++◌, length, Option, Some, None, is_some, IsSome, Result, Ok, Err, MatchResult}
 use Rattle.std.specs.Io.KnownBytes.{Consumes}
+use Rattle.std.specs.List.{flat_map}
 use Rattle.nv_base.specs.declared.fault.Fault.{Fault}
 use Rattle.nv_base.specs.declared.fault.Fault.TheVariants as fault
 use Rattle.nv_base.specs.declared.fault.GeometryField.{GeometryField}
 use Rattle.nv_base.specs.declared.fault.ScriptFaultKind.{ScriptFaultKind}
 use Rattle.nv_base.specs.declared.fault.ScriptFaultKind.TheVariants as kind
 use Rattle.nv_base.specs.declared.geometry.GeometryNumbers.{GeometryNumbers}
+use Rattle.nv_entry.specs.declared.tree.TreeNode.{TreeNode}
 use Rattle.nv_machine.specs.Format.{formatted}
 use Rattle.nv_machine.specs.World as machine
 use Rattle.nv_core.specs.Worlds.{WorldState}
@@ -15,25 +17,81 @@ use Rattle.nv_script.specs.declared.fault.LineFault.{LineFault}
 use Rattle.nv_script.specs.declared.fault.LineFault.TheVariants as line_fault
 use Rattle.nv_script.specs.declared.feed.Taken.{Taken}
 use Rattle.nv_script.specs.declared.feed.Taken.TheVariants as taken
-use Rattle.nv_script.specs.Grammar.{is_skipped}
-use Rattle.nv_script.specs.Lines.{WritesFront, ended}
-use Rattle.nv_script.specs.Play.{EndsBy, EndsWell, Formats, LineFails, Plays, PlaysAll, most_lines}
-
--- what became of one line that was not played: its fault, and then the world has not changed; or memory was
--- refused at a command
-abbrev pub LineFaultIs : {W : Type 0} → LineFault → Option W → List ℕ → Option W → Type 0
-LineFaultIs line_fault.OutOfMemory old line new = is_skipped line ≡ false
-LineFaultIs (line_fault.Faulty fault) old line new = LineFails (is_some old) line fault × (new ≡ old)
+use Rattle.nv_script.specs.Lines.{WritesFront, WritesSome, ended}
+use Rattle.nv_script.specs.Play.{EndsBy, EndsWell, Formats, LineFails, ListsFront, Plays, PlaysAll, StopsAt, most_lines}
+use Rattle.nv_script.specs.Texts.{node_line, refused_line, tree_lines}
 
 -- a line is played on the worlds that are shown
-abbrev pub PlaysShown : Option WorldState → List ℕ → List ℕ → Option WorldState → Type 0
-PlaysShown old line text new =
-    (m : Option machine.World) → ShowsAny old m → (n : Option machine.World) × Plays m line text n × ShowsAny new n
+abbrev pub PlaysShown : Option WorldState → List ℕ → (List ℕ → Type 0) → Option WorldState → Type 0
+PlaysShown old line Writes new =
+    (m : Option machine.World) → ShowsAny old m → (n : Option machine.World) × (text : List ℕ) × Plays m line text n × ShowsAny new n × Writes text
+
+-- where a text goes: the writer's bytes and what is gathered
+pub record Sent : Type 0 where
+  pub written : Option (List ℕ)
+  pub gathered : List ℕ
+
+-- a text was sent behind what was gathered: what of both was not written is gathered now
+abbrev pub Sends : Sent → Sent → List ℕ → Type 0
+Sends old new text = WritesFront old.written new.written (old.gathered ++ text) new.gathered
+
+-- the same, but for the rest of the text
+abbrev pub SendsBut : List ℕ → Sent → Sent → List ℕ → Type 0
+SendsBut rest old new text = WritesFront old.written new.written (old.gathered ++ text) (new.gathered ++ rest)
+
+-- a write of the text failed, and after it nothing is gathered
+abbrev pub Fails : Sent → Sent → List ℕ → Type 0
+Fails old new text = WritesSome old.written new.written (old.gathered ++ text) × (new.gathered ≡ [])
+
+-- what became of one line that was not played to its end: memory was refused at a command, a write failed, or
+-- the line has a fault, and then nothing has changed
+abbrev pub LineFaultIs : LineFault → Sent → Sent → Option machine.World → List ℕ → Type 0
+LineFaultIs line_fault.OutOfMemory old new m line = (text : List ℕ) × StopsAt m line text × Sends old new text
+LineFaultIs line_fault.Write old new m line = (text : List ℕ) × (n : Option machine.World) × Plays m line text n × Fails old new text
+LineFaultIs (line_fault.Faulty fault) old new m line = LineFails (is_some m) line fault × (new ≡ old)
 
 -- what became of one line, and of the text that it writes
-abbrev pub LineIs : {A : Type 0} → Result A LineFault → Option WorldState → List ℕ → List ℕ → Option WorldState → Type 0
-LineIs (Ok done) old line text new = PlaysShown old line text new
-LineIs (Err fault) old line text new = LineFaultIs fault old line new
+abbrev pub LineIs : {A : Type 0} → Result A LineFault → Sent → Sent → Option WorldState → List ℕ → List ℕ → Option WorldState → Type 0
+LineIs (Ok done) old new world line rest world' = PlaysShown world line (SendsBut rest old new) world'
+LineIs (Err fault) old new world line rest world' = (m : Option machine.World) → ShowsAny world m → LineFaultIs fault old new m line
+
+-- why a text was not sent
+abbrev pub IsNotSent : LineFault → Sent → Sent → List ℕ → Type 0
+IsNotSent line_fault.OutOfMemory old new text = new ≡ old
+IsNotSent line_fault.Write old new text = Fails old new text
+IsNotSent (line_fault.Faulty fault) old new text = ⊥
+
+-- the text of a tree, or a refusal where there is none, or for want of memory
+abbrev pub ListsText : Option (List TreeNode) → List ℕ → Type 0
+ListsText None text = text ≡ refused_line fault.NoSnapshot
+ListsText (Some nodes) text = (text ≡ tree_lines nodes) ⊎ (text ≡ refused_line fault.OutOfMemory)
+
+-- what became of a tree's text
+abbrev pub ListIs : Result (Unit {0}) LineFault → Sent → Sent → List ℕ → Option (List TreeNode) → Type 0
+ListIs (Ok done) old new rest nodes = (text : List ℕ) × ListsText nodes text × SendsBut rest old new text
+ListIs (Err line_fault.OutOfMemory) old new rest nodes =
+    (text : List ℕ) × ((text ≡ []) ⊎ ListsFront nodes text) × Sends old new text
+ListIs (Err line_fault.Write) old new rest nodes = (text : List ℕ) × ListsText nodes text × Fails old new text
+ListIs (Err (line_fault.Faulty fault)) old new rest nodes = ⊥
+
+-- memory was refused before the first node, or past it
+abbrev pub StopsList : Bool → Option (List TreeNode) → Sent → Sent → Type 0
+StopsList false nodes old new = IsSome nodes × (new ≡ old)
+StopsList true nodes old new = (text : List ℕ) × ListsFront nodes text × Sends old new text
+
+-- a node's line was not sent
+abbrev pub FailsList : LineFault → Option (List TreeNode) → Sent → Sent → Type 0
+FailsList line_fault.OutOfMemory nodes old new = (text : List ℕ) × ListsFront nodes text × Sends old new text
+FailsList line_fault.Write nodes old new = (list : List TreeNode) × (nodes ≡ Some list) × Fails old new (tree_lines list)
+FailsList (line_fault.Faulty fault) nodes old new = ⊥
+
+-- how the lines of nodes were sent: all of them, or by which fault no more
+abbrev pub HandsLines : Result (Unit {0}) Fault → Bool → LineFault → Option (List TreeNode) → Sent → Sent → Type 0
+HandsLines result begun why nodes old new = MatchResult result
+    (λ _. (list : List TreeNode) × (nodes ≡ Some list) × Sends old new (flat_map node_line list))
+    (λ refused. ((refused ≡ fault.NoSnapshot) × (begun ≡ false) × (nodes ≡ None) × (new ≡ old))
+    ⊎ (((refused ≡ fault.OutOfMemory) × StopsList begun nodes old new)
+    ⊎ ((refused ≡ fault.Write) × FailsList why nodes old new)))
 
 -- a world is made, or there is none
 abbrev pub MakesWorld : Option GeometryField → GeometryNumbers → List ℕ → Option WorldState → Type 0
@@ -57,6 +115,7 @@ Gathers false old text new = new ≡ old
 -- how a line's fault ends the script
 abbrev pub ending_of : ℕ → LineFault → Fault
 ending_of number line_fault.OutOfMemory = fault.OutOfMemory
+ending_of number line_fault.Write = fault.Write
 ending_of number (line_fault.Faulty kind) = fault.ScriptFault kind number
 
 -- past the last allowed line there is but one answer

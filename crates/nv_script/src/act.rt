@@ -1,29 +1,37 @@
 //! What lines do to a world, and what they write.
 
-ghost use Rattle.std.specs.Prelude.{◌≡◌, [], None, OnOk};
+ghost use Rattle.std.specs.Prelude.{◌≡◌, [], None, OnOk, false};
 ghost use Rattle.nv_base.specs.Limits.{first_bad_field};
-ghost use Rattle.nv_script.specs.Play.{Acts};
+ghost use Rattle.nv_script.specs.Play.{Acts, is_list};
 ghost use Rattle.nv_script.specs.Results.{IsNewWorld, LineIs, MakesWorld};
 ghost use Rattle.nv_core.specs.Worlds.{Leads};
 
 use crate::command::{Command, is_skipped, read_command, read_format};
 use crate::fault::LineFault;
+use crate::outbox::Outbox;
 use crate::text::{
-    push_lists, push_log, push_refused, push_reply, push_snaps, push_space, push_told, push_tree,
+    push_lists, push_log, push_refused, push_reply, push_snaps, push_space, push_told,
 };
+use crate::trees::write_tree;
 use crate::word::words;
 use nv_base::{Epoch, Fault, Geometry, GeometryNumbers, Ino};
 use nv_core::World;
 use std::alloc::{AllocError, Global};
+use std::io::Write;
 
-/// Plays one line, which has no line end. The text that it writes is in `out` then, in place of what that held.
-pub(crate) fn play_line(
+/// Plays one line, which has no line end. The text that it writes is in `out` then, in place of what that held, except
+/// for the lines of a tree's nodes, which are sent before.
+pub(crate) fn play_line<W: Write>(
     alloc: Global,
     world: &mut Option<World>,
     line: &[u8],
     out: &mut Vec<u8>,
+    outbox: &mut Outbox,
+    writer: &mut W,
 ) -> Result<(), LineFault>
-    ensures { LineIs result world.old line.now out.new.items world.new }
+    ensures { LineIs result (record { written = W.contents writer.old; gathered = outbox.old })
+        (record { written = W.contents writer.new; gathered = outbox.new })
+        world.old line.now out.new.items world.new }
 {
     out.clear();
     if is_skipped(line) {
@@ -37,7 +45,13 @@ pub(crate) fn play_line(
         }
         Some(world) => {
             let command = read_command(alloc, words.as_slice())?;
-            Ok(act(world, command, out)?)
+            match command {
+                Command::Tree => write_tree(world, None, out, outbox, writer),
+                Command::SnapTree(s) => {
+                    write_tree(world, Some(Epoch::new(s)), out, outbox, writer)
+                }
+                _ => Ok(act(world, command, out)?),
+            }
         }
     }
 }
@@ -71,9 +85,10 @@ fn new_world(alloc: Global, numbers: &GeometryNumbers) -> Result<World, Fault>
     World::format(alloc, geometry)
 }
 
-/// Acts on a command.
+/// Acts on a command that lists no tree.
 fn act(world: &mut World, command: Command, out: &mut Vec<u8>) -> Result<(), AllocError>
-    requires { out.old.items ≡ [] }
+    requires other { is_list command ≡ false }
+    requires empty { out.old.items ≡ [] }
     ensures { OnOk result
         (Leads (λ m n. Acts m command out.new.items n) world.old world.new) }
 {
@@ -82,14 +97,8 @@ fn act(world: &mut World, command: Command, out: &mut Vec<u8>) -> Result<(), All
         Command::Go(actor, more) => push_reply(out, &world.go_on(actor, more)),
         Command::Run(actor) => push_told(out, &world.finish(actor)),
         Command::Do(actor, call) => push_told(out, &world.call(actor, call)),
-        Command::Tree => match world.tree() {
-            Ok(tree) => push_tree(out, tree.as_slice()),
-            Err(fault) => push_refused(out, &fault),
-        },
-        Command::SnapTree(s) => match world.snap_tree(Epoch::new(s)) {
-            Ok(tree) => push_tree(out, tree.as_slice()),
-            Err(fault) => push_refused(out, &fault),
-        },
+        // Their nodes are handed on one by one.
+        Command::Tree | Command::SnapTree(_) => unreachable!(),
         Command::Snaps => match world.snaps() {
             Ok(snaps) => push_snaps(out, &snaps),
             Err(fault) => push_refused(out, &fault),

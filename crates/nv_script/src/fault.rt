@@ -3,6 +3,7 @@
 ghost use Rattle.std.specs.Prelude.{◌≡◌};
 ghost use Rattle.nv_script.specs.declared.fault.LineFault.TheVariants as line;
 
+use crate::send::WriteFailed;
 use nv_base::ScriptFaultKind;
 use std::alloc::AllocError;
 
@@ -11,6 +12,8 @@ use std::alloc::AllocError;
 pub(crate) enum LineFault {
     /// A growth of memory was refused.
     OutOfMemory,
+    /// A write of its text failed.
+    Write,
     /// The line has this fault.
     Faulty(ScriptFaultKind),
 }
@@ -28,5 +31,13 @@ impl From<ScriptFaultKind> for LineFault {
 
     fn from(kind: ScriptFaultKind) -> LineFault {
         LineFault::Faulty(kind)
+    }
+}
+
+impl From<WriteFailed> for LineFault {
+    ghost from_gives = { λ _ fault. fault ≡ line.Write };
+
+    fn from(_error: WriteFailed) -> LineFault {
+        LineFault::Write
     }
 }

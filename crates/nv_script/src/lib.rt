@@ -16,6 +16,7 @@ mod outcome;
 mod script;
 mod send;
 mod text;
+mod trees;
 pub mod word;
 
 pub use outcome::{Outcome, exit_code, fault_line};

@@ -33,7 +33,8 @@ const TEXT_BYTES: usize = 4096;
 /// of the next line too. Faults are `ScriptFault` with the line, counted from 1, and its kind; `Read` for any failed
 /// read; `Write` for any failed write and one that takes no byte; `OutOfMemory` where room for the lines, their
 /// words or their texts is refused. A format, call or report whose own growth is refused is printed as refused and
-/// changes nothing, and the script goes on.
+/// changes nothing, and the script goes on. A tree is written while it is walked: growth that is refused past its first
+/// node ends the script by `OutOfMemory`, and then whole lines of that tree may be written too.
 ///
 /// Answers are gathered, and written before the reader is asked for more bytes, at the end, and where there is no
 /// room for more: so each answer is written before the next line is waited for, and a chunk of 64 KiB that is
@@ -164,7 +165,14 @@ impl Player {
         if !is_line(number, taken)? {
             return Ok(false);
         }
-        let played = play_line(alloc, &mut self.world, self.line.as_slice(), &mut self.text);
+        let played = play_line(
+            alloc,
+            &mut self.world,
+            self.line.as_slice(),
+            &mut self.text,
+            &mut self.outbox,
+            writer,
+        );
         if let Err(fault) = played {
             return Err(ending_of(number, fault));
         }
@@ -212,6 +220,7 @@ fn ending_of(number: u64, fault: LineFault) -> Fault
 {
     match fault {
         LineFault::OutOfMemory => Fault::OutOfMemory,
+        LineFault::Write => Fault::Write,
         LineFault::Faulty(kind) => Fault::ScriptFault(kind, number),
     }
 }

@@ -2,7 +2,7 @@
 
 ghost use Rattle.std.specs.Prelude.{◌≡◌, ◌++◌, IfOk, OnOk, codes, decimal, string_bytes};
 ghost use Rattle.nv_base.specs.Texts.{bracketed, fault_text, script_fault_name};
-ghost use Rattle.nv_script.specs.Texts.{answer_text, bound_text, counted_bytes, counts_text, handle_text, kind_text, letter, lists_lines, log_line, names_text, node_line, path_text, refused_line, reply_line, run_text, runs_text, snap_line, snaps_lines, space_line, tree_lines};
+ghost use Rattle.nv_script.specs.Texts.{answer_text, bound_text, counted_bytes, counts_text, handle_text, kind_text, letter, lists_lines, log_line, names_text, node_line, path_text, refused_line, reply_line, run_text, runs_text, snap_line, snaps_lines, space_line};
 ghost use Rattle.std.specs.List.{flat_map};
 ghost use Rattle.nv_machine.specs.World.{Done};
 ghost use Rattle.nv_core.specs.Whole.{last_reply};
@@ -12,7 +12,7 @@ use crate::word::{push_escaped, push_number};
 use nv_alloc::FreeRun;
 use nv_base::{Fault, Handle, Items, Kind, Mode, Name, ScriptFaultKind};
 use nv_cell::PageCounts;
-use nv_core::{Answer, CallFault, LogCounts, Path, Reply, SnapCounts, Snaps, Space, TreeNode};
+use nv_core::{Answer, CallFault, LogCounts, Reply, SnapCounts, Snaps, Space, TreeNode};
 use nv_entry::{BoundName, NodeCopy};
 use std::alloc::{AllocError, Global};
 
@@ -217,14 +217,13 @@ fn push_names(out: &mut Vec<u8>, names: &[Name]) -> Result<(), AllocError>
 }
 
 /// Adds a path: `/` for the root.
-fn push_path(out: &mut Vec<u8>, path: &Path) -> Result<(), AllocError>
+fn push_path(out: &mut Vec<u8>, path: &[Name]) -> Result<(), AllocError>
     ensures { OnOk result (out.new.items ≡ out.old.items ++ path_text path.now) }
 {
-    let names = path.as_slice();
-    if names.is_empty() {
+    if path.is_empty() {
         return Ok(out.push(b'/')?);
     }
-    push_names(out, names)
+    push_names(out, path)
 }
 
 /// Adds a file's letter, mode and bytes, or a directory's letter and mode.
@@ -242,13 +241,14 @@ fn push_kind(out: &mut Vec<u8>, node: &NodeCopy) -> Result<(), AllocError>
     }
 }
 
-/// Adds the line of a node.
-fn push_node(out: &mut Vec<u8>, node: &TreeNode) -> Result<(), AllocError>
-    ensures { OnOk result (out.new.items ≡ out.old.items ++ node_line node.now) }
+/// Adds the line of a node at a path.
+pub(crate) fn push_node(out: &mut Vec<u8>, path: &[Name], node: &NodeCopy) -> Result<(), AllocError>
+    ensures { OnOk result (out.new.items
+        ≡ out.old.items ++ node_line (record { path = path.now; node = node.now })) }
 {
-    push_path(out, &node.path)?;
+    push_path(out, path)?;
     out.push(b' ')?;
-    push_kind(out, &node.node)?;
+    push_kind(out, node)?;
     Ok(out.push(b'\n')?)
 }
 
@@ -257,17 +257,9 @@ fn push_nodes(out: &mut Vec<u8>, nodes: &[TreeNode]) -> Result<(), AllocError>
     ensures { OnOk result (out.new.items ≡ out.old.items ++ flat_map node_line nodes.now) }
 {
     for node in nodes {
-        push_node(out, node)?;
+        push_node(out, node.path.as_slice(), &node.node)?;
     }
     Ok(())
-}
-
-/// Adds the lines of a tree.
-pub(crate) fn push_tree(out: &mut Vec<u8>, nodes: &[TreeNode]) -> Result<(), AllocError>
-    ensures { OnOk result (out.new.items ≡ out.old.items ++ tree_lines nodes.now) }
-{
-    push_nodes(out, nodes)?;
-    out.extend_from_slice(b"end\n")
 }
 
 /// Adds the line of a living snapshot.

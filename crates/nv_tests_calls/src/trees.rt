@@ -1,11 +1,11 @@
 //! Trees that are the same.
 
-use nv_core::{Path, TreeNode};
+use nv_core::{Name, NodeCopy, TreeNode};
 use nv_entry::BoundName;
 
 /// Whether two paths have the same names.
-pub fn have_same_path(path: &Path, other: &Path) -> bool {
-    for (name, other) in path.as_slice().iter().zip(other.as_slice()) {
+pub fn have_same_path(path: &[Name], other: &[Name]) -> bool {
+    for (name, other) in path.iter().zip(other) {
         if name.bytes() != other.bytes() {
             return false;
         }
@@ -22,19 +22,20 @@ fn have_same_names(names: &[BoundName], others: &[BoundName]) -> bool {
     names.len() == others.len()
 }
 
-fn is_alike(node: &TreeNode, other: &TreeNode) -> bool {
-    have_same_path(&node.path, &other.path)
-        && node.node.kind == other.node.kind
-        && node.node.mode == other.node.mode
-        && node.node.size == other.node.size
-        && node.node.bytes.as_slice() == other.node.bytes.as_slice()
-        && have_same_names(node.node.names.as_slice(), other.node.names.as_slice())
+/// Whether a node of a tree stands at a path, and is the same as one that is found there.
+pub fn is_alike(node: &TreeNode, path: &[Name], other: &NodeCopy) -> bool {
+    have_same_path(node.path.as_slice(), path)
+        && node.node.kind == other.kind
+        && node.node.mode == other.mode
+        && node.node.size == other.size
+        && node.node.bytes.as_slice() == other.bytes.as_slice()
+        && have_same_names(node.node.names.as_slice(), other.names.as_slice())
 }
 
 /// Whether two trees of one world are the same.
 pub fn are_alike(tree: &[TreeNode], others: &[TreeNode]) -> bool {
     for (node, other) in tree.iter().zip(others) {
-        if !is_alike(node, other) {
+        if !is_alike(node, other.path.as_slice(), &other.node) {
             return false;
         }
     }

@@ -2,6 +2,7 @@
 
 mod audits;
 mod growths;
+mod handed;
 mod playing;
 mod reports;
 mod snapshots;

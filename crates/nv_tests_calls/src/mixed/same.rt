@@ -83,7 +83,7 @@ pub(super) fn same_tree(
     twins: &mut Twins,
 ) -> bool {
     for (one, other) in tree.iter().zip(others) {
-        if !have_same_path(&one.path, &other.path) || !same_inode(one, other) {
+        if !have_same_path(one.path.as_slice(), other.path.as_slice()) || !same_inode(one, other) {
             return false;
         }
         let names = one.node.names.as_slice();

@@ -1,7 +1,7 @@
 //! Scripts that end early: a read or a write that fails.
 
 use super::pieces::{AT_ONCE, ending, play_in_pieces};
-use super::worked::PARTIAL_AT_BOTH_ENDS;
+use super::worked::{NAMES, PARTIAL_AT_BOTH_ENDS};
 use crate::compare::{same, same_for};
 use nv_base::Fault;
 use std::alloc::Global;
@@ -40,11 +40,17 @@ fn fails_to_write(rt: &impl Abort, alloc: Global, script: &[u8], calls: usize, w
     same_for(rt, &calls, written.len() >= calls, true);
 }
 
+/// A writer that fails at each of its calls in turn.
+fn fails_at_each_write(rt: &impl Abort, alloc: Global, script: &[u8], want: &[u8]) {
+    for calls in 0..want.len().div_ceil(7) {
+        fails_to_write(rt, alloc, script, calls, want);
+    }
+}
+
 #[test]
 fn failed_writes(rt: HostRuntime) {
-    let (script, want) = PARTIAL_AT_BOTH_ENDS;
-    for calls in 0..want.len().div_ceil(7) {
-        fails_to_write(&rt, rt.alloc(), script.as_bytes(), calls, want.as_bytes());
+    for (script, want) in [PARTIAL_AT_BOTH_ENDS, NAMES] {
+        fails_at_each_write(&rt, rt.alloc(), script.as_bytes(), want.as_bytes());
     }
 }
 

@@ -13,6 +13,40 @@ use std::process::Abort;
 
 const REFUSED: &[u8] = b"refused E1 OutOfMemory\n";
 
+/// A tree of three levels, now and of a snapshot: where memory is refused past its first node, the script ends behind
+/// whole lines of it.
+const TREE_OF_THREE_LEVELS: Row = (
+    "format blocks=16 cpus=2 block=4 page=4 inodes=8 snaps=4 actors=3\n\
+     do 0 mkdir 0.1 d 493\n\
+     do 0 mkdir 1.1 e 493\n\
+     do 0 create 2.1 x 420\n\
+     do 0 write 3.1 0 abcde\n\
+     do 0 create 0.1 y 420\n\
+     do 0 snap\n\
+     do 0 unlink 0.1 y\n\
+     tree\n\
+     stree 1\n",
+    "formatted\n\
+     done 1.1\n\
+     done 2.1\n\
+     done 3.1\n\
+     done 5\n\
+     done 4.1\n\
+     done 1\n\
+     done\n\
+     / d 493\n\
+     /d d 493\n\
+     /d/e d 493\n\
+     /d/e/x f 420 5 abcde\n\
+     end\n\
+     / d 493\n\
+     /d d 493\n\
+     /d/e d 493\n\
+     /d/e/x f 420 5 abcde\n\
+     /y f 420 0\n\
+     end\n",
+);
+
 /// The next line of a script with its line end, and what stands behind it.
 fn next_line(script: &[u8]) -> (&[u8], &[u8]) {
     let end = script.iter().position(|byte| *byte == b'\n');
@@ -104,6 +138,11 @@ fn cut_then_grown_with_one_refused_growth(rt: HostRuntime) {
 #[test]
 fn names_with_one_refused_growth(rt: HostRuntime) {
     answers_in_the_end(&rt, NAMES, b"");
+}
+
+#[test]
+fn a_tree_of_three_levels_with_one_refused_growth(rt: HostRuntime) {
+    answers_in_the_end(&rt, TREE_OF_THREE_LEVELS, b"");
 }
 
 #[test]

@@ -90,7 +90,7 @@ fn lists_of(rt: &impl Abort, world: &World) -> Lists {
     }
 }
 
-fn tree_of(rt: &impl Abort, world: &World) -> Tree {
+pub(super) fn tree_of(rt: &impl Abort, world: &World) -> Tree {
     match world.tree() {
         Ok(tree) => tree,
         Err(fault) => {

@@ -1,6 +1,7 @@
 use Rattle.std.proofs.Common.{◌∙◌, ◌++◌, List, ℕ, Ok, refl, sym, ap, subst}
 use Rattle.std.proofs.lemmas.Result.{err_from_is_err_and}
 use Rattle.nv_script.specs.Lines.{WritesFront, WritesSome}
+use Rattle.nv_script.proofs.Known.{writes_rest, writes_some}
 use Rattle.nv_script.proofs.Endings.{breaks_off, ends, ends_told, next, none_gathered, not_line, not_played, plays_at, reads_fail, why_at, within_last, written_on, written_some}
 use Rattle.nv_script.proofs.script.Player.turn.Goals as goal
 
@@ -39,7 +40,7 @@ returns-in-Err g c = λ input old m shown at.
     let now = written_on _ _ _ _ _ _ _ c.requires at _ _ c.in-Ok.ensures.sent in
     let took = c.in-Ok-next_line.ensures in
     let one = sym c.in_ok-is_line.ensures ∙ ap Ok c.if-not-branch.false in
-    let why = why_at _ _ _ m _ _ c.as_slice.ensures.value shown c.in-Err.ensures in
+    let why = why_at _ _ _ m _ _ c.as_slice.ensures.value (c.in-Err.ensures m shown) in
     ends_told _ _ _ _ _ c.ending_of.ensures (not_played _ _ _ _ _ _ _ c.requires now c.in-Ok-next_line.taken _ _ one took.line took.taken
     (g.R.Read.remaining c.next_line.new.reader) _ _ why)
 
@@ -50,12 +51,13 @@ returns-in_default-add g c = λ input old m shown at.
     let took = c.in-Ok-next_line.ensures in
     let one = sym c.in_ok-is_line.ensures ∙ ap Ok c.if-not-branch.false in
     let led = c.in_default-played.ensures m shown in
-    let plays = plays_at _ _ _ _ _ c.as_slice.ensures.value led.1 in
+    let plays = plays_at _ _ _ _ _ c.as_slice.ensures.value led.2 in
     let wrote = c.in_default-add.ensures in
-    let some = subst (λ (bytes : List ℕ). WritesSome (g.W.Write.contents c.write_before_read.new.writer)
-    (g.W.Write.contents c.add.new.writer) (c.write_before_read.new.outbox ++ bytes)) c.as_slice-2.ensures.value wrote.0 in
+    let some = subst (λ (bytes : List ℕ). WritesSome (g.W.Write.contents c.play_line-played.new.writer)
+    (g.W.Write.contents c.add.new.writer) (c.play_line-played.new.outbox ++ bytes)) c.as_slice-2.ensures.value wrote.0 in
     none_gathered input left old _ _ wrote.1
-    (breaks_off _ _ _ _ _ _ _ c.requires now c.in-Ok-next_line.taken _ _ one took.line took.taken left _ _ _ plays some)
+    (breaks_off _ _ _ _ _ _ _ c.requires now c.in-Ok-next_line.taken _ _ one took.line took.taken left _ _ _ plays
+    (writes_some _ _ _ _ _ led.4 some))
 
 pub returns : goal.returns
 returns g c = λ input old m shown at.
@@ -63,9 +65,14 @@ returns g c = λ input old m shown at.
     let took = c.in-Ok-next_line.ensures in
     let one = sym c.in_ok-is_line.ensures ∙ ap Ok c.if-not-branch.false in
     let led = c.in_default-played.ensures m shown in
-    let plays = plays_at _ _ _ _ _ c.as_slice.ensures.value led.1 in
-    let wrote = subst (λ (bytes : List ℕ). WritesFront (g.W.Write.contents c.write_before_read.new.writer)
+    let plays = plays_at _ _ _ _ _ c.as_slice.ensures.value led.2 in
+    let wrote = subst (λ (bytes : List ℕ). WritesFront (g.W.Write.contents c.play_line-played.new.writer)
     (g.W.Write.contents c.add.new.writer)
-    (c.write_before_read.new.outbox ++ bytes) c.add.new.self) c.as_slice-2.ensures.value c.in-Ok-add.ensures in
-    let inside = within_last _ _ _ _ _ _ _ c.requires now c.in-Ok-next_line.taken _ _ one took.line took.taken in
-    (inside, led.0, next _ _ _ _ _ _ _ c.requires now c.in-Ok-next_line.taken _ _ one took.line took.taken _ _ _ _ plays wrote, led.2)
+    (c.play_line-played.new.outbox ++ bytes) c.add.new.self) c.as_slice-2.ensures.value c.in-Ok-add.ensures in
+    let inside = within_last _ _ _ _ _ _ _ c.requires now c.in-Ok-next_line.taken _ _ one took.line took.taken in (
+      inside,
+      led.0,
+      next _ _ _ _ _ _ _ c.requires now c.in-Ok-next_line.taken _ _ one took.line took.taken _ _ _ _ plays
+          (writes_rest _ _ _ _ _ _ led.4 wrote),
+      led.3,
+    )

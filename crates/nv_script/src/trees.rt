@@ -1,0 +1,156 @@
+//! Trees whose lines are written while they are walked.
+
+ghost use Rattle.std.specs.Prelude.{◌≡◌, [], IfErr, OnOk, Option, List, false};
+ghost use Rattle.nv_core.specs.Worlds.{Shows};
+ghost use Rattle.nv_entry.specs.declared.tree.TreeNode.{TreeNode};
+ghost use Rattle.nv_machine.specs.World as machine;
+ghost use Rattle.nv_script.specs.Play.{nodes_at};
+ghost use Rattle.nv_script.specs.Results.{HandsLines, IsNotSent, ListIs, Sends, Sent};
+ghost use Rattle.nv_script.specs.Texts.{node_line};
+
+use crate::fault::LineFault;
+use crate::outbox::Outbox;
+use crate::text::{push_node, push_refused};
+use nv_base::{Epoch, Fault, Name};
+use nv_core::{NodeCopy, Sink, SinkFault, World};
+use std::io::Write;
+
+/// Writes the line of each node, which it makes in a buffer that is lent to it. It keeps whether it took a node, and
+/// why it failed last.
+#[derive(Drop)]
+struct NodeLines<'a, W> {
+    line: &'a mut Vec<u8>,
+    outbox: &'a mut Outbox,
+    writer: &'a mut W,
+    has_begun: bool,
+    failures: u64,
+    fault: LineFault,
+}
+
+impl<'a, W: Write> Sink for NodeLines<'a, W> {
+    ghost use Rattle.std.specs.Prelude.{◌≡◌, true};
+    ghost use Rattle.nv_script.specs.Results.{IsNotSent, Sends};
+    ghost use Rattle.nv_script.specs.Texts.{node_line};
+
+    ghost failed = { λ lines. lines.failures };
+
+    ghost Takes = { λ old node new.
+        Sends (record { written = W.contents old.writer.now; gathered = old.outbox.now })
+        (record { written = W.contents new.writer.now; gathered = new.outbox.now }) (node_line node)
+        × (new.has_begun ≡ true)
+        × (new.writer.ghost_name ≡ old.writer.ghost_name)
+        × (new.outbox.ghost_name ≡ old.outbox.ghost_name) };
+
+    ghost Fails = { λ old node new.
+        IsNotSent new.fault (record { written = W.contents old.writer.now; gathered = old.outbox.now })
+        (record { written = W.contents new.writer.now; gathered = new.outbox.now }) (node_line node)
+        × (new.writer.ghost_name ≡ old.writer.ghost_name)
+        × (new.outbox.ghost_name ≡ old.outbox.ghost_name) };
+
+    fn node(&mut self, path: &[Name], node: &NodeCopy) -> Result<(), SinkFault> {
+        match write_node(self.line, self.outbox, self.writer, path, node) {
+            Ok(()) => {
+                self.has_begun = true;
+                Ok(())
+            }
+            Err(fault) => {
+                self.fault = fault;
+                self.failures += 1;
+                Err(SinkFault)
+            }
+        }
+    }
+
+    fn failures(&self) -> u64 {
+        self.failures
+    }
+}
+
+/// Writes the line of a node at a path. It is made in `line`.
+fn write_node<W: Write>(
+    line: &mut Vec<u8>,
+    outbox: &mut Outbox,
+    writer: &mut W,
+    path: &[Name],
+    node: &NodeCopy,
+) -> Result<(), LineFault>
+    ensures ok { OnOk result
+        (Sends (record { written = W.contents writer.old; gathered = outbox.old })
+        (record { written = W.contents writer.new; gathered = outbox.new })
+        (node_line (record { path = path.now; node = node.now }))) }
+    ensures err { IfErr result (λ why.
+        IsNotSent why (record { written = W.contents writer.old; gathered = outbox.old })
+        (record { written = W.contents writer.new; gathered = outbox.new })
+        (node_line (record { path = path.now; node = node.now }))) }
+{
+    line.clear();
+    push_node(line, path, node)?;
+    Ok(outbox.add(writer, line.as_slice())?)
+}
+
+/// Writes the lines of a tree, of the one now or of a snapshot. The last line is left in `out`, or the one of a refusal.
+pub(crate) fn write_tree<W: Write>(
+    world: &World,
+    snapshot: Option<Epoch>,
+    out: &mut Vec<u8>,
+    outbox: &mut Outbox,
+    writer: &mut W,
+) -> Result<(), LineFault>
+    ensures { (m : machine.World) → Shows world.now m
+        → ListIs result (record { written = W.contents writer.old; gathered = outbox.old })
+        (record { written = W.contents writer.new; gathered = outbox.new })
+        out.new.items (nodes_at m snapshot) }
+{
+    let mut lines = NodeLines {
+        line: out,
+        outbox,
+        writer,
+        has_begun: false,
+        failures: 0,
+        fault: LineFault::Write,
+    };
+    let handed = hand(world, snapshot, &mut lines);
+    let (has_begun, why) = (lines.has_begun, lines.fault);
+    out.clear();
+    end(handed, has_begun, why, out)
+}
+
+/// Hands the nodes of a tree to such a sink, which has the same outbox and the same writer after it.
+fn hand<'a, W: Write>(
+    world: &World,
+    snapshot: Option<Epoch>,
+    lines: &mut NodeLines<'a, W>,
+) -> Result<(), Fault>
+    requires failures { lines.old.failures ≡ 0 }
+    requires begun { lines.old.has_begun ≡ false }
+    ensures same_outbox { lines.new.outbox.ghost_name ≡ lines.old.outbox.ghost_name }
+    ensures same_writer { lines.new.writer.ghost_name ≡ lines.old.writer.ghost_name }
+    ensures lines { (m : machine.World) → Shows world.now m
+        → HandsLines result lines.new.has_begun lines.new.fault (nodes_at m snapshot)
+        (record { written = W.contents lines.old.writer.now; gathered = lines.old.outbox.now })
+        (record { written = W.contents lines.new.writer.now; gathered = lines.new.outbox.now }) }
+{
+    match snapshot {
+        Some(snapshot) => world.snap_tree_to(snapshot, lines),
+        None => world.tree_to(lines),
+    }
+}
+
+/// What is left of the text, once the nodes were handed on: the last line, or the one of a refusal before the first node.
+fn end(
+    handed: Result<(), Fault>,
+    has_begun: bool,
+    why: LineFault,
+    out: &mut Vec<u8>,
+) -> Result<(), LineFault>
+    requires { out.old.items ≡ [] }
+    ensures { (nodes : Option (List TreeNode)) (old new : Sent)
+        → HandsLines handed has_begun why nodes old new → ListIs result old new out.new.items nodes }
+{
+    match handed {
+        Ok(()) => Ok(out.extend_from_slice(b"end\n")?),
+        Err(Fault::Write) => Err(why),
+        Err(_) if has_begun => Err(LineFault::OutOfMemory),
+        Err(fault) => Ok(push_refused(out, &fault)?),
+    }
+}
