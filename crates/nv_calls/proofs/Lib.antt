@@ -42,6 +42,7 @@ pub mod Refilled
 pub mod Resized
 pub mod RetireAll
 pub mod Retires
+pub mod Rules
 pub mod RunLists
 pub mod Same
 pub mod Standing

@@ -23,6 +23,7 @@ pub mod Ready
 pub mod Refusals
 pub mod Retired
 pub mod Retiring
+pub mod Rules
 pub mod SlotCells
 pub mod Slots
 pub mod Steps

@@ -32,6 +32,7 @@ mod ready;
 mod receipt;
 mod refusal;
 mod retire;
+pub mod rule_laws;
 mod runs;
 mod slot_cells;
 mod snapshot_call;
