@@ -9,6 +9,7 @@ ghost use Rattle.nv_alloc.specs.FreeList.{is_home, IsFreeList};
 ghost use Rattle.nv_alloc.specs.Giving.{takes};
 ghost use Rattle.nv_alloc.specs.Runs.{runs_of};
 ghost use Rattle.std.specs.List.{range_with_len};
+ghost use Rattle.nv_base.specs.Memory.{out_of_memory};
 
 use crate::places::PlaceSet;
 use crate::{Block, BlockQueue, Runs};
@@ -58,7 +59,7 @@ impl FreeList {
         ensures size { IfOk result (λ list. list.size ≡ geometry.now.numbers.block) }
         ensures blocks { IfOk result (λ list.
             list.blocks ≡ zero_blocks geometry.now.numbers.block list.start (list.end - list.start)) }
-        ensures err { FailsOnly Fault.OutOfMemory result }
+        ensures err { FailsOnly out_of_memory result }
     {
         let start = geometry.home_start(cpu);
         let count = geometry.home_start(cpu + 1) - start;

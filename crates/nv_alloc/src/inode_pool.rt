@@ -5,6 +5,7 @@ ghost use Rattle.std.specs.List.{range_with_len};
 ghost use Rattle.nv_base.specs.Refusals.{FailsOnly};
 ghost use Rattle.nv_alloc.specs.InodePool.{IsPool};
 ghost use Rattle.nv_alloc.specs.Numbers.{has, put_by};
+ghost use Rattle.nv_base.specs.Memory.{out_of_memory};
 
 use crate::places::PlaceSet;
 use nv_base::{Fault, Geometry, Ino};
@@ -36,7 +37,7 @@ impl InodePool {
     pub fn new(alloc: Global, geometry: &Geometry) -> Result<InodePool, Fault>
         ensures inodes { IfOk result (λ pool. pool.inodes ≡ geometry.now.numbers.inodes) }
         ensures numbers { IfOk result (λ pool. pool.numbers ≡ range_with_len 0 geometry.now.numbers.inodes) }
-        ensures err { FailsOnly Fault.OutOfMemory result }
+        ensures err { FailsOnly out_of_memory result }
     {
         let inodes = geometry.numbers.inodes;
         let free = PlaceSet::full(alloc, inodes as u32)?;

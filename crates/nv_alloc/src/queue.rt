@@ -7,6 +7,7 @@ ghost use Rattle.nv_base.specs.Refusals.{FailsOnlyWhere, KeepsOnErr};
 ghost use Rattle.nv_alloc.specs.Block.{AreSized, BlockValue};
 ghost use Rattle.nv_alloc.specs.Giving.{after_giving};
 ghost use Rattle.nv_alloc.specs.Queue.{after_home};
+ghost use Rattle.nv_base.specs.Memory.{out_of_memory};
 
 use crate::giving::{dismantle, give_home};
 use crate::{Block, FreeList};
@@ -56,7 +57,7 @@ impl BlockQueue {
     /// Makes room for `n` more blocks: `OutOfMemory` where there is none, and nothing has changed.
     pub fn reserve(&mut self, n: u64) -> Result<(), Fault>
         ensures ok { OnOk result (self.new ≡ record self.old { room = max self.old.room n }) }
-        ensures err { FailsOnlyWhere Fault.OutOfMemory (self.old.room < n) result }
+        ensures err { FailsOnlyWhere out_of_memory (self.old.room < n) result }
         ensures same { KeepsOnErr result self.old self.new }
     {
         self.blocks.reserve_exact(n as usize)?;

@@ -50,7 +50,7 @@ script_fault_name script.Text = codes "text"
 
 -- the number and the name of a fault
 abbrev pub fault_name : Fault → List ℕ
-fault_name fault.OutOfMemory = codes "E1 OutOfMemory"
+fault_name (fault.OutOfMemory witness) = codes "E1 OutOfMemory"
 fault_name (fault.BadGeometry first) = codes "E2 BadGeometry"
 fault_name fault.Stale = codes "E3 Stale"
 fault_name fault.NotFile = codes "E4 NotFile"

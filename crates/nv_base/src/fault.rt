@@ -2,8 +2,10 @@
 
 ghost use Rattle.std.specs.Prelude.{◌≡◌, Some};
 ghost use Rattle.nv_base.specs.Texts.{fault_name, fault_text, field_name, image_fault_name, part_name, script_fault_name};
+ghost use Rattle.nv_base.specs.Memory.{out_of_memory};
 ghost use Rattle.nv_base.specs.declared.fault.Fault.TheVariants.{OutOfMemory};
 
+use crate::memory::NoMemory;
 use std::alloc::{AllocError, AllocFailed};
 use std::fmt;
 use thiserror::Error;
@@ -166,7 +168,7 @@ impl fmt::Display for ScriptFaultKind {
 #[derive(Clone, Copy, Debug, PartialEq, Eq, Error)]
 pub enum Fault {
     /// A growth of memory was refused.
-    OutOfMemory,
+    OutOfMemory(NoMemory),
     /// The first field of a geometry that is out of its limits.
     BadGeometry(GeometryField),
     /// The handle's slot is out of range, empty or gone, or has another generation.
@@ -231,7 +233,7 @@ impl Fault {
         ensures { result.now ≡ fault_name self.now }
     {
         match self {
-            Fault::OutOfMemory => "E1 OutOfMemory",
+            Fault::OutOfMemory(_) => "E1 OutOfMemory",
             Fault::BadGeometry(_) => "E2 BadGeometry",
             Fault::Stale => "E3 Stale",
             Fault::NotFile => "E4 NotFile",
@@ -279,18 +281,26 @@ impl fmt::Display for Fault {
     }
 }
 
-impl From<AllocError> for Fault {
-    ghost from_gives = { λ _ fault. fault ≡ OutOfMemory };
+impl From<NoMemory> for Fault {
+    ghost from_gives = { λ witness fault. fault ≡ OutOfMemory witness };
 
-    fn from(_error: AllocError) -> Fault {
-        Fault::OutOfMemory
+    fn from(witness: NoMemory) -> Fault {
+        Fault::OutOfMemory(witness)
+    }
+}
+
+impl From<AllocError> for Fault {
+    ghost from_gives = { λ _ fault. fault ≡ out_of_memory };
+
+    fn from(error: AllocError) -> Fault {
+        Fault::OutOfMemory(NoMemory::from(error))
     }
 }
 
 impl<T: Drop> From<AllocFailed<T>> for Fault {
-    ghost from_gives = { λ _ fault. fault ≡ OutOfMemory };
+    ghost from_gives = { λ _ fault. fault ≡ out_of_memory };
 
-    fn from(_error: AllocFailed<T>) -> Fault {
-        Fault::OutOfMemory
+    fn from(error: AllocFailed<T>) -> Fault {
+        Fault::OutOfMemory(NoMemory::from(error))
     }
 }

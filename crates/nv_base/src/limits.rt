@@ -1,7 +1,7 @@
 //! The limits that hold for every geometry, call and name.
 
-ghost use Rattle.std.specs.Prelude.{◌≡◌, ◌≤◌, ◌↔◌, IsTrue, max, min};
-ghost use Rattle.nv_base.specs.declared.limits.TheConstants.{DRAIN, LOCK_ROUNDS};
+ghost use Rattle.std.specs.Prelude.{◌≡◌, ◌≤◌, ◌↔◌, ◌^◌, IsTrue, max, min};
+ghost use Rattle.nv_base.specs.declared.limits.TheConstants.{ACTORS, BLOCKS, BLOCK_BYTES, CPUS, DRAIN, FILE_PAGES, INODES, LEAST_BLOCKS, LEAST_PAGE_ENTRIES, LOCK_ROUNDS, MODE, NAME_BYTES, NUMBER, PAGE_ENTRIES, PINS, SNAPS, WRITE_PAGES};
 
 /// The most bytes of a block.
 pub const BLOCK_BYTES: u64 = 4_096;
@@ -54,6 +54,27 @@ pub const DRAIN: u64 = 1_048_576;
 
 /// The greatest epoch, commit number, generation and version: 2 to the power of 62.
 pub const NUMBER: u64 = 4_611_686_018_427_387_904;
+
+/// Contracts and definitions name each limit and not its value. These are the values.
+pub fn limits_have_their_values()
+    ensures block_bytes { BLOCK_BYTES ≡ 4096 }
+    ensures least_page_entries { LEAST_PAGE_ENTRIES ≡ 2 }
+    ensures page_entries { PAGE_ENTRIES ≡ 63 }
+    ensures least_blocks { LEAST_BLOCKS ≡ 2 }
+    ensures blocks { BLOCKS ≡ 2 ^ 20 }
+    ensures cpus { CPUS ≡ 64 }
+    ensures inodes { INODES ≡ 2 ^ 16 }
+    ensures snaps { SNAPS ≡ 1024 }
+    ensures actors { ACTORS ≡ 64 }
+    ensures file_pages { FILE_PAGES ≡ 2 ^ 16 }
+    ensures write_pages { WRITE_PAGES ≡ 1024 }
+    ensures name_bytes { NAME_BYTES ≡ 255 }
+    ensures mode { MODE ≡ 4095 }
+    ensures pins { PINS ≡ 64 }
+    ensures lock_rounds { LOCK_ROUNDS ≡ 8 }
+    ensures drain { DRAIN ≡ 2 ^ 20 }
+    ensures number { NUMBER ≡ 2 ^ 62 }
+{}
 
 /// Whether a call with so many failed rounds is contended.
 pub fn is_contended(failed_rounds: u64) -> bool

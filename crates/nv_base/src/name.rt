@@ -4,6 +4,7 @@ ghost use Rattle.std.specs.Prelude.{◌≡◌, ◌↔◌, false, IsTrue, IsOk, I
 ghost use Rattle.std.specs.List.{list_all};
 ghost use Rattle.nv_base.specs.Names.{is_dots, is_lawful_name, is_name_byte};
 ghost use Rattle.nv_base.specs.Refusals.{FailsEither, FailsOnly, IsRefusedBy};
+ghost use Rattle.nv_base.specs.Memory.{out_of_memory};
 
 use crate::{Fault, limits};
 use std::alloc::{AllocError, Global};
@@ -44,7 +45,7 @@ impl Name {
     /// `OutOfMemory`.
     pub fn read(alloc: Global, bytes: &[u8]) -> Result<Name, Fault>
         ensures ok { IfOk result (λ name. name ≡ bytes.now) }
-        ensures err { FailsEither Fault.BadName Fault.OutOfMemory result }
+        ensures err { FailsEither Fault.BadName out_of_memory result }
         ensures unlawful { IsRefusedBy result Fault.BadName ↔ (is_lawful_name bytes.now ≡ false) }
     {
         Name::check(bytes)?;

@@ -5,6 +5,7 @@ ghost use Rattle.std.specs.List.{insert};
 ghost use Rattle.nv_base.specs.Refusals.{FailsOnly};
 ghost use Rattle.nv_book.specs.History.{before, put_back, state_now};
 ghost use Rattle.nv_epoch.specs.Holders.{without};
+ghost use Rattle.nv_base.specs.Memory.{out_of_memory};
 
 use crate::Event;
 use nv_base::{CommitNo, Epoch, Fault};
@@ -52,7 +53,7 @@ impl Base {
     /// What all events together led to.
     pub(crate) fn now(alloc: Global, snaps: &SnapList, commit: CommitNo) -> Result<Base, Fault>
         ensures ok { IfOk result (λ base. base ≡ state_now snaps.now commit) }
-        ensures err { FailsOnly Fault.OutOfMemory result }
+        ensures err { FailsOnly out_of_memory result }
     {
         Ok(Base {
             epoch: snaps.epoch(),
@@ -64,7 +65,7 @@ impl Base {
     /// Goes back to before the event.
     pub(crate) fn undo(&mut self, event: Event) -> Result<(), Fault>
         ensures ok { OnOk result (self.new ≡ before self.old event) }
-        ensures err { FailsOnly Fault.OutOfMemory result }
+        ensures err { FailsOnly out_of_memory result }
     {
         match event {
             Event::Committed { number, .. } => {

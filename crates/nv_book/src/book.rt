@@ -12,6 +12,7 @@ ghost use Rattle.nv_book.specs.Book.{BookState, BookValue, empty_book, after_ent
 ghost use Rattle.nv_book.specs.History.{IsLegal, now_of, state_now};
 ghost use Rattle.nv_book.specs.Manifests.{AreDead, AreFiled, gain_of, held_of, runs_of};
 ghost use Rattle.nv_book.specs.Records.{block_count, holder_of, run_count_of};
+ghost use Rattle.nv_base.specs.Memory.{out_of_memory};
 
 use crate::history::History;
 use crate::manifest::Manifest;
@@ -63,7 +64,7 @@ impl Model for Book {
 /// A closed journal for each CPU.
 fn closed_journals(alloc: Global, cpus: u64) -> Result<Vec<Journal>, Fault>
     ensures ok { IfOk result (λ journals. journals.items ≡ replicate cpus []) }
-    ensures err { FailsOnly Fault.OutOfMemory result }
+    ensures err { FailsOnly out_of_memory result }
 {
     let mut journals = Vec::with_capacity(alloc, cpus as usize)?;
     for _cpu in 0..cpus {
@@ -79,7 +80,7 @@ impl Book {
     pub fn new(alloc: Global, geometry: &Geometry) -> Result<Book, Fault>
         ensures ok { IfOk result (λ book. book ≡
             record { state = empty_book geometry.now.numbers 1 0; room = 0 }) }
-        ensures err { FailsOnly Fault.OutOfMemory result }
+        ensures err { FailsOnly out_of_memory result }
     {
         Book::starting_at(alloc, geometry, Epoch::new(1), CommitNo::new(0))
     }
@@ -98,7 +99,7 @@ impl Book {
         requires commit_fits { commit ≤ NUMBER }
         ensures ok { IfOk result (λ book. book ≡
             record { state = empty_book geometry.now.numbers epoch commit; room = 0 }) }
-        ensures err { FailsOnly Fault.OutOfMemory result }
+        ensures err { FailsOnly out_of_memory result }
     {
         let snaps = geometry.numbers.snaps;
         Ok(Book {
@@ -114,16 +115,17 @@ impl Book {
     /// Fixes the number and epoch of the seat's commit, with room for `need` records: as many as the commit kills
     /// parts, those that turn out free included.
     ///
-    /// `CommitLimit` where the last number is 2^62, before `OutOfMemory`. More than 2^62 records in all, which no
-    /// device has parts for, count as want of memory. It costs what it makes room for, however many records and
-    /// snapshots there are.
+    /// `CommitLimit` where the last number is 2^62, before `OutOfMemory`, which comes only where the room that there was
+    /// is less than `need`. More than 2^62 records in all, which no device has parts for, count as want of memory. It
+    /// costs what it makes room for, however many records and snapshots there are.
     pub fn enter(&mut self, seat: u64, need: u64) -> Result<(Epoch, CommitNo), Fault>
         ensures ok { OnOk result (self.new ≡
             record { state = after_enter seat self.old.state; room = need }) }
         ensures epoch { IfOk result (λ fixed. fixed.0 ≡ self.old.state.snaps.epoch) }
         ensures number { IfOk result (λ fixed. fixed.1 ≡ self.new.state.commit) }
         ensures limit { IsRefusedBy result Fault.CommitLimit ↔ (self.old.state.commit ≡ NUMBER) }
-        ensures err { FailsEither Fault.CommitLimit Fault.OutOfMemory result }
+        ensures enough { self.old.state.commit < NUMBER → need ≤ self.old.room → IsOk result }
+        ensures err { FailsEither Fault.CommitLimit out_of_memory result }
         ensures same { KeepsOnErr result self.old self.new }
     {
         if self.commit.number() == limits::NUMBER {
@@ -378,7 +380,7 @@ impl Book {
     /// The only error is `OutOfMemory`.
     pub fn base(&self) -> Result<Base, Fault>
         ensures ok { IfOk result (λ base. base ≡ self.now.state.history.base) }
-        ensures err { FailsOnly Fault.OutOfMemory result }
+        ensures err { FailsOnly out_of_memory result }
     {
         let now = Base::now(self.alloc, &self.snaps, self.commit)?;
         self.history.base(now)

@@ -3,6 +3,7 @@
 ghost use Rattle.std.specs.Prelude.{◌≡◌, ℕ, ◌≤◌, [], ◌∷◌, ◌++◌, length, slice_get, IfOk, IsTrue, ◌↔◌};
 ghost use Rattle.nv_base.specs.Refusals.{FailsOnly};
 ghost use Rattle.nv_book.specs.History.{State, IsHistory, IsNext, after, noted, told, undone};
+ghost use Rattle.nv_base.specs.Memory.{out_of_memory};
 
 use crate::{Base, Event};
 use circular_buffer::HeapCircularBuffer;
@@ -40,7 +41,7 @@ impl History {
     /// The only error is `OutOfMemory`.
     pub(crate) fn new(alloc: Global) -> Result<History, Fault>
         ensures ok { IfOk result (λ h. h ≡ []) }
-        ensures err { FailsOnly Fault.OutOfMemory result }
+        ensures err { FailsOnly out_of_memory result }
     {
         Ok(History {
             latest: HeapCircularBuffer::with_capacity(alloc, LATEST)?,
@@ -62,7 +63,7 @@ impl History {
     /// The only error is `OutOfMemory`.
     pub(crate) fn base(&self, now: Base) -> Result<Base, Fault>
         ensures ok { IfOk result (λ base. base ≡ undone now self.now) }
-        ensures err { FailsOnly Fault.OutOfMemory result }
+        ensures err { FailsOnly out_of_memory result }
     {
         let mut base = now;
         let mut left = self.latest.len();

@@ -7,6 +7,7 @@
 ghost use Rattle.std.specs.Prelude.{◌≡◌, ℕ, ◌+◌, ◌<◌, ◌≤◌, List, [], ◌∷◌, ◌++◌, All, Contains, Some, drop, is_none, slice_get};
 ghost use Rattle.std.specs.List.{AllByRecursion, find};
 ghost use Rattle.nv_epoch.specs.Holders.{IsRising, next_older, without};
+ghost use Rattle.nv_book.specs.declared.history.TheConstants.{LATEST};
 ghost use Rattle.nv_book.specs.declared.manifest.Manifest.{Manifest};
 ghost use Rattle.nv_book.specs.declared.record.Record.{Record};
 ghost use Rattle.nv_book.specs.Records.{block_count, holder_of, let_go};
@@ -14,6 +15,11 @@ ghost use Rattle.nv_book.specs.Listed.{IsRecordList, all_records, with_moved, wi
 ghost use Rattle.nv_book.specs.Manifests.{AreFiled, AreDead, put_to, records_at, after_drop, after_make, gain_of};
 
 use nv_epoch::laws;
+
+/// A book tells the latest 256 events.
+pub fn histories_have_256_events()
+    ensures { LATEST ≡ 256 }
+{}
 
 /// A record that is put to the manifest of its youngest holder is filed.
 pub fn retiring_files()

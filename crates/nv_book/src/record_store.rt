@@ -1,18 +1,19 @@
 //! The records that a book has, by manifests, and the room for more.
 
-ghost use Rattle.std.specs.Prelude.{◌≡◌, ◌+◌, ◌-◌, ◌<◌, ◌≤◌, [], ◌∷◌, ◌++◌, drop, length, slice_get, slice_index, IfErr, IfOk, OnErr, OnOk, Some, None};
+ghost use Rattle.std.specs.Prelude.{◌≡◌, ◌+◌, ◌-◌, ◌<◌, ◌≤◌, [], ◌∷◌, ◌++◌, drop, length, slice_get, slice_index, IfErr, IfOk, IsOk, OnErr, OnOk, Some, None};
 ghost use Rattle.nv_base.specs.declared.limits.TheConstants.{NUMBER};
 ghost use Rattle.nv_base.specs.Refusals.{FailsOnly};
 ghost use Rattle.nv_epoch.specs.Holders.{IsRising};
 ghost use Rattle.nv_book.specs.Manifests.{snapshots, records_at, put_to, after_drop, after_make, runs_of, held_of, gain_of};
 ghost use Rattle.nv_book.specs.Records.{block_count, run_count_of, let_go};
 ghost use Rattle.nv_book.specs.Store.{Store};
+ghost use Rattle.nv_base.specs.Memory.{out_of_memory};
 
 use crate::Record;
 use crate::manifest::{self, Manifest};
 use crate::records::Records;
 use crate::spare_nodes::SpareNodes;
-use nv_base::{Epoch, Fault, limits};
+use nv_base::{Epoch, Fault, NoMemory, limits};
 use std::alloc::Global;
 use std::marker::Model;
 
@@ -59,7 +60,7 @@ impl RecordStore {
     pub fn new(alloc: Global, most: u64) -> Result<RecordStore, Fault>
         ensures ok { IfOk result (λ store. store ≡
             record { manifests = []; most = most; deferred = []; room = 0 }) }
-        ensures err { FailsOnly Fault.OutOfMemory result }
+        ensures err { FailsOnly out_of_memory result }
     {
         Ok(RecordStore {
             manifests: Vec::with_capacity(alloc, most as usize)?,
@@ -73,14 +74,16 @@ impl RecordStore {
 
     /// Makes room for so many records, one spare node for each.
     ///
-    /// The only error is `OutOfMemory`. More than 2^62 records in all count as want of memory.
+    /// The only error is `OutOfMemory`, and none where there is that room already. More than 2^62 records in all count as
+    /// want of memory.
     pub fn reserve(&mut self, need: u64) -> Result<(), Fault>
         ensures ok { OnOk result (self.new ≡ record self.old { room = need }) }
-        ensures err { FailsOnly Fault.OutOfMemory result }
+        ensures err { FailsOnly out_of_memory result }
+        ensures enough { need ≤ self.old.room → IsOk result }
         ensures same { OnErr result (self.new ≡ self.old) }
     {
         if need > limits::NUMBER - self.count {
-            return Err(Fault::OutOfMemory);
+            return Err(NoMemory::for_as_many(self.count.saturating_add(need)).into());
         }
         self.spare.reserve(need)?;
         self.room = need;

@@ -1,6 +1,7 @@
 //! Nodes for runs, made before they are needed.
 
-ghost use Rattle.std.specs.Prelude.{◌≡◌, ◌<◌, ◌≤◌, max, IfErr, OnOk, OnErr};
+ghost use Rattle.std.specs.Prelude.{◌≡◌, ◌<◌, ◌≤◌, max, IfErr, IsOk, OnOk, OnErr};
+ghost use Rattle.nv_base.specs.Memory.{out_of_memory};
 
 use crate::Record;
 use crate::run::Run;
@@ -56,13 +57,12 @@ impl SpareNodes {
         ensures ok { OnOk result (need ≤ self.new) }
         ensures kept { self.old ≤ self.new }
         ensures most { self.new ≤ max self.old need }
-        ensures fault { IfErr result (λ fault. fault ≡ Fault.OutOfMemory) }
+        ensures fault { IfErr result (λ fault. fault ≡ out_of_memory) }
         ensures err { OnErr result (self.new < need) }
+        ensures enough { need ≤ self.old → IsOk result }
     {
         while (self.nodes.len() as u64) < need {
-            if self.nodes.push_back(blank()).is_err() {
-                return Err(Fault::OutOfMemory);
-            }
+            self.nodes.push_back(blank())?;
         }
         Ok(())
     }

@@ -13,8 +13,8 @@ use nv_log::Chain;
 pub trait Cells {
     ghost use Rattle.std.specs.Prelude.{◌≡◌, ℕ, ◌+◌, ◌-◌, ◌<◌, ◌≤◌, ◌^◌, ◌⊎◌, ◌∷◌, List, None, OnErr, OnOk, IsOk, Some, drop, length, map, slice_index_or, true, vec_len};
     ghost use Rattle.std.specs.List.{sum_by};
+    ghost use Rattle.nv_base.specs.Memory.{out_of_memory};
     ghost use Rattle.nv_base.specs.Refusals.{FailsOnly};
-    ghost use Rattle.nv_base.specs.declared.fault.Fault.TheVariants.{OutOfMemory};
     ghost use Rattle.nv_base.specs.declared.limits.TheConstants.{NUMBER};
     ghost use Rattle.nv_alloc.specs.Block.{numbers_of};
     ghost use Rattle.nv_entry.specs.Covered.{part_count};
@@ -69,7 +69,7 @@ pub trait Cells {
             (value_at (cells self.new) k).room }
         ensures name { OnErr result ((value_at (cells self.new) k).room.name
             ≡ (value_at (cells self.old) k).room.name) }
-        ensures err { FailsOnly OutOfMemory result }
+        ensures err { FailsOnly out_of_memory result }
         ensures places { places self.new ≡ places self.old }
         ensures beside { beside self.new ≡ beside self.old };
 

@@ -3,7 +3,7 @@
 ghost use Rattle.std.specs.Prelude.{◌≡◌, IfOk, IsTrue};
 ghost use Rattle.nv_base.specs.Names.{is_lawful_name};
 ghost use Rattle.nv_base.specs.Refusals.{FailsOnly};
-ghost use Rattle.nv_base.specs.declared.fault.Fault.TheVariants.{OutOfMemory};
+ghost use Rattle.nv_base.specs.Memory.{out_of_memory};
 
 use nv_base::{Fault, Name};
 use std::alloc::Global;
@@ -12,7 +12,7 @@ use std::alloc::Global;
 pub(crate) fn name_of(alloc: Global, name: &[u8]) -> Result<Name, Fault>
     requires { IsTrue (is_lawful_name name.now) }
     ensures ok { IfOk result (λ n. n ≡ name.now) }
-    ensures err { FailsOnly OutOfMemory result }
+    ensures err { FailsOnly out_of_memory result }
 {
     Name::read(alloc, name)
 }

@@ -2,7 +2,7 @@
 
 ghost use Rattle.std.specs.Prelude.{◌≡◌, ◌<◌, ◌≤◌, ◌&&◌, Err, IfOk, MatchResult, length, nat_lt};
 ghost use Rattle.nv_base.specs.Refusals.{FailsOnly};
-ghost use Rattle.nv_base.specs.declared.fault.Fault.TheVariants.{OutOfMemory};
+ghost use Rattle.nv_base.specs.Memory.{out_of_memory};
 ghost use Rattle.nv_base.specs.declared.limits.TheConstants.{BLOCK_BYTES, FILE_PAGES};
 ghost use Rattle.nv_entry.specs.Sound.{blocks_of};
 ghost use Rattle.nv_calls.specs.AllCalls.{blocks_wanted, ends_in_page, is_nothing, plan, refusal};
@@ -93,7 +93,7 @@ pub fn plan_items<N: Nodes>(
         ≡ blocks_wanted block (N.nodes_of nodes.now) taken.now.present (blank_call call.now) }
     ensures ok { IfOk result
         (λ list. list ≡ plan block (N.nodes_of nodes.now) taken.now (blank_call call.now)) }
-    ensures err { FailsOnly OutOfMemory result }
+    ensures err { FailsOnly out_of_memory result }
 {
     let made = taken.made;
     let runs = taken.runs.as_slice();

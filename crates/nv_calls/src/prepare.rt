@@ -1,10 +1,11 @@
 //! What makes a call ready to be committed: its items, cell by cell, and all room that they need.
 
-ghost use Rattle.std.specs.Prelude.{◌≡◌, ℕ, ◌<◌, ◌≤◌, ◌^◌, IfErr, IfOk, OnOk, length, unwrap_or};
+ghost use Rattle.std.specs.Prelude.{◌≡◌, ℕ, ◌<◌, ◌≤◌, ◌^◌, IfErr, IfOk, OnErr, OnOk, length, unwrap_or};
 ghost use Rattle.std.specs.List.{AllByRecursion, sum_by};
 ghost use Rattle.nv_alloc.specs.Block.{numbers_of};
 ghost use Rattle.nv_base.specs.Refusals.{FailsOnly};
-ghost use Rattle.nv_base.specs.declared.fault.Fault.TheVariants.{OutOfMemory};
+ghost use Rattle.nv_base.specs.Memory.{out_of_memory};
+ghost use Rattle.nv_base.specs.declared.limits.TheConstants.{NUMBER};
 ghost use Rattle.nv_cell.specs.Effects.{BindOne};
 ghost use Rattle.nv_entry.specs.Sound.{blocks_of};
 ghost use Rattle.nv_calls.specs.Cells.{AreCells, state_at};
@@ -20,7 +21,7 @@ use crate::planning::{ends_in_page, plan_items};
 use crate::runs::runs_of;
 use crate::{CellPlan, Cells, HeldNodes, Plan, Planned, Ready, Taken, Update};
 use nv_alloc::{BlockQueue, Hand};
-use nv_base::{BlockNo, Fault, Gen, Handle, Ino, Items};
+use nv_base::{BlockNo, Fault, Gen, Handle, Ino, Items, NoMemory};
 use nv_entry::Item;
 use std::alloc::{AllocError, Global};
 
@@ -62,7 +63,7 @@ fn planned_by<C: Cells>(
         ≡ planned_by (C.cells cells.now) hand.now update.now) }
     ensures runs { IfOk result (λ planned. let numbers = numbers_of hand.now.data.blocks in
         AreMaximal (runs_of numbers) × (blocks_of (runs_of numbers) ≡ numbers)) }
-    ensures err { FailsOnly OutOfMemory result }
+    ensures err { FailsOnly out_of_memory result }
 {
     let block = block_in(cells);
     let nodes = HeldNodes::new(cells);
@@ -135,7 +136,7 @@ fn ready_cells<C: Cells>(cells: &mut C, plans: &[CellPlan]) -> Result<(), Fault>
     requires one { AllByRecursion (λ p. BindOne p.items) plans.now }
     ensures cells { HaveNoLessRoom (C.cells cells.old) (C.cells cells.new) }
     ensures ready { OnOk result (AreReady (C.cells cells.new) plans.now) }
-    ensures err { FailsOnly OutOfMemory result }
+    ensures err { FailsOnly out_of_memory result }
     ensures places { C.places cells.new ≡ C.places cells.old }
     ensures beside { C.beside cells.new ≡ C.beside cells.old }
 {
@@ -145,12 +146,13 @@ fn ready_cells<C: Cells>(cells: &mut C, plans: &[CellPlan]) -> Result<(), Fault>
     Ok(())
 }
 
-/// How many parts the publishes of the plans kill at most. `OutOfMemory` where no number is as large: there is no room
-/// for as many blocks.
+/// How many parts the publishes of the plans kill at most. `OutOfMemory` where no number is as large, and only there:
+/// no memory holds as many blocks.
 fn need_of<C: Cells>(cells: &C, plans: &[CellPlan]) -> Result<u64, Fault>
     requires { AllByRecursion (λ p. p.at < length (C.cells cells.now)) plans.now }
     ensures ok { IfOk result (λ need. need ≡ need_of (C.cells cells.now) plans.now) }
-    ensures err { FailsOnly OutOfMemory result }
+    ensures err { FailsOnly out_of_memory result }
+    ensures many { OnErr result (NUMBER < need_of (C.cells cells.now) plans.now) }
 {
     let mut need = 0u64;
     for plan in plans {
@@ -159,7 +161,7 @@ fn need_of<C: Cells>(cells: &C, plans: &[CellPlan]) -> Result<u64, Fault>
     }
     // The greatest number stands for all that are no less.
     if need == u64::MAX {
-        return Err(Fault::OutOfMemory);
+        return Err(NoMemory::for_as_many(need).into());
     }
     Ok(need)
 }
@@ -187,7 +189,7 @@ fn prepare<C: Cells>(
     ensures few { IfOk result (λ done. sum_by (λ p. length p.items) done.0.items < 2 ^ 32) }
     ensures hand { HasNoLessRoom hand.old hand.new }
     ensures cells { HaveNoLessRoom (C.cells cells.old) (C.cells cells.new) }
-    ensures err { FailsOnly OutOfMemory result }
+    ensures err { FailsOnly out_of_memory result }
     ensures places { C.places cells.new ≡ C.places cells.old }
     ensures beside { C.beside cells.new ≡ C.beside cells.old }
 {
@@ -219,7 +221,7 @@ pub fn ready_on<C: Cells>(
         (C.cells cells.new) ready) }
     ensures hand { IfOk result (λ ready. HasNoLessRoom hand ready.hand) }
     ensures err { IfErr result
-        (λ refused. (refused.0 ≡ OutOfMemory) × HasNoLessRoom hand refused.1) }
+        (λ refused. (refused.0 ≡ out_of_memory) × HasNoLessRoom hand refused.1) }
     ensures cells { HaveNoLessRoom (C.cells cells.old) (C.cells cells.new) }
     ensures places { C.places cells.new ≡ C.places cells.old }
     ensures beside { C.beside cells.new ≡ C.beside cells.old }

@@ -9,7 +9,8 @@ use Rattle.std.proofs.lemmas.List.Concat.{flat_map-cons}
 use Rattle.nv_base.specs.Ids.{IsIdBefore}
 use Rattle.nv_base.specs.Names.{is_lawful_name, same_name}
 use Rattle.nv_base.specs.declared.fault.Fault.{Fault}
-use Rattle.nv_base.specs.declared.fault.Fault.TheVariants.{BadName, OutOfMemory}
+use Rattle.nv_base.specs.declared.fault.Fault.TheVariants.{BadName}
+use Rattle.nv_base.specs.Memory.{out_of_memory}
 use Rattle.nv_base.specs.declared.numbers.EntryId.{EntryId}
 use Rattle.nv_base.specs.declared.numbers.Handle.{Handle}
 use Rattle.nv_entry.specs.declared.item.Entry.{Entry}
@@ -143,8 +144,8 @@ lawful_at [] i b all lt q = absurd (omega arith)
 lawful_at (x ∷ bs) zero b all lt q = subst (λ (g : Bor (List ℕ) × Binding). IsTrue (is_lawful_name g.0.now)) (sym q) all.0
 lawful_at (x ∷ bs) (suc i) b all lt q = lawful_at bs i b all.1 (omega arith) q
 
-pub not_refused : (bytes : List ℕ) (fault : Fault) → IsTrue (is_lawful_name bytes) → (fault ≡ BadName) ⊎ (fault ≡ OutOfMemory)
-    → (fault ≡ BadName → is_lawful_name bytes ≡ false) → fault ≡ OutOfMemory
+pub not_refused : (bytes : List ℕ) (fault : Fault) → IsTrue (is_lawful_name bytes) → (fault ≡ BadName) ⊎ (fault ≡ out_of_memory)
+    → (fault ≡ BadName → is_lawful_name bytes ≡ false) → fault ≡ out_of_memory
 not_refused bytes fault lawful (inl bad) unlawful =
     let z : is_lawful_name bytes ≡ false = unlawful bad in let y : IsTrue false = subst IsTrue z lawful in cc
 not_refused bytes fault lawful (inr memory) unlawful = memory

@@ -1,8 +1,10 @@
 -- How many parts items kill at most.
-use Rattle.std.proofs.Common.{◌≡◌, ℕ, ◌+◌, ◌-◌, ◌<◌, ◌≤◌, ◌&&◌, Bool, true, false, cond, nat_lt, nat_le, List, [], ◌∷◌, ◌++◌, length, filter, Option, Some, None, arith, refl, ap, sym, ◌∙◌, subst, length-append, min, take, slice_index_or}
+use Rattle.std.proofs.Common.{◌≡◌, ℕ, ◌+◌, ◌-◌, ◌*◌, ◌<◌, ◌≤◌, ◌&&◌, Bool, true, false, cond, nat_lt, nat_le, List, [], ◌∷◌, ◌++◌, length, filter, Option, Some, None, arith, refl, ap, sym, ◌∙◌, subst, length-append, min, take, slice_index_or, inl, inr}
 use Rattle.std.specs.Prelude.{is_some, not}
 use Rattle.std.specs.List.{sum_by}
 use Rattle.std.specs.Option.{option_map}
+use Rattle.std.proofs.Math.Nat.{add-mul, mul-le-mul_left}
+use Rattle.std.proofs.lemmas.Bool.{cases_lt}
 use Rattle.std.proofs.lemmas.List.Sums.{sum_by-cons}
 use Rattle.std.proofs.lemmas.List.{take_more}
 use Rattle.std.proofs.lemmas.List.{length-map}
@@ -22,14 +24,14 @@ use Rattle.nv_entry.specs.Refs.{left_by, part_ref, place_in, scan_ref}
 use Rattle.nv_entry.proofs.NameLookup.{names_differ}
 use Rattle.nv_entry.proofs.Values.{names_of-push}
 use Rattle.nv_findex.specs.declared.page_ref.PageRef.{PageRef}
-use Rattle.nv_findex.specs.Pages.{present_from, ref_at}
+use Rattle.nv_findex.specs.Pages.{how_many, present_from, ref_at}
 use Rattle.nv_nindex.specs.declared.binding.Binding.{Binding}
 use Rattle.nv_nindex.specs.NameIndex.{AreDistinct, HaveSameBindings}
 use Rattle.nv_nindex.proofs.Order.{counted}
 use Rattle.nv_cell.specs.Index.{IndexValue, bindings_of, page_part, ref_of}
 use Rattle.nv_cell.specs.Reading.{named}
-use Rattle.nv_cell.specs.Weights.{names_added, pages_added, present_in, weight, weight_by, weights, weights_by, weights_in}
-use Rattle.nv_cell.proofs.Counting.{how_many_added, how_many_same}
+use Rattle.nv_cell.specs.Weights.{killed_at_most, names_added, pages_added, parts_set, present_in, takes_out, weight, weight_by, weights, weights_by, weights_in}
+use Rattle.nv_cell.proofs.Counting.{how_many_added, how_many_same, how_many_split}
 use Rattle.nv_cell.proofs.NamesNow.{distinct, names_are}
 use Rattle.nv_cell.proofs.Publishing.{scan_push}
 
@@ -130,6 +132,68 @@ weights_push block log e later =
     (length (names_of (log ++ e ∷ []))) (length (names_of log) + names_added e.item) later
     (λ from. present_push block log e from) (names_push log e) in
     omega (arith, h)
+
+-- ---- no more than is current or set
+
+none_past : (test : ℕ → Bool) (from : ℕ) → how_many test from 0 ≡ 0
+unfolding how_many
+none_past test from = refl
+
+present_fewer : (block : ℕ) (log : List Entry) (from : ℕ) → present_in block log from ≤ present_in block log 0
+present_fewer block log from = elim (cases_lt 65536 from) [
+  | inl past ↦ let none : 65536 - from ≡ 0 = omega (arith, past) in rw none (omega (arith, none_past (λ page. is_some (scan_ref block log (PageKey page))) from))
+  | inr within ↦
+      let sum : from + (65536 - from) ≡ 65536 = omega (arith, within) in
+      let here : 0 + from ≡ from = omega arith in
+      let test : ℕ → Bool = λ page. is_some (scan_ref block log (PageKey page)) in
+      omega (arith, rw (sum, here) at (how_many_split test 0 from (65536 - from)))
+]
+
+weight_most : (block : ℕ) (pages : ℕ → ℕ) (names top : ℕ) (item : Item) → ((from : ℕ) → pages from ≤ top)
+    → weight block pages names item ≤ parts_set item + takes_out item * (3 + top + names)
+weight_most block pages names top (Init kind mode) h = omega arith
+weight_most block pages names top (Write first run size) h = omega arith
+weight_most block pages names top (SetSize size) h = omega (arith, h (pages_for block size))
+weight_most block pages names top (SetMode mode) h = omega arith
+weight_most block pages names top (Bind name to) h = omega arith
+weight_most block pages names top (Unbind name) h = omega arith
+weight_most block pages names top Gone h = omega (arith, h 0)
+
+added_most : (item : Item) → pages_added item + names_added item ≤ parts_set item
+added_most (Init kind mode) = omega arith
+added_most (Write first run size) = omega arith
+added_most (SetSize size) = omega arith
+added_most (SetMode mode) = omega arith
+added_most (Bind name to) = omega arith
+added_most (Unbind name) = omega arith
+added_most Gone = omega arith
+
+both_most : (w later own rest out outs here there all : ℕ) → w ≤ own + out * here → later ≤ rest + outs * there → here ≤ all → there ≤ all
+    → w + later ≤ own + rest + (out + outs) * all
+both_most w later own rest out outs here there all a b le more =
+    omega (arith, a, b, mul-le-mul_left out le, mul-le-mul_left outs more, add-mul out outs all)
+
+weights_most : (block : ℕ) (pages : ℕ → ℕ) (names top : ℕ) (items : List Item) → ((from : ℕ) → pages from ≤ top)
+    → weights block pages names items ≤ sum_by parts_set items + sum_by takes_out items * (3 + top + names + sum_by parts_set items)
+weights_most block pages names top [] h = omega arith
+weights_most block pages names top (item ∷ later) h =
+    let own = sum_by-cons parts_set item later in
+    let out = sum_by-cons takes_out item later in
+    let added = added_most item in
+    let rest =
+    weights_most block (λ from. pages from + pages_added item) (names + names_added item) (top + pages_added item) later
+    (λ from. omega (arith, h from)) in
+    rw (own, out)
+    (both_most (weight block pages names item)
+    (weights block (λ from. pages from + pages_added item) (names + names_added item) later)
+    (parts_set item) (sum_by parts_set later) (takes_out item) (sum_by takes_out later) (3 + top + names)
+    (3 + (top + pages_added item) + (names + names_added item) + sum_by parts_set later)
+    (3 + top + names + (parts_set item + sum_by parts_set later))
+    (weight_most block pages names top item h) rest (omega arith) (omega (arith, added)))
+
+pub kills_are_few : (block : ℕ) (log : List Entry) (items : List Item) → weights_in block log items ≤ killed_at_most block log items
+kills_are_few block log items =
+    weights_most block (present_in block log) (length (names_of log)) (present_in block log 0) items (present_fewer block log)
 
 -- ---- an index of a log
 

@@ -1,5 +1,5 @@
 -- Room for what is to follow.
-use Rattle.std.specs.Prelude.{◌≡◌, ◌+◌, ◌*◌, ◌≤◌, List, ◌++◌, length, vec_capacity}
+use Rattle.std.specs.Prelude.{◌≡◌, ◌+◌, ◌*◌, ◌≤◌, List, ◌++◌, length, max, vec_capacity}
 use Rattle.std.specs.Global.{Vec}
 use Rattle.nv_entry.specs.declared.item.Item.{Item}
 use Rattle.nv_entry.specs.Keys.{Key}
@@ -37,6 +37,12 @@ pub record HasNoLess (old new : CellRoom) : Type 0 where
   pub parts : old.parts ≤ new.parts
   pub runs : old.runs ≤ new.runs
   pub killed : old.killed ≤ new.killed
+
+-- as much room for pages, entries and parts as entries with these items ask for, or as there was
+pub record AsksFor (items : List Item) (old : CellValue) (new : CellRoom) : Type 0 where
+  pub pages : new.pages ≡ max old.room.pages (pages_for old.state.chain (length items))
+  pub entries : new.entries ≡ max old.room.entries (length items)
+  pub parts : new.parts ≡ max old.room.parts (parts_in items)
 
 -- a vector that has grown at most in its room
 pub record HasGrown {X : Type 0} (old new : Vec X) : Type 0 where

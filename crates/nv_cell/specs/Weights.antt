@@ -1,5 +1,5 @@
 -- How much room items need to be published: for the parts that they kill, and for runs of pages.
-use Rattle.std.specs.Prelude.{ℕ, ◌+◌, ◌-◌, List, [], ◌∷◌, length, is_some}
+use Rattle.std.specs.Prelude.{ℕ, ◌+◌, ◌-◌, ◌*◌, List, [], ◌∷◌, length, is_some}
 use Rattle.std.specs.List.{sum_by}
 use Rattle.nv_base.specs.declared.limits.TheConstants.{FILE_PAGES}
 use Rattle.nv_entry.specs.declared.item.Entry.{Entry}
@@ -53,7 +53,32 @@ present_in block log from = how_many (λ page. is_some (scan_ref block log (Page
 abbrev pub weights_in : ℕ → List Entry → List Item → ℕ
 weights_in block log items = weights block (present_in block log) (length (names_of log)) items
 
--- the same by an index
+-- how many parts are current in a log at most: kind, mode and size, its pages and its names
+abbrev pub current_in : ℕ → List Entry → ℕ
+current_in block log = 3 + present_in block log 0 + length (names_of log)
+
+-- how many parts an item sets at most, and whether it takes out what others set
+abbrev pub parts_set : Item → ℕ
+parts_set (Init kind mode) = 3
+parts_set (Write first run size) = 1 + run.len
+parts_set (SetSize size) = 1
+parts_set (SetMode mode) = 1
+parts_set (Bind name to) = 1
+parts_set (Unbind name) = 0
+parts_set Gone = 0
+
+abbrev pub takes_out : Item → ℕ
+takes_out (SetSize size) = 1
+takes_out (Unbind name) = 1
+takes_out Gone = 1
+takes_out item = 0
+
+-- what items kill at most: as many parts as they set; and with each that takes parts out as many as are current or set
+abbrev pub killed_at_most : ℕ → List Entry → List Item → ℕ
+killed_at_most block log items =
+    sum_by parts_set items + sum_by takes_out items * (current_in block log + sum_by parts_set items)
+
+-- the same as `weights_in` by an index
 abbrev pub weights_by : ℕ → IndexValue → List Item → ℕ
 weights_by block index items = weights block (λ from. present_from from index.pages.pages) (length index.names.names) items
 

@@ -1,7 +1,7 @@
 //! The inode that a device begins with.
 
 ghost use Rattle.std.specs.Prelude.{◌≡◌, ◌<◌, ◌^◌, IfErr, OnOk, length};
-ghost use Rattle.nv_base.specs.declared.fault.Fault.TheVariants.{OutOfMemory};
+ghost use Rattle.nv_base.specs.Memory.{out_of_memory};
 ghost use Rattle.nv_log.specs.Chain.{empty_chain};
 ghost use Rattle.nv_cell.specs.Append.{first_entry, founded};
 
@@ -27,7 +27,7 @@ impl InodeCell {
         requires sized { length page.bytes ≡ self.old.state.block }
         ensures ok { OnOk result
             (self.new.state ≡ founded (first_entry kind mode epoch) page self.old.state) }
-        ensures err { IfErr result (λ refused. (refused.0 ≡ OutOfMemory) × (refused.1 ≡ page)
+        ensures err { IfErr result (λ refused. (refused.0 ≡ out_of_memory) × (refused.1 ≡ page)
             × (self.new.state ≡ self.old.state)) }
     {
         if let Err(fault) = self.ready(&[Item::Init { kind, mode }]) {

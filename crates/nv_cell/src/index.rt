@@ -1,10 +1,10 @@
 //! The index of an inode.
 
-ghost use Rattle.std.specs.Prelude.{◌≡◌, ℕ, ◌+◌, ◌-◌, ◌<◌, ◌≤◌, ◌⊎◌, ◌&&◌, [], if◌then◌else◌, nat_le, nat_lt, IsSome, IfErr, IfSome, IsOk, OnOk, OnErr, Some, None, length, slice_get};
+ghost use Rattle.std.specs.Prelude.{◌≡◌, ℕ, ◌+◌, ◌-◌, ◌<◌, ◌≤◌, ◌⊎◌, ◌&&◌, [], if◌then◌else◌, nat_le, nat_lt, IsSome, IfErr, IfSome, IsOk, OnOk, OnErr, Some, None, length, max, slice_get};
 ghost use Rattle.std.specs.Option.{option_map};
-ghost use Rattle.nv_base.specs.declared.fault.Fault.TheVariants.{OutOfMemory};
+ghost use Rattle.nv_base.specs.Memory.{out_of_memory};
 ghost use Rattle.nv_base.specs.declared.limits.TheConstants.{FILE_PAGES};
-ghost use Rattle.nv_findex.specs.Pages.{AreWithin, present_from, ref_at};
+ghost use Rattle.nv_findex.specs.Pages.{AreWithin, present_from, ref_at, run_count_of};
 ghost use Rattle.nv_entry.specs.Keys.{Key as KeyValue, is_page, key_named, NameKey, PageKey, KindKey, ModeKey, SizeKey};
 ghost use Rattle.nv_entry.specs.Refs.{ref_after};
 ghost use Rattle.nv_nindex.specs.NameIndex.{AreDistinct, binding_of};
@@ -163,18 +163,22 @@ impl CellIndex {
         self.pages.present_from(page)
     }
 
-    /// Makes room for what the items need when they take effect: runs of pages, and the name that one binds.
+    /// Makes room for what the items need when they take effect: runs of pages, of which it makes room for as many as
+    /// there are, if that is more, and the name that one binds.
     ///
     /// `OutOfMemory` where a growth was refused: then nothing has changed but the room for runs.
     pub fn reserve(&mut self, items: &[Item]) -> Result<(), Fault>
         requires one { BindOne items.now }
         ensures same { HasSameParts self.old self.new }
         ensures runs { OnOk result (sum_by runs_of items.now ≤ self.new.pages.room) }
+        ensures most { OnOk result (self.new.pages.room
+            ≤ max self.old.pages.room (max (sum_by runs_of items.now)
+            (run_count_of self.old.pages.pages))) }
         ensures names { OnOk result (NamesReady items.now self.new.names) }
         ensures reserved { OnErr result (self.new.names.reserved ≡ self.old.names.reserved) }
         ensures enough { sum_by runs_of items.now ≤ self.old.pages.room
             → NamesReady items.now self.old.names → IsOk result }
-        ensures err { FailsOnly OutOfMemory result }
+        ensures err { FailsOnly out_of_memory result }
     {
         self.pages.reserve_for(write_count(items))?;
         reserve_name(&mut self.names, items)
@@ -231,7 +235,7 @@ fn reserve_name(names: &mut NameIndex, items: &[Item]) -> Result<(), Fault>
     ensures ready { OnOk result (NamesReady items.now names.new) }
     ensures reserved { OnErr result (names.new.reserved ≡ names.old.reserved) }
     ensures enough { NamesReady items.now names.old → IsOk result }
-    ensures err { FailsOnly OutOfMemory result }
+    ensures err { FailsOnly out_of_memory result }
 {
     for item in items {
         if let Item::Bind { name, .. } = item {

@@ -1,7 +1,7 @@
 //! The marks of a log's parts by number, with what follows from them by entry and by page.
 
 ghost use Rattle.std.specs.Prelude.{◌≡◌, ℕ, ◌+◌, ◌-◌, ◌<◌, ◌≤◌, ◌^◌, ◌++◌, ◌∷◌, [], Bool, None, Some, true, false, if◌then◌else◌, nat_lt, IfErr, IsOk, OnOk, length, replicate, slice_get, slice_index, slice_index_or, slice_set, vec_capacity, vec_len};
-ghost use Rattle.nv_base.specs.declared.fault.Fault.TheVariants.{OutOfMemory};
+ghost use Rattle.nv_base.specs.Memory.{out_of_memory};
 ghost use Rattle.nv_base.specs.Refusals.{FailsOnly};
 ghost use Rattle.nv_cell.specs.Room.{HaveGrown};
 ghost use Rattle.nv_cell.specs.Numbers.{numbers_in};
@@ -178,7 +178,7 @@ impl Marks {
         ensures counted { OnOk result (parts < 2 ^ 63) }
         ensures enough { HasSpare self.old parts entries → pages ≤ vec_capacity self.old.pages
             → IsOk result }
-        ensures err { FailsOnly OutOfMemory result }
+        ensures err { FailsOnly out_of_memory result }
     {
         grow(&mut self.marks, parts, LEAST_PARTS)?;
         self.ends.reserve(entries)?;

@@ -1,13 +1,13 @@
 //! The bytes of a file, read by its index.
 
-ghost use Rattle.std.specs.Prelude.{◌≡◌, ℕ, ◌+◌, ◌-◌, ◌*◌, ◌/◌, ◌<◌, ◌≤◌, ◌^◌, ◌++◌, IfErr, IfOk, IfSome, IsSome, List, OnOk, [], None, Option, drop, length, option_and_then, replicate, slice_index_or, take, unwrap_or};
+ghost use Rattle.std.specs.Prelude.{◌≡◌, ℕ, ◌+◌, ◌-◌, ◌*◌, ◌/◌, ◌<◌, ◌≤◌, ◌^◌, ◌++◌, IfErr, IfOk, IfSome, IsOk, IsSome, List, OnOk, [], None, Option, drop, length, option_and_then, replicate, slice_index_or, take, unwrap_or};
 ghost use Rattle.std.specs.Option.{option_copied, option_map};
 ghost use Rattle.std.specs.Int.{div_ceil};
 ghost use Rattle.nv_alloc.specs.Block.{BlockValue, number_of};
-ghost use Rattle.nv_base.specs.declared.fault.Fault.TheVariants.{OutOfMemory};
+ghost use Rattle.nv_base.specs.Memory.{out_of_memory};
 ghost use Rattle.nv_entry.specs.Bytes.{read_at};
 ghost use Rattle.nv_entry.specs.Covered.{part_total};
-ghost use Rattle.nv_entry.specs.Node.{block_now, file_bytes};
+ghost use Rattle.nv_entry.specs.Node.{block_now, file_bytes, size_now};
 ghost use Rattle.nv_log.specs.Chain.{log, place_of};
 ghost use Rattle.nv_cell.specs.Cell.{AreSlotsSized, log_of};
 ghost use Rattle.nv_cell.specs.Pages.{AreBytesOf, AreReadTo, IsStretch, block_at_page, block_of, own_bytes, pages_now, slot_bytes};
@@ -40,20 +40,25 @@ pub struct Stretch {
 
 impl InodeCell {
     /// At most `len` bytes of a file from a place on, none past its end: zeros where it has no page.
-    /// `OutOfMemory` where room for them was refused. Costs the pages that it reads, and one look-up for each
+    /// `OutOfMemory` where room for them was refused: a read of no byte takes none. Costs the pages that it reads, and one look-up for each
     /// run of them and for each sixteen pages.
     pub fn read(&self, at: u64, len: u64) -> Result<Bytes, Fault>
         ensures own { IfOk result (λ read. read ≡ read_at at len (own_bytes self.now.state)) }
         ensures bytes { (bytes : ℕ → List ℕ) → AreBytesOf self.now.state bytes
             → IfOk result (λ read. read ≡ read_at at len
             (file_bytes bytes self.now.state.block (log_of self.now.state))) }
-        ensures err { IfErr result (λ fault. fault ≡ OutOfMemory) }
+        ensures past { size_now self.now.state.block (log_of self.now.state) ≤ at → IsOk result }
+        ensures none { len ≡ 0 → IsOk result }
+        ensures err { IfErr result (λ fault. fault ≡ out_of_memory) }
     {
         // Ids rise along all entries, so that the one of an id stands in the log.
         let _ends = self.chain.ends();
         let size = size_of(self.block, &self.chain, &self.index);
         let end = size.min(at.saturating_add(len));
         let start = at.min(end);
+        if start == end {
+            return Ok(Bytes::empty(self.alloc));
+        }
         let mut bytes = Vec::with_capacity(self.alloc, (end - start) as usize)?;
         read_pages(
             &mut bytes,

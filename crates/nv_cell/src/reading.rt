@@ -1,7 +1,7 @@
 //! What an inode is now, read by its index.
 
 ghost use Rattle.std.specs.Prelude.{◌≡◌, ◌<◌, IfErr, IfOk, is_some, map, option_and_then, option_map, unwrap_or};
-ghost use Rattle.nv_base.specs.declared.fault.Fault.TheVariants.{OutOfMemory};
+ghost use Rattle.nv_base.specs.Memory.{out_of_memory};
 ghost use Rattle.nv_cell.specs.Cell.{log_of};
 ghost use Rattle.nv_cell.specs.Reading.{IsIndexOf, named, stat_now};
 ghost use Rattle.nv_entry.specs.Data.{mode_in, size_in};
@@ -63,7 +63,7 @@ impl InodeCell {
     /// The names with their handles, in the order of the log. `OutOfMemory` where room for them was refused.
     pub fn list(&self) -> Result<NameList, Fault>
         ensures names { IfOk result (λ names. names ≡ names_of (log_of self.now.state)) }
-        ensures err { IfErr result (λ fault. fault ≡ OutOfMemory) }
+        ensures err { IfErr result (λ fault. fault ≡ out_of_memory) }
     {
         let bindings = self.index.names.list()?;
         // Ids rise along the log, so that the order of the list is that of the log.
@@ -161,7 +161,7 @@ fn size_by(value: Option<Datum>) -> u64
 fn copied(alloc: Global, bindings: &[(&[u8], Binding)]) -> Result<NameList, Fault>
     requires { AreLawful (map lent bindings.now) }
     ensures names { IfOk result (λ names. names ≡ map named (map lent bindings.now)) }
-    ensures err { IfErr result (λ fault. fault ≡ OutOfMemory) }
+    ensures err { IfErr result (λ fault. fault ≡ out_of_memory) }
 {
     let mut names = Vec::with_capacity(alloc, bindings.len())?;
     for bound in bindings {

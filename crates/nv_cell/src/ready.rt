@@ -1,16 +1,16 @@
 //! Room for what is to follow.
 
-ghost use Rattle.std.specs.Prelude.{◌≡◌, ◌+◌, ◌-◌, ◌*◌, ◌<◌, ◌≤◌, ◌^◌, IsOk, OnErr, OnOk, length, min, take, vec_capacity, vec_len};
+ghost use Rattle.std.specs.Prelude.{◌≡◌, ◌+◌, ◌-◌, ◌*◌, ◌<◌, ◌≤◌, ◌^◌, IsOk, OnErr, OnOk, length, max, min, take, vec_capacity, vec_len};
 ghost use Rattle.std.specs.List.{sum_by};
 ghost use Rattle.nv_base.specs.Refusals.{FailsOnly};
-ghost use Rattle.nv_base.specs.declared.fault.Fault.TheVariants.{OutOfMemory};
+ghost use Rattle.nv_base.specs.Memory.{out_of_memory};
 ghost use Rattle.nv_log.specs.Chain.{pages_for, room_of};
 ghost use Rattle.nv_nindex.specs.NameIndex.{AreDistinct};
 ghost use Rattle.nv_cell.specs.Cell.{log_of};
 ghost use Rattle.nv_cell.specs.Effects.{BindOne, NamesReady};
-ghost use Rattle.nv_cell.specs.Room.{HasGrown, HasNoLess, HaveGrown, IsReadyToAppend};
+ghost use Rattle.nv_cell.specs.Room.{AsksFor, HasGrown, HasNoLess, HaveGrown, IsReadyToAppend};
 ghost use Rattle.nv_cell.specs.Tallies.{HasSpare};
-ghost use Rattle.nv_cell.specs.Weights.{parts_in, runs_of, weights_by, weights_in};
+ghost use Rattle.nv_cell.specs.Weights.{killed_at_most, parts_in, runs_of, weights_by, weights_in};
 
 use crate::grow::{LEAST_PARTS, grow};
 use crate::needs::{most_killed, part_total};
@@ -26,16 +26,18 @@ impl InodeCell {
     /// that none before it takes out. The time is that of the items, and for each cut that of the runs of pages that it
     /// takes out, where no growth moves anything.
     ///
-    /// `OutOfMemory` where room was missing and its growth refused: then nothing has changed but room.
+    /// `OutOfMemory` where room was missing and its growth refused: then nothing has changed but room. It makes room for
+    /// no more pages, entries and parts than the items ask for; of killed parts it may make room for more.
     pub fn ready(&mut self, items: &[Item]) -> Result<(), Fault>
         requires settled { self.old.state.chain.tail ≡ length self.old.state.chain.entries }
         requires one { BindOne items.now }
         ensures state { self.new.state ≡ self.old.state }
         ensures ok { OnOk result (IsReadyToAppend items.now self.new) }
+        ensures most { OnOk result (AsksFor items.now self.old self.new.room) }
         ensures enough { IsReadyToAppend items.now self.old → IsOk result }
         ensures room { HasNoLess self.old.room self.new.room }
         ensures name { OnErr result (self.new.room.name ≡ self.old.room.name) }
-        ensures err { FailsOnly OutOfMemory result }
+        ensures err { FailsOnly out_of_memory result }
     {
         let parts = part_total(items);
         let killed = most_killed(&self.index, self.block, items);
@@ -53,11 +55,13 @@ impl InodeCell {
         Ok(())
     }
 
-    /// How many parts a publish of entries with these items behind the log kills at most, up to the greatest number.
-    /// The time is that of the items, and for each cut that of the runs of pages that it takes out.
+    /// How many parts a publish of entries with these items behind the log kills at most, up to the greatest number:
+    /// with at most one cut or Gone no more than are current, and twice those that are new. The time is that of the items, and for each cut that of the runs of pages that it takes out.
     pub fn most_killed(&self, items: &[Item]) -> usize
-        ensures { result ≡ min (weights_in self.now.state.block (log_of self.now.state) items.now)
-            (2 ^ 64 - 1) }
+        ensures value { result
+            ≡ min (weights_in self.now.state.block (log_of self.now.state) items.now) (2 ^ 64 - 1) }
+        ensures most { result
+            ≤ killed_at_most self.now.state.block (log_of self.now.state) items.now }
     {
         most_killed(&self.index, self.block, items)
     }
@@ -76,7 +80,7 @@ fn grow_lists(
     ensures counted { OnOk result (count < 2 ^ 63) }
     ensures enough { vec_len numbers.old + count ≤ vec_capacity numbers.old
         → vec_len killed.old + count ≤ vec_capacity killed.old → IsOk result }
-    ensures err { FailsOnly OutOfMemory result }
+    ensures err { FailsOnly out_of_memory result }
 {
     numbers.reserve(count)?;
     killed.reserve(count)?;
@@ -98,6 +102,8 @@ fn grow_log(
     ensures blocks { HasGrown blocks.old blocks.new }
     ensures pages { length chain.new.state.blocks + chain.new.spare ≤ vec_capacity marks.new.pages }
     ensures reserved { OnOk result (pages_for chain.new.state entries ≤ chain.new.spare) }
+    ensures most { OnOk result (chain.new.spare
+        ≡ max chain.old.spare (pages_for chain.old.state entries)) }
     ensures entries { OnOk result (entries
         ≤ room_of chain.new.state + chain.new.spare * chain.new.state.page) }
     ensures room { OnOk result (HasSpare marks.new parts entries) }
@@ -106,7 +112,7 @@ fn grow_log(
     ensures enough { HasSpare marks.old parts entries
         → vec_len blocks.old + parts ≤ vec_capacity blocks.old
         → pages_for chain.old.state entries ≤ chain.old.spare → IsOk result }
-    ensures err { FailsOnly OutOfMemory result }
+    ensures err { FailsOnly out_of_memory result }
 {
     let pages = chain.pages_for(entries);
     let all = chain.blocks().len().saturating_add(pages);

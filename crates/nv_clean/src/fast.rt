@@ -2,7 +2,7 @@
 
 ghost use Rattle.std.specs.Prelude.{◌≡◌, ◌+◌, ◌-◌, ◌<◌, ◌≤◌, ◌^◌, IfOk, count_by, length, min, not, false};
 ghost use Rattle.nv_base.specs.Refusals.{FailsOnly};
-ghost use Rattle.nv_base.specs.declared.fault.Fault.TheVariants.{OutOfMemory};
+ghost use Rattle.nv_base.specs.Memory.{out_of_memory};
 ghost use Rattle.nv_cell.specs.Cell.{log_of};
 ghost use Rattle.nv_cell.specs.Readers.{has_killed};
 ghost use Rattle.nv_cell.specs.Removal.{KeepsTheLast};
@@ -24,7 +24,7 @@ use std::alloc::Global;
 /// that stays: `OutOfMemory` where there is none.
 pub fn unlinkable(alloc: Global, cell: &InodeCell) -> Result<Unlinkable, Fault>
     ensures ok { IfOk result (λ unlinkable. unlinkable ≡ unlinkable_of cell.now.state) }
-    ensures err { FailsOnly OutOfMemory result }
+    ensures err { FailsOnly out_of_memory result }
 {
     let stays = pages_staying(alloc, cell)?;
     let pages = going(&stays);

@@ -2,7 +2,7 @@
 
 ghost use Rattle.std.specs.Prelude.{◌≡◌, ◌==◌, ◌*◌, IfOk, length, nat_lt, false, true};
 ghost use Rattle.nv_base.specs.Refusals.{FailsOnly};
-ghost use Rattle.nv_base.specs.declared.fault.Fault.TheVariants.{OutOfMemory};
+ghost use Rattle.nv_base.specs.Memory.{out_of_memory};
 ghost use Rattle.nv_cell.specs.Cell.{log_of};
 ghost use Rattle.nv_cell.specs.Readers.{has_killed};
 ghost use Rattle.nv_cell.specs.Removal.{KeepsTheLast};
@@ -22,7 +22,7 @@ use std::alloc::Global;
 /// that stays: `OutOfMemory` where there is none.
 pub fn wanted(alloc: Global, cell: &InodeCell) -> Result<Wanted, Fault>
     ensures ok { IfOk result (λ wanted. wanted ≡ wanted_of cell.now.state) }
-    ensures err { FailsOnly OutOfMemory result }
+    ensures err { FailsOnly out_of_memory result }
 {
     // The chain is one, so that each flag is of an entry that counts.
     cell.known();

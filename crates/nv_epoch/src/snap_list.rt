@@ -5,6 +5,7 @@ ghost use Rattle.std.specs.Option.{ForSome, IsSomeAnd};
 ghost use Rattle.nv_base.specs.declared.limits.TheConstants.{NUMBER, PINS};
 ghost use Rattle.nv_epoch.specs.Holders.{youngest_holder, next_older, without};
 ghost use Rattle.nv_epoch.specs.SnapList.{Snapshots, ids, pins_of, IsSound, after_making, after_removal, after_pin, after_unpin};
+ghost use Rattle.nv_base.specs.Memory.{out_of_memory};
 
 use crate::search::{place_of, youngest_below};
 use crate::{Ids, Snapshot};
@@ -46,7 +47,7 @@ impl SnapList {
         requires epoch_fits { first_epoch ≤ NUMBER }
         ensures ok { IfOk result
             (λ list. list ≡ record { living = []; epoch = first_epoch; most = snaps }) }
-        ensures err { IfErr result (λ fault. fault ≡ Fault.OutOfMemory) }
+        ensures err { IfErr result (λ fault. fault ≡ out_of_memory) }
     {
         Ok(SnapList {
             living: Vec::with_capacity(alloc, snaps as usize)?,

@@ -1,7 +1,7 @@
 //! The index of a file's pages.
 
-ghost use Rattle.std.specs.Prelude.{◌≡◌, ℕ, ◌+◌, ◌*◌, ◌<◌, ◌≤◌, [], IsSome, IfSome, IsOk, OnOk, OnErr, IfErr};
-ghost use Rattle.nv_base.specs.declared.fault.Fault.TheVariants.{OutOfMemory};
+ghost use Rattle.std.specs.Prelude.{◌≡◌, ℕ, ◌+◌, ◌*◌, ◌<◌, ◌≤◌, [], IsSome, IfSome, IsOk, OnOk, OnErr, IfErr, max};
+ghost use Rattle.nv_base.specs.Memory.{out_of_memory};
 ghost use Rattle.nv_findex.specs.Pages.{ref_at, run_count_of, present_from, IsRun, IsRunFrom, AreWithin, SetsRun, CutsFrom, IsNextFrom};
 
 use crate::{PageRef, PageRun, runs};
@@ -113,23 +113,28 @@ impl FileIndex {
         self.runs.capacity() - self.runs.len()
     }
 
-    /// Makes room for as many calls of `set_run`, two more runs for each. Costs a move of all runs where it
+    /// Makes room for as many calls of `set_run`, two more runs for each. Where it takes memory it makes room for as
+    /// many runs as there are, if that is more, so that many calls cost linear time. Costs a move of all runs where it
     /// takes memory, and one read where it doesn't.
     ///
     /// Fails with `OutOfMemory` alone, and only where that room was missing and its growth was refused, as any of
     /// 2^63 bytes or more is; then nothing has changed.
+    #[tactic(auto, using(crate::proofs::Counts::run_count_is))]
     pub fn reserve_for(&mut self, runs: usize) -> Result<(), Fault>
         ensures pages { self.new.pages ≡ self.old.pages }
         ensures ok { OnOk result (2 * runs ≤ self.new.room) }
         ensures kept { self.old.room ≤ self.new.room }
+        ensures most { OnOk result (self.new.room
+            ≤ max self.old.room (max (2 * runs) (run_count_of self.old.pages))) }
         ensures err { OnErr result (self.new.room ≡ self.old.room) }
         ensures missing { OnErr result (self.old.room < 2 * runs) }
-        ensures fault { IfErr result (λ fault. fault ≡ OutOfMemory) }
+        ensures fault { IfErr result (λ fault. fault ≡ out_of_memory) }
     {
         if runs <= self.room() / 2 {
             return Ok(());
         }
-        self.runs.reserve(runs.saturating_mul(2))?;
+        self.runs
+            .reserve_exact(runs.saturating_mul(2).max(self.runs.len()))?;
         Ok(())
     }
 

@@ -6,6 +6,7 @@ ghost use Rattle.std.specs.Option.{ForSome, option_copied};
 ghost use Rattle.nv_base.specs.Ids.{IsIdBefore};
 ghost use Rattle.nv_base.specs.Refusals.{FailsOnlyWhere, KeepsOnErr};
 ghost use Rattle.nv_log.specs.Chain.{AppendsEntry, IsChain, appended, empty_chain, end_of, entry_of, joined, last_epoch, last_id, last_of, log, log_pages, page_entries, pages_for, place_of, room_of, start_of, with_page};
+ghost use Rattle.nv_base.specs.Memory.{out_of_memory};
 
 mod clean;
 
@@ -276,7 +277,7 @@ impl Chain {
     pub fn reserve(&mut self, pages: usize) -> Result<(), Fault>
         ensures state { self.new.state ≡ self.old.state }
         ensures ok { OnOk result (self.new.spare ≡ max self.old.spare pages) }
-        ensures err { FailsOnlyWhere Fault.OutOfMemory (self.old.spare < pages) result }
+        ensures err { FailsOnlyWhere out_of_memory (self.old.spare < pages) result }
         ensures same { KeepsOnErr result self.old self.new }
     {
         if pages <= self.reserved - self.blocks.len() {

@@ -5,6 +5,7 @@ ghost use Rattle.std.specs.Prelude.{IsTrue, IsSome, OnOk, OnErr, IfOk, IfErr};
 ghost use Rattle.std.specs.Map.Iter.{ShowsInOrder};
 ghost use Rattle.std.specs.Option.{option_map};
 ghost use Rattle.nv_nindex.specs.NameIndex.{AreDistinct, AreLawful, IsListOf, Rebinds, binding_of, lent};
+ghost use Rattle.nv_base.specs.Memory.{out_of_memory};
 
 use crate::{Binding, Bindings};
 use indexmap::IndexMap;
@@ -103,7 +104,7 @@ impl NameIndex {
     pub fn list(&self) -> Result<Vec<(&[u8], Binding)>, Fault>
         ensures names { IfOk result (λ list. IsListOf self.now.names (map lent list.items)) }
         ensures lawful { IfOk result (λ list. AreLawful (map lent list.items)) }
-        ensures err { IfErr result (λ fault. fault ≡ Fault.OutOfMemory) }
+        ensures err { IfErr result (λ fault. fault ≡ out_of_memory) }
     {
         let mut list: Vec<(&[u8], Binding)> = self.iter().collect(self.alloc)?;
         list.sort_unstable_by_key(|(_, binding)| binding.entry);
@@ -140,7 +141,7 @@ impl NameIndex {
             → OnOk result (self.new.reserved ≡ Some name.now) }
         ensures bound { IsSome (binding_of name.now self.old.names)
             → (result ≡ Ok tt) × (self.new ≡ self.old) }
-        ensures fault { IfErr result (λ fault. fault ≡ Fault.OutOfMemory) }
+        ensures fault { IfErr result (λ fault. fault ≡ out_of_memory) }
         ensures refused { OnErr result (self.new ≡ self.old) }
     {
         let bytes = name.bytes();

@@ -8,6 +8,7 @@ ghost use Rattle.nv_cell.specs.Pages.{AreBytesOf};
 ghost use Rattle.nv_entry.specs.Log.{up_to};
 ghost use Rattle.nv_entry.specs.Node.{node_at, node_now};
 ghost use Rattle.nv_reader.specs.Cells.{NoneOut, own_node, part_bytes, settled};
+ghost use Rattle.nv_base.specs.Memory.{out_of_memory};
 
 use crate::bytes::PartBlocks;
 use crate::epochs::entries_to;
@@ -38,7 +39,7 @@ pub fn show_on(alloc: Global, cell: &InodeCell, epoch: Epoch) -> Result<Option<N
         → NoneOut cell.now.state (up_to epoch (log_of cell.now.state))
         → IfOk result (λ node. node
         ≡ node_at bytes cell.now.state.block epoch (log_of cell.now.state)) }
-    ensures err { FailsOnly Fault.OutOfMemory result }
+    ensures err { FailsOnly out_of_memory result }
 {
     // What a cell keeps of its log and its blocks.
     cell.known();
@@ -64,7 +65,7 @@ pub fn settled_on(
         → ForSome noted (λ tail. NoneOut cell.now.state (settled noted cell.now.state))
         → IfOk result (λ node. node
         ≡ node_now bytes cell.now.state.block (settled noted cell.now.state)) }
-    ensures err { FailsOnly Fault.OutOfMemory result }
+    ensures err { FailsOnly out_of_memory result }
 {
     let Some(tail) = noted else {
         return node_by_index(cell);
@@ -81,7 +82,7 @@ fn node_by_index(cell: &InodeCell) -> Result<Option<NodeCopy>, Fault>
         ≡ own_node cell.now.state (log_of cell.now.state)) }
     ensures node { (bytes : ℕ → List ℕ) → AreBytesOf cell.now.state bytes
         → IfOk result (λ node. node ≡ node_now bytes cell.now.state.block (log_of cell.now.state)) }
-    ensures err { FailsOnly Fault.OutOfMemory result }
+    ensures err { FailsOnly out_of_memory result }
 {
     // What a cell keeps of its log.
     cell.known();

@@ -6,6 +6,7 @@ ghost use Rattle.nv_base.specs.declared.numbers.Handle.{Handle};
 ghost use Rattle.nv_entry.specs.declared.node.NodeCopy.{NodeCopy};
 ghost use Rattle.nv_reader.specs.Walk.{GivesNext, given_for, next_handle, root_visit, visits_after, visits_below, wanted_node};
 ghost use Rattle.nv_reader.specs.Ways.{first_path};
+ghost use Rattle.nv_base.specs.Memory.{out_of_memory};
 
 use crate::way::{Way, names_copied, path_copied};
 use nv_base::{Fault, Handle, Name};
@@ -47,7 +48,7 @@ impl Walk {
     /// A walk from a root on, at most `depth` nodes deep. `OutOfMemory` where room for it was refused.
     pub fn new(alloc: Global, root: Handle, depth: usize) -> Result<Walk, Fault>
         ensures ok { IfOk result (λ walk. walk ≡ root_visit depth root) }
-        ensures err { FailsOnly Fault.OutOfMemory result }
+        ensures err { FailsOnly out_of_memory result }
     {
         // Room for one level: entering a root that has no directories below it takes no more.
         Ok(Walk {
@@ -83,7 +84,7 @@ impl Walk {
         ensures next { (nodes : Handle → Option NodeCopy) (node : NodeCopy)
             → wanted_node nodes self.old ≡ Some node → node.names ≡ names
             → OnOk result (GivesNext nodes self.old (given_for self.old (Some node)) self.new) }
-        ensures err { FailsOnly Fault.OutOfMemory result }
+        ensures err { FailsOnly out_of_memory result }
         ensures same { KeepsOnErr result self.old self.new }
     {
         self.descend(names)?;
@@ -108,7 +109,7 @@ impl Walk {
         ensures left { OnOk result (self.new ≡ visits_after self.old node) }
         ensures next { (nodes : Handle → Option NodeCopy) → node ≡ wanted_node nodes self.old →
             IfOk result (λ given. GivesNext nodes self.old given self.new) }
-        ensures err { FailsOnly Fault.OutOfMemory result }
+        ensures err { FailsOnly out_of_memory result }
         ensures same { KeepsOnErr result self.old self.new }
     {
         let Some(node) = node else {

@@ -3,7 +3,7 @@
 ghost use Rattle.std.specs.Prelude.{◌≡◌, IfOk, IsTrue};
 ghost use Rattle.nv_base.specs.Names.{is_lawful_name};
 ghost use Rattle.nv_base.specs.Refusals.{FailsOnly};
-ghost use Rattle.nv_base.specs.declared.fault.Fault.TheVariants.{OutOfMemory};
+ghost use Rattle.nv_base.specs.Memory.{out_of_memory};
 ghost use Rattle.nv_calls.specs.calls.Create.{begin_plan, create_plan, create_refusal};
 
 use crate::names::name_of;
@@ -33,7 +33,7 @@ pub fn plan(
 ) -> Result<PlannedItems, Fault>
     requires { IsTrue (is_lawful_name name.now) }
     ensures ok { IfOk result (λ plan. plan ≡ create_plan dir name.now mode made) }
-    ensures err { FailsOnly OutOfMemory result }
+    ensures err { FailsOnly out_of_memory result }
 {
     plan_new(alloc, Kind::File, dir, name, mode, made)
 }
@@ -49,7 +49,7 @@ pub(crate) fn plan_new(
 ) -> Result<PlannedItems, Fault>
     requires { IsTrue (is_lawful_name name.now) }
     ensures ok { IfOk result (λ plan. plan ≡ begin_plan kind dir name.now mode made) }
-    ensures err { FailsOnly OutOfMemory result }
+    ensures err { FailsOnly out_of_memory result }
 {
     let name = name_of(alloc, name)?;
     let to = made;

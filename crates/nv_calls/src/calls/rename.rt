@@ -3,7 +3,7 @@
 ghost use Rattle.std.specs.Prelude.{◌≡◌, [], IfOk, IsTrue};
 ghost use Rattle.nv_base.specs.Names.{is_lawful_name, same_name};
 ghost use Rattle.nv_base.specs.Refusals.{FailsOnly};
-ghost use Rattle.nv_base.specs.declared.fault.Fault.TheVariants.{OutOfMemory};
+ghost use Rattle.nv_base.specs.Memory.{out_of_memory};
 ghost use Rattle.nv_calls.specs.Plain.{same_handle};
 ghost use Rattle.nv_calls.specs.Refusals.{is_directory};
 ghost use Rattle.nv_calls.specs.calls.Rename.{move_plan, moved_refusal, own_place, rename_early, rename_late, rename_plan, replaced_refusal};
@@ -99,7 +99,7 @@ pub fn plan(
     requires old_lawful { IsTrue (is_lawful_name old.now) }
     requires new_lawful { IsTrue (is_lawful_name new.now) }
     ensures ok { IfOk result (λ plan. plan ≡ rename_plan from old.now to new.now looked.now) }
-    ensures err { FailsOnly OutOfMemory result }
+    ensures err { FailsOnly out_of_memory result }
 {
     if is_own_place(&from, old, &to, new) {
         return Ok(Items::empty(alloc));

@@ -3,7 +3,7 @@
 ghost use Rattle.std.specs.Prelude.{◌≡◌, IfOk, IsTrue};
 ghost use Rattle.nv_base.specs.Names.{is_lawful_name};
 ghost use Rattle.nv_base.specs.Refusals.{FailsOnly};
-ghost use Rattle.nv_base.specs.declared.fault.Fault.TheVariants.{OutOfMemory};
+ghost use Rattle.nv_base.specs.Memory.{out_of_memory};
 ghost use Rattle.nv_calls.specs.calls.Unlink.{leave_plan, unlink_late};
 
 use crate::names::name_of;
@@ -31,7 +31,7 @@ pub fn plan(
 ) -> Result<PlannedItems, Fault>
     requires { IsTrue (is_lawful_name name.now) }
     ensures ok { IfOk result (λ plan. plan ≡ leave_plan dir name.now bound) }
-    ensures err { FailsOnly OutOfMemory result }
+    ensures err { FailsOnly out_of_memory result }
 {
     let Some(to) = bound else {
         return Ok(Items::empty(alloc));

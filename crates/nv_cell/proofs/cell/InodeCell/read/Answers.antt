@@ -1,15 +1,15 @@
-use Rattle.std.proofs.Common.{◌≡◌, ℕ, ◌+◌, ◌-◌, ◌*◌, ◌≤◌, List, Option, min, arith, refl, ap, sym, ◌∙◌, subst, take}
+use Rattle.std.proofs.Common.{◌≡◌, ℕ, ◌+◌, ◌-◌, ◌*◌, ◌≤◌, List, Option, min, arith, refl, ap, sym, ◌∙◌, subst, take, rules}
 use Rattle.std.proofs.lemmas.Grind.{div_ceil_times}
 use Rattle.nv_alloc.specs.Block.{BlockValue}
 use Rattle.nv_entry.specs.Bytes.{read_at}
 use Rattle.nv_entry.specs.Keys.{pages_for}
-use Rattle.nv_entry.specs.Node.{size_now}
+use Rattle.nv_entry.specs.Node.{file_bytes, size_now}
 use Rattle.nv_cell.specs.Cell.{AreSlotsSized, CellValue, IsCell, log_of}
 use Rattle.nv_cell.specs.Fields.{state_in}
 use Rattle.nv_cell.specs.Pages.{AreBytesOf, own_bytes, pages_now}
 use Rattle.nv_cell.specs.Slots.{page_slot}
 use Rattle.nv_cell.proofs.PartSlots.{slots_begin}
-use Rattle.nv_cell.proofs.ReadAt.{read_cut}
+use Rattle.nv_cell.proofs.ReadAt.{read_cut, read_none}
 use Rattle.nv_cell.proofs.PageBlocks.{file_is, pages_are, slots_sized}
 use Rattle.nv_cell.proofs.cell.InodeCell.read.Goals as goal
 
@@ -57,3 +57,20 @@ returns-clause-bytes c bytes are =
     rw (← c.self.view_is)
     (read c ∙ ap (read_at c.args.at c.args.len)
     (file_is s bytes is (subst (λ (v : CellValue). AreBytesOf v.state bytes) (sym c.self.view_is) are)))
+
+-- where no byte is asked for or none lies there, none is read
+nothing : (c : goal.After-empty) (all : List ℕ)
+    → c.empty.result ≡ read_at c.args.at c.args.len (take (size_now c.self.inside.block (log_of (state_in c.self.inside))) all)
+nothing c all =
+    let s = state_in c.self.inside in
+    let size : ℕ = size_now s.block (log_of s) in
+    let ended : c.min-end.result ≡ min size (c.args.at + c.args.len) =
+    omega (arith, c.min-end.ensures, c.saturating_add.ensures, c.size_of-size.ensures, c.size_of-size.type_inv) in
+    let same : c.min-start.result ≡ c.min-end.result = search rules in
+    c.empty.ensures ∙ read_none c.args.at c.args.len size c.min-start.result c.min-end.result all ended c.min-start.ensures same
+
+pub returns-then-start-end-clause-own : goal.returns-then-start-end-clause-own
+returns-then-start-end-clause-own c = rw (← c.self.view_is) (nothing c _)
+
+pub returns-then-start-end-clause-bytes : goal.returns-then-start-end-clause-bytes
+returns-then-start-end-clause-bytes c bytes are = rw (← c.self.view_is) (nothing c _)

@@ -148,3 +148,12 @@ returns-in_err-reserve-clause-enough c ready =
     (names_ready items (record { names = bindings_of (log_of (state_in i)); reserved = i.index.names.reserved }) i.index.names inv.names
     refl p.names) in
     cc
+
+pub returns-clause-most : goal.returns-clause-most
+returns-clause-most c =
+    let real : c.part_total-parts.result < 9223372036854775808 = c.in_ok-grow_log.ensures.counted in
+    rw (← c.self.view_is) (record {
+      pages = c.in_ok-grow_log.ensures.most;
+      entries = c.max-self-inside.ensures;
+      parts = omega (arith, c.max-self-inside-2.ensures, c.part_total-parts.ensures, real);
+    })
