@@ -2,6 +2,9 @@
 use Rattle.std.proofs.Common.{◌≡◌, true, false, Option, Some, None}
 use Rattle.std.specs.Prelude.{MatchOption, is_some}
 use Rattle.std.proofs.lemmas.Bool.{false≢true, true≢false}
+use Rattle.nv_base.specs.declared.fault.MismatchPart.{MismatchPart}
+use Rattle.nv_base.specs.declared.fault.MismatchPart.TheVariants.{Counts}
+use Rattle.nv_audit.specs.Whole.{Agrees, Device, HasCounts, HasLists, HasRecords}
 
 pub agrees_if_none : {X : Type 0} (A : Type 0) (B : X → Type 0) (o : Option X) → is_some o ≡ false → MatchOption o A B → A
 agrees_if_none A B None e h = h
@@ -11,3 +14,12 @@ pub differs_if_some : {X : Type 0} (A C : Type 0) (B D : X → Type 0) (o : Opti
     → MatchOption o A B → MatchOption o C D
 differs_if_some A C B D None e f h = absurd (false≢true e)
 differs_if_some A C B D (Some x) e f h = f x h
+
+-- nothing was found in the cells, the records or the lists
+pub all_agree : (d : Device) (found : Option MismatchPart) → is_some found ≡ false
+    → MatchOption found (HasCounts d) (λ p. (p ≡ Counts) × (¬ HasCounts d)) → HasRecords d → HasLists d → Agrees d
+all_agree d found none told records lists = record {
+  counts = agrees_if_none (HasCounts d) (λ p. (p ≡ Counts) × (¬ HasCounts d)) found none told;
+  records = records;
+  lists = lists;
+}

@@ -140,7 +140,7 @@ had_is : (o : Option BlockValue) → had_of o ≡ option_to_list (option_map num
 had_is None = refl
 had_is (Some b) = refl
 
-as_many : (block : ℕ) (es : List Entry) → length (pairs block es) ≡ part_total es
+pub as_many : (block : ℕ) (es : List Entry) → length (pairs block es) ≡ part_total es
 as_many block [] = refl
 as_many block (e ∷ es) =
     length-append (pairs_of block e es) (pairs block es) ∙ omega

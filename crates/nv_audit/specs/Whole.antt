@@ -11,14 +11,15 @@ use Rattle.nv_alloc.specs.Numbers.{has, unused}
 use Rattle.nv_base.specs.Homes.{home_start}
 use Rattle.nv_book.specs.Book.{BookState}
 use Rattle.nv_book.specs.declared.record.Record.{Record}
-use Rattle.nv_cell.specs.Cell.{CellState, IsCell}
+use Rattle.nv_cell.specs.Cell.{CellState, CellValue, IsCell}
 use Rattle.nv_cell.specs.Retained.{AreMarksOf}
 use Rattle.nv_epoch.specs.SnapList.{ids}
 use Rattle.nv_audit.specs.Counts.{AreCounted}
 use Rattle.nv_audit.specs.Lists.{AreFree, no_list, used_of}
 use Rattle.nv_audit.specs.Pending.{retention_by}
-use Rattle.nv_audit.specs.Records.{AreRecorded}
+use Rattle.nv_audit.specs.Records.{AreRecorded, states_of}
 use Rattle.nv_audit.specs.declared.part_list.InodePart.{InodePart}
+use Rattle.nv_audit.specs.declared.pending.InHands.{InHands}
 
 -- the numbers of its geometry, the cell of each inode, the free list of each CPU and the book; and of the hands of all
 -- calls the blocks, and the parts that are killed or picked
@@ -29,6 +30,17 @@ pub record Device : Type 0 where
   pub book : BookState
   pub in_hands : List InodePart
   pub blocks : List ℕ
+
+-- that of these parts
+abbrev pub device_with : GeometryNumbers → List CellValue → List FreeBlocks → BookState → InHands → Device
+device_with numbers cells lists book hands = record {
+  numbers = numbers;
+  cells = states_of cells;
+  lists = lists;
+  book = book;
+  in_hands = hands.parts.items;
+  blocks = hands.blocks.items;
+}
 
 -- the counts of an inode are those of its log, where these snapshots live, these records are deferred, and calls have
 -- these parts in their hands

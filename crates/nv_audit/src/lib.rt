@@ -5,6 +5,7 @@
 //! read the entries of the logs alone; of the parts that they judge they take no more than what these show.
 #![tactic(auto)]
 
+mod audited;
 mod counts;
 mod index;
 pub mod laws;
@@ -16,6 +17,7 @@ mod pending;
 mod records;
 mod whole;
 
+pub use audited::Audited;
 pub use counts::are_counted;
 pub use index::{are_pages_of, is_part_of};
 pub use lists::are_free;

@@ -2,7 +2,7 @@
 
 ghost use Rattle.std.specs.Prelude.{◌≡◌, ◌↔◌, ◌<◌, ◌≤◌, ◌++◌, IfOk, IsTrue, OnOk, length};
 ghost use Rattle.nv_base.specs.Refusals.{FailsOnly};
-ghost use Rattle.nv_base.specs.declared.fault.Fault.TheVariants.{OutOfMemory};
+ghost use Rattle.nv_base.specs.Memory.{out_of_memory};
 ghost use Rattle.nv_alloc.specs.Block.{numbers_of};
 ghost use Rattle.nv_alloc.specs.Numbers.{has};
 ghost use Rattle.nv_entry.specs.Held.{retention_of};
@@ -31,11 +31,11 @@ pub fn are_free(
     cells: &[InodeCell],
     lists: &[FreeList],
     book: &Book,
-    hands: &InHands<'_>,
+    hands: &InHands,
 ) -> Result<bool, Fault>
     ensures ok { IfOk result (λ are. IsTrue are ↔ AreFree geometry.now.numbers lists.now
-        (used_of (states_of cells.now) book.now.state hands.now.parts.now hands.now.blocks.now)) }
-    ensures err { FailsOnly OutOfMemory result }
+        (used_of (states_of cells.now) book.now.state hands.now.parts.items hands.now.blocks.items)) }
+    ensures err { FailsOnly out_of_memory result }
 {
     let used = used_of(alloc, cells, book, hands)?;
     let marks = marked(alloc, geometry.numbers.blocks, &used)?;
@@ -47,16 +47,16 @@ fn used_of(
     alloc: Global,
     cells: &[InodeCell],
     book: &Book,
-    hands: &InHands<'_>,
+    hands: &InHands,
 ) -> Result<Vec<BlockNo>, Fault>
     ensures ok { IfOk result (λ used. used.items ≡ used_of (states_of cells.now)
-        book.now.state hands.now.parts.now hands.now.blocks.now) }
-    ensures err { FailsOnly OutOfMemory result }
+        book.now.state hands.now.parts.items hands.now.blocks.items) }
+    ensures err { FailsOnly out_of_memory result }
 {
     let snapshots = living(alloc, book)?;
     let deferred = listed(alloc, book.deferred())?;
-    let mut used = used_from(alloc, cells, &snapshots, &deferred, hands.parts)?;
-    used.extend_from_slice(hands.blocks)?;
+    let mut used = used_from(alloc, cells, &snapshots, &deferred, &hands.parts)?;
+    used.extend_from_slice(&hands.blocks)?;
     Ok(used)
 }
 
@@ -70,7 +70,7 @@ fn used_from(
 ) -> Result<Vec<BlockNo>, Fault>
     ensures ok { IfOk result (λ used. used.items
         ≡ used_from snapshots.now deferred.now in_hands.now 0 (states_of cells.now)) }
-    ensures err { FailsOnly OutOfMemory result }
+    ensures err { FailsOnly out_of_memory result }
 {
     let mut used = Vec::new(alloc);
     for place in 0..cells.len() {

@@ -2,7 +2,7 @@
 
 ghost use Rattle.std.specs.Prelude.{◌≡◌, ◌++◌, IfOk, OnOk};
 ghost use Rattle.nv_base.specs.Refusals.{FailsOnly};
-ghost use Rattle.nv_base.specs.declared.fault.Fault.TheVariants.{OutOfMemory};
+ghost use Rattle.nv_base.specs.Memory.{out_of_memory};
 ghost use Rattle.nv_epoch.specs.SnapList.{ids};
 ghost use Rattle.nv_audit.specs.Pending.{deferred_of, of_inode, pending_of};
 
@@ -14,10 +14,10 @@ use std::alloc::{AllocError, Global};
 
 /// What the hands of all calls have: the numbers of their blocks, and the parts that they have killed and not yet
 /// retired, or picked and not yet released.
-#[derive(Clone, Copy, Debug)]
-pub struct InHands<'a> {
-    pub blocks: &'a [BlockNo],
-    pub parts: &'a [InodePart],
+#[derive(Debug, Drop)]
+pub struct InHands {
+    pub blocks: Vec<BlockNo>,
+    pub parts: Vec<InodePart>,
 }
 
 /// The parts of an inode that are deferred or in hands. Costs the lengths of both lists.
@@ -28,7 +28,7 @@ pub fn pending_of(
     parts: &[InodePart],
 ) -> Result<Vec<PartId>, Fault>
     ensures ok { IfOk result (λ pending. pending.items ≡ pending_of ino deferred.now parts.now) }
-    ensures err { FailsOnly OutOfMemory result }
+    ensures err { FailsOnly out_of_memory result }
 {
     let mut pending = Vec::new(alloc);
     push_deferred(&mut pending, ino, deferred)?;

@@ -2,7 +2,7 @@
 
 ghost use Rattle.std.specs.Prelude.{◌≡◌, ◌↔◌, ◌<◌, ◌++◌, All, IfOk, IsTrue, OnOk};
 ghost use Rattle.nv_base.specs.Refusals.{FailsOnly};
-ghost use Rattle.nv_base.specs.declared.fault.Fault.TheVariants.{OutOfMemory};
+ghost use Rattle.nv_base.specs.Memory.{out_of_memory};
 ghost use Rattle.nv_audit.specs.Records.{AreRecorded, IsRecorded, is_owed, owed_by, owed_from, owed_of, owed_pair, recorded_as, recorded_in, states_of};
 
 use crate::part_list::have_same_parts;
@@ -22,14 +22,14 @@ pub fn are_recorded(
     alloc: Global,
     cells: &[InodeCell],
     book: &Book,
-    hands: &InHands<'_>,
+    hands: &InHands,
 ) -> Result<bool, Fault>
     ensures ok { IfOk result (λ are. IsTrue are
-        ↔ AreRecorded (states_of cells.now) book.now.state hands.now.parts.now) }
-    ensures err { FailsOnly OutOfMemory result }
+        ↔ AreRecorded (states_of cells.now) book.now.state hands.now.parts.items) }
+    ensures err { FailsOnly out_of_memory result }
 {
     let snapshots = living(alloc, book)?;
-    let agree = are_recorded_for(alloc, cells, book, hands.parts, &snapshots)?;
+    let agree = are_recorded_for(alloc, cells, book, &hands.parts, &snapshots)?;
     Ok(agree)
 }
 

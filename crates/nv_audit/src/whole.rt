@@ -2,16 +2,16 @@
 
 ghost use Rattle.std.specs.Prelude.{◌≡◌, ◌⊎◌, IfErr, IfOk, IsTrue, MatchOption, OnOk};
 ghost use Rattle.nv_base.specs.Refusals.{FailsOnly};
-ghost use Rattle.nv_base.specs.declared.fault.Fault.TheVariants.{OutOfMemory};
+ghost use Rattle.nv_base.specs.Memory.{out_of_memory};
 ghost use Rattle.nv_base.specs.declared.fault.MismatchPart.TheVariants.{Counts};
 ghost use Rattle.nv_entry.specs.Held.{retention_of};
 ghost use Rattle.nv_audit.specs.Counts.{AreCounted};
 ghost use Rattle.nv_audit.specs.Records.{states_of};
-ghost use Rattle.nv_audit.specs.Whole.{Agrees, CountsAgree, CountsAgreeBy, IsCountedBy, IsMismatch};
+ghost use Rattle.nv_audit.specs.Whole.{Agrees, CountsAgree, CountsAgreeBy, IsCountedBy, IsMismatch, device_with};
 
 use crate::pending::{listed, living};
 use crate::{
-    InHands, InodePart, are_counted, are_free, are_names_of, are_pages_of, are_recorded,
+    Audited, InHands, InodePart, are_counted, are_free, are_names_of, are_pages_of, are_recorded,
     is_part_of, pending_of,
 };
 use nv_alloc::FreeList;
@@ -28,44 +28,40 @@ use std::alloc::Global;
 /// of its log, so that these two never differ. `OutOfMemory` where room was refused. It costs what [`are_pages_of`],
 /// [`are_names_of`], [`are_counted`], [`are_recorded`] and [`are_free`] cost, the first three for each inode, and for
 /// each inode a pass over the deferred records and the parts in hands.
-pub fn audit(
+pub fn audit<'a>(
     alloc: Global,
-    geometry: &Geometry,
-    cells: &[InodeCell],
-    lists: &[FreeList],
-    book: &Book,
-    hands: &InHands<'_>,
-) -> Result<(), Fault>
-    ensures ok { OnOk result (Agrees (record {
-      numbers = geometry.now.numbers;
-      cells = states_of cells.now;
-      lists = lists.now;
-      book = book.now.state;
-      in_hands = hands.now.parts.now;
-      blocks = hands.now.blocks.now;
-    })) }
-    ensures err { IfErr result (λ fault. (fault ≡ OutOfMemory) ⊎ IsMismatch (record {
-      numbers = geometry.now.numbers;
-      cells = states_of cells.now;
-      lists = lists.now;
-      book = book.now.state;
-      in_hands = hands.now.parts.now;
-      blocks = hands.now.blocks.now;
-    }) fault) }
+    geometry: &'a Geometry,
+    cells: &'a [InodeCell],
+    lists: &'a [FreeList],
+    book: &'a Book,
+    hands: InHands,
+) -> Result<Audited<'a>, Fault>
+    ensures ok { IfOk result (λ audited. audited
+        ≡ device_with geometry.now.numbers cells.now lists.now book.now.state hands) }
+    ensures agrees { OnOk result
+        (Agrees (device_with geometry.now.numbers cells.now lists.now book.now.state hands)) }
+    ensures err { IfErr result (λ fault. (fault ≡ out_of_memory) ⊎ IsMismatch
+        (device_with geometry.now.numbers cells.now lists.now book.now.state hands) fault) }
 {
-    let differs = cells_differ(alloc, cells, book, hands)?;
+    let differs = cells_differ(alloc, cells, book, &hands)?;
     if let Some(part) = differs {
         return Err(Fault::Mismatch(part));
     }
-    let recorded = are_recorded(alloc, cells, book, hands)?;
+    let recorded = are_recorded(alloc, cells, book, &hands)?;
     if !recorded {
         return Err(Fault::Mismatch(MismatchPart::Records));
     }
-    let free = are_free(alloc, geometry, cells, lists, book, hands)?;
+    let free = are_free(alloc, geometry, cells, lists, book, &hands)?;
     if !free {
         return Err(Fault::Mismatch(MismatchPart::Lists));
     }
-    Ok(())
+    Ok(Audited {
+        geometry,
+        cells,
+        lists,
+        book,
+        hands,
+    })
 }
 
 /// The first part of the first cell that differs.
@@ -73,17 +69,17 @@ fn cells_differ(
     alloc: Global,
     cells: &[InodeCell],
     book: &Book,
-    hands: &InHands<'_>,
+    hands: &InHands,
 ) -> Result<Option<MismatchPart>, Fault>
     ensures ok { IfOk result (λ part. MatchOption part
-        (CountsAgree book.now.state hands.now.parts.now (states_of cells.now))
+        (CountsAgree book.now.state hands.now.parts.items (states_of cells.now))
         (λ part. (part ≡ Counts)
-        × (¬ CountsAgree book.now.state hands.now.parts.now (states_of cells.now)))) }
-    ensures err { FailsOnly OutOfMemory result }
+        × (¬ CountsAgree book.now.state hands.now.parts.items (states_of cells.now)))) }
+    ensures err { FailsOnly out_of_memory result }
 {
     let snapshots = living(alloc, book)?;
     let deferred = listed(alloc, book.deferred())?;
-    first_different(alloc, cells, &snapshots, &deferred, hands.parts)
+    first_different(alloc, cells, &snapshots, &deferred, &hands.parts)
 }
 
 /// The same, where these snapshots live and these records are deferred.
@@ -98,7 +94,7 @@ fn first_different(
         (CountsAgreeBy snapshots.now deferred.now in_hands.now (states_of cells.now))
         (λ part. (part ≡ Counts)
         × (¬ CountsAgreeBy snapshots.now deferred.now in_hands.now (states_of cells.now)))) }
-    ensures err { FailsOnly OutOfMemory result }
+    ensures err { FailsOnly out_of_memory result }
 {
     for place in 0..cells.len() {
         let ino = Ino::new(place as u64);
@@ -123,7 +119,7 @@ fn inode_differs(
         (IsCountedBy snapshots.now deferred.now in_hands.now ino cell.now.state)
         (λ part. (part ≡ Counts)
         × (¬ IsCountedBy snapshots.now deferred.now in_hands.now ino cell.now.state))) }
-    ensures err { FailsOnly OutOfMemory result }
+    ensures err { FailsOnly out_of_memory result }
 {
     let pending = pending_of(alloc, ino, deferred, in_hands)?;
     let retention = Retention {

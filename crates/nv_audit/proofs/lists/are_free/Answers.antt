@@ -7,7 +7,7 @@ use Rattle.nv_audit.proofs.lists.are_free.Goals as goal
 pub returns-clause-ok : goal.returns-clause-ok
 returns-clause-ok c =
     let g = c.args.geometry.now.numbers in
-    let used = used_of (states_of c.args.cells.now) c.args.book.now.state c.args.hands.now.parts.now c.args.hands.now.blocks.now in
+    let used = used_of (states_of c.args.cells.now) c.args.book.now.state c.args.hands.now.parts.items c.args.hands.now.blocks.items in
     let told = subst (λ (xs : List ℕ). AreMarked g.blocks xs c.in_ok-marks.marks.items) (c.deref.ensures.value
     ∙ c.in_ok-used.ensures.ok) c.in_ok-marks.ensures in
     let marks = subst (AreMarked g.blocks used) (sym c.deref-2.ensures.value) told in
