@@ -67,7 +67,7 @@ module _ (block actor : ℕ) (granted : Bool) (nodes : Handle → Option PlainNo
   cause_told (Look place) stage still same cause = inl (look_refuses block (node_in nodes) r.call fault cause)
   cause_told Check stage still same (inl cause) = inl cause
   cause_told Check stage still same (inr (inl cause)) = inr (cause.1, ap is_want cause.0.0)
-  cause_told Check stage still same (inr (inr (inl cause))) = inr (cause.1, ap is_want cause.0.0)
+  cause_told Check stage still same (inr (inr (inl cause))) = inr (cause.2, ap is_want cause.0.0)
   cause_told Check stage still same (inr (inr (inr cause))) =
       absurd (true≢false (sym (same refl) ∙ cause.1.1))
   cause_told (TakeBlocks asked) stage still same cause = inr (still refl, ap is_want cause.is)

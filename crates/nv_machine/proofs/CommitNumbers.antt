@@ -46,7 +46,7 @@ same_book l d s (Ends result t h) e same f = ap (λ (b : BookState). b.commit) (
 
 -- ---- enter
 
-enters_appending : (place : ℕ) (written : List ℕ) → commits_at (appending place written) ≡ true
+pub enters_appending : (place : ℕ) (written : List ℕ) → commits_at (appending place written) ≡ true
 enters_appending = appending_any (λ (k : Next). commits_at k ≡ true)
     (record { append = λ place. refl; opens = refl; publish = λ place. refl; close = refl; retire = λ place. refl; leave = refl })
 

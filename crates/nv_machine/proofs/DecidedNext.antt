@@ -1,6 +1,6 @@
 -- What has been decided of a call follows from its next step: nothing before its commit point, and from
 -- there on its answer.
-use Rattle.std.proofs.Common.{Bool, List, Option, [], ap, arith, false, length, nat_lt, refl, sym, true, ℕ, ◌+◌, ◌<◌, ◌∙◌, ◌∷◌, ◌≡◌}
+use Rattle.std.proofs.Common.{List, Option, [], ap, arith, false, length, nat_lt, refl, sym, true, ℕ, ◌+◌, ◌<◌, ◌∙◌, ◌∷◌, ◌≡◌}
 use Rattle.std.specs.Prelude.{Err, Ok, Result}
 use Rattle.std.proofs.lemmas.Bool.{false≢true, ltb-false, ltb-true}
 use Rattle.nv_base.specs.declared.fault.Fault.{Fault}
@@ -13,7 +13,7 @@ use Rattle.nv_machine.specs.Kinds.{result_by}
 use Rattle.nv_machine.specs.Sequence.{Visits, appending, beginning, closing, locking, looking, opening, publishing, retiring}
 use Rattle.nv_machine.specs.World.{Answers, Append, Back, Check, Close, Drains, Ending, Give, HandState, Leave, Lock, Look, Next, Number, Open, Overtaken, Publish, Refuses, Retire, Running, Shared, Snapshots, Turn, Unlock, Visit, go_to}
 use Rattle.nv_machine.proofs.LoopSteps.{by_test, either, locking_any, looking_any}
-use Rattle.nv_machine.proofs.StepWays.{AfterBy, EndsBy, Going, Lasts, Overs, Rests, Telling, by_taking, is_taking}
+use Rattle.nv_machine.proofs.StepWays.{AfterBy, EndsBy, Going, Lasts, Overs, Rests, Telling, by_taking, is_drain, is_taking}
 use Rattle.nv_calls.specs.declared.call.Call.TheVariants as call
 
 -- ---- by the next step
@@ -32,11 +32,6 @@ told_at other e a = []
 
 abbrev pub IsNoVisit : Call → Type 0
 IsNoVisit c = (beginning c ≡ Visits → ⊥) × (is_on_snapshots c ≡ false)
-
--- where a drain is to go on
-abbrev pub is_drain : Ending → Bool
-is_drain (Drains draining) = true
-is_drain other = false
 
 -- in the last steps, of a call on files and directories
 abbrev pub IsLastOf : Ending → Call → Type 0
@@ -96,7 +91,7 @@ result_told other r d last is = is
 module _ {d : List Answer} {r : Running} {e : Ending} (last : IsLastOf e r.call) (is : d ≡ told_by e (answer_of r)) where
   pub lasts_told : {s : Shared} {h : HandState} → Lasts (ToldGoes d) (ToldEnds d) s h r e
   lasts_told = record {
-    told = result_told e r d last.0 is;
+    told = λ full. result_told e r d last.0 is;
     picks = λ draining left drains some. absurd (false≢true (sym last.0 ∙ ap is_drain drains));
   }
 

@@ -41,7 +41,7 @@ rests_quiet : {home : Option ℕ} {s : Shared} {h : HandState} {r : Running} {e 
 rests_quiet = record {
   give = λ cpu some. (refl, refl);
   back = λ ino none some. (refl, refl);
-  lasts = λ none gone. record { told = tt; picks = λ d left drains some. (refl, refl) };
+  lasts = λ none gone. record { told = λ full. tt; picks = λ d left drains some. (refl, refl) };
 }
 
 unlock_fair : (place : ℕ) (e : Ending) → is_fair (Unlock place) e ≡ true → e ≡ Overtaken → ⊥
@@ -68,7 +68,7 @@ quiet_kind (Unlock place) block a granted s h r quiet fair =
 quiet_kind (Give cpu) block a granted s h r quiet fair =
     (walk_of QuietGoes Untold block a s h r (Give cpu) granted rests_quiet refl, last_from (Give cpu) block a granted s h r refl)
 quiet_kind Back block a granted s h r quiet fair = (
-  walk_of QuietGoes Untold block a s h r Back granted (record { told = tt; picks = λ d left drains some. (refl, refl) }) refl,
+  walk_of QuietGoes Untold block a s h r Back granted (record { told = λ full. tt; picks = λ d left drains some. (refl, refl) }) refl,
   last_from Back block a granted s h r refl,
 )
 quiet_kind other block a granted s h r quiet fair = absurd (false≢true quiet)

@@ -3,7 +3,7 @@ use Rattle.std.proofs.Common.{Bool, List, None, Option, Some, [], ap, ap₂, ari
 use Rattle.std.specs.Prelude.{Err, Ok}
 use Rattle.std.proofs.lemmas.Bool.{and_parts, false≢true}
 use Rattle.nv_alloc.specs.Numbers.{has}
-use Rattle.nv_base.specs.declared.fault.Fault.TheVariants.{OutOfMemory}
+use Rattle.nv_base.specs.Memory.{out_of_memory}
 use Rattle.nv_base.specs.declared.numbers.Handle.{Handle}
 use Rattle.nv_entry.specs.declared.node.NodeCopy.{NodeCopy}
 use Rattle.nv_calls.specs.AllCalls.{IsToldNothing, answer, early, effect, is_nothing, looked, refusal}
@@ -30,10 +30,10 @@ use Rattle.nv_machine.specs.Step.{ending_at, handle_at, is_numbered, kind_turn, 
 use Rattle.nv_machine.specs.World.{Answers, Append, Back, Check, Close, Draining, Drains, Ending, Ends, Enter, Give, HandState, Leave, Lock, Look, Moves, Next, Number, Open, Overtaken, Publish, Ready, Refuses, Retire, Running, Shared, Snapshots, TakeBlocks, TakePages, Turn, Unlock, Visit, Waits, cell_at, go_to, owner_at}
 use Rattle.nv_machine.proofs.EndingsStay.{no_node_tells}
 use Rattle.nv_machine.proofs.DecidedReads.{ending_settled, settled_ending}
-use Rattle.nv_machine.proofs.DecidedNext.{IsNoVisit, IsTold, OnTold, ToldEnds, ToldGoes, appending_before, before_told, behind_told, denied_told, ends_told, is_drain, lasts_told, locking_told, looking_told, no_visit, overs_told, plain_visit, rests_told, retiring_behind, several_before, single_behind, taking_told, told_by}
+use Rattle.nv_machine.proofs.DecidedNext.{IsNoVisit, IsTold, OnTold, ToldEnds, ToldGoes, appending_before, before_told, behind_told, denied_told, ends_told, lasts_told, locking_told, looking_told, no_visit, overs_told, plain_visit, rests_told, retiring_behind, several_before, single_behind, taking_told, told_by}
 use Rattle.nv_machine.proofs.FitsStages.{FitsAt}
 use Rattle.nv_machine.proofs.LoopSteps.{is_on_files}
-use Rattle.nv_machine.proofs.StepWays.{Going, Takes, Telling, ends_go, is_list_taker, noted, numbered_slots}
+use Rattle.nv_machine.proofs.StepWays.{Going, Takes, Telling, ends_go, is_drain, is_list_taker, noted, numbered_slots}
 use Rattle.nv_machine.proofs.StepWalk.{WaysOf, any_takes, walk_by}
 use Rattle.nv_calls.specs.declared.call.Call.TheVariants as call
 
@@ -238,8 +238,8 @@ module _ (block a cpu : ℕ) (s : Shared) (h : HandState) (r : Running) where
   visit_told None (Ok all) (Ok passed) true x found before on_files none same =
       ap₂ (λ (a : Answer) (l : List Answer). a ∷ l) (same refl).1 none
   visit_told None (Ok all) (Ok passed) false x found before on_files none same =
-      ends_go _ _ _ s h r (Refuses OutOfMemory) r.slots
-      (denied_told (none_then true _ x before (refuses OutOfMemory r.slots s h r) none) on_files)
+      ends_go _ _ _ s h r (Refuses out_of_memory) r.slots
+      (denied_told (none_then true _ x before (refuses out_of_memory r.slots s h r) none) on_files)
 
   -- ---- all kinds
 

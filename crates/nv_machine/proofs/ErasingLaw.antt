@@ -54,7 +54,8 @@ use Rattle.nv_machine.proofs.FiledRuns.{can_list}
 use Rattle.nv_machine.proofs.FitsEvents.{IsKnown, all_known, filed_known}
 use Rattle.nv_machine.proofs.FiledSteps.{MarksOf, parts_held, retired_block}
 use Rattle.nv_machine.proofs.FiledWorlds.{no_killed, picked_in}
-use Rattle.nv_machine.proofs.HeldMarks.{in_use_there, same_default, used_there}
+use Rattle.nv_machine.proofs.HeldMarks.{used_there}
+use Rattle.nv_machine.proofs.MarksInUse.{in_use_there, same_default}
 use Rattle.nv_machine.proofs.Pairs.{pair_there}
 use Rattle.nv_machine.proofs.GoneRuns.{none_retiring}
 use Rattle.nv_machine.proofs.Journals.{closed_tail}

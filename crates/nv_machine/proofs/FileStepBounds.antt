@@ -28,7 +28,7 @@ module _ (c m : ℕ) where
     -- a drain goes on to the next record, of those that it may still release
     pub lasts_fall : {s : Shared} {h : HandState} → rank_behind c e + r.rounds * round c < m → Lasts Lower Untold s h r e
     lasts_fall low = record {
-      told = tt;
+      told = λ full. tt;
       picks = λ d left drains some.
           let less = subst (λ (n : ℕ). n * round c + r.rounds * round c < m) some
           (subst (λ (x : Ending). rank_behind c x + r.rounds * round c < m) drains low) in

@@ -1,7 +1,7 @@
 -- What records tell a living snapshot to hold is what it holds by the logs, less what is current and what is killed.
 use Rattle.nv_machine.specs.Starts.{IsStart}
 use Rattle.nv_machine.specs.World.{World, Event, cell_at}
-use Rattle.std.proofs.Common.{◌≡◌, ℕ, ◌+◌, ◌&&◌, ◌∙◌, Bool, true, false, not, List, [], ◌∷◌, Some, ap, arith, map, refl, slice_get, sym}
+use Rattle.std.proofs.Common.{◌≡◌, ℕ, ◌&&◌, ◌∙◌, Bool, true, false, not, List, [], ◌∷◌, Some, ap, map, refl, slice_get, sym}
 use Rattle.std.specs.Prelude.{◌||◌}
 use Rattle.std.specs.List.{AllByRecursion, Contains, list_any}
 use Rattle.std.proofs.lemmas.Bool.{eqb-true}
@@ -30,24 +30,15 @@ use Rattle.nv_machine.specs.Recorded.{is_kept, is_killed_pair, is_recorded_for, 
 use Rattle.nv_machine.specs.Step.{after}
 use Rattle.nv_machine.proofs.FiledLaw.{all_marked, recorded_all, recorded_once}
 use Rattle.nv_machine.proofs.EachElement.{all_at, all_weaker}
-use Rattle.nv_machine.proofs.FiledLists.{count, count_cons, one}
+use Rattle.nv_machine.proofs.FiledLists.{count}
 use Rattle.nv_machine.proofs.FiledMarks.{AreMarks, IsTold, is_filed_on, is_killed_on, pair_low}
 use Rattle.nv_machine.proofs.FiledRuns.{known}
+use Rattle.nv_machine.proofs.MarksInUse.{any_of}
 use Rattle.nv_machine.proofs.Pairs.{current_is, named_same, number_is, record_number}
 
 -- ---- whether any of a list passes a test
 
-pub any_of : {X : Type 0} (p : X → Bool) (xs : List X) (b : Bool) → count p xs ≡ bit b → list_any p xs ≡ b
-any_of p [] true e = absurd (omega (arith, e))
-any_of p [] false e = refl
-any_of {X} p (x ∷ xs) b e = go (p x) b (count_cons p x xs) e (any_of p xs) where
-  go : (c b : Bool) → count p (x ∷ xs) ≡ one c + count p xs → count p (x ∷ xs) ≡ bit b
-      → ((b : Bool) → count p xs ≡ bit b → list_any p xs ≡ b) → (c || list_any p xs) ≡ b
-  go true true f k more = refl
-  go true false f k more = absurd (omega (arith, f, k))
-  go false b f k more = more b (omega (arith, f, k))
-
-any_and : {X : Type 0} (p : X → Bool) (c : Bool) (xs : List X) → list_any (λ x. p x && c) xs ≡ (list_any p xs && c)
+pub any_and : {X : Type 0} (p : X → Bool) (c : Bool) (xs : List X) → list_any (λ x. p x && c) xs ≡ (list_any p xs && c)
 any_and p c [] = refl
 any_and p c (x ∷ xs) = rw (any_and p c xs) (go (p x) (list_any p xs) c) where
   go : (a b c : Bool) → ((a && c) || (b && c)) ≡ ((a || b) && c)
@@ -57,7 +48,7 @@ any_and p c (x ∷ xs) = rw (any_and p c xs) (go (p x) (list_any p xs) c) where
   go true false false = refl
   go false b c = refl
 
-any_told : {X : Type 0} (p q : X → Bool) (xs : List X) → AllByRecursion (λ x. p x ≡ q x) xs → list_any p xs ≡ list_any q xs
+pub any_told : {X : Type 0} (p q : X → Bool) (xs : List X) → AllByRecursion (λ x. p x ≡ q x) xs → list_any p xs ≡ list_any q xs
 any_told p q [] h = refl
 any_told p q (x ∷ xs) h = rw (h.0, any_told p q xs h.1) refl
 

@@ -14,7 +14,7 @@ use Rattle.std.proofs.Common.{◌≡◌, ℕ, ◌+◌, ◌-◌, ◌<◌, ◌≤�
 use Rattle.std.specs.Prelude.{Ok, Err}
 use Rattle.nv_alloc.specs.Numbers.{IsRising, has}
 use Rattle.nv_base.specs.declared.fault.Fault.{Fault}
-use Rattle.nv_base.specs.declared.fault.Fault.TheVariants.{OutOfMemory}
+use Rattle.nv_base.specs.Memory.{out_of_memory}
 use Rattle.nv_base.specs.declared.geometry.GeometryNumbers.{GeometryNumbers}
 use Rattle.nv_book.specs.declared.record.Record.{Record}
 use Rattle.nv_calls.specs.declared.answer.Answer.TheVariants as answers
@@ -229,7 +229,7 @@ module _ (g : GeometryNumbers) (w : World) (known : IsListable g w) (rs : List R
     goes = goes_marked step next;
     told = told_marked step next;
     denied = λ snapshot showing on.
-        let q : Running = record r { ending = Refuses OutOfMemory; next = Snapshots (Unpin snapshot []) } in
+        let q : Running = record r { ending = Refuses out_of_memory; next = Snapshots (Unpin snapshot []) } in
         subst (λ (x : SnapshotStep). AreMarked (turned (Moves s h q) a w).world (after_deed (plain.OnSnapshots x) living rs)) (sym on)
         (kept step next s (Some q) (same_quiet s) (λ ino. refl) (sym (ap (λ (x : SnapshotStep). picked_at (Snapshots x)) on)));
     over = released_marked step next;

@@ -4,7 +4,6 @@ use Rattle.std.proofs.Common.{◌≡◌, ℕ, ◌++◌, ◌∙◌, Bool, true, f
 use Rattle.std.specs.List.{AllByRecursion}
 use Rattle.std.proofs.lemmas.Bool.{ltb-false, ltb-true}
 use Rattle.nv_base.specs.declared.geometry.GeometryNumbers.{GeometryNumbers}
-use Rattle.nv_book.specs.Listed.{all_records}
 use Rattle.nv_book.specs.declared.record.Record.{Record}
 use Rattle.nv_calls.specs.declared.call.Call.{Call}
 use Rattle.nv_cell.specs.Cell.{log_of}
@@ -18,14 +17,13 @@ use Rattle.nv_machine.specs.Step.{after, go_step, start_step, step}
 use Rattle.nv_machine.specs.World.{Event, Go, Running, Start, World, actor_at, cell_at}
 use Rattle.nv_machine.proofs.OverEvents.{runs_inside}
 use Rattle.nv_machine.proofs.FiledKinds.{kind_marked}
-use Rattle.nv_machine.proofs.EachElement.{all_append, all_back, all_front}
-use Rattle.nv_machine.proofs.FiledLists.{all_filed, count_append, count_filed}
-use Rattle.nv_machine.proofs.FiledMarks.{IsTold, is_filed_on}
+use Rattle.nv_machine.proofs.FiledMarks.{IsTold}
 use Rattle.nv_machine.proofs.FiledPicks.{begun_none}
 use Rattle.nv_machine.proofs.FiledRuns.{IsListable, all_listed, event_listed, known}
 use Rattle.nv_machine.proofs.FiledTurns.{Listed}
 use Rattle.nv_machine.proofs.FiledWorlds.{AreMarked, outside, picked_in, quiet_marked, same_quiet}
 use Rattle.nv_machine.proofs.LogsInOrder.{begun_commits}
+use Rattle.nv_machine.proofs.MarksInUse.{each_recorded, once_of}
 use Rattle.nv_machine.proofs.StartRecords.{first_listed, first_marked}
 
 -- ---- events
@@ -76,18 +74,6 @@ all_marked g start records events is_start =
 
 -- ---- the laws
 
--- where the list and the marks are told, each part that is kept is recorded once
-pub once_of : (w : World) (rs : List Record) → Listed rs w.shared → AreMarked w rs → AreRecordedOnce w
-once_of w rs l m ino n =
-    let book = w.shared.book in
-    let p : Record → Bool = is_filed_on ino (log_of (cell_at w.shared ino)) n in
-    let all = count_append p (all_records book.manifests) (book.deferred ++ picked_in w) in
-    let rest = count_append p book.deferred (picked_in w) in
-    let filed = count_filed p (ids book.snaps) book.manifests book.deferred rs l.rising l.list in
-    let both = count_append p rs (picked_in w) in
-    let is = (m.cells ino).kept_are n in
-    omega (arith, all, rest, filed, both, is)
-
 pub recorded_once : (g : GeometryNumbers) (start : World) (records : List Record) (events : List Event) → IsStart g start records
     → AreRecordedOnce (after start events)
 recorded_once g start records events is_start =
@@ -100,14 +86,7 @@ pub recorded_all : (g : GeometryNumbers) (start : World) (records : List Record)
     → AllByRecursion P (records_after start events records ++ picked_in (after start events))
     → AllByRecursion P (recorded_in (after start events))
 recorded_all g start records events P is_start all =
-    let w = after start events in
-    let rs = records_after start events records in
-    let l = all_listed g start records events is_start in
-    let book = w.shared.book in
-    let filed = all_filed P (ids book.snaps) book.manifests book.deferred rs l.list (all_front P rs (picked_in w) all) in
-    all_append P (all_records book.manifests) (book.deferred ++ picked_in w) (all_front P (all_records book.manifests) book.deferred filed)
-    (all_append P book.deferred (picked_in w) (all_back P (all_records book.manifests) book.deferred filed)
-    (all_back P rs (picked_in w) all))
+    each_recorded (after start events) (records_after start events records) P (all_listed g start records events is_start) all
 
 -- what is told of each slot is told of each record
 pub each_of : (w : World) (rs : List Record)

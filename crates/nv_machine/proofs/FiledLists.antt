@@ -88,7 +88,7 @@ none_first living (r ∷ rs) e = go (is_none (holder_of living r)) e (none_first
   go false e more = ap (λ (l : List Record). r ∷ l) (more e)
 
 -- the one that it takes was on the list, and no living snapshot holds it
-unheld_pass : (living : List ℕ) (rs : List Record) → AllByRecursion (λ r. holder_of living r ≡ None) (unheld living rs)
+pub unheld_pass : (living : List ℕ) (rs : List Record) → AllByRecursion (λ r. holder_of living r ≡ None) (unheld living rs)
 unheld_pass living [] = tt
 unheld_pass living (r ∷ rs) = go (holder_of living r) refl (unheld_pass living rs) where
   go : (o : Option ℕ) → holder_of living r ≡ o → AllByRecursion (λ r. holder_of living r ≡ None) (unheld living rs)

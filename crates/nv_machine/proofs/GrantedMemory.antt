@@ -32,7 +32,7 @@ use Rattle.nv_calls.specs.declared.call.Call.TheVariants as call
 -- ---- tests, one after another
 
 abbrev IsElse : Fault → Type 0
-IsElse OutOfMemory = ⊥
+IsElse (OutOfMemory _) = ⊥
 IsElse other = Unit {0}
 
 else_other : (fault : Fault) → IsElse fault → IsOther fault

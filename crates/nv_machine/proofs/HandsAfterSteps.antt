@@ -63,7 +63,7 @@ no_blocks h e = ap blocks_in e
 module _ (g : GeometryNumbers) where
   -- the hand is empty
   pub lasts_hand : {s : Shared} {h : HandState} {r : Running} {e : Ending} → h ≡ empty_hand → Lasts (HandGoes g) HandTold s h r e
-  lasts_hand empty = record { told = empty; picks = λ d left drains some. (empty, λ e. refl) }
+  lasts_hand empty = record { told = λ full. empty; picks = λ d left drains some. (empty, λ e. refl) }
 
   pub rests_hand : {home : Option ℕ} {r : Running} {e : Ending} (from : ℕ) (s t : Shared) (h : HandState) → GoesHome g s h
       → home_from from 0 s.lists (blocks_in h) ≡ home → from ≤ g.cpus → AreGiven g from (blocks_in h) → h.killed ≡ []

@@ -21,6 +21,8 @@ pub mod StepBounds
 pub mod SingleEvents
 pub mod LocksOverEvents
 pub mod ScriptRows
+pub mod CheckOrder
+pub mod Lenders
 pub mod LimitRows
 pub mod AppendsToCome
 pub mod OrderedIds
@@ -53,6 +55,7 @@ pub mod CellChanges
 pub mod CellSteps
 pub mod SnapshotsAlone
 pub mod Journals
+pub mod OpenJournals
 pub mod LogsKept
 pub mod LogsKeptByReleases
 pub mod WrittenSlots
@@ -102,6 +105,8 @@ pub mod PoolLaw
 pub mod FitsPooled
 pub mod PoolHands
 pub mod PoolRows
+pub mod NeededSlots
+pub mod StepRows
 pub mod RoundsOfLooks
 pub mod VisitsRead
 pub mod DecidedReads
@@ -123,6 +128,8 @@ pub mod WrongSnapshots
 pub mod StepPhases
 pub mod ListsAsked
 pub mod RefusedCalls
+pub mod RefusedTurns
+pub mod OwnSteps
 pub mod HandlesStayUsed
 pub mod NewHandles
 pub mod PlainStart
@@ -143,6 +150,7 @@ pub mod LooksToCome
 pub mod CellMarks
 pub mod CellMarksRuns
 pub mod Generations
+pub mod ErasingsCounted
 pub mod VersionSteps
 pub mod Versions
 pub mod MoveBounds
@@ -151,6 +159,7 @@ pub mod Pins
 pub mod SnapSteps
 pub mod SnapshotCopies
 pub mod SnapRuns
+pub mod Histories
 pub mod SnapRefusals
 pub mod EpochLogs
 pub mod EpochSteps
@@ -183,6 +192,10 @@ pub mod FiledSteps
 pub mod FiledWorlds
 pub mod FiledCommits
 pub mod FiledSnaps
+pub mod MarksInUse
+pub mod CleanedCells
+pub mod CleanedMarks
+pub mod LeftShapes
 pub mod FiledKinds
 pub mod FiledLaw
 pub mod FiledHeld
@@ -192,6 +205,7 @@ pub mod Releasing
 pub mod CopyTrees
 pub mod SnapAnswers
 pub mod AloneNeverWaits
+pub mod MustWait
 pub mod CallsStay
 pub mod AloneRuns
 pub mod AloneRefusals

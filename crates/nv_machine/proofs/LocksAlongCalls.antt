@@ -55,7 +55,7 @@ idle_as s a h = record { owners = h.owners; holder = h.holder; slots = tt }
 module _ {a : ℕ} {s t : Shared} (left : LocksLeft a s t) where
   pub lasts_locks : {h : HandState} {r : Running} {e : Ending} → Holds t a [] false → Lasts (LocksGo a s) (LocksTold a s) t h r e
   lasts_locks mine = record {
-    told = (left, idle_as t a mine);
+    told = λ full. (left, idle_as t a mine);
     picks = λ d more drains some. (left, holds_as t a _ [] false mine refl refl (record { rising = tt; inside = tt }) refl);
   }
 

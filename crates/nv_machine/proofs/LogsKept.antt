@@ -1,16 +1,18 @@
 -- What a step on the shared parts leaves of settled logs and of the nodes that they give.
-use Rattle.std.proofs.Common.{◌≡◌, ◌⊎◌, ◌≢◌, ℕ, ◌<◌, ◌==◌, ◌∙◌, Bool, true, false, List, [], Option, Some, None, ap, get_or-set_other, get_or-set_same, if◌then◌else◌, length, refl, subst, sym, take, inl}
+use Rattle.std.proofs.Common.{◌≡◌, ◌⊎◌, ◌≢◌, ℕ, ◌<◌, ◌==◌, ◌∙◌, Bool, true, false, List, [], Option, Some, None, ap, get_or-set_other, get_or-set_same, if◌then◌else◌, length, refl, subst, sym, take, inl, inr}
 use Rattle.std.proofs.lemmas.Bool.{eqb-false, eqb-true}
 use Rattle.nv_base.specs.declared.numbers.Handle.{Handle}
 use Rattle.nv_book.specs.Book.{BookState}
 use Rattle.nv_calls.specs.Plain.{PlainNode}
 use Rattle.nv_cell.specs.Cell.{CellState}
+use Rattle.nv_entry.specs.Shape.{IsShaped}
 use Rattle.nv_entry.specs.declared.item.Entry.{Entry}
 use Rattle.nv_journal.specs.declared.old_tail.OldTail.{OldTail}
 use Rattle.nv_machine.specs.Effects.{AreSound, IsSoundIn}
 use Rattle.nv_machine.specs.Kept.{AreClosed, AreLogsKept, HasPages}
 use Rattle.nv_machine.specs.Locks.{is_owner}
 use Rattle.nv_machine.specs.Settled.{node_by, settled, settled_nodes, settled_tail}
+use Rattle.nv_machine.specs.Shapes.{AreShaped}
 use Rattle.nv_machine.specs.World.{Shared, cell_at, no_cell, with_book, with_cell, owner_at}
 
 -- ---- nodes
@@ -26,15 +28,24 @@ SameNodes s t = (ino generation : ℕ)
 pub same_nodes : (s t : Shared) → SameNodes s t → (handle : Handle) → settled_nodes t handle ≡ settled_nodes s handle
 same_nodes s t h handle = h handle.ino handle.generation
 
+-- and what is sound, or of its shape, stays so
+pub record SameLogs (s t : Shared) : Type 0 where
+  pub nodes : SameNodes s t
+  pub shaped : (block : ℕ) → AreShaped block s → AreShaped block t
+  pub sound : AreSound s → AreSound t
+
+-- ---- shapes
+
+pub no_shape : (block : ℕ) → IsShaped block []
+no_shape block = record { lawful = tt; last = tt }
+
 -- a settled log is as it was, or it is emptied
 abbrev pub IsSameOrEmpty : List Entry → List Entry → Type 0
 IsSameOrEmpty new old = (new ≡ old) ⊎ (new ≡ [])
 
--- and what is sound stays so
-pub record SameLogs (s t : Shared) : Type 0 where
-  pub nodes : SameNodes s t
-  pub logs : (ino : ℕ) → IsSameOrEmpty (settled t ino) (settled s ino)
-  pub sound : AreSound s → AreSound t
+pub still_shaped : (block : ℕ) (new old : List Entry) → IsSameOrEmpty new old → IsShaped block old → IsShaped block new
+still_shaped block new old (inl same) is = subst (IsShaped block) (sym same) is
+still_shaped block new old (inr empty) is = subst (IsShaped block) (sym empty) (no_shape block)
 
 -- ---- what a turn leaves
 
@@ -54,7 +65,7 @@ pub record Still (s t : Shared) : Type 0 where
 pub still_nodes : (s t : Shared) → Still s t → SameLogs s t
 still_nodes s t h = record {
   nodes = λ ino generation. rw (h.cells ino, h.journals) refl;
-  logs = λ ino. inl (rw (h.cells ino, h.journals) refl);
+  shaped = λ block are ino. rw (h.cells ino, h.journals) (are ino);
   sound = λ sound ino. rw (h.cells ino, h.journals) (sound ino);
 }
 
@@ -113,11 +124,11 @@ module _ (a : ℕ) (s : Shared) (kept : AreLogsKept s) (slot : ℕ) (cell : Cell
 
   pub cell_nodes : ((generation : ℕ) → node_at cell (log_with cell slot) generation
       ≡ node_at (cell_at s slot) (settled s slot) generation)
-      → IsSameOrEmpty (log_with cell slot) (settled s slot)
+      → ((block : ℕ) → IsShaped block (settled s slot) → IsShaped block (log_with cell slot))
       → (IsSoundIn (cell_at s slot) (settled s slot) → IsSoundIn cell (log_with cell slot)) → SameLogs s t
-  cell_nodes same log sounds = record {
-    logs = λ ino. rw (journals) (cell_set s slot cell ino (λ (c : CellState). IsSameOrEmpty (log_with c ino) (settled s ino)) inside
-        (λ e. subst (λ (n : ℕ). IsSameOrEmpty (log_with cell n) (settled s n)) e log) (λ e. inl refl));
+  cell_nodes same shape sounds = record {
+    shaped = λ block are ino. rw (journals) (cell_set s slot cell ino (λ (c : CellState). IsShaped block (log_with c ino)) inside
+        (λ e. subst (λ (n : ℕ). IsShaped block (log_with cell n)) e (shape block (are slot))) (λ e. are ino));
     nodes = λ ino generation. rw (journals) (cell_set s slot cell ino
         (λ (c : CellState). node_at c (log_with c ino) generation ≡ node_at (cell_at s ino) (settled s ino) generation) inside
         (λ e. subst (λ (n : ℕ). node_at cell (log_with cell n) generation ≡ node_at (cell_at s n) (settled s n) generation) e

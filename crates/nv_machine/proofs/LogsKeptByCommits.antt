@@ -23,6 +23,7 @@ use Rattle.nv_machine.specs.Kinds.{append_turn, close_turn, entries_for, first_k
 use Rattle.nv_machine.specs.Locks.{AreSlots, is_owner}
 use Rattle.nv_machine.specs.Reads.{bytes_among, is_written, slot_at, written_slots}
 use Rattle.nv_machine.specs.Sequence.{appending, closing, opening, publishing, retiring}
+use Rattle.nv_entry.specs.Shape.{IsShaped}
 use Rattle.nv_machine.specs.Settled.{node_by, settled, settled_tail}
 use Rattle.nv_machine.specs.World.{Answers, Append, Close, Ends, HandState, Leave, Moves, Next, Open, Publish, Retire, Running, Shared, Turn, Waits, cell_at, go_to, no_cell, with_book, with_cell}
 use Rattle.nv_machine.proofs.LoopSteps.{by_test, either}
@@ -31,7 +32,7 @@ use Rattle.nv_machine.proofs.CellSteps.{Grows, HaveFront, Retires, append_grows,
 use Rattle.nv_machine.proofs.Journals.{closed_again, closed_tail, open_free, open_same, open_stays}
 use Rattle.nv_machine.proofs.Lists.{drop_apart, rising_filter, take_all, take_apart, take_more, written_inside}
 use Rattle.nv_machine.proofs.WrittenSlots.{front_of, many_planned, within_of, written_there}
-use Rattle.nv_machine.proofs.LogsKept.{IsSameOrEmpty, KeptLeft, SameLogs, cell_left, cell_nodes, cell_set, node_at}
+use Rattle.nv_machine.proofs.LogsKept.{IsSameOrEmpty, KeptLeft, SameLogs, cell_left, cell_nodes, cell_set, node_at, still_shaped}
 
 -- what a turn owes: settled logs are kept, nodes stay but at a commit point, and the call knows what it is to know
 abbrev pub OnKept : Bool → ℕ → ℕ → Shared → Turn → Type 0
@@ -152,8 +153,8 @@ module _ (block a : ℕ) (s : Shared) (h : HandState) (r : Running) (kept : AreL
     append_kept pages k = (
       cell_left a s kept slot new s.book low refl own held (subst (λ (l : List Entry). HasPages l new) (sym log) g.pages),
       (λ e. cell_nodes a s kept slot new s.book low refl
-          (λ generation. rw (log, g.generation) (ap (λ (n : _). cond (generation == cell.generation) n None) g.node)) (inl log)
-          (λ x. subst (IsSoundIn new) (sym log) (g.sound x))),
+          (λ generation. rw (log, g.generation) (ap (λ (n : _). cond (generation == cell.generation) n None) g.node))
+          (λ size. still_shaped size _ _ (inl log)) (λ x. subst (IsSoundIn new) (sym log) (g.sound x))),
       knows_appending block _ cpu _ r k.1 (place + 1) k.0 k.2
           (λ lt numbers at. let p = k.3 (numbers_of h.blocks) (λ e. refl) in
           record {
@@ -211,8 +212,8 @@ module _ (block a : ℕ) (s : Shared) (h : HandState) (r : Running) (kept : AreL
     publish_kept is true several k = (
       cell_left a s kept slot (published cell) s.book low refl own held
           (subst (λ (l : List Entry). HasPages l (published cell)) (sym log) pages),
-      (λ e. cell_nodes a s kept slot (published cell) s.book low refl (λ generation. rw log refl) (inl log)
-          (λ x. subst (IsSoundIn (published cell)) (sym log) x)),
+      (λ e. cell_nodes a s kept slot (published cell) s.book low refl (λ generation. rw log refl)
+          (λ size. still_shaped size _ _ (inl log)) (λ x. subst (IsSoundIn (published cell)) (sym log) x)),
       knows_publishing block after cpu _ r k.1 (place + 1) (publish_killed refl is k.0)
           (subst (λ (b : Bool). IsNotedIf b after cpu written_) (sym several) (record {
             alone = noted.alone;
@@ -284,7 +285,8 @@ module _ (block a : ℕ) (s : Shared) (h : HandState) (r : Running) (kept : AreL
     retire_kept apart k = (
       cell_left a s kept slot (erased retired_) (retired_book slot parts s r) low refl own held (pages (is_erased retired_)),
       (λ e. cell_nodes a s kept slot (erased retired_) (retired_book slot parts s r) low refl
-          (λ generation. nodes generation (is_erased retired_) refl) (logs (is_erased retired_)) (sounds (is_erased retired_))),
+          (λ generation. nodes generation (is_erased retired_) refl) (λ size. still_shaped size _ _ (logs (is_erased retired_)))
+          (sounds (is_erased retired_))),
       knows_retiring block retired_after cpu _ r k.1 (place + 1)
           (subst (AreKilledIn retired_after (drop (place + 1) written_)) (sym (hand_killed (is_erased retired_) _ _ _))
           (same_killed s retired_after (drop (place + 1) written_) (drop 1 h.killed)
@@ -363,7 +365,7 @@ module _ (block a : ℕ) (s : Shared) (h : HandState) (r : Running) (kept : AreL
     },
     (λ e. record {
       nodes = λ ino generation. ap (λ (l : List Entry). node_at (cell_at s ino) l generation) (same ino);
-      logs = λ ino. inl (same ino);
+      shaped = λ size are ino. subst (IsShaped size) (sym (same ino)) (are ino);
       sound = λ sound ino. subst (IsSoundIn (cell_at s ino)) (sym (same ino)) (sound ino);
     }),
     knows_publishing block t cpu h r k.1 0 (none_killed t h.killed k.0)

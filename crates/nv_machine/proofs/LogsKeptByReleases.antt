@@ -13,7 +13,7 @@ use Rattle.nv_machine.specs.Reads.{bytes_among}
 use Rattle.nv_machine.specs.Settled.{node_by, settled, settled_tail}
 use Rattle.nv_machine.specs.World.{Shared, cell_at, owner_at, with_cell}
 use Rattle.nv_machine.proofs.CellSteps.{Retires, empty_pages, erased_none, one_retires, retired_node, retired_pages, retired_sound}
-use Rattle.nv_machine.proofs.LogsKept.{IsSameOrEmpty, KeptLeft, SameLogs, cell_nodes, cell_set, node_at}
+use Rattle.nv_machine.proofs.LogsKept.{IsSameOrEmpty, KeptLeft, SameLogs, cell_nodes, cell_set, node_at, still_shaped}
 use Rattle.nv_entry.proofs.SoundLogs.{empty_sound}
 
 -- what gives up covered parts alone, and is erased where nothing is kept of it; no journal notes its slot
@@ -94,7 +94,8 @@ module _ (a : ℕ) (s : Shared) (kept : AreLogsKept s) (slot : ℕ) (new : CellS
 
   pub released_logs : SameLogs s (with_cell slot (erased new) s)
   released_logs = cell_nodes a s kept slot (erased new) s.book inside refl
-      (λ generation. nodes generation (is_erased new) refl) (logs (is_erased new)) (sounds (is_erased new))
+      (λ generation. nodes generation (is_erased new) refl) (λ block. still_shaped block _ _ (logs (is_erased new)))
+      (sounds (is_erased new))
 
 -- the part of a picked record is covered
 pub release_retires : (picked : Record) (cell : CellState)

@@ -1,5 +1,5 @@
 -- Settled logs are kept whatever events come, and nodes change at commit points alone.
-use Rattle.std.proofs.Common.{Bool, List, None, Option, Some, ap, arith, false, inl, length, nat_lt, refl, subst, sym, true, ℕ, ◌%◌, ◌<◌, ◌∙◌, ◌≡◌, ◌≢◌, ◌≤◌}
+use Rattle.std.proofs.Common.{Bool, List, None, Option, Some, ap, arith, false, length, nat_lt, refl, subst, sym, true, ℕ, ◌%◌, ◌<◌, ◌∙◌, ◌≡◌, ◌≢◌, ◌≤◌}
 use Rattle.std.specs.Prelude.{unwrap_or}
 use Rattle.std.proofs.lemmas.Bool.{eq-eqb, false≢true}
 use Rattle.nv_base.specs.declared.numbers.Handle.{Handle}
@@ -12,7 +12,8 @@ use Rattle.nv_machine.specs.Order.{IsInOrder}
 use Rattle.nv_machine.specs.PlainRun.{Deed, deed_by, deed_of, keeps_nodes}
 use Rattle.nv_machine.specs.Reads.{is_written, slots_of, written_slots}
 use Rattle.nv_machine.specs.Sequence.{Beginning, Locks, OnSnapshots, Visits, beginning, begun, nothing_looked}
-use Rattle.nv_machine.specs.Settled.{settled, settled_nodes, settled_tail}
+use Rattle.nv_machine.specs.Settled.{settled_nodes, settled_tail}
+use Rattle.nv_machine.specs.Shapes.{AreShaped}
 use Rattle.nv_machine.specs.Step.{after, step, turned}
 use Rattle.nv_machine.specs.World.{Actor, Append, Close, Ends, Event, HandState, Leave, Moves, Next, Open, Publish, Retire, Running, Shared, Turn, Waits, World, actor_at, cell_at, empty_hand, owner_at}
 use Rattle.nv_machine.proofs.LogsKeptByCommits.{OnKept, same_killed}
@@ -21,7 +22,7 @@ use Rattle.nv_machine.proofs.LogsInOrder.{events_order}
 use Rattle.nv_machine.proofs.LogsKeptTurns.{Standing, kept_turn}
 use Rattle.nv_machine.proofs.CallKnowledge.{locking_knows}
 use Rattle.nv_machine.proofs.LocksOverEvents.{before, events_locks}
-use Rattle.nv_machine.proofs.LogsKept.{IsSameOrEmpty, KeptLeft, SameLogs, same_nodes}
+use Rattle.nv_machine.proofs.LogsKept.{KeptLeft, SameLogs, same_nodes}
 use Rattle.nv_alloc.specs.Numbers.{has}
 use Rattle.nv_machine.proofs.Lists.{has_filter, has_later}
 use Rattle.nv_machine.proofs.LogTails.{has_front}
@@ -124,7 +125,7 @@ turned_kept same (Ends result s h) actor w there locks kept on = record {
 }
 
 same_logs : (s : Shared) → SameLogs s s
-same_logs s = record { nodes = λ ino generation. refl; logs = λ ino. inl refl; sound = λ sound. sound }
+same_logs s = record { nodes = λ ino generation. refl; shaped = λ block are. are; sound = λ sound. sound }
 
 turned_nodes : (t : Turn) (block actor : ℕ) (w : World) → OnKept true block actor w.shared t
     → SameLogs w.shared (turned t actor w).world.shared
@@ -235,9 +236,9 @@ module _ (w : World) (locks : AreLocks w) (order : IsInOrder w) (kept : IsKept w
       (λ actor granted r there is keeps. turned_nodes (turn_at w actor granted r) w.numbers.block actor w
       (subst (λ (b : Bool). OnKept b w.numbers.block actor w.shared (turn_at w actor granted r)) keeps (stands actor granted r is)))
 
-pub logs_stay : (w : World) (e : Event) → AreLocks w → IsInOrder w → IsKept w → AreBlocksApart w → keeps_nodes (deed_of w e) ≡ true
-    → (ino : ℕ) → IsSameOrEmpty (settled (step w e).world.shared ino) (settled w.shared ino)
-logs_stay w e locks order kept apart same = (event_nodes w locks order kept apart e same).logs
+pub shapes_stay : (w : World) (e : Event) → AreLocks w → IsInOrder w → IsKept w → AreBlocksApart w → keeps_nodes (deed_of w e) ≡ true
+    → (block : ℕ) → AreShaped block w.shared → AreShaped block (step w e).world.shared
+shapes_stay w e locks order kept apart same = (event_nodes w locks order kept apart e same).shaped
 
 pub nodes_stay : (w : World) (e : Event) → AreLocks w → IsInOrder w → IsKept w → AreBlocksApart w → keeps_nodes (deed_of w e) ≡ true
     → (handle : Handle) → settled_nodes (step w e).world.shared handle ≡ settled_nodes w.shared handle

@@ -233,10 +233,10 @@ module _ (block a : ℕ) (granted : Bool) (s : Shared) (h : HandState) (r : Runn
       (any_ends (closes_if (λ over. absurd (not_overtaken r.ending st.knows.0 over)))) refl
   knows_turn (Unlock place) st is = last_walk Knows_ Untold block a s h r (Unlock place) granted refl (closes_if st.knows)
   knows_turn (Give cpu) st is = walk_of Knows_ Untold block a s h r (Give cpu) granted
-      (record { give = λ cpu is. tt; back = λ ino none is. tt; lasts = λ none is. record { told = tt; picks = λ d left drains some. tt } })
+      (record { give = λ cpu is. tt; back = λ ino none is. tt; lasts = λ none is. record { told = λ full. tt; picks = λ d left drains some. tt } })
       refl
   knows_turn Back st is =
-      walk_of Knows_ Untold block a s h r Back granted (record { told = tt; picks = λ d left drains some. tt }) refl
+      walk_of Knows_ Untold block a s h r Back granted (record { told = λ full. tt; picks = λ d left drains some. tt }) refl
   knows_turn Visit st is = walk_of Knows_ Untold block a s h r Visit granted
       (λ fault free by. denied, λ free passed lacks. denied, λ free passed. tt) refl
   knows_turn (Snapshots step) st is = snapshot_knows block _ step a granted s h r

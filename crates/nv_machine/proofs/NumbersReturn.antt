@@ -112,7 +112,7 @@ module _ (g : GeometryNumbers) (block a ino : ℕ) (granted : Bool) (s : Shared)
   late_way Back late st going =
       let there = back_has ino h.ino s h is in
       walk_of (WayGoes ino) (WayTold ino) block a s h r Back granted
-      (record { told = there; picks = λ d left drains some. inr (refl, there) }) refl
+      (record { told = λ full. there; picks = λ d left drains some. inr (refl, there) }) refl
   late_way other late st going = absurd (false≢true late)
 
 -- ---- an event

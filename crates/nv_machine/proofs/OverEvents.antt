@@ -38,7 +38,7 @@ runs_inside w actor r runs = elim (cases_lt actor (length w.actors)) [
 
 -- of what it does, and of the world after it
 module _ (P : Deed → World → Type 0) (w : World) (same : P Nothing w) where
-  go_deed : (b : Bool) (running : Option Running) (a : ℕ) (granted : Bool) → nat_lt a (length w.actors) ≡ b
+  pub go_deed : (b : Bool) (running : Option Running) (a : ℕ) (granted : Bool) → nat_lt a (length w.actors) ≡ b
       → (actor_at w a).running ≡ running
       → ((r : Running) → a < length w.actors → (actor_at w a).running ≡ Some r
       → P (deed_by (Some r) w a granted) (turned (turn_at w a granted r) a w).world)
@@ -47,7 +47,7 @@ module _ (P : Deed → World → Type 0) (w : World) (same : P Nothing w) where
   go_deed true None a granted e is turns = same
   go_deed true (Some r) a granted e is turns = turns r (ltb-true a (length w.actors) e) is
 
-  start_deed : (b : Bool) (running : Option Running) (a : ℕ) (c : Call) → nat_lt a (length w.actors) ≡ b
+  pub start_deed : (b : Bool) (running : Option Running) (a : ℕ) (c : Call) → nat_lt a (length w.actors) ≡ b
       → (actor_at w a).running ≡ running → (a < length w.actors → (actor_at w a).running ≡ None → P Nothing (begun_in w a c))
       → P Nothing (start_step b running a c w).world
   start_deed false running a c e is begins = same

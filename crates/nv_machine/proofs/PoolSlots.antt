@@ -23,7 +23,7 @@ twice : (a c : Bool) → (a || c) ≡ (a || (a || c))
 twice true c = refl
 twice false c = refl
 
-has_with : (m : ℕ) (xs : List ℕ) (n : ℕ) → has (with_slot m xs) n ≡ ((m == n) || has xs n)
+pub has_with : (m : ℕ) (xs : List ℕ) (n : ℕ) → has (with_slot m xs) n ≡ ((m == n) || has xs n)
 has_with m [] n = refl
 has_with m (x ∷ xs) n = go (m == x) (nat_lt m x) refl (has_with m xs n) where
   go : (b c : Bool) → (m == x) ≡ b → has (with_slot m xs) n ≡ ((m == n) || has xs n)

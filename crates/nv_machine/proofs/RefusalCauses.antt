@@ -3,7 +3,8 @@ use Rattle.std.proofs.Common.{Bool, List, None, Option, Some, [], ap, arith, fal
 use Rattle.std.specs.Prelude.{Err, Ok}
 use Rattle.std.proofs.lemmas.Bool.{false≢true, leb-true, ltb-false}
 use Rattle.nv_base.specs.declared.fault.Fault.{Fault}
-use Rattle.nv_base.specs.declared.fault.Fault.TheVariants.{CommitLimit, NoInode, NoSpace, OutOfMemory}
+use Rattle.nv_base.specs.declared.fault.Fault.TheVariants.{CommitLimit, NoInode, NoSpace}
+use Rattle.nv_base.specs.Memory.{out_of_memory}
 use Rattle.nv_base.specs.declared.limits.TheConstants.{NUMBER}
 use Rattle.nv_base.specs.declared.numbers.Handle.{Handle}
 use Rattle.nv_entry.specs.declared.node.NodeCopy.{NodeCopy}
@@ -16,7 +17,7 @@ use Rattle.nv_machine.specs.Kinds.{asked_list, check_ending, look_tests, number_
 use Rattle.nv_machine.specs.Reads.{copies}
 use Rattle.nv_machine.specs.Sequence.{beginning, directories, sequel}
 use Rattle.nv_machine.specs.Snapshots.{shown_by, snapshot_turn}
-use Rattle.nv_machine.specs.Step.{ending_at, handle_at, is_numbered, kind_turn, made_in, same_looked, visit_grows, with_made}
+use Rattle.nv_machine.specs.Step.{check_grows, ending_at, handle_at, is_numbered, kind_turn, made_in, same_looked, visit_grows, with_made}
 use Rattle.nv_machine.specs.World.{Answers, Back, Check, Draining, Drains, Ending, Enter, Give, HandState, Leave, Lock, Look, Make, Moves, Next, Overtaken, Ready, Refuses, Running, Shared, SnapshotStep, Snapshots, TakeBlocks, TakePages, Turn, Unlock, Unpin, Visit, list_at, owner_at}
 use Rattle.nv_machine.proofs.StepWays.{After, Closes, EndsBy, Going, IsClear, Takes, Telling, any_ends, any_lasts, any_rests, asks_on, by_last, is_last, is_overtaken, noted, noted_ending}
 use Rattle.nv_machine.proofs.StepWalk.{WaysOf, last_ways, walk_of}
@@ -176,19 +177,21 @@ module _ (nodes : Handle → Option NodeCopy) (block a : ℕ) (granted : Bool) (
   ways Check reads = (
     λ e by. check_ends e (subst (CheckCause (early nodes r.call) (same_looked (looked nodes r.call) r.looked)
         (refusal block nodes r.call) (is_numbered (beginning r.call) h.ino)) by reads),
-    λ none lacks. denied Check OutOfMemory (inr (inr (inl (
-      (refl, lacks),
-      subst (CheckCause (early nodes r.call)
-          (same_looked (looked nodes r.call) r.looked) (refusal block nodes r.call) (is_numbered (beginning r.call) h.ino)) none reads,
-    )))),
+    λ none lacks. (let room = no_growth granted (check_grows block s h r) lacks in
+        denied Check out_of_memory (inr (inr (inl (
+          (refl, room.0),
+          room.1,
+          subst (CheckCause (early nodes r.call)
+              (same_looked (looked nodes r.call) r.looked) (refusal block nodes r.call) (is_numbered (beginning r.call) h.ino)) none reads,
+        ))))),
     λ none. takes Check,
   )
   ways (TakeBlocks asked) reads = (takes (TakeBlocks asked), λ n is last. denied (TakeBlocks asked) NoSpace (short n asked is last))
   ways (TakePages asked) reads = (takes (TakePages asked), λ n is last. denied (TakePages asked) NoSpace (short n asked is last))
-  ways Ready reads = (λ lacks. denied Ready OutOfMemory (refl, lacks), works Ready)
+  ways Ready reads = (λ lacks. denied Ready out_of_memory (refl, lacks), works Ready)
   ways Enter reads = (
     λ free last. denied Enter CommitLimit (inl (refl, leb-true NUMBER s.book.commit last)),
-    λ clear lacks. denied Enter OutOfMemory (inr (refl, lacks)),
+    λ clear lacks. denied Enter out_of_memory (inr (refl, lacks)),
     λ clear. works Enter,
   )
   ways Leave reads = any_ends (answered Leave)
@@ -198,7 +201,7 @@ module _ (nodes : Handle → Option NodeCopy) (block a : ℕ) (granted : Bool) (
   ways Visit reads = (
     λ fault free by. denied Visit fault (inl (reads free ∙ by)),
     λ free passed lacks. (let none = no_growth granted (visit_grows r.call) lacks in
-        denied Visit OutOfMemory (inr ((refl, none.0), none.1, reads free ∙ passed))),
+        denied Visit out_of_memory (inr ((refl, none.0), none.1, reads free ∙ passed))),
     λ free passed. tt,
   )
   ways (Snapshots step) reads = tt
@@ -213,7 +216,7 @@ module _ (nodes : Handle → Option NodeCopy) (block a : ℕ) (granted : Bool) (
         goes = λ on clear. unrefused (For (Snapshots step)) (MayBeOvertaken (Snapshots step) nodes r) (Snapshots (next_on step s)) r.ending going;
         told = λ on clear. told step;
         denied = λ snapshot showing on.
-            (subst (λ (x : SnapshotStep). IsCauseOn x granted s OutOfMemory) (sym on.0) (refl, on.1), tt);
+            (subst (λ (x : SnapshotStep). IsCauseOn x granted s out_of_memory) (sym on.0) (refl, on.1), tt);
         over = λ draining picked on. any_ends (drains (For (Snapshots step)) (MayBeOvertaken (Snapshots step) nodes r) _);
         none = λ draining on empty. tt;
       })) where

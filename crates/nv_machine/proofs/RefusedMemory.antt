@@ -2,15 +2,16 @@
 use Rattle.std.proofs.Common.{Bool, List, None, Option, Some, [], ap, false, if◌then◌else◌, nat_le, not, refl, suc, true, zero, ℕ, ◌||◌, ◌∷◌, ◌≡◌}
 use Rattle.std.specs.Prelude.{Err, Ok, Result}
 use Rattle.nv_base.specs.declared.fault.Fault.{Fault}
-use Rattle.nv_base.specs.declared.fault.Fault.TheVariants.{CommitLimit, OutOfMemory}
+use Rattle.nv_base.specs.declared.fault.Fault.TheVariants.{CommitLimit}
+use Rattle.nv_base.specs.Memory.{out_of_memory}
 use Rattle.nv_base.specs.declared.limits.TheConstants.{NUMBER}
 use Rattle.nv_calls.specs.AllCalls.{answer, refusal}
 use Rattle.nv_calls.specs.Refusals.{Check as Tests}
 use Rattle.nv_calls.specs.declared.answer.Answer.{Answer}
 use Rattle.nv_calls.specs.Locked.{handles}
-use Rattle.nv_machine.specs.Kinds.{check_turn, end_turn, enter_turn, grown, refuse, visit_turn, wants_blocks, wants_pages}
+use Rattle.nv_machine.specs.Kinds.{check_turn, end_turn, enter_turn, grown, refuse, visit_turn, wants_blocks, wants_pages, wants_room}
 use Rattle.nv_machine.specs.Memory.{denied_at, denied_turn, does_its_work, grows, grows_on, is_answered, is_onward, moves_onward, noted}
-use Rattle.nv_machine.specs.Reads.{copies, nodes, written_slots}
+use Rattle.nv_machine.specs.Reads.{copies, nodes, pages_wanted, plan_by, written_slots}
 use Rattle.nv_machine.specs.Sequence.{appending, nothing_looked}
 use Rattle.nv_machine.specs.Step.{ending_at, handle_at, kind_turn, visit_grows, with_made}
 use Rattle.nv_machine.specs.World.{Check, Draining, Ending, Ends, Enter, HandState, Moves, Next, Pick, Ready, Refuses, Running, Shared, Show, Showing, SnapshotStep, Snapshots, Turn, Visit, Waits, owner_at}
@@ -76,12 +77,26 @@ wants_on zero block s h r = wants_pages_on _ s h r
 wants_on (suc n) block s h r = refl
 
 check_denied : (ending : Option Ending) (wanted block : ℕ) (s : Shared) (h : HandState) (r : Running)
+    → wants_room wanted (pages_wanted s r.slots (plan_by block s h (with_made s h r))) ≡ true
     → check_turn ending false wanted block s h (with_made s h r)
     ≡ denied_turn Check s h r (check_turn ending true wanted block s h (with_made s h r))
-check_denied (Some ending) wanted block s h r =
+check_denied (Some ending) wanted block s h r room =
     stays_so Check s h r (end_turn r.slots ending s h (with_made s h r)) (end_stops r.slots ending s h (with_made s h r))
-check_denied None wanted block s h r =
-    refuses_so Check s h r (wants_blocks wanted block s h (with_made s h r)) (wants_on wanted block s h (with_made s h r))
+check_denied None wanted block s h r room =
+    go (wants_room wanted (pages_wanted s r.slots (plan_by block s h (with_made s h r)))) room where
+      on : Turn
+      on = wants_blocks wanted block s h (with_made s h r)
+
+      go : (b : Bool) → b ≡ true
+          → grown (false || not b) on s h (with_made s h r) ≡ denied_turn Check s h r (grown (true || not b) on s h (with_made s h r))
+      go true is = refuses_so Check s h r on (wants_on wanted block s h (with_made s h r))
+      go false is = cc
+
+check_alike : (ending : Option Ending) (wanted block : ℕ) (s : Shared) (h : HandState) (r : Running)
+    → wants_room wanted (pages_wanted s r.slots (plan_by block s h r)) ≡ false
+    → check_turn ending false wanted block s h r ≡ check_turn ending true wanted block s h r
+check_alike (Some ending) wanted block s h r none = refl
+check_alike None wanted block s h r none = rw none refl
 
 appending_on : (written : List ℕ) → is_onward (appending 0 written) ≡ true
 appending_on written = appending_any (λ (k : Next). is_onward k ≡ true)
@@ -108,7 +123,7 @@ show_denied (Some other) found snapshot showing s h r = refl
 show_denied None found snapshot showing s h r = refl
 
 picked_denied : (deferred : List Record) (draining : Draining) (s : Shared) (h : HandState) (r : Running)
-    → refuse OutOfMemory s h r ≡ denied_turn (Snapshots (Pick draining)) s h r (picked_turn deferred draining s h r)
+    → refuse out_of_memory s h r ≡ denied_turn (Snapshots (Pick draining)) s h r (picked_turn deferred draining s h r)
 picked_denied [] draining s h r = refl
 picked_denied (picked ∷ deferred) draining s h r = refl
 
@@ -140,9 +155,9 @@ snapshot_alike other actor s h r e = refl
 
 -- ---- all kinds
 
-pub denied_alike : (k : Next) (block actor : ℕ) (s : Shared) (h : HandState) (r : Running) → grows k r.call ≡ true
+pub denied_alike : (k : Next) (block actor : ℕ) (s : Shared) (h : HandState) (r : Running) → grows k block s h r ≡ true
     → kind_turn k block actor false s h r ≡ denied_turn k s h r (kind_turn k block actor true s h r)
-denied_alike Check block actor s h r e = check_denied (ending_at block s h r) _ block s h r
+denied_alike Check block actor s h r e = check_denied (ending_at block s h r) _ block s h r e
 denied_alike Ready block actor s h r e = refl
 denied_alike Enter block actor s h r e = enter_denied s.holder (nat_le NUMBER s.book.commit) actor s h r
 denied_alike Visit block actor s h r e = go (visit_grows r.call) e where
@@ -157,9 +172,9 @@ denied_alike Visit block actor s h r e = go (visit_grows r.call) e where
 denied_alike (Snapshots step) block actor s h r e = snapshot_denied step actor s h r e
 denied_alike other block actor s h r e = cc
 
-pub ungrown : (k : Next) (block actor : ℕ) (s : Shared) (h : HandState) (r : Running) → grows k r.call ≡ false
+pub ungrown : (k : Next) (block actor : ℕ) (s : Shared) (h : HandState) (r : Running) → grows k block s h r ≡ false
     → kind_turn k block actor false s h r ≡ kind_turn k block actor true s h r
-ungrown Check block actor s h r e = cc
+ungrown Check block actor s h r e = check_alike (ending_at block s h r) _ block s h (with_made s h r) e
 ungrown Ready block actor s h r e = cc
 ungrown Enter block actor s h r e = cc
 ungrown Visit block actor s h r e = rw e refl

@@ -51,7 +51,7 @@ use Rattle.nv_machine.proofs.FiledMarks.{IsTold, is_filed_on}
 use Rattle.nv_machine.proofs.FiledRuns.{can_list}
 use Rattle.nv_machine.proofs.FiledSteps.{MarksOf, released_cell}
 use Rattle.nv_machine.proofs.FiledWorlds.{marks_as, picked_in}
-use Rattle.nv_machine.proofs.HeldMarks.{in_use_there, same_default}
+use Rattle.nv_machine.proofs.MarksInUse.{in_use_there, same_default}
 use Rattle.nv_machine.proofs.Lists.{has_filter, has_later}
 use Rattle.nv_machine.proofs.LocksHeld.{Before, lent_cell, owner_is}
 use Rattle.nv_machine.proofs.LocksOverEvents.{before}

@@ -1,22 +1,15 @@
 -- Scripts of calls and single steps, played through the step function.
-use Rattle.std.proofs.Common.{Bool, List, [], false, filter, length, suc, true, zero, ℕ, ◌&&◌, ◌+◌, ◌-◌, ◌∷◌}
-use Rattle.std.specs.List.{flat_map, sum_by}
+use Rattle.std.proofs.Common.{List, [], length, suc, true, zero, ℕ, ◌+◌, ◌-◌, ◌∷◌}
+use Rattle.std.specs.List.{flat_map}
 use Rattle.nv_base.specs.declared.geometry.GeometryNumbers.{GeometryNumbers}
 use Rattle.nv_base.specs.declared.node.Kind.{Kind}
 use Rattle.nv_base.specs.declared.numbers.Handle.{Handle}
 use Rattle.nv_calls.specs.declared.call.Call.{Call}
-use Rattle.nv_book.specs.declared.record.Record.{Record}
-use Rattle.nv_cell.specs.Cell.{CellState, log_of}
-use Rattle.nv_entry.specs.Held.{is_needed}
-use Rattle.nv_entry.specs.Log.{pairs}
-use Rattle.nv_entry.specs.declared.held.Pair.{Pair}
-use Rattle.nv_entry.specs.declared.part.Part.{Part}
 use Rattle.nv_entry.specs.declared.tree.TreeNode.{TreeNode}
-use Rattle.nv_epoch.specs.SnapList.{ids}
 use Rattle.nv_machine.specs.Numbers.{free_of, used_blocks}
+use Rattle.nv_machine.specs.Scanned.{scanned_chain, scanned_data, scanned_pending}
 use Rattle.nv_machine.specs.Step.{Step, stays, step}
 use Rattle.nv_machine.specs.World.{Go, Moved, Reply, Shared, Start, Started, World}
-use Rattle.nv_entry.specs.declared.part.Part.TheVariants as part
 
 -- ---- scripts
 
@@ -58,29 +51,11 @@ played w (l ∷ lines) = played (line w l).world lines
 abbrev pub free_count : Shared → ℕ
 free_count s = length (flat_map free_of s.lists)
 
-abbrev pub chain_count : Shared → ℕ
-chain_count s = sum_by (λ (c : CellState). length c.chain.blocks) s.cells
-
-abbrev pub is_page : Part → Bool
-is_page (part.Page page) = true
-is_page other = false
-
--- the data blocks that are current or held by a living snapshot
-abbrev pub data_of : List ℕ → CellState → ℕ
-data_of snaps cell = length (filter (λ (p : Pair). is_page p.part && is_needed snaps p) (pairs cell.block (log_of cell)))
-
-abbrev pub data_count : Shared → ℕ
-data_count s = sum_by (data_of (ids s.book.snaps)) s.cells
-
--- those whose records are deferred
-abbrev pub pending_count : Shared → ℕ
-pending_count s = length (filter (λ (d : Record). is_page d.part) s.book.deferred)
-
 -- all blocks: those that are free, in chains, data and pending, and all others, which are in hands
 abbrev pub space : World → List ℕ
 space w =
-    free_count w.shared ∷ chain_count w.shared ∷ data_count w.shared ∷ pending_count w.shared
-    ∷ (length (used_blocks w) - (chain_count w.shared + data_count w.shared + pending_count w.shared)) ∷ []
+    free_count w.shared ∷ scanned_chain w.shared ∷ scanned_data w.shared ∷ scanned_pending w
+    ∷ (length (used_blocks w) - (scanned_chain w.shared + scanned_data w.shared + scanned_pending w)) ∷ []
 
 -- a node of a tree: its path, its kind and mode, and its bytes
 abbrev pub shown : TreeNode → List (List ℕ) × (Kind × (ℕ × List ℕ))

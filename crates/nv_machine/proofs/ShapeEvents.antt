@@ -21,17 +21,9 @@ use Rattle.nv_machine.proofs.NewWorld.{each_cell, new_settled}
 use Rattle.nv_machine.proofs.OverEvents.{by_points, events_by}
 use Rattle.nv_machine.proofs.FitsEvents.{IsKnown, all_known, grow_now}
 use Rattle.nv_machine.proofs.UnsettledTurns.{point_settles}
-use Rattle.nv_machine.proofs.LogsKeptRuns.{logs_stay}
-use Rattle.nv_machine.proofs.LogsKept.{IsSameOrEmpty}
+use Rattle.nv_machine.proofs.LogsKeptRuns.{shapes_stay}
+use Rattle.nv_machine.proofs.LogsKept.{no_shape}
 use Rattle.nv_machine.proofs.Shapes.{Grows, shape_more}
-
-no_shape : (block : ℕ) → IsShaped block []
-no_shape block = record { lawful = tt; last = tt }
-
--- a log that is as it was or emptied
-still_shaped : (block : ℕ) (new old : List Entry) → IsSameOrEmpty new old → IsShaped block old → IsShaped block new
-still_shaped block new old (inl same) is = subst (IsShaped block) (sym same) is
-still_shaped block new old (inr empty) is = subst (IsShaped block) (sym empty) (no_shape block)
 
 entries_items : (commit epoch place : ℕ) (items : List Item) → items_of (entries_of commit epoch place items) ≡ items
 entries_items commit epoch place [] = refl
@@ -53,10 +45,9 @@ module _ (g : GeometryNumbers) (w : World) (known : IsKnown g w) (are : AreShape
   Shaped e = AreShaped w.numbers.block (step w e).world.shared
 
   kept_shaped : (e : Event) → keeps_nodes (deed_of w e) ≡ true → Shaped e
-  kept_shaped e keeps ino =
+  kept_shaped e keeps =
       let k = known.reached in
-      still_shaped w.numbers.block (settled (step w e).world.shared ino) (settled w.shared ino)
-      (logs_stay w e k.locks k.order k.kept k.apart keeps ino) (are ino)
+      shapes_stay w e k.locks k.order k.kept k.apart keeps w.numbers.block are
 
   event_shaped : (e : Event) → Shaped e
   event_shaped = by_points w Shaped

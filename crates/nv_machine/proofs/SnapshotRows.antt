@@ -13,6 +13,7 @@ use Rattle.nv_machine.specs.Format.{formatted}
 use Rattle.nv_machine.specs.Step.{step}
 use Rattle.nv_machine.specs.World.{Done, Go, Moved, Refused, Reply, Started, World}
 use Rattle.nv_machine.proofs.ScriptRows.{DoCall, Goes, Line, StartCall, device, handle, line, play, played, shown, space}
+use Rattle.nv_base.specs.Memory.{out_of_memory}
 
 abbrev pub snap : Line
 snap = DoCall 0 (call.Snapshots on.Snap)
@@ -130,5 +131,5 @@ abbrev show_refused : World
 show_refused = (step showing_two (Go 0 false)).world
 
 unpinned_then : play show_refused (dropping 1 2 ∷ Goes 0 9 ∷ dropping 1 2 ∷ [])
-    ≡ Refused fault.Pinned ∷ Refused fault.OutOfMemory ∷ Done answer.Nothing ∷ []
+    ≡ Refused fault.Pinned ∷ Refused out_of_memory ∷ Done answer.Nothing ∷ []
 unpinned_then = refl

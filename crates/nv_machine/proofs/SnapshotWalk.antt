@@ -3,7 +3,8 @@
 use Rattle.std.proofs.Common.{◌≡◌, ℕ, ◌||◌, not, Bool, true, false, List, [], ◌∷◌, Option, Some, None, ap, arith, length, refl, subst}
 use Rattle.std.specs.Prelude.{Result, Ok, Err, is_some}
 use Rattle.nv_base.specs.declared.fault.Fault.{Fault}
-use Rattle.nv_base.specs.declared.fault.Fault.TheVariants.{NoSnapshot, OutOfMemory}
+use Rattle.nv_base.specs.declared.fault.Fault.TheVariants.{NoSnapshot}
+use Rattle.nv_base.specs.Memory.{out_of_memory}
 use Rattle.nv_book.specs.declared.record.Record.{Record}
 use Rattle.nv_calls.specs.Refusals.{Check as Tests}
 use Rattle.nv_calls.specs.declared.answer.Answer.{Answer}
@@ -82,7 +83,7 @@ pub record SnapshotWays (P : Going) (E : Telling) (step : SnapshotStep) (a : ℕ
   pub told : tells step ≡ true → IsClearOn step s
       → E (told_on step s r) (snapshot_work step a s h).shared (snapshot_work step a s h).hand
   pub denied : (snapshot : ℕ) (showing : Showing) → (step ≡ Show snapshot showing) × (granted ≡ false)
-      → P s h (record r { ending = Refuses OutOfMemory; next = Snapshots (Unpin snapshot []) })
+      → P s h (record r { ending = Refuses out_of_memory; next = Snapshots (Unpin snapshot []) })
   pub over : (draining : Draining) (picked : Record) → step ≡ Release draining picked
       → EndsBy P E r.slots (snapshot_work step a s h).shared (snapshot_work step a s h).hand r (Drains (one_more draining))
   pub none : (draining : Draining) → step ≡ Pick draining → s.book.deferred ≡ [] → E (Ok (answers.Count draining.released)) s h
@@ -107,11 +108,11 @@ StepWaysOf P E (Drop snapshot) a granted s h r =
 StepWaysOf P E (Pin snapshot) a granted s h r =
     (pins_of s.book.snaps snapshot ≡ None → Denies P E s h r NoSnapshot) × StepGoes P (Pin snapshot) a s h r
 StepWaysOf P E (Show snapshot showing) a granted s h r =
-    (granted ≡ false → P s h (record r { ending = Refuses OutOfMemory; next = Snapshots (Unpin snapshot []) }))
+    (granted ≡ false → P s h (record r { ending = Refuses out_of_memory; next = Snapshots (Unpin snapshot []) }))
     × StepGoes P (Show snapshot showing) a s h r
 StepWaysOf P E (Unpin snapshot seen) a granted s h r = StepTold E (Unpin snapshot seen) a s h r
 StepWaysOf P E (Pick draining) a granted s h r =
-    (granted ≡ false → is_first draining ≡ true → Denies P E s h r OutOfMemory)
+    (granted ≡ false → is_first draining ≡ true → Denies P E s h r out_of_memory)
     × (s.book.deferred ≡ [] → E (Ok (answers.Count draining.released)) s h)
     × ((picked : Record) (rest : List Record) → s.holder ≡ None → s.book.deferred ≡ picked ∷ rest
     → P (snapshot_work (Pick draining) a s h).shared h
@@ -187,7 +188,7 @@ module _ (P : Going) (E : Telling) (a : ℕ) (s : Shared) (h : HandState) (r : R
   any_step_ways (Show snapshot showing) granted w = (λ lacks. w.denied snapshot showing (refl, lacks), w.goes refl)
   any_step_ways (Unpin snapshot seen) granted w = w.told refl
   any_step_ways (Pick draining) granted w = (
-    λ lacks first. w.stops OutOfMemory (refl, ((refl, lacks), first)),
+    λ lacks first. w.stops out_of_memory (refl, ((refl, lacks), first)),
     λ empty. w.none draining refl empty,
     λ picked rest free is. subst (λ (l : List Record). P (snapshot_work (Pick draining) a s h).shared h
         (record r { slots = picked_slots l; next = Snapshots (picked_next l draining) })) is

@@ -5,7 +5,7 @@ use Rattle.std.proofs.lemmas.Bool.{false≢true}
 use Rattle.std.proofs.lemmas.Option.{none-some}
 use Rattle.nv_alloc.specs.FreeList.{FreeBlocks}
 use Rattle.nv_base.specs.declared.fault.Fault.{Fault}
-use Rattle.nv_base.specs.declared.fault.Fault.TheVariants.{OutOfMemory}
+use Rattle.nv_base.specs.Memory.{out_of_memory}
 use Rattle.nv_book.specs.declared.record.Record.{Record}
 use Rattle.nv_calls.specs.declared.answer.Answer.TheVariants as answers
 use Rattle.nv_machine.specs.Kinds.{blocks_in}
@@ -42,7 +42,7 @@ at_once P E fault s h r empty none told = record {
     rests = λ apart. record {
       give = λ cpu home. absurd (none-some cpu (sym nothing_home ∙ home));
       back = λ ino home has_it. absurd (none-some ino (sym (ap (λ (x : HandState). x.ino) empty) ∙ has_it));
-      lasts = λ home no. record { told = told; picks = λ d left drains some. cc };
+      lasts = λ home no. record { told = λ full. told; picks = λ d left drains some. cc };
     };
   };
 } where
@@ -59,7 +59,7 @@ pub record AloneWays (Q : Turn → Type 0) (step : SnapshotStep) (a : ℕ) (s : 
   pub told : tells step ≡ true → IsClearOn step s
       → Q (Ends (told_on step s r) (snapshot_work step a s h).shared (snapshot_work step a s h).hand)
   pub denied : (snapshot : ℕ) (showing : Showing) → step ≡ Show snapshot showing
-      → Q (Moves s h (record r { ending = Refuses OutOfMemory; next = Snapshots (Unpin snapshot []) }))
+      → Q (Moves s h (record r { ending = Refuses out_of_memory; next = Snapshots (Unpin snapshot []) }))
   pub over : (draining : Draining) (picked : Record) → step ≡ Release draining picked
       → Q (Moves (snapshot_work step a s h).shared (snapshot_work step a s h).hand
       (record r { ending = Drains (one_more draining); next = Unlock 0 }))

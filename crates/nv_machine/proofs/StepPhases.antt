@@ -1,9 +1,10 @@
 -- Which steps go on to which: those before a check, and the last ones, to their like; those of a commit to no taking,
 -- nor past both; and a check to a taking's first list.
-use Rattle.std.proofs.Common.{Bool, List, None, Option, Some, false, refl, suc, sym, true, zero, ℕ, ◌+◌, ◌==◌, ◌∙◌, ◌≡◌}
+use Rattle.std.proofs.Common.{Bool, List, None, Option, Some, false, refl, suc, sym, true, zero, ℕ, not, ◌+◌, ◌==◌, ◌||◌, ◌∙◌, ◌≡◌}
 use Rattle.std.proofs.lemmas.Bool.{false≢true, true≢false}
-use Rattle.nv_base.specs.declared.fault.Fault.TheVariants.{OutOfMemory}
-use Rattle.nv_machine.specs.Kinds.{check_turn, end_turn, wants_blocks, wants_pages}
+use Rattle.nv_base.specs.Memory.{out_of_memory}
+use Rattle.nv_machine.specs.Kinds.{check_turn, end_turn, grown, wants_blocks, wants_pages, wants_room}
+use Rattle.nv_machine.specs.Reads.{pages_wanted, plan_by}
 use Rattle.nv_machine.specs.Sequence.{sequel}
 use Rattle.nv_machine.specs.Snapshots.{snapshot_turn}
 use Rattle.nv_machine.specs.Step.{ending_at, kind_turn, with_made}
@@ -156,9 +157,13 @@ wants_first (suc n) block s h r = refl
 
 check_first : (ending : Option Ending) (granted : Bool) (wanted block : ℕ) (s : Shared) (h : HandState) (r : Running)
     → OnFirst (check_turn ending granted wanted block s h r)
-check_first None true wanted block s h r = wants_first wanted block s h r
-check_first None false wanted block s h r =
-    let t = end_turn r.slots (Refuses OutOfMemory) s h r in on_first t (on_apart t (end_plain r.slots (Refuses OutOfMemory) s h r))
+check_first None granted wanted block s h r =
+    go (granted || not (wants_room wanted (pages_wanted s r.slots (plan_by block s h r)))) where
+      go : (b : Bool) → OnFirst (grown b (wants_blocks wanted block s h r) s h r)
+      go true = wants_first wanted block s h r
+      go false =
+          let t = end_turn r.slots (Refuses out_of_memory) s h r in
+          on_first t (on_apart t (end_plain r.slots (Refuses out_of_memory) s h r))
 check_first (Some ending) granted wanted block s h r =
     let t = end_turn r.slots ending s h r in on_first t (on_apart t (end_plain r.slots ending s h r))
 

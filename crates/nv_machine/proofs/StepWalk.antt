@@ -4,7 +4,8 @@ use Rattle.std.proofs.Common.{◌≡◌, ℕ, zero, suc, ◌+◌, ◌||◌, not,
 use Rattle.std.specs.Prelude.{Ok, Err, nat_le}
 use Rattle.std.proofs.lemmas.Bool.{false≢true}
 use Rattle.nv_base.specs.declared.fault.Fault.{Fault}
-use Rattle.nv_base.specs.declared.fault.Fault.TheVariants.{CommitLimit, NoSpace, OutOfMemory}
+use Rattle.nv_base.specs.declared.fault.Fault.TheVariants.{CommitLimit, NoSpace}
+use Rattle.nv_base.specs.Memory.{out_of_memory}
 use Rattle.nv_base.specs.declared.limits.TheConstants.{NUMBER}
 use Rattle.nv_calls.specs.AllCalls.{answer, look_refusal, looked, refusal}
 use Rattle.nv_calls.specs.Locked.{handles}
@@ -12,7 +13,7 @@ use Rattle.nv_calls.specs.Refusals.{Check as Tests}
 use Rattle.nv_machine.specs.Kinds.{back_turn, blocks_in, blocks_turn, check_turn, end_turn, enter_turn, given, grown, lock_turn, look_tests, look_turn, number_turn, pages_turn, seen_at, unlocked_turn, visit_turn, wants_blocks, wants_pages, with_given}
 use Rattle.nv_machine.specs.Reads.{copies, home_from, nodes, slot_at}
 use Rattle.nv_machine.specs.Sequence.{directories, nothing_looked, sequel}
-use Rattle.nv_machine.specs.Step.{ending_at, handle_at, kind_turn, visit_grows, with_made}
+use Rattle.nv_machine.specs.Step.{check_grows, ending_at, handle_at, kind_turn, visit_grows, with_made}
 use Rattle.nv_machine.specs.World.{Answers, Back, Check, Drains, Ending, Ends, Enter, Give, HandState, Leave, Lock, Look, Next, Number, Overtaken, Ready, Refuses, Running, Shared, Snapshots, TakeBlocks, TakePages, Turn, Unlock, Visit, go_to, owner_at}
 use Rattle.nv_machine.proofs.StepWork.{back_work, work, number_work}
 use Rattle.nv_machine.proofs.LoopSteps.{is_on_files}
@@ -38,7 +39,7 @@ WaysOf P E (Look place) block a granted s h r =
 WaysOf P E (Lock place) block a granted s h r = IsClear (Lock place) s r → Works P (Lock place) block a s h r
 WaysOf P E Check block a granted s h r =
     ((e : Ending) → ending_at block s h r ≡ Some e → EndsBy P E r.slots s h (with_made s h r) e)
-    × (ending_at block s h r ≡ None → granted ≡ false → Denies P E s h (with_made s h r) OutOfMemory)
+    × (ending_at block s h r ≡ None → (granted || not (check_grows block s h r)) ≡ false → Denies P E s h (with_made s h r) out_of_memory)
     × (ending_at block s h r ≡ None → Takes P Check block a s h r)
 WaysOf P E (TakeBlocks asked) block a granted s h r =
     Takes P (TakeBlocks asked) block a s h r
@@ -48,10 +49,10 @@ WaysOf P E (TakePages asked) block a granted s h r =
     Takes P (TakePages asked) block a s h r
     × ((n : ℕ) → wanted_yet (TakePages asked) block a s r ≡ suc n → may_ask (TakePages asked) s ≡ false
     → Denies P E (work (TakePages asked) block a s h r).shared (work (TakePages asked) block a s h r).hand r NoSpace)
-WaysOf P E Ready block a granted s h r = (granted ≡ false → Denies P E s h r OutOfMemory) × Works P Ready block a s h r
+WaysOf P E Ready block a granted s h r = (granted ≡ false → Denies P E s h r out_of_memory) × Works P Ready block a s h r
 WaysOf P E Enter block a granted s h r =
     (s.holder ≡ None → nat_le NUMBER s.book.commit ≡ true → Denies P E s h r CommitLimit)
-    × (IsClear Enter s r → granted ≡ false → Denies P E s h r OutOfMemory)
+    × (IsClear Enter s r → granted ≡ false → Denies P E s h r out_of_memory)
     × (IsClear Enter s r → Works P Enter block a s h r)
 WaysOf P E Leave block a granted s h r = EndsBy P E r.slots (work Leave block a s h r).shared h r r.ending
 WaysOf P E (Unlock place) block a granted s h r =
@@ -63,7 +64,7 @@ WaysOf P E Back block a granted s h r = Lasts P E (back_work h.ino s h).shared (
 WaysOf P E Visit block a granted s h r =
     ((fault : Fault) → IsClear Visit s r → refusal block (copies s) r.call ≡ Err fault → Denies P E s h r fault)
     × (IsClear Visit s r → refusal block (copies s) r.call ≡ Ok tt → (granted || not (visit_grows r.call)) ≡ false
-    → Denies P E s h r OutOfMemory)
+    → Denies P E s h r out_of_memory)
     × (IsClear Visit s r → refusal block (copies s) r.call ≡ Ok tt → E (Ok (answer (nodes s) r.made r.call)) s h)
 WaysOf P E (Snapshots step) block a granted s h r = Unit {0}
 WaysOf P E other block a granted s h r = Works P other block a s h r
@@ -74,9 +75,9 @@ module _ (W : Type 0) (P : Going) (E : Telling) where
   refused_goes fault s h r c = ends_go W P E s h r (Refuses fault) r.slots c
 
   pub grown_goes : (granted : Bool) (t : Turn) (s : Shared) (h : HandState) (r : Running)
-      → (granted ≡ false → Denies P E s h r OutOfMemory) → AfterBy W P E t → AfterBy W P E (grown granted t s h r)
+      → (granted ≡ false → Denies P E s h r out_of_memory) → AfterBy W P E t → AfterBy W P E (grown granted t s h r)
   grown_goes true t s h r c on = on
-  grown_goes false t s h r c on = refused_goes OutOfMemory s h r (c refl)
+  grown_goes false t s h r c on = refused_goes out_of_memory s h r (c refl)
 
 module _ (W : Type 0) (P : Going) (E : Telling) (block a : ℕ) (s : Shared) (h : HandState) (r : Running) where
   number_goes : (numbers : List ℕ)
@@ -104,7 +105,7 @@ module _ (W : Type 0) (P : Going) (E : Telling) (block a : ℕ) (s : Shared) (h 
       → AfterBy W P E (check_turn x granted (wanted_yet Check block a s r) block s h (with_made s h r))
   check_goes (Some e) granted is w = ends_go W P E s h (with_made s h r) e r.slots (w.0 e is)
   check_goes None granted is w =
-      grown_goes W P E granted _ s h (with_made s h r) (w.1 is) (go (wanted_yet Check block a s r) refl) where
+      grown_goes W P E (granted || not (check_grows block s h r)) _ s h (with_made s h r) (w.1 is) (go (wanted_yet Check block a s r) refl) where
         pages : (n : ℕ) → wanted_yet Check block a s r ≡ 0 → pages_yet Check block a s h r ≡ n
             → AfterBy W P E (wants_pages n s h (with_made s h r))
         pages zero none q = (w.2 is).ready none q
@@ -222,7 +223,7 @@ module _ (P : Going) (E : Telling) (block a : ℕ) (s : Shared) (h : HandState) 
   any_ways (Lock place) granted w is = w.goes refl
   any_ways Check granted w is = (
     λ e by. any_ends (w.stops e (check_stops e by)),
-    λ none lacks. any_ends (w.stops (Refuses OutOfMemory) refl),
+    λ none lacks. any_ends (w.stops (Refuses out_of_memory) refl),
     λ none. any_takes Check (w.takes refl) refl,
   ) where
     check_stops : (e : Ending) → ending_at block s h r ≡ Some e → StopsBy Check block s h r e
@@ -234,10 +235,10 @@ module _ (P : Going) (E : Telling) (block a : ℕ) (s : Shared) (h : HandState) 
       (any_takes (TakeBlocks asked) (w.takes refl) refl, λ n is last. any_ends (w.short refl))
   any_ways (TakePages asked) granted w is =
       (any_takes (TakePages asked) (w.takes refl) refl, λ n is last. any_ends (w.short refl))
-  any_ways Ready granted w is = (λ lacks. any_ends (w.stops (Refuses OutOfMemory) refl), w.goes refl tt)
+  any_ways Ready granted w is = (λ lacks. any_ends (w.stops (Refuses out_of_memory) refl), w.goes refl tt)
   any_ways Enter granted w is = (
     λ free last. any_ends (w.stops (Refuses CommitLimit) refl),
-    λ clear lacks. any_ends (w.stops (Refuses OutOfMemory) refl),
+    λ clear lacks. any_ends (w.stops (Refuses out_of_memory) refl),
     w.goes refl,
   )
   any_ways Leave granted w is = any_ends (w.over refl)
@@ -246,7 +247,7 @@ module _ (P : Going) (E : Telling) (block a : ℕ) (s : Shared) (h : HandState) 
   any_ways Back granted w is = last_ways Back granted refl (w.over refl)
   any_ways Visit granted w is = (
     λ fault free by. any_ends (w.stops (Refuses fault) refl),
-    λ free passed lacks. any_ends (w.stops (Refuses OutOfMemory) refl),
+    λ free passed lacks. any_ends (w.stops (Refuses out_of_memory) refl),
     λ free passed. w.told refl free,
   )
   any_ways (Snapshots step) granted w is = absurd (false≢true is)

@@ -192,9 +192,17 @@ abbrev pub is_overtaken : Ending → Bool
 is_overtaken Overtaken = true
 is_overtaken other = false
 
+abbrev pub is_drain : Ending → Bool
+is_drain (Drains draining) = true
+is_drain other = false
+
+-- no drain, or one that has released its number
+abbrev pub IsFull : Ending → Type 0
+IsFull e = (d : Draining) → e ≡ Drains d → d.left ≡ 0
+
 -- nothing is locked, and nothing in the hand: the call is told, or picks the next record
 pub record Lasts (P : Going) (E : Telling) (s : Shared) (h : HandState) (r : Running) (e : Ending) : Type 0 where
-  pub told : E (result_by e r) s h
+  pub told : IsFull e → E (result_by e r) s h
   pub picks : (d : Draining) (left : ℕ) → e ≡ Drains d → d.left ≡ suc left
       → P s h (record r { ending = Answers; slots = []; next = Snapshots (Pick (record { released = d.released; left = left })) })
 
@@ -217,10 +225,14 @@ pub record EndsBy (P : Going) (E : Telling) (slots : List ℕ) (s : Shared) (h :
 module _ (W : Type 0) (P : Going) (E : Telling) (s : Shared) (h : HandState) (r : Running) (e : Ending) where
   pub last_goes : (x : Ending) → e ≡ x → Lasts P E s h r e → AfterBy W P E (last_turn x s h (record r { ending = e }))
   last_goes (Drains d) is c = go d.left refl where
+    same_left : (other : Draining) → Drains d ≡ Drains other → other.left ≡ d.left
+    same_left other same = cc
+
     go : (left : ℕ) → d.left ≡ left → AfterBy W P E (drained_turn left d.released s h (record r { ending = e }))
-    go zero q = subst (λ (y : Ending). E (result_by y r) s h) is c.told
+    go zero q = subst (λ (y : Ending). E (result_by y r) s h) is (c.told (λ other same. same_left other (sym is ∙ same) ∙ q))
     go (suc left) q = c.picks d left is q
-  last_goes other is c = subst (λ (y : Ending). E (result_by y r) s h) is c.told
+  last_goes other is c =
+      subst (λ (y : Ending). E (result_by y r) s h) is (c.told (λ d same. absurd (false≢true (ap is_drain (sym is ∙ same)))))
 
   pub rest_goes : (home number : Option ℕ) → h.ino ≡ number → Rests P E home s h r e
       → AfterBy W P E (rest_turn home number s h (record r { ending = e }))
@@ -242,7 +254,7 @@ module _ (W : Type 0) (P : Going) (E : Telling) (s : Shared) (h : HandState) (r 
 -- with nothing of that known
 module _ {P : Going} {E : Telling} {s : Shared} {h : HandState} {r : Running} {e : Ending} where
   pub any_lasts : Closes P E s h r e → Lasts P E s h r e
-  any_lasts c = record { told = c.told; picks = c.picks }
+  any_lasts c = record { told = λ full. c.told; picks = c.picks }
 
   pub any_rests : {home : Option ℕ} → Closes P E s h r e → Rests P E home s h r e
   any_rests c = record { give = λ cpu is. c.last (Give cpu) refl; back = λ ino none is. c.last Back refl; lasts = λ none is. any_lasts c }

@@ -28,7 +28,7 @@ abbrev pub is_want : Fault → Bool
 is_want NoInode = true
 is_want NoSpace = true
 is_want CommitLimit = true
-is_want OutOfMemory = true
+is_want (OutOfMemory _) = true
 is_want other = false
 
 -- a call is refused for what these nodes refuse it for; or, where they do not, for want

@@ -1,7 +1,8 @@
 -- For what a step refuses its call.
 use Rattle.std.specs.Prelude.{◌≡◌, ℕ, ◌+◌, ◌<◌, ◌≤◌, ◌⊎◌, Bool, true, false, [], length, Option, None, Result, Ok, Err}
 use Rattle.nv_base.specs.declared.fault.Fault.{Fault}
-use Rattle.nv_base.specs.declared.fault.Fault.TheVariants.{CommitLimit, Contended, NoInode, NoSnapshot, NoSpace, OutOfMemory}
+use Rattle.nv_base.specs.declared.fault.Fault.TheVariants.{CommitLimit, Contended, NoInode, NoSnapshot, NoSpace}
+use Rattle.nv_base.specs.Memory.{out_of_memory}
 use Rattle.nv_base.specs.declared.limits.TheConstants.{NUMBER}
 use Rattle.nv_base.specs.declared.numbers.Handle.{Handle}
 use Rattle.nv_entry.specs.declared.node.NodeCopy.{NodeCopy}
@@ -13,7 +14,7 @@ use Rattle.nv_machine.specs.Kinds.{asked_list}
 use Rattle.nv_machine.specs.Sequence.{beginning}
 use Rattle.nv_epoch.specs.SnapList.{pins_of}
 use Rattle.nv_machine.specs.Snapshots.{drop_tests, is_first, make_tests}
-use Rattle.nv_machine.specs.Step.{is_numbered, same_looked, visit_grows}
+use Rattle.nv_machine.specs.Step.{check_grows, is_numbered, same_looked, visit_grows}
 use Rattle.nv_machine.specs.World.{Answers, Check, Drains, Drop, Ending, Ends, Enter, HandState, Look, Make, Moves, Next, Overtaken, Pick, Pin, Ready, Refuses, Running, Shared, Show, SnapshotStep, Snapshots, TakeBlocks, TakePages, Turn, Visit, Waits, list_at}
 
 -- ---- causes
@@ -24,7 +25,7 @@ IsRefusal block nodes r fault = refusal block nodes r.call ≡ Err fault
 
 -- memory that the step asks for is not granted
 abbrev pub IsDenied : Bool → Fault → Type 0
-IsDenied granted fault = (fault ≡ OutOfMemory) × (granted ≡ false)
+IsDenied granted fault = (fault ≡ out_of_memory) × (granted ≡ false)
 
 -- the plain world does not refuse it
 abbrev pub Passes : ℕ → (Handle → Option NodeCopy) → Running → Type 0
@@ -70,7 +71,8 @@ IsCauseOn other granted s fault = ⊥
 abbrev pub IsCause : Next → ℕ → ℕ → Bool → (Handle → Option NodeCopy) → Shared → HandState → Running → Fault → Type 0
 IsCause (Look place) block actor granted nodes s h r fault = look_refusal nodes r.call ≡ Err fault
 IsCause Check block actor granted nodes s h r fault =
-    IsRefusal block nodes r fault ⊎ (IsWithoutNumber h r fault × Passes block nodes r) ⊎ (IsDenied granted fault × Passes block nodes r)
+    IsRefusal block nodes r fault ⊎ (IsWithoutNumber h r fault × Passes block nodes r)
+    ⊎ (IsDenied granted fault × (check_grows block s h r ≡ true) × Passes block nodes r)
     ⊎ IsLastRound nodes r fault
 IsCause (TakeBlocks asked) block actor granted nodes s h r fault = IsShort s (asked_list (length s.lists) actor asked) asked r fault
 IsCause (TakePages asked) block actor granted nodes s h r fault = IsShort s (asked_list (length s.lists) actor asked) asked r fault

@@ -1,11 +1,12 @@
 -- The steps, one function a kind. What decides a step is an argument.
-use Rattle.std.specs.Prelude.{ℕ, zero, suc, ◌+◌, ◌-◌, ◌%◌, Bool, true, false, if◌then◌else◌, nat_lt, List, [], ◌∷◌, ◌++◌, drop, length, map, take, Option, Some, None, Result, Ok, Err}
+use Rattle.std.specs.Prelude.{ℕ, zero, suc, ◌+◌, ◌-◌, ◌%◌, ◌||◌, Bool, true, false, if◌then◌else◌, nat_lt, not, List, [], ◌∷◌, ◌++◌, drop, length, map, take, Option, Some, None, Result, Ok, Err}
 use Rattle.nv_calls.specs.declared.looked.Looked.{Looked}
 use Rattle.nv_alloc.specs.Block.{BlockValue}
 use Rattle.nv_alloc.specs.Giving.{after_giving, kept_of}
 use Rattle.nv_alloc.specs.Numbers.{put_by}
 use Rattle.nv_base.specs.declared.fault.Fault.{Fault}
-use Rattle.nv_base.specs.declared.fault.Fault.TheVariants.{CommitLimit, Contended, NoInode, NoSpace, OutOfMemory}
+use Rattle.nv_base.specs.declared.fault.Fault.TheVariants.{CommitLimit, Contended, NoInode, NoSpace}
+use Rattle.nv_base.specs.Memory.{out_of_memory}
 use Rattle.nv_base.specs.declared.numbers.Handle.{Handle}
 use Rattle.nv_book.specs.Book.{BookState, after_enter, with_journal}
 use Rattle.nv_calls.specs.AllCalls.{answer}
@@ -82,7 +83,7 @@ refuse fault s h r = end_turn r.slots (Refuses fault) s h r
 -- a step that grows anything goes on where the memory is granted
 abbrev pub grown : Bool → Turn → Shared → HandState → Running → Turn
 grown true turn s h r = turn
-grown false turn s h r = refuse OutOfMemory s h r
+grown false turn s h r = refuse out_of_memory s h r
 
 -- the step has done its work
 abbrev pub go_on : Next → Shared → HandState → Running → Turn
@@ -140,9 +141,15 @@ abbrev pub wants_blocks : ℕ → ℕ → Shared → HandState → Running → T
 wants_blocks zero block s h r = wants_pages (pages_wanted s r.slots (plan_by block s h r)) s h r
 wants_blocks (suc n) block s h r = Moves s h (record r { wanted = suc n; next = TakeBlocks 0 })
 
+-- what is to be taken needs room in the hand: where nothing is, nothing grows
+abbrev pub wants_room : ℕ → ℕ → Bool
+wants_room zero pages = nat_lt 0 pages
+wants_room (suc blocks) pages = true
+
 abbrev pub check_turn : Option Ending → Bool → ℕ → ℕ → Shared → HandState → Running → Turn
 check_turn (Some ending) granted wanted block s h r = end_turn r.slots ending s h r
-check_turn None granted wanted block s h r = grown granted (wants_blocks wanted block s h r) s h r
+check_turn None granted wanted block s h r =
+    grown (granted || not (wants_room wanted (pages_wanted s r.slots (plan_by block s h r)))) (wants_blocks wanted block s h r) s h r
 
 -- ---- take: from one list, its lowest blocks
 

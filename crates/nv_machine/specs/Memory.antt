@@ -1,12 +1,11 @@
 -- Memory that is refused: the one turn that it makes of a step, whatever the step grows.
-use Rattle.std.specs.Prelude.{◌||◌, ◌≢◌, if◌then◌else◌, Bool, true, false, [], Ok}
+use Rattle.std.specs.Prelude.{◌||◌, ◌≢◌, ℕ, if◌then◌else◌, Bool, true, false, [], Ok}
 use Rattle.nv_base.specs.declared.fault.Fault.{Fault}
-use Rattle.nv_base.specs.declared.fault.Fault.TheVariants.{OutOfMemory}
-use Rattle.nv_calls.specs.declared.call.Call.{Call}
+use Rattle.nv_base.specs.Memory.{out_of_memory}
 use Rattle.nv_machine.specs.Hands.{is_going}
 use Rattle.nv_machine.specs.Kinds.{refuse}
 use Rattle.nv_machine.specs.Snapshots.{is_first}
-use Rattle.nv_machine.specs.Step.{visit_grows, with_made}
+use Rattle.nv_machine.specs.Step.{check_grows, visit_grows, with_made}
 use Rattle.nv_machine.specs.World.{Check, Ends, Enter, HandState, Look, Moves, Next, Pick, Ready, Refuses, Running, Shared, Show, SnapshotStep, Snapshots, Turn, Unpin, Visit}
 
 -- of the steps of calls on snapshots those that show a node, and the first pick of a drain
@@ -15,14 +14,14 @@ grows_on (Show snapshot showing) = true
 grows_on (Pick draining) = is_first draining
 grows_on other = false
 
--- the steps that grow anything
-abbrev pub grows : Next → Call → Bool
-grows Check c = true
-grows Ready c = true
-grows Enter c = true
-grows Visit c = visit_grows c
-grows (Snapshots step) c = grows_on step
-grows other c = false
+-- the steps that grow anything: a check where it wants blocks, and of the others each of its kind
+abbrev pub grows : Next → ℕ → Shared → HandState → Running → Bool
+grows Check block s h r = check_grows block s h r
+grows Ready block s h r = true
+grows Enter block s h r = true
+grows Visit block s h r = visit_grows r.call
+grows (Snapshots step) block s h r = grows_on step
+grows other block s h r = false
 
 -- neither to the last steps nor to another round of looks, nor to another record
 abbrev pub is_onward : Next → Bool
@@ -57,8 +56,8 @@ noted other s h r = r
 -- the call turns to its last steps: a show to the one that takes its pin off
 abbrev pub denied_at : Next → Shared → HandState → Running → Turn
 denied_at (Snapshots (Show snapshot showing)) s h r =
-    Moves s h (record r { ending = Refuses OutOfMemory; next = Snapshots (Unpin snapshot []) })
-denied_at other s h r = refuse OutOfMemory s h r
+    Moves s h (record r { ending = Refuses out_of_memory; next = Snapshots (Unpin snapshot []) })
+denied_at other s h r = refuse out_of_memory s h r
 
 -- THE TURN WHERE MEMORY IS REFUSED, by the turn where it is granted: it refuses the call where that one does its work,
 -- with what is shared and the hand as they were; and where that one does not, it is the same
@@ -67,4 +66,4 @@ denied_turn k s h r granted = if does_its_work k granted then denied_at k s h (n
 
 -- no want of memory
 abbrev pub IsOther : Fault → Type 0
-IsOther fault = fault ≢ OutOfMemory
+IsOther fault = fault ≢ out_of_memory

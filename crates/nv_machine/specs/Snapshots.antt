@@ -2,7 +2,8 @@
 use Rattle.std.specs.Prelude.{ℕ, zero, suc, ◌+◌, ◌-◌, ◌==◌, ◌++◌, ◌||◌, Bool, true, false, if◌then◌else◌, nat_le, not, List, [], ◌∷◌, length, Option, Some, None, Result, Ok, Err}
 use Rattle.std.specs.Option.{option_to_list}
 use Rattle.nv_base.specs.declared.fault.Fault.{Fault}
-use Rattle.nv_base.specs.declared.fault.Fault.TheVariants.{EpochLimit, NoSnapshot, OutOfMemory, Pinned, TooManySnapshots}
+use Rattle.nv_base.specs.declared.fault.Fault.TheVariants.{EpochLimit, NoSnapshot, Pinned, TooManySnapshots}
+use Rattle.nv_base.specs.Memory.{out_of_memory}
 use Rattle.nv_base.specs.declared.limits.TheConstants.{INODES, NUMBER}
 use Rattle.nv_base.specs.declared.numbers.Handle.{Handle}
 use Rattle.nv_book.specs.Book.{after_drop_snapshot, after_make_snapshot, after_pick, after_pin_snapshot, after_unpin_snapshot}
@@ -95,7 +96,7 @@ show_turn (Some other) granted found snapshot showing s h r = Waits
 show_turn None true found snapshot showing s h r =
     Moves s h (go_to (Snapshots (showing_on snapshot (seen_on found showing))) r)
 show_turn None false found snapshot showing s h r =
-    Moves s h (record r { ending = Refuses OutOfMemory; next = Snapshots (Unpin snapshot []) })
+    Moves s h (record r { ending = Refuses out_of_memory; next = Snapshots (Unpin snapshot []) })
 
 abbrev pub shown_by : Ending → List TreeNode → Result Answer Fault
 shown_by (Refuses fault) seen = Err fault

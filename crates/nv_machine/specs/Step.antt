@@ -12,8 +12,8 @@ use Rattle.nv_calls.specs.declared.answer.Answer.{Answer}
 use Rattle.nv_calls.specs.declared.call.Call.{Call}
 use Rattle.nv_calls.specs.declared.call.Call.TheVariants as call
 use Rattle.nv_entry.specs.Tree.{root}
-use Rattle.nv_machine.specs.Kinds.{append_turn, asked_list, back_turn, check_ending, check_turn, close_turn, enter_turn, first_killed, give_turn, leave_turn, lock_turn, look_tests, look_turn, number_turn, open_turn, publish_turn, ready_turn, retire_turn, seen_at, take_blocks_turn, take_pages_turn, unlock_turn, visit_turn}
-use Rattle.nv_machine.specs.Reads.{copies, has_last_page, nodes, pages_needed, slot_at, written_slots}
+use Rattle.nv_machine.specs.Kinds.{append_turn, asked_list, back_turn, check_ending, check_turn, close_turn, enter_turn, first_killed, give_turn, leave_turn, lock_turn, look_tests, look_turn, number_turn, open_turn, publish_turn, ready_turn, retire_turn, seen_at, take_blocks_turn, take_pages_turn, unlock_turn, visit_turn, wants_room}
+use Rattle.nv_machine.specs.Reads.{copies, has_last_page, nodes, pages_needed, pages_wanted, plan_by, slot_at, written_slots}
 use Rattle.nv_machine.specs.Sequence.{Beginning, Looks, Locks, Numbers, OnSnapshots, Visits, beginning, begun, directories, nothing_looked}
 use Rattle.nv_machine.specs.Snapshots.{snapshot_turn}
 use Rattle.nv_machine.specs.World.{Append, Back, Check, Close, Done, Ending, Ends, Enter, Event, Give, Go, HandState, Leave, Lock, Look, Moved, Moves, Next, Number, Open, Publish, Ready, Refused, Reply, Retire, Running, Shared, Snapshots, Start, Started, TakeBlocks, TakePages, Turn, Unlock, Visit, Waiting, Waits, World, actor_at, cell_at, owner_at}
@@ -56,9 +56,16 @@ ending_at block s h r =
     check_ending (early (copies s) r.call) (same_looked (looked (copies s) r.call) r.looked) (refusal block (copies s) r.call)
     (is_numbered (beginning r.call) h.ino) (effect (copies s) (made_in s h.ino r.made) r.call)
 
--- of the visits a stat alone takes no memory
+-- a check takes memory where the call takes blocks: data blocks, or else log pages
+abbrev pub check_grows : ℕ → Shared → HandState → Running → Bool
+check_grows block s h r =
+    wants_room (blocks_wanted block (copies s) (has_last_page block s r.call) r.call)
+    (pages_wanted s r.slots (plan_by block s h (with_made s h r)))
+
+-- of the visits a stat and a look-up take no memory
 abbrev pub visit_grows : Call → Bool
 visit_grows (call.Stat handle) = false
+visit_grows (call.Lookup dir name) = false
 visit_grows other = true
 
 -- ---- THE STEP

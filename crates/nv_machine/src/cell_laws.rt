@@ -1,18 +1,24 @@
 //! Laws of the machine of steps on the numbers that a cell counts: its slot's generation, and its version.
 
-ghost use Rattle.std.specs.Prelude.{◌≡◌, ◌<◌, ◌≤◌, ℕ, List, Some, length, true};
+ghost use Rattle.std.specs.Prelude.{◌≡◌, ◌+◌, ◌<◌, ◌≤◌, ℕ, Bool, List, Some, length, true};
 ghost use Rattle.nv_alloc.specs.Numbers.{has};
+ghost use Rattle.nv_base.specs.Limits.{IsWithinLimits};
 ghost use Rattle.nv_base.specs.declared.geometry.GeometryNumbers.{GeometryNumbers};
 ghost use Rattle.nv_base.specs.declared.limits.TheConstants.{NUMBER};
 ghost use Rattle.nv_book.specs.declared.record.Record.{Record};
+ghost use Rattle.nv_machine.specs.Erasings.{erasings};
 ghost use Rattle.nv_machine.specs.FitsNow.{is_checked};
+ghost use Rattle.nv_machine.specs.Format.{formatted};
+ghost use Rattle.nv_machine.specs.Hands.{makes_inode};
 ghost use Rattle.nv_machine.specs.Locks.{commits_at};
+ghost use Rattle.nv_machine.specs.PlainRun.{Commits, deed_of};
 ghost use Rattle.nv_machine.specs.PoolScan.{has_inode};
 ghost use Rattle.nv_machine.specs.Reads.{slot_at, written_slots};
+ghost use Rattle.nv_machine.specs.Sequence.{beginning};
 ghost use Rattle.nv_machine.specs.Starts.{IsStart};
 ghost use Rattle.nv_machine.specs.Step.{after};
 ghost use Rattle.nv_machine.specs.Versions.{to_publish};
-ghost use Rattle.nv_machine.specs.World.{Event, Publish, Running, World, actor_at, cell_at};
+ghost use Rattle.nv_machine.specs.World.{Event, Go, Publish, Running, World, actor_at, cell_at};
 
 /// No slot that has an inode is of the last generation, and none whose number is in the pool or in a hand: the number
 /// of a slot of the last generation is withheld. So neither is any that a call has locked, from its check to its commit
@@ -40,6 +46,25 @@ pub fn generations_are_left()
         → place < length (written_slots r)
         → (cell_at (after start events).shared (slot_at (written_slots r) place)).generation
         < NUMBER }
+{}
+
+/// A slot's generation counts how often its inode was erased: each erasing raises it by one, and nothing else changes
+/// it. In a new world each slot is of generation 1. So the handle of the first inode in a slot is of generation 1, and
+/// that of each later one of the next.
+pub fn generations_count_erasings()
+    ensures counted { (g : GeometryNumbers) (start : World) (records : List Record)
+        (events : List Event) (ino : ℕ) → IsStart g start records
+        → (cell_at (after start events).shared ino).generation
+        ≡ (cell_at start.shared ino).generation + erasings ino start events }
+    ensures new { (g : GeometryNumbers) (events : List Event) (ino : ℕ) → IsWithinLimits g
+        → ino < g.inodes → (cell_at (after (formatted g) events).shared ino).generation
+        ≡ 1 + erasings ino (formatted g) events }
+    ensures made { (g : GeometryNumbers) (events : List Event) (actor : ℕ) (granted : Bool)
+        (r : Running) → IsWithinLimits g → actor < length (after (formatted g) events).actors
+        → (actor_at (after (formatted g) events) actor).running ≡ Some r
+        → deed_of (after (formatted g) events) (Go actor granted) ≡ Commits
+        → makes_inode (beginning r.call) ≡ true
+        → r.made.generation ≡ 1 + erasings r.made.ino (formatted g) events }
 {}
 
 /// No cell has seen more commits than were entered, of which there are no more than [`NUMBER`]. For a commit counts

@@ -2,7 +2,7 @@
 //! and each number stands. Each is the contract of a function that does nothing; [`crate::plain_laws`] has
 //! those of nodes and answers.
 
-ghost use Rattle.std.specs.Prelude.{◌≡◌, ◌≢◌, ◌+◌, ◌<◌, ◌≤◌, ℕ, Bool, List, Some, None, length, true, slice_get, slice_index_or, false};
+ghost use Rattle.std.specs.Prelude.{◌≡◌, ◌≢◌, ◌+◌, ◌<◌, ◌≤◌, ◌↔◌, ℕ, Bool, List, Some, None, length, true, slice_get, slice_index_or, false};
 ghost use Rattle.std.specs.Option.{option_map};
 ghost use Rattle.nv_alloc.specs.Block.{number_of};
 ghost use Rattle.nv_alloc.specs.Numbers.{IsRising};
@@ -80,18 +80,18 @@ pub fn data_is_taken_before_log_pages()
         → TakesInTurn r.next block actor s r (turn block actor granted s h r) }
 {}
 
-/// Memory that is refused makes one and the same turn of every step that grows anything (a check, a ready, an enter, a
-/// visit but a stat, a show's visit, a drain's first pick), also where that step of that call would have asked for
-/// none: where the step would have done its work, it refuses the call instead, and leaves all that is shared and the
+/// Memory that is refused makes one and the same turn of every step that grows anything (a check where the call takes
+/// blocks, a ready, an enter, a read and a list, a show's visit, a drain's first pick), also where that step of that
+/// call would have asked for none: where the step would have done its work, it refuses the call instead, and leaves all that is shared and the
 /// hand as they were. Where it would not, it waits or ends the call as it would have: so a refusal of the plain world,
 /// want of a number and the last commit number come first. All other steps go on as ever. And where memory is granted,
 /// no step refuses a call for want of it.
 pub fn refused_memory_makes_one_turn()
     ensures refused { (block actor : ℕ) (s : Shared) (h : HandState) (r : Running)
-        → grows r.next r.call ≡ true → turn block actor false s h r
+        → grows r.next block s h r ≡ true → turn block actor false s h r
         ≡ denied_turn r.next s h r (turn block actor true s h r) }
     ensures others { (block actor : ℕ) (s : Shared) (h : HandState) (r : Running)
-        → grows r.next r.call ≡ false → turn block actor false s h r ≡ turn block actor true s h r }
+        → grows r.next block s h r ≡ false → turn block actor false s h r ≡ turn block actor true s h r }
     ensures granted { (block actor : ℕ) (s : Shared) (h : HandState) (r : Running)
         → r.ending ≡ Answers
         → RefusesFor IsOther (Unit {0}) (turn block actor true s h r) }
@@ -118,6 +118,15 @@ pub fn who_waits()
     ensures alone { (w : World) (actor : ℕ) (granted : Bool) → AreLocks w
         → ((other : ℕ) → other ≢ actor → (actor_at w other).running ≡ None)
         → (step w (Go actor granted)).reply ≢ Waiting }
+{}
+
+/// A `Go` waits exactly where another actor holds the lock that its step needs: a look, a lock, a visit and a show that
+/// of their slot, an enter and the other steps on snapshots the commit lock, and every other step none. So a step that
+/// needs a lock which another holds is not made, and a step that needs none, or one that is free, is not held up.
+pub fn who_must_wait()
+    ensures { (w : World) (actor : ℕ) (granted : Bool) (r : Running) → AreLocks w
+        → actor < length w.actors → (actor_at w actor).running ≡ Some r
+        → ((step w (Go actor granted)).reply ≡ Waiting) ↔ WaitsFor w.shared actor r r.next }
 {}
 
 /// Calls end: a call is started with a bound on its steps that depends on the call and the number of CPUs alone, each

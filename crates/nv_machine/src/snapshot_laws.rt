@@ -5,7 +5,7 @@
 ghost use Rattle.std.specs.Prelude.{◌≡◌, ◌⊎◌, ◌&&◌, ◌++◌, ◌<◌, ◌≤◌, ℕ, Bool, true, List, [], ◌∷◌, Contains, IsSome, None, Ok, Some, length, not, slice_get};
 ghost use Rattle.std.specs.List.{AllByRecursion};
 ghost use Rattle.nv_base.specs.declared.fault.Fault.{Fault};
-ghost use Rattle.nv_base.specs.declared.fault.Fault.TheVariants.{OutOfMemory};
+ghost use Rattle.nv_base.specs.Memory.{out_of_memory};
 ghost use Rattle.nv_base.specs.declared.geometry.GeometryNumbers.{GeometryNumbers};
 ghost use Rattle.nv_book.specs.Listed.{IsRecordList, unheld};
 ghost use Rattle.nv_book.specs.declared.record.Record.{Record};
@@ -20,6 +20,7 @@ ghost use Rattle.nv_entry.specs.Tree.{FormTree};
 ghost use Rattle.nv_entry.specs.declared.held.Pair.{Pair};
 ghost use Rattle.nv_entry.specs.declared.tree.TreeNode.{TreeNode};
 ghost use Rattle.nv_epoch.specs.SnapList.{ids, pins_of};
+ghost use Rattle.nv_machine.specs.DrainNumbers.{FindsNothing, drain_number};
 ghost use Rattle.nv_machine.specs.Bound.{AreNoStarts};
 ghost use Rattle.nv_machine.specs.Needed.{AreNoDrops, IsAtRest, drained, free_but_needed};
 ghost use Rattle.nv_machine.specs.Numbers.{free_of};
@@ -169,7 +170,7 @@ pub fn drains_count_their_releases()
         events) actor).running
         → (step
         (after (step (after start before) (Start actor (call.Snapshots (on.Drain count)))).world
-        events) (Go actor granted)).reply ≡ Refused fault → (fault ≡ OutOfMemory)
+        events) (Go actor granted)).reply ≡ Refused fault → (fault ≡ out_of_memory)
         × (releases actor
         (step (after start before) (Start actor (call.Snapshots (on.Drain count)))).world
         (events ++ Go actor granted ∷ []) ≡ 0) }
@@ -177,6 +178,40 @@ pub fn drains_count_their_releases()
         (h after : HandState) (r : Running)
         → snapshot_turn (Pick draining) actor granted s h r ≡ Ends (Ok (answers.Count told)) t after
         → s.book.deferred ≡ [] }
+{}
+
+/// A drain releases its number and never more: one that is answered has released as many records as its call says,
+/// unless its last step was a pick that found nothing deferred. A number outside 1 to 1,048,576 counts as the nearest
+/// of these. And the answer is how many it has released.
+pub fn drains_release_their_number()
+    ensures never_more { (g : GeometryNumbers) (start : World) (records : List Record)
+        (before events : List Event) (actor count : ℕ) → IsStart g start records
+        → (step (after start before) (Start actor (call.Snapshots (on.Drain count)))).reply
+        ≡ Started → AreNoStarts actor events → releases actor
+        (step (after start before) (Start actor (call.Snapshots (on.Drain count)))).world
+        events ≤ drain_number count }
+    ensures answer { (g : GeometryNumbers) (start : World) (records : List Record)
+        (before events : List Event) (actor count : ℕ) (told : Answer) (granted : Bool)
+        → IsStart g start records
+        → (step (after start before) (Start actor (call.Snapshots (on.Drain count)))).reply
+        ≡ Started → AreNoStarts actor events
+        → (step
+        (after (step (after start before) (Start actor (call.Snapshots (on.Drain count)))).world
+        events) (Go actor granted)).reply ≡ Done told → told ≡ answers.Count (releases actor
+        (step (after start before) (Start actor (call.Snapshots (on.Drain count)))).world
+        (events ++ Go actor granted ∷ [])) }
+    ensures number { (g : GeometryNumbers) (start : World) (records : List Record)
+        (before events : List Event) (actor count : ℕ) (told : Answer) (granted : Bool)
+        → IsStart g start records
+        → (step (after start before) (Start actor (call.Snapshots (on.Drain count)))).reply
+        ≡ Started → AreNoStarts actor events
+        → (step
+        (after (step (after start before) (Start actor (call.Snapshots (on.Drain count)))).world
+        events) (Go actor granted)).reply ≡ Done told → (releases actor
+        (step (after start before) (Start actor (call.Snapshots (on.Drain count)))).world
+        (events ++ Go actor granted ∷ []) ≡ drain_number count) ⊎ FindsNothing actor
+        (after (step (after start before) (Start actor (call.Snapshots (on.Drain count)))).world
+        events) }
 {}
 
 /// Where no call runs and nothing is deferred, each free list is exactly the numbers of its CPU's home range that

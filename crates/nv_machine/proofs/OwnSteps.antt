@@ -1,0 +1,301 @@
+-- A call that is refused was refused by one of its steps, whatever events come.
+use Rattle.std.proofs.Common.{◌≡◌, ◌∙◌, ℕ, ◌<◌, ◌==◌, ◌++◌, Bool, true, false, cond, List, [], ◌∷◌, Option, Some, None, ap, get_or-set_same, length, nat_lt, refl, subst, sym}
+use Rattle.std.specs.Prelude.{Err, Ok, Result}
+use Rattle.std.specs.List.{AllByRecursion}
+use Rattle.std.proofs.lemmas.Bool.{false≢true, lt-ltb, ltb-true}
+use Rattle.nv_base.specs.declared.fault.Fault.{Fault}
+use Rattle.nv_base.specs.declared.geometry.GeometryNumbers.{GeometryNumbers}
+use Rattle.nv_book.specs.declared.record.Record.{Record}
+use Rattle.nv_calls.specs.Plain.{node_in}
+use Rattle.nv_calls.specs.declared.answer.Answer.{Answer}
+use Rattle.nv_calls.specs.declared.call.Call.{Call}
+use Rattle.nv_machine.specs.Causes.{EndsFor, IsCause, IsRoundless, MayBeOvertaken, RefusesFor}
+use Rattle.nv_machine.specs.OwnSteps.{HasCauseBy, IsCaused, IsLeft, LeavesButPins, MetItsCause, OwnStep, SameButPins, fault_in, fault_of, fault_told, none_if_started, own_steps, refused_by, refused_for, steps_in, with_step}
+use Rattle.nv_machine.specs.PlainRun.{actor_of}
+use Rattle.nv_machine.specs.Sequence.{Beginning, Numbers, beginning, begun}
+use Rattle.nv_machine.specs.Settled.{settled_nodes}
+use Rattle.nv_machine.specs.Starts.{IsStart}
+use Rattle.nv_machine.specs.Step.{Step, after, kind_turn, start_step, step, turned}
+use Rattle.nv_machine.specs.World.{Actor, Answers, Draining, Drains, Ending, Ends, Event, Go, Moves, Next, Overtaken, Refused, Refuses, Reply, Running, Shared, Start, Turn, Unlock, Waits, World, actor_at, idle}
+use Rattle.nv_machine.proofs.DecidedRefusals.{plainly_caused}
+use Rattle.nv_machine.proofs.Lists.{self}
+use Rattle.nv_machine.proofs.OverEvents.{OwnAfter, event_of, own_goes, runs_inside, turn_at}
+use Rattle.nv_machine.proofs.RefusalCauses.{contended}
+use Rattle.nv_machine.proofs.RefusedTurns.{ClosingGoes, ClosingTold, DrainGoes, DrainTells, DrainingGoes, Goes, OpenGoes, OvertakenGoes, OverGoes, OverTold, Tells, closing_kind, drain_kind, is_closing, is_open, is_unlock, open_kind, over_kind}
+use Rattle.nv_machine.proofs.SingleEvents.{go_is_turn}
+use Rattle.nv_machine.proofs.StepWays.{After, is_last}
+
+-- ---- what holds before each step, of what its call was refused for and of what its steps have left
+
+-- by how it is to end and what comes next: the faults so far, and that all steps so far left what they should
+abbrev StandsBy : List Fault → Type 0 → Ending → Next → Type 0
+StandsBy faults left Answers k = (faults ≡ []) × (is_open k ≡ true → left)
+StandsBy faults left (Refuses fault) k = (faults ≡ fault ∷ []) × left × (is_closing k ≡ true)
+StandsBy faults left Overtaken k = (faults ≡ []) × left × (is_unlock k ≡ true)
+StandsBy faults left (Drains draining) k = (faults ≡ []) × (0 < draining.released) × (is_last k ≡ true)
+
+pub record IsMet (r : Running) (steps : List OwnStep) : Type 0 where
+  pub stands : StandsBy (refused_for steps) (AllByRecursion IsLeft steps) r.ending r.next
+  pub caused : AllByRecursion IsCaused steps
+
+-- after a turn: with what it refuses the call for, and what it leaves
+abbrev AfterStep : Ending → Next → List Fault → Type 0 → Turn → Type 0
+AfterStep e k faults left (Moves s h q) = StandsBy faults left q.ending q.next
+AfterStep e k faults left Waits = StandsBy faults left e k
+AfterStep e k faults left (Ends (Ok found) s h) = Unit {0}
+AfterStep e k faults left (Ends (Err fault) s h) = (faults ≡ fault ∷ []) × left
+
+module _ (k : Next) (s : Shared) (faults : List Fault) (left : Type 0) where
+  -- of a call that is to be answered
+  from_answers : (t : Turn) → After (Goes k s) (Tells k s) t → faults ≡ [] → (is_open k ≡ true → left)
+      → AfterStep Answers k (fault_in t ++ faults) (LeavesButPins s t × left) t
+  from_answers (Moves t h q) on none may = go q.ending on where
+    go : (e : Ending) → OpenGoes k s t e q.next → StandsBy (fault_of e ++ faults) (SameButPins s t × left) e q.next
+    go Answers on = (none, λ o. let both = on o in (both.1, may both.0))
+    go (Refuses fault) on = (ap (λ (l : List Fault). fault ∷ l) none, (on.1.1, may on.1.0), on.0)
+    go Overtaken on = (none, (on.1.1, may on.1.0), on.0)
+    go (Drains d) on = (none, on.1, on.0)
+  from_answers Waits on none may = (none, λ o. (tt, may o))
+  from_answers (Ends (Ok found) t h) on none may = tt
+  from_answers (Ends (Err fault) t h) on none may = (ap (λ (l : List Fault). fault ∷ l) none, (on.1, may on.0))
+
+  from_refused : (fault : Fault) (t : Turn) → After (ClosingGoes fault s) (ClosingTold fault s) t → faults ≡ fault ∷ [] → left
+      → is_closing k ≡ true → AfterStep (Refuses fault) k faults (LeavesButPins s t × left) t
+  from_refused fault (Moves t h q) on one had closing =
+      subst (λ (e : Ending). StandsBy faults (SameButPins s t × left) e q.next) (sym on.0) (one, (on.2, had), on.1)
+  from_refused fault Waits on one had closing = (one, (tt, had), closing)
+  from_refused fault (Ends (Ok found) t h) on one had closing = tt
+  from_refused fault (Ends (Err other) t h) on one had closing =
+      (one ∙ ap (λ (x : Result Answer Fault). fault_told x) (sym on.0), (on.1, had))
+
+  from_overtaken : (t : Turn) → After (OverGoes s) (OverTold s) t → faults ≡ [] → left
+      → is_unlock k ≡ true → AfterStep Overtaken k (fault_in t ++ faults) (LeavesButPins s t × left) t
+  from_overtaken (Moves t h q) on none had unlock = go q.ending on where
+    go : (e : Ending) → OvertakenGoes s t e q.next → StandsBy (fault_of e ++ faults) (SameButPins s t × left) e q.next
+    go Answers on = (none, λ o. (on, had))
+    go Overtaken on = (none, (on.1, had), on.0)
+    go other on = absurd on
+  from_overtaken Waits on none had unlock = (none, (tt, had), unlock)
+  from_overtaken (Ends (Ok found) t h) on none had unlock = tt
+  from_overtaken (Ends (Err fault) t h) on none had unlock = (ap (λ (l : List Fault). fault ∷ l) none, (on, had))
+
+  from_drain : (d : Draining) (t : Turn) → After DrainGoes DrainTells t → faults ≡ [] → 0 < d.released → is_last k ≡ true
+      → AfterStep (Drains d) k (fault_in t ++ faults) (LeavesButPins s t × left) t
+  from_drain d (Moves t h q) on none some last = go q.ending on where
+    go : (e : Ending) → DrainingGoes e q.next → StandsBy (fault_of e ++ faults) (SameButPins s t × left) e q.next
+    go Answers on = (none, λ o. absurd (false≢true (sym on ∙ o)))
+    go (Drains d) on = (none, on.0, on.1)
+    go other on = absurd on
+  from_drain d Waits on none some last = (none, some, last)
+  from_drain d (Ends (Ok found) t h) on none some last = tt
+  from_drain d (Ends (Err fault) t h) on none some last = absurd on
+
+-- a drain's last steps refuse nothing
+drain_refuses : (t : Turn) → After DrainGoes DrainTells t → fault_in t ≡ []
+drain_refuses (Moves t h q) on = go q.ending on where
+  go : (e : Ending) → DrainingGoes e q.next → fault_of e ≡ []
+  go Answers on = refl
+  go (Drains d) on = refl
+  go other on = absurd on
+drain_refuses Waits on = refl
+drain_refuses (Ends (Ok found) t h) on = refl
+drain_refuses (Ends (Err fault) t h) on = absurd on
+
+-- ---- causes
+
+module _ (P : Fault → Type 0) (Q : Type 0) where
+  -- each fault of a turn meets what it refuses for
+  all_met : (t : Turn) → RefusesFor P Q t → AllByRecursion P (fault_in t)
+  all_met (Moves s h q) on = go q.ending on where
+    go : (e : Ending) → EndsFor P Q q.next e → AllByRecursion P (fault_of e)
+    go (Refuses fault) on = (on.0, tt)
+    go other on = tt
+  all_met Waits on = tt
+  all_met (Ends (Ok found) s h) on = tt
+  all_met (Ends (Err fault) s h) on = (on, tt)
+
+-- what is known of each world: a call that is to be answered is refused for what has its cause over the settled nodes
+abbrev HasCauses : World → Type 0
+HasCauses w =
+    (actor : ℕ) (granted : Bool) (r : Running) → (actor_at w actor).running ≡ Some r → r.ending ≡ Answers
+    → RefusesFor
+    (IsCause r.next w.numbers.block actor granted (node_in (settled_nodes w.shared)) w.shared (actor_at w actor).hand r)
+    (MayBeOvertaken r.next (node_in (settled_nodes w.shared)) r) (turn_at w actor granted r)
+
+-- ---- one step
+
+module _ (w : World) (known : HasCauses w) (actor : ℕ) (granted : Bool) (r : Running) (runs : (actor_at w actor).running ≡ Some r)
+    (before : List OwnStep) (met : IsMet r before) where
+  abbrev its : OwnStep
+  its = record { world = w; actor = actor; running = r; granted = granted }
+
+  abbrev its_turn : Turn
+  its_turn = turn_at w actor granted r
+
+  abbrev left_before : Type 0
+  left_before = AllByRecursion IsLeft before
+
+  -- its cause was there
+  caused_by : (e : Ending) → r.ending ≡ e → StandsBy (refused_for before) left_before e r.next
+      → AllByRecursion (HasCauseBy e its) (refused_by e its_turn)
+  caused_by Answers is stands = all_met _ _ its_turn (known actor granted r runs is)
+  caused_by (Refuses fault) is stands = tt
+  caused_by Overtaken is stands = go r.next refl stands.2 where
+    go : (k : Next) → r.next ≡ k → is_unlock k ≡ true → AllByRecursion (IsRoundless r) (fault_in its_turn)
+    go (Unlock place) next on =
+        all_met (IsRoundless r) (Unit {0}) its_turn
+        (subst (λ (k : Next). RefusesFor (IsRoundless r) (Unit {0})
+        (kind_turn k w.numbers.block actor granted w.shared (actor_at w actor).hand r)) (sym next)
+        (contended place w.numbers.block actor granted w.shared (actor_at w actor).hand r is))
+    go other next on = absurd (false≢true on)
+  caused_by (Drains d) is stands =
+      subst (AllByRecursion (HasCauseBy (Drains d) its))
+      (sym (drain_refuses its_turn
+      (drain_kind d w.numbers.block actor granted w.shared (actor_at w actor).hand r is stands.1 r.next stands.2))) tt
+
+  stands_after : (e : Ending) → r.ending ≡ e → StandsBy (refused_for before) left_before e r.next
+      → AfterStep e r.next (refused_by e its_turn ++ refused_for before) (LeavesButPins w.shared its_turn × left_before) its_turn
+  stands_after Answers is stands =
+      from_answers r.next w.shared (refused_for before) left_before its_turn
+      (open_kind w.numbers.block actor granted w.shared (actor_at w actor).hand r is r.next) stands.0 stands.1
+  stands_after (Refuses fault) is stands =
+      from_refused r.next w.shared (refused_for before) left_before fault its_turn
+      (closing_kind fault w.numbers.block actor granted w.shared (actor_at w actor).hand r is r.next stands.2)
+      stands.0 stands.1 stands.2
+  stands_after Overtaken is stands =
+      from_overtaken r.next w.shared (refused_for before) left_before its_turn
+      (over_kind w.numbers.block actor granted w.shared (actor_at w actor).hand r is r.next stands.2) stands.0 stands.1 stands.2
+  stands_after (Drains d) is stands =
+      from_drain r.next w.shared (refused_for before) left_before d its_turn
+      (drain_kind d w.numbers.block actor granted w.shared (actor_at w actor).hand r is stands.1 r.next stands.2)
+      stands.0 stands.1 stands.2
+
+  pub all_caused : AllByRecursion IsCaused (its ∷ before)
+  all_caused = (caused_by r.ending refl met.stands, met.caused)
+
+  pub all_stands : AfterStep r.ending r.next (refused_for (its ∷ before)) (AllByRecursion IsLeft (its ∷ before)) its_turn
+  all_stands = stands_after r.ending refl met.stands
+
+-- ---- one event
+
+abbrev HasMet : Option Running → List OwnStep → Type 0
+HasMet None steps = Unit {0}
+HasMet (Some r) steps = IsMet r steps
+
+begun_met : (b : Beginning) (s : Shared) (c : Call) → IsMet (begun b s c) []
+begun_met Numbers s c = record { stands = (refl, λ o. tt); caused = tt }
+begun_met other s c = record { stands = (refl, λ o. tt); caused = tt }
+
+module _ (w : World) (known : HasCauses w) (actor : ℕ) where
+  abbrev Then : List OwnStep → Actor → Type 0
+  Then steps x = HasMet x.running steps
+
+  after_met : (r : Running) (steps : List OwnStep) (t : Turn) → (actor_at w actor).running ≡ Some r
+      → AfterStep r.ending r.next (refused_for steps) (AllByRecursion IsLeft steps) t → AllByRecursion IsCaused steps
+      → OwnAfter (actor_at w actor) (Then steps) t
+  after_met r steps (Moves s h q) is on caused = record { stands = on; caused = caused }
+  after_met r steps Waits is on caused =
+      subst (λ (o : Option Running). HasMet o steps) (sym is) (record { stands = on; caused = caused })
+  after_met r steps (Ends x s h) is on caused = tt
+
+  own_met : (granted : Bool) (before : List OwnStep) → HasMet (actor_at w actor).running before
+      → HasMet (actor_at (step w (Go actor granted)).world actor).running (with_step (actor_at w actor).running w actor granted before)
+  own_met granted before had =
+      own_goes (Then (with_step (actor_at w actor).running w actor granted before)) w actor granted (λ none. rw none tt)
+      (λ r there is. subst (λ (o : Option Running). OwnAfter (actor_at w actor) (Then (with_step o w actor granted before))
+      (turn_at w actor granted r)) (sym is) (go r is (subst (λ (o : Option Running). HasMet o before) is had)))
+    where
+      go : (r : Running) → (actor_at w actor).running ≡ Some r → IsMet r before
+          → OwnAfter (actor_at w actor) (Then (with_step (Some r) w actor granted before)) (turn_at w actor granted r)
+      go r is met =
+          after_met r (with_step (Some r) w actor granted before) (turn_at w actor granted r) is
+          (all_stands w known actor granted r is before met) (all_caused w known actor granted r is before met)
+
+  started_met : (b : Bool) (running : Option Running) (c : Call) (before : List OwnStep) → nat_lt actor (length w.actors) ≡ b
+      → (actor_at w actor).running ≡ running → HasMet running before
+      → HasMet (actor_at (start_step b running actor c w).world actor).running
+      (none_if_started (start_step b running actor c w).reply before)
+  started_met false running c before there is had = rw is had
+  started_met true (Some r) c before there is had = rw is had
+  started_met true None c before there is had =
+      subst (Then [])
+      (sym (get_or-set_same w.actors actor (record { hand = (actor_at w actor).hand; running = Some (begun (beginning c) w.shared c) })
+      idle (ltb-true actor (length w.actors) there))) (begun_met (beginning c) w.shared c)
+
+  apart_met : (before : List OwnStep) → HasMet (actor_at w actor).running before → (e : Event) → (actor_of e == actor) ≡ false
+      → HasMet (actor_at w actor).running (steps_in actor w e before)
+  apart_met before had (Start other c) apart = rw apart had
+  apart_met before had (Go other granted) apart = rw apart had
+
+  event_met : (e : Event) (before : List OwnStep) → HasMet (actor_at w actor).running before
+      → HasMet (actor_at (step w e).world actor).running (steps_in actor w e before)
+  event_met e before had = event_of w actor (λ (e : Event) (x : Actor). HasMet x.running (steps_in actor w e before))
+      (apart_met before had)
+      (λ granted. rw (self actor) (own_met granted before had))
+      (λ c. rw (self actor) (started_met (nat_lt actor (length w.actors)) (actor_at w actor).running c before refl refl had)) e
+
+-- ---- all events
+
+events_met : (events : List Event) (w : World) (actor : ℕ) (before : List OwnStep) → ((some : List Event) → HasCauses (after w some))
+    → HasMet (actor_at w actor).running before → HasMet (actor_at (after w events) actor).running (own_steps actor w events before)
+events_met [] w actor before known had = had
+events_met (e ∷ events) w actor before known had =
+    events_met events (step w e).world actor (steps_in actor w e before) (λ some. known (e ∷ some)) (event_met w (known []) actor e before had)
+
+-- one more event
+steps_more : (events : List Event) (w : World) (actor : ℕ) (e : Event) (before : List OwnStep)
+    → own_steps actor w (events ++ e ∷ []) before ≡ steps_in actor (after w events) e (own_steps actor w events before)
+steps_more [] w actor e before = refl
+steps_more (f ∷ events) w actor e before = steps_more events (step w f).world actor e (steps_in actor w f before)
+
+-- the fault that a reply tells
+abbrev fault_replied : Fault → Reply → Fault
+fault_replied other (Refused fault) = fault
+fault_replied other reply = other
+
+abbrev is_refusal : Reply → Bool
+is_refusal (Refused fault) = true
+is_refusal other = false
+
+module _ (g : GeometryNumbers) (start : World) (records : List Record) (events : List Event) (actor : ℕ)
+    (is_start : IsStart g start records) where
+  abbrev w : World
+  w = after start events
+
+  abbrev before : List OwnStep
+  before = own_steps actor start events []
+
+  has_causes : (some : List Event) → HasCauses (after start some)
+  has_causes some = λ other granted r is going. plainly_caused g start records some other granted r is_start is going
+
+  all_met_before : HasMet (actor_at w actor).running before
+  all_met_before = events_met events start actor [] has_causes
+      (subst (λ (x : Actor). HasMet x.running []) (sym (is_start.idle_all actor)) tt)
+
+  refused_turn : (t : Turn) (e : Ending) (k : Next) (steps : List OwnStep) (fault : Fault)
+      → AfterStep e k (refused_for steps) (AllByRecursion IsLeft steps) t → AllByRecursion IsCaused steps
+      → (turned t actor w).reply ≡ Refused fault → MetItsCause fault steps
+  refused_turn (Moves s h q) e k steps fault on caused told = absurd (false≢true (ap is_refusal told))
+  refused_turn Waits e k steps fault on caused told = absurd (false≢true (ap is_refusal told))
+  refused_turn (Ends (Ok found) s h) e k steps fault on caused told = absurd (false≢true (ap is_refusal told))
+  refused_turn (Ends (Err other) s h) e k steps fault on caused told = record {
+    once = on.0 ∙ ap (λ (x : Reply). fault_replied other x ∷ []) told;
+    caused = caused;
+    left = on.1;
+  }
+
+  pub met_cause : (granted : Bool) (r : Running) (fault : Fault) → (actor_at w actor).running ≡ Some r
+      → (step w (Go actor granted)).reply ≡ Refused fault
+      → MetItsCause fault (own_steps actor start (events ++ Go actor granted ∷ []) [])
+  met_cause granted r fault is told =
+      let met : IsMet r before = subst (λ (o : Option Running). HasMet o before) is all_met_before in
+      let turn_is = go_is_turn (nat_lt actor (length w.actors)) (actor_at w actor).running w actor granted r
+      (lt-ltb actor (length w.actors) (runs_inside w actor r is)) is in
+      subst (MetItsCause fault)
+      (sym (steps_more events start actor (Go actor granted) []
+      ∙ ap (λ (b : Bool). cond b (with_step (actor_at w actor).running w actor granted before) before) (self actor)
+      ∙ ap (λ (o : Option Running). with_step o w actor granted before) is))
+      (refused_turn (turn_at w actor granted r) r.ending r.next (with_step (Some r) w actor granted before) fault
+      (all_stands w (has_causes events) actor granted r is before met)
+      (all_caused w (has_causes events) actor granted r is before met)
+      (sym (ap (λ (x : Step). x.reply) turn_is) ∙ told))

@@ -1,0 +1,15 @@
+-- How often the inode of a slot was erased.
+use Rattle.std.specs.Prelude.{ℕ, ◌+◌, ◌&&◌, not, if◌then◌else◌, List, [], ◌∷◌}
+use Rattle.nv_cell.specs.Cell.{CellState}
+use Rattle.nv_machine.specs.PoolScan.{has_inode}
+use Rattle.nv_machine.specs.Step.{step}
+use Rattle.nv_machine.specs.World.{Event, World, cell_at}
+
+-- one where a slot had an inode, and has none any more
+abbrev pub erased_once : CellState → CellState → ℕ
+erased_once old new = if has_inode old && not (has_inode new) then 1 else 0
+
+-- HOW OFTEN events have erased the inode of a slot
+abbrev pub erasings : ℕ → World → List Event → ℕ
+erasings ino w [] = 0
+erasings ino w (e ∷ events) = erased_once (cell_at w.shared ino) (cell_at (step w e).world.shared ino) + erasings ino (step w e).world events

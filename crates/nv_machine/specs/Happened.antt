@@ -1,0 +1,52 @@
+-- What events add to the book's history, and what an open journal notes.
+use Rattle.std.specs.Prelude.{◌≡◌, ◌≢◌, ℕ, ◌+◌, ◌++◌, Bool, true, false, is_some, nat_lt, List, [], ◌∷◌, length, slice_index_or}
+use Rattle.nv_alloc.specs.Numbers.{has}
+use Rattle.nv_book.specs.History.{Account, noted}
+use Rattle.nv_book.specs.declared.event.Event.{Event as BookEvent}
+use Rattle.nv_book.specs.declared.event.Event.TheVariants.{Committed, Dropped, Made}
+use Rattle.nv_book.specs.declared.history.TheConstants.{LATEST}
+use Rattle.nv_journal.specs.Journal.{tail_noted}
+use Rattle.nv_journal.specs.declared.old_tail.OldTail.{OldTail}
+use Rattle.nv_machine.specs.PlainRun.{Commits, Deed, Nothing, Numbers, OnSnapshots, actor_of, deed_of}
+use Rattle.nv_machine.specs.Step.{step}
+use Rattle.nv_machine.specs.World.{Close, Drop, Event, Make, Next, Publish, Shared, SnapshotStep, World}
+
+-- ---- the history
+
+abbrev pub added_on : SnapshotStep → Shared → List BookEvent
+added_on Make s = Made s.book.snaps.epoch ∷ []
+added_on (Drop snapshot) s = Dropped snapshot ∷ []
+added_on other s = []
+
+-- what an actor's deed adds: the commit that it enters is its own, of the next number and of this epoch
+abbrev pub added : Deed → ℕ → Shared → List BookEvent
+added Nothing actor s = []
+added Numbers actor s = Committed actor (s.book.commit + 1) s.book.snaps.epoch ∷ []
+added Commits actor s = []
+added (OnSnapshots step) actor s = added_on step s
+
+-- WHAT HAPPENED, the earliest first
+abbrev pub happened : World → List Event → List BookEvent
+happened w [] = []
+happened w (e ∷ events) = added (deed_of w e) (actor_of e) w.shared ++ happened (step w e).world events
+
+-- several events more, of which the latest are told
+abbrev pub all_noted : Account → List BookEvent → Account
+all_noted a [] = a
+all_noted a (e ∷ es) = all_noted (noted LATEST a e) es
+
+-- ---- journals
+
+abbrev pub journal_at : Shared → ℕ → List OldTail
+journal_at s cpu = slice_index_or s.book.journals cpu []
+
+-- a call has opened its journal, and not yet closed it: that of a commit of two inodes or more
+abbrev pub is_journaled : Next → List ℕ → Bool
+is_journaled (Publish place) written = nat_lt 1 (length written)
+is_journaled Close written = true
+is_journaled other written = false
+
+-- THE OPEN JOURNAL is that of this CPU: it has noted exactly these slots, and no other has noted anything
+pub record IsOpenAt (s : Shared) (cpu : ℕ) (written : List ℕ) : Type 0 where
+  pub own : (ino : ℕ) → is_some (tail_noted (journal_at s cpu) ino) ≡ has written ino
+  pub others : (other : ℕ) → other ≢ cpu → journal_at s other ≡ []

@@ -1,0 +1,56 @@
+-- What one scan of all logs, of the snapshot list, of records and of hands counts.
+use Rattle.std.specs.Prelude.{ℕ, ◌&&◌, Bool, not, count_by, length}
+use Rattle.std.specs.List.{range_with_len, sum_by}
+use Rattle.nv_book.specs.Records.{block_count, is_page}
+use Rattle.nv_cell.specs.Cell.{CellState, log_of}
+use Rattle.nv_entry.specs.Held.{holds, is_current, is_held, is_needed}
+use Rattle.nv_entry.specs.Log.{pairs}
+use Rattle.nv_entry.specs.declared.held.Pair.{Pair}
+use Rattle.nv_epoch.specs.Holders.{without}
+use Rattle.nv_epoch.specs.SnapList.{ids}
+use Rattle.nv_machine.specs.Held.{free_by_logs, pending_in}
+use Rattle.nv_machine.specs.Recorded.{is_killed_pair}
+use Rattle.nv_machine.specs.World.{Shared, World, cell_at}
+
+-- how many pages of a log have a pair that passes a test, and how many of all logs; the test is told the slot
+abbrev pub pages_that : (Pair → Bool) → CellState → ℕ
+pages_that passes cell = count_by (λ (pair : Pair). is_page pair.part && passes pair) (pairs cell.block (log_of cell))
+
+abbrev pub all_pages_that : (ℕ → Pair → Bool) → Shared → ℕ
+all_pages_that passes s = sum_by (λ ino. pages_that (passes ino) (cell_at s ino)) (range_with_len 0 (length s.cells))
+
+-- ---- space
+
+-- THE FREE BLOCKS: of all home ranges, those that the logs leave
+abbrev pub scanned_free : World → ℕ
+scanned_free w = sum_by (λ cpu. length (free_by_logs w.numbers w cpu)) (range_with_len 0 w.numbers.cpus)
+
+-- THE LOG PAGES of all chains
+abbrev pub scanned_chain : Shared → ℕ
+scanned_chain s = sum_by (λ (cell : CellState). length cell.chain.blocks) s.cells
+
+-- THE DATA: the pages that are current or that a living snapshot holds
+abbrev pub scanned_data : Shared → ℕ
+scanned_data s = all_pages_that (λ ino. is_needed (ids s.book.snaps)) s
+
+-- THE PENDING: the pages of records that are deferred, or picked by a drain and not yet released
+abbrev pub scanned_pending : World → ℕ
+scanned_pending w = block_count (pending_in w)
+
+-- ---- snapshots
+
+-- a snapshot holds a pair that is no longer current, and not one of those that are killed and not yet retired
+abbrev pub is_kept_for : ℕ → World → ℕ → Pair → Bool
+is_kept_for snapshot w ino pair = holds snapshot pair && (not (is_current pair) && not (is_killed_pair w ino pair))
+
+-- and no other living snapshot holds it
+abbrev pub is_kept_alone : ℕ → World → ℕ → Pair → Bool
+is_kept_alone snapshot w ino pair =
+    is_kept_for snapshot w ino pair && not (is_held (without snapshot (ids w.shared.book.snaps)) pair)
+
+-- THE PAGES THAT A SNAPSHOT HOLDS, and those that a drop of it would defer
+abbrev pub scanned_held : World → ℕ → ℕ
+scanned_held w snapshot = all_pages_that (is_kept_for snapshot w) w.shared
+
+abbrev pub scanned_gain : World → ℕ → ℕ
+scanned_gain w snapshot = all_pages_that (is_kept_alone snapshot w) w.shared

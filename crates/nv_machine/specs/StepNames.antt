@@ -1,0 +1,30 @@
+-- The steps of a call by name, each with the slot, the CPU or the directory that it is of.
+use Rattle.std.specs.Prelude.{ℕ}
+
+pub data StepName : Type 0 where
+  Number : StepName
+  Look : (dir : ℕ) → StepName
+  Lock : (slot : ℕ) → StepName
+  Check : StepName
+  TakeBlocks : (cpu : ℕ) → StepName
+  TakePages : (cpu : ℕ) → StepName
+  Ready : StepName
+  Enter : StepName
+  Append : (slot : ℕ) → StepName
+  Open : (cpu : ℕ) → StepName
+  Publish : (slot : ℕ) → StepName
+  Close : (cpu : ℕ) → StepName
+  Retire : (slot : ℕ) → StepName
+  Leave : StepName
+  Unlock : (slot : ℕ) → StepName
+  Give : (cpu : ℕ) → StepName
+  Back : StepName
+  Visit : (slot : ℕ) → StepName
+  Make : StepName
+  Drop : StepName
+  Pin : StepName
+  Show : (slot : ℕ) → StepName
+  Unpin : StepName
+  Pick : StepName
+  LockPicked : (slot : ℕ) → StepName
+  Release : (slot : ℕ) → StepName
