@@ -10,7 +10,7 @@ use Rattle.nv_machine.specs.Numbers.{IsEachOnce, all_blocks}
 use Rattle.nv_machine.specs.World as machine
 use Rattle.nv_machine.proofs.WorldSizes.{IsOfNumbers, of_numbers}
 use Rattle.nv_core.proofs.Pending.{pending_counts}
-use Rattle.nv_core.proofs.PendingKept.{pending_few}
+use Rattle.nv_core.proofs.ScannedParts.{pending_few}
 use Rattle.nv_core.proofs.SpaceLaw.{adds_up}
 use Rattle.nv_core.specs.Reports.{AddsUp, kept_of, space_in, space_of}
 use Rattle.nv_core.specs.Picked.{picked_of}

@@ -22,6 +22,41 @@ pub count_none : {X : Type 0} (f : X → Bool) (xs : List X) → AllByRecursion 
 count_none f [] h = refl
 count_none f (x ∷ xs) h = omega (arith, count_cons f x xs, ap one h.0, count_none f xs h.1)
 
+-- of two tests that say the same at each place
+pub count_at : {X : Type 0} (f h : X → Bool) (xs : List X) → ((n : ℕ) (x : X) → slice_get xs n ≡ Some x → f x ≡ h x)
+    → count f xs ≡ count h xs
+count_at f h [] same = refl
+count_at f h (x ∷ xs) same =
+    omega (arith, count_cons f x xs, count_cons h x xs, ap one (same 0 x refl), count_at f h xs (λ n y. same (suc n) y))
+
+one_or : (b c : Bool) → (b ≡ true → c ≡ true → ⊥) → one (b || c) ≡ one b + one c
+one_or true true apart = absurd (apart refl refl)
+one_or true false apart = omega arith
+one_or false c apart = omega arith
+
+-- of those that pass one of two tests, where none passes both
+pub count_or : {X : Type 0} (f h : X → Bool) (xs : List X)
+    → ((n : ℕ) (x : X) → slice_get xs n ≡ Some x → f x ≡ true → h x ≡ true → ⊥) → count (λ x. f x || h x) xs ≡ count f xs + count h xs
+count_or f h [] apart = refl
+count_or f h (x ∷ xs) apart =
+    omega (
+      arith,
+      count_cons (λ x. f x || h x) x xs,
+      count_cons f x xs,
+      count_cons h x xs,
+      one_or (f x) (h x) (apart 0 x refl),
+      count_or f h xs (λ n y. apart (suc n) y),
+    )
+
+-- one passes at least where any does
+pub count_some : {X : Type 0} (f h : X → Bool) (xs : List X) → ((x : X) → f x ≡ true → h x ≡ true) → list_any f xs ≡ true
+    → 1 ≤ count h xs
+count_some f h [] gives e = absurd (false≢true e)
+count_some f h (x ∷ xs) gives e = go (f x) refl e (count_some f h xs gives) where
+  go : (b : Bool) → f x ≡ b → (b || list_any f xs) ≡ true → (list_any f xs ≡ true → 1 ≤ count h xs) → 1 ≤ count h (x ∷ xs)
+  go true q e more = omega (arith, count_cons h x xs, ap one (gives x q))
+  go false q e more = omega (arith, count_cons h x xs, more e)
+
 one_below : (b c : Bool) → (b ≡ true → c ≡ true) → one b ≤ one c
 one_below true true h = omega arith
 one_below true false h = absurd (false≢true (h refl))

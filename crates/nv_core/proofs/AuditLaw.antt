@@ -16,6 +16,7 @@ use Rattle.nv_entry.specs.Held.{is_needed, keeps}
 use Rattle.nv_entry.specs.Log.{pairs}
 use Rattle.nv_entry.specs.declared.held.Pair.{Pair}
 use Rattle.nv_epoch.specs.SnapList.{ids}
+use Rattle.nv_machine.specs.Held.{retention_at}
 use Rattle.nv_machine.specs.Numbers.{held_by_actor}
 use Rattle.nv_machine.specs.Starts.{IsStart}
 use Rattle.nv_machine.specs.Step.{after}
@@ -25,7 +26,8 @@ use Rattle.nv_machine.proofs.FiledMarks.{pair_low}
 use Rattle.nv_machine.proofs.FiledRuns.{known}
 use Rattle.nv_machine.proofs.FromScratch.{scanned}
 use Rattle.nv_machine.proofs.HeldLaw.{pairs_told}
-use Rattle.nv_machine.proofs.HeldMarks.{same_default, used_there}
+use Rattle.nv_machine.proofs.HeldMarks.{used_there}
+use Rattle.nv_machine.proofs.MarksInUse.{same_default}
 use Rattle.nv_machine.proofs.CellMarksRuns.{are_cells}
 use Rattle.nv_core.specs.Audited.{device_of, parts_by_actor}
 use Rattle.nv_core.proofs.AuditNamed.{named_so}
@@ -35,15 +37,21 @@ module _ (g : GeometryNumbers) (start : World) (records : List Record) (events :
   abbrev w : World
   w = after start events
 
-  there : (ino n : ℕ) (pair : Pair) → let cell = cell_at w.shared ino in slice_get (pairs cell.block (log_of cell)) n ≡ Some pair
-      → is_there (mark_at cell.marks n)
-      ≡ keeps (retention_by (ids w.shared.book.snaps) w.shared.book.deferred (flat_map parts_by_actor w.actors) ino cell) pair
-  there ino n pair got =
+  -- a part is there exactly where its pair is needed, pending or killed
+  pub kept_there : (ino n : ℕ) (pair : Pair) → let cell = cell_at w.shared ino in slice_get (pairs cell.block (log_of cell)) n ≡ Some pair
+      → is_there (mark_at cell.marks n) ≡ keeps (retention_at w ino) pair
+  kept_there ino n pair got =
       let cell = cell_at w.shared ino in
       let m = (all_marked g start records events is_start).cells ino in
       let low = pair_low cell.block (log_of cell) n pair got in
       ap is_there (sym (same_default cell.marks n (omega (arith, low, m.len)))) ∙ sym (used_there g start records events ino n is_start)
       ∙ pairs_told g start records events ino n pair is_start got
+
+  there : (ino n : ℕ) (pair : Pair) → let cell = cell_at w.shared ino in slice_get (pairs cell.block (log_of cell)) n ≡ Some pair
+      → is_there (mark_at cell.marks n)
+      ≡ keeps (retention_by (ids w.shared.book.snaps) w.shared.book.deferred (flat_map parts_by_actor w.actors) ino cell) pair
+  there ino n pair got =
+      kept_there ino n pair got
       ∙ ap (λ (b : Bool). is_needed (ids w.shared.book.snaps) pair || b)
       (sym (named_so ino pair w (known g start records events is_start).locks))
 

@@ -19,7 +19,7 @@ use Rattle.nv_machine.specs.Held.{is_of_slot, killed_by_actor, killed_by_call, k
 use Rattle.nv_machine.specs.Locks.{AreLocks, HasSlots}
 use Rattle.nv_machine.specs.Reads.{is_written, written_slots}
 use Rattle.nv_machine.specs.World.{Actor, Close, HandState, Next, Publish, Retire, Running, World, idle}
-use Rattle.nv_machine.proofs.HeldMarks.{any_filter}
+use Rattle.nv_machine.proofs.MarksInUse.{any_filter}
 use Rattle.nv_machine.proofs.Lists.{rising_filter}
 use Rattle.nv_machine.proofs.PartsFor.{none_there}
 use Rattle.nv_core.specs.Audited.{killed_part, parts_by_actor, parts_by_call, slot_parts}

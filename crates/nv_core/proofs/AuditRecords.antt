@@ -46,7 +46,7 @@ use Rattle.nv_machine.proofs.FiledMarks.{IsTold}
 use Rattle.nv_machine.proofs.FiledParts.{log_in}
 use Rattle.nv_machine.proofs.FiledRuns.{known}
 use Rattle.nv_machine.proofs.FiledWorlds.{picked_in}
-use Rattle.nv_machine.proofs.HeldMarks.{any_gives}
+use Rattle.nv_machine.proofs.MarksInUse.{any_gives}
 use Rattle.nv_machine.proofs.Lists.{self}
 use Rattle.nv_machine.proofs.Pairs.{its_name, its_number, name_is, own_name, record_number}
 use Rattle.nv_core.specs.Audited.{parts_by_actor}
@@ -130,7 +130,7 @@ module _ (s : ℕ) (p : InodePart) where
 
 -- ---- every world
 
-swapped : (a b c : Bool) → (a && (b && c)) ≡ (b && (a && c))
+pub swapped : (a b c : Bool) → (a && (b && c)) ≡ (b && (a && c))
 swapped true true c = refl
 swapped true false c = refl
 swapped false true c = refl

@@ -1,16 +1,19 @@
 -- What the code gathers of hands is what the machine's calls have in them, so that a world agrees and an
 -- audit tells no mismatch.
 use Rattle.std.proofs.Common.{◌≡◌, ℕ, zero, suc, ◌<◌, ◌≤◌, ◌==◌, ◌&&◌, ◌⊎◌, inl, inr, ◌++◌, ◌∙◌, Bool, true, false, List, [], ◌∷◌, Option, Some, None, ap, ap₂, arith, drop, filter, flat_map, if◌then◌else◌, length, map, nat_lt, refl, slice_index_or, subst, sym, take}
-use Rattle.std.specs.Prelude.{IfErr, Result, Ok, Err, not}
+use Rattle.std.specs.Prelude.{IfErr, IfOk, Result, Ok, Err, not}
 use Rattle.std.proofs.lemmas.Bool.{and_parts, eqb-true, ltb-false, ltb-true}
 use Rattle.std.proofs.lemmas.List.{take-map}
 use Rattle.nv_base.specs.Refusals.{FailsOnly}
+use Rattle.nv_base.specs.declared.geometry.GeometryNumbers.{GeometryNumbers}
 use Rattle.nv_base.specs.declared.fault.Fault.{Fault}
-use Rattle.nv_base.specs.declared.fault.Fault.TheVariants.{Mismatch, OutOfMemory}
+use Rattle.nv_base.specs.declared.fault.Fault.TheVariants.{Mismatch}
+use Rattle.nv_base.specs.Memory.{out_of_memory}
 use Rattle.nv_base.specs.declared.fault.MismatchPart.TheVariants.{Counts, Index, Lists, Names, Records}
 use Rattle.nv_audit.specs.Records.{inode_part, states_of}
-use Rattle.nv_audit.specs.Whole.{Agrees, Device, IsMismatch}
+use Rattle.nv_audit.specs.Whole.{Agrees, Device, IsMismatch, device_with}
 use Rattle.nv_audit.specs.declared.part_list.InodePart.{InodePart}
+use Rattle.nv_audit.specs.declared.pending.InHands.{InHands}
 use Rattle.nv_alloc.specs.FreeList.{FreeBlocks}
 use Rattle.nv_calls.specs.Commit.{CommitValue}
 use Rattle.nv_calls.specs.Progress.{is_open, opens, step_of}
@@ -25,9 +28,9 @@ use Rattle.nv_machine.specs.Reads.{is_written, slot_at, written_slots}
 use Rattle.nv_machine.specs.World as machine
 use Rattle.nv_core.specs.Audited.{HasPlans, blocks_by, device_of, killed_by_plan, killed_by_plans, parts_by, parts_by_actor, parts_by_call, parts_with, picked_by, slot_parts}
 use Rattle.nv_core.specs.Rooms.{HasActorRooms}
-use Rattle.nv_core.specs.Shown.{commit_next, held_by, killed_in, machine_step, next_of, slots_in}
+use Rattle.nv_core.specs.Shown.{commit_next, held_by, killed_in, machine_step, next_of, shared_of, slots_in}
 use Rattle.nv_core.specs.Told.{IsOnItsWay}
-use Rattle.nv_core.specs.Worlds.{IsWorld, ShowsRunning, WorldState}
+use Rattle.nv_core.specs.Worlds.{IsWorld, Shows, ShowsRunning, WorldState}
 use Rattle.nv_core.specs.declared.hold.Hold.{Hold}
 use Rattle.nv_core.specs.declared.hold.Hold.TheVariants as hold
 use Rattle.nv_core.specs.declared.next.Next.{Next}
@@ -214,23 +217,25 @@ plans_of shared (hold.Ready ready) running rooms = tt
 plans_of shared (hold.Commit commit) None rooms = absurd rooms
 plans_of shared (hold.Commit commit) (Some running) rooms = rooms.3.way.published
 
+-- what an audit is told of a world
+abbrev gathered : WorldState → Device
+gathered v = record {
+  numbers = v.shared.geometry.numbers;
+  cells = states_of v.shared.cells.items;
+  lists = v.shared.lists.items;
+  book = v.shared.book.state;
+  in_hands = flat_map parts_by v.actors;
+  blocks = flat_map blocks_by v.actors;
+}
+
 module _ (v : WorldState) (is : IsWorld v) where
   pub have_plans : (k : ℕ) (d : Actor) → k < length v.actors → HasPlans (slice_index_or v.actors k d).hold
   have_plans k d lt =
       let actor = slice_index_or v.actors k d in plans_of v.shared actor.hold actor.running (is.2.rooms k d lt)
 
-  pub world_agrees : Agrees (record {
-    numbers = v.shared.geometry.numbers;
-    cells = states_of v.shared.cells.items;
-    lists = v.shared.lists.items;
-    book = v.shared.book.state;
-    in_hands = flat_map parts_by v.actors;
-    blocks = flat_map blocks_by v.actors;
-  })
-  world_agrees =
-      let g = v.shared.geometry.numbers in
-      let m : machine.World = is.0 in
-      let shows = is.2.shows in
+  -- it is the machine's world as a device
+  device_shown : (m : machine.World) → Shows v m → gathered v ≡ device_of m.numbers m
+  device_shown m shows =
       let parts : flat_map parts_by v.actors ≡ flat_map parts_by_actor m.actors =
       alike_all parts_by parts_by_actor machine.idle v.actors m.actors shows.count (λ k d lt.
       let actor = slice_index_or v.actors k d in
@@ -240,13 +245,19 @@ module _ (v : WorldState) (is : IsWorld v) where
       let blocks : flat_map blocks_by v.actors ≡ flat_map held_by_actor m.actors =
       alike_all blocks_by held_by_actor machine.idle v.actors m.actors shows.count
       (λ k d lt. ap held_in (shows.each k d lt).hand) in
-      let D : machine.Shared → List InodePart → List ℕ → Device =
-      λ s ps bs. record { numbers = g; cells = s.cells; lists = s.lists; book = s.book; in_hands = ps; blocks = bs } in
-      subst (λ (s : machine.Shared). Agrees (D s (flat_map parts_by v.actors) (flat_map blocks_by v.actors))) (sym shows.shared)
-      (subst (λ (ps : List InodePart). Agrees (D m.shared ps (flat_map blocks_by v.actors))) (sym parts)
-      (subst (λ (bs : List ℕ). Agrees (D m.shared (flat_map parts_by_actor m.actors) bs)) (sym blocks)
-      (subst (λ (x : machine.World). Agrees (device_of g x)) (sym is.2.reached)
-      (agree g is.1.start is.1.records is.1.events is.2.is_start))))
+      let D : GeometryNumbers → machine.Shared → List InodePart → List ℕ → Device =
+      λ g s ps bs. record { numbers = g; cells = s.cells; lists = s.lists; book = s.book; in_hands = ps; blocks = bs } in
+      ap (λ (g : GeometryNumbers). D g (shared_of v.shared) (flat_map parts_by v.actors) (flat_map blocks_by v.actors)) shows.numbers
+      ∙ ap (λ (s : machine.Shared). D m.numbers s (flat_map parts_by v.actors) (flat_map blocks_by v.actors)) shows.shared
+      ∙ ap₂ (D m.numbers m.shared) parts blocks
+
+  world_agrees : Agrees (gathered v)
+  world_agrees =
+      let m = is.0 in
+      subst Agrees (sym (device_shown m is.2.shows))
+      (subst (λ (g : GeometryNumbers). Agrees (device_of g m)) is.2.shows.numbers
+      (subst (λ (x : machine.World). Agrees (device_of v.shared.geometry.numbers x)) (sym is.2.reached)
+      (agree v.shared.geometry.numbers is.1.start is.1.records is.1.events is.2.is_start)))
 
 -- ---- what is told
 
@@ -259,37 +270,37 @@ no_mismatch d agrees (Mismatch Lists) bad = bad.2 agrees.lists
 no_mismatch d agrees other bad = bad
 
 only_memory : {T : Type 0} (d : Device) (r : Result T Fault) → Agrees d
-    → IfErr r (λ fault. (fault ≡ OutOfMemory) ⊎ IsMismatch d fault) → FailsOnly OutOfMemory r
+    → IfErr r (λ fault. (fault ≡ out_of_memory) ⊎ IsMismatch d fault) → FailsOnly out_of_memory r
 only_memory d (Ok t) agrees bad = tt
 only_memory d (Err fault) agrees (inl memory) = memory
 only_memory d (Err fault) agrees (inr bad) = absurd (no_mismatch d agrees fault bad)
 
 -- with what is gathered of a world
-pub told : {T : Type 0} (v : WorldState) (is : IsWorld v) (cells : List CellValue) (lists : List FreeBlocks) (parts : List InodePart)
-    (blocks : List ℕ) (r : Result T Fault)
-    → cells ≡ v.shared.cells.items → lists ≡ v.shared.lists.items → parts ≡ flat_map parts_by v.actors
-    → blocks ≡ flat_map blocks_by v.actors
-    → IfErr r (λ fault. (fault ≡ OutOfMemory) ⊎ IsMismatch (record {
-      numbers = v.shared.geometry.numbers;
-      cells = states_of cells;
-      lists = lists;
-      book = v.shared.book.state;
-      in_hands = parts;
-      blocks = blocks;
-    }) fault) → FailsOnly OutOfMemory r
-told v is cells lists parts blocks r cells_are lists_are parts_are blocks_are =
-    let D : List CellValue → List FreeBlocks → List InodePart → List ℕ → Device =
-    λ cs ls ps bs. record {
-      numbers = v.shared.geometry.numbers;
-      cells = states_of cs;
-      lists = ls;
-      book = v.shared.book.state;
-      in_hands = ps;
-      blocks = bs;
-    } in
-    only_memory (D cells lists parts blocks) r
-    (subst (λ (cs : List CellValue). Agrees (D cs lists parts blocks)) (sym cells_are)
-    (subst (λ (ls : List FreeBlocks). Agrees (D v.shared.cells.items ls parts blocks)) (sym lists_are)
-    (subst (λ (ps : List InodePart). Agrees (D v.shared.cells.items v.shared.lists.items ps blocks)) (sym parts_are)
-    (subst (λ (bs : List ℕ). Agrees (D v.shared.cells.items v.shared.lists.items (flat_map parts_by v.actors) bs)) (sym blocks_are)
-    (world_agrees v is)))))
+module _ (v : WorldState) (is : IsWorld v) (cells : List CellValue) (lists : List FreeBlocks) (hands : InHands)
+    (cells_are : cells ≡ v.shared.cells.items) (lists_are : lists ≡ v.shared.lists.items)
+    (parts_are : hands.parts.items ≡ flat_map parts_by v.actors) (blocks_are : hands.blocks.items ≡ flat_map blocks_by v.actors) where
+  abbrev handed : Device
+  handed = device_with v.shared.geometry.numbers cells lists v.shared.book.state hands
+
+  is_gathered : handed ≡ gathered v
+  is_gathered =
+      let D : List CellValue → List FreeBlocks → List InodePart → List ℕ → Device =
+      λ cs ls ps bs. record {
+        numbers = v.shared.geometry.numbers;
+        cells = states_of cs;
+        lists = ls;
+        book = v.shared.book.state;
+        in_hands = ps;
+        blocks = bs;
+      } in
+      ap₂ (λ (cs : List CellValue) (ls : List FreeBlocks). D cs ls hands.parts.items hands.blocks.items) cells_are lists_are
+      ∙ ap₂ (D v.shared.cells.items v.shared.lists.items) parts_are blocks_are
+
+  pub told : {T : Type 0} (r : Result T Fault)
+      → IfErr r (λ fault. (fault ≡ out_of_memory) ⊎ IsMismatch handed fault) → FailsOnly out_of_memory r
+  told r = only_memory handed r (subst Agrees (sym is_gathered) (world_agrees v is))
+
+  pub judged : (r : Result Device Fault) → IfOk r (λ d. d ≡ handed)
+      → (m : machine.World) → Shows v m → IfOk r (λ d. d ≡ device_of m.numbers m)
+  judged r is_handed m shows =
+      subst (λ (d : Device). IfOk r (λ a. a ≡ d)) (is_gathered ∙ device_shown v is m shows) is_handed

@@ -1,6 +1,7 @@
 -- The turn of a check, and the taking that comes next.
 use Rattle.std.proofs.Common.{◌≡◌, ℕ, zero, suc, ◌+◌, ◌<◌, ◌≤◌, ◌∙◌, Bool, true, false, List, [], ◌∷◌, ◌++◌, length, Option, Some, None, arith, refl, ap, ap₂, sym, subst}
-use Rattle.std.specs.Prelude.{is_some, option_map}
+use Rattle.std.specs.Prelude.{◌||◌, is_some, min, not, option_map}
+use Rattle.std.proofs.lemmas.Bool.{lt-ltb}
 use Rattle.nv_base.specs.declared.fault.Fault.{Fault}
 use Rattle.nv_base.specs.declared.fault.Fault.TheVariants as fault
 use Rattle.nv_alloc.specs.Block.{BlockValue}
@@ -11,16 +12,16 @@ use Rattle.nv_calls.specs.AllCalls.{blocks_wanted}
 use Rattle.nv_calls.specs.Cells.{AreCells}
 use Rattle.nv_calls.specs.SlotCells.{lent_cells}
 use Rattle.nv_calls.specs.declared.update.Update.{Update}
-use Rattle.nv_machine.specs.Kinds.{check_turn, end_turn, refuse, wants_blocks, wants_pages}
+use Rattle.nv_machine.specs.Kinds.{check_turn, end_turn, grown, refuse, wants_blocks, wants_pages, wants_room}
 use Rattle.nv_machine.specs.Reads.{copies, has_last_page, pages_wanted, plan_by}
 use Rattle.nv_machine.specs.Step.{ending_at, made_in, with_made}
 use Rattle.nv_machine.specs.World.{HandState}
 use Rattle.nv_machine.specs.World as machine
 use Rattle.nv_calls.specs.declared.log_pages.TheConstants.{MORE_PAGES}
 use Rattle.nv_core.proofs.CheckJobs.{Ends, drains_by_job, ending_told, few_by_job, no_visit, overtaken_by_job, owed_by, wanted_by_job, wants_by_job}
-use Rattle.nv_core.proofs.Takes.{is_changed, over_all}
+use Rattle.nv_core.proofs.Takes.{is_changed, over_all, wanted_same, with_both}
 use Rattle.nv_core.specs.Parts.{AreHome}
-use Rattle.nv_core.specs.Rooms.{CanDrain, CanEnd, CanWantPages, FitsCall, HasItsBlocks, HasMade, HasRooms, IsChecked, IsHandOf, TakesBlocks, WantsBlocks, blocks_to_take}
+use Rattle.nv_core.specs.Rooms.{CanCountPages, CanDrain, CanEnd, CanWantPages, FitsCall, HasItsBlocks, HasMade, HasRooms, IsChecked, IsHandOf, TakesBlocks, WantsBlocks, blocks_to_take, pages_to_take}
 use Rattle.nv_core.specs.Shown.{Told, ending_of, hand_of, shared_of, shown, slots_in}
 use Rattle.nv_core.specs.Steps.{CanBeChecked}
 use Rattle.nv_core.specs.Told.{IsChangeWith, IsOwed, IsToldOf, OwesAt, is_change}
@@ -30,6 +31,7 @@ use Rattle.nv_core.specs.declared.next.Next.TheVariants as next
 use Rattle.nv_core.specs.declared.job.Job.{Job}
 use Rattle.nv_core.specs.declared.running.Running.{Running}
 use Rattle.nv_core.specs.declared.shared.Shared.{Shared}
+use Rattle.nv_base.specs.Memory.{out_of_memory}
 
 -- ---- the taking that comes next
 
@@ -48,24 +50,52 @@ IsWanted shared hand running wanted u =
     HasMade shared (slots_in running.slots) hand running.made u
     × IsChecked shared (slots_in running.slots) hand running.looked u × (wanted ≡ blocks_to_take shared (slots_in running.slots) u)
 
--- one that takes none has them
-pub has_its_blocks : (shared : Shared) (hand : Hand) (running : Running) (wanted : ℕ) → wanted ≡ 0 → blocks_of hand ≡ []
-    → wanted + MORE_PAGES ≤ hand.pages.room → WantsBlocks wanted shared hand running → CanWantPages shared hand running
-has_its_blocks shared hand running wanted nil empty room has =
+-- one that takes none has them: its log pages can be counted
+pub counts_pages : (shared : Shared) (hand : Hand) (running : Running) (wanted : ℕ) → wanted ≡ 0 → blocks_of hand ≡ []
+    → WantsBlocks wanted shared hand running → CanCountPages shared hand running
+counts_pages shared hand running wanted nil empty has =
     over_all (IsWanted shared hand running wanted)
+    (λ u. IsChecked shared (slots_in running.slots) hand running.looked u
+    × (length hand.«data».blocks ≡ blocks_to_take shared (slots_in running.slots) u))
+    running.job (λ u has. (has.1, ap length none.0 ∙ sym nil ∙ has.2)) has where
+      none : (hand.«data».blocks ≡ []) × ((hand.pages.blocks ≡ []) × (hand.chain ≡ []))
+      none = none_in hand.«data».blocks hand.pages.blocks hand.chain empty
+
+-- and with room for them it can go on to take them
+pub has_its_blocks : (shared : Shared) (hand : Hand) (running : Running) (wanted : ℕ) → wanted ≡ 0 → blocks_of hand ≡ []
+    → IsChangeWith (λ u. pages_to_take shared (slots_in running.slots) hand u ≤ hand.pages.room) running.job
+    → WantsBlocks wanted shared hand running → CanWantPages shared hand running
+has_its_blocks shared hand running wanted nil empty room has =
+    over_all (λ u. IsWanted shared hand running wanted u × (pages_to_take shared (slots_in running.slots) hand u ≤ hand.pages.room))
     (λ u. HasMade shared (slots_in running.slots) hand running.made u
     × IsChecked shared (slots_in running.slots) hand running.looked u × HasItsBlocks shared (slots_in running.slots) hand u)
     running.job (λ u has. (
-      has.0,
-      has.1,
+      has.0.0,
+      has.0.1,
       record {
-        blocks = ap length none.0 ∙ sym nil ∙ has.2;
+        blocks = ap length none.0 ∙ sym nil ∙ has.0.2;
         none = none.1.0;
-        room = omega (arith, ap length none.0, nil, room);
+        room = omega (arith, has.1);
       },
-    )) has where
+    ))
+    (with_both (IsWanted shared hand running wanted) (λ u. pages_to_take shared (slots_in running.slots) hand u ≤ hand.pages.room)
+    running.job has room) where
       none : (hand.«data».blocks ≡ []) × ((hand.pages.blocks ≡ []) × (hand.chain ≡ []))
       none = none_in hand.«data».blocks hand.pages.blocks hand.chain empty
+
+-- the room that was made for them is in the hand
+pub made_room : (shared now : Shared) (hand more : Hand) (running after : Running) (n : ℕ) → now ≡ shared
+    → more ≡ record hand { «data» = record hand.«data» { room = more.«data».room }; pages = record hand.pages { room = more.pages.room } }
+    → after ≡ running → n ≤ more.pages.room
+    → IsChangeWith (λ u. n ≡ pages_to_take shared (slots_in running.slots) hand u) running.job
+    → IsChangeWith (λ u. pages_to_take now (slots_in after.slots) more u ≤ more.pages.room) after.job
+made_room shared now hand more running after n same held is room has =
+    rw (is, same)
+    (over_all (λ u. n ≡ pages_to_take shared (slots_in running.slots) hand u)
+    (λ u. pages_to_take shared (slots_in running.slots) more u ≤ more.pages.room) running.job
+    (λ u count. (let pages : pages_to_take shared (slots_in running.slots) more u ≡ pages_to_take shared (slots_in running.slots) hand u =
+    ap (λ (h : Hand). pages_to_take shared (slots_in running.slots) h u) held in
+    omega (arith, pages, count, room))) has)
 
 -- one that takes some has room for them
 pub takes_blocks : (shared : Shared) (hand : Hand) (running : Running) (wanted : ℕ) → IsWithinLimits shared.geometry.numbers
@@ -213,12 +243,40 @@ module _ (shared : Shared) (hand : Hand) (running now : Running) (numbered : Boo
         (sym same) (sym is)
         ∙ ended
 
-    pub turn_refuses : (new : Shared) (more : machine.HandState) (why : Fault) (t : machine.Turn) → new ≡ shared → more ≡ hand_of hand
-        → why ≡ fault.OutOfMemory → found ≡ None → refuse why (shared_of new) more (shown told now) ≡ t → turn false ≡ t
-    turn_refuses new more why t same held memory none refused =
+    -- it grows where it takes data blocks or log pages
+    grows_by : (n m wanted pages : ℕ) → n ≡ wanted → (wanted ≡ 0 → m ≡ pages) → 0 < wanted + pages → wants_room n m ≡ true
+    grows_by n m zero pages is own some = rw (is, own refl) (lt-ltb 0 pages (omega (arith, some)))
+    grows_by n m (suc wanted) pages is own some = rw is refl
+
+    is_now : IsToldOf now told
+    is_now = subst (λ (x : Running). IsToldOf x told) (sym is) job
+
+    own_pages : (pages wanted : ℕ) → WantsBlocks wanted shared hand now
+        → IsChangeWith (λ u. pages ≡ pages_to_take shared (slots_in now.slots) hand u) now.job
+        → pages_wanted s r.slots (plan_by size s (hand_of hand) r) ≡ pages
+    own_pages pages wanted has count =
+        ap (λ (x : Running). pages_wanted s (slots_in x.slots) (plan_by size s (hand_of hand) (shown told x))) (sym is)
+        ∙ wanted_same shared (slots_in now.slots) hand now.looked now.made now.job now.owed told.call (has_last_page size s told.call) pages is_now
+        (over_all (IsWanted shared hand now wanted)
+        (λ u. HasMade shared (slots_in now.slots) hand now.made u × IsChecked shared (slots_in now.slots) hand now.looked u) now.job
+        (λ u h. (h.0, h.1)) has)
+        count
+
+    pub turn_refuses : (new after : Shared) (more : machine.HandState) (why : Fault) (t : machine.Turn) (wanted pages : ℕ) → new ≡ shared
+        → after ≡ shared → more ≡ hand_of hand → why ≡ out_of_memory → found ≡ None → WantsAs new now wanted
+        → WantsBlocks wanted shared hand now
+        → (wanted ≡ 0 → IsChangeWith (λ u. pages ≡ pages_to_take shared (slots_in now.slots) hand u) now.job)
+        → 0 < wanted + pages
+        → refuse why (shared_of after) more (shown told now) ≡ t → turn false ≡ t
+    turn_refuses new after more why t wanted pages same stays held memory none wanted_is has own some refused =
         turn_by None false none
-        ∙ ap₂ (λ (x : Shared) (y : Running). refuse fault.OutOfMemory (shared_of x) (hand_of hand) (shown told y)) (sym same) (sym is)
-        ∙ ap₂ (λ (h : machine.HandState) (f : Fault). refuse f (shared_of new) h (shown told now)) (sym held) (sym memory)
+        ∙ ap (λ (b : Bool). grown (false || not b) (wants_blocks count size s (hand_of hand) r) s (hand_of hand) r)
+        (grows_by count (pages_wanted s r.slots (plan_by size s (hand_of hand) r)) wanted pages
+        (wanted_by_job shared own_slots running.looked hand.ino wanted running.job running.owed told.call change job can.read (no_end none)
+        (own_wanted new wanted same wanted_is))
+        (λ nil. own_pages pages wanted has (own nil)) some)
+        ∙ ap₂ (λ (x : Shared) (y : Running). refuse out_of_memory (shared_of x) (hand_of hand) (shown told y)) (sym stays) (sym is)
+        ∙ ap₂ (λ (h : machine.HandState) (f : Fault). refuse f (shared_of after) h (shown told now)) (sym held) (sym memory)
         ∙ refused
 
     pub turn_goes : (new after : Shared) (more : machine.HandState) (wanted : ℕ) (t : machine.Turn) → new ≡ shared → after ≡ shared

@@ -8,6 +8,7 @@ use Rattle.nv_machine.proofs.CopyTrees.{trees_are_copied, trees_are_plain}
 use Rattle.nv_machine.proofs.FiledRuns.{are_deferred}
 use Rattle.nv_machine.proofs.FitsPlain.{plain_nodes}
 use Rattle.nv_machine.proofs.FromScratch.{idle_nothing}
+use Rattle.nv_machine.proofs.HeldLaw.{scanned_by_logs}
 use Rattle.nv_machine.proofs.PoolLaw.{pool_scanned}
 use Rattle.nv_machine.proofs.SnapRuns.{in_step}
 use Rattle.nv_machine.specs.PlainRun.{plain_of}
@@ -21,6 +22,7 @@ consistent_after : (g : GeometryNumbers) (start : World) (records : List Record)
     → IsConsistentAfter g (record { start = start; records = records; events = events })
 consistent_after g start records events is_start = record {
   scan = agree g start records events is_start;
+  free = λ cpu inside. scanned_by_logs g start records events cpu is_start inside;
   pool = pool_scanned g start records events is_start;
   idle = idle_nothing g start records events is_start;
   deferred = are_deferred g start records events is_start;

@@ -4,7 +4,8 @@ use Rattle.std.proofs.lemmas.List.{length-map}
 use Rattle.std.proofs.lemmas.Bool.{le-leb, leb-true}
 use Rattle.nv_alloc.specs.declared.hand.Hand.{Hand}
 use Rattle.nv_base.specs.declared.fault.Fault.{Fault}
-use Rattle.nv_base.specs.declared.fault.Fault.TheVariants.{CommitLimit, OutOfMemory}
+use Rattle.nv_base.specs.declared.fault.Fault.TheVariants.{CommitLimit}
+use Rattle.nv_base.specs.Memory.{out_of_memory}
 use Rattle.nv_base.specs.declared.limits.TheConstants.{NUMBER}
 use Rattle.nv_book.specs.Book.{BookValue, after_enter}
 use Rattle.nv_calls.specs.Commit.{CommitValue, begun, stamp_of}
@@ -82,11 +83,11 @@ last_below result commit last value ok same fits limit = go (nat_le NUMBER commi
 -- why it is refused: for the last number, or for want of memory where there is another
 abbrev pub Why : Fault → ℕ → Type 0
 Why fault commit =
-    ((fault ≡ CommitLimit) × (nat_le NUMBER commit ≡ true)) ⊎ ((fault ≡ OutOfMemory) × (nat_le NUMBER commit ≡ false))
+    ((fault ≡ CommitLimit) × (nat_le NUMBER commit ≡ true)) ⊎ ((fault ≡ out_of_memory) × (nat_le NUMBER commit ≡ false))
 
 pub told_why : {T : Type 0} (result : Result T Fault) (fault : Fault) (commit last : ℕ) → result ≡ Err fault
     → (result ≡ Err CommitLimit → commit ≡ NUMBER) → (commit ≡ NUMBER → result ≡ Err CommitLimit)
-    → (fault ≡ CommitLimit) ⊎ (fault ≡ OutOfMemory) → last ≡ commit → last ≤ NUMBER → Why fault commit
+    → (fault ≡ CommitLimit) ⊎ (fault ≡ out_of_memory) → last ≡ commit → last ≤ NUMBER → Why fault commit
 told_why result fault commit last is limit at (inl e) same fits =
     let full = limit (is ∙ ap Err e) in inl (e, le-leb NUMBER commit (omega (arith, full)))
 told_why result fault commit last is limit at (inr e) same fits = go (nat_le NUMBER commit) refl where

@@ -43,7 +43,6 @@ pub mod PageParts
 pub mod PassTurns
 pub mod PassesSome
 pub mod Pending
-pub mod PendingKept
 pub mod Phases
 pub mod Plans
 pub mod PublishPhase
@@ -55,6 +54,10 @@ pub mod Retires
 pub mod RoomsAfter
 pub mod Runs
 pub mod SameCells
+pub mod ScannedParts
+pub mod ScannedRecords
+pub mod ScannedReports
+pub mod ScannedSnaps
 pub mod Sequence
 pub mod Settled
 pub mod SettledLogs

@@ -5,7 +5,8 @@ use Rattle.std.specs.Option.{option_to_list}
 use Rattle.nv_base.specs.declared.numbers.Handle.{Handle}
 use Rattle.nv_base.specs.Refusals.{FailsOnly}
 use Rattle.nv_base.specs.declared.fault.Fault.{Fault}
-use Rattle.nv_base.specs.declared.fault.Fault.TheVariants.{OutOfMemory, Write}
+use Rattle.nv_base.specs.declared.fault.Fault.TheVariants.{Write}
+use Rattle.nv_base.specs.Memory.{out_of_memory}
 use Rattle.nv_entry.specs.declared.node.NodeCopy.{NodeCopy}
 use Rattle.nv_entry.specs.declared.tree.TreeNode.{TreeNode}
 use Rattle.nv_reader.proofs.Coming.{handed_next}
@@ -44,7 +45,7 @@ module _ {S : Type 0} (failed : S → ℕ) (Takes Fails : AtNode S) where
 
   -- one node is taken, before all ends well or memory is refused
   pub hands_one : (result : Result (Unit {0}) Fault) (old new : S) (nodes : List TreeNode) (node : TreeNode) → nodes ≡ node ∷ []
-      → Takes old node new → failed new ≡ failed old → FailsOnly OutOfMemory result → Hands result failed Takes Fails old nodes new
+      → Takes old node new → failed new ≡ failed old → FailsOnly out_of_memory result → Hands result failed Takes Fails old nodes new
   hands_one (Ok done) old new nodes node is took same out = (takes_one old new nodes node is took, same)
   hands_one (Err fault) old new nodes node is took same out =
       inl (out, record { front = nodes; rest = []; are = sym (append-nil nodes); takes = takes_one old new nodes node is took }, same)
@@ -70,7 +71,7 @@ module _ {S : Type 0} (failed : S → ℕ) (Takes Fails : AtNode S) where
       (subst (λ ns. TakesAll Takes old ns new) (sym (taken.are ∙ append-nil taken.front)) taken.takes, taken.same)
 
   -- memory is refused
-  pub ends : (fault : Fault) (old new : S) (tree rest : List TreeNode) → HasTaken old tree new rest → fault ≡ OutOfMemory
+  pub ends : (fault : Fault) (old new : S) (tree rest : List TreeNode) → HasTaken old tree new rest → fault ≡ out_of_memory
       → Hands (Err fault) failed Takes Fails old tree new
   ends fault old new tree rest taken out =
       inl (out, record { front = taken.front; rest = rest; are = taken.are; takes = taken.takes }, taken.same)

@@ -6,7 +6,8 @@ use Rattle.std.specs.Option.{IsSomeAnd}
 use Rattle.std.proofs.lemmas.Bool.{cases_lt, le-leb, lt-leb}
 use Rattle.nv_base.specs.Refusals.{IsRefusedBy}
 use Rattle.nv_base.specs.declared.fault.Fault.{Fault}
-use Rattle.nv_base.specs.declared.fault.Fault.TheVariants.{EpochLimit, NoSnapshot, OutOfMemory, Pinned, TooManySnapshots}
+use Rattle.nv_base.specs.declared.fault.Fault.TheVariants.{EpochLimit, NoSnapshot, Pinned, TooManySnapshots}
+use Rattle.nv_base.specs.Memory.{out_of_memory}
 use Rattle.nv_base.specs.declared.limits.TheConstants.{NUMBER}
 use Rattle.nv_book.specs.Book.{after_drop_snapshot}
 use Rattle.nv_calls.specs.Refusals.{Check as Tests}
@@ -101,5 +102,5 @@ none_pinned_of snaps asked snapshot result fault same pinned is =
 -- ---- a pick
 
 pub pick_refused : (d : Draining) (s : Shared) (r : Running) (fault : Fault) → r.slots ≡ [] → d.released ≡ 0
-    → fault ≡ OutOfMemory → pick_turn d false s empty_hand r ≡ Ends (Err fault) s empty_hand
-pick_refused d s r fault none first why = rw first (rw why (refuses s r OutOfMemory none))
+    → fault ≡ out_of_memory → pick_turn d false s empty_hand r ≡ Ends (Err fault) s empty_hand
+pick_refused d s r fault none first why = rw first (rw why (refuses s r out_of_memory none))

@@ -18,7 +18,7 @@ use Rattle.nv_core.specs.Reports.{AddsUp, births, chain_in, free_in, is_kept, ke
 
 -- ---- numbers that stand once
 
-pub times_cons : (k x : ℕ) (xs : List ℕ) → times k (x ∷ xs) ≡ cond (x == k) 1 0 + times k xs
+times_cons : (k x : ℕ) (xs : List ℕ) → times k (x ∷ xs) ≡ cond (x == k) 1 0 + times k xs
 times_cons k x xs = sum_by-cons (λ (m : ℕ). cond (m == k) 1 0) x xs
 
 times_same : (x : ℕ) (xs : List ℕ) → times x (x ∷ xs) ≡ suc (times x xs)
@@ -79,7 +79,7 @@ tally_none : (k : ℕ) → tally k [] ≡ 0
 tally_none zero = refl
 tally_none (suc k) = let rest = tally_none k in omega (arith, rest)
 
-pub times_all : (many : ℕ) (xs : List ℕ) → ((n : ℕ) → many ≤ n → times n xs ≡ 0) → sum_to many (λ n. times n xs) ≡ length xs
+times_all : (many : ℕ) (xs : List ℕ) → ((n : ℕ) → many ≤ n → times n xs ≡ 0) → sum_to many (λ n. times n xs) ≡ length xs
 times_all many [] none = tally_none many
 times_all many (x ∷ xs) none =
     let lt : x < many = go (nat_lt x many) refl in

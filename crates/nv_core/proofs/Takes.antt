@@ -220,7 +220,7 @@ module _ (shared : Shared) (slots : List ℕ) (hand : Hand) (looked : Looked) (m
       record {
         blocks = has.2.blocks;
         count = omega (arith, ap (λ (bs : List BlockValue). length bs) has.2.none, wants);
-        room = omega (arith, few, has.2.room);
+        room = omega (arith, few, wants, has.2.room);
         list = omega (arith, home.count, limits.some_cpus);
       },
     ),

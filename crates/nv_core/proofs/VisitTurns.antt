@@ -3,7 +3,7 @@ use Rattle.std.proofs.Common.{◌≡◌, ℕ, ◌||◌, ◌∙◌, Bool, true, n
 use Rattle.std.specs.Prelude.{IfOk, MatchResult, Result, Ok, Err}
 use Rattle.nv_base.specs.Refusals.{FailsAsChecked}
 use Rattle.nv_base.specs.declared.fault.Fault.{Fault}
-use Rattle.nv_base.specs.declared.fault.Fault.TheVariants.{OutOfMemory}
+use Rattle.nv_base.specs.Memory.{out_of_memory}
 use Rattle.nv_base.specs.declared.numbers.Handle.{Handle}
 use Rattle.nv_calls.specs.Refusals.{Check}
 use Rattle.nv_calls.specs.AllCalls.{answer, refusal}
@@ -33,7 +33,7 @@ visit_ends s r owner check by grows (Ok found) free none is =
     inl (rw free (rw is.0 (ap (λ (a : Answer). machine.Ends (Ok a) s empty_hand) (sym (is.1 r.made)))))
 visit_ends s r owner check by grows (Err fault) free none (inl is) = inl (rw free (rw is (refuses s r fault none)))
 visit_ends s r owner check by grows (Err fault) free none (inr is) =
-    inr (rw free (rw is.0 (rw is.2 (rw is.1 (refuses s r OutOfMemory none)))))
+    inr (rw free (rw is.0 (rw is.2 (rw is.1 (refuses s r out_of_memory none)))))
 
 -- over what is shared: nobody has the lock of its slot
 pub visit_turns : (s : Shared) (block : ℕ) (r : Running) (c visit : Call) (result : Result Answer Fault) → c ≡ visit

@@ -1,12 +1,13 @@
 -- What holds of a world whatever events led to it.
-use Rattle.std.specs.Prelude.{◌≡◌, ℕ, Contains, List, Some, length}
+use Rattle.std.specs.Prelude.{◌≡◌, ℕ, ◌<◌, Contains, List, Some, length}
 use Rattle.nv_audit.specs.Whole.{Agrees}
 use Rattle.nv_base.specs.declared.geometry.GeometryNumbers.{GeometryNumbers}
 use Rattle.nv_base.specs.declared.numbers.Handle.{Handle}
 use Rattle.nv_book.specs.Listed.{unheld}
 use Rattle.nv_book.specs.declared.record.Record.{Record}
 use Rattle.nv_epoch.specs.SnapList.{ids}
-use Rattle.nv_machine.specs.Numbers.{IdleHaveNothing}
+use Rattle.nv_machine.specs.Held.{free_by_logs}
+use Rattle.nv_machine.specs.Numbers.{IdleHaveNothing, free_of}
 use Rattle.nv_machine.specs.PlainRun.{Plain, plain_after, plain_of}
 use Rattle.nv_machine.specs.PoolScan.{pool_from_scratch}
 use Rattle.nv_machine.specs.Reading.{AreCopied, copied_tree, plain_tree}
@@ -15,17 +16,19 @@ use Rattle.nv_machine.specs.Settled.{settled_nodes, snapshot_tree, tree_of}
 use Rattle.nv_machine.specs.Starts.{IsStart}
 use Rattle.nv_machine.specs.Step.{after}
 use Rattle.nv_machine.specs.World as machine
+use Rattle.nv_machine.specs.World.{list_at}
 use Rattle.nv_core.specs.Audited.{device_of}
 use Rattle.nv_core.specs.Worlds.{Run, Shows, WorldState}
 
 -- A WORLD BESIDE THE PLAIN WORLD AND THE LIST OF ITS RECORDS. Each inode's counts, the records that living
 -- snapshots hold and each free list are what one scan of all logs and of the snapshots gives, where what hands have
--- and what is deferred are named apart, and so is the pool of inode numbers; an actor without a call has an empty
--- hand and no lock, and deferred are the records that no living snapshot holds. The settled logs give the plain
--- world's nodes, and so its tree. And each living snapshot reads as the plain world's copy, which was taken when it
--- was made: node by node, and so as a tree
+-- and what is deferred are named apart, and so is the pool of inode numbers. Each free list is that scan's, number by
+-- number. An actor without a call has an empty hand and no lock, and deferred are the records that no living snapshot
+-- holds. The settled logs give the plain world's nodes, and so its tree. And each living snapshot reads as the plain
+-- world's copy, which was taken when it was made: node by node, and so as a tree
 pub record IsConsistent (g : GeometryNumbers) (w : machine.World) (plain : Plain) (records : List Record) : Type 0 where
   pub scan : Agrees (device_of g w)
+  pub free : (cpu : ℕ) → cpu < g.cpus → free_of (list_at w.shared cpu) ≡ free_by_logs g w cpu
   pub pool : w.shared.pool.numbers ≡ pool_from_scratch g w
   pub idle : IdleHaveNothing w
   pub deferred : w.shared.book.deferred ≡ unheld (ids w.shared.book.snaps) records

@@ -11,6 +11,7 @@ pub mod Picked
 pub mod Readied
 pub mod Reports
 pub mod Rooms
+pub mod Scans
 pub mod Settled
 pub mod Shown
 pub mod Sinks

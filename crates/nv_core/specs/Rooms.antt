@@ -1,6 +1,6 @@
 -- What of a running call the machine does not tell: whether it is of the kind that its next step wants, the room in its
 -- hand, and what its check found and its growths made.
-use Rattle.std.specs.Prelude.{◌≡◌, ℕ, ◌+◌, ◌<◌, ◌≤◌, ◌%◌, Bool, true, false, List, [], length, Option, Some, None, unwrap_or}
+use Rattle.std.specs.Prelude.{◌≡◌, ℕ, ◌+◌, ◌<◌, ◌≤◌, ◌%◌, Bool, true, false, List, [], length, min, Option, Some, None, unwrap_or}
 use Rattle.std.specs.List.{AllByRecursion}
 use Rattle.nv_alloc.specs.declared.hand.Hand.{Hand}
 use Rattle.nv_base.specs.declared.geometry.GeometryNumbers.{GeometryNumbers}
@@ -137,11 +137,11 @@ abbrev pub pages_to_take : Shared → List ℕ → Hand → Update → ℕ
 pages_to_take shared slots hand u =
     pages_wanted (lent_cells slots shared.cells.items) (planned_by (lent_cells slots shared.cells.items) hand u)
 
--- it has its data blocks and no log page, and room for as many of these as it can need
+-- it has its data blocks and no log page, and room for those that it takes, or for as many as it can need
 pub record HasItsBlocks (shared : Shared) (slots : List ℕ) (hand : Hand) (u : Update) : Type 0 where
   pub blocks : length hand.«data».blocks ≡ blocks_to_take shared slots u
   pub none : hand.pages.blocks ≡ []
-  pub room : length hand.«data».blocks + MORE_PAGES ≤ hand.pages.room
+  pub room : min (pages_to_take shared slots hand u) (length hand.«data».blocks + MORE_PAGES) ≤ hand.pages.room
 
 -- it takes data blocks: so many are wanted yet, there is room for them, and for the log pages that they can need
 pub record TakesBlocks (shared : Shared) (slots : List ℕ) (hand : Hand) (asked wanted : ℕ) (u : Update) : Type 0 where
@@ -184,7 +184,13 @@ TakesIf true shared hand running =
     IsChangeWith (λ u. HasMade shared (slots_in running.slots) hand running.made u
     × Takes running.next shared (slots_in running.slots) hand running.wanted running.looked u) running.job
 
--- the call of a job is checked, and has its data blocks
+-- the call of a job is checked, and has as many data blocks as it takes
+abbrev pub CanCountPages : Shared → Hand → Running → Type 0
+CanCountPages shared hand running =
+    IsChangeWith (λ u. IsChecked shared (slots_in running.slots) hand running.looked u
+    × (length hand.«data».blocks ≡ blocks_to_take shared (slots_in running.slots) u)) running.job
+
+-- it has room for log pages too
 abbrev pub CanWantPages : Shared → Hand → Running → Type 0
 CanWantPages shared hand running =
     IsChangeWith (λ u. HasMade shared (slots_in running.slots) hand running.made u

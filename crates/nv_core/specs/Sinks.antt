@@ -1,7 +1,8 @@
 -- How nodes are handed to a sink, which says what becomes of it where it takes a node and where it fails at one.
 use Rattle.std.specs.Prelude.{◌≡◌, ◌⊎◌, ℕ, ◌+◌, List, [], ◌∷◌, ◌++◌, MatchResult, Result}
 use Rattle.nv_base.specs.declared.fault.Fault.{Fault}
-use Rattle.nv_base.specs.declared.fault.Fault.TheVariants.{OutOfMemory, Write}
+use Rattle.nv_base.specs.declared.fault.Fault.TheVariants.{Write}
+use Rattle.nv_base.specs.Memory.{out_of_memory}
 use Rattle.nv_entry.specs.declared.tree.TreeNode.{TreeNode}
 
 -- what becomes of a sink at a node
@@ -37,5 +38,5 @@ abbrev pub Hands : {S : Type 0} → Result (Unit {0}) Fault → (S → ℕ) → 
     → S → List TreeNode → S → Type 0
 Hands result failed Takes Fails old nodes new = MatchResult result
     (λ _. TakesAll Takes old nodes new × (failed new ≡ failed old))
-    (λ fault. ((fault ≡ OutOfMemory) × TakesFront Takes old nodes new × (failed new ≡ failed old))
+    (λ fault. ((fault ≡ out_of_memory) × TakesFront Takes old nodes new × (failed new ≡ failed old))
     ⊎ ((fault ≡ Write) × BreaksOff Takes Fails old nodes new × (failed new ≡ failed old + 1)))

@@ -1,7 +1,7 @@
 -- What a visit comes to, and whose blocks its cell has.
 use Rattle.std.specs.Prelude.{◌≡◌, ◌⊎◌, ℕ, Bool, true, Result, Ok, Err}
 use Rattle.nv_base.specs.declared.fault.Fault.{Fault}
-use Rattle.nv_base.specs.declared.fault.Fault.TheVariants.{OutOfMemory}
+use Rattle.nv_base.specs.Memory.{out_of_memory}
 use Rattle.nv_base.specs.declared.numbers.Handle.{Handle}
 use Rattle.nv_calls.specs.Refusals.{Check, passes}
 use Rattle.nv_calls.specs.declared.answer.Answer.{Answer}
@@ -11,7 +11,7 @@ use Rattle.nv_machine.specs.World.{Shared, cell_at}
 
 -- the fault of a check that refuses; or where it passes, memory was wanted in vain
 abbrev pub IsRefusedBy : Check → Bool → Fault → Type 0
-IsRefusedBy check grows fault = (check ≡ Err fault) ⊎ ((check ≡ passes) × (fault ≡ OutOfMemory) × (grows ≡ true))
+IsRefusedBy check grows fault = (check ≡ Err fault) ⊎ ((check ≡ passes) × (fault ≡ out_of_memory) × (grows ≡ true))
 
 -- an answer where the check passes, its fault where it doesn't; one that grows may want memory in vain
 abbrev pub IsFoundBy : Check → (Handle → Answer) → Bool → Result Answer Fault → Type 0

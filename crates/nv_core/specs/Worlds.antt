@@ -96,6 +96,10 @@ pub record Run : Type 0 where
   pub records : List Record
   pub events : List machine.Event
 
+-- a world of the machine has a run: some events lead to it from some start of its geometry
+abbrev pub HasRun : machine.World → Type 0
+HasRun m = (run : Run) × IsStart m.numbers run.start run.records × (m ≡ machine_step.after run.start run.events)
+
 -- that of a new world before any event
 abbrev pub new_run : GeometryNumbers → Run
 new_run g = record { start = formatted g; records = []; events = [] }

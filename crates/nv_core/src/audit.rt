@@ -5,15 +5,16 @@ ghost use Rattle.std.specs.List.{flat_map};
 ghost use Rattle.std.specs.VecDeque.Iter.{deque_iter_rest};
 ghost use Rattle.nv_alloc.specs.Block.{numbers_of};
 ghost use Rattle.nv_base.specs.Refusals.{FailsOnly};
-ghost use Rattle.nv_base.specs.declared.fault.Fault.TheVariants.{OutOfMemory};
+ghost use Rattle.nv_base.specs.Memory.{out_of_memory};
 ghost use Rattle.nv_audit.specs.Records.{inode_part};
 ghost use Rattle.nv_machine.specs.Numbers.{held_in};
 ghost use Rattle.nv_machine.specs.Reads.{slot_at};
 ghost use Rattle.nv_machine.specs.World as machine;
-ghost use Rattle.nv_core.specs.Audited.{HasPlans, blocks_by, killed_by_plans, killed_part, parts_by, picked_by};
+ghost use Rattle.nv_core.specs.Audited.{HasPlans, blocks_by, device_of, killed_by_plans, killed_part, parts_by, picked_by};
 ghost use Rattle.nv_core.specs.Consistent.{IsConsistentWorld};
 ghost use Rattle.nv_core.specs.Rooms.{hand_held};
 ghost use Rattle.nv_core.specs.Shown.{hand_of, slots_in};
+ghost use Rattle.nv_core.specs.Worlds.{Shows};
 
 use crate::World;
 use crate::hold::Hold;
@@ -21,7 +22,7 @@ use crate::next::{Next, SnapshotStep};
 use crate::slots::Slots;
 use crate::world::Actor;
 use nv_alloc::{Block, Hand};
-use nv_audit::{InHands, InodePart};
+use nv_audit::{Audited, InHands, InodePart};
 use nv_base::{BlockNo, Fault, Ino};
 use nv_book::Record;
 use nv_calls::Commit;
@@ -31,27 +32,29 @@ use std::alloc::{AllocError, Global};
 use std::collections::vec_deque;
 
 impl World {
-    /// Judges the world as it stands: each part against one scan of all logs, of the snapshots and of the hands. No
-    /// world differs, whatever events came: it can only want memory. And whatever it answers, the world is consistent
-    /// ([`World::consistent`]). It costs what [`nv_audit::audit`] does.
-    pub fn audit(&self) -> Result<(), Fault>
+    /// Judges the world as it stands: each part against one scan of all logs, of the snapshots and of the hands. What it
+    /// gives tells which device was judged, and that is this world's. No world differs, whatever events came: it can only
+    /// want memory. And whatever it answers, the world is consistent ([`World::consistent`]). It costs what
+    /// [`nv_audit::audit`] does.
+    pub fn audit(&self) -> Result<Audited<'_>, Fault>
         ensures world { IsConsistentWorld self.now }
-        ensures answer { FailsOnly OutOfMemory result }
+        ensures judged { (m : machine.World) → Shows self.now m
+            → IfOk result (λ audited. audited ≡ device_of m.numbers m) }
+        ensures answer { FailsOnly out_of_memory result }
     {
         self.consistent();
         self.judge()
     }
 
     /// What the audit finds.
-    fn judge(&self) -> Result<(), Fault>
-        ensures { FailsOnly OutOfMemory result }
+    fn judge(&self) -> Result<Audited<'_>, Fault>
+        ensures judged { (m : machine.World) → Shows self.now m
+            → IfOk result (λ audited. audited ≡ device_of m.numbers m) }
+        ensures answer { FailsOnly out_of_memory result }
     {
         let blocks = blocks_in_hands(self.alloc, &self.actors)?;
         let parts = parts_in_hands(self.alloc, &self.actors)?;
-        let hands = InHands {
-            blocks: &blocks,
-            parts: &parts,
-        };
+        let hands = InHands { blocks, parts };
         let shared = &self.shared;
         let book = &shared.book;
         nv_audit::audit(
@@ -60,7 +63,7 @@ impl World {
             &shared.cells,
             &shared.lists,
             book,
-            &hands,
+            hands,
         )
     }
 }

@@ -3,7 +3,7 @@
 ghost use Rattle.std.specs.Prelude.{◌≡◌, ◌∷◌, ◌<◌, [], IfOk, OnOk, length, map, replicate};
 ghost use Rattle.std.specs.List.{range_with_len};
 ghost use Rattle.nv_base.specs.Refusals.{FailsOnly};
-ghost use Rattle.nv_base.specs.declared.fault.Fault.TheVariants.{OutOfMemory};
+ghost use Rattle.nv_base.specs.Memory.{out_of_memory};
 ghost use Rattle.nv_entry.specs.Tree as tree;
 ghost use Rattle.nv_machine.specs.Format.{formatted, full_list};
 ghost use Rattle.nv_core.specs.Formats.{idle_actor, new_cell, rootless};
@@ -35,7 +35,7 @@ impl World {
     pub fn format(alloc: Global, geometry: Geometry) -> Result<World, Fault>
         ensures ok { IfOk result (λ world. Shows world (formatted geometry.numbers)) }
         ensures geometry { IfOk result (λ world. world.shared.geometry ≡ geometry) }
-        ensures err { FailsOnly OutOfMemory result }
+        ensures err { FailsOnly out_of_memory result }
     {
         let pool = InodePool::new(alloc, &geometry)?;
         let book = Book::new(alloc, &geometry)?;
@@ -79,7 +79,7 @@ fn furnish(alloc: Global, shared: &mut Shared, actors: &mut Vec<Actor>) -> Resul
     ensures actors { OnOk result (actors.new.items
         ≡ replicate shared.old.geometry.numbers.actors (idle_actor shared.old.geometry.numbers)) }
     ensures geometry { shared.new.geometry ≡ shared.old.geometry }
-    ensures err { FailsOnly OutOfMemory result }
+    ensures err { FailsOnly out_of_memory result }
 {
     let geometry = shared.geometry;
     add_lists(alloc, &geometry, &mut shared.lists)?;
@@ -93,7 +93,7 @@ fn add_lists(alloc: Global, geometry: &Geometry, lists: &mut Vec<FreeList>) -> R
     requires { lists.old.items ≡ [] }
     ensures ok { OnOk result (lists.new.items
         ≡ map (full_list geometry.now.numbers) (range_with_len 0 geometry.now.numbers.cpus)) }
-    ensures err { FailsOnly OutOfMemory result }
+    ensures err { FailsOnly out_of_memory result }
 {
     let cpus = geometry.numbers.cpus;
     lists.reserve(cpus as usize)?;
@@ -109,7 +109,7 @@ fn add_cells(alloc: Global, geometry: &Geometry, cells: &mut Vec<InodeCell>) -> 
     requires { cells.old.items ≡ [] }
     ensures ok { OnOk result (cells.new.items
         ≡ replicate geometry.now.numbers.inodes (new_cell geometry.now.numbers)) }
-    ensures err { FailsOnly OutOfMemory result }
+    ensures err { FailsOnly out_of_memory result }
 {
     let numbers = geometry.numbers;
     cells.reserve(numbers.inodes as usize)?;
@@ -125,7 +125,7 @@ fn add_actors(alloc: Global, geometry: &Geometry, actors: &mut Vec<Actor>) -> Re
     requires { actors.old.items ≡ [] }
     ensures ok { OnOk result (actors.new.items
         ≡ replicate geometry.now.numbers.actors (idle_actor geometry.now.numbers)) }
-    ensures err { FailsOnly OutOfMemory result }
+    ensures err { FailsOnly out_of_memory result }
 {
     let count = geometry.numbers.actors;
     actors.reserve(count as usize)?;
@@ -143,7 +143,7 @@ fn make_root(alloc: Global, shared: &mut Shared) -> Result<(), Fault>
     ensures ok { OnOk result
         (shared_of shared.new ≡ (formatted shared.old.geometry.numbers).shared) }
     ensures geometry { shared.new.geometry ≡ shared.old.geometry }
-    ensures err { FailsOnly OutOfMemory result }
+    ensures err { FailsOnly out_of_memory result }
 {
     let page = first_block(alloc, &mut shared.lists[0])?;
     let _number = shared.pool.take();
@@ -163,7 +163,7 @@ fn first_block(alloc: Global, list: &mut FreeList) -> Result<Block, Fault>
     ensures ok { IfOk result (λ block. list.old.blocks ≡ block ∷ list.new.blocks) }
     ensures rest { list.new ≡ record list.old { blocks = list.new.blocks } }
     ensures sized { IfOk result (λ block. length block.bytes ≡ list.old.size) }
-    ensures err { FailsOnly OutOfMemory result }
+    ensures err { FailsOnly out_of_memory result }
 {
     let mut queue = BlockQueue::new(alloc, list.block_bytes());
     if let Err(fault) = queue.reserve(1) {

@@ -1,7 +1,7 @@
 //! A call is made ready over the cells of all slots, of which those of its own are lent.
 
 ghost use Rattle.std.specs.Prelude.{◌≡◌, IfErr, IfOk, length, slice_index_or};
-ghost use Rattle.nv_base.specs.declared.fault.Fault.TheVariants.{OutOfMemory};
+ghost use Rattle.nv_base.specs.Memory.{out_of_memory};
 ghost use Rattle.nv_calls.specs.FillPages.{CanFill, HasOtherBytes, filled, page_in, pages_over, sourced, with_blocks};
 ghost use Rattle.nv_calls.specs.Prepared.{CanReady, HasLogPages, HasNoLessRoom, HaveNoLessRoom, IsReadyBy};
 ghost use Rattle.nv_calls.specs.SlotCells.{lent_cells, other_cells};
@@ -33,7 +33,7 @@ pub(crate) fn ready_in(
         plan.update (lent_cells (slots_in slots.now) cells.new) ready) }
     ensures hand { IfOk result (λ ready. IsFilledBy (lent_cells (slots_in slots.now) cells.new)
         text.now plan.update hand ready.hand) }
-    ensures err { IfErr result (λ refused. (refused.0 ≡ OutOfMemory)
+    ensures err { IfErr result (λ refused. (refused.0 ≡ out_of_memory)
         × HasNoLessRoom hand refused.1) }
     ensures cells { HaveNoLessRoom (lent_cells (slots_in slots.now) cells.old)
         (lent_cells (slots_in slots.now) cells.new) }
@@ -60,7 +60,7 @@ fn ready_over<C: Cells>(
         (C.cells cells.new) ready) }
     ensures hand { IfOk result (λ ready. IsFilledBy (C.cells cells.new) text.now plan.update
         hand ready.hand) }
-    ensures err { IfErr result (λ refused. (refused.0 ≡ OutOfMemory)
+    ensures err { IfErr result (λ refused. (refused.0 ≡ out_of_memory)
         × HasNoLessRoom hand refused.1) }
     ensures cells { HaveNoLessRoom (C.cells cells.old) (C.cells cells.new) }
     ensures places { C.places cells.new ≡ C.places cells.old }

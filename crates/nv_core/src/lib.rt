@@ -23,6 +23,7 @@ mod lent_take;
 mod next;
 mod reports;
 mod running;
+pub mod scan_laws;
 mod shared;
 mod showing;
 mod sink;
@@ -38,6 +39,7 @@ mod world;
 pub use bounded::MOST_STEPS;
 pub use event::{Event, Reply};
 pub use format::root;
+pub use nv_audit::Audited;
 pub use nv_base::{
     Bytes, CommitNo, Epoch, Fault, Gen, Geometry, GeometryField, GeometryNumbers, Handle, Ino,
     Kind, Mode, Name,

@@ -5,7 +5,8 @@ ghost use Rattle.std.specs.List.{sum_by};
 ghost use Rattle.nv_alloc.specs.Block.{numbers_of};
 ghost use Rattle.nv_alloc.specs.Runs.{runs_of};
 ghost use Rattle.nv_base.specs.Refusals.{FailsOnly};
-ghost use Rattle.nv_base.specs.declared.fault.Fault.TheVariants.{OutOfMemory, Stale};
+ghost use Rattle.nv_base.specs.declared.fault.Fault.TheVariants.{Stale};
+ghost use Rattle.nv_base.specs.Memory.{out_of_memory};
 ghost use Rattle.nv_machine.specs.Numbers.{IsEachOnce, all_blocks};
 ghost use Rattle.nv_machine.specs.World as machine;
 ghost use Rattle.nv_cell.specs.Cell.{log_of};
@@ -36,11 +37,12 @@ pub struct Space {
     pub free: u64,
     /// Pages of logs.
     pub chain: u64,
-    /// Data blocks that are current or held by a living snapshot.
+    /// Data blocks that are current or held by a living snapshot, as one scan of all logs tells
+    /// ([`crate::scan_laws`]).
     pub data: u64,
     /// Data blocks whose record is deferred, or picked and not yet released.
     pub pending: u64,
-    /// All others.
+    /// All others: those in hands, killed ones that nothing holds, and those that are appended and not yet published.
     pub hand: u64,
 }
 
@@ -70,7 +72,7 @@ impl World {
     pub fn lists(&self) -> Result<Lists, Fault>
         ensures ok { (m : machine.World) → Shows self.now m
             → IfOk result (λ lists. lists ≡ lists_of m.shared) }
-        ensures err { FailsOnly OutOfMemory result }
+        ensures err { FailsOnly out_of_memory result }
     {
         let mut lists = Vec::with_capacity(self.alloc, self.shared.lists.len())?;
         for list in &self.shared.lists {
@@ -85,7 +87,7 @@ impl World {
             → IfOk result (λ log. (ino < length m.shared.cells) × (log ≡ log_at m.shared ino)) }
         ensures err { (m : machine.World) → Shows self.now m → IfErr result (λ fault.
             ((fault ≡ Stale) × (length m.shared.cells ≤ ino))
-            ⊎ ((fault ≡ OutOfMemory) × (ino < length m.shared.cells))) }
+            ⊎ ((fault ≡ out_of_memory) × (ino < length m.shared.cells))) }
     {
         let place = ino.number() as usize;
         if place >= self.shared.cells.len() {
@@ -130,7 +132,7 @@ fn blocks_add_up()
 /// A free list as maximal runs.
 fn runs_in(alloc: Global, list: &FreeList) -> Result<Vec<FreeRun>, Fault>
     ensures ok { IfOk result (λ runs. runs.items ≡ runs_of (numbers_of list.now.blocks)) }
-    ensures err { FailsOnly OutOfMemory result }
+    ensures err { FailsOnly out_of_memory result }
 {
     let runs: Vec<FreeRun> = list.runs().collect(alloc)?;
     Ok(runs)
@@ -139,7 +141,7 @@ fn runs_in(alloc: Global, list: &FreeList) -> Result<Vec<FreeRun>, Fault>
 /// The log of a cell in numbers.
 fn log_counts(alloc: Global, cell: &InodeCell) -> Result<LogCounts, Fault>
     ensures ok { IfOk result (λ log. log ≡ counts_in cell.now.state) }
-    ensures err { FailsOnly OutOfMemory result }
+    ensures err { FailsOnly out_of_memory result }
 {
     let count = cell.log().blocks().len();
     let mut pages = Vec::with_capacity(alloc, count)?;

@@ -2,7 +2,7 @@
 
 ghost use Rattle.std.specs.Prelude.{◌≡◌, [], IfOk, Option, false};
 ghost use Rattle.nv_base.specs.Refusals.{FailsOnly};
-ghost use Rattle.nv_base.specs.declared.fault.Fault.TheVariants.{OutOfMemory};
+ghost use Rattle.nv_base.specs.Memory.{out_of_memory};
 ghost use Rattle.nv_base.specs.declared.limits.TheConstants.{INODES};
 ghost use Rattle.nv_entry.specs.Tree as tree;
 ghost use Rattle.nv_entry.specs.declared.node.NodeCopy.{NodeCopy};
@@ -66,7 +66,7 @@ impl Showing {
     pub(crate) fn see(self, alloc: Global, node: Option<NodeCopy>) -> Result<Showing, Fault>
         requires { is_over (showing_of self) ≡ false }
         ensures ok { IfOk result (λ after. showing_of after ≡ seen_on node (showing_of self)) }
-        ensures err { FailsOnly OutOfMemory result }
+        ensures err { FailsOnly out_of_memory result }
     {
         let Showing {
             left,
@@ -90,7 +90,7 @@ impl Showing {
 /// The walk, which is made where there is none yet.
 fn begun(alloc: Global, depth: usize, walk: Option<Walk>) -> Result<Walk, Fault>
     ensures ok { IfOk result (λ begun. begun ≡ visits_of depth walk) }
-    ensures err { FailsOnly OutOfMemory result }
+    ensures err { FailsOnly out_of_memory result }
 {
     match walk {
         Some(walk) => Ok(walk),

@@ -2,7 +2,7 @@
 
 ghost use Rattle.std.specs.Prelude.{◌≡◌, IfOk};
 ghost use Rattle.nv_base.specs.Refusals.{FailsOnly};
-ghost use Rattle.nv_base.specs.declared.fault.Fault.TheVariants.{OutOfMemory};
+ghost use Rattle.nv_base.specs.Memory.{out_of_memory};
 ghost use Rattle.nv_machine.specs.World as machine;
 ghost use Rattle.nv_core.specs.Reports.{snap_counts, snaps_of};
 ghost use Rattle.nv_core.specs.Worlds.{Shows};
@@ -36,7 +36,7 @@ impl World {
     pub fn snaps(&self) -> Result<Snaps, Fault>
         ensures ok { (m : machine.World) → Shows self.now m
             → IfOk result (λ snaps. snaps ≡ snaps_of m.shared.book) }
-        ensures err { FailsOnly OutOfMemory result }
+        ensures err { FailsOnly out_of_memory result }
     {
         snaps_in(self.alloc, &self.shared.book)
     }
@@ -45,7 +45,7 @@ impl World {
 /// The snapshots of a book.
 fn snaps_in(alloc: Global, book: &Book) -> Result<Snaps, Fault>
     ensures ok { IfOk result (λ snaps. snaps ≡ snaps_of book.now.state) }
-    ensures err { FailsOnly OutOfMemory result }
+    ensures err { FailsOnly out_of_memory result }
 {
     let snapshots = book.snaps().snapshots();
     let mut living = Vec::with_capacity(alloc, snapshots.len())?;

@@ -1,7 +1,8 @@
 //! The steps of a world.
 
 ghost use Rattle.std.specs.Prelude.{None, Some, ◌≡◌, ◌≢◌, IfErr, IfOk, OnErr, [], vec_capacity};
-ghost use Rattle.nv_base.specs.declared.fault.Fault.TheVariants.{ActorBusy, ActorIdle, NoActor, OutOfMemory};
+ghost use Rattle.nv_base.specs.declared.fault.Fault.TheVariants.{ActorBusy, ActorIdle, NoActor};
+ghost use Rattle.nv_base.specs.Memory.{out_of_memory};
 ghost use Rattle.nv_machine.specs.World as machine;
 ghost use Rattle.nv_machine.specs.Step as machine_step;
 ghost use Rattle.nv_calls.specs.Progress.{step_of};
@@ -60,12 +61,13 @@ impl World {
     pub fn run(&mut self, events: Vec<Event>) -> Result<Vec<Reply>, (Fault, Vec<Event>)>
         ensures ok { (m : machine.World) → Shows self.old m
             → IfOk result (λ replies. IsRun m events.items replies.items self.new) }
-        ensures err { IfErr result (λ refused. (refused.0 ≡ OutOfMemory)
+        ensures err { IfErr result (λ refused. (refused.0 ≡ out_of_memory)
             × (refused.1.items ≡ events.items)) }
         ensures same { OnErr result (self.new ≡ self.old) }
     {
-        let Ok(mut replies) = self.no_replies(events.len()) else {
-            return Err((Fault::OutOfMemory, events));
+        let mut replies = match self.no_replies(events.len()) {
+            Ok(replies) => replies,
+            Err(error) => return Err((error.into(), events)),
         };
         for event in events {
             replies.push_reserved(self.step(event));

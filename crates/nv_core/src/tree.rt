@@ -2,7 +2,8 @@
 
 ghost use Rattle.std.specs.Prelude.{◌≡◌, ◌⊎◌, ℕ, IfErr, IfOk, IsSome, None};
 ghost use Rattle.nv_base.specs.Refusals.{FailsOnly};
-ghost use Rattle.nv_base.specs.declared.fault.Fault.TheVariants.{NoSnapshot, OutOfMemory};
+ghost use Rattle.nv_base.specs.declared.fault.Fault.TheVariants.{NoSnapshot};
+ghost use Rattle.nv_base.specs.Memory.{out_of_memory};
 ghost use Rattle.nv_calls.specs.Plain.{node_in};
 ghost use Rattle.nv_epoch.specs.SnapList.{pins_of};
 ghost use Rattle.nv_machine.specs.Snapshots.{copies_at};
@@ -25,7 +26,7 @@ impl World {
     pub fn tree(&self) -> Result<Tree, Fault>
         ensures ok { (m : machine.World) → Shows self.now m
             → IfOk result (λ tree. tree ≡ tree_of m) }
-        ensures err { FailsOnly OutOfMemory result }
+        ensures err { FailsOnly out_of_memory result }
     {
         self.shared.tree(self.alloc)
     }
@@ -36,7 +37,7 @@ impl World {
             (tree ≡ snapshot_tree m snapshot) × IsSome (pins_of m.shared.book.snaps snapshot)) }
         ensures err { (m : machine.World) → Shows self.now m → IfErr result (λ fault.
             ((fault ≡ NoSnapshot) × (pins_of m.shared.book.snaps snapshot ≡ None))
-            ⊎ ((fault ≡ OutOfMemory) × IsSome (pins_of m.shared.book.snaps snapshot))) }
+            ⊎ ((fault ≡ out_of_memory) × IsSome (pins_of m.shared.book.snaps snapshot))) }
     {
         if !self.shared.book.snaps().has(snapshot) {
             return Err(Fault::NoSnapshot);
@@ -50,7 +51,7 @@ impl Shared {
     fn tree(&self, alloc: Global) -> Result<Tree, Fault>
         requires { AreSettled (shared_of self.now) }
         ensures ok { IfOk result (λ tree. tree ≡ tree_in (shared_of self.now)) }
-        ensures err { FailsOnly OutOfMemory result }
+        ensures err { FailsOnly out_of_memory result }
     {
         let mut walk = Walk::new(alloc, root(), self.cells.len())?;
         let mut nodes = Vec::new(alloc);
@@ -68,7 +69,7 @@ impl Shared {
         requires can { CanShow self.now epoch }
         requires settled { AreSettledAt epoch (shared_of self.now) }
         ensures ok { IfOk result (λ tree. tree ≡ tree_at epoch (shared_of self.now)) }
-        ensures err { FailsOnly OutOfMemory result }
+        ensures err { FailsOnly out_of_memory result }
     {
         let mut walk = Walk::new(alloc, root(), self.cells.len())?;
         let mut shown = Vec::new(alloc);
@@ -92,7 +93,7 @@ impl Shared {
         requires settled { AreSettledAt epoch (shared_of self.now) }
         ensures ok { IfOk result (λ node.
             node ≡ settled_copies (shared_of self.now) epoch handle.now) }
-        ensures err { FailsOnly OutOfMemory result }
+        ensures err { FailsOnly out_of_memory result }
     {
         self.node_at(alloc, handle, epoch)
     }
@@ -106,7 +107,7 @@ impl Shared {
     ) -> Result<Option<NodeCopy>, Fault>
         requires { CanShow self.now epoch }
         ensures ok { IfOk result (λ node. node ≡ copies_at (shared_of self.now) epoch handle.now) }
-        ensures err { FailsOnly OutOfMemory result }
+        ensures err { FailsOnly out_of_memory result }
     {
         let place = handle.ino.number() as usize;
         if place >= self.cells.len() {
@@ -128,7 +129,7 @@ impl Shared {
         requires { AreSettled (shared_of self.now) }
         ensures ok { IfOk result (λ node.
             node ≡ node_in (settled_nodes (shared_of self.now)) handle.now) }
-        ensures err { FailsOnly OutOfMemory result }
+        ensures err { FailsOnly out_of_memory result }
     {
         let place = handle.ino.number() as usize;
         if place >= self.cells.len() {

@@ -106,7 +106,8 @@ fn run<R: AllocGlobal + Print>(rt: &R) -> Result<()> {
     print_space(rt, "blocks after its drop", &world)?;
     world.call(ACTOR, Call::Snapshots(SnapshotCall::Drain(100)))?;
     print_space(rt, "blocks after a drain", &world)?;
-    Ok(world.audit()?)
+    world.audit()?;
+    Ok(())
 }
 
 fn main(rt: HostRuntime) -> Result<()> {

@@ -1,11 +1,11 @@
 //! The check of a call over the cells that it holds.
 
-ghost use Rattle.std.specs.Prelude.{◌≢◌, ◌≡◌, ◌+◌, ◌<◌, ◌≤◌, ◌^◌, IfOk, [], length, option_map, true};
+ghost use Rattle.std.specs.Prelude.{◌≢◌, ◌≡◌, ◌+◌, ◌<◌, ◌≤◌, ◌^◌, IfOk, OnErr, [], length, option_map, true};
 ghost use Rattle.std.specs.Option.{ForSome};
 ghost use Rattle.nv_alloc.specs.Hand.{blocks_of};
 ghost use Rattle.nv_base.specs.Limits.{IsWithinLimits};
 ghost use Rattle.nv_base.specs.Refusals.{FailsOnly};
-ghost use Rattle.nv_base.specs.declared.fault.Fault.TheVariants.{OutOfMemory};
+ghost use Rattle.nv_base.specs.Memory.{out_of_memory};
 ghost use Rattle.nv_base.specs.declared.limits.TheConstants.{BLOCK_BYTES};
 ghost use Rattle.nv_calls.specs.AllCalls.{blocks_wanted, looked};
 ghost use Rattle.nv_calls.specs.Nodes.{nodes_in};
@@ -18,14 +18,14 @@ ghost use Rattle.nv_machine.specs.Reads.{copies, has_last_page};
 ghost use Rattle.nv_machine.specs.Step.{ending_at, made_in, same_looked, with_made};
 ghost use Rattle.nv_core.specs.Nodes.{ends_over, wanted_over};
 ghost use Rattle.nv_core.specs.Parts.{AreHome, AreSlots, HaveSlots, IsOfDevice};
-ghost use Rattle.nv_core.specs.Rooms.{FitsCall, HasRoomsAfter, IsHandOf, WantsBlocks};
+ghost use Rattle.nv_core.specs.Rooms.{FitsCall, HasRoomsAfter, IsHandOf, WantsBlocks, pages_to_take};
 ghost use Rattle.nv_core.specs.Shown.{Told, ending_of, hand_of, shared_of, shown, slots_in, turn_of};
 ghost use Rattle.nv_core.specs.Steps.{CanBeChecked};
 ghost use Rattle.nv_core.specs.Told.{IsChangeWith, IsEither, IsToldOf, KeepsJob, is_change};
 
 use crate::ending::{end, refuse};
 use crate::hold::Hold;
-use crate::kinds::take::want_pages;
+use crate::kinds::take::{pages_by, want_pages};
 use crate::next::{Ending, Next};
 use crate::running::Running;
 use crate::shared::Shared;
@@ -39,7 +39,7 @@ use nv_calls::{
 };
 use nv_cell::InodeCell;
 
-/// Tests the call, and settles how many blocks it takes. The hand gets room for them.
+/// Tests the call, and settles how many blocks it takes. The hand gets room for them: where it takes none, nothing grows.
 pub(crate) fn check(shared: &mut Shared, hand: &mut Hand, running: &mut Running) -> Turn
     requires change { is_change running.old.job ≡ true }
     requires limits { IsWithinLimits shared.old.geometry.numbers }
@@ -65,7 +65,8 @@ pub(crate) fn check(shared: &mut Shared, hand: &mut Hand, running: &mut Running)
         return end(shared, hand, running, ending);
     }
     let wanted = wanted_by(shared, running);
-    if let Err(fault) = make_room(hand, wanted) {
+    let pages = most_pages(shared, hand, running, wanted);
+    if let Err(fault) = make_room(hand, wanted, pages) {
         return refuse(shared, hand, running, fault);
     }
     want_blocks(shared, hand, running, wanted)
@@ -211,19 +212,38 @@ fn wanted_in(block: u64, cells: &mut [InodeCell], slots: &Slots, update: &Update
     blocks_wanted(block, &nodes, present, update)
 }
 
-/// Makes room in the hand for what is to be taken: for data blocks, and for the log pages that these may need.
-fn make_room(hand: &mut Hand, blocks: u64) -> Result<(), Fault>
-    requires { blocks < 2 ^ 32 }
+/// How many log pages the call takes at most. Where it takes no data they can be counted before.
+fn most_pages(shared: &mut Shared, hand: &Hand, running: &Running, wanted: u64) -> u64
+    requires limits { IsWithinLimits shared.old.geometry.numbers }
+    requires device { IsOfDevice shared.old.geometry.numbers hand.now }
+    requires sized { IsHandOf shared.old.geometry.numbers hand.now }
+    requires empty { blocks_of hand.now ≡ [] }
+    requires few { wanted < 2 ^ 32 }
+    requires can { WantsBlocks wanted shared.old hand.now running.now }
+    ensures same { shared.new ≡ shared.old }
+    ensures none { let slots = slots_in running.now.slots in wanted ≡ 0 → IsChangeWith
+        (λ u. result ≡ pages_to_take shared.old slots hand.now u) running.now.job }
+    ensures some { 0 < wanted → result ≡ wanted + MORE_PAGES }
+{
+    if wanted > 0 {
+        return wanted + MORE_PAGES;
+    }
+    pages_by(shared, hand, running)
+}
+
+/// Makes room in the hand for what is to be taken: for data blocks, and for log pages.
+fn make_room(hand: &mut Hand, blocks: u64, pages: u64) -> Result<(), Fault>
     ensures hand { hand.new ≡ record hand.old {
       «data» = record hand.old.data { room = hand.new.data.room };
       pages = record hand.old.pages { room = hand.new.pages.room };
     } }
     ensures ok { IfOk result
-        (λ _. (blocks ≤ hand.new.data.room) × (blocks + MORE_PAGES ≤ hand.new.pages.room)) }
-    ensures err { FailsOnly OutOfMemory result }
+        (λ _. (blocks ≤ hand.new.data.room) × (pages ≤ hand.new.pages.room)) }
+    ensures some { OnErr result (0 < blocks + pages) }
+    ensures err { FailsOnly out_of_memory result }
 {
     hand.data.reserve(blocks)?;
-    hand.pages.reserve(blocks + MORE_PAGES)
+    hand.pages.reserve(pages)
 }
 
 /// The call wants data blocks, and log pages after them. A taking of nothing has no step.
@@ -235,7 +255,9 @@ fn want_blocks(shared: &mut Shared, hand: &Hand, running: &mut Running, wanted: 
     requires call { FitsCall running.old }
     requires empty { blocks_of hand.now ≡ [] }
     requires room { wanted ≤ hand.now.data.room }
-    requires pages { wanted + MORE_PAGES ≤ hand.now.pages.room }
+    requires pages { 0 < wanted → wanted + MORE_PAGES ≤ hand.now.pages.room }
+    requires own { let slots = slots_in running.old.slots in wanted ≡ 0 → IsChangeWith
+        (λ u. pages_to_take shared.old slots hand.now u ≤ hand.now.pages.room) running.old.job }
     requires can { WantsBlocks wanted shared.old hand.now running.old }
     ensures turn { (told : Told) → IsToldOf running.old told
         → let s = shared_of shared.old in let h = hand_of hand.now in

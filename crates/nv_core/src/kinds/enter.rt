@@ -1,6 +1,6 @@
 //! The commit lock is taken.
 
-ghost use Rattle.std.specs.Prelude.{◌≡◌, is_some, nat_le, true};
+ghost use Rattle.std.specs.Prelude.{◌≡◌, ◌<◌, ◌≤◌, None, Some, is_some, nat_le, true};
 ghost use Rattle.nv_base.specs.declared.limits.TheConstants.{NUMBER};
 ghost use Rattle.nv_machine.specs.Kinds.{enter_turn};
 ghost use Rattle.nv_core.specs.Appends.{IsPlacedBy, IsPlanOf};
@@ -41,6 +41,8 @@ pub(crate) fn enter(
         → IsPlanOf (slots_in running.old.slots) told.plan
         → IsPlacedBy (slots_in running.old.slots) result.0
         (told_by result.0 shared.old.book.state told) }
+    ensures enough { shared.old.holder ≡ None → shared.old.book.state.commit < NUMBER
+        → ready.need ≤ shared.old.book.room → shared.new.holder ≡ Some actor }
     ensures waits { is_some shared.old.holder ≡ true → result.1 ≡ Turn.Waits }
     ensures still { result.1 ≡ Turn.Waits → (shared.new ≡ shared.old)
         × (running.new ≡ running.old) × (result.0 ≡ Hold.Ready ready) }

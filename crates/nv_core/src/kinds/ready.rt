@@ -2,7 +2,7 @@
 
 ghost use Rattle.std.specs.Prelude.{◌≡◌, ◌≢◌, IfErr, IfOk};
 ghost use Rattle.nv_base.specs.Limits.{IsWithinLimits};
-ghost use Rattle.nv_base.specs.declared.fault.Fault.TheVariants.{OutOfMemory};
+ghost use Rattle.nv_base.specs.Memory.{out_of_memory};
 ghost use Rattle.nv_calls.specs.Prepared.{CanReady, HasLogPages, HasNoLessRoom, HaveNoLessRoom, IsReadyBy};
 ghost use Rattle.nv_calls.specs.SlotCells.{lent_cells};
 ghost use Rattle.nv_machine.specs.Kinds.{ready_turn};
@@ -93,7 +93,7 @@ fn ready_of(
     ensures hand { IfOk result (λ ready. IsFilledBy
         (lent_cells (slots_in slots.now) shared.new.cells.items) text.now plan.update hand
         ready.hand) }
-    ensures err { IfErr result (λ refused. (refused.0 ≡ OutOfMemory)
+    ensures err { IfErr result (λ refused. (refused.0 ≡ out_of_memory)
         × HasNoLessRoom hand refused.1) }
     ensures cells { HaveNoLessRoom (lent_cells (slots_in slots.now) shared.old.cells.items)
         (lent_cells (slots_in slots.now) shared.new.cells.items) }

@@ -3,7 +3,7 @@
 ghost use Rattle.std.specs.Prelude.{◌≡◌, ◌≢◌, ◌<◌, [], IfOk, false};
 ghost use Rattle.std.specs.Option.{ForSome, IsSomeAnd};
 ghost use Rattle.nv_base.specs.Refusals.{FailsOnly};
-ghost use Rattle.nv_base.specs.declared.fault.Fault.TheVariants.{OutOfMemory};
+ghost use Rattle.nv_base.specs.Memory.{out_of_memory};
 ghost use Rattle.nv_base.specs.declared.limits.TheConstants.{PINS};
 ghost use Rattle.nv_epoch.specs.SnapList.{pins_of};
 ghost use Rattle.nv_machine.specs.Snapshots.{copies_at, pin_turn, seen_on, show_turn, showing_on, unpin_turn, visited};
@@ -105,7 +105,7 @@ fn see(alloc: Global, shared: &Shared, snapshot: u64, showing: Showing) -> Resul
     ensures ok { IfOk result (λ after. let s = shared_of shared.now in
         let to = showing_of showing in
         showing_of after ≡ seen_on (copies_at s snapshot (visited to.visits)) to) }
-    ensures err { FailsOnly OutOfMemory result }
+    ensures err { FailsOnly out_of_memory result }
 {
     let handle = showing.visited();
     let node = shared.node_at(alloc, &handle, Epoch::new(snapshot))?;

@@ -7,7 +7,7 @@ ghost use Rattle.nv_base.specs.declared.fault.Fault.TheVariants.{NoSpace};
 ghost use Rattle.nv_base.specs.Limits.{IsWithinLimits};
 ghost use Rattle.nv_calls.specs.declared.log_pages.TheConstants.{MORE_PAGES};
 ghost use Rattle.nv_core.specs.Parts.{AreHome, IsOfDevice};
-ghost use Rattle.nv_core.specs.Rooms.{CanEnd, CanWantPages, FitsCall, HasRooms, HasRoomsAfter, IsHandOf, pages_to_take};
+ghost use Rattle.nv_core.specs.Rooms.{CanCountPages, CanEnd, CanWantPages, FitsCall, HasRooms, HasRoomsAfter, IsHandOf, pages_to_take};
 ghost use Rattle.nv_core.specs.Shown.{Told, hand_of, shared_of, shown, slots_in, turn_of};
 ghost use Rattle.nv_machine.specs.World.{list_at};
 ghost use Rattle.nv_core.specs.Takings.{IsTaken};
@@ -50,11 +50,11 @@ pub(crate) fn want_pages(shared: &mut Shared, hand: &Hand, running: &mut Running
 }
 
 /// How many log pages the call wants.
-fn pages_by(shared: &mut Shared, hand: &Hand, running: &Running) -> u64
+pub(crate) fn pages_by(shared: &mut Shared, hand: &Hand, running: &Running) -> u64
     requires limits { IsWithinLimits shared.old.geometry.numbers }
     requires device { IsOfDevice shared.old.geometry.numbers hand.now }
     requires sizes { IsHandOf shared.old.geometry.numbers hand.now }
-    requires can { CanWantPages shared.old hand.now running.now }
+    requires can { CanCountPages shared.old hand.now running.now }
     ensures same { shared.new ≡ shared.old }
     ensures wanted { let slots = slots_in running.now.slots in IsChangeWith
         (λ u. result ≡ pages_to_take shared.old slots hand.now u) running.now.job }

@@ -1,7 +1,11 @@
-use Rattle.std.proofs.Common.{◌∙◌, inl, subst, sym}
+use Rattle.std.proofs.Common.{◌∙◌, ◌≤◌, ℕ, inl, subst, sym}
+use Rattle.std.specs.Prelude.{IsOk, Result}
 use Rattle.std.proofs.lemmas.Bool.{leb-false}
 use Rattle.nv_alloc.specs.declared.hand.Hand.{Hand}
+use Rattle.nv_base.specs.declared.fault.Fault.{Fault}
 use Rattle.nv_base.specs.declared.limits.TheConstants.{NUMBER}
+use Rattle.nv_base.specs.declared.numbers.CommitNo.{CommitNo}
+use Rattle.nv_base.specs.declared.numbers.Epoch.{Epoch}
 use Rattle.nv_calls.specs.Commit.{CommitValue, stamp_of}
 use Rattle.nv_core.specs.Rooms.{IsHandOf}
 use Rattle.nv_core.specs.Shown.{slots_in}
@@ -58,3 +62,8 @@ refuse-turn-requires-clause-call c = given_ends c.args.running.now _ c.requires.
 pub refuse-turn-requires-clause-sized : goal.refuse-turn-requires-clause-sized
 refuse-turn-requires-clause-sized c =
     subst (λ (h : Hand). IsHandOf c.args.shared.now.geometry.numbers h) (sym c.into_hand-hand.ensures) c.requires.rooms.2
+
+pub returns-in-Err-clause-enough : goal.returns-in-Err-clause-enough
+returns-in-Err-clause-enough c none below room =
+    let is = subst (λ (r : Result (Epoch × CommitNo) Fault). IsOk r) c.in-Err.is
+    (c.enter.ensures.enough below (subst (λ (n : ℕ). n ≤ c.args.shared.now.book.room) (sym c.need.ensures) room)) in cc

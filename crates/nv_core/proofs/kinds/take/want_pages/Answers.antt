@@ -1,8 +1,8 @@
-use Rattle.std.proofs.Common.{◌≡◌, ℕ}
+use Rattle.std.proofs.Common.{◌≡◌, ℕ, length}
 use Rattle.nv_alloc.specs.declared.hand.Hand.{Hand}
 use Rattle.nv_calls.specs.declared.update.Update.{Update}
 use Rattle.nv_machine.specs.Reads.{has_last_page, pages_wanted, plan_by}
-use Rattle.nv_core.specs.Rooms.{CanWantPages, HasItsBlocks, HasMade, IsChecked, pages_to_take}
+use Rattle.nv_core.specs.Rooms.{CanWantPages, HasItsBlocks, HasMade, IsChecked, blocks_to_take, pages_to_take}
 use Rattle.nv_core.specs.Shown.{Told, hand_of, shared_of, shown, slots_in}
 use Rattle.nv_core.specs.Told.{IsChangeWith, IsToldOf}
 use Rattle.nv_core.specs.declared.running.Running.{Running}
@@ -47,3 +47,11 @@ returns-clause-rooms c =
     rooms_next c.args.shared.now c.pages_by-running.new.shared c.args.hand.now c.args.running.now c.pages_by-running.result
     c.requires.limits c.requires.home c.requires.sizes c.requires.call c.requires.can c.pages_by-running.ensures.wanted
     c.pages_by-running.ensures.few c.pages_by-running.ensures.same
+
+pub pages_by-running-requires-clause-can : goal.pages_by-running-requires-clause-can
+pages_by-running-requires-clause-can c =
+    let shared = c.args.shared.now in let slots = slots_in c.args.running.now.slots in let hand = c.args.hand.now in
+    over_all (λ (u : Update). HasMade shared slots hand c.args.running.now.made u × IsChecked shared slots hand c.args.running.now.looked u
+    × HasItsBlocks shared slots hand u)
+    (λ (u : Update). IsChecked shared slots hand c.args.running.now.looked u
+    × (length hand.«data».blocks ≡ blocks_to_take shared slots u)) c.args.running.now.job (λ u h. (h.1, h.2.blocks)) c.requires.can
