@@ -20,12 +20,13 @@ use Rattle.nv_script.specs.Play.{Ends, EndsBy, EndsWell, IsFault, ListsWords, Pl
 use Rattle.nv_script.specs.Grammar.{is_skipped}
 use Rattle.nv_script.specs.Texts.{line_of, node_line, tree_lines}
 use Rattle.nv_script.specs.Words.{words_of}
-use Rattle.nv_script.specs.Results.{AtLine, LineFaultIs, Sent, ending_of, is_line, within_lines}
+use Rattle.nv_script.specs.Results.{AtLine, HoldsNone, LineFaultIs, Sent, ending_of, is_line, within_lines}
 use Rattle.nv_script.proofs.Breaks.{breaks_at}
 use Rattle.nv_script.proofs.Handed.{lists_text}
 use Rattle.nv_script.proofs.Played.{is_list_of, plays_listed}
-use Rattle.nv_script.proofs.Known.{writes_all, writes_grown, writes_none, writes_rest, writes_some, writes_some_of}
+use Rattle.nv_script.proofs.Known.{writes_all, writes_end, writes_grown, writes_none, writes_rest, writes_some, writes_some_of}
 use Rattle.nv_script.proofs.Lines.{ended-append, ended-push}
+use Rattle.nv_base.specs.Memory.{out_of_memory}
 
 -- before the first line
 pub at_first : (input ahead old : Option (List ℕ)) (gathered : List ℕ) (world : Option World) → Consumes input ahead []
@@ -57,7 +58,7 @@ none_left (Some rest) [] end = end
 none_left (Some rest) (first ∷ ahead) end = cc
 
 -- no room for lines
-pub no_room : (input left old : Option (List ℕ)) → EndsBy fault.OutOfMemory input left (λ text. Appends old old text)
+pub no_room : (input left old : Option (List ℕ)) → EndsBy out_of_memory input left (λ text. Appends old old text)
 no_room input left old =
     let all = whole input in
     ([], all.0, [], [], None, record { split = all.1; few = omega arith; plays = (refl, refl) }, inl (refl, refl), Appends-nil old)
@@ -163,9 +164,17 @@ pub ends_on : (result : Result (Unit {0}) Fault) (input left : Option (List ℕ)
 ends_on (Ok done) input left Old New turn e = (e.0, e.1, e.2, e.3, e.4, turn e.1 e.5)
 ends_on (Err (fault.ScriptFault why number)) input left Old New turn e = (e.0, e.1, e.2, e.3, e.4, e.5, turn e.2 e.6)
 ends_on (Err fault.Read) input left Old New turn e = (e.0, e.1, e.2, e.3, e.4, e.5, turn e.2 e.6)
-ends_on (Err fault.OutOfMemory) input left Old New turn e = (e.0, e.1, e.2, e.3, e.4, e.5, e.6, turn (e.2 ++ e.3) e.7)
+ends_on (Err (fault.OutOfMemory _)) input left Old New turn e = (e.0, e.1, e.2, e.3, e.4, e.5, e.6, turn (e.2 ++ e.3) e.7)
 ends_on (Err fault.Write) input left Old New turn e = (e.0, e.1, e.2, e.3, e.4, e.5, e.6, turn (e.2 ++ e.3) e.7)
 ends_on (Err _) input left Old New turn e = absurd e
+
+-- nothing is gathered, so all is written
+pub ends_unheld : (result : Result (Unit {0}) Fault) (input left old new : Option (List ℕ)) (gathered : List ℕ) → gathered ≡ []
+    → Ends result input left (λ text. WritesFront old new text gathered) → Ends result input left (λ text. Appends old new text)
+ends_unheld result input left old new gathered none e =
+    let rest = subst (λ (bytes : List ℕ). Appends new new bytes) (sym none) (Appends-nil new) in
+    ends_on result input left (λ text. WritesFront old new text gathered) (λ text. Appends old new text)
+    (λ text front. writes_end old new new text gathered front rest) e
 
 -- the same where some of what was gathered was written
 broken_played : (input left old mid new : Option (List ℕ)) (gathered : List ℕ) (lines : List (List ℕ)) (rest text : List ℕ)
@@ -217,7 +226,7 @@ broken_off (Err (fault.ScriptFault why number)) input left old mid new gathered 
     e.1 e.2 e.3 e.4 e.6 some
 broken_off (Err fault.Read) input left old mid new gathered e some = broken_played input left old mid new gathered e.0 e.1 e.2 e.3 e.4 e.6
     some
-broken_off (Err fault.OutOfMemory) input left old mid new gathered e some =
+broken_off (Err (fault.OutOfMemory _)) input left old mid new gathered e some =
     broken_stop input left old mid new gathered e.0 e.1 e.2 e.3 e.4 e.5 e.6 e.7 some
 broken_off (Err fault.Write) input left old mid new gathered e some =
     let next = e.6 in
@@ -432,7 +441,7 @@ module _ (input known old new : Option (List ℕ)) (gathered : List ℕ) (number
     pub not_played : (left : Option (List ℕ)) (why : LineFault) (to : Sent)
         → LineFaultIs why (record { written = new; gathered = gathered }) to world line
         → EndsBy (ending_of number why) input left (λ text. WritesFront old to.written text to.gathered)
-    not_played left line_fault.OutOfMemory to why =
+    not_played left (line_fault.OutOfMemory _) to why =
         let p = played after (line ++ 10 ∷ []) here in (
           at.lines,
           (line ++ 10 ∷ []) ++ p.0,
@@ -453,9 +462,11 @@ module _ (input known old new : Option (List ℕ)) (gathered : List ℕ) (number
         (λ rest. within number (is_some world) _ reason within_last (inr (inr (line, rest, lawful, refl, why.0)))))
 
 -- the same end, told by an equation
-pub ends_told : (told why : Fault) (input left : Option (List ℕ)) (Writes : List ℕ → Type 0) → told ≡ why → EndsBy why input left Writes
-    → EndsBy told input left Writes
-ends_told told why input left Writes same e = subst (λ (f : Fault). EndsBy f input left Writes) (sym same) e
+pub ends_told : (told why : Fault) (input left : Option (List ℕ)) (Writes : List ℕ → Type 0) (gathered : List ℕ) → told ≡ why
+    → EndsBy why input left Writes × HoldsNone {A = Bool} (Err why) gathered
+    → EndsBy told input left Writes × HoldsNone {A = Bool} (Err told) gathered
+ends_told told why input left Writes gathered same e =
+    subst (λ (f : Fault). EndsBy f input left Writes × HoldsNone {A = Bool} (Err f) gathered) (sym same) e
 
 -- a fault of a slice is one of its bytes
 pub why_at : (why : LineFault) (from to : Sent) (m : Option World) (slice line : List ℕ) → slice ≡ line → LineFaultIs why from to m slice

@@ -1,5 +1,5 @@
 -- The lines of nodes that were handed to a sink which writes them.
-use Rattle.std.proofs.Common.{◌≡◌, ◌≢◌, ◌⊎◌, ◌∙◌, ℕ, ◌++◌, Bool, IsSome, false, true, List, [], ◌∷◌, MatchOption, Option, Some, None, Result, Ok, Err, ap, append_assoc, append-nil, inl, inr, option_map, refl, subst, sym}
+use Rattle.std.proofs.Common.{◌≡◌, ◌≢◌, ◌⊎◌, ◌∙◌, ℕ, ◌+◌, ◌++◌, Bool, IsSome, false, true, List, [], ◌∷◌, MatchOption, Option, Some, None, Result, Ok, Err, ap, append_assoc, append-nil, arith, inl, inr, option_map, refl, subst, sym}
 use Rattle.std.proofs.lemmas.Grind.{flat_map-append}
 use Rattle.std.specs.List.{flat_map}
 use Rattle.std.specs.Prelude.{codes}
@@ -10,9 +10,10 @@ use Rattle.nv_core.specs.Sinks.{AtNode, Hands, TakesAll}
 use Rattle.nv_script.specs.declared.fault.LineFault.{LineFault}
 use Rattle.nv_script.specs.declared.fault.LineFault.TheVariants as line_fault
 use Rattle.nv_script.specs.Lines.{WritesFront, WritesSome}
-use Rattle.nv_script.specs.Results.{Fails, FailsList, HandsLines, IsNotSent, ListIs, ListsText, Sends, Sent, StopsList}
+use Rattle.nv_script.specs.Results.{Fails, FailsList, HandsLines, IsNotSent, ListIs, ListsText, Sends, Sent, StopsList, failed_in_line, failed_in_tree}
 use Rattle.nv_script.specs.Texts.{line_of, node_line, refused_line, tree_lines}
 use Rattle.nv_script.proofs.Known.{writes_grown, writes_none, writes_rest, writes_some, writes_some_of}
+use Rattle.nv_base.specs.Memory.{no_memory, out_of_memory}
 
 pub sends_none : (at : Sent) → Sends at at []
 sends_none at = subst (λ (t : List ℕ). WritesFront at.written at.written t at.gathered) (sym (append-nil at.gathered))
@@ -43,25 +44,35 @@ tree_split nodes front rest node are =
     ∙ ap (λ (t : List ℕ). t ++ line_of (codes "end")) (sym (append_assoc (flat_map node_line front) (node_line node) (flat_map node_line rest)))
     ∙ append_assoc (flat_map node_line front ++ node_line node) (flat_map node_line rest) (line_of (codes "end"))
 
-module _ {S : Type 0} (failed : S → ℕ) (sent : S → Sent) (begun : S → Bool) (why : S → LineFault) (writer outbox : S → ℕ) where
+-- a sink's own count and what is seen of its writer
+module _ {S : Type 0} (failed : S → ℕ) (sent : S → Sent) (begun : S → Bool) (why : S → LineFault) (writer outbox count place : S → ℕ) where
   abbrev pub Writes : AtNode S
   Writes old node new =
       Sends (sent old) (sent new) (node_line node) × (begun new ≡ true) × (writer new ≡ writer old) × (outbox new ≡ outbox old)
+      × (count new ≡ count old) × (place new ≡ place old)
 
   abbrev pub Halts : AtNode S
   Halts old node new =
       IsNotSent (why new) (sent old) (sent new) (node_line node) × (writer new ≡ writer old) × (outbox new ≡ outbox old)
+      × (count new ≡ count old + failed_in_line (Err (why new))) × (place new ≡ place old)
+
+  -- the writer and the outbox are the same, and so many writes failed
+  abbrev pub IsSame : ℕ → S → S → Type 0
+  IsSame more old new =
+      (writer new ≡ writer old) × (outbox new ≡ outbox old) × (count new ≡ count old + more) × (place new ≡ place old)
 
   all_sent : (old new : S) (nodes : List TreeNode) → TakesAll Writes old nodes new
-      → Sends (sent old) (sent new) (flat_map node_line nodes) × (writer new ≡ writer old) × (outbox new ≡ outbox old)
-  all_sent old new [] same =
-      (subst (λ (s : S). Sends (sent old) (sent s) []) (sym same) (sends_none (sent old)), ap writer same, ap outbox same)
+      → Sends (sent old) (sent new) (flat_map node_line nodes)
+  all_sent old new [] same = subst (λ (s : S). Sends (sent old) (sent s) []) (sym same) (sends_none (sent old))
   all_sent old new (node ∷ nodes) took =
-      let rest = all_sent took.0 new nodes took.2 in (
-        sends_more (sent old) (sent took.0) (sent new) (node_line node) (flat_map node_line nodes) took.1.0 rest.0,
-        rest.1 ∙ took.1.2,
-        rest.2 ∙ took.1.3,
-      )
+      sends_more (sent old) (sent took.0) (sent new) (node_line node) (flat_map node_line nodes) took.1.0
+      (all_sent took.0 new nodes took.2)
+
+  all_same : (old new : S) (nodes : List TreeNode) → TakesAll Writes old nodes new → IsSame 0 old new
+  all_same old new [] same = (ap writer same, ap outbox same, omega (arith, ap count same), ap place same)
+  all_same old new (node ∷ nodes) took =
+      let rest = all_same took.0 new nodes took.2 in
+      (rest.0 ∙ took.1.2, rest.1 ∙ took.1.3, omega (arith, rest.2, took.1.4), rest.3 ∙ took.1.5)
 
   has_begun : (old new : S) (node : TreeNode) (nodes : List TreeNode) → TakesAll Writes old (node ∷ nodes) new → begun new ≡ true
   has_begun old new node [] took = ap begun took.2 ∙ took.1.1
@@ -73,42 +84,45 @@ module _ {S : Type 0} (failed : S → ℕ) (sent : S → Sent) (begun : S → Bo
       subst (λ (b : Bool). StopsList b (Some nodes) (sent old) (sent new)) (sym (ap begun took ∙ first)) (refl, ap sent took)
   stops_list old new nodes (node ∷ front) rest first are took =
       subst (λ (b : Bool). StopsList b (Some nodes) (sent old) (sent new)) (sym (has_begun old new node front took))
-      (flat_map node_line (node ∷ front), (node ∷ front, rest, ap Some are, refl), (all_sent old new (node ∷ front) took).0)
+      (flat_map node_line (node ∷ front), (node ∷ front, rest, ap Some are, refl), all_sent old new (node ∷ front) took)
 
   fails_list : (reason : LineFault) (old mid new : S) (nodes front rest : List TreeNode) (node : TreeNode) → nodes ≡ front ++ node ∷ rest
       → TakesAll Writes old front mid → IsNotSent reason (sent mid) (sent new) (node_line node)
       → FailsList reason (Some nodes) (sent old) (sent new)
-  fails_list line_fault.OutOfMemory old mid new nodes front rest node are took halts = (
+  fails_list (line_fault.OutOfMemory _) old mid new nodes front rest node are took halts = (
     flat_map node_line front,
     (front, node ∷ rest, ap Some are, refl),
-    subst (λ (s : Sent). Sends (sent old) s (flat_map node_line front)) (sym halts) (all_sent old mid front took).0,
+    subst (λ (s : Sent). Sends (sent old) s (flat_map node_line front)) (sym halts) (all_sent old mid front took),
   )
   fails_list line_fault.Write old mid new nodes front rest node are took halts = (
     nodes,
     refl,
     subst (λ (t : List ℕ). Fails (sent old) (sent new) t) (sym (tree_split nodes front rest node are))
         (fails_behind (sent old) (sent mid) (sent new) (flat_map node_line front) (node_line node)
-        (flat_map node_line rest ++ line_of (codes "end")) (all_sent old mid front took).0 halts),
+        (flat_map node_line rest ++ line_of (codes "end")) (all_sent old mid front took) halts),
   )
   fails_list (line_fault.Faulty kind) old mid new nodes front rest node are took halts = absurd halts
 
   -- what was handed on, as lines
   pub hands_lines : (result : Result (Unit {0}) Fault) (old new : S) (nodes : List TreeNode) → begun old ≡ false
       → Hands result failed Writes Halts old nodes new → HandsLines result (begun new) (why new) (Some nodes) (sent old) (sent new)
-  hands_lines (Ok done) old new nodes first hands = (nodes, refl, (all_sent old new nodes hands.0).0)
+  hands_lines (Ok done) old new nodes first hands = (nodes, refl, all_sent old new nodes hands.0)
   hands_lines (Err refused) old new nodes first (inl (out, front, same)) =
       inr (inl (out, stops_list old new nodes front.front front.rest first front.are front.takes))
   hands_lines (Err refused) old new nodes first (inr (write, broke, more)) =
       inr (inr (write, fails_list (why new) old broke.mid new nodes broke.front broke.rest broke.node broke.are broke.takes broke.fails.0))
 
-  -- and the writer and the outbox are the same
+  -- and what stays of the writer and the outbox
   pub hands_same : (result : Result (Unit {0}) Fault) (old new : S) (nodes : List TreeNode)
-      → Hands result failed Writes Halts old nodes new → (writer new ≡ writer old) × (outbox new ≡ outbox old)
-  hands_same (Ok done) old new nodes hands = let all = all_sent old new nodes hands.0 in (all.1, all.2)
+      → Hands result failed Writes Halts old nodes new → IsSame (failed_in_tree result (why new)) old new
+  hands_same (Ok done) old new nodes hands = all_same old new nodes hands.0
   hands_same (Err refused) old new nodes (inl (out, front, same)) =
-      let all = all_sent old new front.front front.takes in (all.1, all.2)
+      subst (λ (f : Fault). IsSame (failed_in_tree (Err f) (why new)) old new) (sym out) (all_same old new front.front front.takes)
   hands_same (Err refused) old new nodes (inr (write, broke, more)) =
-      let all = all_sent old broke.mid broke.front broke.takes in (broke.fails.1 ∙ all.1, broke.fails.2 ∙ all.2)
+      let all = all_same old broke.mid broke.front broke.takes in
+      let fails = broke.fails in
+      subst (λ (f : Fault). IsSame (failed_in_tree (Err f) (why new)) old new) (sym write)
+      (fails.1 ∙ all.0, fails.2 ∙ all.1, omega (arith, fails.3, all.2), fails.4 ∙ all.3)
 
   -- the same of a snapshot, which may not live
   pub snapshot_lines : (pins : Option ℕ) (result : Result (Unit {0}) Fault) (old new : S) (nodes : List TreeNode) → begun old ≡ false
@@ -121,8 +135,10 @@ module _ {S : Type 0} (failed : S → ℕ) (sent : S → Sent) (begun : S → Bo
 
   pub snapshot_same : (result : Result (Unit {0}) Fault) (old new : S)
       → ((result ≡ Err fault.NoSnapshot) × (new ≡ old)) ⊎ ((nodes : List TreeNode) × Hands result failed Writes Halts old nodes new)
-      → (writer new ≡ writer old) × (outbox new ≡ outbox old)
-  snapshot_same result old new (inl is) = (ap writer is.1, ap outbox is.1)
+      → IsSame (failed_in_tree result (why new)) old new
+  snapshot_same result old new (inl is) =
+      subst (λ (r : Result (Unit {0}) Fault). IsSame (failed_in_tree r (why new)) old new) (sym is.0)
+      (ap writer is.1, ap outbox is.1, omega (arith, ap count is.1), ap place is.1)
   snapshot_same result old new (inr some) = hands_same result old new some.0 some.1
 
 -- ---- what is left of the text then
@@ -132,7 +148,7 @@ pub lists_text : (listed : Option (List TreeNode)) (nodes : List TreeNode) (text
 lists_text None nodes text is same = cc
 lists_text (Some list) nodes text is same = let e : list ≡ nodes = cc in inl (same ∙ ap tree_lines (sym e))
 
-lists_refused : (listed : Option (List TreeNode)) (text : List ℕ) → IsSome listed → text ≡ refused_line fault.OutOfMemory
+lists_refused : (listed : Option (List TreeNode)) (text : List ℕ) → IsSome listed → text ≡ refused_line out_of_memory
     → ListsText listed text
 lists_refused None text some is = cc
 lists_refused (Some list) text some is = inr is
@@ -148,7 +164,7 @@ module _ (why : LineFault) (nodes : Option (List TreeNode)) (old new : Sent) (re
         (writes_grown old.written new.written (old.gathered ++ flat_map node_line hands.0) new.gathered rest hands.2),
   )
 
-  pub all_but_last : (begun : Bool) → HandsLines (Ok tt) begun why nodes old new → ListIs (Err line_fault.OutOfMemory) old new rest nodes
+  pub all_but_last : (begun : Bool) → HandsLines (Ok tt) begun why nodes old new → ListIs (Err (line_fault.OutOfMemory no_memory)) old new rest nodes
   all_but_last begun hands = (
     flat_map node_line hands.0,
     inr (hands.0, [], hands.1 ∙ ap Some (sym (append-nil hands.0)), refl),
@@ -158,7 +174,7 @@ module _ (why : LineFault) (nodes : Option (List TreeNode)) (old new : Sent) (re
   pub not_sent : (begun : Bool) → HandsLines (Err fault.Write) begun why nodes old new → ListIs (Err why) old new rest nodes
   not_sent begun hands = by hands where
     failed : (reason : LineFault) → FailsList reason nodes old new → ListIs (Err reason) old new rest nodes
-    failed line_fault.OutOfMemory fails = (fails.0, inr fails.1, fails.2)
+    failed (line_fault.OutOfMemory _) fails = (fails.0, inr fails.1, fails.2)
     failed line_fault.Write fails = (tree_lines fails.0, lists_text nodes fails.0 (tree_lines fails.0) fails.1 refl, fails.2)
     failed (line_fault.Faulty kind) fails = absurd fails
 
@@ -168,7 +184,7 @@ module _ (why : LineFault) (nodes : Option (List TreeNode)) (old new : Sent) (re
     by (inr (inr (write, fails))) = failed why fails
 
   pub cut_short : (refused : Fault) (begun : Bool) → refused ≢ fault.Write → begun ≡ true → HandsLines (Err refused) begun why nodes old new
-      → ListIs (Err line_fault.OutOfMemory) old new rest nodes
+      → ListIs (Err (line_fault.OutOfMemory no_memory)) old new rest nodes
   cut_short refused begun other some (inl (missing, first, none, same)) = cc
   cut_short refused begun other some (inr (inl (out, stops))) =
       let text = subst (λ (b : Bool). StopsList b nodes old new) some stops in (text.0, inr text.1, text.2)
@@ -194,7 +210,7 @@ module _ (why : LineFault) (nodes : Option (List TreeNode)) (old new : Sent) (re
         (writes_none old.written (old.gathered ++ rest))
 
   pub refused_starved : (refused : Fault) (begun : Bool) → refused ≢ fault.Write → begun ≡ false
-      → HandsLines (Err refused) begun why nodes old new → ListIs (Err line_fault.OutOfMemory) old new rest nodes
+      → HandsLines (Err refused) begun why nodes old new → ListIs (Err (line_fault.OutOfMemory no_memory)) old new rest nodes
   refused_starved refused begun other first hands = ([], inl refl, by hands) where
     none_sent : new ≡ old → Sends old new []
     none_sent same = subst (λ (s : Sent). Sends old s []) (sym same) (sends_none old)

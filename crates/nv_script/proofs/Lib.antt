@@ -3,6 +3,7 @@ pub mod Breaks
 pub mod Commands
 pub mod Endings
 pub mod Escapes
+pub mod Failures
 pub mod Firsts
 pub mod Handed
 pub mod Handles
@@ -11,3 +12,5 @@ pub mod Lines
 pub mod Numbers
 pub mod Plain
 pub mod Played
+pub mod Printed
+pub mod RunsPlayed

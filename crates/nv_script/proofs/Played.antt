@@ -3,6 +3,7 @@ use Rattle.std.proofs.Common.{◌≡◌, ◌⊎◌, ℕ, ◌++◌, Bool, false, 
 use Rattle.std.proofs.lemmas.Bool.{false≢true}
 use Rattle.std.specs.Prelude.{MatchBool, codes}
 use Rattle.nv_base.specs.Limits.{first_bad_field}
+use Rattle.nv_base.specs.Memory.{no_memory}
 use Rattle.nv_base.specs.declared.fault.GeometryField.{GeometryField}
 use Rattle.nv_base.specs.declared.fault.ScriptFaultKind.{ScriptFaultKind}
 use Rattle.nv_base.specs.declared.geometry.GeometryNumbers.{GeometryNumbers}
@@ -15,8 +16,8 @@ use Rattle.nv_script.specs.declared.command.Command.TheVariants as command
 use Rattle.nv_script.specs.declared.fault.LineFault.{LineFault}
 use Rattle.nv_script.specs.declared.fault.LineFault.TheVariants as line_fault
 use Rattle.nv_script.specs.Grammar.{IsLineFault, Parsed, command_of, format_of, is_skipped}
-use Rattle.nv_script.specs.Play.{Acts, LineFails, ListsFront, ListsWords, Plays, PlaysWords, ShowsTree, WordsFail, is_list, nodes_listed}
-use Rattle.nv_script.specs.Results.{IsNewWorld, LineFaultIs, LineIs, ListIs, ListsText, MakesWorld, PlaysShown, SendsBut, Sent}
+use Rattle.nv_script.specs.Play.{Acts, ActsBy, LineFails, ListsFront, ListsWords, Plays, PlaysWords, ShowsTree, WordsFail, is_list, nodes_listed, told_of}
+use Rattle.nv_script.specs.Results.{HasAnyRun, IsNewWorld, LineFaultIs, LineIs, ListIs, ListsText, MakesWorld, PlaysShown, SendsBut, Sent}
 use Rattle.nv_script.specs.Texts.{line_of}
 use Rattle.nv_script.specs.Words.{words_of}
 use Rattle.nv_core.specs.Settled.{snapshot_tree}
@@ -24,6 +25,7 @@ use Rattle.nv_core.specs.Worlds.{WorldState}
 use Rattle.nv_core.specs.Worlds.{Leads, Shows, ShowsAny}
 use Rattle.nv_script.proofs.Handed.{sends_none}
 use Rattle.nv_script.proofs.Known.{writes_none}
+use Rattle.nv_script.proofs.RunsPlayed.{acts_scanned}
 
 -- a world that was made
 pub made : (field : Option GeometryField) (numbers : GeometryNumbers) (text : List ℕ) (world : WorldState)
@@ -66,8 +68,8 @@ pub lists_line : (result : Result (Unit {0}) LineFault) (from to : Sent) (old : 
     → LineIs result from to old line rest (Some world)
 lists_line result from to old world line rest c there skipped read lists given = by result given where
   shown_at : (P : Option machine.World → Type 0) → ((m : machine.World) → Shows world m → P (Some m))
-      → (m : Option machine.World) → ShowsAny old m → P m
-  shown_at P each m shows = go m (subst (λ (w : Option WorldState). ShowsAny w m) there shows) where
+      → (m : Option machine.World) → ShowsAny old m → HasAnyRun m → P m
+  shown_at P each m shows run = go m (subst (λ (w : Option WorldState). ShowsAny w m) there shows) where
     go : (m : Option machine.World) → ShowsAny (Some world) m → P m
     go None shown = absurd shown
     go (Some m) shown = each m shown
@@ -82,8 +84,8 @@ lists_line result from to old world line rest c there skipped read lists given =
   by (Ok done) given =
       shown_at (λ m. (n : Option machine.World) × (text : List ℕ) × Plays m line text n × ShowsAny (Some world) n × SendsBut rest from to text)
       (λ m shown. let it = given m shown in (Some m, it.0, plays_listed m line it.0 c skipped read lists it.1, shown, it.2))
-  by (Err line_fault.OutOfMemory) given =
-      shown_at (λ m. LineFaultIs line_fault.OutOfMemory from to m line)
+  by (Err (line_fault.OutOfMemory witness)) given =
+      shown_at (λ m. LineFaultIs (line_fault.OutOfMemory witness) from to m line)
       (λ m shown. let it = given m shown in (it.0, (skipped, stops m it.0 it.1), it.2))
   by (Err line_fault.Write) given =
       shown_at (λ m. LineFaultIs line_fault.Write from to m line)
@@ -93,17 +95,17 @@ lists_line result from to old world line rest c there skipped read lists given =
 
 -- memory is refused before anything of a line is sent
 pub starved : (from : Sent) (world : Option WorldState) (line rest : List ℕ) (new : Option WorldState) → is_skipped line ≡ false
-    → LineIs {A = Unit {0}} (Err line_fault.OutOfMemory) from from world line rest new
-starved from world line rest new skipped m shown = ([], (skipped, inl refl), sends_none from)
+    → LineIs {A = Unit {0}} (Err (line_fault.OutOfMemory no_memory)) from from world line rest new
+starved from world line rest new skipped m shown run = ([], (skipped, inl refl), sends_none from)
 
 -- a line has a fault, or memory is refused while it is read
 pub unread : {A : Type 0} (why : LineFault) (from : Sent) (old : Option WorldState) (line rest : List ℕ) (new : Option WorldState)
     (parsed : Parsed A) → is_skipped line ≡ false → IsLineFault why parsed
     → ((kind : ScriptFaultKind) → parsed ≡ Err kind → WordsFail (is_some old) (words_of line) kind)
     → LineIs {A = Unit {0}} (Err why) from from old line rest new
-unread line_fault.OutOfMemory from old line rest new parsed skipped is fails = starved from old line rest new skipped
+unread (line_fault.OutOfMemory _) from old line rest new parsed skipped is fails = starved from old line rest new skipped
 unread line_fault.Write from old line rest new parsed skipped is fails = absurd is
-unread (line_fault.Faulty kind) from old line rest new parsed skipped is fails = λ m shown.
+unread (line_fault.Faulty kind) from old line rest new parsed skipped is fails = λ m shown run.
     (subst (λ (made : Bool). LineFails made line kind) (as_many old m shown) (skipped, fails kind is), refl)
   where
     as_many : (old : Option WorldState) (m : Option machine.World) → ShowsAny old m → is_some old ≡ is_some m
@@ -115,18 +117,18 @@ unread (line_fault.Faulty kind) from old line rest new parsed skipped is fails =
 -- a command on a world
 pub played : (old : Option WorldState) (world new : WorldState) (line text : List ℕ) (from : Sent) (command : Command) → old ≡ Some world
     → is_skipped line ≡ false
-    → command_of (words_of line) ≡ Ok command → Leads (λ m n. Acts m command text n) world new
+    → command_of (words_of line) ≡ Ok command → Leads (λ m n. ActsBy (told_of m) m command text n) world new
     → PlaysShown old line (SendsBut text from from) (Some new)
-played old world new line text from command there skipped read leads m shows =
-    go m (subst (λ (w : Option WorldState). ShowsAny w m) there shows) where
-      go : (m : Option machine.World) → ShowsAny (Some world) m
+played old world new line text from command there skipped read leads m shows has =
+    go m (subst (λ (w : Option WorldState). ShowsAny w m) there shows) has where
+      go : (m : Option machine.World) → ShowsAny (Some world) m → HasAnyRun m
           → (n : Option machine.World) × (text' : List ℕ) × Plays m line text' n × ShowsAny (Some new) n × SendsBut text from from text'
-      go None shown = absurd shown
-      go (Some m) shown =
+      go None shown has = absurd shown
+      go (Some m) shown has =
           let by = leads m shown in (
             Some by.0,
             text,
-            plays_words (Some m) (Some by.0) line text skipped (command, by.0, read, by.1, refl),
+            plays_words (Some m) (Some by.0) line text skipped (command, by.0, read, acts_scanned m command text by.0 has by.1, refl),
             by.2,
             writes_none from.written (from.gathered ++ text),
           )
@@ -134,7 +136,7 @@ played old world new line text from command there skipped read leads m shows =
 -- a line that is skipped, and one that makes a world
 pub skips : (old : Option WorldState) (line rest : List ℕ) (from : Sent) → is_skipped line ≡ true → rest ≡ []
     → PlaysShown old line (SendsBut rest from from) old
-skips old line rest from skipped empty m shown = (
+skips old line rest from skipped empty m shown run = (
   m,
   rest,
   subst (λ (b : Bool). MatchBool b ((rest ≡ []) × (m ≡ m)) (PlaysWords m (words_of line) rest m)) (sym skipped) (empty, refl),
@@ -145,7 +147,7 @@ skips old line rest from skipped empty m shown = (
 pub formats : (old new : Option WorldState) (line text : List ℕ) (from : Sent) (numbers : GeometryNumbers) → old ≡ None
     → is_skipped line ≡ false → format_of (words_of line) ≡ Ok numbers → MakesWorld (first_bad_field numbers) numbers text new
     → PlaysShown old line (SendsBut text from from) new
-formats old new line text from numbers none skipped read makes m shown =
+formats old new line text from numbers none skipped read makes m shown run =
     go m (subst (λ (w : Option WorldState). ShowsAny w m) none shown) where
       go : (m : Option machine.World) → ShowsAny None m
           → (n : Option machine.World) × (text' : List ℕ) × Plays m line text' n × ShowsAny new n × SendsBut text from from text'

@@ -276,7 +276,7 @@ abbrev pub texts : List (Bor (List ℕ)) → List (List ℕ)
 texts words = map (λ w. w.now) words
 
 abbrev pub IsLineFault : {A : Type 0} → LineFault → Parsed A → Type 0
-IsLineFault line.OutOfMemory read = Unit {0}
+IsLineFault (line.OutOfMemory _) read = Unit {0}
 IsLineFault line.Write read = ⊥
 IsLineFault (line.Faulty fault) read = read ≡ Err fault
 

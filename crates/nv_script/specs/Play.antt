@@ -2,6 +2,7 @@
 use Rattle.std.specs.Prelude.{◌≡◌, ◌≢◌, ◌⊎◌, ◌≤◌, ℕ, ◌+◌, Bool, true, false, nat_lt, List, [], ◌∷◌, ◌++◌, length, codes, Option, Some, None, IfSome, is_some, Result, Ok, Err, MatchBool, option_map}
 use Rattle.std.specs.Io.KnownBytes.{Appends, Consumes, IsAtEnd}
 use Rattle.std.specs.List.{flat_map}
+use Rattle.nv_alloc.specs.declared.runs.FreeRun.{FreeRun}
 use Rattle.nv_base.specs.Limits.{first_bad_field}
 use Rattle.nv_base.specs.declared.fault.Fault.{Fault}
 use Rattle.nv_base.specs.declared.fault.Fault.TheVariants as fault
@@ -15,7 +16,11 @@ use Rattle.nv_machine.specs.Step.{step}
 use Rattle.nv_machine.specs.World.{Reply, Start, World}
 use Rattle.nv_epoch.specs.SnapList.{pins_of}
 use Rattle.nv_core.specs.Reports.{lists_of, log_at, snaps_of, space_of}
+use Rattle.nv_core.specs.Scans.{lists_by_scan, log_by_scan, snaps_by_scan, space_by_scan}
 use Rattle.nv_core.specs.Settled.{snapshot_tree, tree_of}
+use Rattle.nv_core.specs.declared.reports.LogCounts.{LogCounts}
+use Rattle.nv_core.specs.declared.reports.Space.{Space}
+use Rattle.nv_core.specs.declared.snaps.Snaps.{Snaps}
 use Rattle.nv_core.specs.Whole.{Calls, GoesOn, Runs}
 use Rattle.nv_script.specs.declared.command.Command.{Command}
 use Rattle.nv_script.specs.declared.command.Command.TheVariants as command
@@ -23,13 +28,14 @@ use Rattle.nv_script.specs.Grammar.{command_of, format_of, is_skipped}
 use Rattle.nv_script.specs.Lines.{IsCutOff, IsLine, ended}
 use Rattle.nv_script.specs.Texts.{line_of, lists_lines, log_line, node_line, refused_line, reply_line, snaps_lines, space_line, tree_lines}
 use Rattle.nv_script.specs.Words.{words_of}
+use Rattle.nv_base.specs.Memory.{out_of_memory}
 
 -- a `format` makes an empty world; or it is refused, for a number or for want of memory, and there is still none
 abbrev pub Formats : Option GeometryField → GeometryNumbers → List ℕ → Option World → Type 0
 Formats (Some field) numbers text new = (text ≡ refused_line (fault.BadGeometry field)) × (new ≡ None)
 Formats None numbers text new =
     ((text ≡ line_of (codes "formatted")) × (new ≡ Some (formatted numbers)))
-    ⊎ ((text ≡ refused_line fault.OutOfMemory) × (new ≡ None))
+    ⊎ ((text ≡ refused_line out_of_memory) × (new ≡ None))
 
 -- the last reply is written
 abbrev pub Answers : (Reply → World → Type 0) → List ℕ → World → Type 0
@@ -37,12 +43,27 @@ Answers Replies text new = (last : Reply) × Replies last new × (text ≡ reply
 
 -- a report of the world now, or a refusal for want of memory; nothing changes
 abbrev pub Reports : List ℕ → World → List ℕ → World → Type 0
-Reports lines old text new = ((text ≡ lines) ⊎ (text ≡ refused_line fault.OutOfMemory)) × (new ≡ old)
+Reports lines old text new = ((text ≡ lines) ⊎ (text ≡ refused_line out_of_memory)) × (new ≡ old)
+
+-- what a world reports, of its blocks, its free lists, each log and its snapshots
+pub record Told : Type 0 where
+  pub space : Space
+  pub lists : List (List FreeRun)
+  pub log : ℕ → LogCounts
+  pub snaps : Snaps
+
+-- by what stands in it, and BY ONE SCAN of all logs, which is the same for each world that events lead to
+abbrev pub told_of : World → Told
+told_of w = record { space = space_of w; lists = lists_of w.shared; log = log_at w.shared; snaps = snaps_of w.shared.book }
+
+abbrev pub told_by_scan : World → Told
+told_by_scan w =
+    record { space = space_by_scan w; lists = lists_by_scan w; log = log_by_scan w; snaps = snaps_by_scan w }
 
 -- the log of a slot, or a refusal where there is none
-abbrev pub ShowsLog : Bool → ℕ → World → List ℕ → World → Type 0
-ShowsLog true ino old text new = Reports (log_line ino (log_at old.shared ino)) old text new
-ShowsLog false ino old text new = (text ≡ refused_line fault.Stale) × (new ≡ old)
+abbrev pub ShowsLog : Bool → Told → ℕ → World → List ℕ → World → Type 0
+ShowsLog true told ino old text new = Reports (log_line ino (told.log ino)) old text new
+ShowsLog false told ino old text new = (text ≡ refused_line fault.Stale) × (new ≡ old)
 
 -- the nodes of the tree now, or of a snapshot, where it lives
 abbrev pub nodes_at : World → Option ℕ → Option (List TreeNode)
@@ -70,20 +91,24 @@ abbrev pub ShowsTree : Bool → ℕ → World → List ℕ → World → Type 0
 ShowsTree true snapshot old text new = Reports (tree_lines (snapshot_tree old snapshot)) old text new
 ShowsTree false snapshot old text new = (text ≡ refused_line fault.NoSnapshot) × (new ≡ old)
 
--- what a command writes and leaves
-abbrev pub Acts : World → Command → List ℕ → World → Type 0
-Acts old (command.Start actor call) text new =
+-- what a command writes and leaves, where the world reports this
+abbrev pub ActsBy : Told → World → Command → List ℕ → World → Type 0
+ActsBy told old (command.Start actor call) text new =
     (text ≡ reply_line ((step old (Start actor call)).reply)) × (new ≡ (step old (Start actor call)).world)
-Acts old (command.Go actor more) text new = Answers (GoesOn (more + 1) old actor) text new
-Acts old (command.Run actor) text new = Answers (Runs old actor) text new
-Acts old (command.Do actor call) text new = Answers (Calls old actor call) text new
-Acts old command.Tree text new = Reports (tree_lines (tree_of old)) old text new
-Acts old (command.SnapTree snapshot) text new = ShowsTree (is_some (pins_of old.shared.book.snaps snapshot)) snapshot old text new
-Acts old command.Snaps text new = Reports (snaps_lines (snaps_of old.shared.book)) old text new
-Acts old command.Space text new = (text ≡ space_line (space_of old)) × (new ≡ old)
-Acts old command.Lists text new = Reports (lists_lines (lists_of old.shared)) old text new
-Acts old (command.Log ino) text new = ShowsLog (nat_lt ino (length old.shared.cells)) ino old text new
-Acts old command.Audit text new = Reports (line_of (codes "audit ok")) old text new
+ActsBy told old (command.Go actor more) text new = Answers (GoesOn (more + 1) old actor) text new
+ActsBy told old (command.Run actor) text new = Answers (Runs old actor) text new
+ActsBy told old (command.Do actor call) text new = Answers (Calls old actor call) text new
+ActsBy told old command.Tree text new = Reports (tree_lines (tree_of old)) old text new
+ActsBy told old (command.SnapTree snapshot) text new = ShowsTree (is_some (pins_of old.shared.book.snaps snapshot)) snapshot old text new
+ActsBy told old command.Snaps text new = Reports (snaps_lines told.snaps) old text new
+ActsBy told old command.Space text new = (text ≡ space_line told.space) × (new ≡ old)
+ActsBy told old command.Lists text new = Reports (lists_lines told.lists) old text new
+ActsBy told old (command.Log ino) text new = ShowsLog (nat_lt ino (length old.shared.cells)) told ino old text new
+ActsBy told old command.Audit text new = Reports (line_of (codes "audit ok")) old text new
+
+-- reports are those of a scan
+abbrev pub Acts : World → Command → List ℕ → World → Type 0
+Acts old command text new = ActsBy (told_by_scan old) old command text new
 
 -- the words of a line without a fault: a `format` where no world is made, and else a command on the world
 abbrev pub PlaysWords : Option World → List (List ℕ) → List ℕ → Option World → Type 0
@@ -177,7 +202,7 @@ EndsBy (fault.ScriptFault why number) input left Writes =
     EndsAfter input Writes (λ lines rest world. (number ≡ length lines + 1) × IsFault number (is_some world) rest why)
 EndsBy fault.Read input left Writes =
     EndsAfter input Writes (λ lines rest world. (piece : List ℕ) × IsLine piece × Consumes input left (ended lines ++ piece))
-EndsBy fault.OutOfMemory input left Writes = (lines : List (List ℕ)) × (rest text sent : List ℕ) × (world : Option World)
+EndsBy (fault.OutOfMemory _) input left Writes = (lines : List (List ℕ)) × (rest text sent : List ℕ) × (world : Option World)
     × Played input lines rest text world × Stops lines rest world sent × Writes (text ++ sent)
 EndsBy fault.Write input left Writes = (lines : List (List ℕ)) × (rest text sent : List ℕ) × (world : Option World)
     × Played input lines rest text world × BreaksOff rest world sent × Writes (text ++ sent)
@@ -191,3 +216,13 @@ Ends (Err why) input left Writes = EndsBy why input left Writes
 -- the same, where the writer has this at first and is left with that
 abbrev pub PlaysScript : Result (Unit {0}) Fault → (input left old new : Option (List ℕ)) → Type 0
 PlaysScript result input left old new = Ends result input left (λ text. Appends old new text)
+
+-- how many reads fail in a script that ends so: one where it ends by a failed read, and else none
+abbrev pub failed_reads : {A : Type 0} → Result A Fault → ℕ
+failed_reads (Err fault.Read) = 1
+failed_reads _ = 0
+
+-- and how many writes
+abbrev pub failed_writes : {A : Type 0} → Result A Fault → ℕ
+failed_writes (Err fault.Write) = 1
+failed_writes _ = 0

@@ -1,5 +1,5 @@
 -- What inner functions of a script's run tell each other.
-use Rattle.std.specs.Prelude.{◌≡◌, ◌⊎◌, ◌≤◌, ℕ, ◌+◌, Bool, true, false, nat_lt, if◌then◌else◌, List, [], ◌++◌, length, Option, Some, None, is_some, IsSome, Result, Ok, Err, MatchResult}
+use Rattle.std.specs.Prelude.{◌≡◌, ◌⊎◌, ◌≤◌, ℕ, ◌+◌, Bool, true, false, nat_lt, if◌then◌else◌, List, [], ◌++◌, length, codes, Option, Some, None, is_some, IsSome, Result, Ok, Err, MatchResult}
 use Rattle.std.specs.Io.KnownBytes.{Consumes}
 use Rattle.std.specs.List.{flat_map}
 use Rattle.nv_base.specs.declared.fault.Fault.{Fault}
@@ -11,20 +11,27 @@ use Rattle.nv_base.specs.declared.geometry.GeometryNumbers.{GeometryNumbers}
 use Rattle.nv_entry.specs.declared.tree.TreeNode.{TreeNode}
 use Rattle.nv_machine.specs.Format.{formatted}
 use Rattle.nv_machine.specs.World as machine
-use Rattle.nv_core.specs.Worlds.{WorldState}
-use Rattle.nv_core.specs.Worlds.{Shows, ShowsAny}
+use Rattle.nv_core.specs.Worlds.{HasRun, Shows, ShowsAny, WorldState}
+use Rattle.nv_script.specs.declared.asked.Asked.{Asked}
 use Rattle.nv_script.specs.declared.fault.LineFault.{LineFault}
 use Rattle.nv_script.specs.declared.fault.LineFault.TheVariants as line_fault
 use Rattle.nv_script.specs.declared.feed.Taken.{Taken}
 use Rattle.nv_script.specs.declared.feed.Taken.TheVariants as taken
 use Rattle.nv_script.specs.Lines.{WritesFront, WritesSome, ended}
 use Rattle.nv_script.specs.Play.{EndsBy, EndsWell, Formats, LineFails, ListsFront, Plays, PlaysAll, StopsAt, most_lines}
-use Rattle.nv_script.specs.Texts.{node_line, refused_line, tree_lines}
+use Rattle.nv_script.specs.Texts.{line_of, node_line, refused_line, tree_lines}
+use Rattle.nv_base.specs.Memory.{out_of_memory}
 
--- a line is played on the worlds that are shown
+-- events lead to a world, where there is one
+abbrev pub HasAnyRun : Option machine.World → Type 0
+HasAnyRun None = Unit {0}
+HasAnyRun (Some m) = HasRun m
+
+-- a line is played on the worlds that are shown, to which events lead
 abbrev pub PlaysShown : Option WorldState → List ℕ → (List ℕ → Type 0) → Option WorldState → Type 0
 PlaysShown old line Writes new =
-    (m : Option machine.World) → ShowsAny old m → (n : Option machine.World) × (text : List ℕ) × Plays m line text n × ShowsAny new n × Writes text
+    (m : Option machine.World) → ShowsAny old m → HasAnyRun m
+    → (n : Option machine.World) × (text : List ℕ) × Plays m line text n × ShowsAny new n × Writes text
 
 -- where a text goes: the writer's bytes and what is gathered
 pub record Sent : Type 0 where
@@ -46,30 +53,31 @@ Fails old new text = WritesSome old.written new.written (old.gathered ++ text) �
 -- what became of one line that was not played to its end: memory was refused at a command, a write failed, or
 -- the line has a fault, and then nothing has changed
 abbrev pub LineFaultIs : LineFault → Sent → Sent → Option machine.World → List ℕ → Type 0
-LineFaultIs line_fault.OutOfMemory old new m line = (text : List ℕ) × StopsAt m line text × Sends old new text
+LineFaultIs (line_fault.OutOfMemory _) old new m line = (text : List ℕ) × StopsAt m line text × Sends old new text
 LineFaultIs line_fault.Write old new m line = (text : List ℕ) × (n : Option machine.World) × Plays m line text n × Fails old new text
 LineFaultIs (line_fault.Faulty fault) old new m line = LineFails (is_some m) line fault × (new ≡ old)
 
 -- what became of one line, and of the text that it writes
 abbrev pub LineIs : {A : Type 0} → Result A LineFault → Sent → Sent → Option WorldState → List ℕ → List ℕ → Option WorldState → Type 0
 LineIs (Ok done) old new world line rest world' = PlaysShown world line (SendsBut rest old new) world'
-LineIs (Err fault) old new world line rest world' = (m : Option machine.World) → ShowsAny world m → LineFaultIs fault old new m line
+LineIs (Err fault) old new world line rest world' =
+    (m : Option machine.World) → ShowsAny world m → HasAnyRun m → LineFaultIs fault old new m line
 
 -- why a text was not sent
 abbrev pub IsNotSent : LineFault → Sent → Sent → List ℕ → Type 0
-IsNotSent line_fault.OutOfMemory old new text = new ≡ old
+IsNotSent (line_fault.OutOfMemory _) old new text = new ≡ old
 IsNotSent line_fault.Write old new text = Fails old new text
 IsNotSent (line_fault.Faulty fault) old new text = ⊥
 
 -- the text of a tree, or a refusal where there is none, or for want of memory
 abbrev pub ListsText : Option (List TreeNode) → List ℕ → Type 0
 ListsText None text = text ≡ refused_line fault.NoSnapshot
-ListsText (Some nodes) text = (text ≡ tree_lines nodes) ⊎ (text ≡ refused_line fault.OutOfMemory)
+ListsText (Some nodes) text = (text ≡ tree_lines nodes) ⊎ (text ≡ refused_line out_of_memory)
 
 -- what became of a tree's text
 abbrev pub ListIs : Result (Unit {0}) LineFault → Sent → Sent → List ℕ → Option (List TreeNode) → Type 0
 ListIs (Ok done) old new rest nodes = (text : List ℕ) × ListsText nodes text × SendsBut rest old new text
-ListIs (Err line_fault.OutOfMemory) old new rest nodes =
+ListIs (Err (line_fault.OutOfMemory _)) old new rest nodes =
     (text : List ℕ) × ((text ≡ []) ⊎ ListsFront nodes text) × Sends old new text
 ListIs (Err line_fault.Write) old new rest nodes = (text : List ℕ) × ListsText nodes text × Fails old new text
 ListIs (Err (line_fault.Faulty fault)) old new rest nodes = ⊥
@@ -81,7 +89,7 @@ StopsList true nodes old new = (text : List ℕ) × ListsFront nodes text × Sen
 
 -- a node's line was not sent
 abbrev pub FailsList : LineFault → Option (List TreeNode) → Sent → Sent → Type 0
-FailsList line_fault.OutOfMemory nodes old new = (text : List ℕ) × ListsFront nodes text × Sends old new text
+FailsList (line_fault.OutOfMemory _) nodes old new = (text : List ℕ) × ListsFront nodes text × Sends old new text
 FailsList line_fault.Write nodes old new = (list : List TreeNode) × (nodes ≡ Some list) × Fails old new (tree_lines list)
 FailsList (line_fault.Faulty fault) nodes old new = ⊥
 
@@ -90,7 +98,7 @@ abbrev pub HandsLines : Result (Unit {0}) Fault → Bool → LineFault → Optio
 HandsLines result begun why nodes old new = MatchResult result
     (λ _. (list : List TreeNode) × (nodes ≡ Some list) × Sends old new (flat_map node_line list))
     (λ refused. ((refused ≡ fault.NoSnapshot) × (begun ≡ false) × (nodes ≡ None) × (new ≡ old))
-    ⊎ (((refused ≡ fault.OutOfMemory) × StopsList begun nodes old new)
+    ⊎ (((refused ≡ out_of_memory) × StopsList begun nodes old new)
     ⊎ ((refused ≡ fault.Write) × FailsList why nodes old new)))
 
 -- a world is made, or there is none
@@ -105,16 +113,31 @@ Counts (Err fault) test = (test ≡ false) × (fault ≡ kind.Count)
 -- a new world, the first number that is out of a geometry's limits, or want of memory
 abbrev pub IsNewWorld : Option GeometryField → GeometryNumbers → Result WorldState Fault → Type 0
 IsNewWorld (Some field) numbers result = result ≡ Err (fault.BadGeometry field)
-IsNewWorld None numbers result = MatchResult result (λ w. Shows w (formatted numbers)) (λ why. why ≡ fault.OutOfMemory)
+IsNewWorld None numbers result = MatchResult result (λ w. Shows w (formatted numbers)) (λ why. why ≡ out_of_memory)
 
 -- a text was gathered behind the rest, or not
 abbrev pub Gathers : Bool → (old text new : List ℕ) → Type 0
 Gathers true old text new = new ≡ old ++ text
 Gathers false old text new = new ≡ old
 
+-- how many writes fail in a line that ends so
+abbrev pub failed_in_line : Result (Unit {0}) LineFault → ℕ
+failed_in_line (Err line_fault.Write) = 1
+failed_in_line _ = 0
+
+-- and in a tree's lines, of which one was not sent for this reason
+abbrev pub failed_in_tree : Result (Unit {0}) Fault → LineFault → ℕ
+failed_in_tree (Err fault.Write) why = failed_in_line (Err why)
+failed_in_tree _ why = 0
+
+-- that nothing differs is told only with what stands for an audit
+abbrev pub TellsAudit : Option Asked → List ℕ → Type 0
+TellsAudit None text = text ≡ refused_line out_of_memory
+TellsAudit (Some asked) text = text ≡ line_of (codes "audit ok")
+
 -- how a line's fault ends the script
 abbrev pub ending_of : ℕ → LineFault → Fault
-ending_of number line_fault.OutOfMemory = fault.OutOfMemory
+ending_of number (line_fault.OutOfMemory witness) = fault.OutOfMemory witness
 ending_of number line_fault.Write = fault.Write
 ending_of number (line_fault.Faulty kind) = fault.ScriptFault kind number
 
@@ -139,9 +162,16 @@ pub record AtLine (input known old new : Option (List ℕ)) (gathered : List ℕ
   pub plays : PlaysAll None lines text world
   pub written : WritesFront old new text gathered
 
+-- once a read or a write failed, nothing is gathered
+abbrev pub HoldsNone : {A : Type 0} → Result A Fault → List ℕ → Type 0
+HoldsNone (Err fault.Read) gathered = gathered ≡ []
+HoldsNone (Err fault.Write) gathered = gathered ≡ []
+HoldsNone _ gathered = Unit {0}
+
 -- after the line with a number, which is one of the allowed: the script goes on, or this is its end
 abbrev pub TurnIs : Result Bool Fault → (input left known old new : Option (List ℕ)) → List ℕ → ℕ → Option WorldState → Type 0
 TurnIs (Ok true) input left known old new gathered number world =
     (number ≤ most_lines) × (n : Option machine.World) × AtLine input known old new gathered (number + 1) n × ShowsAny world n
 TurnIs (Ok false) input left known old new gathered number world = EndsWell input left (λ text. WritesFront old new text gathered)
-TurnIs (Err why) input left known old new gathered number world = EndsBy why input left (λ text. WritesFront old new text gathered)
+TurnIs (Err why) input left known old new gathered number world =
+    EndsBy why input left (λ text. WritesFront old new text gathered) × HoldsNone {A = Bool} (Err why) gathered

@@ -1,12 +1,15 @@
 //! What lines do to a world, and what they write.
 
-ghost use Rattle.std.specs.Prelude.{◌≡◌, [], None, OnOk, false};
+ghost use Rattle.std.specs.Prelude.{◌≡◌, ◌≢◌, ◌<◌, ◌+◌, ◌-◌, ◌^◌, [], None, IfOk, OnOk, false};
 ghost use Rattle.nv_base.specs.Limits.{first_bad_field};
-ghost use Rattle.nv_script.specs.Play.{Acts, is_list};
-ghost use Rattle.nv_script.specs.Results.{IsNewWorld, LineIs, MakesWorld};
+ghost use Rattle.nv_script.specs.declared.command.Command.TheVariants.{Audit};
+ghost use Rattle.nv_script.specs.Play.{ActsBy, is_list, told_of};
+ghost use Rattle.nv_script.specs.Results.{IsNewWorld, LineIs, MakesWorld, TellsAudit, failed_in_line};
 ghost use Rattle.nv_core.specs.Worlds.{Leads};
 
+use crate::asked::Asked;
 use crate::command::{Command, is_skipped, read_command, read_format};
+use crate::counted::CountedWrite;
 use crate::fault::LineFault;
 use crate::outbox::Outbox;
 use crate::text::{
@@ -17,11 +20,10 @@ use crate::word::words;
 use nv_base::{Epoch, Fault, Geometry, GeometryNumbers, Ino};
 use nv_core::World;
 use std::alloc::{AllocError, Global};
-use std::io::Write;
 
 /// Plays one line, which has no line end. The text that it writes is in `out` then, in place of what that held, except
 /// for the lines of a tree's nodes, which are sent before.
-pub(crate) fn play_line<W: Write>(
+pub(crate) fn play_line<W: CountedWrite>(
     alloc: Global,
     world: &mut Option<World>,
     line: &[u8],
@@ -29,9 +31,12 @@ pub(crate) fn play_line<W: Write>(
     outbox: &mut Outbox,
     writer: &mut W,
 ) -> Result<(), LineFault>
-    ensures { LineIs result (record { written = W.contents writer.old; gathered = outbox.old })
+    requires { W.failed writer.old < 2 ^ 64 - 1 }
+    ensures line { LineIs result (record { written = W.contents writer.old; gathered = outbox.old })
         (record { written = W.contents writer.new; gathered = outbox.new })
         world.old line.now out.new.items world.new }
+    ensures failed { W.failed writer.new ≡ W.failed writer.old + failed_in_line result }
+    ensures same_writer { W.place writer.new ≡ W.place writer.old }
 {
     out.clear();
     if is_skipped(line) {
@@ -50,7 +55,10 @@ pub(crate) fn play_line<W: Write>(
                 Command::SnapTree(s) => {
                     write_tree(world, Some(Epoch::new(s)), out, outbox, writer)
                 }
-                _ => Ok(act(world, command, out)?),
+                _ => {
+                    act(world, command, out)?;
+                    Ok(())
+                }
             }
         }
     }
@@ -85,20 +93,52 @@ fn new_world(alloc: Global, numbers: &GeometryNumbers) -> Result<World, Fault>
     World::format(alloc, geometry)
 }
 
-/// Acts on a command that lists no tree.
-fn act(world: &mut World, command: Command, out: &mut Vec<u8>) -> Result<(), AllocError>
+/// Acts on a command that lists no tree. What stands for an audit is handed on.
+fn act(world: &mut World, command: Command, out: &mut Vec<u8>) -> Result<Option<Asked>, AllocError>
     requires other { is_list command ≡ false }
     requires empty { out.old.items ≡ [] }
+    ensures acts { OnOk result
+        (Leads (λ m n. ActsBy (told_of m) m command out.new.items n) world.old world.new) }
+    ensures asked { IfOk result (λ asked. command ≡ Audit → TellsAudit asked out.new.items) }
+{
+    if let Command::Audit = command {
+        return audit(world, out);
+    }
+    tell(world, command, out)?;
+    Ok(None)
+}
+
+/// Adds what an audit of the world tells. That nothing differs it says only with what stands for an audit.
+fn audit(world: &World, out: &mut Vec<u8>) -> Result<Option<Asked>, AllocError>
+    requires { out.old.items ≡ [] }
+    ensures { IfOk result (λ asked. TellsAudit asked out.new.items) }
+{
+    match world.audit() {
+        Ok(audited) => {
+            out.extend_from_slice(b"audit ok\n")?;
+            Ok(Some(Asked::by(&audited)))
+        }
+        Err(fault) => {
+            push_refused(out, &fault)?;
+            Ok(None)
+        }
+    }
+}
+
+/// Acts on a command that lists no tree and asks for no audit.
+fn tell(world: &mut World, command: Command, out: &mut Vec<u8>) -> Result<(), AllocError>
+    requires other { is_list command ≡ false }
+    requires no_audit { command ≢ Audit }
+    requires empty { out.old.items ≡ [] }
     ensures { OnOk result
-        (Leads (λ m n. Acts m command out.new.items n) world.old world.new) }
+        (Leads (λ m n. ActsBy (told_of m) m command out.new.items n) world.old world.new) }
 {
     match command {
         Command::Start(actor, call) => push_reply(out, &world.start(actor, call)),
         Command::Go(actor, more) => push_reply(out, &world.go_on(actor, more)),
         Command::Run(actor) => push_told(out, &world.finish(actor)),
         Command::Do(actor, call) => push_told(out, &world.call(actor, call)),
-        // Their nodes are handed on one by one.
-        Command::Tree | Command::SnapTree(_) => unreachable!(),
+        Command::Tree | Command::SnapTree(_) | Command::Audit => unreachable!(),
         Command::Snaps => match world.snaps() {
             Ok(snaps) => push_snaps(out, &snaps),
             Err(fault) => push_refused(out, &fault),
@@ -110,10 +150,6 @@ fn act(world: &mut World, command: Command, out: &mut Vec<u8>) -> Result<(), All
         },
         Command::Log(ino) => match world.log(Ino::new(ino)) {
             Ok(log) => push_log(out, ino, &log),
-            Err(fault) => push_refused(out, &fault),
-        },
-        Command::Audit => match world.audit() {
-            Ok(()) => out.extend_from_slice(b"audit ok\n"),
             Err(fault) => push_refused(out, &fault),
         },
     }

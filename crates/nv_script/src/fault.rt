@@ -2,16 +2,17 @@
 
 ghost use Rattle.std.specs.Prelude.{◌≡◌};
 ghost use Rattle.nv_script.specs.declared.fault.LineFault.TheVariants as line;
+ghost use Rattle.nv_base.specs.Memory.{no_memory};
 
-use crate::send::WriteFailed;
-use nv_base::ScriptFaultKind;
+use crate::counted::WriteFailed;
+use nv_base::{NoMemory, ScriptFaultKind};
 use std::alloc::AllocError;
 
 /// Why a line ends the script.
 #[derive(Clone, Copy, Drop)]
 pub(crate) enum LineFault {
     /// A growth of memory was refused.
-    OutOfMemory,
+    OutOfMemory(NoMemory),
     /// A write of its text failed.
     Write,
     /// The line has this fault.
@@ -19,10 +20,10 @@ pub(crate) enum LineFault {
 }
 
 impl From<AllocError> for LineFault {
-    ghost from_gives = { λ _ fault. fault ≡ line.OutOfMemory };
+    ghost from_gives = { λ _ fault. fault ≡ line.OutOfMemory no_memory };
 
-    fn from(_error: AllocError) -> LineFault {
-        LineFault::OutOfMemory
+    fn from(error: AllocError) -> LineFault {
+        LineFault::OutOfMemory(NoMemory::from(error))
     }
 }
 

@@ -1,13 +1,13 @@
 //! The lines of a reader, taken one at a time through a chunk of fixed size.
 ghost use Rattle.std.specs.List.{Contains};
-ghost use Rattle.std.specs.Prelude.{◌≡◌, ◌≢◌, IsTrue, ℕ, ◌+◌, ◌≤◌, ◌<◌, [], ◌∷◌, ◌++◌, length, take, slice_index, IfOk, IsErr, MatchResult, MatchOption, MatchBool};
+ghost use Rattle.std.specs.Prelude.{◌≡◌, ◌≢◌, IsTrue, ℕ, ◌+◌, ◌-◌, ◌^◌, ◌≤◌, ◌<◌, [], ◌∷◌, ◌++◌, length, take, slice_index, IfOk, IsErr, IsOk, MatchResult, MatchOption, MatchBool, OnErr, OnOk};
 ghost use Rattle.std.specs.Vec.{vec_capacity};
 ghost use Rattle.std.specs.Io.KnownBytes.{prepend_known, Consumes, Keeps, IsAtEnd};
 ghost use Rattle.nv_script.specs.Lines.{EndsLine, HasNoEnd};
 
+use crate::counted::{CountedRead, ReadFailed};
 use memchr::memchr;
 use std::alloc::{AllocError, Global};
-use std::io::Read;
 use std::marker::Model;
 
 /// The most bytes of a line, without its end.
@@ -31,10 +31,6 @@ pub enum Taken {
     /// The first bytes of a line that is too long.
     Long,
 }
-
-/// A read failed.
-#[derive(Clone, Copy, Debug, PartialEq, Eq, Drop)]
-pub struct ReadFailed;
 
 /// Bytes that were read ahead: those of `chunk` from `at` up to `end`. The last line end among them stands
 /// before `lines_end`, which is 0 where none was read.
@@ -82,15 +78,16 @@ impl Feed {
         self.at < self.lines_end
     }
 
-    /// Takes the next line into `line`, in place of what it held.
+    /// Takes the next line into `line`, in place of what it held. Where its end is read ahead, no read fails.
     ///
     /// After a failed read `line` has the bytes that were taken until then, and no byte is read ahead.
-    pub fn next_line<R: Read>(
+    pub fn next_line<R: CountedRead>(
         &mut self,
         reader: &mut R,
         line: &mut Vec<u8>,
     ) -> Result<Taken, ReadFailed>
-        requires { MAX_LINE_BYTES ≤ vec_capacity line.old }
+        requires room { MAX_LINE_BYTES ≤ vec_capacity line.old }
+        requires failures { R.failed reader.old < 2 ^ 64 - 1 }
         ensures room { MAX_LINE_BYTES ≤ vec_capacity line.new }
         ensures line { IsLine line.new.items }
         ensures taken { let old = prepend_known self.old (R.remaining reader.old) in
@@ -99,6 +96,10 @@ impl Feed {
             (λ taken. TakenIs taken old new line.new.items)
             (λ _. Consumes old new line.new.items) }
         ensures ahead { IsErr result → self.new ≡ [] }
+        ensures there { Contains self.old LINE_END → IsOk result }
+        ensures ok { OnOk result (R.failed reader.new ≡ R.failed reader.old) }
+        ensures err { OnErr result (R.failed reader.new ≡ R.failed reader.old + 1) }
+        ensures same { R.place reader.new ≡ R.place reader.old }
     {
         line.clear();
         while self.fill(reader)? {
@@ -118,13 +119,18 @@ impl Feed {
     }
 
     /// Reads ahead where no byte is read ahead, and says whether one is then: none is at the reader's end.
-    fn fill<R: Read>(&mut self, reader: &mut R) -> Result<bool, ReadFailed>
+    fn fill<R: CountedRead>(&mut self, reader: &mut R) -> Result<bool, ReadFailed>
+        requires { R.failed reader.old < 2 ^ 64 - 1 }
         ensures kept { Keeps (prepend_known self.old (R.remaining reader.old))
             (prepend_known self.new (R.remaining reader.new)) }
         ensures filled { IfOk result (λ filled. MatchBool filled
             (0 < length self.new)
             (IsAtEnd (prepend_known self.new (R.remaining reader.new)))) }
         ensures ahead { IsErr result → self.new ≡ [] }
+        ensures there { 0 < length self.old → IsOk result × (self.new ≡ self.old) }
+        ensures ok { OnOk result (R.failed reader.new ≡ R.failed reader.old) }
+        ensures err { OnErr result (R.failed reader.new ≡ R.failed reader.old + 1) }
+        ensures same { R.place reader.new ≡ R.place reader.old }
     {
         if self.at < self.end {
             return Ok(true);

@@ -5,8 +5,10 @@
 #![tactic(auto)]
 
 mod act;
+mod asked;
 mod call;
 mod command;
+mod counted;
 mod fault;
 pub mod feed;
 mod field;
@@ -19,6 +21,7 @@ mod text;
 mod trees;
 pub mod word;
 
+pub use counted::{CountedRead, CountedWrite, ReadCounter, ReadFailed, WriteCounter, WriteFailed};
 pub use outcome::{Outcome, exit_code, fault_line};
-pub use script::{play, play_and_leave};
+pub use script::{play, play_and_leave, play_counted, play_counted_and_leave};
 pub use text::fault_text;

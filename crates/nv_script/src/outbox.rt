@@ -1,11 +1,11 @@
 //! Answers that are gathered until the reader is asked for more bytes.
 
-ghost use Rattle.std.specs.Prelude.{◌≡◌, [], ◌++◌, IfOk, MatchResult};
+ghost use Rattle.std.specs.Prelude.{◌≡◌, ◌<◌, ◌+◌, ◌-◌, ◌^◌, [], ◌++◌, IfOk, MatchResult, OnErr, OnOk};
 ghost use Rattle.std.specs.Io.KnownBytes.{Appends};
 
-use crate::send::{WriteFailed, send};
+use crate::counted::{CountedWrite, WriteFailed};
+use crate::send::send;
 use std::alloc::{AllocError, Global};
-use std::io::Write;
 use std::marker::Model;
 
 /// The most bytes that are gathered.
@@ -39,11 +39,15 @@ impl Outbox {
     }
 
     /// Writes what is gathered. After a failed write the rest of it is given up.
-    pub(crate) fn flush<W: Write>(&mut self, writer: &mut W) -> Result<(), WriteFailed>
+    pub(crate) fn flush<W: CountedWrite>(&mut self, writer: &mut W) -> Result<(), WriteFailed>
+        requires { W.failed writer.old < 2 ^ 64 - 1 }
         ensures empty { self.new ≡ [] }
         ensures sent { MatchResult result
             (λ _. Appends (W.contents writer.old) (W.contents writer.new) self.old)
             (λ _. WritesSome (W.contents writer.old) (W.contents writer.new) self.old) }
+        ensures ok { OnOk result (W.failed writer.new ≡ W.failed writer.old) }
+        ensures err { OnErr result (W.failed writer.new ≡ W.failed writer.old + 1) }
+        ensures same { W.place writer.new ≡ W.place writer.old }
     {
         let sent = send(writer, self.gathered.as_slice());
         self.gathered.clear();
@@ -52,12 +56,20 @@ impl Outbox {
 
     /// Gathers a text. Where there is no room for it what was gathered is written first, and a text
     /// that is longer than all room is written at once. After a failed write nothing is gathered.
-    pub(crate) fn add<W: Write>(&mut self, writer: &mut W, text: &[u8]) -> Result<(), WriteFailed>
-        ensures { MatchResult result
+    pub(crate) fn add<W: CountedWrite>(
+        &mut self,
+        writer: &mut W,
+        text: &[u8],
+    ) -> Result<(), WriteFailed>
+        requires { W.failed writer.old < 2 ^ 64 - 1 }
+        ensures sent { MatchResult result
             (λ _. WritesFront (W.contents writer.old) (W.contents writer.new)
             (self.old ++ text.now) self.new)
             (λ _. WritesSome (W.contents writer.old) (W.contents writer.new)
             (self.old ++ text.now) × (self.new ≡ [])) }
+        ensures ok { OnOk result (W.failed writer.new ≡ W.failed writer.old) }
+        ensures err { OnErr result (W.failed writer.new ≡ W.failed writer.old + 1) }
+        ensures same { W.place writer.new ≡ W.place writer.old }
     {
         if self.gather(text) {
             return Ok(());

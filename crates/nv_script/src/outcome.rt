@@ -20,11 +20,13 @@ pub enum Outcome {
     Shown,
     /// The command line was refused.
     Refused,
+    /// Memory was refused to the words of the command line. What reads them tells no more than that.
+    OutOfMemory,
     /// A fault ended it.
     Failed(Fault),
 }
 
-/// The exit status: 0 if all was done, 1 after a fault, 2 for a command line that is refused.
+/// The exit status: 0 if all was done, 1 after a fault or want of memory, 2 for a command line that is refused.
 pub fn exit_code(outcome: Outcome) -> ExitCode
     ensures { exit_status result ≡ status_of outcome }
 {
@@ -32,6 +34,7 @@ pub fn exit_code(outcome: Outcome) -> ExitCode
         Outcome::Played => ExitCode::SUCCESS,
         Outcome::Shown => ExitCode::SUCCESS,
         Outcome::Refused => ExitCode::from(2),
+        Outcome::OutOfMemory => ExitCode::FAILURE,
         Outcome::Failed(_) => ExitCode::FAILURE,
     }
 }

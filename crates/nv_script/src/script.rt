@@ -1,20 +1,20 @@
 //! A whole script: bytes in, bytes out.
 
-ghost use Rattle.std.specs.Prelude.{◌≡◌, ℕ, ◌+◌, ◌≤◌, ◌⊎◌, List, [], Option, IfOk, OnOk, MatchResult, None};
+ghost use Rattle.std.specs.Prelude.{◌≡◌, ℕ, ◌+◌, ◌-◌, ◌^◌, ◌<◌, ◌≤◌, ◌⊎◌, List, [], Option, IfOk, OnErr, OnOk, MatchResult, None};
 ghost use Rattle.std.specs.List.{Contains};
 ghost use Rattle.std.specs.Io.KnownBytes.{prepend_known};
 ghost use Rattle.std.specs.Vec.{vec_capacity};
 ghost use Rattle.nv_machine.specs.World as machine;
 ghost use Rattle.nv_core.specs.Worlds.{ShowsAny};
 ghost use Rattle.nv_script.specs.Lines.{WritesFront, WritesSome};
-ghost use Rattle.nv_script.specs.Play.{Ends, PlaysScript};
-ghost use Rattle.nv_script.specs.Results.{AtLine, TurnIs, ending_of, is_line};
+ghost use Rattle.nv_script.specs.Play.{Ends, PlaysScript, failed_reads, failed_writes};
+ghost use Rattle.nv_script.specs.Results.{AtLine, HoldsNone, TurnIs, ending_of, is_line};
 
 use crate::act::play_line;
+use crate::counted::{CountedRead, CountedWrite, ReadCounter, WriteCounter, WriteFailed};
 use crate::fault::LineFault;
 use crate::feed::{Feed, MAX_LINE_BYTES, Taken};
 use crate::outbox::Outbox;
-use crate::send::WriteFailed;
 use nv_base::{Fault, ScriptFaultKind};
 use nv_core::World;
 use std::alloc::{AllocError, Global};
@@ -40,14 +40,16 @@ const TEXT_BYTES: usize = 4096;
 /// room for more: so each answer is written before the next line is waited for, and a chunk of 64 KiB that is
 /// read takes one write. Bytes are read ahead, so some of those past a fault may be gone from the reader. The
 /// writer is not flushed.
+///
+/// The library's reader and writer do not tell which calls failed. [`play_counted`] is played over counters of both,
+/// and says of them what `Read` and `Write` stand for.
 pub fn play<R: Read, W: Write>(alloc: Global, reader: &mut R, writer: &mut W) -> Result<(), Fault>
     ensures { PlaysScript result (R.remaining reader.old) (R.remaining reader.new)
         (W.contents writer.old) (W.contents writer.new) }
 {
-    let Ok(mut player) = Player::new(alloc) else {
-        return Err(Fault::OutOfMemory);
-    };
-    player.play(alloc, reader, writer)
+    let mut reader = ReadCounter::new(reader);
+    let mut writer = WriteCounter::new(writer);
+    play_counted(alloc, &mut reader, &mut writer)
 }
 
 /// Plays a script as [`play`] does, and does not take its world apart: for a program that ends then, whose memory goes
@@ -60,9 +62,50 @@ pub fn play_and_leave<R: Read, W: Write>(
     ensures { PlaysScript result (R.remaining reader.old) (R.remaining reader.new)
         (W.contents writer.old) (W.contents writer.new) }
 {
-    let Ok(mut player) = Player::new(alloc) else {
-        return Err(Fault::OutOfMemory);
-    };
+    let mut reader = ReadCounter::new(reader);
+    let mut writer = WriteCounter::new(writer);
+    play_counted_and_leave(alloc, &mut reader, &mut writer)
+}
+
+/// Plays a script as [`play`] does, from a reader and to a writer that count their failures.
+///
+/// One read fails where it ends by `Read`, one write where it ends by `Write`, and else none. So a call that failed is
+/// not made again, and none comes after it, since that could fail too. For the same reason no line is asked for behind
+/// the one that ends the script, nor while an answer is due.
+pub fn play_counted<R: CountedRead, W: CountedWrite>(
+    alloc: Global,
+    reader: &mut R,
+    writer: &mut W,
+) -> Result<(), Fault>
+    requires reads { R.failed reader.old < 2 ^ 64 - 1 }
+    requires writes { W.failed writer.old < 2 ^ 64 - 1 }
+    ensures script { PlaysScript result (R.remaining reader.old) (R.remaining reader.new)
+        (W.contents writer.old) (W.contents writer.new) }
+    ensures reads { R.failed reader.new ≡ R.failed reader.old + failed_reads result }
+    ensures writes { W.failed writer.new ≡ W.failed writer.old + failed_writes result }
+    ensures same_reader { R.place reader.new ≡ R.place reader.old }
+    ensures same_writer { W.place writer.new ≡ W.place writer.old }
+{
+    let mut player = Player::new(alloc)?;
+    player.play(alloc, reader, writer)
+}
+
+/// Plays a script as [`play_counted`] does, and does not take its world apart.
+pub fn play_counted_and_leave<R: CountedRead, W: CountedWrite>(
+    alloc: Global,
+    reader: &mut R,
+    writer: &mut W,
+) -> Result<(), Fault>
+    requires reads { R.failed reader.old < 2 ^ 64 - 1 }
+    requires writes { W.failed writer.old < 2 ^ 64 - 1 }
+    ensures script { PlaysScript result (R.remaining reader.old) (R.remaining reader.new)
+        (W.contents writer.old) (W.contents writer.new) }
+    ensures reads { R.failed reader.new ≡ R.failed reader.old + failed_reads result }
+    ensures writes { W.failed writer.new ≡ W.failed writer.old + failed_writes result }
+    ensures same_reader { R.place reader.new ≡ R.place reader.old }
+    ensures same_writer { W.place writer.new ≡ W.place writer.old }
+{
+    let mut player = Player::new(alloc)?;
     let outcome = player.play(alloc, reader, writer);
     mem::forget(player);
     outcome
@@ -96,8 +139,8 @@ impl Player {
         })
     }
 
-    /// Plays a script. All of its text is written then, but where a write fails.
-    fn play<R: Read, W: Write>(
+    /// Plays a script. All of its text is written then, except where a write fails.
+    fn play<R: CountedRead, W: CountedWrite>(
         &mut self,
         alloc: Global,
         reader: &mut R,
@@ -106,18 +149,29 @@ impl Player {
         requires ahead { self.old.feed ≡ [] }
         requires gathered { self.old.outbox ≡ [] }
         requires world { self.old.world ≡ None }
-        ensures { PlaysScript result (R.remaining reader.old) (R.remaining reader.new)
+        requires reads { R.failed reader.old < 2 ^ 64 - 1 }
+        requires writes { W.failed writer.old < 2 ^ 64 - 1 }
+        ensures script { PlaysScript result (R.remaining reader.old) (R.remaining reader.new)
             (W.contents writer.old) (W.contents writer.new) }
+        ensures reads { R.failed reader.new ≡ R.failed reader.old + failed_reads result }
+        ensures writes { W.failed writer.new ≡ W.failed writer.old + failed_writes result }
+        ensures same_reader { R.place reader.new ≡ R.place reader.old }
+        ensures same_writer { W.place writer.new ≡ W.place writer.old }
     {
         let outcome = self.play_lines(alloc, reader, writer);
-        let Ok(()) = self.outbox.flush(writer) else {
-            return Err(Fault::Write);
-        };
-        outcome
+        match outcome {
+            // Nothing is gathered once a read or a write failed.
+            Err(Fault::Read) => Err(Fault::Read),
+            Err(Fault::Write) => Err(Fault::Write),
+            _ => match self.outbox.flush(writer) {
+                Ok(()) => outcome,
+                Err(WriteFailed) => Err(Fault::Write),
+            },
+        }
     }
 
-    /// Plays all lines. Of their text, the last may still be gathered.
-    fn play_lines<R: Read, W: Write>(
+    /// Plays all lines. Of their text, the last may still be gathered, except where a read or a write failed.
+    fn play_lines<R: CountedRead, W: CountedWrite>(
         &mut self,
         alloc: Global,
         reader: &mut R,
@@ -126,9 +180,16 @@ impl Player {
         requires ahead { self.old.feed ≡ [] }
         requires gathered { self.old.outbox ≡ [] }
         requires world { self.old.world ≡ None }
-        ensures { Ends result (R.remaining reader.old) (R.remaining reader.new)
+        requires reads { R.failed reader.old < 2 ^ 64 - 1 }
+        requires writes { W.failed writer.old < 2 ^ 64 - 1 }
+        ensures script { Ends result (R.remaining reader.old) (R.remaining reader.new)
             (λ text. WritesFront (W.contents writer.old) (W.contents writer.new)
             text self.new.outbox) }
+        ensures unheld { HoldsNone result self.new.outbox }
+        ensures reads { R.failed reader.new ≡ R.failed reader.old + failed_reads result }
+        ensures writes { W.failed writer.new ≡ W.failed writer.old + failed_writes result }
+        ensures same_reader { R.place reader.new ≡ R.place reader.old }
+        ensures same_writer { W.place writer.new ≡ W.place writer.old }
     {
         for number in 1..=MAX_LINES + 1 {
             if !self.turn(alloc, number, reader, writer)? {
@@ -140,21 +201,27 @@ impl Player {
     }
 
     /// Plays the line of this number, and says whether there is one.
-    fn turn<R: Read, W: Write>(
+    fn turn<R: CountedRead, W: CountedWrite>(
         &mut self,
         alloc: Global,
         number: u64,
         reader: &mut R,
         writer: &mut W,
     ) -> Result<bool, Fault>
-        requires { number ≤ MAX_LINES + 1 }
-        ensures { (input old : Option (List ℕ)) (m : Option machine.World)
+        requires number { number ≤ MAX_LINES + 1 }
+        requires reads { R.failed reader.old < 2 ^ 64 - 1 }
+        requires writes { W.failed writer.old < 2 ^ 64 - 1 }
+        ensures turn { (input old : Option (List ℕ)) (m : Option machine.World)
             → ShowsAny self.old.world m
             → AtLine input (prepend_known self.old.feed (R.remaining reader.old))
             old (W.contents writer.old) self.old.outbox number m
             → TurnIs result input (R.remaining reader.new)
             (prepend_known self.new.feed (R.remaining reader.new))
             old (W.contents writer.new) self.new.outbox number self.new.world }
+        ensures reads { R.failed reader.new ≡ R.failed reader.old + failed_reads result }
+        ensures writes { W.failed writer.new ≡ W.failed writer.old + failed_writes result }
+        ensures same_reader { R.place reader.new ≡ R.place reader.old }
+        ensures same_writer { W.place writer.new ≡ W.place writer.old }
     {
         let Ok(()) = write_before_read(&self.feed, &mut self.outbox, writer) else {
             return Err(Fault::Write);
@@ -184,16 +251,20 @@ impl Player {
 }
 
 /// Writes what is gathered, where the reader is to be asked for the next line: nothing is held back then.
-fn write_before_read<W: Write>(
+fn write_before_read<W: CountedWrite>(
     feed: &Feed,
     outbox: &mut Outbox,
     writer: &mut W,
 ) -> Result<(), WriteFailed>
+    requires { W.failed writer.old < 2 ^ 64 - 1 }
     ensures unheld { OnOk result (Contains feed.now 10 ⊎ (outbox.new ≡ [])) }
     ensures sent { MatchResult result
         (λ _. WritesFront (W.contents writer.old) (W.contents writer.new) outbox.old outbox.new)
         (λ _. WritesSome (W.contents writer.old) (W.contents writer.new) outbox.old
         × (outbox.new ≡ [])) }
+    ensures ok { OnOk result (W.failed writer.new ≡ W.failed writer.old) }
+    ensures err { OnErr result (W.failed writer.new ≡ W.failed writer.old + 1) }
+    ensures same_writer { W.place writer.new ≡ W.place writer.old }
 {
     if feed.has_line() {
         return Ok(());
@@ -219,7 +290,7 @@ fn ending_of(number: u64, fault: LineFault) -> Fault
     ensures { result ≡ ending_of number fault }
 {
     match fault {
-        LineFault::OutOfMemory => Fault::OutOfMemory,
+        LineFault::OutOfMemory(witness) => Fault::OutOfMemory(witness),
         LineFault::Write => Fault::Write,
         LineFault::Faulty(kind) => Fault::ScriptFault(kind, number),
     }

@@ -1,51 +1,55 @@
 //! Trees whose lines are written while they are walked.
 
-ghost use Rattle.std.specs.Prelude.{◌≡◌, [], IfErr, OnOk, Option, List, false};
+ghost use Rattle.std.specs.Prelude.{◌≡◌, ◌<◌, ◌+◌, ◌-◌, ◌^◌, [], IfErr, OnOk, Option, List, false};
 ghost use Rattle.nv_core.specs.Worlds.{Shows};
 ghost use Rattle.nv_entry.specs.declared.tree.TreeNode.{TreeNode};
 ghost use Rattle.nv_machine.specs.World as machine;
 ghost use Rattle.nv_script.specs.Play.{nodes_at};
-ghost use Rattle.nv_script.specs.Results.{HandsLines, IsNotSent, ListIs, Sends, Sent};
+ghost use Rattle.nv_script.specs.Results.{HandsLines, IsNotSent, ListIs, Sends, Sent, failed_in_line, failed_in_tree};
 ghost use Rattle.nv_script.specs.Texts.{node_line};
 
+use crate::counted::CountedWrite;
 use crate::fault::LineFault;
 use crate::outbox::Outbox;
 use crate::text::{push_node, push_refused};
 use nv_base::{Epoch, Fault, Name};
 use nv_core::{NodeCopy, Sink, SinkFault, World};
-use std::io::Write;
 
-/// Writes the line of each node, which it makes in a buffer that is lent to it. It keeps whether it took a node, and
-/// why it failed last.
+/// Writes the line of each node, which it makes in a buffer that is lent to it. It keeps whether it took a node, how
+/// often it failed for want of memory, and why it failed last.
 #[derive(Drop)]
 struct NodeLines<'a, W> {
     line: &'a mut Vec<u8>,
     outbox: &'a mut Outbox,
     writer: &'a mut W,
     has_begun: bool,
-    failures: u64,
+    starved: u64,
     fault: LineFault,
 }
 
-impl<'a, W: Write> Sink for NodeLines<'a, W> {
-    ghost use Rattle.std.specs.Prelude.{◌≡◌, true};
-    ghost use Rattle.nv_script.specs.Results.{IsNotSent, Sends};
+impl<'a, W: CountedWrite> Sink for NodeLines<'a, W> {
+    ghost use Rattle.std.specs.Prelude.{◌≡◌, ◌+◌, ◌-◌, ◌^◌, Err, min, true};
+    ghost use Rattle.nv_script.specs.Results.{IsNotSent, Sends, failed_in_line};
     ghost use Rattle.nv_script.specs.Texts.{node_line};
 
-    ghost failed = { λ lines. lines.failures };
+    ghost failed = { λ lines. min (W.failed lines.writer.now + lines.starved) (2 ^ 64 - 1) };
 
     ghost Takes = { λ old node new.
         Sends (record { written = W.contents old.writer.now; gathered = old.outbox.now })
         (record { written = W.contents new.writer.now; gathered = new.outbox.now }) (node_line node)
         × (new.has_begun ≡ true)
         × (new.writer.ghost_name ≡ old.writer.ghost_name)
-        × (new.outbox.ghost_name ≡ old.outbox.ghost_name) };
+        × (new.outbox.ghost_name ≡ old.outbox.ghost_name)
+        × (W.failed new.writer.now ≡ W.failed old.writer.now)
+        × (W.place new.writer.now ≡ W.place old.writer.now) };
 
     ghost Fails = { λ old node new.
         IsNotSent new.fault (record { written = W.contents old.writer.now; gathered = old.outbox.now })
         (record { written = W.contents new.writer.now; gathered = new.outbox.now }) (node_line node)
         × (new.writer.ghost_name ≡ old.writer.ghost_name)
-        × (new.outbox.ghost_name ≡ old.outbox.ghost_name) };
+        × (new.outbox.ghost_name ≡ old.outbox.ghost_name)
+        × (W.failed new.writer.now ≡ W.failed old.writer.now + failed_in_line (Err new.fault))
+        × (W.place new.writer.now ≡ W.place old.writer.now) };
 
     fn node(&mut self, path: &[Name], node: &NodeCopy) -> Result<(), SinkFault> {
         match write_node(self.line, self.outbox, self.writer, path, node) {
@@ -55,25 +59,28 @@ impl<'a, W: Write> Sink for NodeLines<'a, W> {
             }
             Err(fault) => {
                 self.fault = fault;
-                self.failures += 1;
+                if !matches!(fault, LineFault::Write) {
+                    self.starved += 1;
+                }
                 Err(SinkFault)
             }
         }
     }
 
     fn failures(&self) -> u64 {
-        self.failures
+        self.writer.failures().saturating_add(self.starved)
     }
 }
 
 /// Writes the line of a node at a path. It is made in `line`.
-fn write_node<W: Write>(
+fn write_node<W: CountedWrite>(
     line: &mut Vec<u8>,
     outbox: &mut Outbox,
     writer: &mut W,
     path: &[Name],
     node: &NodeCopy,
 ) -> Result<(), LineFault>
+    requires { W.failed writer.old < 2 ^ 64 - 1 }
     ensures ok { OnOk result
         (Sends (record { written = W.contents writer.old; gathered = outbox.old })
         (record { written = W.contents writer.new; gathered = outbox.new })
@@ -82,6 +89,8 @@ fn write_node<W: Write>(
         IsNotSent why (record { written = W.contents writer.old; gathered = outbox.old })
         (record { written = W.contents writer.new; gathered = outbox.new })
         (node_line (record { path = path.now; node = node.now }))) }
+    ensures failed { W.failed writer.new ≡ W.failed writer.old + failed_in_line result }
+    ensures same_writer { W.place writer.new ≡ W.place writer.old }
 {
     line.clear();
     push_node(line, path, node)?;
@@ -89,24 +98,27 @@ fn write_node<W: Write>(
 }
 
 /// Writes the lines of a tree, of the one now or of a snapshot. The last line is left in `out`, or the one of a refusal.
-pub(crate) fn write_tree<W: Write>(
+pub(crate) fn write_tree<W: CountedWrite>(
     world: &World,
     snapshot: Option<Epoch>,
     out: &mut Vec<u8>,
     outbox: &mut Outbox,
     writer: &mut W,
 ) -> Result<(), LineFault>
-    ensures { (m : machine.World) → Shows world.now m
+    requires { W.failed writer.old < 2 ^ 64 - 1 }
+    ensures lines { (m : machine.World) → Shows world.now m
         → ListIs result (record { written = W.contents writer.old; gathered = outbox.old })
         (record { written = W.contents writer.new; gathered = outbox.new })
         out.new.items (nodes_at m snapshot) }
+    ensures failed { W.failed writer.new ≡ W.failed writer.old + failed_in_line result }
+    ensures same_writer { W.place writer.new ≡ W.place writer.old }
 {
     let mut lines = NodeLines {
         line: out,
         outbox,
         writer,
         has_begun: false,
-        failures: 0,
+        starved: 0,
         fault: LineFault::Write,
     };
     let handed = hand(world, snapshot, &mut lines);
@@ -116,12 +128,13 @@ pub(crate) fn write_tree<W: Write>(
 }
 
 /// Hands the nodes of a tree to such a sink, which has the same outbox and the same writer after it.
-fn hand<'a, W: Write>(
+fn hand<'a, W: CountedWrite>(
     world: &World,
     snapshot: Option<Epoch>,
     lines: &mut NodeLines<'a, W>,
 ) -> Result<(), Fault>
-    requires failures { lines.old.failures ≡ 0 }
+    requires failures { W.failed lines.old.writer.now < 2 ^ 64 - 1 }
+    requires starved { lines.old.starved ≡ 0 }
     requires begun { lines.old.has_begun ≡ false }
     ensures same_outbox { lines.new.outbox.ghost_name ≡ lines.old.outbox.ghost_name }
     ensures same_writer { lines.new.writer.ghost_name ≡ lines.old.writer.ghost_name }
@@ -129,6 +142,9 @@ fn hand<'a, W: Write>(
         → HandsLines result lines.new.has_begun lines.new.fault (nodes_at m snapshot)
         (record { written = W.contents lines.old.writer.now; gathered = lines.old.outbox.now })
         (record { written = W.contents lines.new.writer.now; gathered = lines.new.outbox.now }) }
+    ensures failed { W.failed lines.new.writer.now
+        ≡ W.failed lines.old.writer.now + failed_in_tree result lines.new.fault }
+    ensures same { W.place lines.new.writer.now ≡ W.place lines.old.writer.now }
 {
     match snapshot {
         Some(snapshot) => world.snap_tree_to(snapshot, lines),
@@ -144,13 +160,14 @@ fn end(
     out: &mut Vec<u8>,
 ) -> Result<(), LineFault>
     requires { out.old.items ≡ [] }
-    ensures { (nodes : Option (List TreeNode)) (old new : Sent)
+    ensures lines { (nodes : Option (List TreeNode)) (old new : Sent)
         → HandsLines handed has_begun why nodes old new → ListIs result old new out.new.items nodes }
+    ensures failed { failed_in_line result ≡ failed_in_tree handed why }
 {
     match handed {
         Ok(()) => Ok(out.extend_from_slice(b"end\n")?),
         Err(Fault::Write) => Err(why),
-        Err(_) if has_begun => Err(LineFault::OutOfMemory),
+        Err(Fault::OutOfMemory(witness)) if has_begun => Err(LineFault::OutOfMemory(witness)),
         Err(fault) => Ok(push_refused(out, &fault)?),
     }
 }

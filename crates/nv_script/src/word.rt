@@ -5,6 +5,7 @@ ghost use Rattle.std.specs.List.{All, list_all};
 ghost use Rattle.std.specs.Fmt.{digit_glyph};
 ghost use Rattle.nv_base.specs.declared.limits.TheConstants.{MODE};
 ghost use Rattle.nv_script.specs.Words.{number_of, number_up_to, positive_up_to, words_of, handle_from, handle_of, is_plain, hex_value, before, unescaped, unescaped_behind, text_of, escaped_byte, escaped};
+ghost use Rattle.nv_script.specs.Printed.{ArePrinted};
 
 use memchr::memchr;
 use nv_base::{Bytes, Gen, Handle, Ino, Mode, limits};
@@ -271,4 +272,9 @@ pub fn push_number(out: &mut Vec<u8>, number: u64) -> Result<(), AllocError>
 pub fn printed_text_reads_back()
     ensures { (bytes : List ℕ) → All (λ byte. byte < 256) bytes
         → unescaped (escaped bytes) ≡ Some bytes }
+{}
+
+/// A law: printed text has each visible byte as itself, and each other one as `%` and two digits of `0-9` and `a-f`.
+pub fn escapes_have_two_lower_case_digits()
+    ensures { (bytes : List ℕ) → All (λ byte. byte < 256) bytes → ArePrinted bytes (escaped bytes) }
 {}

@@ -17,12 +17,20 @@ use std::process::ExitCode;
 use std::rt::Files;
 use std::{env, fs, io};
 
+/// The line that tells of want of memory. It takes none.
+const OUT_OF_MEMORY: &str = "novacore: E1 OutOfMemory\n";
+
 /// Tells of a fault on standard error. If no text can be written, the exit status alone tells of it.
 fn tell<R: AllocGlobal + Eprint>(rt: &R, fault: &Fault) {
     let _told = match fault_line(rt.alloc(), fault) {
         Ok(line) => rt.eprint(line),
-        Err(_) => rt.eprint("novacore: E1 OutOfMemory\n"),
+        Err(_) => rt.eprint(OUT_OF_MEMORY),
     };
+}
+
+/// Tells of want of memory on standard error.
+fn tell_of_memory<R: Eprint>(rt: &R) {
+    let _told = rt.eprint(OUT_OF_MEMORY);
 }
 
 /// Prints what a command line without a task is answered.
@@ -30,7 +38,7 @@ fn tell<R: AllocGlobal + Eprint>(rt: &R, fault: &Fault) {
 /// Help and the version go to standard output, and why a command line is refused to standard error.
 fn answered<R: Print + Eprint>(rt: &R, error: &clap::Error) -> Outcome
     ensures memory { kind_of error.now ≡ ErrorKind.OutOfMemory
-        → result ≡ Outcome.Failed Fault.OutOfMemory }
+        → result ≡ Outcome.OutOfMemory }
     ensures shown { (kind_of error.now ≡ ErrorKind.DisplayHelp)
         ⊎ (kind_of error.now ≡ ErrorKind.DisplayVersion)
         → (result ≡ Outcome.Shown) ⊎ (result ≡ Outcome.Failed Fault.Write) }
@@ -39,7 +47,7 @@ fn answered<R: Print + Eprint>(rt: &R, error: &clap::Error) -> Outcome
         → result ≡ Outcome.Refused }
 {
     if error.kind() == ErrorKind::OutOfMemory {
-        return Outcome::Failed(Fault::OutOfMemory);
+        return Outcome::OutOfMemory;
     }
     let printed = error.print(rt);
     if error.use_stderr() {
@@ -80,7 +88,7 @@ fn perform<R: AllocGlobal + Env + Files + Input + Print + Eprint>(
         Err(error) if error.kind() == io::ErrorKind::InvalidData => {
             return Ok(answered(rt, &command_line::not_text(alloc)?));
         }
-        Err(_) => return Err(Fault::OutOfMemory),
+        Err(_) => return Ok(Outcome::OutOfMemory),
     };
     match Task::read(alloc, words.as_slice()) {
         Ok(Task::Play { file }) => {
@@ -97,8 +105,10 @@ fn run<R: AllocGlobal + Env + Files + Input + Print + Eprint>(rt: &R) -> Outcome
         Ok(outcome) => outcome,
         Err(fault) => Outcome::Failed(fault),
     };
-    if let Outcome::Failed(fault) = outcome {
-        tell(rt, &fault);
+    match outcome {
+        Outcome::Failed(fault) => tell(rt, &fault),
+        Outcome::OutOfMemory => tell_of_memory(rt),
+        _ => {}
     }
     outcome
 }

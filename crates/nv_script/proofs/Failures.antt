@@ -1,0 +1,41 @@
+-- Once a read or a write failed, nothing is gathered.
+use Rattle.std.proofs.Common.{◌≡◌, ◌⊎◌, inl, inr, ℕ, Bool, true, false, List, [], Option, Result, Ok, Err, subst}
+use Rattle.std.specs.Prelude.{if◌then◌else◌, nat_lt}
+use Rattle.std.specs.List.{Contains}
+use Rattle.nv_base.specs.declared.fault.Fault.{Fault}
+use Rattle.nv_base.specs.declared.fault.Fault.TheVariants as fault
+use Rattle.nv_base.specs.declared.fault.ScriptFaultKind.TheVariants as kind
+use Rattle.nv_machine.specs.World.{World}
+use Rattle.nv_script.specs.declared.fault.LineFault.{LineFault}
+use Rattle.nv_script.specs.declared.fault.LineFault.TheVariants as line_fault
+use Rattle.nv_script.specs.declared.feed.Taken.{Taken}
+use Rattle.nv_script.specs.declared.feed.Taken.TheVariants as taken
+use Rattle.nv_script.specs.Play.{most_lines}
+use Rattle.nv_script.specs.Results.{HoldsNone, LineFaultIs, Sent, ending_of, is_line}
+
+-- where a read can fail, what is due was written
+pub due_written : (ahead gathered : List ℕ) → Contains ahead 10 ⊎ (gathered ≡ []) → (Contains ahead 10 → ⊥) → gathered ≡ []
+due_written ahead gathered (inl has) fails = absurd (fails has)
+due_written ahead gathered (inr none) fails = none
+
+-- what is no line to play is no failed call
+pub not_line_held : (number : ℕ) (t : Taken) (why : Fault) (gathered : List ℕ) → is_line number t ≡ Err why
+    → HoldsNone {A = Bool} (Err why) gathered
+not_line_held number t why gathered is = subst (λ (r : Result Bool Fault). HoldsNone r gathered) is (held t) where
+  within : (past : Bool) (answer : Result Bool Fault) → HoldsNone answer gathered
+      → HoldsNone (if past then Err (fault.ScriptFault kind.Lines number) else answer) gathered
+  within true answer is = tt
+  within false answer is = is
+
+  held : (t : Taken) → HoldsNone (is_line number t) gathered
+  held taken.End = tt
+  held taken.Line = within (nat_lt most_lines number) (Ok true) tt
+  held taken.Long = within (nat_lt most_lines number) (Err (fault.ScriptFault kind.Long number)) tt
+  held taken.Unended = within (nat_lt most_lines number) (Err (fault.ScriptFault kind.Unended number)) tt
+
+-- a line's fault is a failed write where its end is one
+pub line_held : (number : ℕ) (why : LineFault) (from to : Sent) (m : Option World) (line : List ℕ) → LineFaultIs why from to m line
+    → HoldsNone {A = Bool} (Err (ending_of number why)) to.gathered
+line_held number (line_fault.OutOfMemory _) from to m line is = tt
+line_held number line_fault.Write from to m line is = is.3.1
+line_held number (line_fault.Faulty kind) from to m line is = tt

@@ -1,0 +1,183 @@
+-- Events lead to each world that a script plays on, so that its reports are what a scan counts.
+use Rattle.std.proofs.Common.{◌≡◌, ◌∙◌, ℕ, ◌++◌, ◌≤◌, Bool, true, false, List, [], ◌∷◌, Option, Some, None, ap, arith, inl, inr, refl, subst, sym}
+use Rattle.std.specs.Prelude.{MatchBool, min, nat_le, nat_lt, is_some, length}
+use Rattle.std.specs.List.{AllByRecursion}
+use Rattle.std.proofs.lemmas.Bool.{and_parts, leb-true}
+use Rattle.nv_alloc.specs.declared.runs.FreeRun.{FreeRun}
+use Rattle.nv_base.specs.Limits.{IsWithinLimits, first_bad_field, first_failing, is_between}
+use Rattle.nv_base.specs.declared.fault.GeometryField.{GeometryField}
+use Rattle.nv_base.specs.declared.fault.GeometryField.TheVariants as field
+use Rattle.nv_base.specs.declared.geometry.GeometryNumbers.{GeometryNumbers}
+use Rattle.nv_base.specs.declared.limits.TheConstants.{ACTORS, BLOCKS, BLOCK_BYTES, CPUS, INODES, LEAST_BLOCKS, LEAST_PAGE_ENTRIES, PAGE_ENTRIES, SNAPS}
+use Rattle.nv_epoch.specs.SnapList.{pins_of}
+use Rattle.nv_machine.specs.Format.{formatted}
+use Rattle.nv_machine.specs.Starts.{IsStart}
+use Rattle.nv_machine.specs.Step.{after, step}
+use Rattle.nv_machine.specs.World.{Event, Reply, Start, Started, World}
+use Rattle.nv_machine.proofs.FromScratch.{all_numbers}
+use Rattle.nv_machine.proofs.NewStart.{new_start}
+use Rattle.nv_core.specs.Whole.{RunsFrom, Runs}
+use Rattle.nv_core.specs.declared.reports.LogCounts.{LogCounts}
+use Rattle.nv_core.specs.declared.reports.Space.{Space}
+use Rattle.nv_core.specs.declared.snaps.Snaps.{Snaps}
+use Rattle.nv_core.specs.Worlds.{HasRun, gos}
+use Rattle.nv_core.proofs.RoomsAfter.{after_more}
+use Rattle.nv_core.proofs.ScannedReports.{lists_scanned, logs_scanned, snaps_scanned, space_scanned}
+use Rattle.nv_script.specs.declared.command.Command.{Command}
+use Rattle.nv_script.specs.declared.command.Command.TheVariants as command
+use Rattle.nv_script.specs.Grammar.{is_skipped}
+use Rattle.nv_script.specs.Play.{Acts, ActsBy, Formats, Plays, PlaysAll, PlaysWords, Reports, ShowsLog, ShowsTree, told_by_scan, told_of}
+use Rattle.nv_script.specs.Results.{HasAnyRun}
+use Rattle.nv_script.specs.Texts.{lists_lines, log_line, snaps_lines, space_line}
+use Rattle.nv_script.specs.Words.{words_of}
+
+-- ---- events
+
+run_more : (m : World) (e : Event) → HasRun m → HasRun (step m e).world
+run_more m e has =
+    let run = has.0 in
+    let g = m.numbers in
+    let next : (step m e).world ≡ after run.start (run.events ++ e ∷ []) =
+    ap (λ (w : World). (step w e).world) has.2 ∙ sym (after_more run.start run.events e) in
+    let numbers = (all_numbers g run.start run.records (run.events ++ e ∷ []) has.1).numbers in (
+      record { start = run.start; records = run.records; events = run.events ++ e ∷ [] },
+      subst (λ (n : GeometryNumbers). IsStart n run.start run.records) (sym (ap (λ (w : World). w.numbers) next ∙ numbers)) has.1,
+      next,
+    )
+
+run_after : (events : List Event) (m : World) → HasRun m → HasRun (after m events)
+run_after [] m has = has
+run_after (e ∷ events) m has = run_after events (step m e).world (run_more m e has)
+
+run_runs : (m : World) (actor : ℕ) (last : Reply) (n : World) → Runs m actor last n → HasRun m → HasRun n
+run_runs m actor last n runs has = subst HasRun (sym runs.goes.world) (run_after (gos actor runs.goes.grants) m has)
+
+run_from : (first : Reply) (m : World) (actor : ℕ) (last : Reply) (n : World) → RunsFrom first m actor last n → HasRun m → HasRun n
+run_from Started m actor last n runs has = run_runs m actor last n runs has
+run_from _ m actor last n ends has = subst HasRun (sym ends.1) has
+
+-- ---- commands
+
+run_log : (b : Bool) (ino : ℕ) (m : World) (text : List ℕ) (n : World) → ShowsLog b (told_by_scan m) ino m text n → n ≡ m
+run_log true ino m text n shows = shows.1
+run_log false ino m text n shows = shows.1
+
+run_tree : (b : Bool) (snapshot : ℕ) (m : World) (text : List ℕ) (n : World) → ShowsTree b snapshot m text n → n ≡ m
+run_tree true snapshot m text n shows = shows.1
+run_tree false snapshot m text n shows = shows.1
+
+run_acts : (m : World) (c : Command) (text : List ℕ) (n : World) → Acts m c text n → HasRun m → HasRun n
+run_acts m (command.Start actor call) text n acts has = subst HasRun (sym acts.1) (run_more m (Start actor call) has)
+run_acts m (command.Go actor more) text n acts has =
+    subst HasRun (sym acts.1.world) (run_after (gos actor acts.1.grants) m has)
+run_acts m (command.Run actor) text n acts has = run_runs m actor acts.0 n acts.1 has
+run_acts m (command.Do actor call) text n acts has =
+    run_from (step m (Start actor call)).reply (step m (Start actor call)).world actor acts.0 n acts.1
+    (run_more m (Start actor call) has)
+run_acts m command.Tree text n acts has = subst HasRun (sym acts.1) has
+run_acts m (command.SnapTree snapshot) text n acts has =
+    subst HasRun (sym (run_tree (is_some (pins_of m.shared.book.snaps snapshot)) snapshot m text n acts)) has
+run_acts m command.Snaps text n acts has = subst HasRun (sym acts.1) has
+run_acts m command.Space text n acts has = subst HasRun (sym acts.1) has
+run_acts m command.Lists text n acts has = subst HasRun (sym acts.1) has
+run_acts m (command.Log ino) text n acts has =
+    subst HasRun (sym (run_log (nat_lt ino (length m.shared.cells)) ino m text n acts)) has
+run_acts m command.Audit text n acts has = subst HasRun (sym acts.1) has
+
+-- ---- a new world
+
+all_pass : (tests : List (Bool × GeometryField)) → first_failing tests ≡ None → AllByRecursion (λ (test : Bool × GeometryField). test.0 ≡ true) tests
+all_pass [] e = tt
+all_pass ((true, name) ∷ tests) e = (refl, all_pass tests e)
+all_pass ((false, name) ∷ tests) e = cc
+
+between : (least most n : ℕ) → is_between least most n ≡ true → (least ≤ n) × (n ≤ most)
+between least most n e =
+    let both = and_parts (nat_le least n) (nat_le n most) e in (leb-true least n both.0, leb-true n most both.1)
+
+within : (numbers : GeometryNumbers) → first_bad_field numbers ≡ None → IsWithinLimits numbers
+within numbers e =
+    let tests : List (Bool × GeometryField) =
+    (is_between LEAST_BLOCKS BLOCKS numbers.blocks, field.Blocks) ∷ (is_between 1 (min numbers.blocks CPUS) numbers.cpus, field.Cpus)
+    ∷ (is_between 1 BLOCK_BYTES numbers.block, field.Block)
+    ∷ (is_between LEAST_PAGE_ENTRIES PAGE_ENTRIES numbers.page, field.Page) ∷ (is_between 1 INODES numbers.inodes, field.Inodes)
+    ∷ (is_between 1 SNAPS numbers.snaps, field.Snaps) ∷ (is_between 1 ACTORS numbers.actors, field.Actors) ∷ [] in
+    let all = all_pass tests e in
+    let blocks = between LEAST_BLOCKS BLOCKS numbers.blocks all.0 in
+    let cpus = between 1 (min numbers.blocks CPUS) numbers.cpus all.1.0 in
+    let block = between 1 BLOCK_BYTES numbers.block all.1.1.0 in
+    let page = between LEAST_PAGE_ENTRIES PAGE_ENTRIES numbers.page all.1.1.1.0 in
+    let inodes = between 1 INODES numbers.inodes all.1.1.1.1.0 in
+    let snaps = between 1 SNAPS numbers.snaps all.1.1.1.1.1.0 in
+    let actors = between 1 ACTORS numbers.actors all.1.1.1.1.1.1.0 in
+    let fits : numbers.cpus ≤ min numbers.blocks CPUS = cpus.1 in
+    record {
+      some_blocks = blocks.0;
+      blocks_fit = blocks.1;
+      some_cpus = cpus.0;
+      cpus_fit = omega (arith, fits);
+      cpus_have_blocks = omega (arith, fits);
+      some_bytes = block.0;
+      bytes_fit = block.1;
+      some_entries = page.0;
+      entries_fit = page.1;
+      some_inodes = inodes.0;
+      inodes_fit = inodes.1;
+      some_snaps = snaps.0;
+      snaps_fit = snaps.1;
+      some_actors = actors.0;
+      actors_fit = actors.1;
+    }
+
+run_formats : (field : Option GeometryField) (numbers : GeometryNumbers) (text : List ℕ) (n : Option World)
+    → first_bad_field numbers ≡ field → Formats field numbers text n → HasAnyRun n
+run_formats (Some field) numbers text n is formats = subst HasAnyRun (sym formats.1) tt
+run_formats None numbers text n is (inl made) =
+    subst HasAnyRun (sym made.1)
+    (record { start = formatted numbers; records = []; events = [] }, new_start numbers (within numbers is), refl)
+run_formats None numbers text n is (inr none) = subst HasAnyRun (sym none.1) tt
+
+-- ---- lines
+
+run_words : (m : Option World) (words : List (List ℕ)) (text : List ℕ) (n : Option World) → PlaysWords m words text n → HasAnyRun m
+    → HasAnyRun n
+run_words None words text n plays has = run_formats (first_bad_field plays.0) plays.0 text n refl plays.2
+run_words (Some m) words text n plays has =
+    subst HasAnyRun (sym plays.4) (run_acts m plays.0 text plays.1 plays.3 has)
+
+run_line : (m : Option World) (line text : List ℕ) (n : Option World) → Plays m line text n → HasAnyRun m → HasAnyRun n
+run_line m line text n plays has = go (is_skipped line) plays where
+  go : (b : Bool) → MatchBool b ((text ≡ []) × (n ≡ m)) (PlaysWords m (words_of line) text n) → HasAnyRun n
+  go true skips = subst HasAnyRun (sym skips.1) has
+  go false words = run_words m (words_of line) text n words has
+
+run_lines : (m : Option World) (lines : List (List ℕ)) (text : List ℕ) (n : Option World) → PlaysAll m lines text n → HasAnyRun m
+    → HasAnyRun n
+run_lines m [] text n plays has = subst HasAnyRun (sym plays.1) has
+run_lines m (line ∷ lines) text n plays has =
+    run_lines plays.2 lines plays.1 n plays.5 (run_line m line plays.0 plays.2 plays.4 has)
+
+pub plays_run : (lines : List (List ℕ)) (text : List ℕ) (n : Option World) → PlaysAll None lines text n → HasAnyRun n
+plays_run lines text n plays = run_lines None lines text n plays tt
+
+-- ---- reports
+
+-- what a command does where its reports are by what stands in a world is what it does where they are by a scan
+pub acts_scanned : (m : World) (c : Command) (text : List ℕ) (n : World) → HasRun m → ActsBy (told_of m) m c text n → Acts m c text n
+acts_scanned m command.Space text n has acts =
+    subst (λ (s : Space). (text ≡ space_line s) × (n ≡ m)) (space_scanned m has) acts
+acts_scanned m command.Lists text n has acts =
+    subst (λ (l : List (List FreeRun)). Reports (lists_lines l) m text n) (lists_scanned m has) acts
+acts_scanned m command.Snaps text n has acts =
+    subst (λ (s : Snaps). Reports (snaps_lines s) m text n) (snaps_scanned m has) acts
+acts_scanned m (command.Log ino) text n has acts = go (nat_lt ino (length m.shared.cells)) acts where
+  go : (b : Bool) → ShowsLog b (told_of m) ino m text n → ShowsLog b (told_by_scan m) ino m text n
+  go true shows = subst (λ (l : LogCounts). Reports (log_line ino l) m text n) (logs_scanned m ino has) shows
+  go false shows = shows
+acts_scanned m (command.Start actor call) text n has acts = acts
+acts_scanned m (command.Go actor more) text n has acts = acts
+acts_scanned m (command.Run actor) text n has acts = acts
+acts_scanned m (command.Do actor call) text n has acts = acts
+acts_scanned m command.Tree text n has acts = acts
+acts_scanned m (command.SnapTree snapshot) text n has acts = acts
+acts_scanned m command.Audit text n has acts = acts
