@@ -7,6 +7,8 @@
 
 mod ids;
 pub mod logs;
+mod memory;
 pub mod rows;
 
 pub use ids::{Row, below, crosses_threads, geometry, handle, handle_of, id, next_number, numbers};
+pub use memory::{want_of_memory, wants_memory};

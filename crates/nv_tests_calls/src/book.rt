@@ -3,7 +3,7 @@ mod calls;
 mod rows;
 mod slow;
 
-use crate::compare::same;
+use crate::compare::{refused_memory, same};
 use nv_base::{CommitNo, Epoch, Fault, Geometry, Ino};
 use nv_book::{Book, Record, Retired};
 use nv_entry::Part;
@@ -22,7 +22,7 @@ fn new_book(rt: &impl Abort, alloc: Global) -> Book {
     match Book::new(alloc, &device) {
         Ok(book) => book,
         Err(fault) => {
-            same(rt, fault, Fault::OutOfMemory);
+            refused_memory(rt, fault);
             Book::new(alloc, &device).expect(rt, "memory for a book")
         }
     }
@@ -55,7 +55,7 @@ fn enter(rt: &impl Abort, book: &mut Book, seat: u64, need: u64) -> (Epoch, Comm
     match book.enter(seat, need) {
         Ok(fixed) => fixed,
         Err(fault) => {
-            same(rt, fault, Fault::OutOfMemory);
+            refused_memory(rt, fault);
             same(rt, state(book), before);
             book.enter(seat, need).expect(rt, "memory for records")
         }

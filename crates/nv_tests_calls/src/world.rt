@@ -8,7 +8,7 @@ mod reports;
 mod snapshots;
 mod words;
 
-use crate::compare::{holds_for, last_reply, push, same};
+use crate::compare::{holds_for, last_reply, push, refused_memory, same};
 use Words::{Create, List, Lookup, Mkdir, Read, Rename, Size, Stat, Unlink, Write};
 use nv_base::{Fault, Kind, Name};
 use nv_core::{Event, Reply, TreeNode, World};
@@ -227,7 +227,7 @@ fn run_all(rt: &impl Abort, world: &mut World, events: Vec<Event>) -> Vec<Reply>
     let back = match world.run(events) {
         Ok(replies) => return replies,
         Err((fault, back)) => {
-            same(rt, fault, Fault::OutOfMemory);
+            refused_memory(rt, fault);
             back
         }
     };

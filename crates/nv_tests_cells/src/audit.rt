@@ -5,7 +5,7 @@ mod indexes;
 
 ghost use Rattle.std.specs.Prelude.{◌≤◌};
 
-use crate::compare::same;
+use crate::compare::{refused_memory, same};
 use crate::says::Says::{Create, Write};
 use crate::scene::Scene;
 use crate::steps::Step::{Commits, Makes, Snapshot};
@@ -60,21 +60,28 @@ fn after(rt: &impl Abort, alloc: Global, steps: &[Step]) -> Judged {
 }
 
 impl Judged {
-    /// Judges it with a book and what hands have.
+    /// Judges it with a book, and with the blocks and parts that hands have.
     fn comes_to(
         &self,
         rt: &impl Abort,
         alloc: Global,
         book: &Book,
-        hands: &InHands<'_>,
-        want: Result<(), Fault>,
+        blocks: &[BlockNo],
+        parts: &[InodePart],
+        want: Option<Fault>,
     ) {
-        let found = audit(alloc, &self.device, &self.cells, &self.lists, book, hands);
-        if found == Err(Fault::OutOfMemory) {
-            let again = audit(alloc, &self.device, &self.cells, &self.lists, book, hands);
-            return same(rt, again, want);
+        let hands = in_hands(rt, alloc, blocks, parts);
+        let found = self.refused(alloc, book, hands);
+        if matches!(found, Some(Fault::OutOfMemory(_))) {
+            let hands = in_hands(rt, alloc, blocks, parts);
+            return same(rt, self.refused(alloc, book, hands), want);
         }
         same(rt, found, want);
+    }
+
+    /// What an audit tells that gives no value.
+    fn refused(&self, alloc: Global, book: &Book, hands: InHands) -> Option<Fault> {
+        audit(alloc, &self.device, &self.cells, &self.lists, book, hands).err()
     }
 
     fn dismantle(self) {
@@ -95,11 +102,18 @@ impl Judged {
     }
 }
 
-/// Hands that have nothing.
-fn nothing<'a>() -> InHands<'a> {
+/// What hands have.
+fn in_hands(rt: &impl Abort, alloc: Global, blocks: &[BlockNo], parts: &[InodePart]) -> InHands {
     InHands {
-        blocks: &[],
-        parts: &[],
+        blocks: listed(rt, alloc, blocks),
+        parts: listed(rt, alloc, parts),
+    }
+}
+
+fn listed<T: Copy + Drop>(rt: &impl Abort, alloc: Global, items: &[T]) -> Vec<T> {
+    match items.to_vec(alloc) {
+        Ok(list) => list,
+        Err(_) => items.to_vec(alloc).expect(rt, "memory for a list"),
     }
 }
 
@@ -114,14 +128,14 @@ fn held_page() -> InodePart {
     }
 }
 
-fn mismatch(part: MismatchPart) -> Result<(), Fault> {
-    Err(Fault::Mismatch(part))
+fn mismatch(part: MismatchPart) -> Option<Fault> {
+    Some(Fault::Mismatch(part))
 }
 
 #[test]
 fn parts_agree_after_calls(rt: HostRuntime) {
     let judged = after(&rt, rt.alloc(), HELD);
-    judged.comes_to(&rt, rt.alloc(), &judged.book, &nothing(), Ok(()));
+    judged.comes_to(&rt, rt.alloc(), &judged.book, &[], &[], None);
     judged.dismantle();
 }
 
@@ -130,12 +144,8 @@ fn parts_agree_after_calls(rt: HostRuntime) {
 fn records_differ(rt: HostRuntime) {
     let judged = after(&rt, rt.alloc(), HELD);
     let parts = [held_page()];
-    let hands = InHands {
-        blocks: &[],
-        parts: &parts,
-    };
     let want = mismatch(MismatchPart::Records);
-    judged.comes_to(&rt, rt.alloc(), &judged.book, &hands, want);
+    judged.comes_to(&rt, rt.alloc(), &judged.book, &[], &parts, want);
     judged.dismantle();
 }
 
@@ -145,7 +155,7 @@ fn counts_differ(rt: HostRuntime) {
     let judged = after(&rt, rt.alloc(), HELD);
     let book = new_book(&rt, rt.alloc(), &judged.device);
     let want = mismatch(MismatchPart::Counts);
-    judged.comes_to(&rt, rt.alloc(), &book, &nothing(), want);
+    judged.comes_to(&rt, rt.alloc(), &book, &[], &[], want);
     judged.dismantle();
 }
 
@@ -158,19 +168,11 @@ fn lists_differ(rt: HostRuntime) {
     assert!(rt; judged.lists.len() > 0 && judged.lists[0].block_bytes() == queue.block_bytes());
     same(&rt, judged.lists[0].take(1, &mut queue), 1);
     let want = mismatch(MismatchPart::Lists);
-    judged.comes_to(&rt, rt.alloc(), &judged.book, &nothing(), want);
+    judged.comes_to(&rt, rt.alloc(), &judged.book, &[], &[], want);
     let taken = [BlockNo::new(4)];
-    let hands = InHands {
-        blocks: &taken,
-        parts: &[],
-    };
-    judged.comes_to(&rt, rt.alloc(), &judged.book, &hands, Ok(()));
+    judged.comes_to(&rt, rt.alloc(), &judged.book, &taken, &[], None);
     let more = [BlockNo::new(4), BlockNo::new(5)];
-    let hands = InHands {
-        blocks: &more,
-        parts: &[],
-    };
-    judged.comes_to(&rt, rt.alloc(), &judged.book, &hands, want);
+    judged.comes_to(&rt, rt.alloc(), &judged.book, &more, &[], want);
     queue.dismantle();
     judged.dismantle();
 }
@@ -179,7 +181,7 @@ fn reserve_one(rt: &impl Abort, queue: &mut BlockQueue)
     ensures { 1 ≤ queue.new.room }
 {
     if let Err(fault) = queue.reserve(1) {
-        same(rt, fault, Fault::OutOfMemory);
+        refused_memory(rt, fault);
         queue.reserve(1).expect(rt, "memory for a queue");
     }
 }

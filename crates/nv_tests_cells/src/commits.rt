@@ -8,7 +8,7 @@ ghost use Rattle.nv_calls.specs.Cells.{AreCells};
 ghost use Rattle.nv_calls.specs.Nodes.{block_in, has_page_in, nodes_in};
 ghost use Rattle.nv_calls.specs.Updates.{IsPlanOf, blank_call};
 
-use crate::compare::same;
+use crate::compare::{refused_memory, same};
 use crate::conditions::{all_take_commit, can_ready, has_log_pages};
 use nv_alloc::Hand;
 use nv_base::limits::BLOCK_BYTES;
@@ -148,7 +148,7 @@ fn enter(rt: &impl Abort, book: &mut Book, need: u64)
     ensures { book.new ≡ record { state = after_enter 0 book.old.state; room = need } }
 {
     if let Err(fault) = book.enter(0, need) {
-        same(rt, fault, Fault::OutOfMemory);
+        refused_memory(rt, fault);
         book.enter(0, need).expect(rt, "memory for records");
     }
 }

@@ -1,9 +1,9 @@
 //! What calls take and give back.
 
-use crate::compare::same;
+use crate::compare::{refused_memory, same};
 use crate::says::handle;
 use nv_alloc::{Block, BlockQueue, FreeList, FreeRun, Hand};
-use nv_base::{BlockNo, Fault, Geometry, Ino};
+use nv_base::{BlockNo, Geometry, Ino};
 use std::alloc::Global;
 use std::collections::vec_deque;
 use std::process::Abort;
@@ -75,7 +75,7 @@ pub fn take_hand(
 
 fn take_blocks(rt: &impl Abort, list: &mut FreeList, queue: &mut BlockQueue, count: u64) {
     if let Err(fault) = queue.reserve(count) {
-        same(rt, fault, Fault::OutOfMemory);
+        refused_memory(rt, fault);
         same(rt, (queue.len(), queue.room()), (0, 0));
         queue.reserve(count).expect(rt, "memory for a queue");
     }

@@ -93,7 +93,7 @@ pub fn finds(
         );
     }
     let view = match viewed(rt, alloc, ino, cell, reads) {
-        Err(Fault::OutOfMemory) => viewed(rt, alloc, ino, cell, reads),
+        Err(Fault::OutOfMemory(_)) => viewed(rt, alloc, ino, cell, reads),
         view => view,
     };
     match (view, want) {

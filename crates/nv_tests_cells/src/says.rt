@@ -3,7 +3,7 @@
 //! An inode is said by its number, which is below 10, with its generation in front unless that is the first: 21 is
 //! inode 1 of generation 2.
 
-use crate::compare::same;
+use crate::compare::refused_memory;
 use nv_base::{Bytes, Fault, Handle, Mode};
 use nv_calls::Update;
 use nv_scenes::handle_of;
@@ -38,7 +38,7 @@ pub fn update(rt: &impl Abort, alloc: Global, says: Says) -> Update {
     match said(rt, alloc, says) {
         Ok(update) => update,
         Err(fault) => {
-            same(rt, fault, Fault::OutOfMemory);
+            refused_memory(rt, fault);
             said(rt, alloc, says).expect(rt, "memory for a call")
         }
     }

@@ -45,7 +45,7 @@ impl Scene {
         source: &mut S,
     ) -> Outcome {
         match self.make_once(rt, says, takes, source) {
-            Outcome::Refused(Fault::OutOfMemory) => self.make_once(rt, says, takes, source),
+            Outcome::Refused(Fault::OutOfMemory(_)) => self.make_once(rt, says, takes, source),
             outcome => outcome,
         }
     }

@@ -103,7 +103,7 @@ fn calls_on_some_slots(rt: HostRuntime) {
     begin(&rt, &mut cells[0], &mut stock);
     for row in ROWS {
         let mut outcome = make(&rt, &mut stock, &mut cells, row);
-        if outcome == Outcome::Refused(Fault::OutOfMemory) {
+        if matches!(outcome, Outcome::Refused(Fault::OutOfMemory(_))) {
             outcome = make(&rt, &mut stock, &mut cells, row);
         }
         same_for(&rt, &row.1, outcome, Outcome::Commits(CommitNo::new(row.4)));

@@ -6,12 +6,12 @@ ghost use Rattle.nv_cell.specs.Room.{IsReadyFor};
 ghost use Rattle.nv_entry.specs.Blocks.{item_blocks};
 ghost use Rattle.nv_entry.specs.declared.item.Item.{Item as ItemValue};
 
-use crate::compare::same;
+use crate::compare::refused_memory;
 use crate::hands::taking;
 use crate::stock::Stock;
 use nv_alloc::{BlockQueue, Hand};
 use nv_base::limits::NUMBER;
-use nv_base::{Epoch, Fault, Gen, Geometry, Kind, Mode};
+use nv_base::{Epoch, Gen, Geometry, Kind, Mode};
 use nv_cell::InodeCell;
 use nv_cell::laws::ready_cells_can_publish;
 use nv_entry::{Entry, Item};
@@ -52,7 +52,7 @@ fn make_ready(rt: &impl Abort, cell: &mut InodeCell, items: &[Item])
 {
     assert!(rt; cell.tail() == cell.len());
     if let Err(fault) = cell.ready(items) {
-        same(rt, fault, Fault::OutOfMemory);
+        refused_memory(rt, fault);
         cell.ready(items).expect(rt, "memory for an entry");
     }
 }

@@ -1,7 +1,7 @@
 //! What calls share: the book, and the free blocks of the first CPU.
 
 use crate::commits::Tried;
-use crate::compare::same;
+use crate::compare::refused_memory;
 use crate::hands::{Held, Takes, give_back, holds, take_hand};
 use crate::receipts::is_receipt;
 use crate::says::Says;
@@ -105,7 +105,7 @@ fn free_list(rt: &impl Abort, alloc: Global, device: &Geometry) -> FreeList {
     match FreeList::new(alloc, device, 0) {
         Ok(list) => list,
         Err(fault) => {
-            same(rt, fault, Fault::OutOfMemory);
+            refused_memory(rt, fault);
             FreeList::new(alloc, device, 0).expect(rt, "memory for a list")
         }
     }
@@ -115,7 +115,7 @@ pub fn new_book(rt: &impl Abort, alloc: Global, device: &Geometry) -> Book {
     match Book::new(alloc, device) {
         Ok(book) => book,
         Err(fault) => {
-            same(rt, fault, Fault::OutOfMemory);
+            refused_memory(rt, fault);
             Book::new(alloc, device).expect(rt, "memory for a book")
         }
     }

@@ -154,7 +154,7 @@ fn one_refused_growth(rt: HostRuntime) {
         let mut scene = begun(&rt, rt.alloc());
         let mut source = CountedText::new(text, None);
         let mut found = scene.make_once(&rt, write, &takes, &mut source);
-        if found == Outcome::Refused(Fault::OutOfMemory) {
+        if matches!(found, Outcome::Refused(Fault::OutOfMemory(_))) {
             play(&rt, rt.alloc(), &mut scene, AS_BEFORE);
             found = scene.make_once(&rt, write, &takes, &mut source);
         }

@@ -1,10 +1,10 @@
 //! Each call with ample memory, on a device of 16 blocks of 4 bytes, two CPUs and 3 inodes. Where a growth is
 //! refused nothing has changed, and the call is made once more.
 
-use crate::compare::{push, same};
+use crate::compare::{push, refused_memory, same};
 use crate::device::{free_list, has_numbers, next, put, reserve, take};
 use nv_alloc::{Block, BlockQueue, FreeList, FreeRun, Hand, InodePool};
-use nv_base::{BlockNo, Fault, Geometry, Ino};
+use nv_base::{BlockNo, Geometry, Ino};
 use nv_scenes::{Row, crosses_threads, geometry};
 use std::alloc::Global;
 use std::process::Abort;
@@ -24,7 +24,7 @@ fn pool_of(rt: &impl Abort, alloc: Global) -> InodePool {
     match InodePool::new(alloc, &device) {
         Ok(pool) => pool,
         Err(fault) => {
-            same(rt, fault, Fault::OutOfMemory);
+            refused_memory(rt, fault);
             InodePool::new(alloc, &device).expect(rt, "memory for a pool")
         }
     }

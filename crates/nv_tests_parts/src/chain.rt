@@ -4,10 +4,10 @@ mod appends;
 mod growth;
 mod removal;
 
-use crate::compare::same;
+use crate::compare::{refused_memory, same};
 use crate::device::{free_list, next, queue_for, take};
 use nv_alloc::{Block, BlockQueue, ChainPages, FreeList};
-use nv_base::{BlockNo, Epoch, Fault};
+use nv_base::{BlockNo, Epoch};
 use nv_entry::{Entry, Item};
 use nv_log::Chain;
 use nv_scenes::{Row, id};
@@ -35,7 +35,7 @@ fn reserve(rt: &impl Abort, chain: &mut Chain, pages: usize) {
         match chain.reserve(pages) {
             Ok(()) => break,
             Err(fault) => {
-                same(rt, fault, Fault::OutOfMemory);
+                refused_memory(rt, fault);
                 same(rt, shape(chain), before);
             }
         }

@@ -1,9 +1,9 @@
 //! Names, free lists and queues of blocks that several modules start from. Where a growth is refused nothing has
 //! changed, and the call is made once more.
 
-use crate::compare::same;
+use crate::compare::{refused_memory, same};
 use nv_alloc::{Block, BlockQueue, FreeList};
-use nv_base::{BlockNo, Fault, Name};
+use nv_base::{BlockNo, Name};
 use nv_scenes::{Row, geometry};
 use std::alloc::Global;
 use std::process::Abort;
@@ -12,7 +12,7 @@ pub fn name(rt: &impl Abort, alloc: Global, bytes: &[u8]) -> Name {
     match Name::read(alloc, bytes) {
         Ok(name) => name,
         Err(fault) => {
-            same(rt, fault, Fault::OutOfMemory);
+            refused_memory(rt, fault);
             Name::read(alloc, bytes).expect(rt, "memory for a name")
         }
     }
@@ -25,7 +25,7 @@ pub fn free_list(rt: &impl Abort, alloc: Global, device: Row, cpu: u64) -> FreeL
     match FreeList::new(alloc, &device, cpu) {
         Ok(list) => list,
         Err(fault) => {
-            same(rt, fault, Fault::OutOfMemory);
+            refused_memory(rt, fault);
             FreeList::new(alloc, &device, cpu).expect(rt, "memory for a list")
         }
     }
@@ -41,7 +41,7 @@ pub fn queue_for(rt: &impl Abort, alloc: Global, n: u64) -> BlockQueue {
 /// Makes room for `n` blocks in an empty queue without room.
 pub fn reserve(rt: &impl Abort, queue: &mut BlockQueue, n: u64) {
     if let Err(fault) = queue.reserve(n) {
-        same(rt, fault, Fault::OutOfMemory);
+        refused_memory(rt, fault);
         same(rt, (queue.len(), queue.room()), (0, 0));
         queue.reserve(n).expect(rt, "memory for a queue");
     }

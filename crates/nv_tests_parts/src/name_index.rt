@@ -1,9 +1,8 @@
 //! Directories as tables of changes. Each call is made with ample memory; where a growth is refused the names
 //! and the reserved name are as they were, and the call is made once more.
 
-use crate::compare::same;
+use crate::compare::{refused_memory, same};
 use crate::device::name;
-use nv_base::Fault;
 use nv_nindex::{Binding, NameIndex};
 use nv_scenes::{crosses_threads, handle, id};
 use std::alloc::Global;
@@ -35,7 +34,7 @@ fn reserve(rt: &impl Abort, alloc: Global, index: &mut NameIndex, bytes: &[u8]) 
     let len = index.len();
     let was_reserved = index.is_reserved(bytes);
     if let Err(fault) = index.reserve_one(&name) {
-        same(rt, fault, Fault::OutOfMemory);
+        refused_memory(rt, fault);
         same(rt, index.is_reserved(bytes), was_reserved);
         same(rt, index.len(), len);
         index.reserve_one(&name).expect(rt, "memory for a name");
@@ -78,7 +77,7 @@ fn check(rt: &impl Abort, index: &NameIndex, want: &[Row]) {
     let list = match index.list() {
         Ok(list) => list,
         Err(fault) => {
-            same(rt, fault, Fault::OutOfMemory);
+            refused_memory(rt, fault);
             index.list().expect(rt, "memory for a list")
         }
     };

@@ -1,5 +1,5 @@
 //! Snapshots: each call in a scene, and the limits.
-use crate::compare::{same, same_for};
+use crate::compare::{refused_memory, same, same_for};
 use nv_base::{Epoch, Fault, limits};
 use nv_epoch::{SnapList, Snapshot};
 use nv_scenes::crosses_threads;
@@ -22,7 +22,7 @@ fn new_list(rt: &impl Abort, alloc: Global, snaps: u64, first: u64) -> SnapList 
     match SnapList::new(alloc, snaps, first) {
         Ok(list) => list,
         Err(fault) => {
-            same(rt, fault, Fault::OutOfMemory);
+            refused_memory(rt, fault);
             SnapList::new(alloc, snaps, first).expect(rt, "memory for a list")
         }
     }

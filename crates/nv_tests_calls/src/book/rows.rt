@@ -2,7 +2,7 @@
 use crate::book::{
     device, drops, enter, enters, has_records, is_at, makes, new_book, picks, record, retires,
 };
-use crate::compare::{same, same_for};
+use crate::compare::{refused_memory, same, same_for};
 use nv_base::{CommitNo, Epoch, Fault, Ino, limits};
 use nv_book::{Base, Book, Event, LATEST, Record, Retired};
 use nv_entry::Part;
@@ -147,7 +147,7 @@ fn nearly_last_book(rt: &impl Abort, alloc: Global) -> Book {
     match Book::starting_at(alloc, &device, epoch, commit) {
         Ok(book) => book,
         Err(fault) => {
-            same(rt, fault, Fault::OutOfMemory);
+            refused_memory(rt, fault);
             Book::starting_at(alloc, &device, epoch, commit).expect(rt, "memory for a book")
         }
     }
@@ -174,7 +174,8 @@ fn ends_at_the_last_numbers(rt: HostRuntime) {
 #[test]
 fn has_room_for_no_more_than_it_counts(rt: HostRuntime) {
     let mut book = new_book(&rt, rt.alloc());
-    refuses_to_enter(&rt, &mut book, limits::NUMBER + 1, Fault::OutOfMemory);
+    let refused = book.enter(0, limits::NUMBER + 1);
+    refused_memory(&rt, refused.expect_err(&rt, "so many records"));
     is_at(&rt, &book, 1, 0);
     same(&rt, book.room(), 0);
     enters(&rt, &mut book, 7, 1, 1);
@@ -222,7 +223,7 @@ fn base_of(rt: &impl Abort, book: &Book) -> Base {
     match book.base() {
         Ok(base) => base,
         Err(fault) => {
-            same(rt, fault, Fault::OutOfMemory);
+            refused_memory(rt, fault);
             book.base().expect(rt, "memory for numbers")
         }
     }

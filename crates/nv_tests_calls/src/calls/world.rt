@@ -13,7 +13,7 @@ use nv_calls::{
 };
 use nv_entry::{Entry, Item, When, node_when, page_source};
 use nv_scenes::logs::{Device, Says as LogSays, log_of};
-use nv_scenes::{handle, id};
+use nv_scenes::{handle, id, wants_memory};
 use std::alloc::Global;
 use std::process::Abort;
 use std::test::Fail;
@@ -138,7 +138,7 @@ impl World {
         match plan_items(alloc, block, &self.nodes, &taken, call) {
             Ok(planned) => Ok(planned),
             Err(fault) => {
-                same_for(rt, &wanted, fault, Fault::OutOfMemory);
+                same_for(rt, &wanted, wants_memory(fault), true);
                 Ok(plan_items(alloc, block, &self.nodes, &taken, call)?)
             }
         }

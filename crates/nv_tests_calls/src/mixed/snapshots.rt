@@ -129,7 +129,8 @@ impl Snapped {
             number = number.saturating_add(1);
             is_kept(rt, &self.scene.world, number, noted);
         }
-        Ok(self.scene.world.audit()?)
+        self.scene.world.audit()?;
+        Ok(())
     }
 
     /// Makes calls at once to their ends, each by an actor of its own.

@@ -1,9 +1,9 @@
 //! Scripts that end early: a read or a write that fails.
 
-use super::pieces::{AT_ONCE, ending, play_in_pieces};
+use super::pieces::{AT_ONCE, Counts, Pace, count_in_pieces, ending, play_in_pieces};
 use super::worked::{NAMES, PARTIAL_AT_BOTH_ENDS};
 use crate::compare::{same, same_for};
-use nv_base::Fault;
+use nv_base::{Fault, ScriptFaultKind};
 use std::alloc::Global;
 use std::process::Abort;
 
@@ -68,4 +68,35 @@ fn a_writer_that_takes_no_byte(rt: HostRuntime) {
     let (outcome, _) = play_into(rt.alloc(), PARTIAL_AT_BOTH_ENDS.0.as_bytes(), &mut room);
     same(&rt, outcome, Err(Fault::Write));
     same(&rt, room.as_slice(), b"formatted\ndo".as_slice());
+}
+
+/// How many reads and writes fail, for calls of seven bytes of which one is interrupted.
+const COUNTED: [(Pace, Pace, Counts); 4] = [
+    (AT_ONCE, AT_ONCE, (Ok(()), 0, 0)),
+    ((7, 3), AT_ONCE, (Err(Fault::Read), 1, 0)),
+    (AT_ONCE, (7, 3), (Err(Fault::Write), 0, 1)),
+    ((7, 40), (7, 1), (Err(Fault::Write), 0, 1)),
+];
+
+#[test]
+fn failures_are_counted(rt: HostRuntime) {
+    let script = PARTIAL_AT_BOTH_ENDS.0.as_bytes();
+    for (reads, writes, want) in COUNTED {
+        same(
+            &rt,
+            count_in_pieces(rt.alloc(), script, reads, writes),
+            want,
+        );
+    }
+}
+
+/// A reader that fails behind the line whose fault ends the script is not asked again.
+#[test]
+fn a_fault_asks_for_no_further_line(rt: HostRuntime) {
+    let (outcome, _) = play_in_pieces(rt.alloc(), b"jump\n", (5, 1), AT_ONCE);
+    same(
+        &rt,
+        outcome,
+        Err(Fault::ScriptFault(ScriptFaultKind::Word, 1)),
+    );
 }

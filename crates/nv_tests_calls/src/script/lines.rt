@@ -3,7 +3,8 @@ ghost use Rattle.std.specs.Prelude.{◌≤◌};
 ghost use Rattle.std.specs.Vec.{vec_capacity};
 
 use crate::compare::same;
-use nv_script::feed::{Feed, MAX_LINE_BYTES, ReadFailed, Taken};
+use nv_script::feed::{Feed, MAX_LINE_BYTES, Taken};
+use nv_script::{ReadCounter, ReadFailed};
 use std::alloc::{AllocError, Global};
 use std::io;
 use std::io::{ErrorKind, Read};
@@ -34,7 +35,8 @@ impl Lines {
         taken: Result<Taken, ReadFailed>,
         want: &[u8],
     ) {
-        let result = self.feed.next_line(reader, &mut self.line);
+        let mut reader = ReadCounter::new(reader);
+        let result = self.feed.next_line(&mut reader, &mut self.line);
         same(rt, result, taken);
         same(rt, self.line.as_slice(), want);
     }

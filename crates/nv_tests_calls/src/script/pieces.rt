@@ -1,7 +1,7 @@
 //! Readers and writers that move a few bytes at a call, and scripts that are played through them.
 
 use nv_base::Fault;
-use nv_script::play;
+use nv_script::{CountedRead, CountedWrite, ReadCounter, WriteCounter, play, play_counted};
 use std::alloc::Global;
 use std::io;
 use std::io::{ErrorKind, Read, Write};
@@ -53,11 +53,35 @@ pub(super) fn ending<R: Read, W: Write>(
     play(alloc, reader, writer)
 }
 
+/// How a script ends, and how many reads and writes failed.
+pub(super) type Counts = (Result<(), Fault>, u64, u64);
+
+/// Plays a script, and says how it ends and what failed.
+pub(super) fn counted_ending<R: Read, W: Write>(
+    alloc: Global,
+    reader: &mut R,
+    writer: &mut W,
+) -> Counts {
+    let mut reader = ReadCounter::new(reader);
+    let mut writer = WriteCounter::new(writer);
+    let outcome = play_counted(alloc, &mut reader, &mut writer);
+    (outcome, reader.failures(), writer.failures())
+}
+
 /// The most bytes of a call, and how many calls there are before one is interrupted.
 pub(super) type Pace = (usize, usize);
 
 /// Moves all bytes that there are, and is never interrupted.
 pub(super) const AT_ONCE: Pace = (usize::MAX, usize::MAX);
+
+/// What is moved at such a pace.
+fn at_pace<T>(inner: T, pace: Pace) -> Pieces<T> {
+    Pieces {
+        inner,
+        most: pace.0,
+        calls: pace.1,
+    }
+}
 
 /// Plays a script that is read and written in pieces; how it ends, and what it writes.
 pub(super) fn play_in_pieces(
@@ -66,16 +90,15 @@ pub(super) fn play_in_pieces(
     reads: Pace,
     writes: Pace,
 ) -> (Result<(), Fault>, Vec<u8>) {
-    let mut reader = Pieces {
-        inner: script,
-        most: reads.0,
-        calls: reads.1,
-    };
-    let mut writer = Pieces {
-        inner: Vec::new(alloc),
-        most: writes.0,
-        calls: writes.1,
-    };
+    let mut reader = at_pace(script, reads);
+    let mut writer = at_pace(Vec::new(alloc), writes);
     let outcome = ending(alloc, &mut reader, &mut writer);
     (outcome, writer.inner)
+}
+
+/// The same; how it ends, and how many reads and writes failed.
+pub(super) fn count_in_pieces(alloc: Global, script: &[u8], reads: Pace, writes: Pace) -> Counts {
+    let mut reader = at_pace(script, reads);
+    let mut writer = at_pace(Vec::new(alloc), writes);
+    counted_ending(alloc, &mut reader, &mut writer)
 }

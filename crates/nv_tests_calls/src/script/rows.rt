@@ -361,9 +361,8 @@ pub(super) const FIRST_LINES: &[(&str, u64, ScriptFaultKind)] = &[
     ("\n#", 2, ScriptFaultKind::Unended),
 ];
 
-/// Faults with their texts.
+/// Faults with their texts, without want of memory.
 pub(super) const FAULTS: &[(Fault, &str)] = &[
-    (Fault::OutOfMemory, "E1 OutOfMemory"),
     (
         Fault::BadGeometry(GeometryField::Cpus),
         "E2 BadGeometry(cpus)",

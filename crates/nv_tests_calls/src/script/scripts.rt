@@ -6,6 +6,7 @@ use super::snapshots::OF_SNAPSHOTS;
 use super::worked::{Row, WORKED};
 use crate::compare::{same, same_for};
 use nv_base::{Fault, ScriptFaultKind};
+use nv_scenes::want_of_memory;
 use nv_script::{fault_line, fault_text, play};
 use std::alloc::{AllocError, Global};
 use std::cell::Cell;
@@ -278,6 +279,12 @@ fn scripts_come_and_go_byte_by_byte(rt: HostRuntime) {
 
 #[test]
 fn faults_have_their_texts(rt: HostRuntime) -> Result<(), Fail> {
+    let memory = want_of_memory(rt.alloc()).expect(&rt, "a refused growth");
+    same(
+        &rt,
+        fault_text(rt.alloc(), &memory)?.as_str(),
+        "E1 OutOfMemory",
+    );
     for (fault, want) in FAULTS {
         same(&rt, fault_text(rt.alloc(), fault)?.as_str(), *want);
     }

@@ -2,10 +2,9 @@
 
 use super::words::{Want, Words};
 use super::{ONE, Played, ROOT, SMALL, Step, plays_anew};
-use crate::compare::same;
+use crate::compare::{refused_memory, same};
 use Step::{Do, Start};
 use Words::{Create, Drain, Snap, Write};
-use nv_base::Fault;
 use nv_core::{Event, World};
 use std::process::Abort;
 
@@ -27,7 +26,7 @@ const GOES: u64 = 24;
 /// Nothing differs. An audit that wants for memory is made once more.
 fn agrees(rt: &impl Abort, world: &World) {
     if let Err(fault) = world.audit() {
-        same(rt, fault, Fault::OutOfMemory);
+        refused_memory(rt, fault);
         same(rt, world.audit().err(), None);
     }
 }

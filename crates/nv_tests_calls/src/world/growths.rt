@@ -11,7 +11,7 @@ use Words::{
     Write,
 };
 use nv_base::{Fault, Kind};
-use nv_core::World;
+use nv_core::{Reply, World};
 use nv_scenes as scenes;
 use std::alloc::Global;
 use std::process::Abort;
@@ -53,7 +53,8 @@ const ONE_TAKING: &[Growth] = &[("check", 3), ("ready", 6), ("enter", 7)];
 
 const TWO_TAKINGS: &[Growth] = &[("check", 3), ("ready", 7), ("enter", 8)];
 
-const NO_TAKING: &[Growth] = &[("check", 3), ("ready", 4), ("enter", 5)];
+/// A check that wants no block grows nothing.
+const NO_TAKING: &[Growth] = &[("ready", 4), ("enter", 5)];
 
 /// Of a visit.
 const VISIT: &[Growth] = &[("visit", 1)];
@@ -118,7 +119,7 @@ const NAMES: &[Row] = &[
         &[Create(ROOT, b"a"), Write(ONE, 0, FOUR_PAGES)],
         Unlink(ROOT, b"a"),
         Want::Nothing,
-        &[("check", 6), ("ready", 7), ("enter", 8)],
+        &[("ready", 7), ("enter", 8)],
     ),
     // the same; it kills four parts at most, and the mkdir made room for as many
     (
@@ -126,7 +127,7 @@ const NAMES: &[Row] = &[
         &[Mkdir(ROOT, b"d")],
         Rmdir(ROOT, b"d"),
         Want::Nothing,
-        &[("check", 6), ("ready", 7)],
+        &[("ready", 7)],
     ),
     // one look, three locks, check, pages, ready, enter
     (
@@ -146,7 +147,7 @@ const NAMES: &[Row] = &[
         &[Create(ROOT, b"a"), Mkdir(ROOT, b"d")],
         Rename(ROOT, b"a", TWO, b"b"),
         Want::Nothing,
-        &[("check", 9), ("ready", 10)],
+        &[("ready", 10)],
     ),
     // two looks, four locks, check, ready, enter
     (
@@ -159,7 +160,7 @@ const NAMES: &[Row] = &[
         ],
         Rename(ROOT, b"a", TWO, b"b"),
         Want::Nothing,
-        &[("check", 11), ("ready", 12), ("enter", 13)],
+        &[("ready", 12), ("enter", 13)],
     ),
 ];
 
@@ -262,16 +263,19 @@ const SNAPSHOTS: &[Row] = &[
     ),
 ];
 
-const REFUSED: Want = Want::Refused(Fault::OutOfMemory);
+/// Whether a call was refused memory.
+fn is_refused(reply: &Reply) -> bool {
+    matches!(reply, Reply::Refused(Fault::OutOfMemory(_)))
+}
 
 /// A new world in which these calls were made, once more where they were refused memory.
 fn prepared(rt: &impl Abort, alloc: Global, before: &[Words]) -> World {
     let mut world = new_world(rt, alloc, ROOMY);
     for words in before {
         let (_, reply) = alone(rt, alloc, &mut world, EARLIER, words);
-        if is_wanted(&reply, &REFUSED) {
+        if is_refused(&reply) {
             let (_, reply) = alone(rt, alloc, &mut world, EARLIER, words);
-            assert!(rt; !is_wanted(&reply, &REFUSED), "memory for a call");
+            assert!(rt; !is_refused(&reply), "memory for a call");
         }
     }
     world
@@ -298,7 +302,7 @@ fn makes(rt: &impl Abort, alloc: Global, row: &Row) -> Option<&'static str> {
     if is_wanted(&reply, want) {
         return None;
     }
-    same_for(rt, name, is_wanted(&reply, &REFUSED), true);
+    same_for(rt, name, is_refused(&reply), true);
     is_untouched(rt, alloc, &world, before);
     let (_, again) = alone(rt, alloc, &mut world, ACTOR, words);
     same_for(rt, name, is_wanted(&again, want), true);

@@ -84,7 +84,7 @@ fn hands(
             sink.failures() == 1,
             outcome == Err(Fault::Write),
         );
-        if outcome != Err(Fault::OutOfMemory) {
+        if !matches!(outcome, Err(Fault::OutOfMemory(_))) {
             return (outcome, sink.taken);
         }
     }

@@ -1,8 +1,7 @@
 //! Worlds that are new, and calls whose steps are counted.
 
 use super::words::{Words, call};
-use crate::compare::same;
-use nv_base::Fault;
+use crate::compare::refused_memory;
 use nv_core::{Event, Reply, World};
 use nv_scenes::{Row, geometry};
 use std::alloc::Global;
@@ -16,7 +15,7 @@ pub(super) fn new_world(rt: &impl Abort, alloc: Global, row: Row) -> World {
     let device = geometry(row).expect(rt, "a geometry");
     match World::format(alloc, device) {
         Ok(world) => return world,
-        Err(fault) => same(rt, fault, Fault::OutOfMemory),
+        Err(fault) => refused_memory(rt, fault),
     }
     match World::format(alloc, device) {
         Ok(world) => world,

@@ -1,8 +1,8 @@
 //! What a world reports, which a call without effect leaves as it was.
 
-use crate::compare::{push, same};
+use crate::compare::{push, refused_memory, same};
 use crate::trees::are_alike;
-use nv_base::{Epoch, Fault, Ino};
+use nv_base::{Epoch, Ino};
 use nv_core::{Lists, LogCounts, Snaps, Space, Tree, World};
 use std::alloc::Global;
 use std::process::Abort;
@@ -84,7 +84,7 @@ fn lists_of(rt: &impl Abort, world: &World) -> Lists {
     match world.lists() {
         Ok(lists) => lists,
         Err(fault) => {
-            same(rt, fault, Fault::OutOfMemory);
+            refused_memory(rt, fault);
             world.lists().expect(rt, "memory for lists")
         }
     }
@@ -94,7 +94,7 @@ pub(super) fn tree_of(rt: &impl Abort, world: &World) -> Tree {
     match world.tree() {
         Ok(tree) => tree,
         Err(fault) => {
-            same(rt, fault, Fault::OutOfMemory);
+            refused_memory(rt, fault);
             world.tree().expect(rt, "memory for a tree")
         }
     }
@@ -102,8 +102,8 @@ pub(super) fn tree_of(rt: &impl Abort, world: &World) -> Tree {
 
 pub(super) fn is_audited(rt: &impl Abort, world: &World) {
     if let Err(fault) = world.audit() {
-        same(rt, fault, Fault::OutOfMemory);
-        same(rt, world.audit(), Ok(()));
+        refused_memory(rt, fault);
+        same(rt, world.audit().err(), None);
     }
 }
 
@@ -111,7 +111,7 @@ pub(super) fn snaps_of(rt: &impl Abort, world: &World) -> Snaps {
     match world.snaps() {
         Ok(snaps) => snaps,
         Err(fault) => {
-            same(rt, fault, Fault::OutOfMemory);
+            refused_memory(rt, fault);
             world.snaps().expect(rt, "memory for snapshots")
         }
     }
@@ -121,7 +121,7 @@ pub(super) fn snap_tree_of(rt: &impl Abort, world: &World, snapshot: Epoch) -> T
     match world.snap_tree(snapshot) {
         Ok(tree) => tree,
         Err(fault) => {
-            same(rt, fault, Fault::OutOfMemory);
+            refused_memory(rt, fault);
             let again = world.snap_tree(snapshot);
             again.expect(rt, "memory for a tree of a snapshot")
         }
@@ -132,7 +132,7 @@ fn log_of(rt: &impl Abort, world: &World, ino: u64) -> LogCounts {
     match world.log(Ino::new(ino)) {
         Ok(log) => log,
         Err(fault) => {
-            same(rt, fault, Fault::OutOfMemory);
+            refused_memory(rt, fault);
             world.log(Ino::new(ino)).expect(rt, "memory for a log")
         }
     }

@@ -2,10 +2,10 @@
 
 ghost use Rattle.std.specs.Prelude.{◌*◌, ◌≤◌};
 
-use crate::compare::{same, same_for};
+use crate::compare::{refused_memory, same_for};
 use nv_audit::{are_names_of, are_pages_of};
+use nv_base::Name;
 use nv_base::limits::FILE_PAGES;
-use nv_base::{Fault, Name};
 use nv_findex::FileIndex;
 use nv_nindex::{Binding, NameIndex};
 use nv_scenes::logs::Says::{Bind, Directory, File, Size, Unbind, Write};
@@ -54,7 +54,7 @@ fn reserve_run(rt: &impl Abort, index: &mut FileIndex)
     ensures { 2 ≤ index.new.room }
 {
     if let Err(fault) = index.reserve_for(1) {
-        same(rt, fault, Fault::OutOfMemory);
+        refused_memory(rt, fault);
         index.reserve_for(1).expect(rt, "memory for runs");
     }
 }
@@ -102,7 +102,7 @@ fn bind(rt: &impl Abort, alloc: Global, index: &mut NameIndex, bytes: &[u8], to:
         Err(_) => Name::read(alloc, bytes).expect(rt, "memory for a name"),
     };
     if let Err(fault) = index.reserve_one(&name) {
-        same(rt, fault, Fault::OutOfMemory);
+        refused_memory(rt, fault);
         index.reserve_one(&name).expect(rt, "memory for a name");
     }
     assert!(rt; index.is_bound(bytes) || index.is_reserved(bytes));

@@ -5,12 +5,12 @@ use nv_base::{
     Fault, GeometryField as Field, ImageFault as Image, MismatchPart as Part,
     ScriptFaultKind as Kind,
 };
+use nv_scenes::want_of_memory;
 use std::alloc::Global;
 use std::process::Abort;
 
-/// Each fault with its text, those with fields once for each word.
-const TEXTS: [(Fault, &str); 54] = [
-    (Fault::OutOfMemory, "E1 OutOfMemory"),
+/// Each fault but want of memory with its text, those with fields once for each word.
+const TEXTS: [(Fault, &str); 53] = [
     (Fault::BadGeometry(Field::Blocks), "E2 BadGeometry(blocks)"),
     (Fault::BadGeometry(Field::Cpus), "E2 BadGeometry(cpus)"),
     (Fault::BadGeometry(Field::Block), "E2 BadGeometry(block)"),
@@ -117,6 +117,8 @@ fn is_shown(rt: &impl Abort, alloc: Global, fault: Fault, text: &str) {
 
 #[test]
 fn faults_are_shown_by_number_name_and_fields(rt: HostRuntime) {
+    let memory = want_of_memory(rt.alloc()).expect(&rt, "a refused growth");
+    is_shown(&rt, rt.alloc(), memory, "E1 OutOfMemory");
     for (fault, text) in &TEXTS {
         is_shown(&rt, rt.alloc(), *fault, text);
     }

@@ -10,10 +10,10 @@ ghost use Rattle.nv_cell.specs.Effects.{BindOne, LeavesName};
 ghost use Rattle.nv_cell.specs.Room.{IsReadyFor};
 
 use super::device::Device;
-use crate::compare::same;
+use crate::compare::{refused_memory, same};
 use nv_alloc::BlockQueue;
 use nv_base::limits::NUMBER;
-use nv_base::{EntryId, Epoch, Fault};
+use nv_base::{EntryId, Epoch};
 use nv_cell::laws::ready_cells_can_publish;
 use nv_cell::{InodeCell, KilledPart, Stat};
 use nv_entry::{Entry, Item, Key, Run};
@@ -55,7 +55,7 @@ fn make_ready(rt: &impl Abort, cell: &mut InodeCell, items: &[Item])
     assert!(rt; binds_one(items));
     let before = state(cell);
     if let Err(fault) = cell.ready(items) {
-        same(rt, fault, Fault::OutOfMemory);
+        refused_memory(rt, fault);
         same(rt, state(cell), before);
         cell.ready(items).expect(rt, "memory for a commit");
     }

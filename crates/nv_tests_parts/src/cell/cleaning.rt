@@ -12,8 +12,8 @@ ghost use Rattle.nv_cell.specs.Retained.{AreMarksOf};
 
 use super::device::Device;
 use super::whole::whole;
-use crate::compare::{push, same};
-use nv_base::{EntryId, Fault};
+use crate::compare::{push, refused_memory, same};
+use nv_base::EntryId;
 use nv_cell::{InodeCell, Mark};
 use nv_clean::{
     Cleaned, Unlinkable, Wanted, fast_on, prefers_thorough, thorough_on, unlinkable, wanted,
@@ -103,7 +103,7 @@ fn walk_entries(rt: &impl Abort, alloc: Global, cell: &InodeCell) -> Wanted
     match wanted(alloc, cell) {
         Ok(found) => found,
         Err(fault) => {
-            same(rt, fault, Fault::OutOfMemory);
+            refused_memory(rt, fault);
             same(rt, whole(cell), before);
             wanted(alloc, cell).expect(rt, "memory for a walk")
         }
@@ -118,7 +118,7 @@ fn walk_pages(rt: &impl Abort, alloc: Global, cell: &InodeCell) -> Unlinkable
     match unlinkable(alloc, cell) {
         Ok(found) => found,
         Err(fault) => {
-            same(rt, fault, Fault::OutOfMemory);
+            refused_memory(rt, fault);
             same(rt, whole(cell), before);
             unlinkable(alloc, cell).expect(rt, "memory for a walk")
         }

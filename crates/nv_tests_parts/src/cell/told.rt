@@ -1,7 +1,7 @@
 //! What a cell tells.
 
 use super::device::BLOCK;
-use crate::compare::{same, same_for};
+use crate::compare::{refused_memory, same, same_for};
 use nv_base::{Bytes, Fault, Gen};
 use nv_cell::{InodeCell, PageCounts, Stat};
 use nv_entry::NameList;
@@ -23,7 +23,7 @@ pub fn read(rt: &impl Abort, cell: &InodeCell, at: u64, len: u64) -> Bytes {
     match read_few(rt, cell, at, len) {
         Ok(bytes) => bytes,
         Err(fault) => {
-            same(rt, fault, Fault::OutOfMemory);
+            refused_memory(rt, fault);
             read_few(rt, cell, at, len).expect(rt, "memory for bytes")
         }
     }
@@ -38,7 +38,7 @@ pub fn list(rt: &impl Abort, cell: &InodeCell) -> NameList {
     match cell.list() {
         Ok(names) => names,
         Err(fault) => {
-            same(rt, fault, Fault::OutOfMemory);
+            refused_memory(rt, fault);
             cell.list().expect(rt, "memory for names")
         }
     }

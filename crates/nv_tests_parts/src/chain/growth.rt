@@ -1,8 +1,7 @@
 //! How many pages a log takes.
 
 use super::{append, chain_of, free_list, let_go, queue_with, shape};
-use crate::compare::{same, same_for};
-use nv_base::Fault;
+use crate::compare::{refused_memory, same, same_for};
 use nv_log::Chain;
 use nv_scenes::Row;
 use std::alloc::Global;
@@ -61,7 +60,7 @@ fn grows_as_often_as_it_takes(rt: HostRuntime) {
 /// No memory has room for so many pages.
 fn refuses(rt: &impl Abort, alloc: Global, pages: usize) {
     let mut chain = Chain::new(alloc, 2);
-    same(rt, chain.reserve(pages), Err(Fault::OutOfMemory));
+    refused_memory(rt, chain.reserve(pages).expect_err(rt, "so many pages"));
     same(rt, shape(&chain), [0; 5]);
     chain.into_blocks().destroy_empty();
 }

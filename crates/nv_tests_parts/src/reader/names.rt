@@ -1,8 +1,8 @@
 //! Names of directories, and how a walk goes on with them.
 
-use crate::compare::{push, same};
+use crate::compare::{push, refused_memory, same};
 use crate::device::name;
-use nv_base::{Fault, Handle, Name};
+use nv_base::{Handle, Name};
 use nv_entry::{BoundName, NameList};
 use nv_reader::Walk;
 use nv_scenes::handle_of;
@@ -41,7 +41,7 @@ pub fn new_walk(rt: &impl Abort, alloc: Global, depth: usize) -> Walk {
     match Walk::new(alloc, handle_of(0, 1), depth) {
         Ok(walk) => walk,
         Err(fault) => {
-            same(rt, fault, Fault::OutOfMemory);
+            refused_memory(rt, fault);
             Walk::new(alloc, handle_of(0, 1), depth).expect(rt, "memory for a walk")
         }
     }
@@ -66,7 +66,7 @@ pub fn enter(rt: &impl Abort, walk: &mut Walk, names: NameList, again: NameList)
         panic!(rt; "a node is wanted")
     };
     if let Err(fault) = walk.enter(names) {
-        same(rt, fault, Fault::OutOfMemory);
+        refused_memory(rt, fault);
         wants(rt, walk, wanted);
         walk.enter(again).expect(rt, "memory for a walk");
     }

@@ -2,9 +2,9 @@
 
 use crate::cell::entries::Says;
 use crate::cell::scene::Scene;
-use crate::compare::{same, same_for};
+use crate::compare::{refused_memory, same, same_for};
 use Says::{Bind, Directory, File, Gone, Size, Unbind, Write};
-use nv_base::{Epoch, Fault, Kind};
+use nv_base::{Epoch, Kind};
 use nv_cell::InodeCell;
 use nv_entry::NodeCopy;
 use nv_reader::{settled_on, show_on};
@@ -175,7 +175,7 @@ pub fn node_at(rt: &impl Abort, alloc: Global, cell: &InodeCell, epoch: u64) -> 
     match show_on(alloc, cell, Epoch::new(epoch)) {
         Ok(node) => node,
         Err(fault) => {
-            same(rt, fault, Fault::OutOfMemory);
+            refused_memory(rt, fault);
             show_on(alloc, cell, Epoch::new(epoch)).expect(rt, "memory for a node")
         }
     }
@@ -193,7 +193,7 @@ pub fn settled_node(
     match settled_on(alloc, cell, noted) {
         Ok(node) => node,
         Err(fault) => {
-            same(rt, fault, Fault::OutOfMemory);
+            refused_memory(rt, fault);
             settled_on(alloc, cell, noted).expect(rt, "memory for a node")
         }
     }
@@ -282,4 +282,42 @@ fn settled_nodes_are_read_by_the_index(rt: HostRuntime) {
         Shown::File(32, b"zzzzzzzzzzzzzzzzzzzzzzzzzzzzzzzz"),
     );
     scene.dismantle();
+}
+
+/// All entries of a log are handed out: the cell counts them as its log does.
+#[test]
+fn a_cell_counts_the_entries_that_are_read(rt: HostRuntime) {
+    let mut scene = new_scene(&rt, rt.alloc());
+    let begun = [File, Write(0, 1, b"aaaa", 4), Size(3)];
+    let _killed = scene.commit(&rt, (id(1, 0), Epoch::new(1)), &begun);
+    let before = scene.cell.reads();
+    same(&rt, scene.cell.log().log().len(), 3);
+    same(&rt, scene.cell.reads(), before.saturating_add(3));
+    same(&rt, scene.cell.reads(), scene.cell.log().reads());
+    scene.dismantle();
+}
+
+/// A file of 65,536 pages, of which the last one alone is written.
+#[test]
+fn the_greatest_file(rt: HostRuntime) {
+    let alloc = rt.alloc();
+    let mut scene = new_scene(&rt, alloc);
+    let begun = [File, Write(65_535, 1, b"last", 262_144)];
+    let _killed = scene.commit(&rt, (id(1, 0), Epoch::new(1)), &begun);
+    is_greatest(&rt, node_at(&rt, alloc, &scene.cell, 1));
+    is_greatest(&rt, settled_node(&rt, alloc, &scene.cell, None));
+    scene.dismantle();
+}
+
+fn is_greatest(rt: &impl Abort, node: Option<NodeCopy>) {
+    let node = node.expect(rt, "a file");
+    same(rt, (node.size, node.bytes.len()), (262_144, 262_144));
+    for (place, byte) in node.bytes.as_slice().iter().enumerate() {
+        let want = if place < 262_140 {
+            b'\0'
+        } else {
+            b"last"[place % 4]
+        };
+        same_for(rt, &place, *byte, want);
+    }
 }

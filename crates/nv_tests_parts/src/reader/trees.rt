@@ -5,9 +5,9 @@ use super::names::{has_path, new_walk, wants};
 use super::nodes::{node_at, settled_node};
 use crate::cell::entries::Says;
 use crate::cell::scene::Scene;
-use crate::compare::{same, same_for};
+use crate::compare::{refused_memory, same, same_for};
 use Says::{Bind, BindTo, Directory, File, Gone, Mode, Unbind, Write};
-use nv_base::{Epoch, Fault, Kind};
+use nv_base::{Epoch, Kind};
 use nv_cell::InodeCell;
 use nv_entry::{NodeCopy, TreeNode};
 use nv_reader::Walk;
@@ -266,7 +266,7 @@ fn next_node(
     match walk.hand_in(node) {
         Ok(given) => given,
         Err(fault) => {
-            same(rt, fault, Fault::OutOfMemory);
+            refused_memory(rt, fault);
             let again = node_wanted(rt, alloc, cells, when, walk);
             walk.hand_in(again).expect(rt, "memory for a walk")
         }

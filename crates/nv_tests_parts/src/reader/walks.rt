@@ -1,8 +1,8 @@
 //! Walks of small trees.
 
 use super::names::{Named, enter, has_path, named, new_walk, wants};
-use crate::compare::same;
-use nv_base::{Bytes, Fault, Kind, Mode};
+use crate::compare::{refused_memory, same};
+use nv_base::{Bytes, Kind, Mode};
 use nv_entry::{NameList, NodeCopy, TreeNode};
 use nv_reader::Walk;
 use nv_scenes::handle_of;
@@ -95,7 +95,7 @@ fn hand_in(
     match walk.hand_in(found(rt, alloc, names)) {
         Ok(given) => given,
         Err(fault) => {
-            same(rt, fault, Fault::OutOfMemory);
+            refused_memory(rt, fault);
             wants(rt, walk, wanted);
             let again = found(rt, alloc, names);
             walk.hand_in(again).expect(rt, "memory for a walk")
