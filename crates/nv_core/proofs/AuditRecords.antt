@@ -48,7 +48,8 @@ use Rattle.nv_machine.proofs.FiledRuns.{known}
 use Rattle.nv_machine.proofs.FiledWorlds.{picked_in}
 use Rattle.nv_machine.proofs.MarksInUse.{any_gives}
 use Rattle.nv_machine.proofs.Lists.{self}
-use Rattle.nv_machine.proofs.Pairs.{its_name, its_number, name_is, own_name, record_number}
+use Rattle.nv_cell.proofs.NamedPairs.{its_number, name_is, own_name}
+use Rattle.nv_machine.proofs.Pairs.{its_name, record_number}
 use Rattle.nv_core.specs.Audited.{parts_by_actor}
 use Rattle.nv_core.proofs.AuditCounts.{count_any, count_below, count_filter, count_map, count_none, no_pass, none_numbered, one_numbered}
 use Rattle.nv_core.proofs.AuditNamed.{hands_so, in_killed, in_record}

@@ -41,7 +41,7 @@ use Rattle.nv_machine.proofs.Lists.{self}
 use Rattle.nv_machine.proofs.LocksHeld.{lent_cell}
 use Rattle.nv_machine.proofs.CellMarksRuns.{all_parts}
 use Rattle.nv_machine.proofs.BlockNumbers.{lent_inside}
-use Rattle.nv_machine.proofs.Pairs.{its_number}
+use Rattle.nv_cell.proofs.NamedPairs.{its_number}
 use Rattle.nv_machine.proofs.PartsFor.{own_all, own_count}
 use Rattle.nv_machine.proofs.Pins.{pins_of_shows}
 use Rattle.nv_machine.proofs.PoolCells.{gone_inode}

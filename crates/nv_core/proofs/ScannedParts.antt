@@ -57,7 +57,8 @@ use Rattle.nv_machine.proofs.FiledRuns.{all_listed}
 use Rattle.nv_machine.proofs.FiledSteps.{MarksOf}
 use Rattle.nv_machine.proofs.FiledWorlds.{picked_in}
 use Rattle.nv_machine.proofs.MarksInUse.{any_gives, any_none, any_of, same_default}
-use Rattle.nv_machine.proofs.Pairs.{current_is, has_number, named_same, number_is, record_number}
+use Rattle.nv_cell.proofs.NamedPairs.{current_is, number_is}
+use Rattle.nv_machine.proofs.Pairs.{has_number, named_same, record_number}
 use Rattle.nv_core.proofs.AuditCounts.{count_at}
 use Rattle.nv_core.proofs.AuditNamed.{in_record}
 use Rattle.nv_core.proofs.Blocked.{says, some_number}

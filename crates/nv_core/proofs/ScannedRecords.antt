@@ -22,7 +22,7 @@ use Rattle.nv_machine.specs.World.{Shared, World, cell_at, no_cell}
 use Rattle.nv_machine.proofs.EachElement.{all_weaker}
 use Rattle.nv_machine.proofs.FiledLists.{count, count_cons, one}
 use Rattle.nv_machine.proofs.Lists.{self}
-use Rattle.nv_machine.proofs.Pairs.{its_number, name_is, own_name}
+use Rattle.nv_cell.proofs.NamedPairs.{its_number, name_is, own_name}
 use Rattle.nv_core.proofs.AuditCounts.{count_at, count_or, count_some, none_numbered, one_numbered}
 use Rattle.nv_core.proofs.AuditNamed.{in_record}
 use Rattle.nv_core.proofs.SumsTo.{sum_both, sum_none, sum_one, sum_range, sum_same, sum_to}

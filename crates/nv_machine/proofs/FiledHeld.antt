@@ -34,7 +34,8 @@ use Rattle.nv_machine.proofs.FiledLists.{count}
 use Rattle.nv_machine.proofs.FiledMarks.{AreMarks, IsTold, is_filed_on, is_killed_on, pair_low}
 use Rattle.nv_machine.proofs.FiledRuns.{known}
 use Rattle.nv_machine.proofs.MarksInUse.{any_of}
-use Rattle.nv_machine.proofs.Pairs.{current_is, named_same, number_is, record_number}
+use Rattle.nv_cell.proofs.NamedPairs.{current_is, number_is}
+use Rattle.nv_machine.proofs.Pairs.{named_same, record_number}
 
 -- ---- whether any of a list passes a test
 

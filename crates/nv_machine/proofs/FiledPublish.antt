@@ -32,7 +32,9 @@ use Rattle.nv_machine.proofs.EachElement.{all_append, all_weaker}
 use Rattle.nv_machine.proofs.FiledLists.{count, count_append, count_cons, count_same, one}
 use Rattle.nv_machine.proofs.FiledMarks.{AreMarks, IsDying, IsTold, bit_none, current_not_kept, is_filed_on, is_killed_on, pair_low}
 use Rattle.nv_machine.proofs.Lists.{self}
-use Rattle.nv_machine.proofs.Pairs.{current_is, has_number, IsRecordOf, number_front, pair_front, pair_there, record_more, record_number}
+use Rattle.nv_cell.proofs.DeadPairs.{pair_front}
+use Rattle.nv_cell.proofs.NamedPairs.{current_is}
+use Rattle.nv_machine.proofs.Pairs.{has_number, IsRecordOf, number_front, pair_there, record_more, record_number}
 
 -- ---- a range has each of its numbers once
 

@@ -40,7 +40,8 @@ use Rattle.nv_machine.proofs.FiledPublish.{filed_marks, living_marks}
 use Rattle.nv_machine.proofs.FiledSteps.{MarksOf, erased_cell, erased_fresh, other_slot, recounted, released_cell}
 use Rattle.nv_machine.proofs.FiledTurns.{Listed}
 use Rattle.nv_machine.proofs.FiledWorlds.{AreMarked, marks_as, no_killed, picked_in, same_killed, same_picked}
-use Rattle.nv_machine.proofs.Pairs.{current_is, dead_then, record_dropped, record_made}
+use Rattle.nv_cell.proofs.NamedPairs.{current_is}
+use Rattle.nv_machine.proofs.Pairs.{dead_then, record_dropped, record_made}
 use Rattle.nv_machine.proofs.PartsFor.{own_all, swap_all, swap_count}
 
 -- ---- deaths are of epochs in the log

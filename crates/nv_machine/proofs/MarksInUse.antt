@@ -32,7 +32,8 @@ use Rattle.nv_machine.specs.World.{World, cell_at}
 use Rattle.nv_machine.proofs.EachElement.{all_append, all_at, all_back, all_front, all_with}
 use Rattle.nv_machine.proofs.FiledLists.{HasHolder, all_filed, count, count_append, count_cons, count_filed, held_filed, one}
 use Rattle.nv_machine.proofs.FiledMarks.{AreMarks, IsTold, is_filed_on, is_killed_on, pair_low}
-use Rattle.nv_machine.proofs.Pairs.{current_is, named_same, number_is, record_number}
+use Rattle.nv_cell.proofs.NamedPairs.{current_is, number_is}
+use Rattle.nv_machine.proofs.Pairs.{named_same, record_number}
 use Rattle.nv_machine.proofs.FiledTurns.{Listed}
 use Rattle.nv_machine.proofs.FiledWorlds.{AreMarked, picked_in}
 
