@@ -158,7 +158,7 @@ module _ (bytes : ℕ → List ℕ) (block : ℕ) (slots : ℕ → Slot) (nodes 
   is_ready (call.Stat handle) told f = tt
   is_ready (call.List dir) told f = tt
   is_ready (call.Lookup dir name) told f = tt
-  is_ready (call.Snapshots c) told f = tt
+  is_ready (call.Maintenance c) told f = tt
   is_ready (call.Unlink dir name) told f = tt
   is_ready (call.Rmdir dir name) told f = tt
   is_ready (call.Rename from old to new) told f = tt

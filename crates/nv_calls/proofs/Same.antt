@@ -124,7 +124,7 @@ module _ (block : ℕ) (plain others : Handle → Option PlainNode) (taken : Tak
         handles = refl;
         wanted = refl;
       }
-  call_same (call.Snapshots c) h = record {
+  call_same (call.Maintenance c) h = record {
     found = refl;
     early = refl;
     refusal = refl;

@@ -66,7 +66,7 @@ ending_told shared slots before number made (job.Change plan text) owed c found 
       n : Handle → Option NodeCopy
       n = copies (shared_of shared)
 ending_told shared slots before number made (job.Visit visit) owed c found change is can ends = cc
-ending_told shared slots before number made (job.Snapshots on) owed c found change is can ends = cc
+ending_told shared slots before number made (job.Maintenance on) owed c found change is can ends = cc
 ending_told shared slots before number made job.Given owed c found change is can ends = cc
 
 -- and so many blocks are wanted
@@ -83,7 +83,7 @@ wanted_by_job shared slots before number wanted (job.Change plan text) owed c ch
     ∙ wanted_same shared slots plan.update text before can is.1 passed.same passed.passed
     ∙ sym over
 wanted_by_job shared slots before number wanted (job.Visit visit) owed c change is can ends over = cc
-wanted_by_job shared slots before number wanted (job.Snapshots on) owed c change is can ends over = cc
+wanted_by_job shared slots before number wanted (job.Maintenance on) owed c change is can ends over = cc
 wanted_by_job shared slots before number wanted job.Given owed c change is can ends over = cc
 
 -- which are no more than a file has pages
@@ -96,7 +96,7 @@ few_by_job shared slots before numbered wanted (job.Change plan text) some chang
     let passed = passes_over block o before numbered plan.update (sym ends) in
     subst (λ (k : ℕ). k ≤ 65536) (sym over) (few_wanted block o _ (blank_call plan.update) some passed.passed)
 few_by_job shared slots before numbered wanted (job.Visit visit) some change ends over = cc
-few_by_job shared slots before numbered wanted (job.Snapshots on) some change ends over = cc
+few_by_job shared slots before numbered wanted (job.Maintenance on) some change ends over = cc
 few_by_job shared slots before numbered wanted job.Given some change ends over = cc
 
 -- a call can be overtaken where it looks names up
@@ -106,20 +106,20 @@ overtaken_by_job shared slots before numbered (job.Change plan text) change look
     overtaken_looks shared.geometry.numbers.block (nodes_in (lent_cells slots shared.cells.items)) before numbered plan.update looks
     (sym ends)
 overtaken_by_job shared slots before numbered (job.Visit visit) change looks ends = cc
-overtaken_by_job shared slots before numbered (job.Snapshots on) change looks ends = cc
+overtaken_by_job shared slots before numbered (job.Maintenance on) change looks ends = cc
 overtaken_by_job shared slots before numbered job.Given change looks ends = cc
 
 -- whose answer is owed
 pub owed_by : (j : Job) (owed : Owed) (c : Call) → is_change j ≡ true → IsJobOf j owed c → IsOwed owed c
 owed_by (job.Change plan text) owed c change is = is.2
 owed_by (job.Visit visit) owed c change is = cc
-owed_by (job.Snapshots on) owed c change is = cc
+owed_by (job.Maintenance on) owed c change is = cc
 owed_by job.Given owed c change is = cc
 
 pub no_visit : (j : Job) → is_change j ≡ true → IsNoVisit j
 no_visit (job.Change plan text) change = tt
 no_visit (job.Visit visit) change = cc
-no_visit (job.Snapshots on) change = cc
+no_visit (job.Maintenance on) change = cc
 no_visit job.Given change = tt
 
 -- ---- a call that has passed
@@ -205,7 +205,7 @@ wants_by_job shared hand new running wanted cells can change number chain ends o
             over,
           )
       go (job.Visit visit) read has change ends over = cc
-      go (job.Snapshots on) read has change ends over = cc
+      go (job.Maintenance on) read has change ends over = cc
       go job.Given read has change ends over = cc
 
 -- a check makes no drain go on
@@ -226,5 +226,5 @@ pub drains_by_job : (shared : Shared) (slots : List ℕ) (before : Looked) (numb
 drains_by_job shared slots before numbered (job.Change plan text) any how hand change ends =
     plain_end _ _ _ _ _ how any hand (sym ends)
 drains_by_job shared slots before numbered (job.Visit visit) any how hand change ends = cc
-drains_by_job shared slots before numbered (job.Snapshots on) any how hand change ends = cc
+drains_by_job shared slots before numbered (job.Maintenance on) any how hand change ends = cc
 drains_by_job shared slots before numbered job.Given any how hand change ends = cc

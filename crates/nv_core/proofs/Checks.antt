@@ -135,7 +135,7 @@ named_read shared slots before (call.Mode handle mode) can = can
 named_read shared slots before (call.Stat handle) can = can
 named_read shared slots before (call.List dir) can = can
 named_read shared slots before (call.Lookup dir name) can = can
-named_read shared slots before (call.Snapshots on) can = can
+named_read shared slots before (call.Maintenance on) can = can
 named_read shared slots before (call.Unlink dir name) can = record { there = can.there; own = can.own; held = (can.held.0, tt) }
 named_read shared slots before (call.Rmdir dir name) can = record { there = can.there; own = can.own; held = (can.held.0, tt) }
 named_read shared slots before (call.Rename from old to new) can =
@@ -208,7 +208,7 @@ few_wanted block n present (call.Lookup dir name) some passed = omega arith
 few_wanted block n present (call.Unlink dir name) some passed = omega arith
 few_wanted block n present (call.Rmdir dir name) some passed = omega arith
 few_wanted block n present (call.Rename from old to new) some passed = omega arith
-few_wanted block n present (call.Snapshots on) some passed = omega arith
+few_wanted block n present (call.Maintenance on) some passed = omega arith
 
 -- ---- a call whose names were bound anew
 

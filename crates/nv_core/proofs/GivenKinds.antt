@@ -31,8 +31,8 @@ use Rattle.nv_core.specs.declared.next.Ending.{Ending}
 use Rattle.nv_core.specs.declared.next.Ending.TheVariants as ending
 use Rattle.nv_core.specs.declared.next.Next.{Next}
 use Rattle.nv_core.specs.declared.next.Next.TheVariants as next
-use Rattle.nv_core.specs.declared.next.SnapshotStep.{SnapshotStep}
-use Rattle.nv_core.specs.declared.next.SnapshotStep.TheVariants as on
+use Rattle.nv_core.specs.declared.next.MaintenanceStep.{MaintenanceStep}
+use Rattle.nv_core.specs.declared.next.MaintenanceStep.TheVariants as on
 use Rattle.nv_core.specs.declared.running.Running.{Running}
 use Rattle.nv_core.specs.declared.shared.Shared.{Shared}
 use Rattle.nv_core.proofs.GivenCells.{all_lent, given_bytes, given_empty, given_own, given_still, many_cells}
@@ -53,7 +53,7 @@ by_job : (P : Update → Type 0) (j : Job) (owed : Owed) (c : Call) → is_chang
     → ((u : Update) (text : List ℕ) → c ≡ call_of u text → P u) → IsChangeWith P j
 by_job P (job.Change plan text) owed c e is from = from plan.update text is.0
 by_job P (job.Visit visit) owed c e is from = cc
-by_job P (job.Snapshots on) owed c e is from = cc
+by_job P (job.Maintenance on) owed c e is from = cc
 by_job P job.Given owed c e is from = cc
 
 -- a call with any text makes an inode or not
@@ -136,21 +136,21 @@ module _ (shared : Shared) (actor : ℕ) (told : Told) (hand : Hand) (running : 
       let inside = (subst (λ (xs : List ℕ). AllByRecursion (λ n. n < length (shared_of shared).cells) xs) is given.slots.inside).0 in
       omega (arith, inside, many_cells shared)
 
-  on_snapshots : (step : SnapshotStep) → running.next ≡ next.Snapshots step → GivenOn step shared
-  on_snapshots on.Make e = tt
-  on_snapshots (on.Drop snapshot) e = tt
-  on_snapshots (on.Pin snapshot) e = given.snapshots (machine.Pin snapshot) (ap next_of e)
-  on_snapshots (on.Show snapshot showing) e =
+  maintain : (step : MaintenanceStep) → running.next ≡ next.Maintenance step → GivenOn step shared
+  maintain on.Make e = tt
+  maintain (on.Drop snapshot) e = tt
+  maintain (on.Pin snapshot) e = given.snapshots (machine.Pin snapshot) (ap next_of e)
+  maintain (on.Show snapshot showing) e =
       record { own = given_bytes shared given.apart; pages = given.snapshots (machine.Show snapshot (showing_of showing)) (ap next_of e) }
-  on_snapshots (on.Unpin snapshot seen) e = given.snapshots (machine.Unpin snapshot seen.items) (ap next_of e)
-  on_snapshots (on.Pick draining) e = tt
-  on_snapshots (on.LockPicked draining picked) e =
-      let slot = picked_slot picked (inside (next.Snapshots (on.LockPicked draining picked)) e) in
+  maintain (on.Unpin snapshot seen) e = given.snapshots (machine.Unpin snapshot seen.items) (ap next_of e)
+  maintain (on.Pick draining) e = tt
+  maintain (on.LockPicked draining picked) e =
+      let slot = picked_slot picked (inside (next.Maintenance (on.LockPicked draining picked)) e) in
       omega (arith, slot, given.wide, many_cells shared)
-  on_snapshots (on.Release draining picked) e =
+  maintain (on.Release draining picked) e =
       let has_it = given.snapshots (machine.Release (draining_of draining) picked) (ap next_of e) in
       record {
-        slot = picked_slot picked (inside (next.Snapshots (on.Release draining picked)) e);
+        slot = picked_slot picked (inside (next.Maintenance (on.Release draining picked)) e);
         kept = has_it.kept;
         still = has_it.still;
         chain = has_it.chain;
@@ -179,4 +179,4 @@ module _ (shared : Shared) (actor : ℕ) (told : Told) (hand : Hand) (running : 
     absent = λ ino has_it. (given.numbers ino has_it).1;
   }
   given_kind next.Visit e fits = (inside next.Visit e, given_bytes shared given.apart, hand_at next.Visit e)
-  given_kind (next.Snapshots step) e fits = (inside (next.Snapshots step) e, hand_at (next.Snapshots step) e, on_snapshots step e)
+  given_kind (next.Maintenance step) e fits = (inside (next.Maintenance step) e, hand_at (next.Maintenance step) e, maintain step e)

@@ -15,7 +15,7 @@ use Rattle.nv_machine.proofs.CellMarksRuns.{are_cells}
 use Rattle.nv_machine.proofs.PoolLaw.{all_pooled}
 use Rattle.nv_machine.proofs.Versions.{cells_counted}
 use Rattle.nv_core.proofs.GivenLaws.{LawsOf}
-use Rattle.nv_core.proofs.OnSnapshots.{on_snapshots}
+use Rattle.nv_core.proofs.Maintains.{maintain}
 
 pub laws_after : (g : GeometryNumbers) (start : World) (records : List Record) (events : List Event) → IsStart g start records
     → LawsOf g (after start events)
@@ -37,7 +37,7 @@ laws_after g start records events is_start =
         number = λ n has_it. (let own = own_number g w actor q is e known pooled n has_it in (own.2, own.1));
         held = own_handles g w actor q is e pooled;
       };
-      snapshots = λ actor q step is e. on_snapshots g start records events is_start actor q is step e;
+      snapshots = λ actor q step is e. maintain g start records events is_start actor q is step e;
     }
 
 pub laws_of : (g : GeometryNumbers) (start : World) (records : List Record) (m : World) (events : List Event)

@@ -36,7 +36,7 @@ pub mod LivingLogs
 pub mod Locked
 pub mod Looks
 pub mod Nodes
-pub mod OnSnapshots
+pub mod Maintains
 pub mod Opens
 pub mod Others
 pub mod PageParts

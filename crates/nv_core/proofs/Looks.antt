@@ -60,7 +60,7 @@ pub call_by : (j : Job) (owed : Owed) (c : Call) (plan : Plan) → IsChangeBy j 
     → (text : List ℕ) × (c ≡ call_of plan.update text)
 call_by (job.Change p text) owed c plan by is = (text, is.0 ∙ ap (λ (x : Plan). call_of x.update text) by)
 call_by (job.Visit visit) owed c plan by is = elim by [ ]
-call_by (job.Snapshots on) owed c plan by is = elim by [ ]
+call_by (job.Maintenance on) owed c plan by is = elim by [ ]
 call_by job.Given owed c plan by is = elim by [ ]
 
 pub nobody : (owner : Option ℕ) (b : Bool) → b ≡ is_some owner → b ≡ false → owner ≡ None

@@ -18,7 +18,7 @@ use Rattle.nv_core.specs.declared.hold.Hold.{Hold}
 use Rattle.nv_core.specs.declared.hold.Hold.TheVariants as hold
 use Rattle.nv_core.specs.declared.next.Next.{Next}
 use Rattle.nv_core.specs.declared.next.Next.TheVariants as next
-use Rattle.nv_core.specs.declared.next.SnapshotStep.TheVariants as on
+use Rattle.nv_core.specs.declared.next.MaintenanceStep.TheVariants as on
 use Rattle.nv_core.specs.declared.running.Running.{Running}
 use Rattle.nv_core.specs.declared.world.Actor.{Actor}
 
@@ -33,14 +33,14 @@ one_block d = go (is_page d.part) refl where
 
 -- before a step of a call whose hand is alone
 at_next : (n : Next) → picked_at n ≡ block_count (held.picked_at (next_of n))
-at_next (next.Snapshots on.Make) = refl
-at_next (next.Snapshots (on.Drop snapshot)) = refl
-at_next (next.Snapshots (on.Pin snapshot)) = refl
-at_next (next.Snapshots (on.Show snapshot showing)) = refl
-at_next (next.Snapshots (on.Unpin snapshot seen)) = refl
-at_next (next.Snapshots (on.Pick draining)) = refl
-at_next (next.Snapshots (on.LockPicked draining picked)) = one_block picked
-at_next (next.Snapshots (on.Release draining picked)) = one_block picked
+at_next (next.Maintenance on.Make) = refl
+at_next (next.Maintenance (on.Drop snapshot)) = refl
+at_next (next.Maintenance (on.Pin snapshot)) = refl
+at_next (next.Maintenance (on.Show snapshot showing)) = refl
+at_next (next.Maintenance (on.Unpin snapshot seen)) = refl
+at_next (next.Maintenance (on.Pick draining)) = refl
+at_next (next.Maintenance (on.LockPicked draining picked)) = one_block picked
+at_next (next.Maintenance (on.Release draining picked)) = one_block picked
 at_next next.Number = refl
 at_next (next.Look place) = refl
 at_next (next.Lock place) = refl

@@ -9,7 +9,7 @@ use Rattle.nv_core.specs.Rooms.{IsOnBook}
 use Rattle.nv_core.specs.Shown.{next_of}
 use Rattle.nv_core.specs.declared.next.Next.{Next}
 use Rattle.nv_core.specs.declared.next.Next.TheVariants as next
-use Rattle.nv_core.specs.declared.next.SnapshotStep.TheVariants as on
+use Rattle.nv_core.specs.declared.next.MaintenanceStep.TheVariants as on
 use Rattle.nv_core.specs.declared.shared.Shared.{Shared}
 
 pub rest_same : (actor : ℕ) (held : List ℕ) (old new : Shared) → new ≡ old → LeavesRest actor held old new
@@ -50,14 +50,14 @@ rest_cell actor ino old new cells count is = record {
 
 -- a step that is lent the book holds no slot
 pub none_held : (step : Next) (slots : List ℕ) → IsOnBook step → held_at (next_of step) slots ≡ []
-none_held (next.Snapshots on.Make) slots is = refl
-none_held (next.Snapshots (on.Drop snapshot)) slots is = refl
-none_held (next.Snapshots (on.Pin snapshot)) slots is = refl
-none_held (next.Snapshots (on.Show snapshot showing)) slots is = absurd is
-none_held (next.Snapshots (on.Unpin snapshot seen)) slots is = refl
-none_held (next.Snapshots (on.Pick draining)) slots is = refl
-none_held (next.Snapshots (on.LockPicked draining picked)) slots is = absurd is
-none_held (next.Snapshots (on.Release draining picked)) slots is = absurd is
+none_held (next.Maintenance on.Make) slots is = refl
+none_held (next.Maintenance (on.Drop snapshot)) slots is = refl
+none_held (next.Maintenance (on.Pin snapshot)) slots is = refl
+none_held (next.Maintenance (on.Show snapshot showing)) slots is = absurd is
+none_held (next.Maintenance (on.Unpin snapshot seen)) slots is = refl
+none_held (next.Maintenance (on.Pick draining)) slots is = refl
+none_held (next.Maintenance (on.LockPicked draining picked)) slots is = absurd is
+none_held (next.Maintenance (on.Release draining picked)) slots is = absurd is
 none_held next.Number slots is = absurd is
 none_held (next.Look place) slots is = absurd is
 none_held (next.Lock place) slots is = absurd is

@@ -57,7 +57,7 @@ same_lent (n ∷ slots) old new same =
 by_update : (P Q : Update → Type 0) (j : Job) → ((u : Update) → P u → Q u) → IsChangeWith P j → IsChangeWith Q j
 by_update P Q (job.Change plan text) from p = from plan.update p
 by_update P Q (job.Visit visit) from p = p
-by_update P Q (job.Snapshots on) from p = p
+by_update P Q (job.Maintenance on) from p = p
 by_update P Q job.Given from p = p
 
 -- a call that takes holds all its slots
@@ -73,7 +73,7 @@ takes_hold (next.Unlock place) slots e = cc
 takes_hold (next.Give cpu) slots e = cc
 takes_hold next.Back slots e = cc
 takes_hold next.Visit slots e = cc
-takes_hold (next.Snapshots step) slots e = cc
+takes_hold (next.Maintenance step) slots e = cc
 
 module _ (actor : ℕ) (held : List ℕ) (old new : Shared) (rest : LeavesRest actor held old new) where
   hand_stays : (hand : Hand) → IsHandOf old.geometry.numbers hand → IsHandOf new.geometry.numbers hand
@@ -159,7 +159,7 @@ module _ (actor : ℕ) (held : List ℕ) (old new : Shared) (rest : LeavesRest a
   takes_stay (next.Give cpu) slots out hand wanted looked u p = tt
   takes_stay next.Back slots out hand wanted looked u p = tt
   takes_stay next.Visit slots out hand wanted looked u p = tt
-  takes_stay (next.Snapshots step) slots out hand wanted looked u p = tt
+  takes_stay (next.Maintenance step) slots out hand wanted looked u p = tt
 
   takes_if_stays : (b : Bool) (hand : Hand) (running : Running) → takes running.next ≡ b
       → IsOut (held_at (next_of running.next) (slots_in running.slots)) → TakesIf b old hand running → TakesIf b new hand running

@@ -51,19 +51,19 @@ use Rattle.nv_core.specs.declared.shared.Shared.{Shared}
 pub with_by : (P : Update → Type 0) (j : Job) (by : Plan) → IsChangeWith P j → IsChangeBy j by → P by.update
 with_by P (job.Change plan text) by has is = subst (λ (p : Plan). P p.update) is has
 with_by P (job.Visit visit) by has is = elim has [ ]
-with_by P (job.Snapshots on) by has is = elim has [ ]
+with_by P (job.Maintenance on) by has is = elim has [ ]
 with_by P job.Given by has is = elim has [ ]
 
 pub over_all : (P Q : Update → Type 0) (j : Job) → ((u : Update) → P u → Q u) → IsChangeWith P j → IsChangeWith Q j
 over_all P Q (job.Change plan text) more has = more plan.update has
 over_all P Q (job.Visit visit) more has = elim has [ ]
-over_all P Q (job.Snapshots on) more has = elim has [ ]
+over_all P Q (job.Maintenance on) more has = elim has [ ]
 over_all P Q job.Given more has = elim has [ ]
 
 pub by_with : (P : Update → Type 0) (j : Job) (by : Plan) → P by.update → IsChangeBy j by → IsChangeWith P j
 by_with P (job.Change plan text) by has is = subst (λ (p : Plan). P p.update) (sym is) has
 by_with P (job.Visit visit) by has is = elim is [ ]
-by_with P (job.Snapshots on) by has is = elim is [ ]
+by_with P (job.Maintenance on) by has is = elim is [ ]
 by_with P job.Given by has is = elim is [ ]
 
 -- ---- growths
@@ -121,7 +121,7 @@ named_of P looked (call.Size file size) all = all
 named_of P looked (call.Mode handle mode) all = all
 named_of P looked (call.Stat handle) all = all
 named_of P looked (call.List dir) all = all
-named_of P looked (call.Snapshots on) all = all
+named_of P looked (call.Maintenance on) all = all
 named_of P looked (call.Lookup dir name) all = all
 
 -- the names of a checked call lead in the machine to what its looks found
@@ -164,7 +164,7 @@ wanted_same shared slots hand looked made (job.Change by text) owed c present n 
     ∙ sym (pages_same shared slots (planned_by (lent_cells slots shared.cells.items) hand by.update) has.1.read.there)
     ∙ sym wants
 wanted_same shared slots hand looked made (job.Visit visit) owed c present n is has wants = elim has [ ]
-wanted_same shared slots hand looked made (job.Snapshots on) owed c present n is has wants = elim has [ ]
+wanted_same shared slots hand looked made (job.Maintenance on) owed c present n is has wants = elim has [ ]
 wanted_same shared slots hand looked made job.Given owed c present n is has wants = elim has [ ]
 
 -- ---- the turn
@@ -183,13 +183,13 @@ some_wanted n (suc wanted) s h r same some = rw same refl
 pub with_both : (P Q : Update → Type 0) (j : Job) → IsChangeWith P j → IsChangeWith Q j → IsChangeWith (λ (u : Update). P u × Q u) j
 with_both P Q (job.Change plan text) one other = (one, other)
 with_both P Q (job.Visit visit) one other = elim one [ ]
-with_both P Q (job.Snapshots on) one other = elim one [ ]
+with_both P Q (job.Maintenance on) one other = elim one [ ]
 with_both P Q job.Given one other = elim one [ ]
 
 pub is_changed : (P : Update → Type 0) (j : Job) → IsChangeWith P j → is_change j ≡ true
 is_changed P (job.Change plan text) has = refl
 is_changed P (job.Visit visit) has = elim has [ ]
-is_changed P (job.Snapshots on) has = elim has [ ]
+is_changed P (job.Maintenance on) has = elim has [ ]
 is_changed P job.Given has = elim has [ ]
 
 -- the room that it has once it wants log pages

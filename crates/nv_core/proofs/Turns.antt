@@ -81,19 +81,19 @@ turns_alone next actor shared hand running r result shared_after hand_after afte
 owed_by : (j : Job) (owed : Owed) (c : Call) → FitsNext next.Back j → IsJobOf j owed c → IsOwed owed c
 owed_by (job.Change plan text) owed c fits is = is.2
 owed_by (job.Visit visit) owed c fits is = absurd fits
-owed_by (job.Snapshots on) owed c fits is = is.1
+owed_by (job.Maintenance on) owed c fits is = is.1
 owed_by job.Given owed c fits is = is
 
 last_unlock : (place : ℕ) (j : Job) → FitsNext (next.Unlock place) j → FitsNext next.Back j
 last_unlock place (job.Change plan text) fits = tt
 last_unlock place (job.Visit visit) fits = fits
-last_unlock place (job.Snapshots on) fits = tt
+last_unlock place (job.Maintenance on) fits = tt
 last_unlock place job.Given fits = tt
 
 last_give : (cpu : ℕ) (j : Job) → FitsNext (next.Give cpu) j → FitsNext next.Back j
 last_give cpu (job.Change plan text) fits = tt
 last_give cpu (job.Visit visit) fits = fits
-last_give cpu (job.Snapshots on) fits = tt
+last_give cpu (job.Maintenance on) fits = tt
 last_give cpu job.Given fits = tt
 
 pub owes_unlock : (place : ℕ) (running : Running) (told : Told) → running.next ≡ next.Unlock place → FitsCall running

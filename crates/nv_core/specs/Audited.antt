@@ -18,8 +18,8 @@ use Rattle.nv_core.specs.declared.hold.Hold.{Hold}
 use Rattle.nv_core.specs.declared.hold.Hold.TheVariants as hold
 use Rattle.nv_core.specs.declared.next.Next.{Next}
 use Rattle.nv_core.specs.declared.next.Next.TheVariants as next
-use Rattle.nv_core.specs.declared.next.SnapshotStep.{SnapshotStep}
-use Rattle.nv_core.specs.declared.next.SnapshotStep.TheVariants as on
+use Rattle.nv_core.specs.declared.next.MaintenanceStep.{MaintenanceStep}
+use Rattle.nv_core.specs.declared.next.MaintenanceStep.TheVariants as on
 use Rattle.nv_core.specs.declared.running.Running.{Running}
 use Rattle.nv_core.specs.declared.world.Actor.{Actor}
 
@@ -60,13 +60,13 @@ abbrev pub blocks_by : Actor → List ℕ
 blocks_by actor = held_in (held_by actor.hold)
 
 -- the part of a record that a drain has picked
-abbrev pub picked_on : SnapshotStep → List InodePart
+abbrev pub picked_on : MaintenanceStep → List InodePart
 picked_on (on.LockPicked draining picked) = inode_part picked ∷ []
 picked_on (on.Release draining picked) = inode_part picked ∷ []
 picked_on other = []
 
 abbrev pub picked_by : Next → List InodePart
-picked_by (next.Snapshots step) = picked_on step
+picked_by (next.Maintenance step) = picked_on step
 picked_by other = []
 
 -- the killed parts of one plan, and of those that are published and not retired

@@ -6,21 +6,21 @@ use Rattle.nv_core.specs.declared.hold.Hold.{Hold}
 use Rattle.nv_core.specs.declared.hold.Hold.TheVariants as hold
 use Rattle.nv_core.specs.declared.next.Next.{Next}
 use Rattle.nv_core.specs.declared.next.Next.TheVariants as next
-use Rattle.nv_core.specs.declared.next.SnapshotStep.{SnapshotStep}
-use Rattle.nv_core.specs.declared.next.SnapshotStep.TheVariants as on
+use Rattle.nv_core.specs.declared.next.MaintenanceStep.{MaintenanceStep}
+use Rattle.nv_core.specs.declared.next.MaintenanceStep.TheVariants as on
 use Rattle.nv_core.specs.declared.running.Running.{Running}
 use Rattle.nv_core.specs.declared.world.Actor.{Actor}
 
 abbrev pub block_of : Record → ℕ
 block_of d = if is_page d.part then 1 else 0
 
-abbrev pub picked_on : SnapshotStep → ℕ
+abbrev pub picked_on : MaintenanceStep → ℕ
 picked_on (on.LockPicked draining picked) = block_of picked
 picked_on (on.Release draining picked) = block_of picked
 picked_on other = 0
 
 abbrev pub picked_at : Next → ℕ
-picked_at (next.Snapshots step) = picked_on step
+picked_at (next.Maintenance step) = picked_on step
 picked_at other = 0
 
 abbrev pub picked_by : Option Running → ℕ

@@ -25,7 +25,7 @@ use Rattle.nv_machine.specs.Sequence.{directories, nothing_looked}
 use Rattle.nv_core.specs.Committing.{IsCommitting}
 use Rattle.nv_core.specs.Nodes.{CanRead, wanted_over}
 use Rattle.nv_core.specs.Shown.{is_over, showing_of, slots_in}
-use Rattle.nv_core.specs.Told.{IsChangeWith, IsLookAt, IsOnSnapshots, IsVisitOf, is_change, makes_inode}
+use Rattle.nv_core.specs.Told.{IsChangeWith, IsLookAt, IsMaintenance, IsVisitOf, is_change, makes_inode}
 use Rattle.nv_core.specs.declared.hold.Hold.{Hold}
 use Rattle.nv_core.specs.declared.hold.Hold.TheVariants as hold
 use Rattle.nv_core.specs.declared.job.Job.{Job}
@@ -34,8 +34,8 @@ use Rattle.nv_core.specs.declared.next.Ending.{Ending}
 use Rattle.nv_core.specs.declared.next.Ending.TheVariants as ending
 use Rattle.nv_core.specs.declared.next.Next.{Next}
 use Rattle.nv_core.specs.declared.next.Next.TheVariants as next
-use Rattle.nv_core.specs.declared.next.SnapshotStep.{SnapshotStep}
-use Rattle.nv_core.specs.declared.next.SnapshotStep.TheVariants as on
+use Rattle.nv_core.specs.declared.next.MaintenanceStep.{MaintenanceStep}
+use Rattle.nv_core.specs.declared.next.MaintenanceStep.TheVariants as on
 use Rattle.nv_core.specs.declared.running.Running.{Running}
 use Rattle.nv_core.specs.declared.shared.Shared.{Shared}
 use Rattle.nv_core.specs.declared.turn.Turn.{Turn}
@@ -53,7 +53,7 @@ abbrev pub FitsNext : Next → Job → Type 0
 FitsNext next.Number j = makes_inode j ≡ true
 FitsNext (next.Look place) j = IsLookAt place j
 FitsNext next.Visit j = IsVisitOf j
-FitsNext (next.Snapshots step) j = IsOnSnapshots j
+FitsNext (next.Maintenance step) j = IsMaintenance j
 FitsNext (next.Unlock place) j = IsNoVisit j
 FitsNext (next.Give cpu) j = IsNoVisit j
 FitsNext next.Back j = IsNoVisit j
@@ -65,24 +65,24 @@ LooksAsTold (job.Change plan text) looked = directories (blank_call plan.update)
 LooksAsTold other looked = Unit {0}
 
 -- the next step is one of a call on snapshots: of any, a visit of a show, or the end of one
-abbrev pub IsSnapshotStep : Next → Type 0
-IsSnapshotStep (next.Snapshots step) = Unit {0}
-IsSnapshotStep other = ⊥
+abbrev pub IsMaintenanceStep : Next → Type 0
+IsMaintenanceStep (next.Maintenance step) = Unit {0}
+IsMaintenanceStep other = ⊥
 
 -- one that is lent the book
 abbrev pub IsOnBook : Next → Type 0
-IsOnBook (next.Snapshots (on.Show snapshot showing)) = ⊥
-IsOnBook (next.Snapshots (on.LockPicked draining picked)) = ⊥
-IsOnBook (next.Snapshots (on.Release draining picked)) = ⊥
-IsOnBook (next.Snapshots step) = Unit {0}
+IsOnBook (next.Maintenance (on.Show snapshot showing)) = ⊥
+IsOnBook (next.Maintenance (on.LockPicked draining picked)) = ⊥
+IsOnBook (next.Maintenance (on.Release draining picked)) = ⊥
+IsOnBook (next.Maintenance step) = Unit {0}
 IsOnBook other = ⊥
 
 abbrev pub IsShow : Next → Type 0
-IsShow (next.Snapshots (on.Show snapshot showing)) = Unit {0}
+IsShow (next.Maintenance (on.Show snapshot showing)) = Unit {0}
 IsShow other = ⊥
 
 abbrev pub IsUnpin : Next → Type 0
-IsUnpin (next.Snapshots (on.Unpin snapshot seen)) = Unit {0}
+IsUnpin (next.Maintenance (on.Unpin snapshot seen)) = Unit {0}
 IsUnpin other = ⊥
 
 -- a call whose names were bound anew looks them up
@@ -211,7 +211,7 @@ HoldsOne hand = 0 < hand.«data».room + length hand.«data».blocks
 
 -- a show has another visit to make; a drain releases no more than it may, and behind its first pick it has room for
 -- the block of a record
-abbrev pub HasStepRoom : SnapshotStep → Hand → Type 0
+abbrev pub HasStepRoom : MaintenanceStep → Hand → Type 0
 HasStepRoom (on.Show snapshot showing) hand = is_over (showing_of showing) ≡ false
 HasStepRoom (on.Pick draining) hand = (draining.released + draining.left < DRAIN) × (0 < draining.released → HoldsOne hand)
 HasStepRoom (on.LockPicked draining picked) hand = (draining.released + draining.left < DRAIN) × HoldsOne hand
@@ -220,11 +220,11 @@ HasStepRoom other hand = Unit {0}
 
 -- so has one that goes on to its next record, and it is a call on snapshots
 abbrev pub CanDrain : Ending → Job → Hand → Type 0
-CanDrain (ending.Drains draining) j hand = IsOnSnapshots j × (draining.released + draining.left ≤ DRAIN) × HoldsOne hand
+CanDrain (ending.Drains draining) j hand = IsMaintenance j × (draining.released + draining.left ≤ DRAIN) × HoldsOne hand
 CanDrain other j hand = Unit {0}
 
 abbrev pub HasNextRoom : Next → Ending → Job → Hand → Type 0
-HasNextRoom (next.Snapshots step) how j hand = HasStepRoom step hand
+HasNextRoom (next.Maintenance step) how j hand = HasStepRoom step hand
 HasNextRoom (next.Unlock place) how j hand = CanDrain how j hand
 HasNextRoom (next.Give cpu) how j hand = CanDrain how j hand
 HasNextRoom next.Back how j hand = CanDrain how j hand

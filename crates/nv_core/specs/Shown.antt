@@ -25,8 +25,8 @@ use Rattle.nv_core.specs.declared.next.Ending.{Ending}
 use Rattle.nv_core.specs.declared.next.Ending.TheVariants as ending
 use Rattle.nv_core.specs.declared.next.Next.{Next}
 use Rattle.nv_core.specs.declared.next.Next.TheVariants as next
-use Rattle.nv_core.specs.declared.next.SnapshotStep.{SnapshotStep}
-use Rattle.nv_core.specs.declared.next.SnapshotStep.TheVariants as on
+use Rattle.nv_core.specs.declared.next.MaintenanceStep.{MaintenanceStep}
+use Rattle.nv_core.specs.declared.next.MaintenanceStep.TheVariants as on
 use Rattle.nv_core.specs.declared.running.Running.{Running}
 use Rattle.nv_core.specs.declared.shared.Shared.{Shared}
 use Rattle.nv_core.specs.declared.showing.Showing.{Showing}
@@ -92,7 +92,7 @@ is_over showing = (showing.left == 0) || is_none (next_handle showing.visits)
 abbrev pub draining_of : Draining → machine.Draining
 draining_of draining = record { released = draining.released; left = draining.left }
 
-abbrev pub step_on : SnapshotStep → machine.SnapshotStep
+abbrev pub step_on : MaintenanceStep → machine.MaintenanceStep
 step_on on.Make = machine.Make
 step_on (on.Drop snapshot) = machine.Drop snapshot
 step_on (on.Pin snapshot) = machine.Pin snapshot
@@ -114,20 +114,20 @@ next_of (next.Unlock place) = machine.Unlock place
 next_of (next.Give cpu) = machine.Give cpu
 next_of next.Back = machine.Back
 next_of next.Visit = machine.Visit
-next_of (next.Snapshots step) = machine.Snapshots (step_on step)
+next_of (next.Maintenance step) = machine.Maintenance (step_on step)
 
 -- the snapshot of a show that visits or ends, its state before a visit, and what it has seen at its end
 abbrev pub snapshot_in : Next → ℕ
-snapshot_in (next.Snapshots (on.Show snapshot showing)) = snapshot
-snapshot_in (next.Snapshots (on.Unpin snapshot seen)) = snapshot
+snapshot_in (next.Maintenance (on.Show snapshot showing)) = snapshot
+snapshot_in (next.Maintenance (on.Unpin snapshot seen)) = snapshot
 snapshot_in other = 0
 
 abbrev pub showing_in : Next → machine.Showing
-showing_in (next.Snapshots (on.Show snapshot showing)) = showing_of showing
+showing_in (next.Maintenance (on.Show snapshot showing)) = showing_of showing
 showing_in other = record { left = 0; visits = []; seen = [] }
 
 abbrev pub seen_in : Next → List TreeNode
-seen_in (next.Snapshots (on.Unpin snapshot seen)) = seen.items
+seen_in (next.Maintenance (on.Unpin snapshot seen)) = seen.items
 seen_in other = []
 
 abbrev pub ending_of : Ending → machine.Ending

@@ -42,8 +42,8 @@ use Rattle.nv_core.specs.declared.hold.Hold.TheVariants as hold
 use Rattle.nv_core.specs.declared.next.Ending.TheVariants as ending
 use Rattle.nv_core.specs.declared.next.Next.{Next}
 use Rattle.nv_core.specs.declared.next.Next.TheVariants as next
-use Rattle.nv_core.specs.declared.next.SnapshotStep.{SnapshotStep}
-use Rattle.nv_core.specs.declared.next.SnapshotStep.TheVariants as on
+use Rattle.nv_core.specs.declared.next.MaintenanceStep.{MaintenanceStep}
+use Rattle.nv_core.specs.declared.next.MaintenanceStep.TheVariants as on
 use Rattle.nv_core.specs.declared.running.Running.{Running}
 use Rattle.nv_core.specs.declared.shared.Shared.{Shared}
 
@@ -100,7 +100,7 @@ pub record CanRelease (shared : Shared) (picked : Record) : Type 0 where
       → (cell_at (shared_of shared) picked.ino).generation < NUMBER
 
 -- what a step of a call on snapshots is given
-abbrev pub GivenOn : SnapshotStep → Shared → Type 0
+abbrev pub GivenOn : MaintenanceStep → Shared → Type 0
 GivenOn (on.Pin snapshot) shared = ForSome (pins_of shared.book.state.snaps snapshot) (λ pins. pins < PINS)
 GivenOn (on.Show snapshot showing) shared = CanShow shared snapshot
 GivenOn (on.Unpin snapshot seen) shared = IsSomeAnd (pins_of shared.book.state.snaps snapshot) (λ pins. 0 < pins)
@@ -119,7 +119,7 @@ Given (next.Give cpu) shared hand running = CanGive shared hand cpu
 Given next.Back shared hand running = CanPutBack shared hand
 Given next.Visit shared hand running =
     (slots_in running.slots ≡ []) × ((ino : ℕ) → HasOwnBytes (shared_of shared) ino) × (hand_of hand ≡ empty_hand)
-Given (next.Snapshots step) shared hand running =
+Given (next.Maintenance step) shared hand running =
     (slots_in running.slots ≡ slots_on (step_on step)) × (hand_of hand ≡ empty_hand) × GivenOn step shared
 Given other shared hand running = Unit {0}
 

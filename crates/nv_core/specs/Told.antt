@@ -38,7 +38,7 @@ IsOwed owed c = (made : Handle) → answer (λ handle. None) made c ≡ answered
 abbrev pub IsJobOf : Job → Owed → Call → Type 0
 IsJobOf (job.Change plan text) owed c = (c ≡ call_of plan.update text) × (text_len plan.update ≡ length text) × IsOwed owed c
 IsJobOf (job.Visit visit) owed c = c ≡ visit
-IsJobOf (job.Snapshots on) owed c = (c ≡ call.Snapshots on) × IsOwed owed c
+IsJobOf (job.Maintenance on) owed c = (c ≡ call.Maintenance on) × IsOwed owed c
 IsJobOf job.Given owed c = IsOwed owed c
 
 abbrev pub IsToldOf : Running → Told → Type 0
@@ -165,15 +165,15 @@ IsVisitOf (job.Visit visit) = IsVisit visit
 IsVisitOf other = ⊥
 
 -- a job on snapshots
-abbrev pub IsOnSnapshots : Job → Type 0
-IsOnSnapshots (job.Snapshots on) = Unit {0}
-IsOnSnapshots other = ⊥
+abbrev pub IsMaintenance : Job → Type 0
+IsMaintenance (job.Maintenance on) = Unit {0}
+IsMaintenance other = ⊥
 
 -- a job as it is when its call starts
 abbrev pub IsAtStart : Job → Type 0
 IsAtStart (job.Change plan text) = Unit {0}
 IsAtStart (job.Visit visit) = IsVisit visit
-IsAtStart (job.Snapshots on) = Unit {0}
+IsAtStart (job.Maintenance on) = Unit {0}
 IsAtStart job.Given = ⊥
 
 -- a call that has a look at that place

@@ -18,7 +18,7 @@ ghost use Rattle.nv_core.specs.Worlds.{Shows};
 
 use crate::World;
 use crate::hold::Hold;
-use crate::next::{Next, SnapshotStep};
+use crate::next::{MaintenanceStep, Next};
 use crate::slots::Slots;
 use crate::world::Actor;
 use nv_alloc::{Block, Hand};
@@ -145,7 +145,9 @@ fn push_picked(parts: &mut Vec<InodePart>, next: &Next) -> Result<(), AllocError
     ensures { OnOk result (parts.new.items ≡ parts.old.items ++ picked_by next.now) }
 {
     match next {
-        Next::Snapshots(SnapshotStep::LockPicked(_, picked) | SnapshotStep::Release(_, picked)) => {
+        Next::Maintenance(
+            MaintenanceStep::LockPicked(_, picked) | MaintenanceStep::Release(_, picked),
+        ) => {
             parts.push(part_of(picked))?;
             Ok(())
         }

@@ -10,7 +10,7 @@ ghost use Rattle.nv_core.specs.Shown.{Told, ending_of, hand_of, shared_of, shown
 ghost use Rattle.nv_core.specs.Told.{KeepsJob, OwesAt};
 
 use crate::hold::Hold;
-use crate::next::{Draining, Ending, Next, SnapshotStep};
+use crate::next::{Draining, Ending, MaintenanceStep, Next};
 use crate::running::Running;
 use crate::shared::Shared;
 use crate::slots::Slots;
@@ -118,7 +118,7 @@ fn drained(draining: Draining, running: &mut Running) -> Turn
     };
     running.ending = Ending::Answers;
     running.slots = Slots::none();
-    running.next = Next::Snapshots(SnapshotStep::Pick(next));
+    running.next = Next::Maintenance(MaintenanceStep::Pick(next));
     Turn::Moves
 }
 

@@ -13,7 +13,7 @@ ghost use Rattle.nv_core.specs.Shown.{answered};
 ghost use Rattle.nv_core.specs.Told.{IsAtStart, IsJobOf, IsVisit, all_some, is_change};
 
 use nv_base::{Bytes, Handle, Ino};
-use nv_calls::{Answer, Call, Looked, Plan, SnapshotCall, Update};
+use nv_calls::{Answer, Call, Looked, MaintenanceCall, Plan, Update};
 use std::alloc::Global;
 
 /// What a call is to do.
@@ -24,7 +24,7 @@ pub(crate) enum Job {
     /// It reads one node.
     Visit(Call),
     /// It is on snapshots.
-    Snapshots(SnapshotCall),
+    Maintenance(MaintenanceCall),
     /// Its commit has it.
     Given,
 }
@@ -66,7 +66,7 @@ pub(crate) fn job_of(alloc: Global, call: Call) -> (Job, Owed)
         Call::Rename { from, old, to, new } => {
             (Update::Rename { from, old, to, new }, Owed::Nothing)
         }
-        Call::Snapshots(call) => return (Job::Snapshots(call), Owed::Nothing),
+        Call::Maintenance(call) => return (Job::Maintenance(call), Owed::Nothing),
         visit => return (Job::Visit(visit), Owed::Nothing),
     };
     let plan = Plan { update, blocks: 0 };

@@ -44,7 +44,7 @@ pub use nv_base::{
     Bytes, CommitNo, Epoch, Fault, Gen, Geometry, GeometryField, GeometryNumbers, Handle, Ino,
     Kind, Mode, Name,
 };
-pub use nv_calls::{Answer, Call, SnapshotCall};
+pub use nv_calls::{Answer, Call, MaintenanceCall};
 pub use nv_entry::{NodeCopy, Path, Tree, TreeNode};
 pub use reports::{Lists, LogCounts, Space};
 pub use sink::{Sink, SinkFault};

@@ -22,7 +22,7 @@ pub(crate) enum Next {
     Give(u64),
     Back,
     Visit,
-    Snapshots(SnapshotStep),
+    Maintenance(MaintenanceStep),
 }
 
 /// A drain that goes on: how many records it has released, and how many more it may release behind the next one.
@@ -36,7 +36,7 @@ pub(crate) struct Draining {
 /// unpins it, with what it has seen; or it picks a deferred record, locks its inode and releases it. A snapshot is
 /// given by its number.
 #[derive(Drop)]
-pub(crate) enum SnapshotStep {
+pub(crate) enum MaintenanceStep {
     Make,
     Drop(u64),
     Pin(u64),

@@ -20,7 +20,7 @@ ghost use Rattle.nv_core.specs.Worlds.{Shows};
 
 use crate::World;
 use crate::hold::Hold;
-use crate::next::{Next, SnapshotStep};
+use crate::next::{MaintenanceStep, Next};
 use crate::shared::Shared;
 use crate::world::Actor;
 use nv_alloc::{FreeList, FreeRun};
@@ -184,8 +184,9 @@ fn picked_at(next: &Next) -> u64
     ensures few { result ≤ 1 }
 {
     match next {
-        Next::Snapshots(SnapshotStep::LockPicked(_, picked) | SnapshotStep::Release(_, picked))
-            if picked.is_page() => 1,
+        Next::Maintenance(
+            MaintenanceStep::LockPicked(_, picked) | MaintenanceStep::Release(_, picked),
+        ) if picked.is_page() => 1,
         _ => 0,
     }
 }

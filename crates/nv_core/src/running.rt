@@ -13,13 +13,13 @@ ghost use Rattle.nv_core.specs.Told.{IsAtStart, IsChangeBy, IsJobOf, IsToldOf, i
 
 use crate::hold::Hold;
 use crate::job::{Job, Owed, job_of, locked, look_count};
-use crate::next::{Draining, Ending, Next, SnapshotStep};
+use crate::next::{Draining, Ending, MaintenanceStep, Next};
 use crate::shared::Shared;
 use crate::slots::Slots;
 use crate::turn::Turn;
 use nv_alloc::Hand;
 use nv_base::{Gen, Handle, Ino, limits};
-use nv_calls::{Call, Looked, Plan, SnapshotCall, Update};
+use nv_calls::{Call, Looked, MaintenanceCall, Plan, Update};
 use std::alloc::Global;
 
 /// How many more rounds of looks a call may make after its first.
@@ -103,21 +103,21 @@ fn first_step(inodes: u64, job: &Job, looked: &Looked) -> (Next, Slots)
     let none = Slots::none();
     match job {
         Job::Change(Plan { update, .. }, _) => first_of_change(inodes, update, looked),
-        Job::Snapshots(call) => (Next::Snapshots(first_on_snapshots(call)), none),
+        Job::Maintenance(call) => (Next::Maintenance(first_of_maintenance(call)), none),
         Job::Visit(_) | Job::Given => (Next::Visit, none),
     }
 }
 
 /// The first step of a call on snapshots.
-fn first_on_snapshots(call: &SnapshotCall) -> SnapshotStep
+fn first_of_maintenance(call: &MaintenanceCall) -> MaintenanceStep
     ensures step { step_on result ≡ first_step call.now }
     ensures room { (hand : Hand) → HasStepRoom result hand }
 {
     match call {
-        SnapshotCall::Snap => SnapshotStep::Make,
-        SnapshotCall::Drop(snapshot) => SnapshotStep::Drop(snapshot.number()),
-        SnapshotCall::Show(snapshot) => SnapshotStep::Pin(snapshot.number()),
-        SnapshotCall::Drain(number) => SnapshotStep::Pick(new_draining(*number)),
+        MaintenanceCall::Snap => MaintenanceStep::Make,
+        MaintenanceCall::Drop(snapshot) => MaintenanceStep::Drop(snapshot.number()),
+        MaintenanceCall::Show(snapshot) => MaintenanceStep::Pin(snapshot.number()),
+        MaintenanceCall::Drain(number) => MaintenanceStep::Pick(new_draining(*number)),
     }
 }
 
@@ -198,7 +198,7 @@ impl Running {
     {
         match &self.job {
             Job::Change(plan, _) => plan,
-            Job::Visit(_) | Job::Snapshots(_) | Job::Given => unreachable!(),
+            Job::Visit(_) | Job::Maintenance(_) | Job::Given => unreachable!(),
         }
     }
 }

@@ -6,7 +6,7 @@ ghost use Rattle.nv_base.specs.Memory.{out_of_memory};
 ghost use Rattle.nv_base.specs.declared.limits.TheConstants.{INODES};
 ghost use Rattle.nv_entry.specs.Tree as tree;
 ghost use Rattle.nv_entry.specs.declared.node.NodeCopy.{NodeCopy};
-ghost use Rattle.nv_machine.specs.Snapshots.{seen_on, visited};
+ghost use Rattle.nv_machine.specs.Maintenance.{seen_on, visited};
 ghost use Rattle.nv_reader.specs.Walk.{root_visit, visits_after, given_for};
 ghost use Rattle.nv_core.specs.Shown.{is_over, showing_of, visits_of};
 

@@ -23,12 +23,12 @@ use crate::kinds::give::give;
 use crate::kinds::leave::leave;
 use crate::kinds::lock::lock;
 use crate::kinds::look::look;
+use crate::kinds::maintenance::maintain;
 use crate::kinds::number::number;
 use crate::kinds::open::open;
 use crate::kinds::publish::publish;
 use crate::kinds::ready::ready;
 use crate::kinds::retire::retire;
-use crate::kinds::snapshots::on_snapshots;
 use crate::kinds::take::{take_blocks, take_pages};
 use crate::kinds::unlock::unlock;
 use crate::kinds::visit::visit;
@@ -232,7 +232,7 @@ fn alone(
         Next::Give(cpu) => give(shared, hand, running, cpu),
         Next::Back => back(shared, hand, running),
         Next::Visit => visit(shared, running),
-        Next::Snapshots(_) => on_snapshots(alloc, shared, hand, running, actor),
+        Next::Maintenance(_) => maintain(alloc, shared, hand, running, actor),
     }
 }
 

@@ -22,7 +22,7 @@ use Rattle.nv_machine.specs.Numbers.{free_of, held_in, of_part, stored_in}
 use Rattle.nv_calls.proofs.FillPages.{filled_numbers}
 use Rattle.nv_calls.specs.FillPages.{fresh_pages}
 use Rattle.nv_machine.specs.Reads.{copies, pages_needed, slot_at, written_slots}
-use Rattle.nv_machine.specs.World.{Append, Back, Give, HandState, Next, Number, Publish, Ready, Retire, Running, Shared, Snapshots, TakeBlocks, TakePages, cell_at, list_at, no_cell, no_list}
+use Rattle.nv_machine.specs.World.{Append, Back, Give, HandState, Next, Number, Publish, Ready, Retire, Running, Shared, Maintenance, TakeBlocks, TakePages, cell_at, list_at, no_cell, no_list}
 use Rattle.nv_machine.proofs.Occurrences.{cut_times, set_times, three_times}
 use Rattle.nv_machine.proofs.StepWork.{append_work, by_back, by_number, work}
 use Rattle.nv_machine.proofs.CellChanges.{IsRemoval, Removal, hand_freed, is_removal, is_removed, lent_removal, on_step, removal, removal_on, removed, stored_times}
@@ -239,8 +239,8 @@ work_times (Retire place) n block actor s h r can =
 work_times (Give cpu) n block actor s h r can = given_times n cpu s h
 work_times Back n block actor s h r can =
     by_back (λ (t : Shared) (g : HandState). count n t g ≡ count n s h) s h (λ numbers ino. refl)
-work_times (Snapshots step) n block actor s h r can =
-    let k = Snapshots step in
+work_times (Maintenance step) n block actor s h r can =
+    let k = Maintenance step in
     on_step (λ (t : Shared) (g : HandState). count n t g ≡ count n s h) step actor s h
     (λ is. removal_times n (removal_on step s h) s h (is_removed k s h r is)
     (can.inside _ (lent_removal k (length s.lists) actor s h r is)) (can.none is))

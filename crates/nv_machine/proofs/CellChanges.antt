@@ -20,9 +20,9 @@ use Rattle.nv_machine.specs.Hands.{IsParted, unpublished_at}
 use Rattle.nv_machine.specs.Kinds.{entries_for, first_killed, retired_book, retired_cell, with_entries, with_erased, with_pages}
 use Rattle.nv_machine.specs.Numbers.{of_part, stored_in}
 use Rattle.nv_machine.specs.Reads.{pages_needed, slot_at, written_slots}
-use Rattle.nv_machine.specs.World.{Append, Back, Close, Enter, HandState, Leave, Make, Next, Number, Open, Publish, Release, Retire, Running, Shared, SnapshotStep, Snapshots, cell_at, no_cell, owner_at, with_book, with_cell}
+use Rattle.nv_machine.specs.World.{Append, Back, Close, Enter, HandState, Leave, Make, Next, Number, Open, Publish, Release, Retire, Running, Shared, MaintenanceStep, Maintenance, cell_at, no_cell, owner_at, with_book, with_cell}
 use Rattle.nv_machine.proofs.Occurrences.{set_times}
-use Rattle.nv_machine.proofs.StepWork.{Both, both, work, snapshot_work, by_number, by_back}
+use Rattle.nv_machine.proofs.StepWork.{Both, both, work, maintenance_work, by_number, by_back}
 use Rattle.nv_machine.proofs.StepFrames.{work_framed}
 use Rattle.nv_machine.proofs.LocksHeld.{Before, lent_cell}
 use Rattle.nv_machine.proofs.LogsKept.{cell_set}
@@ -70,16 +70,16 @@ removed x s h =
     both (with_cell x.slot (erased x.cell) (with_book x.book s)) (with_erased x.slot x.cell (hand_freed x h))
 
 -- the kinds that remove parts: a commit retires them, and a drain releases one
-abbrev pub is_removal_on : SnapshotStep → Bool
+abbrev pub is_removal_on : MaintenanceStep → Bool
 is_removal_on (Release draining picked) = true
 is_removal_on other = false
 
 abbrev pub is_removal : Next → Bool
 is_removal (Retire place) = true
-is_removal (Snapshots step) = is_removal_on step
+is_removal (Maintenance step) = is_removal_on step
 is_removal other = false
 
-abbrev pub removal_on : SnapshotStep → Shared → HandState → Removal
+abbrev pub removal_on : MaintenanceStep → Shared → HandState → Removal
 removal_on (Release draining picked) s h = record {
   slot = picked.ino;
   cell = released picked (cell_at s picked.ino);
@@ -99,7 +99,7 @@ removal (Retire place) s h r =
       killed = drop 1 h.killed;
       book = retired_book ino killed s r;
     }
-removal (Snapshots step) s h r = removal_on step s h
+removal (Maintenance step) s h r = removal_on step s h
 removal other s h r = record { slot = 0; cell = no_cell; freed = []; killed = h.killed; book = s.book }
 
 -- WHAT A REMOVAL LEAVES: log, generation, version and size of the cell, blocks of one size, each number as often as it
@@ -113,7 +113,7 @@ pub record IsRemoval (s : Shared) (x : Removal) : Type 0 where
   pub snaps : x.book.snaps ≡ s.book.snaps
   pub commit : x.book.commit ≡ s.book.commit
 
-removed_on : (step : SnapshotStep) (s : Shared) (h : HandState) → is_removal_on step ≡ true → IsRemoval s (removal_on step s h)
+removed_on : (step : MaintenanceStep) (s : Shared) (h : HandState) → is_removal_on step ≡ true → IsRemoval s (removal_on step s h)
 removed_on (Release draining picked) s h is =
     let cell = cell_at s picked.ino in
     let k = number_in cell (name_of picked) in record {
@@ -140,11 +140,11 @@ is_removed (Retire place) s h r is =
       snaps = refl;
       commit = refl;
     }
-is_removed (Snapshots step) s h r is = removed_on step s h is
+is_removed (Maintenance step) s h r is = removed_on step s h is
 is_removed other s h r is = absurd (false≢true is)
 
-lent_removal_on : (step : SnapshotStep) (cpus a : ℕ) (s : Shared) (h : HandState) (r : Running) → is_removal_on step ≡ true
-    → (lent (Snapshots step) cpus a r).cell ≡ Some (removal_on step s h).slot
+lent_removal_on : (step : MaintenanceStep) (cpus a : ℕ) (s : Shared) (h : HandState) (r : Running) → is_removal_on step ≡ true
+    → (lent (Maintenance step) cpus a r).cell ≡ Some (removal_on step s h).slot
 lent_removal_on (Release draining picked) cpus a s h r is = refl
 lent_removal_on other cpus a s h r is = absurd (false≢true is)
 
@@ -152,7 +152,7 @@ lent_removal_on other cpus a s h r is = absurd (false≢true is)
 pub lent_removal : (k : Next) (cpus a : ℕ) (s : Shared) (h : HandState) (r : Running) → is_removal k ≡ true
     → (lent k cpus a r).cell ≡ Some (removal k s h r).slot
 lent_removal (Retire place) cpus a s h r is = refl
-lent_removal (Snapshots step) cpus a s h r is = lent_removal_on step cpus a s h r is
+lent_removal (Maintenance step) cpus a s h r is = lent_removal_on step cpus a s h r is
 lent_removal other cpus a s h r is = absurd (false≢true is)
 
 -- and all that was appended is published
@@ -162,27 +162,27 @@ removes_published Open written is = absurd (false≢true is)
 removes_published (Publish place) written is = absurd (false≢true is)
 removes_published other written is = refl
 
-stays_lent : (step : SnapshotStep) → is_removal_on step ≡ false → (lent_on step).cell ≡ None
+stays_lent : (step : MaintenanceStep) → is_removal_on step ≡ false → (lent_on step).cell ≡ None
 stays_lent (Release draining picked) is = absurd (true≢false is)
 stays_lent other is = refl
 
 -- a step of a call on snapshots is lent a cell to remove parts of it
-pub lent_removes : (step : SnapshotStep) (ino : ℕ) → (lent_on step).cell ≡ Some ino → is_removal_on step ≡ true
+pub lent_removes : (step : MaintenanceStep) (ino : ℕ) → (lent_on step).cell ≡ Some ino → is_removal_on step ≡ true
 lent_removes step ino is = go (is_removal_on step) refl where
   go : (b : Bool) → is_removal_on step ≡ b → b ≡ true
   go true e = refl
   go false e = absurd (none-some ino (sym (stays_lent step e) ∙ is))
 
 -- what a drain releases leaves the killed parts in the hand
-pub killed_on : (step : SnapshotStep) (s : Shared) (h : HandState) → (removal_on step s h).killed ≡ h.killed
+pub killed_on : (step : MaintenanceStep) (s : Shared) (h : HandState) → (removal_on step s h).killed ≡ h.killed
 killed_on Make s h = refl
 killed_on other s h = refl
 
 -- A STEP OF A CALL ON SNAPSHOTS removes parts, or leaves all but the book and the locks of slots
-pub on_step : (P : Shared → HandState → Type 0) (step : SnapshotStep) (a : ℕ) (s : Shared) (h : HandState)
+pub on_step : (P : Shared → HandState → Type 0) (step : MaintenanceStep) (a : ℕ) (s : Shared) (h : HandState)
     → (is_removal_on step ≡ true → let d = removed (removal_on step s h) s h in P d.shared d.hand)
     → ((book : BookState) (owners : List (Option ℕ)) → P (record s { book = book; owners = owners }) h)
-    → P (snapshot_work step a s h).shared (snapshot_work step a s h).hand
+    → P (maintenance_work step a s h).shared (maintenance_work step a s h).hand
 on_step P (Release draining picked) a s h removes stays = removes refl
 on_step P other a s h removes stays = stays _ _
 
@@ -240,13 +240,13 @@ module _ (P : ℕ → CellState → Type 0) (block a : ℕ) (s : Shared) (h : Ha
   low : (k : Next) → Before a s k r → (ino : ℕ) → (lent k (length s.lists) a r).cell ≡ Some ino → ino < length s.cells
   low k b ino is = (lent_inside_own k a s r b ino is).0
 
-  cells_on : (step : SnapshotStep) → Before a s (Snapshots step) r → CellWays P (Snapshots step) s h r → (ino : ℕ)
-      → P ino (cell_at (work (Snapshots step) block a s h r).shared ino)
+  cells_on : (step : MaintenanceStep) → Before a s (Maintenance step) r → CellWays P (Maintenance step) s h r → (ino : ℕ)
+      → P ino (cell_at (work (Maintenance step) block a s h r).shared ino)
   cells_on (Release draining picked) b w =
-      let k : Next = Snapshots (Release draining picked) in
+      let k : Next = Maintenance (Release draining picked) in
       let inside = low k b picked.ino refl in
       set_cell picked.ino _ inside (w.removes refl inside (is_removed k s h r refl))
-  cells_on other b w = stays (Snapshots other) refl
+  cells_on other b w = stays (Maintenance other) refl
 
   -- WHAT HOLDS OF EACH CELL before a step holds of each behind its work, where it holds of the one that the step changes
   pub cells_after : (k : Next) → Before a s k r → CellWays P k s h r → (ino : ℕ) → P ino (cell_at (work k block a s h r).shared ino)
@@ -257,7 +257,7 @@ module _ (P : ℕ → CellState → Type 0) (block a : ℕ) (s : Shared) (h : Ha
   cells_after (Retire place) b w =
       let inside = low (Retire place) b _ refl in
       set_cell _ _ inside (w.removes refl inside (is_removed (Retire place) s h r refl))
-  cells_after (Snapshots step) b w = cells_on step b w
+  cells_after (Maintenance step) b w = cells_on step b w
   cells_after other b w = stays other refl
 
 pub slots_stay : (k : Next) (block a : ℕ) (s : Shared) (h : HandState) (r : Running)
@@ -272,8 +272,8 @@ notes Open = true
 notes Close = true
 notes other = false
 
-journals_on : (step : SnapshotStep) (a : ℕ) (s : Shared) (h : HandState)
-    → (snapshot_work step a s h).shared.book.journals ≡ s.book.journals
+journals_on : (step : MaintenanceStep) (a : ℕ) (s : Shared) (h : HandState)
+    → (maintenance_work step a s h).shared.book.journals ≡ s.book.journals
 journals_on Make a s h = refl
 journals_on other a s h = refl
 
@@ -283,10 +283,10 @@ journals_stay Number block a s h r is = ap (λ (b : BookState). b.journals) (wor
 journals_stay Open block a s h r is = absurd (true≢false is)
 journals_stay Close block a s h r is = absurd (true≢false is)
 journals_stay Back block a s h r is = ap (λ (b : BookState). b.journals) (work_framed Back block a s h r).book
-journals_stay (Snapshots step) block a s h r is = journals_on step a s h
+journals_stay (Maintenance step) block a s h r is = journals_on step a s h
 journals_stay other block a s h r is = refl
 
-commit_on : (step : SnapshotStep) (a : ℕ) (s : Shared) (h : HandState) → (snapshot_work step a s h).shared.book.commit ≡ s.book.commit
+commit_on : (step : MaintenanceStep) (a : ℕ) (s : Shared) (h : HandState) → (maintenance_work step a s h).shared.book.commit ≡ s.book.commit
 commit_on Make a s h = refl
 commit_on other a s h = refl
 
@@ -299,20 +299,20 @@ pub commit_stays : (k : Next) (block a : ℕ) (s : Shared) (h : HandState) (r : 
 commit_stays Number block a s h r is = ap (λ (b : BookState). b.commit) (work_framed Number block a s h r).book
 commit_stays Enter block a s h r is = absurd (true≢false is)
 commit_stays Back block a s h r is = ap (λ (b : BookState). b.commit) (work_framed Back block a s h r).book
-commit_stays (Snapshots step) block a s h r is = commit_on step a s h
+commit_stays (Maintenance step) block a s h r is = commit_on step a s h
 commit_stays other block a s h r is = refl
 
 -- the step that begins an epoch
-abbrev makes_on : SnapshotStep → Bool
+abbrev makes_on : MaintenanceStep → Bool
 makes_on Make = true
 makes_on other = false
 
 abbrev pub makes : Next → Bool
-makes (Snapshots step) = makes_on step
+makes (Maintenance step) = makes_on step
 makes other = false
 
-epoch_on : (step : SnapshotStep) (a : ℕ) (s : Shared) (h : HandState) → makes_on step ≡ false
-    → (snapshot_work step a s h).shared.book.snaps.epoch ≡ s.book.snaps.epoch
+epoch_on : (step : MaintenanceStep) (a : ℕ) (s : Shared) (h : HandState) → makes_on step ≡ false
+    → (maintenance_work step a s h).shared.book.snaps.epoch ≡ s.book.snaps.epoch
 epoch_on Make a s h is = absurd (true≢false is)
 epoch_on other a s h is = refl
 
@@ -320,12 +320,12 @@ pub epoch_stays : (k : Next) (block a : ℕ) (s : Shared) (h : HandState) (r : R
     → (work k block a s h r).shared.book.snaps.epoch ≡ s.book.snaps.epoch
 epoch_stays Number block a s h r is = ap (λ (b : BookState). b.snaps.epoch) (work_framed Number block a s h r).book
 epoch_stays Back block a s h r is = ap (λ (b : BookState). b.snaps.epoch) (work_framed Back block a s h r).book
-epoch_stays (Snapshots step) block a s h r is = epoch_on step a s h is
+epoch_stays (Maintenance step) block a s h r is = epoch_on step a s h is
 epoch_stays other block a s h r is = refl
 
 -- ---- the commit lock
 
-lock_on : (step : SnapshotStep) (a : ℕ) (s : Shared) (h : HandState) → (snapshot_work step a s h).shared.holder ≡ s.holder
+lock_on : (step : MaintenanceStep) (a : ℕ) (s : Shared) (h : HandState) → (maintenance_work step a s h).shared.holder ≡ s.holder
 lock_on Make a s h = refl
 lock_on other a s h = refl
 
@@ -341,7 +341,7 @@ holder_stays Number block a s h r is = (work_framed Number block a s h r).holder
 holder_stays Enter block a s h r is = absurd (true≢false is)
 holder_stays Leave block a s h r is = absurd (true≢false is)
 holder_stays Back block a s h r is = (work_framed Back block a s h r).holder
-holder_stays (Snapshots step) block a s h r is = lock_on step a s h
+holder_stays (Maintenance step) block a s h r is = lock_on step a s h
 holder_stays other block a s h r is = refl
 
 -- ---- the killed parts in the hand
@@ -350,7 +350,7 @@ holder_stays other block a s h r is = refl
 abbrev pub kills : Next → Bool
 kills (Publish place) = true
 kills (Retire place) = true
-kills (Snapshots step) = true
+kills (Maintenance step) = true
 kills other = false
 
 pub killed_stays : (k : Next) (block a : ℕ) (s : Shared) (h : HandState) (r : Running) → kills k ≡ false
@@ -359,5 +359,5 @@ killed_stays Number block a s h r is = by_number (λ (t : Shared) (g : HandState
 killed_stays Back block a s h r is = by_back (λ (t : Shared) (g : HandState). g.killed ≡ h.killed) s h (λ numbers ino. refl)
 killed_stays (Publish place) block a s h r is = absurd (true≢false is)
 killed_stays (Retire place) block a s h r is = absurd (true≢false is)
-killed_stays (Snapshots step) block a s h r is = absurd (true≢false is)
+killed_stays (Maintenance step) block a s h r is = absurd (true≢false is)
 killed_stays other block a s h r is = refl

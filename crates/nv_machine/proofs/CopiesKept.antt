@@ -12,7 +12,7 @@ use Rattle.nv_epoch.specs.SnapList.{Snapshots as Living, ids, numbers}
 use Rattle.nv_epoch.specs.declared.snapshot.Snapshot.{Snapshot}
 use Rattle.nv_epoch.proofs.Last.{contains_cases, contains_first, contains_later}
 use Rattle.nv_machine.specs.Directories.{AreTree, HasName}
-use Rattle.nv_machine.specs.PlainRun.{Copy, Deed, OnSnapshots, Plain, deed_of, plain_step}
+use Rattle.nv_machine.specs.PlainRun.{Copy, Deed, Maintains, Plain, deed_of, plain_step}
 use Rattle.nv_machine.specs.Reading.{AreCopied}
 use Rattle.nv_machine.specs.Settled.{settled_copies, settled_nodes}
 use Rattle.nv_machine.specs.Step.{step}
@@ -26,10 +26,10 @@ use Rattle.nv_machine.proofs.SnapshotCopies.{AreAlike, Lives, deed_alike, lived,
 -- ---- who lives after a deed lived before it, but for a new snapshot
 
 work_lives : (d : Deed) (l : Living) (n : ℕ) → is_make d ≡ false → Lives (snaps_after d l) n → Lives l n
-work_lives (OnSnapshots Make) l n e is = cc
-work_lives (OnSnapshots (Drop snapshot)) l n e is = lived_then l n snapshot is
-work_lives (OnSnapshots (Pin snapshot)) l n e is = lived l n snapshot (λ pins. pins + 1) is
-work_lives (OnSnapshots (Unpin snapshot seen)) l n e is = lived l n snapshot (λ pins. pins - 1) is
+work_lives (Maintains Make) l n e is = cc
+work_lives (Maintains (Drop snapshot)) l n e is = lived_then l n snapshot is
+work_lives (Maintains (Pin snapshot)) l n e is = lived l n snapshot (λ pins. pins + 1) is
+work_lives (Maintains (Unpin snapshot seen)) l n e is = lived l n snapshot (λ pins. pins - 1) is
 work_lives other l n e is = is
 
 -- ---- copies

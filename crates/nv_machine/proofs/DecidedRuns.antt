@@ -9,17 +9,17 @@ use Rattle.nv_calls.specs.AllCalls.{answer, effect, is_nothing}
 use Rattle.nv_calls.specs.Plain.{node_in}
 use Rattle.nv_calls.specs.declared.answer.Answer.{Answer}
 use Rattle.nv_calls.specs.declared.call.Call.{Call}
-use Rattle.nv_machine.specs.EndsDecided.{decided, decided_in, decision_of, is_on_snapshots, unless_started}
+use Rattle.nv_machine.specs.EndsDecided.{decided, decided_in, decision_of, is_maintenance, unless_started}
 use Rattle.nv_machine.specs.Hands.{HandOf}
 use Rattle.nv_machine.specs.Kept.{Knows, KnowsOf}
 use Rattle.nv_machine.specs.Locks.{commits_at}
 use Rattle.nv_machine.specs.PlainRun.{Commits, actor_of, deed_of}
 use Rattle.nv_machine.specs.Reads.{slots_of, written_slots}
-use Rattle.nv_machine.specs.Sequence.{Beginning, Locks, OnSnapshots, Visits, beginning, begun, nothing_looked}
+use Rattle.nv_machine.specs.Sequence.{Beginning, Locks, Maintains, Visits, beginning, begun, nothing_looked}
 use Rattle.nv_machine.specs.Settled.{settled_nodes}
 use Rattle.nv_machine.specs.Starts.{IsStart}
 use Rattle.nv_machine.specs.Step.{Step, after, start_step, step, turn, turned}
-use Rattle.nv_machine.specs.World.{Actor, Append, Back, Check, Close, Done, Ending, Ends, Event, Give, Go, HandState, Leave, Lock, Look, Moves, Next, Number, Open, Publish, Refused, Reply, Retire, Running, Shared, Snapshots, Start, Turn, Unlock, Visit, Waits, World, actor_at, idle}
+use Rattle.nv_machine.specs.World.{Actor, Append, Back, Check, Close, Done, Ending, Ends, Event, Give, Go, HandState, Leave, Lock, Look, Moves, Next, Number, Open, Publish, Refused, Reply, Retire, Running, Shared, Maintenance, Start, Turn, Unlock, Visit, Waits, World, actor_at, idle}
 use Rattle.nv_calls.specs.declared.taken.Taken.{Taken}
 use Rattle.nv_calls.proofs.Nothing.{told_nothing}
 use Rattle.nv_machine.proofs.EndingsStay.{deed_is}
@@ -36,9 +36,9 @@ use Rattle.nv_machine.proofs.LocksOverEvents.{before}
 use Rattle.nv_machine.proofs.VisitsRead.{visit_same}
 use Rattle.nv_machine.proofs.DecidedNext.{IsTold, OnTold, Stage, locking_told, no_visit, plain_visit}
 use Rattle.nv_machine.proofs.DecidedTurns.{Relied, kind_told}
-use Rattle.nv_machine.proofs.SnapshotTurns.{is_quiet}
-use Rattle.nv_calls.specs.declared.snapshot_call.SnapshotCall.{SnapshotCall}
-use Rattle.nv_machine.proofs.DecidedOnSnapshots.{IsSilent, OnSilent, decides_none, quiet_kind, quiet_out, silent_turn}
+use Rattle.nv_machine.proofs.MaintenanceTurns.{is_quiet}
+use Rattle.nv_calls.specs.declared.maintenance_call.MaintenanceCall.{MaintenanceCall}
+use Rattle.nv_machine.proofs.DecidedMaintenance.{IsSilent, OnSilent, decides_none, quiet_kind, quiet_out, silent_turn}
 use Rattle.nv_calls.specs.declared.call.Call.TheVariants as call
 
 -- ---- a call that runs
@@ -49,7 +49,7 @@ ToldBy false r d = IsTold r.next r d
 
 abbrev pub HasTold : Option Running → List Answer → Type 0
 HasTold None d = Unit {0}
-HasTold (Some r) d = ToldBy (is_on_snapshots r.call) r d
+HasTold (Some r) d = ToldBy (is_maintenance r.call) r d
 
 open_knows : (k : Next) (block : ℕ) (s : Shared) (cpu : ℕ) (h : HandState) (r : Running) → k ≡ Open → Knows k block s cpu h r
     → nat_lt 1 (length (written_slots r)) ≡ true
@@ -90,7 +90,7 @@ committing Leave e c at stage = stage
 committing other e c at stage = absurd (false≢true at)
 
 -- a stage is that of a call on files and directories
-staged : (k : Next) (e : Ending) (c : Call) → Stage k e c → is_on_snapshots c ≡ false
+staged : (k : Next) (e : Ending) (c : Call) → Stage k e c → is_maintenance c ≡ false
 staged Number e c stage = stage.1
 staged (Look place) e c stage = stage.1
 staged (Lock place) e c stage = stage.1
@@ -99,7 +99,7 @@ staged Visit e c stage = plain_visit c stage
 staged (Unlock place) e c stage = stage.0.1
 staged (Give cpu) e c stage = stage.1
 staged Back e c stage = stage.1
-staged (Snapshots step) e c stage = absurd stage
+staged (Maintenance step) e c stage = absurd stage
 staged other e c stage = (no_visit c stage).1
 
 told_running : (q : Running) (d : List Answer) → IsTold q.next q d → HasTold (Some q) d
@@ -107,12 +107,12 @@ told_running q d is = subst (λ (b : Bool). ToldBy b q d) (sym (staged q.next q.
 
 -- ---- one event
 
-begun_plain : (c : Call) → ((what : SnapshotCall) → beginning c ≡ OnSnapshots what → ⊥) → is_on_snapshots c ≡ false
-begun_plain (call.Snapshots what) other = absurd (other what refl)
+begun_plain : (c : Call) → ((what : MaintenanceCall) → beginning c ≡ Maintains what → ⊥) → is_maintenance c ≡ false
+begun_plain (call.Maintenance what) other = absurd (other what refl)
 begun_plain rest other = refl
 
-begun_on : (c : Call) (what : SnapshotCall) → beginning c ≡ OnSnapshots what → is_on_snapshots c ≡ true
-begun_on (call.Snapshots what) here e = refl
+begun_on : (c : Call) (what : MaintenanceCall) → beginning c ≡ Maintains what → is_maintenance c ≡ true
+begun_on (call.Maintenance what) here e = refl
 begun_on other here e = cc
 
 begun_told : (b : Beginning) (s : Shared) (c : Call) → beginning c ≡ b → HasTold (Some (begun b s c)) []
@@ -120,8 +120,8 @@ begun_told Visits s c e = told_running (begun Visits s c) [] (record { told = re
 begun_told Locks s c e =
     told_running (begun Locks s c) []
     (locking_told refl 0 (slots_of s None nothing_looked c) (begun Locks s c) (λ v. cc, begun_plain c (λ what v. cc)))
-begun_told (OnSnapshots what) s c e =
-    subst (λ (b : Bool). ToldBy b (begun (OnSnapshots what) s c) []) (sym (begun_on c what e))
+begun_told (Maintains what) s c e =
+    subst (λ (b : Bool). ToldBy b (begun (Maintains what) s c) []) (sym (begun_on c what e))
     (record { none = refl; quiet = refl; fair = refl })
 begun_told other s c e =
     told_running (begun other s c) [] (record { told = refl; stage = (λ v. cc, begun_plain c (λ what v. cc)) })
@@ -136,10 +136,10 @@ module _ (g : GeometryNumbers) (w : World) (known : IsKnown g w) (actor : ℕ) w
   after_told Waits d before on had = subst (HasTold (actor_at w actor).running) (sym on) had
   after_told (Ends result s h) d before on had = tt
 
-  after_silent : (t : Turn) (d before : List Answer) (r : Running) → (actor_at w actor).running ≡ Some r → is_on_snapshots r.call ≡ true
+  after_silent : (t : Turn) (d before : List Answer) (r : Running) → (actor_at w actor).running ≡ Some r → is_maintenance r.call ≡ true
       → d ≡ before → IsSilent r before → OnSilent r.call d t → OwnAfter (actor_at w actor) (Then d) t
   after_silent (Moves s h q) d before r is snapshot same had on =
-      subst (λ (b : Bool). ToldBy b q d) (sym (ap is_on_snapshots on.1 ∙ snapshot)) on.0
+      subst (λ (b : Bool). ToldBy b q d) (sym (ap is_maintenance on.1 ∙ snapshot)) on.0
   after_silent Waits d before r is snapshot same had on =
       subst (λ (o : Option Running). HasTold o d) (sym is) (subst (λ (b : Bool). ToldBy b r d) (sym snapshot)
       (subst (IsSilent r) (sym same) had))
@@ -165,9 +165,9 @@ module _ (g : GeometryNumbers) (w : World) (known : IsKnown g w) (actor : ℕ) w
   own_told granted before had =
       own_goes (Then (decision_of (actor_at w actor).running w actor granted ++ before)) w actor granted (λ none. rw none tt)
       (λ r there is. subst (λ (o : Option Running). OwnAfter (actor_at w actor) (Then (decision_of o w actor granted ++ before))
-      (turn_at w actor granted r)) (sym is) (go r is (is_on_snapshots r.call) refl (subst (λ (o : Option Running). HasTold o before) is had)))
+      (turn_at w actor granted r)) (sym is) (go r is (is_maintenance r.call) refl (subst (λ (o : Option Running). HasTold o before) is had)))
     where
-      go : (r : Running) → (actor_at w actor).running ≡ Some r → (b : Bool) → is_on_snapshots r.call ≡ b → ToldBy b r before
+      go : (r : Running) → (actor_at w actor).running ≡ Some r → (b : Bool) → is_maintenance r.call ≡ b → ToldBy b r before
           → OwnAfter (actor_at w actor) (Then (decision_of (Some r) w actor granted ++ before)) (turn_at w actor granted r)
       go r is false plain told = after_told (turn_at w actor granted r) _ before (own_turn_told granted r before is told) had
       go r is true snapshot told =
@@ -253,20 +253,20 @@ module _ (g : GeometryNumbers) (start : World) (records : List Record) (events :
       (turn_replies (turn w.numbers.block actor granted w.shared (actor_at w actor).hand r) before_all _
       (own_turn_told g w (all_known g start records is_start events) actor granted r before_all is had))
 
-  told_of : (r : Running) → (actor_at w actor).running ≡ Some r → ToldBy (is_on_snapshots r.call) r before_all
+  told_of : (r : Running) → (actor_at w actor).running ≡ Some r → ToldBy (is_maintenance r.call) r before_all
   told_of r is = subst (λ (o : Option Running). HasTold o before_all) is all_told
 
   -- a call at its visit begins with it
   pub visits_of : (r : Running) → (actor_at w actor).running ≡ Some r → r.next ≡ Visit → beginning r.call ≡ Visits
-  visits_of r is next = go (is_on_snapshots r.call) (told_of r is) where
+  visits_of r is next = go (is_maintenance r.call) (told_of r is) where
     go : (b : Bool) → ToldBy b r before_all → beginning r.call ≡ Visits
     go true told = absurd (false≢true (ap is_quiet (sym next) ∙ told.quiet))
     go false told = subst (λ (k : Next). Stage k r.ending r.call) next told.stage
 
-  pub plainly_told : (r : Running) → (actor_at w actor).running ≡ Some r → is_on_snapshots r.call ≡ false → IsTold r.next r before_all
+  pub plainly_told : (r : Running) → (actor_at w actor).running ≡ Some r → is_maintenance r.call ≡ false → IsTold r.next r before_all
   plainly_told r is plain = subst (λ (b : Bool). ToldBy b r before_all) plain (told_of r is)
 
-  all_replied : (granted : Bool) (r : Running) → (actor_at w actor).running ≡ Some r → is_on_snapshots r.call ≡ false
+  all_replied : (granted : Bool) (r : Running) → (actor_at w actor).running ≡ Some r → is_maintenance r.call ≡ false
       → ReplyTold (step w (Go actor granted)).reply (decided actor start (events ++ Go actor granted ∷ []) [])
   all_replied granted r is plain =
       subst (ReplyTold (step w (Go actor granted)).reply)
@@ -279,8 +279,8 @@ module _ (g : GeometryNumbers) (start : World) (records : List Record) (events :
   -- a call that is refused was not decided
   pub is_undecided : (granted : Bool) (r : Running) (fault : Fault) → (actor_at w actor).running ≡ Some r
       → (step w (Go actor granted)).reply ≡ Refused fault → decided_then granted ≡ []
-  is_undecided granted r fault is e = go (is_on_snapshots r.call) refl where
-    go : (b : Bool) → is_on_snapshots r.call ≡ b → decided_then granted ≡ []
+  is_undecided granted r fault is e = go (is_maintenance r.call) refl where
+    go : (b : Bool) → is_maintenance r.call ≡ b → decided_then granted ≡ []
     go false plain = subst (λ (x : Reply). ReplyTold x (decided_then granted)) e (all_replied granted r is plain)
     go true snapshot =
         let silent : IsSilent r before_all = subst (λ (b : Bool). ToldBy b r before_all) snapshot (told_of r is) in
@@ -289,7 +289,7 @@ module _ (g : GeometryNumbers) (start : World) (records : List Record) (events :
         before_all silent.quiet ∙ silent.none
 
   -- and one on files and directories that is answered was, once
-  pub is_decided : (granted : Bool) (r : Running) (told : Answer) → (actor_at w actor).running ≡ Some r → is_on_snapshots r.call ≡ false
+  pub is_decided : (granted : Bool) (r : Running) (told : Answer) → (actor_at w actor).running ≡ Some r → is_maintenance r.call ≡ false
       → (step w (Go actor granted)).reply ≡ Done told → decided_then granted ≡ told ∷ []
   is_decided granted r told is plain e = subst (λ (x : Reply). ReplyTold x (decided_then granted)) e (all_replied granted r is plain)
 
@@ -312,4 +312,4 @@ module _ (g : GeometryNumbers) (start : World) (records : List Record) (events :
       (lt-ltb actor (length w.actors) there) is) ∙ e) fits in
       (told_nothing block (node_in (settled_nodes w.shared)) taken r.call
       (has_passed g start records events actor granted r is_start there is e)).some_effect
-      (commits_plainly r (is_on_snapshots r.call) (told_of r is) point.0)
+      (commits_plainly r (is_maintenance r.call) (told_of r is) point.0)

@@ -9,7 +9,7 @@ use Rattle.nv_base.specs.declared.fault.Fault.TheVariants.{NoActor}
 use Rattle.nv_book.specs.declared.record.Record.{Record}
 use Rattle.nv_calls.specs.declared.call.Call.{Call}
 use Rattle.nv_calls.specs.declared.call.Call.TheVariants as call
-use Rattle.nv_calls.specs.declared.snapshot_call.SnapshotCall.TheVariants as on
+use Rattle.nv_calls.specs.declared.maintenance_call.MaintenanceCall.TheVariants as on
 use Rattle.nv_machine.specs.Needed.{AreNoDrops, IsAtRest, IsNoDrop, count_in, drained, is_drop, told_in, told_to, told_to_call}
 use Rattle.nv_machine.specs.Sequence.{beginning, begun, locking}
 use Rattle.nv_machine.specs.Step.{after, go_step, start_step, step, turn, turned}
@@ -104,7 +104,7 @@ begun_first : (w : World) (c : Call) → is_drop c ≡ false → IsFirst (begun 
 begun_first w (call.Write file offset text) apart = let first = locks_first _ in record { owed = first.0; none = first.1 }
 begun_first w (call.Size file size) apart = let first = locks_first _ in record { owed = first.0; none = first.1 }
 begun_first w (call.Mode handle mode) apart = let first = locks_first _ in record { owed = first.0; none = first.1 }
-begun_first w (call.Snapshots (on.Drop snapshot)) apart = absurd (true≢false apart)
+begun_first w (call.Maintenance (on.Drop snapshot)) apart = absurd (true≢false apart)
 begun_first w other apart = record { owed = refl; none = refl }
 
 start_less : (b : Bool) (running : Option Running) (w : World) (actor : ℕ) (c : Call) → nat_lt actor (length w.actors) ≡ b

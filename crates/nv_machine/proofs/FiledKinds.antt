@@ -3,8 +3,8 @@ use Rattle.nv_book.specs.Book.{after_pick}
 use Rattle.std.proofs.lemmas.Bool.{false≢true}
 use Rattle.nv_reader.specs.Walk as walk
 use Rattle.nv_machine.proofs.StepWays.{IsClearOn}
-use Rattle.nv_machine.proofs.SnapshotWalk.{goes_next, is_denied, next_on, picked_next, picked_slots, slots_next, tells, told_on}
-use Rattle.nv_machine.proofs.SnapshotsAlone.{alone_walk}
+use Rattle.nv_machine.proofs.MaintenanceWalk.{goes_next, is_denied, next_on, picked_next, picked_slots, slots_next, tells, told_on}
+use Rattle.nv_machine.proofs.MaintenanceAlone.{alone_walk}
 use Rattle.std.proofs.lemmas.Option.{none-some}
 use Rattle.nv_machine.specs.Frame.{lent}
 use Rattle.nv_machine.proofs.StepFrames.{work_framed}
@@ -25,9 +25,9 @@ use Rattle.nv_machine.specs.Locks.{commits_at, commits_by, is_owner}
 use Rattle.nv_machine.specs.PlainRun as plain
 use Rattle.nv_machine.specs.Reads.{is_written, pages_needed, slot_at, written_slots}
 use Rattle.nv_machine.specs.Recorded.{after_deed}
-use Rattle.nv_machine.specs.Snapshots.{one_more, copies_at, first_showing, seen_on, show_or_unpin, visited}
+use Rattle.nv_machine.specs.Maintenance.{one_more, copies_at, first_showing, seen_on, show_or_unpin, visited}
 use Rattle.nv_machine.specs.Step.{kind_turn, turned, changed}
-use Rattle.nv_machine.specs.World.{Append, Close, Draining, Drains, Drop, Ends, Enter, HandState, Leave, LockPicked, Make, Moves, Next, Open, Pick, Pin, Publish, Release, Retire, Running, Shared, Show, SnapshotStep, Snapshots, Turn, Unpin, Waits, World, actor_at, cell_at, empty_hand, Refuses, Showing, Unlock, with_book}
+use Rattle.nv_machine.specs.World.{Append, Close, Draining, Drains, Drop, Ends, Enter, HandState, Leave, LockPicked, Make, Moves, Next, Open, Pick, Pin, Publish, Release, Retire, Running, Shared, Show, MaintenanceStep, Maintenance, Turn, Unpin, Waits, World, actor_at, cell_at, empty_hand, Refuses, Showing, Unlock, with_book}
 use Rattle.nv_machine.proofs.FiledBooks.{ids_pinned}
 use Rattle.nv_machine.proofs.FiledCommits.{append_marked, publish_marked, retire_marked}
 use Rattle.nv_machine.proofs.FiledLists.{none_first}
@@ -36,7 +36,7 @@ use Rattle.nv_machine.proofs.FiledRuns.{IsListable, can_list}
 use Rattle.nv_machine.proofs.FiledSnaps.{drop_marked, make_marked, pick_marked, release_marked}
 use Rattle.nv_machine.proofs.FiledTurns.{CanList, Listed, entered_same, list_after, published_same}
 use Rattle.nv_machine.proofs.FiledWorlds.{AreMarked, IsQuiet, KeepsShares, quiet_marked, same_quiet, turned_quiet}
-use Rattle.nv_machine.proofs.StepWork.{work, snapshot_work}
+use Rattle.nv_machine.proofs.StepWork.{work, maintenance_work}
 use Rattle.nv_machine.proofs.WorkKeeps.{AfterTurn, turn_keeps}
 use Rattle.nv_machine.proofs.Lists.{rising_filter}
 use Rattle.nv_machine.proofs.LocksHeld.{Before, lent_holder}
@@ -126,10 +126,10 @@ module _ (g : GeometryNumbers) (w : World) (known : IsListable g w) (rs : List R
 
   -- ---- calls on snapshots
 
-  abbrev AfterStep : SnapshotStep → Turn → Type 0
+  abbrev AfterStep : MaintenanceStep → Turn → Type 0
   AfterStep step t = AreMarked (turned t a w).world (after_deed (plain.done_on step t) living rs)
 
-  module _ (step : SnapshotStep) (next : r.next ≡ Snapshots step) where
+  module _ (step : MaintenanceStep) (next : r.next ≡ Maintenance step) where
     empty : h ≡ empty_hand
     empty = (can.alone step next).0
 
@@ -140,12 +140,12 @@ module _ (g : GeometryNumbers) (w : World) (known : IsListable g w) (rs : List R
     own_none : (ino : ℕ) → [] ≡ killed_by_actor ino (actor_at w a)
     own_none ino = sym (own_killed nothing ino)
 
-    own_picked : picked_by_actor (actor_at w a) ≡ picked_at (Snapshots step)
-    own_picked = own_picks (Snapshots step) next
+    own_picked : picked_by_actor (actor_at w a) ≡ picked_at (Maintenance step)
+    own_picked = own_picks (Maintenance step) next
 
     -- cells and snapshots stay, and what is picked
     kept : (u : Shared) (running : Option Running) → IsQuiet s u → ((ino : ℕ) → killed_by_call running h ino ≡ [])
-        → picked_by_call running ≡ picked_at (Snapshots step) → AreMarked (changed u h running a w) rs
+        → picked_by_call running ≡ picked_at (Maintenance step) → AreMarked (changed u h running a w) rs
     kept u running left none same = quiet_marked w a rs u h running left (λ ino. none ino ∙ own_none ino) (same ∙ sym own_picked) m
 
     tails : s.holder ≡ None → (ino : ℕ) → (cell_at s ino).chain.tail ≡ length (cell_at s ino).chain.entries
@@ -154,12 +154,12 @@ module _ (g : GeometryNumbers) (w : World) (known : IsListable g w) (rs : List R
         (sym (known.locks.each b).holder ∙ ap (is_owner b) free))
 
   none_shown : (left : ℕ) (visits : List walk.Visit) (snapshot : ℕ) (showing : Showing)
-      → picked_at (Snapshots (show_or_unpin left visits snapshot showing)) ≡ []
+      → picked_at (Maintenance (show_or_unpin left visits snapshot showing)) ≡ []
   none_shown zero visits snapshot showing = refl
   none_shown (suc left) [] snapshot showing = refl
   none_shown (suc left) (visit ∷ visits) snapshot showing = refl
 
-  refused_marked : (step : SnapshotStep) → r.next ≡ Snapshots step → (fault : Fault) → is_denied step ≡ true
+  refused_marked : (step : MaintenanceStep) → r.next ≡ Maintenance step → (fault : Fault) → is_denied step ≡ true
       → AfterStep step (Ends (Err fault) s h)
   refused_marked Make next fault on = kept Make next s None (same_quiet s) (λ ino. refl) refl
   refused_marked (Drop snapshot) next fault on = kept (Drop snapshot) next s None (same_quiet s) (λ ino. refl) refl
@@ -168,9 +168,9 @@ module _ (g : GeometryNumbers) (w : World) (known : IsListable g w) (rs : List R
   refused_marked other next fault on = absurd (false≢true on)
 
   -- behind its work, where another step of these comes next
-  goes_marked : (step : SnapshotStep) → r.next ≡ Snapshots step → goes_next step ≡ true → IsClearOn step s
-      → AfterStep step (Moves (snapshot_work step a s h).shared (snapshot_work step a s h).hand
-      (record r { slots = slots_next step s r; next = Snapshots (next_on step s) }))
+  goes_marked : (step : MaintenanceStep) → r.next ≡ Maintenance step → goes_next step ≡ true → IsClearOn step s
+      → AfterStep step (Moves (maintenance_work step a s h).shared (maintenance_work step a s h).hand
+      (record r { slots = slots_next step s r; next = Maintenance (next_on step s) }))
   goes_marked (Pin snapshot) next on clear =
       let first = first_showing s in
       kept (Pin snapshot) next _ _
@@ -182,7 +182,7 @@ module _ (g : GeometryNumbers) (w : World) (known : IsListable g w) (rs : List R
   goes_marked (Pick draining) next on clear = go s.book.deferred refl clear.1 where
     go : (deferred : List Record) → s.book.deferred ≡ deferred → 0 < length deferred
         → AfterStep (Pick draining) (Moves (with_book (after_pick s.book) s) h
-        (record r { slots = picked_slots deferred; next = Snapshots (picked_next deferred draining) }))
+        (record r { slots = picked_slots deferred; next = Maintenance (picked_next deferred draining) }))
     go [] e some = absurd (omega (arith, some))
     go (d ∷ ds) e some =
         pick_marked w a rs known.locks clear.0 known.order.logs l m h _ (own_none (Pick draining) next) d ds e there
@@ -191,8 +191,8 @@ module _ (g : GeometryNumbers) (w : World) (known : IsListable g w) (rs : List R
       kept (LockPicked draining picked) next _ _ (record { cells = λ i. refl; living = refl; epoch = refl }) (λ ino. refl) refl
   goes_marked other next on clear = absurd (false≢true on)
 
-  told_marked : (step : SnapshotStep) → r.next ≡ Snapshots step → tells step ≡ true → IsClearOn step s
-      → AfterStep step (Ends (told_on step s r) (snapshot_work step a s h).shared (snapshot_work step a s h).hand)
+  told_marked : (step : MaintenanceStep) → r.next ≡ Maintenance step → tells step ≡ true → IsClearOn step s
+      → AfterStep step (Ends (told_on step s r) (maintenance_work step a s h).shared (maintenance_work step a s h).hand)
   told_marked Make next on clear =
       make_marked w a rs known.locks clear.0 known.order.logs l m h None (own_none Make next) (sym (own_picked Make next))
       (tails Make next clear.0)
@@ -205,16 +205,16 @@ module _ (g : GeometryNumbers) (w : World) (known : IsListable g w) (rs : List R
       (λ ino. refl) refl
   told_marked other next on clear = absurd (false≢true on)
 
-  released_marked : (step : SnapshotStep) → r.next ≡ Snapshots step → (draining : Draining) (picked : Record)
-      → step ≡ Release draining picked → AfterStep step (Moves (snapshot_work step a s h).shared (snapshot_work step a s h).hand
+  released_marked : (step : MaintenanceStep) → r.next ≡ Maintenance step → (draining : Draining) (picked : Record)
+      → step ≡ Release draining picked → AfterStep step (Moves (maintenance_work step a s h).shared (maintenance_work step a s h).hand
       (record r { ending = Drains (one_more draining); next = Unlock 0 }))
   released_marked (Release d picked) next draining other on =
       let step = Release d picked in
-      let low = lent_inside (Snapshots step) a s r (before_it (Snapshots step) next) picked.ino refl in
+      let low = lent_inside (Maintenance step) a s r (before_it (Maintenance step) next) picked.ino refl in
       release_marked w a rs picked _ _ there (own_none step next) (own_picked step next) refl low (known.order.logs picked.ino).ordered m
   released_marked other next draining picked on = cc
 
-  none_marked : (step : SnapshotStep) → r.next ≡ Snapshots step → (draining : Draining) → step ≡ Pick draining → s.book.deferred ≡ []
+  none_marked : (step : MaintenanceStep) → r.next ≡ Maintenance step → (draining : Draining) → step ≡ Pick draining → s.book.deferred ≡ []
       → AfterStep step (Ends (Ok (answers.Count draining.released)) s h)
   none_marked (Pick d) next draining on empty =
       subst (AreMarked (turned (Ends (Ok (answers.Count draining.released)) s h) a w).world)
@@ -222,16 +222,16 @@ module _ (g : GeometryNumbers) (w : World) (known : IsListable g w) (rs : List R
       (kept (Pick d) next s None (same_quiet s) (λ ino. refl) refl)
   none_marked other next draining on empty = cc
 
-  snapshot_marked : (step : SnapshotStep) → r.next ≡ Snapshots step → AfterStep step (KindTurn (Snapshots step))
+  snapshot_marked : (step : MaintenanceStep) → r.next ≡ Maintenance step → AfterStep step (KindTurn (Maintenance step))
   snapshot_marked step next = alone_walk (AfterStep step) step a granted s h r (empty step next) (can.alone step next).1 (record {
     waits = m;
     refused = refused_marked step next;
     goes = goes_marked step next;
     told = told_marked step next;
     denied = λ snapshot showing on.
-        let q : Running = record r { ending = Refuses out_of_memory; next = Snapshots (Unpin snapshot []) } in
-        subst (λ (x : SnapshotStep). AreMarked (turned (Moves s h q) a w).world (after_deed (plain.OnSnapshots x) living rs)) (sym on)
-        (kept step next s (Some q) (same_quiet s) (λ ino. refl) (sym (ap (λ (x : SnapshotStep). picked_at (Snapshots x)) on)));
+        let q : Running = record r { ending = Refuses out_of_memory; next = Maintenance (Unpin snapshot []) } in
+        subst (λ (x : MaintenanceStep). AreMarked (turned (Moves s h q) a w).world (after_deed (plain.Maintains x) living rs)) (sym on)
+        (kept step next s (Some q) (same_quiet s) (λ ino. refl) (sym (ap (λ (x : MaintenanceStep). picked_at (Maintenance x)) on)));
     over = released_marked step next;
     none = none_marked step next;
   })
@@ -277,7 +277,7 @@ module _ (g : GeometryNumbers) (w : World) (known : IsListable g w) (rs : List R
       b.inside (rising (Retire place) e) (lent_inside (Retire place) a s r b slot refl) (known.order.logs slot).ordered
       (hand_at (Retire place) e) (none_on _ (retiring_on (place + 1) (written_slots r)))
   kind_marked Leave e = let none = hand_at Leave e in quiet Leave e refl refl none none (quiet_work Leave refl refl)
-  kind_marked (Snapshots step) e = snapshot_marked step e
+  kind_marked (Maintenance step) e = snapshot_marked step e
   kind_marked other e =
       let none = none_now other e refl in
       quiet other e refl refl none (killed_stays other block a s h r refl ∙ none) (quiet_work other refl refl)

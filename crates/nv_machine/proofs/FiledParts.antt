@@ -19,7 +19,7 @@ use Rattle.nv_machine.specs.Kept.{IsReleaseCovered, IsReleaseCoveredBy}
 use Rattle.nv_machine.specs.Recorded.{is_kept, records_after}
 use Rattle.nv_machine.specs.Starts.{IsStart}
 use Rattle.nv_machine.specs.Step.{after}
-use Rattle.nv_machine.specs.World.{Event, Next, Release, Running, Snapshots, World, actor_at, cell_at}
+use Rattle.nv_machine.specs.World.{Event, Next, Release, Running, Maintenance, World, actor_at, cell_at}
 use Rattle.nv_machine.proofs.OverEvents.{runs_inside}
 use Rattle.nv_machine.proofs.FiledLaw.{all_marked}
 use Rattle.nv_machine.proofs.EachElement.{all_back}
@@ -73,7 +73,7 @@ releases_covered g start records events actor is_start = go (actor_at w actor).r
   rs = records_after start events records
 
   at : (k : Next) (r : Running) → (actor_at w actor).running ≡ Some r → r.next ≡ k → IsReleaseCovered w.shared k
-  at (Snapshots (Release draining d)) r is e =
+  at (Maintenance (Release draining d)) r is e =
       let cell : CellState = cell_at w.shared d.ino in
       let m = (all_marked g start records events is_start).cells d.ino in
       let T : Record → Type 0 = IsTold (ids w.shared.book.snaps) d.ino cell.block (log_of cell) in

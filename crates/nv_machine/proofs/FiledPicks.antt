@@ -5,20 +5,20 @@ use Rattle.nv_base.specs.declared.geometry.GeometryNumbers.{GeometryNumbers}
 use Rattle.nv_book.specs.declared.record.Record.{Record}
 use Rattle.nv_calls.specs.declared.call.Call.{Call}
 use Rattle.nv_calls.specs.declared.call.Call.TheVariants as call
-use Rattle.nv_calls.specs.declared.snapshot_call.SnapshotCall.{SnapshotCall}
-use Rattle.nv_calls.specs.declared.snapshot_call.SnapshotCall.TheVariants as on
+use Rattle.nv_calls.specs.declared.maintenance_call.MaintenanceCall.{MaintenanceCall}
+use Rattle.nv_calls.specs.declared.maintenance_call.MaintenanceCall.TheVariants as on
 use Rattle.nv_reader.specs.Walk as walk
 use Rattle.nv_machine.specs.Hands.{HandAt}
 use Rattle.nv_machine.specs.Held.{picked_at, picked_on}
 use Rattle.nv_machine.specs.Kinds.{end_turn}
 use Rattle.nv_machine.specs.Locks.{commits_at}
 use Rattle.nv_machine.specs.Sequence.{beginning, begun, first_step, locking}
-use Rattle.nv_machine.specs.Snapshots.{copies_at, first_showing, lock_picked_turn, seen_on, show_or_unpin, visited}
+use Rattle.nv_machine.specs.Maintenance.{copies_at, first_showing, lock_picked_turn, seen_on, show_or_unpin, visited}
 use Rattle.nv_machine.specs.Step.{kind_turn}
-use Rattle.nv_machine.specs.World.{Append, Back, Close, Draining, Ending, Ends, Give, HandState, Leave, LockPicked, Look, Moves, Next, Number, Open, Pick, Pin, Publish, Retire, Running, Shared, Show, Showing, SnapshotStep, Snapshots, Turn, Unlock, Visit, Waits}
+use Rattle.nv_machine.specs.World.{Append, Back, Close, Draining, Ending, Ends, Give, HandState, Leave, LockPicked, Look, Moves, Next, Number, Open, Pick, Pin, Publish, Retire, Running, Shared, Show, Showing, MaintenanceStep, Maintenance, Turn, Unlock, Visit, Waits}
 use Rattle.nv_machine.proofs.NextSteps.{IsNext, end_on, files_next, snapshots_next}
 use Rattle.nv_machine.proofs.LoopSteps.{is_on_files, locking_on}
-use Rattle.nv_machine.proofs.SnapshotWalk.{goes_next, next_on}
+use Rattle.nv_machine.proofs.MaintenanceWalk.{goes_next, next_on}
 
 -- the record that the call has picked after a turn
 abbrev pub picked_after : Turn → List Record
@@ -35,7 +35,7 @@ none_next Waits e = refl
 none_next (Ends result s h) e = refl
 
 pub none_on : (k : Next) → is_on_files k ≡ true → picked_at k ≡ []
-none_on (Snapshots step) is = absurd (false≢true is)
+none_on (Maintenance step) is = absurd (false≢true is)
 none_on other is = refl
 
 pub none_end : (slots : List ℕ) (e : Ending) (s : Shared) (h : HandState) (r : Running) → picked_after (end_turn slots e s h r) ≡ []
@@ -50,11 +50,11 @@ none_showing (suc left) (visit ∷ visits) snapshot showing = refl
 -- ---- every kind but those that pick, and those of a record that is picked
 
 abbrev pub picks : Next → Bool
-picks (Snapshots (Pick draining)) = true
-picks (Snapshots (LockPicked draining picked)) = true
+picks (Maintenance (Pick draining)) = true
+picks (Maintenance (LockPicked draining picked)) = true
 picks other = false
 
-none_goes : (step : SnapshotStep) (s : Shared) → picks (Snapshots step) ≡ false → goes_next step ≡ true → picked_on (next_on step s) ≡ []
+none_goes : (step : MaintenanceStep) (s : Shared) → picks (Maintenance step) ≡ false → goes_next step ≡ true → picked_on (next_on step s) ≡ []
 none_goes (Pin snapshot) s e on = none_showing (first_showing s).left (first_showing s).visits snapshot (first_showing s)
 none_goes (Show snapshot showing) s e on = none_showing _ _ snapshot (seen_on (copies_at s snapshot (visited showing.visits)) showing)
 none_goes (Pick draining) s e on = absurd (true≢false e)
@@ -63,8 +63,8 @@ none_goes other s e on = absurd (false≢true on)
 
 pub none_picked : (k : Next) (block actor : ℕ) (granted : Bool) (s : Shared) (h : HandState) (r : Running) → picks k ≡ false
     → picked_after (kind_turn k block actor granted s h r) ≡ []
-none_picked (Snapshots step) block actor granted s h r e =
-    none_next (kind_turn (Snapshots step) block actor granted s h r) (snapshots_next HasNone none_on (λ draining. refl) step actor granted s h r
+none_picked (Maintenance step) block actor granted s h r e =
+    none_next (kind_turn (Maintenance step) block actor granted s h r) (snapshots_next HasNone none_on (λ draining. refl) step actor granted s h r
     (λ on clear. none_goes step s e on) (λ snapshot showing on. refl))
 none_picked other block actor granted s h r e =
     none_next (kind_turn other block actor granted s h r) (files_next HasNone none_on (λ draining. refl) other block actor granted s h r refl)
@@ -81,7 +81,7 @@ still_picked None actor draining picked s h r on = refl
 begun_locks : (slots : List ℕ) → picked_at (locking 0 slots) ≡ []
 begun_locks slots = none_on _ (locking_on 0 slots)
 
-begun_first : (what : SnapshotCall) → picked_on (first_step what) ≡ []
+begun_first : (what : MaintenanceCall) → picked_on (first_step what) ≡ []
 begun_first on.Snap = refl
 begun_first other = refl
 
@@ -89,7 +89,7 @@ pub begun_none : (s : Shared) (c : Call) → picked_at (begun (beginning c) s c)
 begun_none s (call.Write file offset text) = begun_locks _
 begun_none s (call.Size file size) = begun_locks _
 begun_none s (call.Mode handle mode) = begun_locks _
-begun_none s (call.Snapshots what) = begun_first what
+begun_none s (call.Maintenance what) = begun_first what
 begun_none s other = refl
 
 -- ---- killed parts in the hand
@@ -108,5 +108,5 @@ none_killed g (Unlock place) h r e at = at.0
 none_killed g (Give cpu) h r e at = at.0
 none_killed g Back h r e at = at.0
 none_killed g Visit h r e at = rw at refl
-none_killed g (Snapshots step) h r e at = rw at refl
+none_killed g (Maintenance step) h r e at = rw at refl
 none_killed g other h r e at = at.killed

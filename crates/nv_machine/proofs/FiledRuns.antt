@@ -13,7 +13,7 @@ use Rattle.nv_machine.specs.PlainRun as plain
 use Rattle.nv_machine.specs.Recorded.{after_deed, records_after, records_in, retired_in}
 use Rattle.nv_machine.specs.Starts.{IsStart}
 use Rattle.nv_machine.specs.Step.{after, go_step, start_step, step, turn, turned}
-use Rattle.nv_machine.specs.World.{Ends, Event, Go, HandState, Moves, Next, Running, SnapshotStep, Snapshots, Start, Turn, Waits, World, actor_at, empty_hand}
+use Rattle.nv_machine.specs.World.{Ends, Event, Go, HandState, Moves, Next, Running, MaintenanceStep, Maintenance, Start, Turn, Waits, World, actor_at, empty_hand}
 use Rattle.nv_machine.proofs.OverEvents.{runs_inside}
 use Rattle.nv_machine.proofs.FiledTurns.{CanList, Listed, OnListed, list_after, turn_listed, waits_listed}
 use Rattle.nv_machine.proofs.FromScratch.{all_numbers}
@@ -48,16 +48,16 @@ can_list g w actor r known is = record {
   own : CommitsIn w.shared (Some r)
   own = subst (λ (running : Option Running). CommitsIn w.shared running) is (known.order.each actor)
 
-  at : (step : SnapshotStep) → r.next ≡ Snapshots step → h ≡ empty_hand
+  at : (step : MaintenanceStep) → r.next ≡ Maintenance step → h ≡ empty_hand
   at step e =
       let hand : HandOf g h (Some r) = subst (λ (o : Option Running). HandOf g h o) is (known.numbers.hands actor) in
-      let here : HandAt g (Snapshots step) h r = subst (λ (k : Next). HandAt g k h r) e hand.0 in here
+      let here : HandAt g (Maintenance step) h r = subst (λ (k : Next). HandAt g k h r) e hand.0 in here
 
-  slots : (step : SnapshotStep) → r.next ≡ Snapshots step → r.slots ≡ slots_on step
+  slots : (step : MaintenanceStep) → r.next ≡ Maintenance step → r.slots ≡ slots_on step
   slots step e =
       let has : HasSlots (length w.shared.owners) (Some r) =
       subst (λ (o : Option Running). HasSlots (length w.shared.owners) o) is (known.locks.each actor).slots in
-      let inside : IsInside (Snapshots step) r = subst (λ (k : Next). IsInside k r) e has.1 in inside
+      let inside : IsInside (Maintenance step) r = subst (λ (k : Next). IsInside k r) e has.1 in inside
 
 -- ---- events
 

@@ -9,11 +9,11 @@ use Rattle.nv_calls.specs.AllCalls.{effect}
 use Rattle.nv_calls.specs.Plain.{PlainNode, node_in, nodes_after}
 use Rattle.nv_machine.specs.Effects.{AreSound}
 use Rattle.nv_machine.specs.FitsNow.{bytes_in}
-use Rattle.nv_machine.specs.PlainRun.{Commits, Deed, Plain, actor_of, deed_of, done, keeps_nodes, plain_after, plain_of, plain_step, OnSnapshots, after_step}
+use Rattle.nv_machine.specs.PlainRun.{Commits, Deed, Plain, actor_of, deed_of, done, keeps_nodes, plain_after, plain_of, plain_step, Maintains, after_step}
 use Rattle.nv_machine.specs.Settled.{settled_nodes}
 use Rattle.nv_machine.specs.Starts.{IsStart}
 use Rattle.nv_machine.specs.Step.{after, step}
-use Rattle.nv_machine.specs.World.{Event, Go, Make, Running, SnapshotStep, World, actor_at}
+use Rattle.nv_machine.specs.World.{Event, Go, Make, Running, MaintenanceStep, World, actor_at}
 use Rattle.nv_machine.proofs.CommitNumbers.{events_counted}
 use Rattle.nv_machine.proofs.CommitEffects.{point_effect}
 use Rattle.nv_machine.proofs.OverEvents.{by_points}
@@ -22,8 +22,8 @@ use Rattle.nv_machine.proofs.LogsKeptRuns.{nodes_stay}
 
 same_done : (d : Deed) (running : Option Running) (p : Plain) → keeps_nodes d ≡ true → (done d running p).nodes ≡ p.nodes
 same_done Commits running p e = absurd (true≢false (sym e))
-same_done (OnSnapshots what) running p e = step_nodes what p where
-  step_nodes : (what : SnapshotStep) (p : Plain) → (after_step what p).nodes ≡ p.nodes
+same_done (Maintains what) running p e = step_nodes what p where
+  step_nodes : (what : MaintenanceStep) (p : Plain) → (after_step what p).nodes ≡ p.nodes
   step_nodes Make p = refl
   step_nodes other p = refl
 same_done other running p e = refl

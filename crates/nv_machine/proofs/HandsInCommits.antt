@@ -18,11 +18,11 @@ use Rattle.nv_machine.specs.Hands.{AreGiven, FitsFile, HandAt, HandOf, HasPlanne
 use Rattle.nv_machine.specs.Kinds.{asked_list, blocks_in, blocks_left, entries_for, first_killed, given, retired_cell, with_erased, with_freed, with_given}
 use Rattle.nv_machine.specs.Reads.{slot_at, written_slots}
 use Rattle.nv_machine.specs.Sequence.{appending, closing, opening, publishing, retiring}
-use Rattle.nv_machine.specs.Snapshots.{snapshot_turn}
+use Rattle.nv_machine.specs.Maintenance.{maintenance_turn}
 use Rattle.nv_machine.specs.Step.{kind_turn}
-use Rattle.nv_machine.specs.World.{Answers, Append, Back, Check, Close, Drop, Ending, Enter, Give, HandState, Leave, Lock, LockPicked, Look, Make, Next, Number, Open, Pick, Pin, Publish, Ready, Retire, Running, Shared, Show, SnapshotStep, Snapshots, TakeBlocks, TakePages, Unlock, Unpin, Visit, empty_hand, go_to, list_at}
+use Rattle.nv_machine.specs.World.{Answers, Append, Back, Check, Close, Drop, Ending, Enter, Give, HandState, Leave, Lock, LockPicked, Look, Make, Next, Number, Open, Pick, Pin, Publish, Ready, Retire, Running, Shared, Show, MaintenanceStep, Maintenance, TakeBlocks, TakePages, Unlock, Unpin, Visit, empty_hand, go_to, list_at}
 use Rattle.nv_machine.proofs.BlockCounts.{given_all}
-use Rattle.nv_machine.proofs.StepWork.{back_work, work, snapshot_work}
+use Rattle.nv_machine.proofs.StepWork.{back_work, work, maintenance_work}
 use Rattle.nv_machine.proofs.HandsAfterSteps.{GoesHome, HandGoes, HandTold, OnHand, denied_hand, ends_hand, is_empty, lasts_hand, locking_hand, looking_hand, number_hand, overs_hand, rests_hand}
 use Rattle.nv_machine.proofs.HandsInTakings.{check_fits, check_overtaken, first_below, ready_planned}
 use Rattle.nv_machine.proofs.Homes.{all_given}
@@ -31,7 +31,7 @@ use Rattle.nv_machine.proofs.PartPlaces.{entry_blocks}
 use Rattle.nv_machine.proofs.LoopSteps.{by_test, either}
 use Rattle.nv_machine.proofs.StepWays.{is_overtaken, noted, take_sum}
 use Rattle.nv_machine.proofs.StepWalk.{WaysOf, counted, walk_of}
-use Rattle.nv_machine.proofs.SnapshotWalk.{goes_next, next_on, slots_next, snapshot_walk, tells}
+use Rattle.nv_machine.proofs.MaintenanceWalk.{goes_next, next_on, slots_next, maintenance_walk, tells}
 
 -- ---- along a commit
 
@@ -170,10 +170,10 @@ CanGive g other s h = Unit {0}
 
 -- ---- calls on snapshots
 
-snapshot_hand : (g : GeometryNumbers) (step : SnapshotStep) (a : ℕ) (granted : Bool) (s : Shared) (h : HandState) (r : Running)
-    → AllGoHome g (Snapshots step) s h r g.block a → h ≡ empty_hand → (is_going (Snapshots step) ≡ true → r.ending ≡ Answers)
-    → OnHand g (snapshot_turn step a granted s h r)
-snapshot_hand g step a granted s h r goes empty going = snapshot_walk (HandGoes g) HandTold a s h r step granted (record {
+snapshot_hand : (g : GeometryNumbers) (step : MaintenanceStep) (a : ℕ) (granted : Bool) (s : Shared) (h : HandState) (r : Running)
+    → AllGoHome g (Maintenance step) s h r g.block a → h ≡ empty_hand → (is_going (Maintenance step) ≡ true → r.ending ≡ Answers)
+    → OnHand g (maintenance_turn step a granted s h r)
+snapshot_hand g step a granted s h r goes empty going = maintenance_walk (HandGoes g) HandTold a s h r step granted (record {
   stops = λ fault cause. denied_hand g s h goes.0 (ap (λ (x : HandState). x.killed) empty);
   goes = λ on clear. moves step on going;
   told = λ on clear. told_empty step on;
@@ -181,22 +181,22 @@ snapshot_hand g step a granted s h r goes empty going = snapshot_walk (HandGoes 
   over = λ draining picked on. ends_hand g _ _ goes.1 (none_killed step) (λ over. absurd (false≢true (ap is_overtaken over)));
   none = λ draining on nothing. empty;
 }) where
-  moves : (k : SnapshotStep) → goes_next k ≡ true → (is_going (Snapshots k) ≡ true → r.ending ≡ Answers)
-      → HandGoes g (snapshot_work k a s h).shared (snapshot_work k a s h).hand
-      (record r { slots = slots_next k s r; next = Snapshots (next_on k s) })
+  moves : (k : MaintenanceStep) → goes_next k ≡ true → (is_going (Maintenance k) ≡ true → r.ending ≡ Answers)
+      → HandGoes g (maintenance_work k a s h).shared (maintenance_work k a s h).hand
+      (record r { slots = slots_next k s r; next = Maintenance (next_on k s) })
   moves (Pin snapshot) on going = (empty, λ e. going refl)
   moves (Show snapshot showing) on going = (empty, λ e. going refl)
   moves (Pick draining) on going = (empty, λ e. going refl)
   moves (LockPicked draining picked) on going = (empty, λ e. going refl)
   moves other on going = absurd (false≢true on)
 
-  told_empty : (k : SnapshotStep) → tells k ≡ true → (snapshot_work k a s h).hand ≡ empty_hand
+  told_empty : (k : MaintenanceStep) → tells k ≡ true → (maintenance_work k a s h).hand ≡ empty_hand
   told_empty Make on = empty
   told_empty (Drop snapshot) on = empty
   told_empty (Unpin snapshot seen) on = empty
   told_empty other on = absurd (false≢true on)
 
-  none_killed : (k : SnapshotStep) → (snapshot_work k a s h).hand.killed ≡ []
+  none_killed : (k : MaintenanceStep) → (maintenance_work k a s h).hand.killed ≡ []
   none_killed k =
       let none : h.killed ≡ [] = ap (λ (x : HandState). x.killed) empty in
       let x = removal_on k s h in
@@ -284,12 +284,12 @@ module _ (g : GeometryNumbers) (a : ℕ) (granted : Bool) (s : Shared) (h : Hand
     λ free passed lacks. denied_hand g s h goes.0 (ap (λ (x : HandState). x.killed) at),
     λ free passed. at,
   )
-  ways (Snapshots step) b goes give at going = tt
+  ways (Maintenance step) b goes give at going = tt
 
 pub hand_kept : (g : GeometryNumbers) (k : Next) (a : ℕ) (granted : Bool) (s : Shared) (h : HandState) (r : Running) → 0 < g.block
     → g.blocks < 2 ^ 64 → Before a s k r → AllGoHome g k s h r g.block a → CanGive g k s h → HandAt g k h r → (is_going k ≡ true
     → r.ending ≡ Answers)
     → OnHand g (kind_turn k g.block a granted s h r)
-hand_kept g (Snapshots step) a granted s h r some small b goes give at going = snapshot_hand g step a granted s h r goes at going
+hand_kept g (Maintenance step) a granted s h r some small b goes give at going = snapshot_hand g step a granted s h r goes at going
 hand_kept g other a granted s h r some small b goes give at going =
     walk_of (HandGoes g) HandTold g.block a s h r other granted (ways g a granted s h r some small other b goes give at going) refl

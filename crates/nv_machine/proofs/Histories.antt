@@ -12,23 +12,23 @@ use Rattle.nv_calls.specs.declared.answer.Answer.{Answer}
 use Rattle.nv_calls.specs.declared.answer.Answer.TheVariants as answers
 use Rattle.nv_machine.specs.Happened.{added, all_noted, happened}
 use Rattle.nv_machine.specs.Locks.{commits_at, slots_on}
-use Rattle.nv_machine.specs.PlainRun.{Commits, Deed, Nothing, Numbers, OnSnapshots, actor_of, deed, deed_of, done_on, entered}
+use Rattle.nv_machine.specs.PlainRun.{Commits, Deed, Nothing, Numbers, Maintains, actor_of, deed, deed_of, done_on, entered}
 use Rattle.nv_machine.specs.Reads.{written_slots}
 use Rattle.nv_machine.specs.Sequence.{appending}
-use Rattle.nv_machine.specs.Snapshots.{snapshot_turn}
+use Rattle.nv_machine.specs.Maintenance.{maintenance_turn}
 use Rattle.nv_machine.specs.Starts.{IsStart}
 use Rattle.nv_machine.specs.Step.{after, kind_turn, step, turned}
-use Rattle.nv_machine.specs.World.{Back, Drop, Ending, Ends, Enter, Event, Go, HandState, Make, Moves, Next, Number, Publish, Running, Shared, SnapshotStep, Snapshots, Start, Turn, Unpin, Waits, World, actor_at, empty_hand}
+use Rattle.nv_machine.specs.World.{Back, Drop, Ending, Ends, Enter, Event, Go, HandState, Make, Moves, Next, Number, Publish, Running, Shared, MaintenanceStep, Maintenance, Start, Turn, Unpin, Waits, World, actor_at, empty_hand}
 use Rattle.nv_machine.proofs.CommitNumbers.{enters_appending}
 use Rattle.nv_machine.proofs.LoopSteps.{goes_on}
 use Rattle.nv_machine.proofs.OverEvents.{go_deed, start_deed, turn_at}
 use Rattle.nv_machine.proofs.SnapRuns.{all_bare}
 use Rattle.nv_machine.proofs.SnapSteps.{AreBare, IsBare}
-use Rattle.nv_machine.proofs.SnapshotWalk.{is_denied, tells, told_on}
-use Rattle.nv_machine.proofs.SnapshotsAlone.{alone_walk}
+use Rattle.nv_machine.proofs.MaintenanceWalk.{is_denied, tells, told_on}
+use Rattle.nv_machine.proofs.MaintenanceAlone.{alone_walk}
 use Rattle.nv_machine.proofs.StepWays.{After, Closes, by_last, is_last}
 use Rattle.nv_machine.proofs.StepWalk.{walk}
-use Rattle.nv_machine.proofs.StepWork.{by_back, by_number, snapshot_work, work}
+use Rattle.nv_machine.proofs.StepWork.{by_back, by_number, maintenance_work, work}
 use Rattle.nv_machine.proofs.WorkKeeps.{AfterTurn, turn_keeps}
 
 -- the history of what is shared, with what a deed adds
@@ -58,36 +58,36 @@ same_history d a s t none on = go t on where
 
 -- ---- the steps of calls on snapshots
 
-abbrev OnStep : SnapshotStep → ℕ → Shared → Turn → Type 0
+abbrev OnStep : MaintenanceStep → ℕ → Shared → Turn → Type 0
 OnStep step a s t = OnHistory (done_on step t) a s t
 
 module _ (a : ℕ) (granted : Bool) (s : Shared) (h : HandState) (r : Running) (empty : h ≡ empty_hand) where
-  work_told : (step : SnapshotStep) → Tells (OnSnapshots step) a s (snapshot_work step a s h).shared
+  work_told : (step : MaintenanceStep) → Tells (Maintains step) a s (maintenance_work step a s h).shared
   work_told Make = refl
   work_told (Drop snapshot) = refl
   work_told other = refl
 
-  refused_told : (step : SnapshotStep) (fault : Fault) → is_denied step ≡ true → OnStep step a s (Ends (Err fault) s h)
+  refused_told : (step : MaintenanceStep) (fault : Fault) → is_denied step ≡ true → OnStep step a s (Ends (Err fault) s h)
   refused_told (Unpin snapshot seen) fault is = absurd (false≢true is)
   refused_told other fault is = refl
 
-  answered_told : (step : SnapshotStep) → tells step ≡ true
-      → OnStep step a s (Ends (told_on step s r) (snapshot_work step a s h).shared (snapshot_work step a s h).hand)
+  answered_told : (step : MaintenanceStep) → tells step ≡ true
+      → OnStep step a s (Ends (told_on step s r) (maintenance_work step a s h).shared (maintenance_work step a s h).hand)
   answered_told Make is = refl
   answered_told (Drop snapshot) is = refl
   answered_told (Unpin snapshot seen) is = refl
   answered_told other is = absurd (false≢true is)
 
-  step_told : (step : SnapshotStep) → r.slots ≡ slots_on step → OnStep step a s (snapshot_turn step a granted s h r)
+  step_told : (step : MaintenanceStep) → r.slots ≡ slots_on step → OnStep step a s (maintenance_turn step a granted s h r)
   step_told step slots = alone_walk (OnStep step a s) step a granted s h r empty slots (record {
     waits = refl;
     refused = refused_told step;
     goes = λ on clear. work_told step;
     told = λ on clear. answered_told step on;
-    denied = λ snapshot showing on. subst (λ (x : SnapshotStep). Tells (OnSnapshots x) a s s) (sym on) refl;
+    denied = λ snapshot showing on. subst (λ (x : MaintenanceStep). Tells (Maintains x) a s s) (sym on) refl;
     over = λ draining picked on. work_told step;
     none = λ draining on nothing.
-        subst (λ (x : SnapshotStep). OnStep x a s (Ends (Ok (answers.Count draining.released)) s h)) (sym on) refl;
+        subst (λ (x : MaintenanceStep). OnStep x a s (Ends (Ok (answers.Count draining.released)) s h)) (sym on) refl;
   })
 
 -- ---- enter
@@ -155,7 +155,7 @@ module _ (block a : ℕ) (granted : Bool) (s : Shared) (h : HandState) (r : Runn
   kind_told (Publish place) bare = file_told (Publish place) refl (publish_none (nat_lt 1 (length (written_slots r))) a s)
   kind_told Back bare = file_told Back
       (by_back (λ (u : Shared) (x : HandState). u.book.history ≡ s.book.history) s h (λ numbers ino. refl)) refl
-  kind_told (Snapshots step) bare = step_told a granted s h r bare.0 step bare.1
+  kind_told (Maintenance step) bare = step_told a granted s h r bare.0 step bare.1
   kind_told other bare = file_told other refl refl
 
 -- ---- events

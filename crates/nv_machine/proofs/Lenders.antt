@@ -2,12 +2,12 @@
 use Rattle.std.proofs.Common.{ℕ, refl}
 use Rattle.nv_machine.specs.Frame.{lent, lent_on}
 use Rattle.nv_machine.specs.Lenders.{IsLentByTable}
-use Rattle.nv_machine.specs.World.{Make, Next, Running, SnapshotStep, Snapshots}
+use Rattle.nv_machine.specs.World.{Make, Next, Running, MaintenanceStep, Maintenance}
 
-by_step : (step : SnapshotStep) → IsLentByTable (Snapshots step) (lent_on step)
+by_step : (step : MaintenanceStep) → IsLentByTable (Maintenance step) (lent_on step)
 by_step Make = record { list = refl; pool = refl; cell = refl; lock = refl; book = refl; commit_lock = refl }
 by_step other = record { list = refl; pool = refl; cell = refl; lock = refl; book = refl; commit_lock = refl }
 
 pub by_table : (next : Next) (cpus actor : ℕ) (r : Running) → IsLentByTable next (lent next cpus actor r)
-by_table (Snapshots step) cpus actor r = by_step step
+by_table (Maintenance step) cpus actor r = by_step step
 by_table other cpus actor r = record { list = refl; pool = refl; cell = refl; lock = refl; book = refl; commit_lock = refl }

@@ -12,8 +12,8 @@ pub mod Lists
 pub mod LocksAlongCalls
 pub mod LocksHeld
 pub mod StepFrames
-pub mod SnapshotCalls
-pub mod SnapshotTurns
+pub mod MaintenanceCalls
+pub mod MaintenanceTurns
 pub mod BookRecords
 pub mod SlotBounds
 pub mod FileStepBounds
@@ -31,7 +31,7 @@ pub mod Occurrences
 pub mod StepWork
 pub mod StepWays
 pub mod StepWalk
-pub mod SnapshotWalk
+pub mod MaintenanceWalk
 pub mod OverEvents
 pub mod WorkKeeps
 pub mod UnlentSteps
@@ -53,7 +53,7 @@ pub mod FromScratch
 pub mod CellPages
 pub mod CellChanges
 pub mod CellSteps
-pub mod SnapshotsAlone
+pub mod MaintenanceAlone
 pub mod Journals
 pub mod OpenJournals
 pub mod LogsKept
@@ -114,7 +114,7 @@ pub mod DecidedWrites
 pub mod DecidedNext
 pub mod DecidedTurns
 pub mod DecidedRuns
-pub mod DecidedOnSnapshots
+pub mod DecidedMaintenance
 pub mod HeldLaw
 pub mod ErasedCells
 pub mod GoneTurns

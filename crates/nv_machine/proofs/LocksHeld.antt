@@ -11,15 +11,15 @@ use Rattle.nv_machine.specs.Locks.{AreSlots, HoldsIts, IsHeldByOther, IsInside, 
 use Rattle.nv_calls.specs.declared.looked.Looked.{Looked}
 use Rattle.nv_machine.specs.Reads.{is_written, slot_at, slots_of, written_slots}
 use Rattle.nv_machine.specs.Sequence.{locking}
-use Rattle.nv_machine.specs.Snapshots.{copies_at, first_showing, seen_on, show_or_unpin, visited}
+use Rattle.nv_machine.specs.Maintenance.{copies_at, first_showing, seen_on, show_or_unpin, visited}
 use Rattle.nv_machine.specs.Step.{kind_turn, with_made}
-use Rattle.nv_machine.specs.World.{Append, Back, Check, Close, Drop, Enter, Give, HandState, Leave, Lock, LockPicked, Look, Make, Next, Number, Open, Pick, Pin, Publish, Ready, Refuses, Release, Retire, Running, Shared, Show, Showing, SnapshotStep, Snapshots, TakeBlocks, TakePages, Unlock, Unpin, Visit, go_to, owner_at, with_numbers, with_owner}
+use Rattle.nv_machine.specs.World.{Append, Back, Check, Close, Drop, Enter, Give, HandState, Leave, Lock, LockPicked, Look, Make, Next, Number, Open, Pick, Pin, Publish, Ready, Refuses, Release, Retire, Running, Shared, Show, Showing, MaintenanceStep, Maintenance, TakeBlocks, TakePages, Unlock, Unpin, Visit, go_to, owner_at, with_numbers, with_owner}
 use Rattle.nv_machine.proofs.StepWork.{back_work, work, number_work}
 use Rattle.nv_machine.proofs.Lists.{drop_all, has_at, has_drop, has_filter, self, slot_inside, slots_are, take_apart}
 use Rattle.nv_machine.proofs.LocksAlongCalls.{Holds, LocksGo, LocksLeft, LocksTold, OnLocks, apart, appending_holds, ends_locks, holds_as, idle_as, lasts_locks, locked_holds, locked_left, locking_holds, looking_holds, others_not, overs_locks, publishing_holds, rests_locks, retiring_holds, same_locks, unlocked_holds, unlocked_left}
 use Rattle.nv_machine.proofs.StepWays.{EndsBy, Going, IsBlocked, IsBlockedOn, Telling, by_taking, is_taking, noted, numbered_slots}
 use Rattle.nv_machine.proofs.StepWalk.{WaysOf, any_takes, walk_by}
-use Rattle.nv_machine.proofs.SnapshotWalk.{StepWaysOf, step_walk_by}
+use Rattle.nv_machine.proofs.MaintenanceWalk.{StepWaysOf, step_walk_by}
 use Rattle.nv_reader.specs.Walk as walk
 
 -- ---- the kinds
@@ -60,7 +60,7 @@ as_before a s t e f = record {
 
 -- ---- what it waits for
 
-waits_on : (a : ℕ) (s : Shared) (r : Running) (step : SnapshotStep) → Before a s (Snapshots step) r → IsBlockedOn step s → WaitsOn s a step
+waits_on : (a : ℕ) (s : Shared) (r : Running) (step : MaintenanceStep) → Before a s (Maintenance step) r → IsBlockedOn step s → WaitsOn s a step
 waits_on a s r (Show snapshot showing) b held = not_mine a _ held.0 held.1 (b.mine.owners (visited showing.visits).ino)
 waits_on a s r (LockPicked draining picked) b held = not_mine a _ held.0 held.1 (b.mine.owners picked.ino)
 waits_on a s r (Release draining picked) b held = held
@@ -72,7 +72,7 @@ waits_for a s r (Lock place) b held =
     not_mine a _ held.0 held.1 (b.mine.owners (slot_at r.slots place) ∙ take_apart place r.slots b.are.rising b.inside)
 waits_for a s r Enter b held = not_mine a s.holder held.0 held.1 b.mine.holder
 waits_for a s r Visit b held = not_mine a _ held.0 held.1 (b.mine.owners _)
-waits_for a s r (Snapshots step) b held = waits_on a s r step b held
+waits_for a s r (Maintenance step) b held = waits_on a s r step b held
 waits_for a s r other b held = held
 
 -- ---- every kind
@@ -111,7 +111,7 @@ module _ (a : ℕ) (granted : Bool) (s : Shared) (h : HandState) (r : Running) w
   -- the next step of a show holds nothing
   showing_locks : (t : Shared) (snapshot left : ℕ) (visits : List walk.Visit) (showing : Showing) → LocksLeft a s t → r.slots ≡ []
       → Holds t a [] false → AreSlots (length t.owners) r.slots
-      → Goes t h (go_to (Snapshots (show_or_unpin left visits snapshot showing)) r)
+      → Goes t h (go_to (Maintenance (show_or_unpin left visits snapshot showing)) r)
   showing_locks t snapshot zero visits showing left none mine are = (left, holds_as t a _ [] false mine refl refl are none)
   showing_locks t snapshot (suc n) [] showing left none mine are = (left, holds_as t a _ [] false mine refl refl are none)
   showing_locks t snapshot (suc n) (visit ∷ visits) showing left none mine are = (left, holds_as t a _ [] false mine refl refl are none)
@@ -121,7 +121,7 @@ module _ (a : ℕ) (granted : Bool) (s : Shared) (h : HandState) (r : Running) w
       → EndsBy Goes Tells r.slots s h r (Refuses fault)
   none_held none mine are = ends_locks (same_locks a s) (subst (λ (l : List ℕ). Holds s a l false) (sym none) mine) are
 
-  step_ways : (step : SnapshotStep) → Before a s (Snapshots step) r → StepWaysOf Goes Tells step a granted s h r
+  step_ways : (step : MaintenanceStep) → Before a s (Maintenance step) r → StepWaysOf Goes Tells step a granted s h r
   step_ways Make b = (
     λ fault by. none_held b.inside b.mine b.are,
     λ clear. (as_before a s _ refl refl, idle_as _ a (record { owners = b.mine.owners; holder = b.mine.holder })),
@@ -243,11 +243,11 @@ module _ (a : ℕ) (granted : Bool) (s : Shared) (h : HandState) (r : Running) w
     λ free passed lacks. none_held b.inside b.mine b.are,
     λ free passed. (same_locks a s, idle_as s a b.mine),
   )
-  ways (Snapshots step) block b = tt
+  ways (Maintenance step) block b = tt
 
 pub locks_kept : (k : Next) (block a : ℕ) (granted : Bool) (s : Shared) (h : HandState) (r : Running) → Before a s k r
     → OnLocks a s (WaitsFor s a r k) (kind_turn k block a granted s h r)
-locks_kept (Snapshots step) block a granted s h r b =
+locks_kept (Maintenance step) block a granted s h r b =
     step_walk_by (WaitsOn s a step) (LocksGo a s) (LocksTold a s) a s h r step granted (waits_on a s r step b)
     (step_ways a granted s h r step b)
 locks_kept other block a granted s h r b =
@@ -278,7 +278,7 @@ self_or : (n : ℕ) → has (n ∷ []) n ≡ true
 self_or n = ap (λ (b : Bool). b || false) (self n)
 
 -- the slot of a picked record
-lent_on_cell : (step : SnapshotStep) (a : ℕ) (s : Shared) (r : Running) → Before a s (Snapshots step) r → (ino : ℕ)
+lent_on_cell : (step : MaintenanceStep) (a : ℕ) (s : Shared) (r : Running) → Before a s (Maintenance step) r → (ino : ℕ)
     → (lent_on step).cell ≡ Some ino → owner_at s ino ≡ Some a
 lent_on_cell (Release draining picked) a s r b ino e = some_cell a picked.ino ino s
     (owner_is a (owner_at s picked.ino)
@@ -293,7 +293,7 @@ lent_cell (Publish place) cpus a s r b ino e = some_cell a (slot_at (written_slo
     (written_owned a place s r b.mine b.inside) e
 lent_cell (Retire place) cpus a s r b ino e = some_cell a (slot_at (written_slots r) place) ino s
     (written_owned a place s r b.mine b.inside) e
-lent_cell (Snapshots step) cpus a s r b ino e = lent_on_cell step a s r b ino e
+lent_cell (Maintenance step) cpus a s r b ino e = lent_on_cell step a s r b ino e
 lent_cell other cpus a s r b ino e = absurd (none-some ino e)
 
 pub lent_holder : (k : Next) (a : ℕ) (s : Shared) (r : Running) → Before a s k r → commits_at k ≡ true → s.holder ≡ Some a

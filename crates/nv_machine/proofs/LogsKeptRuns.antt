@@ -11,7 +11,7 @@ use Rattle.nv_machine.specs.Locks.{AreLocks, HoldsIts, commits_at, commits_by, h
 use Rattle.nv_machine.specs.Order.{IsInOrder}
 use Rattle.nv_machine.specs.PlainRun.{Deed, deed_by, deed_of, keeps_nodes}
 use Rattle.nv_machine.specs.Reads.{is_written, slots_of, written_slots}
-use Rattle.nv_machine.specs.Sequence.{Beginning, Locks, OnSnapshots, Visits, beginning, begun, nothing_looked}
+use Rattle.nv_machine.specs.Sequence.{Beginning, Locks, Maintains, Visits, beginning, begun, nothing_looked}
 use Rattle.nv_machine.specs.Settled.{settled_nodes, settled_tail}
 use Rattle.nv_machine.specs.Shapes.{AreShaped}
 use Rattle.nv_machine.specs.Step.{after, step, turned}
@@ -207,7 +207,7 @@ begun_knows : (b : Beginning) (block cpu : ℕ) (s : Shared) (c : Call) (h : Han
 begun_knows Locks block cpu s c h none =
     locking_knows block cpu 0 (slots_of s None nothing_looked c) s h (begun Locks s c) none refl
 begun_knows Visits block cpu s c h none = tt
-begun_knows (OnSnapshots what) block cpu s c h none = tt
+begun_knows (Maintains what) block cpu s c h none = tt
 begun_knows other block cpu s c h none = (none, refl)
 
 empty_nothing : (h : HandState) → h ≡ empty_hand → HasNothing h

@@ -5,13 +5,13 @@ use Rattle.nv_base.specs.declared.fault.Fault.{Fault}
 use Rattle.nv_calls.specs.declared.answer.Answer.{Answer}
 use Rattle.nv_machine.specs.Kinds.{end_turn}
 use Rattle.nv_machine.specs.Sequence.{sequel}
-use Rattle.nv_machine.specs.Snapshots.{snapshot_turn}
+use Rattle.nv_machine.specs.Maintenance.{maintenance_turn}
 use Rattle.nv_machine.specs.Step.{ending_at, kind_turn}
-use Rattle.nv_machine.specs.World.{Back, Check, Draining, Ending, Enter, Give, HandState, Leave, Lock, Look, Next, Pick, Ready, Running, Shared, Show, Showing, SnapshotStep, Snapshots, TakeBlocks, TakePages, Turn, Unlock, Unpin, Visit}
+use Rattle.nv_machine.specs.World.{Back, Check, Draining, Ending, Enter, Give, HandState, Leave, Lock, Look, Next, Pick, Ready, Running, Shared, Show, Showing, MaintenanceStep, Maintenance, TakeBlocks, TakePages, Turn, Unlock, Unpin, Visit}
 use Rattle.nv_machine.proofs.LoopSteps.{goes_on, is_on_files, sequel_on}
 use Rattle.nv_machine.proofs.StepWays.{After, Closes, EndsBy, Going, IsClear, IsClearOn, Takes, Telling, any_ends, end_goes, is_last, is_taker, is_taking, noted, by_last, by_taking}
 use Rattle.nv_machine.proofs.StepWalk.{WaysOf, Works, last_walk, walk, walk_of}
-use Rattle.nv_machine.proofs.SnapshotWalk.{goes_next, next_on, snapshot_walk}
+use Rattle.nv_machine.proofs.MaintenanceWalk.{goes_next, next_on, maintenance_walk}
 
 pub last_on : (k : Next) → is_last k ≡ true → is_on_files k ≡ true
 last_on = by_last (λ (k : Next). is_on_files k ≡ true) (λ place. refl) (λ cpu. refl) refl
@@ -24,7 +24,7 @@ abbrev pub IsNext : (Next → Type 0) → Turn → Type 0
 IsNext P t = After (λ (s : Shared) (h : HandState) (q : Running). P q.next) (λ (x : Result Answer Fault) (s : Shared) (h : HandState). Unit {0}) t
 
 module _ (P : Next → Type 0) (last : (k : Next) → is_last k ≡ true → P k) (look : P (Look 0))
-    (picks : (draining : Draining) → P (Snapshots (Pick draining))) where
+    (picks : (draining : Draining) → P (Maintenance (Pick draining))) where
   closes_next : (s : Shared) (h : HandState) (r : Running) (e : Ending)
       → Closes (λ (s : Shared) (h : HandState) (q : Running). P q.next) (λ (x : Result Answer Fault) (s : Shared) (h : HandState). Unit {0}) s h r e
   closes_next s h r e = record { last = last; told = tt; again = λ n over some. look; picks = λ d left drains some. picks _ }
@@ -46,11 +46,11 @@ module _ (P : Next → Type 0) (last : (k : Next) → is_last k ≡ true → P k
   }) is
 
   -- and one of a call on snapshots
-  pub step_next : (step : SnapshotStep) (a : ℕ) (granted : Bool) (s : Shared) (h : HandState) (r : Running)
-      → (goes_next step ≡ true → IsClearOn step s → P (Snapshots (next_on step s)))
-      → ((snapshot : ℕ) (showing : Showing) → step ≡ Show snapshot showing → P (Snapshots (Unpin snapshot [])))
-      → IsNext P (snapshot_turn step a granted s h r)
-  step_next step a granted s h r goes denied = snapshot_walk _ _ a s h r step granted (record {
+  pub step_next : (step : MaintenanceStep) (a : ℕ) (granted : Bool) (s : Shared) (h : HandState) (r : Running)
+      → (goes_next step ≡ true → IsClearOn step s → P (Maintenance (next_on step s)))
+      → ((snapshot : ℕ) (showing : Showing) → step ≡ Show snapshot showing → P (Maintenance (Unpin snapshot [])))
+      → IsNext P (maintenance_turn step a granted s h r)
+  step_next step a granted s h r goes denied = maintenance_walk _ _ a s h r step granted (record {
     stops = λ fault cause. any_ends (closes_next s h r _);
     goes = goes;
     told = λ on clear. tt;
@@ -59,7 +59,7 @@ module _ (P : Next → Type 0) (last : (k : Next) → is_last k ≡ true → P k
     none = λ draining on empty. tt;
   })
 
-module _ (P : Next → Type 0) (files : (k : Next) → is_on_files k ≡ true → P k) (picks : (draining : Draining) → P (Snapshots (Pick draining))) where
+module _ (P : Next → Type 0) (files : (k : Next) → is_on_files k ≡ true → P k) (picks : (draining : Draining) → P (Maintenance (Pick draining))) where
   pub end_on : (slots : List ℕ) (e : Ending) (s : Shared) (h : HandState) (r : Running) → IsNext P (end_turn slots e s h r)
   end_on slots e s h r = end_next P (λ next last. files next (last_on next last)) (files (Look 0) refl) picks slots e s h r
 
@@ -70,10 +70,10 @@ module _ (P : Next → Type 0) (files : (k : Next) → is_on_files k ≡ true �
       (λ on. let q = noted k block s h r in files (sequel q k) (sequel_on k q on))
       (λ on next taking. files next (taking_on next taking)) is
 
-  pub snapshots_next : (step : SnapshotStep) (a : ℕ) (granted : Bool) (s : Shared) (h : HandState) (r : Running)
-      → (goes_next step ≡ true → IsClearOn step s → P (Snapshots (next_on step s)))
-      → ((snapshot : ℕ) (showing : Showing) → step ≡ Show snapshot showing → P (Snapshots (Unpin snapshot [])))
-      → IsNext P (snapshot_turn step a granted s h r)
+  pub snapshots_next : (step : MaintenanceStep) (a : ℕ) (granted : Bool) (s : Shared) (h : HandState) (r : Running)
+      → (goes_next step ≡ true → IsClearOn step s → P (Maintenance (next_on step s)))
+      → ((snapshot : ℕ) (showing : Showing) → step ≡ Show snapshot showing → P (Maintenance (Unpin snapshot [])))
+      → IsNext P (maintenance_turn step a granted s h r)
   snapshots_next step a granted s h r goes denied =
       step_next P (λ next last. files next (last_on next last)) (files (Look 0) refl) picks step a granted s h r goes denied
 
@@ -96,7 +96,7 @@ pub record IsQuiet (X : Known) : Type 0 where
   pub give : (cpu : ℕ) (s : Shared) (h : HandState) (r : Running) → X (Give cpu) s h r
   pub back : (s : Shared) (h : HandState) (r : Running) → X Back s h r
   pub look : (s : Shared) (h : HandState) (r : Running) → X (Look 0) s h r
-  pub steps : (step : SnapshotStep) (s : Shared) (h : HandState) (r : Running) → X (Snapshots step) s h r
+  pub steps : (step : MaintenanceStep) (s : Shared) (h : HandState) (r : Running) → X (Maintenance step) s h r
 
 -- what is left to say of each kind
 abbrev pub QuietWays : Known → Next → ℕ → ℕ → Shared → HandState → Running → Type 0
@@ -109,7 +109,7 @@ QuietWays X (Unlock place) block a s h r = Unit {0}
 QuietWays X (Give cpu) block a s h r = Unit {0}
 QuietWays X Back block a s h r = Unit {0}
 QuietWays X Visit block a s h r = Unit {0}
-QuietWays X (Snapshots step) block a s h r = Unit {0}
+QuietWays X (Maintenance step) block a s h r = Unit {0}
 QuietWays X other block a s h r = Works (KnowsNext X) other block a s h r
 
 module _ (X : Known) (quiet : IsQuiet X) where
@@ -125,9 +125,9 @@ module _ (X : Known) (quiet : IsQuiet X) where
   pub quiet_ends : {slots : List ℕ} {s : Shared} {h : HandState} {r : Running} {e : Ending} → EndsBy (KnowsNext X) Untold slots s h r e
   quiet_ends = any_ends quiet_closes
 
-  pub quiet_step : (step : SnapshotStep) (a : ℕ) (granted : Bool) (s : Shared) (h : HandState) (r : Running)
-      → OnKnown X (snapshot_turn step a granted s h r)
-  quiet_step step a granted s h r = snapshot_walk (KnowsNext X) Untold a s h r step granted (record {
+  pub quiet_step : (step : MaintenanceStep) (a : ℕ) (granted : Bool) (s : Shared) (h : HandState) (r : Running)
+      → OnKnown X (maintenance_turn step a granted s h r)
+  quiet_step step a granted s h r = maintenance_walk (KnowsNext X) Untold a s h r step granted (record {
     stops = λ fault cause. any_ends (quiet_closes);
     goes = λ on clear. quiet.steps _ _ _ _;
     told = λ on clear. tt;
@@ -156,5 +156,5 @@ module _ (X : Known) (quiet : IsQuiet X) where
     go (Give cpu) w = last_walk (KnowsNext X) Untold block a s h r (Give cpu) granted refl quiet_closes
     go Back w = last_walk (KnowsNext X) Untold block a s h r Back granted refl quiet_closes
     go Visit w = walks Visit (λ fault free by. quiet_ends, λ free passed lacks. quiet_ends, λ free passed. tt) refl
-    go (Snapshots step) w = quiet_step step a granted s h r
+    go (Maintenance step) w = quiet_step step a granted s h r
     go other w = walks other w refl

@@ -11,15 +11,15 @@ use Rattle.nv_reader.specs.Walk as walks
 use Rattle.nv_book.specs.declared.record.Record.{Record}
 use Rattle.nv_machine.specs.Reading.{ArePins, pins_at, pins_on}
 use Rattle.nv_machine.specs.Sequence.{sequel}
-use Rattle.nv_machine.specs.Snapshots.{copies_at, drop_tests, first_showing, one_more, seen_on, show_or_unpin, snapshot_turn, visited}
+use Rattle.nv_machine.specs.Maintenance.{copies_at, drop_tests, first_showing, one_more, seen_on, show_or_unpin, maintenance_turn, visited}
 use Rattle.nv_machine.specs.Step.{kind_turn}
-use Rattle.nv_machine.specs.World.{Drains, Drop, Ending, HandState, LockPicked, Make, Next, Pick, Pin, Refuses, Running, Shared, Show, Showing, SnapshotStep, Snapshots, Turn, Unpin}
+use Rattle.nv_machine.specs.World.{Drains, Drop, Ending, HandState, LockPicked, Make, Next, Pick, Pin, Refuses, Running, Shared, Show, Showing, MaintenanceStep, Maintenance, Turn, Unpin}
 use Rattle.nv_machine.proofs.UnlentSteps.{files_leave}
-use Rattle.nv_machine.proofs.StepWork.{snapshot_work}
+use Rattle.nv_machine.proofs.StepWork.{maintenance_work}
 use Rattle.nv_machine.proofs.LoopSteps.{is_on_files, sequel_on}
 use Rattle.nv_machine.proofs.StepWays.{After, Closes, IsClearOn, any_ends, is_last, is_taking, noted, by_last, by_taking}
 use Rattle.nv_machine.proofs.StepWalk.{walk}
-use Rattle.nv_machine.proofs.SnapshotWalk.{goes_next, is_denied, next_on, picked_next, snapshot_walk, tells}
+use Rattle.nv_machine.proofs.MaintenanceWalk.{goes_next, is_denied, next_on, picked_next, maintenance_walk, tells}
 
 -- ---- pins and shows
 
@@ -52,7 +52,7 @@ plain_fits snapshot now living e = subst (λ (b : Bool). Fits snapshot false b l
 -- ---- a step of a call on files and directories is no show
 
 pub no_pin : (snapshot : ℕ) (k : Next) → is_on_files k ≡ true → pins_at snapshot k ≡ false
-no_pin snapshot (Snapshots step) is = absurd (false≢true is)
+no_pin snapshot (Maintenance step) is = absurd (false≢true is)
 no_pin snapshot other is = refl
 
 -- ---- the steps of calls on snapshots
@@ -169,8 +169,8 @@ module _ (snapshot : ℕ) where
   pinned_some living other (Some pins) now is some shown = pinned_fits living other pins now is shown
   pinned_some living other None now is some shown = cc
 
-  goes_on_pins : (step : SnapshotStep) (a : ℕ) (s : Shared) (h : HandState) → goes_next step ≡ true → IsClearOn step s
-      → Fits snapshot (pins_on snapshot step) (pins_on snapshot (next_on step s)) s.book.snaps (snapshot_work step a s h).shared.book.snaps
+  goes_on_pins : (step : MaintenanceStep) (a : ℕ) (s : Shared) (h : HandState) → goes_next step ≡ true → IsClearOn step s
+      → Fits snapshot (pins_on snapshot step) (pins_on snapshot (next_on step s)) s.book.snaps (maintenance_work step a s h).shared.book.snaps
   goes_on_pins (Pin other) a s h on clear =
       let first = first_showing s in
       pinned_some s.book.snaps other (pins_of s.book.snaps other) _ refl clear.1 (showing_pins other first.left first.visits first)
@@ -184,14 +184,14 @@ module _ (snapshot : ℕ) where
   goes_on_pins (LockPicked draining picked) a s h on clear = same_fits snapshot false s.book.snaps
   goes_on_pins other a s h on clear = absurd (false≢true on)
 
-  told_pins : (step : SnapshotStep) (a : ℕ) (s : Shared) (h : HandState) → tells step ≡ true → IsClearOn step s
-      → Fits snapshot (pins_on snapshot step) false s.book.snaps (snapshot_work step a s h).shared.book.snaps
+  told_pins : (step : MaintenanceStep) (a : ℕ) (s : Shared) (h : HandState) → tells step ≡ true → IsClearOn step s
+      → Fits snapshot (pins_on snapshot step) false s.book.snaps (maintenance_work step a s h).shared.book.snaps
   told_pins Make a s h on clear = made_fits s.book.snaps
   told_pins (Drop other) a s h on clear = dropped_fits s.book.snaps other clear.1
   told_pins (Unpin other seen) a s h on clear = unpinned_fits s.book.snaps other
   told_pins other a s h on clear = absurd (false≢true on)
 
-  stops_pins : (step : SnapshotStep) (s : Shared) (h : HandState) (r : Running) (fault : Fault) → is_denied step ≡ true
+  stops_pins : (step : MaintenanceStep) (s : Shared) (h : HandState) (r : Running) (fault : Fault) → is_denied step ≡ true
       → let b = pins_on snapshot step in Closes (P b s.book.snaps) (E b s.book.snaps) s h r (Refuses fault)
   stops_pins Make s h r fault on = closes s.book.snaps s h r _ refl
   stops_pins (Drop other) s h r fault on = closes s.book.snaps s h r _ refl
@@ -199,24 +199,24 @@ module _ (snapshot : ℕ) where
   stops_pins (Pick draining) s h r fault on = closes s.book.snaps s h r _ refl
   stops_pins other s h r fault on = absurd (false≢true on)
 
-  on_pins : (step : SnapshotStep) (a : ℕ) (granted : Bool) (s : Shared) (h : HandState) (r : Running)
-      → let b = pins_on snapshot step in After (P b s.book.snaps) (E b s.book.snaps) (snapshot_turn step a granted s h r)
-  on_pins step a granted s h r = snapshot_walk _ _ a s h r step granted (record {
+  on_pins : (step : MaintenanceStep) (a : ℕ) (granted : Bool) (s : Shared) (h : HandState) (r : Running)
+      → let b = pins_on snapshot step in After (P b s.book.snaps) (E b s.book.snaps) (maintenance_turn step a granted s h r)
+  on_pins step a granted s h r = maintenance_walk _ _ a s h r step granted (record {
     stops = λ fault cause. any_ends (stops_pins step s h r fault cause.0);
     goes = goes_on_pins step a s h;
     told = told_pins step a s h;
-    denied = λ other showing on. subst (λ (x : SnapshotStep). Fits snapshot (pins_on snapshot x) (other == snapshot) s.book.snaps s.book.snaps)
+    denied = λ other showing on. subst (λ (x : MaintenanceStep). Fits snapshot (pins_on snapshot x) (other == snapshot) s.book.snaps s.book.snaps)
         (sym on.0) (same_fits snapshot (other == snapshot) s.book.snaps);
-    over = λ draining picked on. any_ends (subst (λ (x : SnapshotStep). let b = pins_on snapshot x in let d = snapshot_work x a s h in
+    over = λ draining picked on. any_ends (subst (λ (x : MaintenanceStep). let b = pins_on snapshot x in let d = maintenance_work x a s h in
         Closes (P b s.book.snaps) (E b s.book.snaps) d.shared d.hand r (Drains (one_more draining)))
         (sym on) (closes s.book.snaps _ _ r _ refl));
-    none = λ draining on empty. subst (λ (x : SnapshotStep). Fits snapshot (pins_on snapshot x) false s.book.snaps s.book.snaps)
+    none = λ draining on empty. subst (λ (x : MaintenanceStep). Fits snapshot (pins_on snapshot x) false s.book.snaps s.book.snaps)
         (sym on) (same_fits snapshot false s.book.snaps);
   })
 
   pub kind_pins : (k : Next) (block a : ℕ) (granted : Bool) (s : Shared) (h : HandState) (r : Running)
       → OnPins snapshot (pins_at snapshot k) s.book.snaps (kind_turn k block a granted s h r)
-  kind_pins (Snapshots step) block a granted s h r = on_pins step a granted s h r
+  kind_pins (Maintenance step) block a granted s h r = on_pins step a granted s h r
   kind_pins other block a granted s h r =
       let stays = (files_leave other block a s h r refl).snaps in
       walk _ _ block a s h r other granted (record {

@@ -5,9 +5,9 @@ use Rattle.std.proofs.lemmas.List.Sums.{sum_by-cons, sum_by-set}
 use Rattle.std.specs.Prelude.{count_by, replicate, slice_index_or}
 use Rattle.nv_base.specs.declared.geometry.GeometryNumbers.{GeometryNumbers}
 use Rattle.nv_calls.specs.declared.call.Call.{Call}
-use Rattle.nv_calls.specs.declared.snapshot_call.SnapshotCall.{SnapshotCall}
+use Rattle.nv_calls.specs.declared.maintenance_call.MaintenanceCall.{MaintenanceCall}
 use Rattle.nv_calls.specs.declared.call.Call.TheVariants as call
-use Rattle.nv_calls.specs.declared.snapshot_call.SnapshotCall.TheVariants as on
+use Rattle.nv_calls.specs.declared.maintenance_call.MaintenanceCall.TheVariants as on
 use Rattle.nv_epoch.specs.SnapList.{pins_of}
 use Rattle.nv_machine.specs.Reading.{ArePins, pins_at, pins_by_call, pins_on, shows_of}
 use Rattle.nv_machine.specs.Sequence.{beginning, begun, first_step}
@@ -52,7 +52,7 @@ module _ (snapshot : ℕ) where
       ∙ shows_change w actor (with_call h None) s there) are
 
   -- a call that starts is no show yet
-  first_none : (c : SnapshotCall) → pins_on snapshot (first_step c) ≡ false
+  first_none : (c : MaintenanceCall) → pins_on snapshot (first_step c) ≡ false
   first_none on.Snap = refl
   first_none rest = refl
 
@@ -60,7 +60,7 @@ module _ (snapshot : ℕ) where
   begun_none (call.Write file offset text) s = no_pin snapshot _ (locking_on 0 _)
   begun_none (call.Size file size) s = no_pin snapshot _ (locking_on 0 _)
   begun_none (call.Mode handle mode) s = no_pin snapshot _ (locking_on 0 _)
-  begun_none (call.Snapshots c) s = first_none c
+  begun_none (call.Maintenance c) s = first_none c
   begun_none other s = refl
 
   event_pinned : (w : World) (e : Event) → Pinned w → Pinned (step w e).world

@@ -9,7 +9,7 @@ use Rattle.nv_base.specs.declared.geometry.GeometryNumbers.{GeometryNumbers}
 use Rattle.nv_cell.specs.Cell.{published}
 use Rattle.nv_machine.specs.Reads.{if_number, is_written, slot_at, written_slots}
 use Rattle.nv_machine.specs.Step.{kind_turn}
-use Rattle.nv_machine.specs.World.{Append, Check, Close, Ends, Enter, HandState, Lock, Look, Moves, Next, Number, Open, Publish, Ready, Retire, Running, Shared, TakeBlocks, TakePages, Turn, Waits, cell_at, with_cell, SnapshotStep, Snapshots}
+use Rattle.nv_machine.specs.World.{Append, Check, Close, Ends, Enter, HandState, Lock, Look, Moves, Next, Number, Open, Publish, Ready, Retire, Running, Shared, TakeBlocks, TakePages, Turn, Waits, cell_at, with_cell, MaintenanceStep, Maintenance}
 use Rattle.nv_machine.proofs.StepWork.{work}
 use Rattle.nv_machine.proofs.WorkKeeps.{AfterTurn, turn_keeps}
 use Rattle.nv_machine.proofs.Lists.{has_filter, has_take, rising_filter, self, take_apart}
@@ -214,10 +214,10 @@ close_tally g block a s h r st n = ap (tally n s) (go h.ino refl) where
 
 -- ---- every kind
 
-can_tally : (g : GeometryNumbers) (step : SnapshotStep) (a : ℕ) (s : Shared) (h : HandState) (r : Running)
-    → Standing g (Snapshots step) a s h r → CanTally (Snapshots step) s h r
+can_tally : (g : GeometryNumbers) (step : MaintenanceStep) (a : ℕ) (s : Shared) (h : HandState) (r : Running)
+    → Standing g (Maintenance step) a s h r → CanTally (Maintenance step) s h r
 can_tally g step a s h r st = λ is. (
-  (lent_inside_own (Snapshots step) a s r st.before _ (lent_removal (Snapshots step) (length s.lists) a s h r is)).0,
+  (lent_inside_own (Maintenance step) a s r st.before _ (lent_removal (Maintenance step) (length s.lists) a s h r is)).0,
   λ q. ap (λ (x : HandState). x.ino) st.hand,
 )
 
@@ -236,7 +236,7 @@ turn_tally g Close n block a granted s h r st = close_tally g block a s h r st n
 turn_tally g (Retire place) n block a granted s h r st = quiet_tally g (Retire place) n block a granted s h r
     (retire_inside g block a s h r place st, erased_number g block a s h r place st) (λ m. refl)
     (turn_seen g block a granted s h r (Retire place) st)
-turn_tally g (Snapshots step) n block a granted s h r st = quiet_tally g (Snapshots step) n block a granted s h r
-    (can_tally g step a s h r st) (λ m. refl) (turn_seen g block a granted s h r (Snapshots step) st)
+turn_tally g (Maintenance step) n block a granted s h r st = quiet_tally g (Maintenance step) n block a granted s h r
+    (can_tally g step a s h r st) (λ m. refl) (turn_seen g block a granted s h r (Maintenance step) st)
 turn_tally g other n block a granted s h r st = quiet_tally g other n block a granted s h r tt (λ m. refl)
     (turn_seen g block a granted s h r other st)

@@ -10,7 +10,7 @@ use Rattle.nv_calls.specs.Retiring.{erased, is_erased, number_back}
 use Rattle.nv_cell.specs.Cell.{CellState, empty_cell}
 use Rattle.nv_machine.specs.Kinds.{entries_for, with_erased}
 use Rattle.nv_machine.specs.Reads.{if_number, pages_needed, slot_at, written_slots}
-use Rattle.nv_machine.specs.World.{Actor, Append, Back, Close, HandState, Next, Number, Publish, Retire, Running, Shared, cell_at, with_cell, Snapshots}
+use Rattle.nv_machine.specs.World.{Actor, Append, Back, Close, HandState, Next, Number, Publish, Retire, Running, Shared, cell_at, with_cell, Maintenance}
 use Rattle.nv_machine.proofs.StepWork.{back_work, work, number_work}
 use Rattle.nv_machine.proofs.Lists.{self}
 use Rattle.nv_machine.proofs.LogsKept.{cell_set}
@@ -157,7 +157,7 @@ CanTally (Append place) s h r = (slot_at (written_slots r) place < length s.cell
 CanTally (Publish place) s h r = ⊥
 CanTally Close s h r = ⊥
 CanTally (Retire place) s h r = CanErase (removal (Retire place) s h r) s h
-CanTally (Snapshots step) s h r = is_removal_on step ≡ true → CanErase (removal_on step s h) s h
+CanTally (Maintenance step) s h r = is_removal_on step ≡ true → CanErase (removal_on step s h) s h
 CanTally other s h r = Unit {0}
 
 pub work_tally : (k : Next) (n block actor : ℕ) (s : Shared) (h : HandState) (r : Running) → CanTally k s h r
@@ -173,8 +173,8 @@ work_tally Close n block actor s h r can = absurd can
 work_tally (Retire place) n block actor s h r can =
     removal_tally n (removal (Retire place) s h r) s h (is_removed (Retire place) s h r refl) can.0 can.1
 work_tally Back n block actor s h r can = back_tally n h.ino s h refl
-work_tally (Snapshots step) n block actor s h r can =
+work_tally (Maintenance step) n block actor s h r can =
     on_step (λ (t : Shared) (g : HandState). tally n t (if_number g.ino) ≡ tally n s (if_number h.ino)) step actor s h
-    (λ is. let ok = can is in removal_tally n (removal_on step s h) s h (is_removed (Snapshots step) s h r is) ok.0 ok.1)
+    (λ is. let ok = can is in removal_tally n (removal_on step s h) s h (is_removed (Maintenance step) s h r is) ok.0 ok.1)
     (λ book owners. refl)
 work_tally other n block actor s h r can = refl

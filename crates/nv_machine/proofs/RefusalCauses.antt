@@ -16,12 +16,12 @@ use Rattle.nv_machine.specs.Causes.{EndsFor, FindsNone, IsCause, IsCauseOn, IsRe
 use Rattle.nv_machine.specs.Kinds.{asked_list, check_ending, look_tests, number_turn}
 use Rattle.nv_machine.specs.Reads.{copies}
 use Rattle.nv_machine.specs.Sequence.{beginning, directories, sequel}
-use Rattle.nv_machine.specs.Snapshots.{shown_by, snapshot_turn}
+use Rattle.nv_machine.specs.Maintenance.{shown_by, maintenance_turn}
 use Rattle.nv_machine.specs.Step.{check_grows, ending_at, handle_at, is_numbered, kind_turn, made_in, same_looked, visit_grows, with_made}
-use Rattle.nv_machine.specs.World.{Answers, Back, Check, Draining, Drains, Ending, Enter, Give, HandState, Leave, Lock, Look, Make, Moves, Next, Overtaken, Ready, Refuses, Running, Shared, SnapshotStep, Snapshots, TakeBlocks, TakePages, Turn, Unlock, Unpin, Visit, list_at, owner_at}
+use Rattle.nv_machine.specs.World.{Answers, Back, Check, Draining, Drains, Ending, Enter, Give, HandState, Leave, Lock, Look, Make, Moves, Next, Overtaken, Ready, Refuses, Running, Shared, MaintenanceStep, Maintenance, TakeBlocks, TakePages, Turn, Unlock, Unpin, Visit, list_at, owner_at}
 use Rattle.nv_machine.proofs.StepWays.{After, Closes, EndsBy, Going, IsClear, Takes, Telling, any_ends, any_lasts, any_rests, asks_on, by_last, is_last, is_overtaken, noted, noted_ending}
 use Rattle.nv_machine.proofs.StepWalk.{WaysOf, last_ways, walk_of}
-use Rattle.nv_machine.proofs.SnapshotWalk.{next_on, no_growth, snapshot_walk, told_on}
+use Rattle.nv_machine.proofs.MaintenanceWalk.{next_on, no_growth, maintenance_walk, told_on}
 
 -- ---- a call that goes on or is answered
 
@@ -204,30 +204,30 @@ module _ (nodes : Handle → Option NodeCopy) (block a : ℕ) (granted : Bool) (
         denied Visit out_of_memory (inr ((refl, none.0), none.1, reads free ∙ passed))),
     λ free passed. tt,
   )
-  ways (Snapshots step) reads = tt
+  ways (Maintenance step) reads = tt
   ways other reads = works other
 
-  snapshot_caused : (step : SnapshotStep)
-      → RefusesFor (For (Snapshots step)) (MayBeOvertaken (Snapshots step) nodes r) (snapshot_turn step a granted s h r)
+  snapshot_caused : (step : MaintenanceStep)
+      → RefusesFor (For (Maintenance step)) (MayBeOvertaken (Maintenance step) nodes r) (maintenance_turn step a granted s h r)
   snapshot_caused step =
-      on_turn (For (Snapshots step)) (MayBeOvertaken (Snapshots step) nodes r) (snapshot_turn step a granted s h r)
-      (snapshot_walk (Goes (Snapshots step)) (Tells (Snapshots step)) a s h r step granted (record {
-        stops = λ fault cause. any_ends (refuses (For (Snapshots step)) (MayBeOvertaken (Snapshots step) nodes r) fault cause.1);
-        goes = λ on clear. unrefused (For (Snapshots step)) (MayBeOvertaken (Snapshots step) nodes r) (Snapshots (next_on step s)) r.ending going;
+      on_turn (For (Maintenance step)) (MayBeOvertaken (Maintenance step) nodes r) (maintenance_turn step a granted s h r)
+      (maintenance_walk (Goes (Maintenance step)) (Tells (Maintenance step)) a s h r step granted (record {
+        stops = λ fault cause. any_ends (refuses (For (Maintenance step)) (MayBeOvertaken (Maintenance step) nodes r) fault cause.1);
+        goes = λ on clear. unrefused (For (Maintenance step)) (MayBeOvertaken (Maintenance step) nodes r) (Maintenance (next_on step s)) r.ending going;
         told = λ on clear. told step;
         denied = λ snapshot showing on.
-            (subst (λ (x : SnapshotStep). IsCauseOn x granted s out_of_memory) (sym on.0) (refl, on.1), tt);
-        over = λ draining picked on. any_ends (drains (For (Snapshots step)) (MayBeOvertaken (Snapshots step) nodes r) _);
+            (subst (λ (x : MaintenanceStep). IsCauseOn x granted s out_of_memory) (sym on.0) (refl, on.1), tt);
+        over = λ draining picked on. any_ends (drains (For (Maintenance step)) (MayBeOvertaken (Maintenance step) nodes r) _);
         none = λ draining on empty. tt;
       })) where
-        told : (other : SnapshotStep) → ResultFor (For (Snapshots step)) (told_on other s r)
-        told (Unpin snapshot seen) = subst (λ (e : Ending). ResultFor (For (Snapshots step)) (shown_by e seen)) (sym going) tt
+        told : (other : MaintenanceStep) → ResultFor (For (Maintenance step)) (told_on other s r)
+        told (Unpin snapshot seen) = subst (λ (e : Ending). ResultFor (For (Maintenance step)) (shown_by e seen)) (sym going) tt
         told Make = tt
         told other = tt
 
   pub caused_by : (k : Next) → ReadsAs k block nodes s h r
       → RefusesFor (IsCause k block a granted nodes s h r) (MayBeOvertaken k nodes r) (kind_turn k block a granted s h r)
-  caused_by (Snapshots step) reads = snapshot_caused step
+  caused_by (Maintenance step) reads = snapshot_caused step
   caused_by other reads =
       on_turn (For other) (MayBeOvertaken other nodes r) (kind_turn other block a granted s h r)
       (walk_of (Goes other) (Tells other) block a s h r other granted (ways other reads) refl)

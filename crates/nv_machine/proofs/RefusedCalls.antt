@@ -9,17 +9,17 @@ use Rattle.nv_calls.specs.declared.answer.Answer.{Answer}
 use Rattle.nv_machine.specs.Hands.{HandOf, is_going, is_going_on}
 use Rattle.nv_machine.specs.Kept.{IsKept, Knows, KnowsOf}
 use Rattle.nv_machine.specs.Refusing.{GoesOn, IsUnanswered, LeavesBooks, SameBooks}
-use Rattle.nv_machine.specs.Snapshots.{shown_by}
+use Rattle.nv_machine.specs.Maintenance.{shown_by}
 use Rattle.nv_machine.specs.Starts.{IsStart}
 use Rattle.nv_machine.specs.Step.{after, kind_turn, turn}
-use Rattle.nv_machine.specs.World.{Answers, Append, Back, Close, Draining, Drains, Drop, Ending, Ends, Enter, Event, HandState, LockPicked, Make, Moves, Next, Number, Open, Pick, Pin, Publish, Refuses, Release, Retire, Running, Shared, Show, SnapshotStep, Snapshots, Turn, Unpin, Waits, World, actor_at, with_book}
+use Rattle.nv_machine.specs.World.{Answers, Append, Back, Close, Draining, Drains, Drop, Ending, Ends, Enter, Event, HandState, LockPicked, Make, Moves, Next, Number, Open, Pick, Pin, Publish, Refuses, Release, Retire, Running, Shared, Show, MaintenanceStep, Maintenance, Turn, Unpin, Waits, World, actor_at, with_book}
 use Rattle.nv_machine.proofs.StepWork.{by_back, by_number, work}
 use Rattle.nv_machine.proofs.FromScratch.{all_numbers}
 use Rattle.nv_machine.proofs.WorkKeeps.{AfterTurn, turn_keeps}
 use Rattle.nv_machine.proofs.Reached.{reached}
 use Rattle.nv_machine.proofs.StepWays.{After, EndsBy, Going, Telling, any_ends}
 use Rattle.nv_machine.proofs.StepWalk.{walk_of}
-use Rattle.nv_machine.proofs.SnapshotWalk.{StepWaysOf, step_walk_by}
+use Rattle.nv_machine.proofs.MaintenanceWalk.{StepWaysOf, step_walk_by}
 
 -- what leaves them whatever becomes of the call
 abbrev Left : Next → Shared → Shared → HandState → Type 0
@@ -66,24 +66,24 @@ module _ (k : Next) (s : Shared) where
       any_ends (record { last = λ n is out. absurd out; told = tt; again = λ n over some out. absurd out; picks = λ d left drains some out. absurd out })
 
 module _ (actor : ℕ) (granted : Bool) (s : Shared) (h : HandState) (r : Running) where
-  step_left : (step : SnapshotStep) → (is_going_on step ≡ true → r.ending ≡ Answers)
-      → StepWaysOf (LeftGoes (Snapshots step) s) (LeftTold (Snapshots step) s) step actor granted s h r
-  step_left Make going = (λ fault by. refused_left (Snapshots Make) s (refl, refl), λ clear. tt)
-  step_left (Drop snapshot) going = (λ fault by. refused_left (Snapshots (Drop snapshot)) s (refl, refl), λ clear. tt)
+  step_left : (step : MaintenanceStep) → (is_going_on step ≡ true → r.ending ≡ Answers)
+      → StepWaysOf (LeftGoes (Maintenance step) s) (LeftTold (Maintenance step) s) step actor granted s h r
+  step_left Make going = (λ fault by. refused_left (Maintenance Make) s (refl, refl), λ clear. tt)
+  step_left (Drop snapshot) going = (λ fault by. refused_left (Maintenance (Drop snapshot)) s (refl, refl), λ clear. tt)
   step_left (Pin snapshot) going =
-      (λ none. refused_left (Snapshots (Pin snapshot)) s (refl, refl), λ clear. answered r.ending (going refl))
+      (λ none. refused_left (Maintenance (Pin snapshot)) s (refl, refl), λ clear. answered r.ending (going refl))
   step_left (Show snapshot showing) going = (λ lacks out. (refl, refl), λ clear out. (refl, refl))
   step_left (Unpin snapshot seen) going = λ clear. go r.ending where
-    go : (e : Ending) → told_left (Snapshots (Unpin snapshot seen)) s (with_book (after_unpin_snapshot snapshot s.book) s) (shown_by e seen)
+    go : (e : Ending) → told_left (Maintenance (Unpin snapshot seen)) s (with_book (after_unpin_snapshot snapshot s.book) s) (shown_by e seen)
     go (Refuses fault) = (refl, refl)
     go other = tt
   step_left (Pick draining) going = (
-    λ lacks first. refused_left (Snapshots (Pick draining)) s (refl, refl),
+    λ lacks first. refused_left (Maintenance (Pick draining)) s (refl, refl),
     λ empty. tt,
     λ picked rest free is. answered r.ending (going refl),
   )
   step_left (LockPicked draining picked) going = λ clear out. (refl, refl)
-  step_left (Release draining picked) going = drained_left (Snapshots (Release draining picked)) s
+  step_left (Release draining picked) going = drained_left (Maintenance (Release draining picked)) s
 
 -- ---- every kind
 
@@ -106,8 +106,8 @@ module _ (block actor cpu : ℕ) (granted : Bool) (s : Shared) (h : HandState) (
   books_left Close knows on = answered r.ending knows.1
   books_left (Retire place) knows on = answered r.ending knows.1
   books_left Back knows on = quiet_left Back (refl, refl) (by_back (λ (t : Shared) (g : HandState). SameBooks Back s t) s h (λ numbers ino. (refl, refl)))
-  books_left (Snapshots step) knows on =
-      leaves (Snapshots step) s _ (step_walk_by (Unit {0}) (LeftGoes (Snapshots step) s) (LeftTold (Snapshots step) s) actor s h r step granted
+  books_left (Maintenance step) knows on =
+      leaves (Maintenance step) s _ (step_walk_by (Unit {0}) (LeftGoes (Maintenance step) s) (LeftTold (Maintenance step) s) actor s h r step granted
       (λ blocked. tt) (step_left actor granted s h r step on))
   books_left other knows on = quiet_left other (refl, refl) (refl, refl)
 
@@ -122,7 +122,7 @@ refused_books w actor granted r kept is on =
     (kept.each actor)) on
 
 goes_on : (k : Next) (e : Ending) → (is_going k ≡ true → e ≡ Answers) → GoesOn k e
-goes_on (Snapshots step) e going = going
+goes_on (Maintenance step) e going = going
 goes_on other e going = tt
 
 pub all_refused : (g : GeometryNumbers) (start : World) (records : List Record) (events : List Event) (actor : ℕ) (granted : Bool)

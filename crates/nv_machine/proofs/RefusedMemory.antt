@@ -14,8 +14,8 @@ use Rattle.nv_machine.specs.Memory.{denied_at, denied_turn, does_its_work, grows
 use Rattle.nv_machine.specs.Reads.{copies, nodes, pages_wanted, plan_by, written_slots}
 use Rattle.nv_machine.specs.Sequence.{appending, nothing_looked}
 use Rattle.nv_machine.specs.Step.{ending_at, handle_at, kind_turn, visit_grows, with_made}
-use Rattle.nv_machine.specs.World.{Check, Draining, Ending, Ends, Enter, HandState, Moves, Next, Pick, Ready, Refuses, Running, Shared, Show, Showing, SnapshotStep, Snapshots, Turn, Visit, Waits, owner_at}
-use Rattle.nv_machine.specs.Snapshots.{if_free, is_first, picked_turn, show_turn, snapshot_turn}
+use Rattle.nv_machine.specs.World.{Check, Draining, Ending, Ends, Enter, HandState, Moves, Next, Pick, Ready, Refuses, Running, Shared, Show, Showing, MaintenanceStep, Maintenance, Turn, Visit, Waits, owner_at}
+use Rattle.nv_machine.specs.Maintenance.{if_free, is_first, picked_turn, show_turn, maintenance_turn}
 use Rattle.nv_machine.proofs.LoopSteps.{appending_any}
 use Rattle.nv_machine.proofs.StepWays.{After, Going, Telling, by_last, end_goes, is_last}
 use Rattle.nv_book.specs.declared.record.Record.{Record}
@@ -118,19 +118,19 @@ visit_denied None (Ok passed) found s h r = refl
 
 show_denied : (owner : Option ℕ) (found : Option NodeCopy) (snapshot : ℕ) (showing : Showing) (s : Shared) (h : HandState) (r : Running)
     → show_turn owner false found snapshot showing s h r
-    ≡ denied_turn (Snapshots (Show snapshot showing)) s h r (show_turn owner true found snapshot showing s h r)
+    ≡ denied_turn (Maintenance (Show snapshot showing)) s h r (show_turn owner true found snapshot showing s h r)
 show_denied (Some other) found snapshot showing s h r = refl
 show_denied None found snapshot showing s h r = refl
 
 picked_denied : (deferred : List Record) (draining : Draining) (s : Shared) (h : HandState) (r : Running)
-    → refuse out_of_memory s h r ≡ denied_turn (Snapshots (Pick draining)) s h r (picked_turn deferred draining s h r)
+    → refuse out_of_memory s h r ≡ denied_turn (Maintenance (Pick draining)) s h r (picked_turn deferred draining s h r)
 picked_denied [] draining s h r = refl
 picked_denied (picked ∷ deferred) draining s h r = refl
 
 -- a first pick makes room before it picks, and no other does
 pick_denied : (holder : Option ℕ) (first : Bool) (draining : Draining) (s : Shared) (h : HandState) (r : Running) → first ≡ true
     → if_free holder (grown (false || not first) (picked_turn s.book.deferred draining s h r) s h r)
-    ≡ denied_turn (Snapshots (Pick draining)) s h r
+    ≡ denied_turn (Maintenance (Pick draining)) s h r
     (if_free holder (grown (true || not first) (picked_turn s.book.deferred draining s h r) s h r))
 pick_denied (Some other) first draining s h r e = refl
 pick_denied None true draining s h r e = picked_denied s.book.deferred draining s h r
@@ -141,14 +141,14 @@ pick_alike : (first : Bool) (turn : Turn) (s : Shared) (h : HandState) (r : Runn
 pick_alike true turn s h r e = cc
 pick_alike false turn s h r e = refl
 
-snapshot_denied : (step : SnapshotStep) (actor : ℕ) (s : Shared) (h : HandState) (r : Running) → grows_on step ≡ true
-    → snapshot_turn step actor false s h r ≡ denied_turn (Snapshots step) s h r (snapshot_turn step actor true s h r)
+snapshot_denied : (step : MaintenanceStep) (actor : ℕ) (s : Shared) (h : HandState) (r : Running) → grows_on step ≡ true
+    → maintenance_turn step actor false s h r ≡ denied_turn (Maintenance step) s h r (maintenance_turn step actor true s h r)
 snapshot_denied (Show snapshot showing) actor s h r e = show_denied _ _ snapshot showing s h r
 snapshot_denied (Pick draining) actor s h r e = pick_denied s.holder (is_first draining) draining s h r e
 snapshot_denied other actor s h r e = cc
 
-snapshot_alike : (step : SnapshotStep) (actor : ℕ) (s : Shared) (h : HandState) (r : Running) → grows_on step ≡ false
-    → snapshot_turn step actor false s h r ≡ snapshot_turn step actor true s h r
+snapshot_alike : (step : MaintenanceStep) (actor : ℕ) (s : Shared) (h : HandState) (r : Running) → grows_on step ≡ false
+    → maintenance_turn step actor false s h r ≡ maintenance_turn step actor true s h r
 snapshot_alike (Show snapshot showing) actor s h r e = cc
 snapshot_alike (Pick draining) actor s h r e = ap (if_free s.holder) (pick_alike (is_first draining) _ s h r e)
 snapshot_alike other actor s h r e = refl
@@ -169,7 +169,7 @@ denied_alike Visit block actor s h r e = go (visit_grows r.call) e where
   go true e = visit_denied (owner_at s (handle_at (handles nothing_looked r.call) 0).ino) (refusal block (copies s) r.call)
       (answer (nodes s) r.made r.call) s h r
   go false e = cc
-denied_alike (Snapshots step) block actor s h r e = snapshot_denied step actor s h r e
+denied_alike (Maintenance step) block actor s h r e = snapshot_denied step actor s h r e
 denied_alike other block actor s h r e = cc
 
 pub ungrown : (k : Next) (block actor : ℕ) (s : Shared) (h : HandState) (r : Running) → grows k block s h r ≡ false
@@ -178,5 +178,5 @@ ungrown Check block actor s h r e = check_alike (ending_at block s h r) _ block 
 ungrown Ready block actor s h r e = cc
 ungrown Enter block actor s h r e = cc
 ungrown Visit block actor s h r e = rw e refl
-ungrown (Snapshots step) block actor s h r e = snapshot_alike step actor s h r e
+ungrown (Maintenance step) block actor s h r e = snapshot_alike step actor s h r e
 ungrown other block actor s h r e = refl

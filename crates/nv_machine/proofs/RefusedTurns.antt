@@ -15,19 +15,19 @@ use Rattle.nv_machine.specs.Kinds.{result_by}
 use Rattle.nv_machine.specs.OwnSteps.{SameButPins, unpinned}
 use Rattle.nv_machine.specs.Reads.{copies, written_slots}
 use Rattle.nv_machine.specs.Sequence.{beginning, sequel}
-use Rattle.nv_machine.specs.Snapshots.{is_first, one_more, shown_by}
+use Rattle.nv_machine.specs.Maintenance.{is_first, one_more, shown_by}
 use Rattle.nv_machine.specs.Step.{ending_at, is_numbered, kind_turn, same_looked, with_made}
-use Rattle.nv_machine.specs.World.{Answers, Append, Back, Check, Close, Draining, Drains, Drop, Ending, Enter, Give, HandState, Leave, Lock, LockPicked, Look, Make, Next, Number, Open, Overtaken, Pick, Pin, Publish, Ready, Refuses, Release, Retire, Running, Shared, Show, SnapshotStep, Snapshots, TakeBlocks, TakePages, Unlock, Unpin, Visit, with_book}
+use Rattle.nv_machine.specs.World.{Answers, Append, Back, Check, Close, Draining, Drains, Drop, Ending, Enter, Give, HandState, Leave, Lock, LockPicked, Look, Make, Next, Number, Open, Overtaken, Pick, Pin, Publish, Ready, Refuses, Release, Retire, Running, Shared, Show, MaintenanceStep, Maintenance, TakeBlocks, TakePages, Unlock, Unpin, Visit, with_book}
 use Rattle.nv_machine.proofs.LoopSteps.{Commits, appending_any, publishing_any, retiring_any}
 use Rattle.nv_machine.proofs.RefusalCauses.{CheckCause, reads_itself}
-use Rattle.nv_machine.proofs.SnapshotWalk.{StepWaysOf, next_on, step_walk_by}
+use Rattle.nv_machine.proofs.MaintenanceWalk.{StepWaysOf, next_on, step_walk_by}
 use Rattle.nv_machine.proofs.StepWalk.{WaysOf, last_walk, last_ways, walk_of}
 use Rattle.nv_machine.proofs.StepWays.{After, Closes, EndsBy, Going, Takes, Telling, any_ends, asks_on, by_last, is_last, is_overtaken, noted, noted_ending}
 use Rattle.nv_machine.proofs.StepWork.{by_back, by_number, work}
 
 -- ---- where a call may yet be refused, and where it was
 
-abbrev pub is_open_on : SnapshotStep → Bool
+abbrev pub is_open_on : MaintenanceStep → Bool
 is_open_on Make = true
 is_open_on (Drop snapshot) = true
 is_open_on (Pin snapshot) = true
@@ -45,10 +45,10 @@ is_open (TakePages asked) = true
 is_open Ready = true
 is_open Enter = true
 is_open Visit = true
-is_open (Snapshots step) = is_open_on step
+is_open (Maintenance step) = is_open_on step
 is_open other = false
 
-abbrev pub is_closing_on : SnapshotStep → Bool
+abbrev pub is_closing_on : MaintenanceStep → Bool
 is_closing_on (Unpin snapshot seen) = true
 is_closing_on other = false
 
@@ -56,7 +56,7 @@ abbrev pub is_closing : Next → Bool
 is_closing (Unlock place) = true
 is_closing (Give cpu) = true
 is_closing Back = true
-is_closing (Snapshots step) = is_closing_on step
+is_closing (Maintenance step) = is_closing_on step
 is_closing other = false
 
 abbrev pub is_unlock : Next → Bool
@@ -271,35 +271,35 @@ module _ (block a : ℕ) (granted : Bool) (s : Shared) (h : HandState) (r : Runn
     λ free passed lacks. denies Visit out_of_memory (refl, same_as s),
     λ free passed. tt,
   )
-  ways (Snapshots step) = tt
+  ways (Maintenance step) = tt
 
-  step_ways : (step : SnapshotStep) → StepWaysOf (Goes (Snapshots step) s) (Tells (Snapshots step) s) step a granted s h r
-  step_ways Make = (λ fault by. denies (Snapshots Make) fault (refl, same_as s), λ clear. tt)
-  step_ways (Drop snapshot) = (λ fault by. denies (Snapshots (Drop snapshot)) fault (refl, same_as s), λ clear. tt)
+  step_ways : (step : MaintenanceStep) → StepWaysOf (Goes (Maintenance step) s) (Tells (Maintenance step) s) step a granted s h r
+  step_ways Make = (λ fault by. denies (Maintenance Make) fault (refl, same_as s), λ clear. tt)
+  step_ways (Drop snapshot) = (λ fault by. denies (Maintenance (Drop snapshot)) fault (refl, same_as s), λ clear. tt)
   step_ways (Pin snapshot) = (
-    λ none. denies (Snapshots (Pin snapshot)) NoSnapshot (refl, same_as s),
-    λ clear. opens (Snapshots (Pin snapshot)) (Snapshots (next_on (Pin snapshot) s)) _ (refl, pinned s snapshot),
+    λ none. denies (Maintenance (Pin snapshot)) NoSnapshot (refl, same_as s),
+    λ clear. opens (Maintenance (Pin snapshot)) (Maintenance (next_on (Pin snapshot) s)) _ (refl, pinned s snapshot),
   )
   step_ways (Show snapshot showing) = (
     λ lacks. (refl, (refl, same_as s)),
-    λ clear. opens (Snapshots (Show snapshot showing)) (Snapshots (next_on (Show snapshot showing) s)) s (refl, same_as s),
+    λ clear. opens (Maintenance (Show snapshot showing)) (Maintenance (next_on (Show snapshot showing) s)) s (refl, same_as s),
   )
   step_ways (Unpin snapshot seen) =
-      λ clear. subst (λ (e : Ending). OpenTold (Snapshots (Unpin snapshot seen)) s
+      λ clear. subst (λ (e : Ending). OpenTold (Maintenance (Unpin snapshot seen)) s
       (with_book (after_unpin_snapshot snapshot s.book) s) (shown_by e seen)) (sym going) tt
   step_ways (Pick draining) = (
-    λ lacks first. denies (Snapshots (Pick draining)) out_of_memory (first, same_as s),
+    λ lacks first. denies (Maintenance (Pick draining)) out_of_memory (first, same_as s),
     λ empty. tt,
-    λ picked rest free is. shuts (Snapshots (Pick draining)) (Snapshots (LockPicked draining picked)) _ refl,
+    λ picked rest free is. shuts (Maintenance (Pick draining)) (Maintenance (LockPicked draining picked)) _ refl,
   )
   step_ways (LockPicked draining picked) =
-      λ clear. shuts (Snapshots (LockPicked draining picked)) (Snapshots (Release draining picked)) _ refl
+      λ clear. shuts (Maintenance (LockPicked draining picked)) (Maintenance (Release draining picked)) _ refl
   step_ways (Release draining picked) =
-      any_ends (drains_closes (Snapshots (Release draining picked)) s (one_more draining) (omega arith))
+      any_ends (drains_closes (Maintenance (Release draining picked)) s (one_more draining) (omega arith))
 
   pub open_kind : (k : Next) → After (Goes k s) (Tells k s) (kind_turn k block a granted s h r)
-  open_kind (Snapshots step) =
-      step_walk_by (Unit {0}) (Goes (Snapshots step) s) (Tells (Snapshots step) s) a s h r step granted (λ blocked. tt) (step_ways step)
+  open_kind (Maintenance step) =
+      step_walk_by (Unit {0}) (Goes (Maintenance step) s) (Tells (Maintenance step) s) a s h r step granted (λ blocked. tt) (step_ways step)
   open_kind other = walk_of (Goes other s) (Tells other s) block a s h r other granted (ways other) refl
 
 -- ---- a call that was refused
@@ -327,7 +327,7 @@ module _ (fault : Fault) (block a : ℕ) (granted : Bool) (s : Shared) (h : Hand
   closing_kind (Unlock place) on = last_closing (Unlock place) refl (record { book = refl; cells = refl })
   closing_kind (Give cpu) on = last_closing (Give cpu) refl (record { book = refl; cells = refl })
   closing_kind Back on = last_closing Back refl (given_back s h block a r)
-  closing_kind (Snapshots (Unpin snapshot seen)) on =
+  closing_kind (Maintenance (Unpin snapshot seen)) on =
       step_walk_by (Unit {0}) (ClosingGoes fault s) (ClosingTold fault s) a s h r (Unpin snapshot seen) granted (λ blocked. tt)
       (λ clear. (ap (λ (e : Ending). shown_by e seen) is, unpins s snapshot))
   closing_kind other on = absurd (false≢true on)

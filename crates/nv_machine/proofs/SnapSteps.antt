@@ -2,30 +2,30 @@
 use Rattle.nv_base.specs.declared.fault.Fault.{Fault}
 use Rattle.std.proofs.lemmas.Bool.{false≢true}
 use Rattle.nv_calls.specs.declared.answer.Answer.TheVariants as answers
-use Rattle.nv_machine.proofs.SnapshotWalk.{is_denied, tells, told_on}
-use Rattle.nv_machine.proofs.SnapshotsAlone.{alone_walk}
+use Rattle.nv_machine.proofs.MaintenanceWalk.{is_denied, tells, told_on}
+use Rattle.nv_machine.proofs.MaintenanceAlone.{alone_walk}
 use Rattle.std.proofs.Common.{◌≡◌, ℕ, ◌∙◌, Bool, true, false, if◌then◌else◌, List, [], ◌∷◌, length, nat_lt, Option, Some, None, refl, subst, sym}
 use Rattle.std.specs.Prelude.{Ok, Err}
 use Rattle.nv_base.specs.declared.geometry.GeometryNumbers.{GeometryNumbers}
 use Rattle.nv_epoch.specs.SnapList.{Snapshots as Living, after_making, after_pin, after_removal, after_unpin}
 use Rattle.nv_machine.specs.Hands.{AreNumbers, HandAt, HandOf}
 use Rattle.nv_machine.specs.Locks.{AreLocks, HasSlots, IsInside, commits_at, slots_on}
-use Rattle.nv_machine.specs.PlainRun.{Commits, Deed, Nothing, Numbers, OnSnapshots, deed, deed_of, done_on, entered}
+use Rattle.nv_machine.specs.PlainRun.{Commits, Deed, Nothing, Numbers, Maintains, deed, deed_of, done_on, entered}
 use Rattle.nv_machine.specs.Reads.{written_slots}
-use Rattle.nv_machine.specs.Snapshots.{snapshot_turn}
+use Rattle.nv_machine.specs.Maintenance.{maintenance_turn}
 use Rattle.nv_machine.specs.Step.{kind_turn, step, turned}
-use Rattle.nv_machine.specs.World.{Back, Drop, Ends, Enter, Event, HandState, Make, Moves, Next, Number, Pin, Publish, Running, Shared, SnapshotStep, Snapshots, Turn, Unpin, Waits, World, actor_at, empty_hand}
+use Rattle.nv_machine.specs.World.{Back, Drop, Ends, Enter, Event, HandState, Make, Moves, Next, Number, Pin, Publish, Running, Shared, MaintenanceStep, Maintenance, Turn, Unpin, Waits, World, actor_at, empty_hand}
 use Rattle.nv_machine.proofs.OverEvents.{event_deed, turn_at}
-use Rattle.nv_machine.proofs.StepWork.{back_work, work, number_work, snapshot_work}
+use Rattle.nv_machine.proofs.StepWork.{back_work, work, number_work, maintenance_work}
 use Rattle.nv_machine.proofs.WorkKeeps.{AfterTurn, turn_keeps}
 
 -- ---- the list after a deed
 
 abbrev pub snaps_after : Deed → Living → Living
-snaps_after (OnSnapshots Make) l = after_making l
-snaps_after (OnSnapshots (Drop snapshot)) l = after_removal l snapshot
-snaps_after (OnSnapshots (Pin snapshot)) l = after_pin l snapshot
-snaps_after (OnSnapshots (Unpin snapshot seen)) l = after_unpin l snapshot
+snaps_after (Maintains Make) l = after_making l
+snaps_after (Maintains (Drop snapshot)) l = after_removal l snapshot
+snaps_after (Maintains (Pin snapshot)) l = after_pin l snapshot
+snaps_after (Maintains (Unpin snapshot seen)) l = after_unpin l snapshot
 snaps_after other l = l
 
 abbrev OnSnaps : Deed → Living → Turn → Type 0
@@ -42,38 +42,38 @@ same_snaps d l (Ends result s h) e on = on ∙ sym e
 
 -- ---- the steps of calls on snapshots
 
-abbrev OnStep : SnapshotStep → Living → Turn → Type 0
+abbrev OnStep : MaintenanceStep → Living → Turn → Type 0
 OnStep step l t = OnSnaps (done_on step t) l t
 
 module _ (a : ℕ) (granted : Bool) (s : Shared) (h : HandState) (r : Running) (empty : h ≡ empty_hand) where
   abbrev l : Living
   l = s.book.snaps
 
-  work_snaps : (step : SnapshotStep) → (snapshot_work step a s h).shared.book.snaps ≡ snaps_after (OnSnapshots step) l
+  work_snaps : (step : MaintenanceStep) → (maintenance_work step a s h).shared.book.snaps ≡ snaps_after (Maintains step) l
   work_snaps Make = refl
   work_snaps other = refl
 
-  refused_snaps : (step : SnapshotStep) (fault : Fault) → is_denied step ≡ true → OnStep step l (Ends (Err fault) s h)
+  refused_snaps : (step : MaintenanceStep) (fault : Fault) → is_denied step ≡ true → OnStep step l (Ends (Err fault) s h)
   refused_snaps (Unpin snapshot seen) fault is = absurd (false≢true is)
   refused_snaps other fault is = refl
 
-  told_snaps : (step : SnapshotStep) → tells step ≡ true
-      → OnStep step l (Ends (told_on step s r) (snapshot_work step a s h).shared (snapshot_work step a s h).hand)
+  told_snaps : (step : MaintenanceStep) → tells step ≡ true
+      → OnStep step l (Ends (told_on step s r) (maintenance_work step a s h).shared (maintenance_work step a s h).hand)
   told_snaps Make is = refl
   told_snaps (Drop snapshot) is = refl
   told_snaps (Unpin snapshot seen) is = refl
   told_snaps other is = absurd (false≢true is)
 
-  step_snaps : (step : SnapshotStep) → r.slots ≡ slots_on step → OnStep step l (snapshot_turn step a granted s h r)
+  step_snaps : (step : MaintenanceStep) → r.slots ≡ slots_on step → OnStep step l (maintenance_turn step a granted s h r)
   step_snaps step slots = alone_walk (OnStep step l) step a granted s h r empty slots (record {
     waits = refl;
     refused = refused_snaps step;
     goes = λ on clear. work_snaps step;
     told = λ on clear. told_snaps step on;
-    denied = λ snapshot showing on. subst (λ (x : SnapshotStep). l ≡ snaps_after (OnSnapshots x) l) (sym on) refl;
+    denied = λ snapshot showing on. subst (λ (x : MaintenanceStep). l ≡ snaps_after (Maintains x) l) (sym on) refl;
     over = λ draining picked on. work_snaps step;
     none = λ draining on nothing.
-        subst (λ (x : SnapshotStep). OnStep x l (Ends (Ok (answers.Count draining.released)) s h)) (sym on) refl;
+        subst (λ (x : MaintenanceStep). OnStep x l (Ends (Ok (answers.Count draining.released)) s h)) (sym on) refl;
   })
 
 -- ---- every kind
@@ -92,7 +92,7 @@ publish_same false l = refl
 
 -- what is known of the hand and the slots of a call on snapshots
 abbrev pub IsBare : Next → HandState → Running → Type 0
-IsBare (Snapshots step) h r = (h ≡ empty_hand) × (r.slots ≡ slots_on step)
+IsBare (Maintenance step) h r = (h ≡ empty_hand) × (r.slots ≡ slots_on step)
 IsBare other h r = Unit {0}
 
 pub number_same : (numbers : List ℕ) (s : Shared) (h : HandState) → (number_work numbers s h).shared.book.snaps ≡ s.book.snaps
@@ -118,7 +118,7 @@ module _ (block a : ℕ) (granted : Bool) (s : Shared) (h : HandState) (r : Runn
   kind_snaps Enter bare = file_snaps Enter refl (entered_same (kind_turn Enter block a granted s h r) s.book.snaps)
   kind_snaps (Publish place) bare = file_snaps (Publish place) refl (publish_same (nat_lt 1 (length (written_slots r))) s.book.snaps)
   kind_snaps Back bare = file_snaps Back (back_same h.ino s h) refl
-  kind_snaps (Snapshots step) bare = step_snaps a granted s h r bare.0 step bare.1
+  kind_snaps (Maintenance step) bare = step_snaps a granted s h r bare.0 step bare.1
   kind_snaps other bare = file_snaps other refl refl
 
 -- ---- events
@@ -144,7 +144,7 @@ bare_at : (g : GeometryNumbers) (w : World) (k : Next) (h : HandState) (r : Runn
     → HasSlots (length w.shared.owners) (Some r) → IsBare k h r
 bare_at g w k h r hand is slots = subst (λ (n : Next). IsBare n h r) is (go r.next hand.0 slots.1) where
   go : (n : Next) → HandAt g n h r → IsInside n r → IsBare n h r
-  go (Snapshots step) hand inside = (hand, inside)
+  go (Maintenance step) hand inside = (hand, inside)
   go other hand inside = tt
 
 pub are_bare : (g : GeometryNumbers) (w : World) → AreLocks w → AreNumbers g w → AreBare w

@@ -7,7 +7,7 @@ use Rattle.nv_calls.specs.Plain.{node_in}
 use Rattle.nv_entry.specs.declared.node.NodeCopy.{NodeCopy}
 use Rattle.nv_epoch.specs.SnapList.{Snapshots as Living, living_without, pins_at, pins_of, repinned, with_pins}
 use Rattle.nv_epoch.specs.declared.snapshot.Snapshot.{Snapshot}
-use Rattle.nv_machine.specs.PlainRun.{Copy, Deed, OnSnapshots, Plain, done, is_of, with_pins as copy_with_pins}
+use Rattle.nv_machine.specs.PlainRun.{Copy, Deed, Maintains, Plain, done, is_of, with_pins as copy_with_pins}
 use Rattle.nv_machine.specs.Reading.{pins_in}
 use Rattle.nv_machine.specs.World.{Drop, Make, Pin, Running, Unpin}
 use Rattle.nv_epoch.proofs.Pins.{pins_at-changed, pins_at-kept, pins_at-push, pins_at-removed, pins_at-unchanged}
@@ -72,13 +72,13 @@ module _ (N : ℕ → (Handle → Option NodeCopy) → Type 0) where
   -- ---- what a deed makes of them
 
   pub deed_alike : (d : Deed) (running : Option Running) (l : Living) (p : Plain) → l.epoch ≡ p.epoch
-      → (d ≡ OnSnapshots Make → N l.epoch (node_in p.nodes)) → AreAlike N l.living p.copies
+      → (d ≡ Maintains Make → N l.epoch (node_in p.nodes)) → AreAlike N l.living p.copies
       → AreAlike N (snaps_after d l).living (done d running p).copies
-  deed_alike (OnSnapshots Make) running l p epoch new are =
+  deed_alike (Maintains Make) running l p epoch new are =
       pushed l.living p.copies _ _ are (record { number = epoch; pins = refl; nodes = new refl })
-  deed_alike (OnSnapshots (Drop snapshot)) running l p epoch new are = removed l.living p.copies snapshot are
-  deed_alike (OnSnapshots (Pin snapshot)) running l p epoch new are = changed l.living p.copies snapshot (λ pins. pins + 1) are
-  deed_alike (OnSnapshots (Unpin snapshot seen)) running l p epoch new are = changed l.living p.copies snapshot (λ pins. pins - 1) are
+  deed_alike (Maintains (Drop snapshot)) running l p epoch new are = removed l.living p.copies snapshot are
+  deed_alike (Maintains (Pin snapshot)) running l p epoch new are = changed l.living p.copies snapshot (λ pins. pins + 1) are
+  deed_alike (Maintains (Unpin snapshot seen)) running l p epoch new are = changed l.living p.copies snapshot (λ pins. pins - 1) are
   deed_alike other running l p epoch new are = are
 
   -- ---- pins, and how many there are
@@ -107,11 +107,11 @@ module _ (N : ℕ → (Handle → Option NodeCopy) → Type 0) where
 
 pub deed_epoch : (d : Deed) (running : Option Running) (l : Living) (p : Plain) → l.epoch ≡ p.epoch
     → (snaps_after d l).epoch ≡ (done d running p).epoch
-deed_epoch (OnSnapshots Make) running l p e = ap (λ n. n + 1) e
+deed_epoch (Maintains Make) running l p e = ap (λ n. n + 1) e
 deed_epoch other running l p e = e
 
 pub deed_most : (d : Deed) (l : Living) → (snaps_after d l).most ≡ l.most
-deed_most (OnSnapshots Make) l = refl
+deed_most (Maintains Make) l = refl
 deed_most other l = refl
 
 -- ---- each living snapshot is of an earlier epoch
@@ -156,8 +156,8 @@ made_before l n are is =
     go None had false e some = cc
 
 pub deed_before : (d : Deed) (l : Living) → AreBefore l → AreBefore (snaps_after d l)
-deed_before (OnSnapshots Make) l are = λ n is. made_before l n are is
-deed_before (OnSnapshots (Drop snapshot)) l are = λ n is. are n (lived_then l n snapshot is)
-deed_before (OnSnapshots (Pin snapshot)) l are = λ n is. are n (lived l n snapshot (λ pins. pins + 1) is)
-deed_before (OnSnapshots (Unpin snapshot seen)) l are = λ n is. are n (lived l n snapshot (λ pins. pins - 1) is)
+deed_before (Maintains Make) l are = λ n is. made_before l n are is
+deed_before (Maintains (Drop snapshot)) l are = λ n is. are n (lived_then l n snapshot is)
+deed_before (Maintains (Pin snapshot)) l are = λ n is. are n (lived l n snapshot (λ pins. pins + 1) is)
+deed_before (Maintains (Unpin snapshot seen)) l are = λ n is. are n (lived l n snapshot (λ pins. pins - 1) is)
 deed_before other l are = are

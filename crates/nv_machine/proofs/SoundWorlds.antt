@@ -22,7 +22,7 @@ use Rattle.nv_machine.specs.Hands.{AreLists, HandAt, HasPlanned, IsParted}
 use Rattle.nv_machine.specs.Kinds.{asked_list, blocks_in, blocks_left, entries_for, less_list, with_entries, with_pages}
 use Rattle.nv_calls.specs.FillPages.{filled, fresh_pages}
 use Rattle.nv_machine.specs.Reads.{copies, pages_needed, slot_at, written_slots}
-use Rattle.nv_machine.specs.World.{Append, Back, Check, Give, HandState, Look, Next, Number, Publish, Ready, Retire, Running, Shared, Snapshots, TakeBlocks, TakePages, Visit, cell_at, list_at, no_cell, no_list, with_cell, with_numbers}
+use Rattle.nv_machine.specs.World.{Append, Back, Check, Give, HandState, Look, Next, Number, Publish, Ready, Retire, Running, Shared, Maintenance, TakeBlocks, TakePages, Visit, cell_at, list_at, no_cell, no_list, with_cell, with_numbers}
 use Rattle.nv_machine.proofs.BlockCounts.{given_all}
 use Rattle.nv_machine.proofs.HandsInCommits.{slot_first}
 use Rattle.nv_machine.proofs.StepWork.{append_work, by_back, by_number, work}
@@ -262,8 +262,8 @@ work_sound g (Give cpu) a s h r b at sound = record {
 }
 work_sound g Back a s h r b at sound = by_back (IsSound g) s h (same_sound g s h sound)
 work_sound g Visit a s h r b at sound = sound
-work_sound g (Snapshots step) a s h r b at sound =
-    on_step (IsSound g) step a s h (λ is. removal_sound g (removal_on step s h) s h (is_removed (Snapshots step) s h r is) sound)
+work_sound g (Maintenance step) a s h r b at sound =
+    on_step (IsSound g) step a s h (λ is. removal_sound g (removal_on step s h) s h (is_removed (Maintenance step) s h r is) sound)
     (λ book owners.
     record { lists = record { cpus = sound.lists.cpus; each = sound.lists.each }; cells = sound.cells; sized = sound.sized })
 work_sound g other a s h r b at sound =

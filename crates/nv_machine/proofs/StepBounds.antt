@@ -8,33 +8,33 @@ use Rattle.nv_calls.specs.declared.call.Call.{Call}
 use Rattle.nv_machine.specs.Bound.{Falls, bound, most_steps, most_steps_of, rank, rank_behind, round}
 use Rattle.nv_machine.specs.Kinds.{blocks_in, given}
 use Rattle.nv_machine.specs.Reads.{copies, slots_of, written_slots}
-use Rattle.nv_machine.specs.Sequence.{Beginning, Locks, Looks, Numbers, OnSnapshots, Visits, beginning, begun, directories, new_draining, nothing_looked}
-use Rattle.nv_machine.specs.Snapshots.{copies_at, first_showing, seen_on, show_or_unpin, visited}
+use Rattle.nv_machine.specs.Sequence.{Beginning, Locks, Looks, Numbers, Maintains, Visits, beginning, begun, directories, new_draining, nothing_looked}
+use Rattle.nv_machine.specs.Maintenance.{copies_at, first_showing, seen_on, show_or_unpin, visited}
 use Rattle.nv_machine.specs.Step.{ending_at, is_numbered, kind_turn, made_in, same_looked}
-use Rattle.nv_machine.specs.World.{Append, Back, Check, Close, Drop, Ending, Enter, Give, HandState, Leave, Lock, LockPicked, Look, Make, Next, Number, Open, Pick, Pin, Publish, Ready, Release, Retire, Running, Shared, Show, Showing, SnapshotStep, Snapshots, TakeBlocks, TakePages, Unlock, Unpin, Visit}
+use Rattle.nv_machine.specs.World.{Append, Back, Check, Close, Drop, Ending, Enter, Give, HandState, Leave, Lock, LockPicked, Look, Make, Next, Number, Open, Pick, Pin, Publish, Ready, Release, Retire, Running, Shared, Show, Showing, MaintenanceStep, Maintenance, TakeBlocks, TakePages, Unlock, Unpin, Visit}
 use Rattle.std.proofs.lemmas.Nat.{mul-le}
 use Rattle.nv_machine.proofs.SlotBounds.{home_from-above, slots_of-length, written-length}
 use Rattle.nv_machine.proofs.FileStepBounds.{Lower, append_from, append_next, behind_of, ends_fall, falls_so, first_lock, lasts_fall, lock_next, look_next, none_behind, overs_fall, publish_from, publish_next, rests_fall, retire_from, retire_next}
 use Rattle.nv_machine.proofs.NextSteps.{Untold}
 use Rattle.nv_machine.proofs.StepWays.{After, EndsBy, noted, numbered_slots}
 use Rattle.nv_machine.proofs.StepWalk.{WaysOf, walk_of}
-use Rattle.nv_machine.proofs.SnapshotWalk.{StepWaysOf, step_walk_by}
+use Rattle.nv_machine.proofs.MaintenanceWalk.{StepWaysOf, step_walk_by}
 use Rattle.nv_calls.specs.declared.call.Call.TheVariants as call
-use Rattle.nv_calls.specs.declared.snapshot_call.SnapshotCall.TheVariants as on
+use Rattle.nv_calls.specs.declared.maintenance_call.MaintenanceCall.TheVariants as on
 use Rattle.nv_reader.specs.Walk as walk
 
 -- ---- shows
 
 -- the next step of a show, with as many visits left as it may make
 show_rank : (c n snapshot left : ℕ) (visits : List walk.Visit) (showing : Showing) → showing.left ≡ left
-    → rank c n (Snapshots (show_or_unpin left visits snapshot showing)) ≤ 2 + left
+    → rank c n (Maintenance (show_or_unpin left visits snapshot showing)) ≤ 2 + left
 show_rank c n snapshot zero visits showing e = omega arith
 show_rank c n snapshot (suc left) [] showing e = omega arith
 show_rank c n snapshot (suc left) (visit ∷ visits) showing e = omega (arith, e)
 
 -- or with one less than before
 show_next : (c n snapshot before left : ℕ) (visits : List walk.Visit) (showing : Showing) → showing.left ≡ left → left ≡ before - 1
-    → rank c n (Snapshots (show_or_unpin left visits snapshot showing)) < 2 + before
+    → rank c n (Maintenance (show_or_unpin left visits snapshot showing)) < 2 + before
 show_next c n snapshot before zero visits showing e f = omega arith
 show_next c n snapshot before (suc left) [] showing e f = omega arith
 show_next c n snapshot before (suc left) (visit ∷ visits) showing e f = omega (arith, e, f)
@@ -63,11 +63,11 @@ module _ (block actor : ℕ) (granted : Bool) (s : Shared) (h : HandState) (r : 
       ∙ none_behind cpus (early (copies s) r.call) (same_looked (looked (copies s) r.call) r.looked) (refusal block (copies s) r.call)
       (is_numbered (beginning r.call) h.ino) (effect (copies s) (made_in s h.ino r.made) r.call)
 
-  step_ways : (step : SnapshotStep) → StepWaysOf (Lower cpus (most (Snapshots step))) Untold step actor granted s h r
-  step_ways Make = (λ fault by. ends (Snapshots Make) (omega arith), λ clear. tt)
-  step_ways (Drop snapshot) = (λ fault by. ends (Snapshots (Drop snapshot)) (omega arith), λ clear. tt)
+  step_ways : (step : MaintenanceStep) → StepWaysOf (Lower cpus (most (Maintenance step))) Untold step actor granted s h r
+  step_ways Make = (λ fault by. ends (Maintenance Make) (omega arith), λ clear. tt)
+  step_ways (Drop snapshot) = (λ fault by. ends (Maintenance (Drop snapshot)) (omega arith), λ clear. tt)
   step_ways (Pin snapshot) = (
-    λ none. ends (Snapshots (Pin snapshot)) (omega arith),
+    λ none. ends (Maintenance (Pin snapshot)) (omega arith),
     λ clear. (let next = show_rank cpus (length r.slots) snapshot INODES (first_showing s).visits (first_showing s) refl in
         omega (arith, next)),
   )
@@ -79,9 +79,9 @@ module _ (block actor : ℕ) (granted : Bool) (s : Shared) (h : HandState) (r : 
   )
   step_ways (Unpin snapshot seen) = λ clear. tt
   step_ways (Pick draining) =
-      (λ lacks first. ends (Snapshots (Pick draining)) (omega arith), λ empty. tt, λ picked rest free is. omega arith)
+      (λ lacks first. ends (Maintenance (Pick draining)) (omega arith), λ empty. tt, λ picked rest free is. omega arith)
   step_ways (LockPicked draining picked) = λ free. omega arith
-  step_ways (Release draining picked) = ends (Snapshots (Release draining picked)) (omega arith)
+  step_ways (Release draining picked) = ends (Maintenance (Release draining picked)) (omega arith)
 
   ways : (k : Next) → WaysOf (Lower cpus (most k)) Untold k block actor granted s h r
   ways Number = omega (arith, first_lock cpus (numbered_slots s.pool.numbers s r) (numbered_few s.pool.numbers s r))
@@ -150,11 +150,11 @@ module _ (block actor : ℕ) (granted : Bool) (s : Shared) (h : HandState) (r : 
       (omega arith)
   ways Back = lasts_fall cpus (most Back) (omega arith)
   ways Visit = (λ fault free by. ends Visit (omega arith), λ free passed lacks. ends Visit (omega arith), λ free passed. tt)
-  ways (Snapshots step) = tt
+  ways (Maintenance step) = tt
 
   walks : (k : Next) → After (Lower cpus (most k)) Untold (kind_turn k block actor granted s h r)
-  walks (Snapshots step) =
-      step_walk_by (Unit {0}) (Lower cpus (most (Snapshots step))) Untold actor s h r step granted (λ blocked. tt) (step_ways step)
+  walks (Maintenance step) =
+      step_walk_by (Unit {0}) (Lower cpus (most (Maintenance step))) Untold actor s h r step granted (λ blocked. tt) (step_ways step)
   walks other = walk_of (Lower cpus (most other)) Untold block actor s h r other granted (ways other) refl
 
   falls_by : (k : Next) → Falls cpus (most k) (kind_turn k block actor granted s h r)
@@ -169,7 +169,7 @@ falls k block actor granted s h r = falls_by block actor granted s h r k
 -- ---- at its start a call has at most eight rounds, a visit for each inode, or a round for each record
 
 abbrev is_of_files : Beginning → Bool
-is_of_files (OnSnapshots what) = false
+is_of_files (Maintains what) = false
 is_of_files other = true
 
 file_bound : (b : Beginning) (s : Shared) (c : Call) → is_of_files b ≡ true
@@ -178,7 +178,7 @@ file_bound Locks s c is = omega (
   arith,
   first_lock (length s.lists) (slots_of s None nothing_looked c) (slots_of-length s None nothing_looked c),
 )
-file_bound (OnSnapshots what) s c is = absurd (false≢true is)
+file_bound (Maintains what) s c is = absurd (false≢true is)
 file_bound other s c is = omega arith
 
 -- a drain's records
@@ -200,17 +200,17 @@ begun_bound s (call.Lookup dir name) = file_bound Visits s (call.Lookup dir name
 begun_bound s (call.Unlink dir name) = file_bound Looks s (call.Unlink dir name) refl
 begun_bound s (call.Rmdir dir name) = file_bound Looks s (call.Rmdir dir name) refl
 begun_bound s (call.Rename from old to new) = file_bound Looks s (call.Rename from old to new) refl
-begun_bound s (call.Snapshots on.Snap) = omega arith
-begun_bound s (call.Snapshots (on.Drop snapshot)) = omega arith
-begun_bound s (call.Snapshots (on.Show snapshot)) = omega arith
-begun_bound s (call.Snapshots (on.Drain count)) = omega (arith, most_left (length s.lists) count)
+begun_bound s (call.Maintenance on.Snap) = omega arith
+begun_bound s (call.Maintenance (on.Drop snapshot)) = omega arith
+begun_bound s (call.Maintenance (on.Show snapshot)) = omega arith
+begun_bound s (call.Maintenance (on.Drain count)) = omega (arith, most_left (length s.lists) count)
 
 -- and so of any call
 pub steps_of_any : (c : Call) (cpus : ℕ) → most_steps_of c cpus ≤ most_steps cpus
-steps_of_any (call.Snapshots on.Snap) cpus = omega arith
+steps_of_any (call.Maintenance on.Snap) cpus = omega arith
 steps_of_any other cpus = omega arith
 
 -- and some step is left as long as it runs
 pub some_left : (cpus slots : ℕ) (k : Next) → 0 < rank cpus slots k
-some_left cpus slots (Snapshots Make) = omega arith
+some_left cpus slots (Maintenance Make) = omega arith
 some_left cpus slots other = omega arith

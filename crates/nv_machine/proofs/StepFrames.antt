@@ -7,8 +7,8 @@ use Rattle.nv_cell.specs.Cell.{CellState}
 use Rattle.nv_machine.specs.Frame.{Frame, IsFramed, Lent, Stays, lent, lent_on, nothing_lent}
 use Rattle.nv_machine.specs.Kinds.{end_turn}
 use Rattle.nv_machine.specs.Step.{kind_turn}
-use Rattle.nv_machine.specs.World.{Append, Back, Close, Ending, Ends, Enter, Give, HandState, Leave, Lock, LockPicked, Moves, Next, Number, Open, Publish, Release, Retire, Running, Shared, Show, SnapshotStep, Snapshots, TakeBlocks, TakePages, Turn, Unlock, Waits, no_cell, no_list, with_book, with_cell, with_list, with_owner}
-use Rattle.nv_machine.proofs.StepWork.{back_work, work, number_work, snapshot_work}
+use Rattle.nv_machine.specs.World.{Append, Back, Close, Ending, Ends, Enter, Give, HandState, Leave, Lock, LockPicked, Moves, Next, Number, Open, Publish, Release, Retire, Running, Shared, Show, MaintenanceStep, Maintenance, TakeBlocks, TakePages, Turn, Unlock, Waits, no_cell, no_list, with_book, with_cell, with_list, with_owner}
+use Rattle.nv_machine.proofs.StepWork.{back_work, work, number_work, maintenance_work}
 use Rattle.nv_machine.proofs.WorkKeeps.{AfterTurn, end_keeps, turn_keeps}
 
 -- ---- what is changed
@@ -98,8 +98,8 @@ back_framed : (number : Option ℕ) (s : Shared) (h : HandState)
 back_framed None s h = same_frame _ s
 back_framed (Some ino) s h = pool_frame _ s
 
-snapshot_framed : (step : SnapshotStep) (actor : ℕ) (s : Shared) (h : HandState)
-    → Frame (lent_on step) s (snapshot_work step actor s h).shared
+snapshot_framed : (step : MaintenanceStep) (actor : ℕ) (s : Shared) (h : HandState)
+    → Frame (lent_on step) s (maintenance_work step actor s h).shared
 snapshot_framed (Show snapshot showing) actor s h = same_frame _ s
 snapshot_framed (LockPicked draining picked) actor s h = lock_frame picked.ino (Some actor) s
 snapshot_framed (Release draining picked) actor s h = cell_frame false _ s.book _ s refl
@@ -121,7 +121,7 @@ work_framed Leave block actor s h r = leave_frame s
 work_framed (Unlock place) block actor s h r = lock_frame _ None s
 work_framed (Give cpu) block actor s h r = list_frame cpu _ s
 work_framed Back block actor s h r = back_framed h.ino s h
-work_framed (Snapshots step) block actor s h r = snapshot_framed step actor s h
+work_framed (Maintenance step) block actor s h r = snapshot_framed step actor s h
 work_framed other block actor s h r = same_frame _ s
 
 -- ---- turns

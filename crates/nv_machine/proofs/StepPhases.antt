@@ -6,10 +6,10 @@ use Rattle.nv_base.specs.Memory.{out_of_memory}
 use Rattle.nv_machine.specs.Kinds.{check_turn, end_turn, grown, wants_blocks, wants_pages, wants_room}
 use Rattle.nv_machine.specs.Reads.{pages_wanted, plan_by}
 use Rattle.nv_machine.specs.Sequence.{sequel}
-use Rattle.nv_machine.specs.Snapshots.{snapshot_turn}
+use Rattle.nv_machine.specs.Maintenance.{maintenance_turn}
 use Rattle.nv_machine.specs.Step.{ending_at, kind_turn, with_made}
 use Rattle.nv_machine.specs.Takings.{asks_list}
-use Rattle.nv_machine.specs.World.{Back, Check, Ending, Ends, Give, HandState, Leave, Lock, Look, Moves, Next, Number, Ready, Refuses, Running, Shared, Snapshots, TakeBlocks, TakePages, Turn, Unlock, Visit, Waits}
+use Rattle.nv_machine.specs.World.{Back, Check, Ending, Ends, Give, HandState, Leave, Lock, Look, Moves, Next, Number, Ready, Refuses, Running, Shared, Maintenance, TakeBlocks, TakePages, Turn, Unlock, Visit, Waits}
 use Rattle.nv_machine.proofs.NextSteps.{IsNext, end_next, kind_next, step_next}
 use Rattle.nv_machine.proofs.LoopSteps.{Sequel, goes_on, locking_any, looking_any, sequel_any}
 use Rattle.nv_machine.proofs.StepWays.{by_last, is_last, is_taker, noted}
@@ -35,7 +35,7 @@ IsPlain (Unlock place) = Unit {0}
 IsPlain (Give cpu) = Unit {0}
 IsPlain Back = Unit {0}
 IsPlain Visit = Unit {0}
-IsPlain (Snapshots step) = Unit {0}
+IsPlain (Maintenance step) = Unit {0}
 IsPlain other = ⊥
 
 abbrev pub OnNext : (Next → Type 0) → Turn → Type 0
@@ -92,7 +92,7 @@ leads_to_plain (Unlock place) = true
 leads_to_plain (Give cpu) = true
 leads_to_plain Back = true
 leads_to_plain Visit = true
-leads_to_plain (Snapshots step) = true
+leads_to_plain (Maintenance step) = true
 leads_to_plain other = false
 
 sequel_plain : (k : Next) (q : Running) → leads_to_plain k ≡ true → goes_on k ≡ true → IsPlain (sequel q k)
@@ -120,7 +120,7 @@ no_taker other e on = false≢true on
 
 pub plain : (k : Next) (block actor : ℕ) (granted : Bool) (s : Shared) (h : HandState) (r : Running) → leads_to_plain k ≡ true
     → OnPlain (kind_turn k block actor granted s h r)
-plain (Snapshots step) block actor granted s h r e =
+plain (Maintenance step) block actor granted s h r e =
     step_next IsPlain last_plain tt (λ draining. tt) step actor granted s h r (λ on clear. tt) (λ snapshot showing on. tt)
 plain other block actor granted s h r e =
     kind_next IsPlain last_plain tt (λ draining. tt) other block actor granted s h r
@@ -138,8 +138,8 @@ taker_leads other on = absurd (false≢true on)
 
 pub apart : (k : Next) (block actor : ℕ) (granted : Bool) (s : Shared) (h : HandState) (r : Running) → leads_to_takings k ≡ false
     → OnApart (kind_turn k block actor granted s h r)
-apart (Snapshots step) block actor granted s h r e =
-    on_apart (snapshot_turn step actor granted s h r) (plain (Snapshots step) block actor granted s h r refl)
+apart (Maintenance step) block actor granted s h r e =
+    on_apart (maintenance_turn step actor granted s h r) (plain (Maintenance step) block actor granted s h r refl)
 apart other block actor granted s h r e =
     kind_next IsApart (λ next last. plain_apart next (last_plain next last)) tt (λ draining. tt) other block actor granted s h r
     (λ on. sequel_any IsApart all_apart other (noted other block s h r) on)

@@ -9,8 +9,8 @@ use Rattle.nv_cell.specs.Cell.{published}
 use Rattle.nv_cell.specs.declared.killed.KilledPart.{KilledPart}
 use Rattle.nv_machine.specs.Kinds.{asked_list, blocks_left, entries_for, first_killed, given, less_list, old_tails, retired_book, retired_cell, with_bytes, with_entries, with_erased, with_freed, with_given, with_killed, with_pages}
 use Rattle.nv_machine.specs.Reads.{pages_needed, slot_at, written_slots}
-use Rattle.nv_machine.specs.Snapshots.{with_released}
-use Rattle.nv_machine.specs.World.{Append, Back, Close, Drop, Enter, Give, HandState, Leave, Lock, LockPicked, Make, Next, Number, Open, Pick, Pin, Publish, Ready, Release, Retire, Running, Shared, Show, SnapshotStep, Snapshots, TakeBlocks, TakePages, Unlock, Unpin, cell_at, list_at, with_book, with_cell, with_numbers, with_owner}
+use Rattle.nv_machine.specs.Maintenance.{with_released}
+use Rattle.nv_machine.specs.World.{Append, Back, Close, Drop, Enter, Give, HandState, Leave, Lock, LockPicked, Make, Next, Number, Open, Pick, Pin, Publish, Ready, Release, Retire, Running, Shared, Show, MaintenanceStep, Maintenance, TakeBlocks, TakePages, Unlock, Unpin, cell_at, list_at, with_book, with_cell, with_numbers, with_owner}
 
 -- what is shared, and a hand
 pub record Both : Type 0 where
@@ -43,15 +43,15 @@ release_work picked s h =
     both (with_cell picked.ino (erased (released picked (cell_at s picked.ino))) s)
     (with_erased picked.ino (released picked (cell_at s picked.ino)) (with_released picked s h))
 
-abbrev pub snapshot_work : SnapshotStep → ℕ → Shared → HandState → Both
-snapshot_work Make actor s h = both (with_book (after_make_snapshot s.book) s) h
-snapshot_work (Drop snapshot) actor s h = both (with_book (after_drop_snapshot snapshot s.book) s) h
-snapshot_work (Pin snapshot) actor s h = both (with_book (after_pin_snapshot snapshot s.book) s) h
-snapshot_work (Show snapshot showing) actor s h = both s h
-snapshot_work (Unpin snapshot seen) actor s h = both (with_book (after_unpin_snapshot snapshot s.book) s) h
-snapshot_work (Pick draining) actor s h = both (with_book (after_pick s.book) s) h
-snapshot_work (LockPicked draining picked) actor s h = both (with_owner picked.ino (Some actor) s) h
-snapshot_work (Release draining picked) actor s h = release_work picked s h
+abbrev pub maintenance_work : MaintenanceStep → ℕ → Shared → HandState → Both
+maintenance_work Make actor s h = both (with_book (after_make_snapshot s.book) s) h
+maintenance_work (Drop snapshot) actor s h = both (with_book (after_drop_snapshot snapshot s.book) s) h
+maintenance_work (Pin snapshot) actor s h = both (with_book (after_pin_snapshot snapshot s.book) s) h
+maintenance_work (Show snapshot showing) actor s h = both s h
+maintenance_work (Unpin snapshot seen) actor s h = both (with_book (after_unpin_snapshot snapshot s.book) s) h
+maintenance_work (Pick draining) actor s h = both (with_book (after_pick s.book) s) h
+maintenance_work (LockPicked draining picked) actor s h = both (with_owner picked.ino (Some actor) s) h
+maintenance_work (Release draining picked) actor s h = release_work picked s h
 
 abbrev pub work : Next → ℕ → ℕ → Shared → HandState → Running → Both
 work Number block actor s h r = number_work s.pool.numbers s h
@@ -77,7 +77,7 @@ work Leave block actor s h r = both (record s { holder = None }) h
 work (Unlock place) block actor s h r = both (with_owner (slot_at r.slots place) None s) h
 work (Give cpu) block actor s h r = both (with_given cpu h s) (given cpu s h)
 work Back block actor s h r = back_work h.ino s h
-work (Snapshots step) block actor s h r = snapshot_work step actor s h
+work (Maintenance step) block actor s h r = maintenance_work step actor s h
 work other block actor s h r = both s h
 
 -- A NUMBER that is taken or goes back changes the numbers of the pool and the number in the hand, and nothing else

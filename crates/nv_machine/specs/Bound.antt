@@ -4,16 +4,16 @@ use Rattle.std.specs.List.{AllByRecursion}
 use Rattle.nv_base.specs.declared.limits.TheConstants.{DRAIN, INODES}
 use Rattle.nv_calls.specs.declared.call.Call.{Call}
 use Rattle.nv_calls.specs.declared.call.Call.TheVariants as call
-use Rattle.nv_calls.specs.declared.snapshot_call.SnapshotCall.TheVariants as on
+use Rattle.nv_calls.specs.declared.maintenance_call.MaintenanceCall.TheVariants as on
 use Rattle.nv_machine.specs.Step.{step}
-use Rattle.nv_machine.specs.World.{Append, Back, Check, Close, Drains, Drop, Ending, Ends, Enter, Event, Give, Go, Leave, Lock, LockPicked, Look, Make, Moved, Moves, Next, Number, Open, Pick, Pin, Publish, Ready, Release, Reply, Retire, Running, Show, SnapshotStep, Snapshots, Start, TakeBlocks, TakePages, Turn, Unlock, Unpin, Visit, Waits, World, actor_at}
+use Rattle.nv_machine.specs.World.{Append, Back, Check, Close, Drains, Drop, Ending, Ends, Enter, Event, Give, Go, Leave, Lock, LockPicked, Look, Make, Moved, Moves, Next, Number, Open, Pick, Pin, Publish, Ready, Release, Reply, Retire, Running, Show, MaintenanceStep, Maintenance, Start, TakeBlocks, TakePages, Turn, Unlock, Unpin, Visit, Waits, World, actor_at}
 
 -- a whole round, whatever its looks find
 abbrev pub round : ℕ → ℕ
 round cpus = 44 + 3 * cpus
 
 -- the steps left of a call on snapshots, of a drain with the records that it may still release
-abbrev pub rank_on : ℕ → ℕ → SnapshotStep → ℕ
+abbrev pub rank_on : ℕ → ℕ → MaintenanceStep → ℕ
 rank_on cpus slots Make = 4 + cpus + slots
 rank_on cpus slots (Drop snapshot) = 4 + cpus + slots
 rank_on cpus slots (Pin snapshot) = INODES + (4 + cpus + slots)
@@ -43,7 +43,7 @@ rank cpus slots Visit = 14 + 3 * cpus + 4 * slots
 rank cpus slots (Lock place) = 15 + 3 * cpus + 4 * slots + (slots - place)
 rank cpus slots Number = 41 + 3 * cpus
 rank cpus slots (Look place) = 41 + 3 * cpus + (2 - place)
-rank cpus slots (Snapshots step) = rank_on cpus slots step
+rank cpus slots (Maintenance step) = rank_on cpus slots step
 
 -- and behind a record that a drain has released, those of the records that it may still release
 abbrev pub rank_behind : ℕ → Ending → ℕ
@@ -57,8 +57,8 @@ bound cpus r = rank_behind cpus r.ending + r.rounds * round cpus + rank cpus (le
 -- the steps of a call: eight rounds, a visit for each inode that there can be, or a round for each
 -- record that it may release
 abbrev pub most_steps_of : Call → ℕ → ℕ
-most_steps_of (call.Snapshots (on.Drain count)) cpus = (8 + DRAIN) * round cpus
-most_steps_of (call.Snapshots c) cpus = 8 * round cpus + INODES
+most_steps_of (call.Maintenance (on.Drain count)) cpus = (8 + DRAIN) * round cpus
+most_steps_of (call.Maintenance c) cpus = 8 * round cpus + INODES
 most_steps_of c cpus = 8 * round cpus
 
 -- and of any call

@@ -13,9 +13,9 @@ use Rattle.nv_machine.specs.Answered.{IsEnding}
 use Rattle.nv_machine.specs.Kinds.{asked_list}
 use Rattle.nv_machine.specs.Sequence.{beginning}
 use Rattle.nv_epoch.specs.SnapList.{pins_of}
-use Rattle.nv_machine.specs.Snapshots.{drop_tests, is_first, make_tests}
+use Rattle.nv_machine.specs.Maintenance.{drop_tests, is_first, make_tests}
 use Rattle.nv_machine.specs.Step.{check_grows, is_numbered, same_looked, visit_grows}
-use Rattle.nv_machine.specs.World.{Answers, Check, Drains, Drop, Ending, Ends, Enter, HandState, Look, Make, Moves, Next, Overtaken, Pick, Pin, Ready, Refuses, Running, Shared, Show, SnapshotStep, Snapshots, TakeBlocks, TakePages, Turn, Visit, Waits, list_at}
+use Rattle.nv_machine.specs.World.{Answers, Check, Drains, Drop, Ending, Ends, Enter, HandState, Look, Make, Moves, Next, Overtaken, Pick, Pin, Ready, Refuses, Running, Shared, Show, MaintenanceStep, Maintenance, TakeBlocks, TakePages, Turn, Visit, Waits, list_at}
 
 -- ---- causes
 
@@ -59,7 +59,7 @@ IsRoundless r fault = (fault ≡ Contended) × (r.rounds ≡ 0)
 
 -- for what a step of a call on snapshots refuses it: no further epoch or no room for one more snapshot, no such
 -- snapshot, one that has a pin, or memory that a show or a first pick asks for
-abbrev pub IsCauseOn : SnapshotStep → Bool → Shared → Fault → Type 0
+abbrev pub IsCauseOn : MaintenanceStep → Bool → Shared → Fault → Type 0
 IsCauseOn Make granted s fault = make_tests s.book.snaps ≡ Err fault
 IsCauseOn (Drop snapshot) granted s fault = drop_tests (pins_of s.book.snaps snapshot) ≡ Err fault
 IsCauseOn (Pin snapshot) granted s fault = (fault ≡ NoSnapshot) × (pins_of s.book.snaps snapshot ≡ None)
@@ -80,7 +80,7 @@ IsCause Ready block actor granted nodes s h r fault = IsDenied granted fault
 IsCause Enter block actor granted nodes s h r fault = IsAtLimit s fault ⊎ IsDenied granted fault
 IsCause Visit block actor granted nodes s h r fault =
     IsRefusal block nodes r fault ⊎ (IsDenied granted fault × (visit_grows r.call ≡ true) × Passes block nodes r)
-IsCause (Snapshots step) block actor granted nodes s h r fault = IsCauseOn step granted s fault
+IsCause (Maintenance step) block actor granted nodes s h r fault = IsCauseOn step granted s fault
 IsCause other block actor granted nodes s h r fault = ⊥
 
 -- a call may be overtaken at its check alone

@@ -15,7 +15,7 @@ use Rattle.nv_machine.specs.Held.{is_of_slot, pending_in}
 use Rattle.nv_machine.specs.PoolScan.{is_withheld}
 use Rattle.nv_machine.specs.Settled.{settled}
 use Rattle.nv_machine.specs.Step.{changed}
-use Rattle.nv_machine.specs.World.{Back, Give, Leave, Next, Pick, Retire, Running, Shared, Snapshots, Unlock, World, actor_at, cell_at, empty_hand}
+use Rattle.nv_machine.specs.World.{Back, Give, Leave, Next, Pick, Retire, Running, Shared, Maintenance, Unlock, World, actor_at, cell_at, empty_hand}
 
 -- what keeps the pairs of a slot, but for a hand that has killed them: the living snapshots and, by name,
 -- these that are pending
@@ -73,7 +73,7 @@ abbrev pub is_done_with : Option Running → Bool
 is_done_with None = true
 is_done_with (Some r) = picks_next r.next where
   picks_next : Next → Bool
-  picks_next (Snapshots (Pick draining)) = true
+  picks_next (Maintenance (Pick draining)) = true
   picks_next other = false
 
 -- so it is, and the pool has the number

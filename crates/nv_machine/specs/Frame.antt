@@ -5,7 +5,7 @@ use Rattle.nv_machine.specs.Kinds.{asked_list}
 use Rattle.nv_machine.specs.Reads.{slot_at, written_slots}
 use Rattle.nv_machine.specs.Sequence.{beginning, begun}
 use Rattle.nv_machine.specs.Step.{Step, turn, turned}
-use Rattle.nv_machine.specs.World.{Append, Back, Check, Close, Ends, Enter, Give, Leave, Lock, LockPicked, Look, Moves, Next, Number, Open, Publish, Ready, Release, Retire, Running, Shared, Show, SnapshotStep, Snapshots, Started, TakeBlocks, TakePages, Turn, Unlock, Visit, Waits, World, actor_at, cell_at, list_at, owner_at}
+use Rattle.nv_machine.specs.World.{Append, Back, Check, Close, Ends, Enter, Give, Leave, Lock, LockPicked, Look, Moves, Next, Number, Open, Publish, Ready, Release, Retire, Running, Shared, Show, MaintenanceStep, Maintenance, Started, TakeBlocks, TakePages, Turn, Unlock, Visit, Waits, World, actor_at, cell_at, list_at, owner_at}
 
 -- the parts that a step may change: the free list of a CPU, the pool, the cell of a slot, the lock of a slot, the
 -- book, and the commit lock
@@ -21,7 +21,7 @@ abbrev pub nothing_lent : Lent
 nothing_lent = record { list = None; pool = false; cell = None; lock = None; book = false; commit_lock = false }
 
 -- what a step of a call on snapshots is lent
-abbrev pub lent_on : SnapshotStep → Lent
+abbrev pub lent_on : MaintenanceStep → Lent
 lent_on (Show snapshot showing) = nothing_lent
 lent_on (LockPicked draining picked) = record nothing_lent { lock = Some picked.ino }
 lent_on (Release draining picked) = record nothing_lent { cell = Some picked.ino }
@@ -47,7 +47,7 @@ lent (Unlock place) cpus actor r = record nothing_lent { lock = Some (slot_at r.
 lent (Give cpu) cpus actor r = record nothing_lent { list = Some cpu }
 lent Back cpus actor r = record nothing_lent { pool = true }
 lent Visit cpus actor r = nothing_lent
-lent (Snapshots step) cpus actor r = lent_on step
+lent (Maintenance step) cpus actor r = lent_on step
 
 -- what is not lent stays
 abbrev pub Stays : Bool → Type 0 → Type 0

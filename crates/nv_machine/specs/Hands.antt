@@ -19,8 +19,8 @@ use Rattle.nv_entry.specs.Covered.{part_total}
 use Rattle.nv_machine.specs.Kinds.{blocks_in}
 use Rattle.nv_machine.specs.Numbers.{IsEachOnce, all_blocks}
 use Rattle.nv_machine.specs.Reads.{written_slots}
-use Rattle.nv_machine.specs.Sequence.{Beginning, Looks, Locks, Numbers, OnSnapshots, Visits, beginning, nothing_looked}
-use Rattle.nv_machine.specs.World.{Answers, Append, Back, Check, Close, Enter, Give, HandState, Leave, Lock, Look, Next, Number, Open, Overtaken, Publish, Ready, Retire, Running, Shared, SnapshotStep, Snapshots, TakeBlocks, TakePages, Unlock, Unpin, Visit, World, actor_at, cell_at, empty_hand, list_at}
+use Rattle.nv_machine.specs.Sequence.{Beginning, Looks, Locks, Numbers, Maintains, Visits, beginning, nothing_looked}
+use Rattle.nv_machine.specs.World.{Answers, Append, Back, Check, Close, Enter, Give, HandState, Leave, Lock, Look, Next, Number, Open, Overtaken, Publish, Ready, Retire, Running, Shared, MaintenanceStep, Maintenance, TakeBlocks, TakePages, Unlock, Unpin, Visit, World, actor_at, cell_at, empty_hand, list_at}
 
 -- ---- lists and cells
 
@@ -76,7 +76,7 @@ makes_inode Numbers = true
 makes_inode Looks = false
 makes_inode Locks = false
 makes_inode Visits = false
-makes_inode (OnSnapshots what) = false
+makes_inode (Maintains what) = false
 
 -- before a check has passed a hand has a new inode's number at most, and no name was looked up for one
 pub record HasTakenNone (h : HandState) (r : Running) : Type 0 where
@@ -134,10 +134,10 @@ HandAt g (Unlock place) h r = (h.killed ≡ []) × (r.ending ≡ Overtaken → B
 HandAt g (Give cpu) h r = (h.killed ≡ []) × (cpu < g.cpus) × AreGiven g cpu (blocks_in h)
 HandAt g Back h r = (h.killed ≡ []) × (blocks_in h ≡ [])
 HandAt g Visit h r = h ≡ empty_hand
-HandAt g (Snapshots step) h r = h ≡ empty_hand
+HandAt g (Maintenance step) h r = h ≡ empty_hand
 
 -- until its last steps a call is to be answered; a show takes its pin off whatever it is answered
-abbrev pub is_going_on : SnapshotStep → Bool
+abbrev pub is_going_on : MaintenanceStep → Bool
 is_going_on (Unpin snapshot seen) = false
 is_going_on other = true
 
@@ -145,7 +145,7 @@ abbrev pub is_going : Next → Bool
 is_going (Unlock place) = false
 is_going (Give cpu) = false
 is_going Back = false
-is_going (Snapshots step) = is_going_on step
+is_going (Maintenance step) = is_going_on step
 is_going other = true
 
 abbrev pub HandOf : GeometryNumbers → HandState → Option Running → Type 0

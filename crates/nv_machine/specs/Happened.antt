@@ -7,13 +7,13 @@ use Rattle.nv_book.specs.declared.event.Event.TheVariants.{Committed, Dropped, M
 use Rattle.nv_book.specs.declared.history.TheConstants.{LATEST}
 use Rattle.nv_journal.specs.Journal.{tail_noted}
 use Rattle.nv_journal.specs.declared.old_tail.OldTail.{OldTail}
-use Rattle.nv_machine.specs.PlainRun.{Commits, Deed, Nothing, Numbers, OnSnapshots, actor_of, deed_of}
+use Rattle.nv_machine.specs.PlainRun.{Commits, Deed, Nothing, Numbers, Maintains, actor_of, deed_of}
 use Rattle.nv_machine.specs.Step.{step}
-use Rattle.nv_machine.specs.World.{Close, Drop, Event, Make, Next, Publish, Shared, SnapshotStep, World}
+use Rattle.nv_machine.specs.World.{Close, Drop, Event, Make, Next, Publish, Shared, MaintenanceStep, World}
 
 -- ---- the history
 
-abbrev pub added_on : SnapshotStep → Shared → List BookEvent
+abbrev pub added_on : MaintenanceStep → Shared → List BookEvent
 added_on Make s = Made s.book.snaps.epoch ∷ []
 added_on (Drop snapshot) s = Dropped snapshot ∷ []
 added_on other s = []
@@ -23,7 +23,7 @@ abbrev pub added : Deed → ℕ → Shared → List BookEvent
 added Nothing actor s = []
 added Numbers actor s = Committed actor (s.book.commit + 1) s.book.snaps.epoch ∷ []
 added Commits actor s = []
-added (OnSnapshots step) actor s = added_on step s
+added (Maintains step) actor s = added_on step s
 
 -- WHAT HAPPENED, the earliest first
 abbrev pub happened : World → List Event → List BookEvent

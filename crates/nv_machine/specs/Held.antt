@@ -18,7 +18,7 @@ use Rattle.nv_entry.specs.Log.{pairs}
 use Rattle.nv_epoch.specs.SnapList.{ids}
 use Rattle.nv_machine.specs.Numbers.{held_by_actor}
 use Rattle.nv_machine.specs.Reads.{written_slots}
-use Rattle.nv_machine.specs.World.{Actor, Close, HandState, LockPicked, Next, Publish, Release, Retire, Running, SnapshotStep, Snapshots, World, cell_at}
+use Rattle.nv_machine.specs.World.{Actor, Close, HandState, LockPicked, Next, Publish, Release, Retire, Running, MaintenanceStep, Maintenance, World, cell_at}
 
 -- ---- what is killed: published over, and not yet retired
 
@@ -48,13 +48,13 @@ killed_in w ino = flat_map (killed_by_actor ino) w.actors
 
 -- ---- what is pending: deferred, or picked by a drain and not yet released
 
-abbrev pub picked_on : SnapshotStep → List Record
+abbrev pub picked_on : MaintenanceStep → List Record
 picked_on (LockPicked draining picked) = picked ∷ []
 picked_on (Release draining picked) = picked ∷ []
 picked_on other = []
 
 abbrev pub picked_at : Next → List Record
-picked_at (Snapshots step) = picked_on step
+picked_at (Maintenance step) = picked_on step
 picked_at other = []
 
 abbrev pub picked_by_call : Option Running → List Record

@@ -19,7 +19,7 @@ use Rattle.nv_entry.specs.declared.item.Entry.{Entry}
 use Rattle.nv_journal.specs.declared.old_tail.OldTail.{OldTail}
 use Rattle.nv_machine.specs.Reads.{written_slots}
 use Rattle.nv_machine.specs.Settled.{settled, settled_tail}
-use Rattle.nv_machine.specs.World.{Answers, Append, Back, Check, Close, Enter, Give, HandState, Leave, Lock, Look, Next, Number, Open, Overtaken, Publish, Ready, Release, Retire, Running, Shared, Snapshots, TakeBlocks, TakePages, Unlock, Visit, World, actor_at, cell_at, empty_hand}
+use Rattle.nv_machine.specs.World.{Answers, Append, Back, Check, Close, Enter, Give, HandState, Leave, Lock, Look, Next, Number, Open, Overtaken, Publish, Ready, Release, Retire, Running, Shared, Maintenance, TakeBlocks, TakePages, Unlock, Visit, World, actor_at, cell_at, empty_hand}
 
 -- ---- blocks
 
@@ -37,7 +37,7 @@ AreApart slots = (n m : ℕ) (b c : BlockValue) → slice_index_or slots n None 
 
 -- a part that is to be released is covered in its log
 abbrev pub IsReleaseCovered : Shared → Next → Type 0
-IsReleaseCovered s (Snapshots (Release draining picked)) =
+IsReleaseCovered s (Maintenance (Release draining picked)) =
     is_covered (cell_at s picked.ino).block (log_of (cell_at s picked.ino)) (number_in (cell_at s picked.ino) (name_of picked)) ≡ true
 IsReleaseCovered s other = Unit {0}
 
@@ -130,7 +130,7 @@ Knows (Unlock place) block s cpu h r = r.ending ≡ Overtaken → HasNothing h
 Knows (Give home) block s cpu h r = Unit {0}
 Knows Back block s cpu h r = Unit {0}
 Knows Visit block s cpu h r = Unit {0}
-Knows (Snapshots step) block s cpu h r = Unit {0}
+Knows (Maintenance step) block s cpu h r = Unit {0}
 
 abbrev pub KnowsOf : Option Running → ℕ → Shared → ℕ → HandState → Type 0
 KnowsOf None block s cpu h = Unit {0}

@@ -1,7 +1,7 @@
 -- WHICH STEPS ARE LENT EACH PART of what is shared, part by part.
 use Rattle.std.specs.Prelude.{◌≡◌, Bool, true, false, is_some}
 use Rattle.nv_machine.specs.Frame.{Lent}
-use Rattle.nv_machine.specs.World.{Append, Back, Close, Drop, Enter, Give, Leave, Lock, LockPicked, Make, Next, Number, Open, Pick, Pin, Publish, Release, Retire, SnapshotStep, Snapshots, TakeBlocks, TakePages, Unlock, Unpin}
+use Rattle.nv_machine.specs.World.{Append, Back, Close, Drop, Enter, Give, Leave, Lock, LockPicked, Make, Next, Number, Open, Pick, Pin, Publish, Release, Retire, MaintenanceStep, Maintenance, TakeBlocks, TakePages, Unlock, Unpin}
 
 -- a free list: those that take from one or give to one
 abbrev pub moves_blocks : Next → Bool
@@ -17,7 +17,7 @@ moves_numbers Back = true
 moves_numbers other = false
 
 -- a cell: those that change a log, or what is kept of it
-abbrev pub is_release : SnapshotStep → Bool
+abbrev pub is_release : MaintenanceStep → Bool
 is_release (Release draining picked) = true
 is_release other = false
 
@@ -25,23 +25,23 @@ abbrev pub changes_log : Next → Bool
 changes_log (Append place) = true
 changes_log (Publish place) = true
 changes_log (Retire place) = true
-changes_log (Snapshots step) = is_release step
+changes_log (Maintenance step) = is_release step
 changes_log other = false
 
 -- the lock of a slot: those that lock and unlock
-abbrev pub locks_picked : SnapshotStep → Bool
+abbrev pub locks_picked : MaintenanceStep → Bool
 locks_picked (LockPicked draining picked) = true
 locks_picked other = false
 
 abbrev pub changes_lock : Next → Bool
 changes_lock (Lock place) = true
 changes_lock (Unlock place) = true
-changes_lock (Snapshots step) = locks_picked step
+changes_lock (Maintenance step) = locks_picked step
 changes_lock other = false
 
 -- the book: those that number a commit, note its tails, or file records; and those that change the list of snapshots or
 -- what is deferred
-abbrev pub changes_snapshots : SnapshotStep → Bool
+abbrev pub changes_snapshots : MaintenanceStep → Bool
 changes_snapshots Make = true
 changes_snapshots (Drop snapshot) = true
 changes_snapshots (Pin snapshot) = true
@@ -54,7 +54,7 @@ changes_book Enter = true
 changes_book Open = true
 changes_book Close = true
 changes_book (Retire place) = true
-changes_book (Snapshots step) = changes_snapshots step
+changes_book (Maintenance step) = changes_snapshots step
 changes_book other = false
 
 -- the commit lock: the first step of a commit and its last

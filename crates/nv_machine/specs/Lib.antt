@@ -42,7 +42,7 @@ pub mod Scanned
 pub mod Sequence
 pub mod Settled
 pub mod Shapes
-pub mod Snapshots
+pub mod Maintenance
 pub mod Starts
 pub mod Step
 pub mod StepNames

@@ -10,13 +10,13 @@ use Rattle.nv_machine.specs.Reads.{slot_at, written_slots}
 use Rattle.nv_machine.specs.Sequence.{directories, nothing_looked}
 use Rattle.nv_machine.specs.Step.{handle_at}
 use Rattle.nv_calls.specs.Locked.{handles}
-use Rattle.nv_machine.specs.Snapshots.{visited}
-use Rattle.nv_machine.specs.World.{Append, Back, Close, Enter, Give, Leave, Lock, LockPicked, Look, Next, Number, Open, Publish, Release, Retire, Running, Shared, Show, SnapshotStep, Snapshots, Unlock, Visit, World, actor_at, owner_at}
+use Rattle.nv_machine.specs.Maintenance.{visited}
+use Rattle.nv_machine.specs.World.{Append, Back, Close, Enter, Give, Leave, Lock, LockPicked, Look, Next, Number, Open, Publish, Release, Retire, Running, Shared, Show, MaintenanceStep, Maintenance, Unlock, Visit, World, actor_at, owner_at}
 
 -- ---- what a call holds
 
 -- a drain has locked the inode of a record that it releases
-abbrev pub held_on : SnapshotStep → List ℕ → List ℕ
+abbrev pub held_on : MaintenanceStep → List ℕ → List ℕ
 held_on (Release draining picked) slots = slots
 held_on other slots = []
 
@@ -29,7 +29,7 @@ held_at (Unlock place) slots = drop place slots
 held_at (Give cpu) slots = []
 held_at Back slots = []
 held_at Visit slots = []
-held_at (Snapshots step) slots = held_on step slots
+held_at (Maintenance step) slots = held_on step slots
 held_at other slots = slots
 
 -- whether it holds the commit lock: from its enter to its leave
@@ -60,7 +60,7 @@ pub record AreSlots (slots : ℕ) (list : List ℕ) : Type 0 where
   pub inside : AllByRecursion (λ ino. ino < slots) list
 
 -- a call on snapshots locks the inode of the record that it has picked, and none else
-abbrev pub slots_on : SnapshotStep → List ℕ
+abbrev pub slots_on : MaintenanceStep → List ℕ
 slots_on (LockPicked draining picked) = picked.ino ∷ []
 slots_on (Release draining picked) = picked.ino ∷ []
 slots_on other = []
@@ -73,7 +73,7 @@ IsInside (Append place) r = place < length (written_slots r)
 IsInside (Publish place) r = place < length (written_slots r)
 IsInside (Retire place) r = place < length (written_slots r)
 IsInside Visit r = r.slots ≡ []
-IsInside (Snapshots step) r = r.slots ≡ slots_on step
+IsInside (Maintenance step) r = r.slots ≡ slots_on step
 IsInside other r = Unit {0}
 
 abbrev pub HasSlots : ℕ → Option Running → Type 0
@@ -108,7 +108,7 @@ abbrev pub IsHeldByOther : ℕ → Option ℕ → Type 0
 IsHeldByOther actor owner = (other : ℕ) × (owner ≡ Some other) × (other ≢ actor)
 
 -- the lock that a step of a call on snapshots needs
-abbrev pub WaitsOn : Shared → ℕ → SnapshotStep → Type 0
+abbrev pub WaitsOn : Shared → ℕ → MaintenanceStep → Type 0
 WaitsOn s actor (Show snapshot showing) = IsHeldByOther actor (owner_at s (visited showing.visits).ino)
 WaitsOn s actor (LockPicked draining picked) = IsHeldByOther actor (owner_at s picked.ino)
 WaitsOn s actor (Release draining picked) = ⊥
@@ -120,7 +120,7 @@ WaitsFor s actor r (Look place) = IsHeldByOther actor (owner_at s (handle_at (di
 WaitsFor s actor r (Lock place) = IsHeldByOther actor (owner_at s (slot_at r.slots place))
 WaitsFor s actor r Enter = IsHeldByOther actor s.holder
 WaitsFor s actor r Visit = IsHeldByOther actor (owner_at s (handle_at (handles nothing_looked r.call) 0).ino)
-WaitsFor s actor r (Snapshots step) = WaitsOn s actor step
+WaitsFor s actor r (Maintenance step) = WaitsOn s actor step
 WaitsFor s actor r other = ⊥
 
 -- ---- what is lent

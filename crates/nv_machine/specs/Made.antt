@@ -3,7 +3,7 @@ use Rattle.std.specs.Prelude.{◌||◌, Bool, false, List, [], ◌∷◌, ◌++�
 use Rattle.nv_base.specs.declared.numbers.Handle.{Handle}
 use Rattle.nv_calls.specs.Locked.{made_by}
 use Rattle.nv_calls.specs.Plain.{same_handle}
-use Rattle.nv_machine.specs.PlainRun.{Commits, Deed, Nothing, Numbers, OnSnapshots, actor_of, deed_of}
+use Rattle.nv_machine.specs.PlainRun.{Commits, Deed, Nothing, Numbers, Maintains, actor_of, deed_of}
 use Rattle.nv_machine.specs.Step.{step}
 use Rattle.nv_machine.specs.World.{Event, Running, World, actor_at}
 
@@ -16,7 +16,7 @@ abbrev pub made_at : Deed → Option Running → List Handle
 made_at Nothing running = []
 made_at Numbers running = []
 made_at Commits running = new_handle running
-made_at (OnSnapshots step) running = []
+made_at (Maintains step) running = []
 
 -- THE HANDLES that commit points have made, the earliest first
 abbrev pub handles_made : World → List Event → List Handle

@@ -4,12 +4,12 @@ use Rattle.nv_base.specs.declared.fault.Fault.{Fault}
 use Rattle.nv_base.specs.Memory.{out_of_memory}
 use Rattle.nv_machine.specs.Hands.{is_going}
 use Rattle.nv_machine.specs.Kinds.{refuse}
-use Rattle.nv_machine.specs.Snapshots.{is_first}
+use Rattle.nv_machine.specs.Maintenance.{is_first}
 use Rattle.nv_machine.specs.Step.{check_grows, visit_grows, with_made}
-use Rattle.nv_machine.specs.World.{Check, Ends, Enter, HandState, Look, Moves, Next, Pick, Ready, Refuses, Running, Shared, Show, SnapshotStep, Snapshots, Turn, Unpin, Visit}
+use Rattle.nv_machine.specs.World.{Check, Ends, Enter, HandState, Look, Moves, Next, Pick, Ready, Refuses, Running, Shared, Show, MaintenanceStep, Maintenance, Turn, Unpin, Visit}
 
 -- of the steps of calls on snapshots those that show a node, and the first pick of a drain
-abbrev pub grows_on : SnapshotStep → Bool
+abbrev pub grows_on : MaintenanceStep → Bool
 grows_on (Show snapshot showing) = true
 grows_on (Pick draining) = is_first draining
 grows_on other = false
@@ -20,13 +20,13 @@ grows Check block s h r = check_grows block s h r
 grows Ready block s h r = true
 grows Enter block s h r = true
 grows Visit block s h r = visit_grows r.call
-grows (Snapshots step) block s h r = grows_on step
+grows (Maintenance step) block s h r = grows_on step
 grows other block s h r = false
 
 -- neither to the last steps nor to another round of looks, nor to another record
 abbrev pub is_onward : Next → Bool
 is_onward (Look place) = false
-is_onward (Snapshots step) = false
+is_onward (Maintenance step) = false
 is_onward other = is_going other
 
 abbrev pub moves_onward : Turn → Bool
@@ -45,7 +45,7 @@ is_answered other = false
 -- other goes on towards the commit
 abbrev pub does_its_work : Next → Turn → Bool
 does_its_work Visit turn = is_answered turn
-does_its_work (Snapshots step) turn = is_answered turn || moves_on turn
+does_its_work (Maintenance step) turn = is_answered turn || moves_on turn
 does_its_work other turn = moves_onward turn
 
 -- what a step has noted before it grows anything: a check the handle of a new inode
@@ -55,8 +55,8 @@ noted other s h r = r
 
 -- the call turns to its last steps: a show to the one that takes its pin off
 abbrev pub denied_at : Next → Shared → HandState → Running → Turn
-denied_at (Snapshots (Show snapshot showing)) s h r =
-    Moves s h (record r { ending = Refuses out_of_memory; next = Snapshots (Unpin snapshot []) })
+denied_at (Maintenance (Show snapshot showing)) s h r =
+    Moves s h (record r { ending = Refuses out_of_memory; next = Maintenance (Unpin snapshot []) })
 denied_at other s h r = refuse out_of_memory s h r
 
 -- THE TURN WHERE MEMORY IS REFUSED, by the turn where it is granted: it refuses the call where that one does its work,

@@ -12,7 +12,7 @@ use Rattle.nv_machine.specs.Locks.{commits_at}
 use Rattle.nv_machine.specs.Reads.{written_slots}
 use Rattle.nv_machine.specs.Settled.{settled_copies, settled_nodes}
 use Rattle.nv_machine.specs.Step.{step, turn}
-use Rattle.nv_machine.specs.World.{Close, Drop, Ends, Enter, Event, Go, Make, Moves, Next, Pin, Publish, Running, Shared, SnapshotStep, Snapshots, Start, Turn, Unpin, Waits, World, actor_at}
+use Rattle.nv_machine.specs.World.{Close, Drop, Ends, Enter, Event, Go, Make, Moves, Next, Pin, Publish, Running, Shared, MaintenanceStep, Maintenance, Start, Turn, Unpin, Waits, World, actor_at}
 
 -- a snapshot: all nodes as they were when it was made, and how many shows pin it
 pub record Copy : Type 0 where
@@ -40,13 +40,13 @@ pub data Deed : Type 0 where
   Nothing : Deed
   Numbers : Deed
   Commits : Deed
-  OnSnapshots : (step : SnapshotStep) → Deed
+  Maintains : (step : MaintenanceStep) → Deed
 
 abbrev pub keeps_nodes : Deed → Bool
 keeps_nodes Nothing = true
 keeps_nodes Numbers = true
 keeps_nodes Commits = false
-keeps_nodes (OnSnapshots step) = true
+keeps_nodes (Maintains step) = true
 
 -- an enter that goes on into its commit fixes the number
 abbrev pub entered : Turn → Deed
@@ -54,11 +54,11 @@ entered (Moves s h r) = if commits_at r.next then Numbers else Nothing
 entered other = Nothing
 
 -- a step of a call on snapshots that is not refused and does not wait
-abbrev pub done_on : SnapshotStep → Turn → Deed
-done_on step (Moves s h r) = OnSnapshots step
+abbrev pub done_on : MaintenanceStep → Turn → Deed
+done_on step (Moves s h r) = Maintains step
 done_on step Waits = Nothing
-done_on (Unpin snapshot seen) (Ends result s h) = OnSnapshots (Unpin snapshot seen)
-done_on step (Ends (Ok found) s h) = OnSnapshots step
+done_on (Unpin snapshot seen) (Ends result s h) = Maintains (Unpin snapshot seen)
+done_on step (Ends (Ok found) s h) = Maintains step
 done_on step (Ends (Err fault) s h) = Nothing
 
 -- a publish is the commit point where one inode gets entries, and else the close is
@@ -66,7 +66,7 @@ abbrev pub deed : Next → List ℕ → Turn → Deed
 deed Enter written t = entered t
 deed (Publish place) written t = if nat_lt 1 (length written) then Nothing else Commits
 deed Close written t = Commits
-deed (Snapshots step) written t = done_on step t
+deed (Maintenance step) written t = done_on step t
 deed other written t = Nothing
 
 abbrev pub deed_by : Option Running → World → ℕ → Bool → Deed
@@ -93,7 +93,7 @@ with_pins snapshot change copy = if is_of snapshot copy then record copy { pins 
 
 -- a making adds a copy of the nodes as they are, which the epoch names, and begins the next epoch; a drop takes one
 -- out; a show has a pin from its first step to its last. A drain changes nothing
-abbrev pub after_step : SnapshotStep → Plain → Plain
+abbrev pub after_step : MaintenanceStep → Plain → Plain
 after_step Make p = record p {
   epoch = p.epoch + 1;
   copies = p.copies ++ (record { snapshot = p.epoch; nodes = node_in p.nodes; pins = 0 }) ∷ [];
@@ -107,7 +107,7 @@ abbrev pub done : Deed → Option Running → Plain → Plain
 done Nothing running p = p
 done Numbers running p = record p { commit = p.commit + 1 }
 done Commits running p = record p { nodes = nodes_by running p }
-done (OnSnapshots step) running p = after_step step p
+done (Maintains step) running p = after_step step p
 
 abbrev pub actor_of : Event → ℕ
 actor_of (Start actor c) = actor

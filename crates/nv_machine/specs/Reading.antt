@@ -12,9 +12,9 @@ use Rattle.nv_epoch.specs.SnapList.{Snapshots as Living, pins_of}
 use Rattle.nv_epoch.specs.declared.snapshot.Snapshot.{Snapshot}
 use Rattle.nv_machine.specs.PlainRun.{Copy, Plain, is_of}
 use Rattle.nv_machine.specs.Settled.{settled_copies}
-use Rattle.nv_machine.specs.Snapshots.{drop_tests, make_tests}
+use Rattle.nv_machine.specs.Maintenance.{drop_tests, make_tests}
 use Rattle.nv_machine.specs.Step.{step}
-use Rattle.nv_machine.specs.World.{Actor, Drop, Event, Go, Make, Next, Pin, Refused, Release, Reply, Running, Shared, Show, SnapshotStep, Snapshots, Start, Unpin, World, actor_at}
+use Rattle.nv_machine.specs.World.{Actor, Drop, Event, Go, Make, Next, Pin, Refused, Release, Reply, Running, Shared, Show, MaintenanceStep, Maintenance, Start, Unpin, World, actor_at}
 
 -- ---- copies
 
@@ -45,13 +45,13 @@ copied_tree inodes (copy ∷ copies) snapshot =
 
 -- ---- pins: what is between a show's first step and its last
 
-abbrev pub pins_on : ℕ → SnapshotStep → Bool
+abbrev pub pins_on : ℕ → MaintenanceStep → Bool
 pins_on snapshot (Show other showing) = other == snapshot
 pins_on snapshot (Unpin other seen) = other == snapshot
 pins_on snapshot other = false
 
 abbrev pub pins_at : ℕ → Next → Bool
-pins_at snapshot (Snapshots step) = pins_on snapshot step
+pins_at snapshot (Maintenance step) = pins_on snapshot step
 pins_at snapshot other = false
 
 abbrev pub pins_by_call : ℕ → Option Running → Bool
@@ -84,7 +84,7 @@ test_there None = Err NoSnapshot
 test_there (Some pins) = passes
 
 -- for what the plain world refuses a step, where so many snapshots may live
-abbrev pub plain_tests : ℕ → SnapshotStep → Plain → Tests
+abbrev pub plain_tests : ℕ → MaintenanceStep → Plain → Tests
 plain_tests most Make p =
     if nat_le NUMBER p.epoch then Err EpochLimit else if nat_le most (length p.copies) then Err TooManySnapshots else passes
 plain_tests most (Drop snapshot) p = test_pins (pins_in p.copies snapshot)
@@ -92,14 +92,14 @@ plain_tests most (Pin snapshot) p = test_there (pins_in p.copies snapshot)
 plain_tests most other p = passes
 
 -- and for what the machine does, by its list of snapshots
-abbrev pub tests_on : SnapshotStep → Living → Tests
+abbrev pub tests_on : MaintenanceStep → Living → Tests
 tests_on Make snaps = make_tests snaps
 tests_on (Drop snapshot) snaps = drop_tests (pins_of snaps snapshot)
 tests_on (Pin snapshot) snaps = test_there (pins_of snaps snapshot)
 tests_on other snaps = passes
 
 -- the steps that the list of snapshots may refuse
-abbrev pub is_tested : SnapshotStep → Bool
+abbrev pub is_tested : MaintenanceStep → Bool
 is_tested Make = true
 is_tested (Drop snapshot) = true
 is_tested (Pin snapshot) = true
@@ -113,7 +113,7 @@ GoesBy (Ok passed) reply = (fault : Fault) → reply ≢ Refused fault
 -- ---- releases
 
 abbrev pub releases_at : Next → ℕ
-releases_at (Snapshots (Release draining picked)) = 1
+releases_at (Maintenance (Release draining picked)) = 1
 releases_at other = 0
 
 abbrev pub releases_of : Option Running → ℕ

@@ -18,7 +18,7 @@ use Rattle.nv_entry.specs.declared.held.Pair.{Pair}
 use Rattle.nv_epoch.specs.SnapList.{ids}
 use Rattle.nv_machine.specs.Held.{is_of_slot, killed_in, pending_in}
 use Rattle.nv_machine.specs.Kinds.{first_killed}
-use Rattle.nv_machine.specs.PlainRun.{Deed, OnSnapshots, actor_of, deed_of}
+use Rattle.nv_machine.specs.PlainRun.{Deed, Maintains, actor_of, deed_of}
 use Rattle.nv_machine.specs.Reads.{slot_at, written_slots}
 use Rattle.nv_machine.specs.Step.{step}
 use Rattle.nv_machine.specs.World.{Drop, Event, Go, HandState, Next, Pick, Retire, Running, Shared, Start, World, actor_at, cell_at}
@@ -39,8 +39,8 @@ after_retire other s h r rs = rs
 
 -- a drop moves those of its snapshot to the end, and a pick takes out the first that no living one holds
 abbrev pub after_deed : Deed → List ℕ → List Record → List Record
-after_deed (OnSnapshots (Drop snapshot)) living rs = with_moved snapshot living rs
-after_deed (OnSnapshots (Pick draining)) living rs = without_first living rs
+after_deed (Maintains (Drop snapshot)) living rs = with_moved snapshot living rs
+after_deed (Maintains (Pick draining)) living rs = without_first living rs
 after_deed other living rs = rs
 
 abbrev pub retired_in : World → Event → Option Running → List Record → List Record

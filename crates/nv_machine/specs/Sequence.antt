@@ -6,11 +6,11 @@ use Rattle.nv_base.specs.declared.numbers.Handle.{Handle}
 use Rattle.nv_calls.specs.Plain.{same_handle}
 use Rattle.nv_calls.specs.declared.call.Call.{Call}
 use Rattle.nv_calls.specs.declared.call.Call.TheVariants as call
-use Rattle.nv_calls.specs.declared.snapshot_call.SnapshotCall.{SnapshotCall}
-use Rattle.nv_calls.specs.declared.snapshot_call.SnapshotCall.TheVariants as on
+use Rattle.nv_calls.specs.declared.maintenance_call.MaintenanceCall.{MaintenanceCall}
+use Rattle.nv_calls.specs.declared.maintenance_call.MaintenanceCall.TheVariants as on
 use Rattle.nv_entry.specs.Tree.{root}
 use Rattle.nv_machine.specs.Reads.{slots_of, written_slots}
-use Rattle.nv_machine.specs.World.{Answers, Append, Check, Close, Draining, Drop, Enter, Leave, Lock, Look, Make, Next, Number, Open, Pick, Pin, Publish, Ready, Retire, Running, Shared, SnapshotStep, Snapshots, Visit}
+use Rattle.nv_machine.specs.World.{Answers, Append, Check, Close, Draining, Drop, Enter, Leave, Lock, Look, Make, Next, Number, Open, Pick, Pin, Publish, Ready, Retire, Running, Shared, MaintenanceStep, Maintenance, Visit}
 
 -- ---- how calls begin
 
@@ -21,7 +21,7 @@ pub data Beginning : Type 0 where
   Looks : Beginning
   Locks : Beginning
   Visits : Beginning
-  OnSnapshots : (what : SnapshotCall) → Beginning
+  Maintains : (what : MaintenanceCall) → Beginning
 
 abbrev pub beginning : Call → Beginning
 beginning (call.Create dir name mode) = Numbers
@@ -36,7 +36,7 @@ beginning (call.Lookup dir name) = Visits
 beginning (call.Unlink dir name) = Looks
 beginning (call.Rmdir dir name) = Looks
 beginning (call.Rename from old to new) = Looks
-beginning (call.Snapshots what) = OnSnapshots what
+beginning (call.Maintenance what) = Maintains what
 
 -- the directories in which a call looks its names up, one look for each
 abbrev pub directories : Call → List Handle
@@ -109,7 +109,7 @@ started c next slots = record {
 abbrev pub new_draining : ℕ → Draining
 new_draining count = record { released = 0; left = max 1 (min count DRAIN) - 1 }
 
-abbrev pub first_step : SnapshotCall → SnapshotStep
+abbrev pub first_step : MaintenanceCall → MaintenanceStep
 first_step on.Snap = Make
 first_step (on.Drop snapshot) = Drop snapshot
 first_step (on.Show snapshot) = Pin snapshot
@@ -120,4 +120,4 @@ begun Numbers s c = started c Number []
 begun Looks s c = started c (Look 0) []
 begun Locks s c = started c (locking 0 (slots_of s None nothing_looked c)) (slots_of s None nothing_looked c)
 begun Visits s c = started c Visit []
-begun (OnSnapshots what) s c = started c (Snapshots (first_step what)) []
+begun (Maintains what) s c = started c (Maintenance (first_step what)) []

@@ -5,19 +5,19 @@ use Rattle.nv_base.specs.declared.numbers.Handle.{Handle}
 use Rattle.nv_calls.specs.Locked.{handles}
 use Rattle.nv_calls.specs.declared.call.Call.{Call}
 use Rattle.nv_calls.specs.declared.call.Call.TheVariants as call
-use Rattle.nv_calls.specs.declared.snapshot_call.SnapshotCall.TheVariants as on
+use Rattle.nv_calls.specs.declared.maintenance_call.MaintenanceCall.TheVariants as on
 use Rattle.nv_machine.specs.Format.{formatted}
 use Rattle.nv_machine.specs.Kinds.{asked_list}
 use Rattle.nv_machine.specs.Reads.{slot_at, written_slots}
 use Rattle.nv_machine.specs.Sequence.{directories, nothing_looked}
-use Rattle.nv_machine.specs.Snapshots.{visited}
+use Rattle.nv_machine.specs.Maintenance.{visited}
 use Rattle.nv_machine.specs.Step.{handle_at, step}
 use Rattle.nv_machine.specs.StepNames as named
-use Rattle.nv_machine.specs.World.{Append, Back, Check, Close, Drop, Enter, Give, Go, Leave, Lock, LockPicked, Look, Make, Next, Number, Open, Pick, Pin, Publish, Ready, Release, Retire, Running, Show, SnapshotStep, Snapshots, Start, TakeBlocks, TakePages, Unlock, Unpin, Visit, World, actor_at}
+use Rattle.nv_machine.specs.World.{Append, Back, Check, Close, Drop, Enter, Give, Go, Leave, Lock, LockPicked, Look, Make, Next, Number, Open, Pick, Pin, Publish, Ready, Release, Retire, Running, Show, MaintenanceStep, Maintenance, Start, TakeBlocks, TakePages, Unlock, Unpin, Visit, World, actor_at}
 
 -- ---- the steps of a call
 
-abbrev pub name_on : SnapshotStep → named.StepName
+abbrev pub name_on : MaintenanceStep → named.StepName
 name_on Make = named.Make
 name_on (Drop snapshot) = named.Drop
 name_on (Pin snapshot) = named.Pin
@@ -47,7 +47,7 @@ name_of (Unlock place) cpus actor r = named.Unlock (slot_at r.slots place)
 name_of (Give cpu) cpus actor r = named.Give cpu
 name_of Back cpus actor r = named.Back
 name_of Visit cpus actor r = named.Visit (handle_at (handles nothing_looked r.call) 0).ino
-name_of (Snapshots step) cpus actor r = name_on step
+name_of (Maintenance step) cpus actor r = name_on step
 
 -- the steps of the call that an actor runs, up to its end or to so many, and the world that they lead to
 pub record Made : Type 0 where
@@ -160,19 +160,19 @@ rows_of_readers =
 
 -- a snapshot with a file, whose page is written over: the first record is of the old size, and the other of the page
 abbrev pub two_deferred : List Call
-two_deferred = create_a ∷ write_a ∷ call.Snapshots on.Snap ∷ write_a ∷ call.Snapshots (on.Drop 1) ∷ []
+two_deferred = create_a ∷ write_a ∷ call.Maintenance on.Snap ∷ write_a ∷ call.Maintenance (on.Drop 1) ∷ []
 
 abbrev pub rows_on_snapshots : List Row
 rows_on_snapshots =
-    row [] (call.Snapshots on.Snap) (named.Make ∷ [])
-    ∷ row (call.Snapshots on.Snap ∷ []) (call.Snapshots (on.Drop 1)) (named.Drop ∷ [])
+    row [] (call.Maintenance on.Snap) (named.Make ∷ [])
+    ∷ row (call.Maintenance on.Snap ∷ []) (call.Maintenance (on.Drop 1)) (named.Drop ∷ [])
     -- a step for each inode
-    ∷ row (create_a ∷ call.Snapshots on.Snap ∷ []) (call.Snapshots (on.Show 1)) (named.Pin ∷ named.Show 0 ∷ named.Show 1 ∷ named.Unpin ∷ [])
+    ∷ row (create_a ∷ call.Maintenance on.Snap ∷ []) (call.Maintenance (on.Show 1)) (named.Pin ∷ named.Show 0 ∷ named.Show 1 ∷ named.Unpin ∷ [])
     -- the last record of its number ends a drain, and a pick that finds nothing
-    ∷ row two_deferred (call.Snapshots (on.Drain 2))
+    ∷ row two_deferred (call.Maintenance (on.Drain 2))
     (named.Pick ∷ named.LockPicked 1 ∷ named.Release 1 ∷ named.Unlock 1
     ∷ named.Pick ∷ named.LockPicked 1 ∷ named.Release 1 ∷ named.Unlock 1 ∷ named.Give 1 ∷ [])
-    ∷ row two_deferred (call.Snapshots (on.Drain 3))
+    ∷ row two_deferred (call.Maintenance (on.Drain 3))
     (named.Pick ∷ named.LockPicked 1 ∷ named.Release 1 ∷ named.Unlock 1
     ∷ named.Pick ∷ named.LockPicked 1 ∷ named.Release 1 ∷ named.Unlock 1 ∷ named.Give 1 ∷ named.Pick ∷ [])
     ∷ []

@@ -53,15 +53,15 @@ pub record Draining : Type 0 where
 
 -- a step of a call on snapshots. It makes one, or drops one; it pins one, shows its nodes inode by inode and unpins it,
 -- with what it has seen; or it picks a deferred record, locks its inode and releases it
-pub data SnapshotStep : Type 0 where
-  Make : SnapshotStep
-  Drop : (snapshot : ℕ) → SnapshotStep
-  Pin : (snapshot : ℕ) → SnapshotStep
-  Show : (snapshot : ℕ) (showing : Showing) → SnapshotStep
-  Unpin : (snapshot : ℕ) (seen : List TreeNode) → SnapshotStep
-  Pick : (draining : Draining) → SnapshotStep
-  LockPicked : (draining : Draining) (picked : Record) → SnapshotStep
-  Release : (draining : Draining) (picked : Record) → SnapshotStep
+pub data MaintenanceStep : Type 0 where
+  Make : MaintenanceStep
+  Drop : (snapshot : ℕ) → MaintenanceStep
+  Pin : (snapshot : ℕ) → MaintenanceStep
+  Show : (snapshot : ℕ) (showing : Showing) → MaintenanceStep
+  Unpin : (snapshot : ℕ) (seen : List TreeNode) → MaintenanceStep
+  Pick : (draining : Draining) → MaintenanceStep
+  LockPicked : (draining : Draining) (picked : Record) → MaintenanceStep
+  Release : (draining : Draining) (picked : Record) → MaintenanceStep
 
 -- the step of a call that comes next; in a loop with its place: of a directory, a slot, a list asked, an inode written
 pub data Next : Type 0 where
@@ -83,7 +83,7 @@ pub data Next : Type 0 where
   Give : (cpu : ℕ) → Next
   Back : Next
   Visit : Next
-  Snapshots : (step : SnapshotStep) → Next
+  Maintenance : (step : MaintenanceStep) → Next
 
 -- how a call is to end: with its answer, refused, or not yet, since a name was bound anew after the looks; a drain goes
 -- on to the next record, as long as it may release more

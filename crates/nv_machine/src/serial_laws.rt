@@ -9,7 +9,7 @@ ghost use Rattle.nv_book.specs.declared.record.Record.{Record};
 ghost use Rattle.nv_calls.specs.declared.answer.Answer.{Answer};
 ghost use Rattle.nv_calls.specs.declared.call.Call.{Call};
 ghost use Rattle.nv_machine.specs.Alone.{IsAnsweredOn, IsRefusedOn, goes};
-ghost use Rattle.nv_machine.specs.EndsDecided.{is_on_snapshots};
+ghost use Rattle.nv_machine.specs.EndsDecided.{is_maintenance};
 ghost use Rattle.nv_machine.specs.Settled.{settled_nodes};
 ghost use Rattle.nv_machine.specs.Starts.{IsStart};
 ghost use Rattle.nv_machine.specs.Step.{after, step};
@@ -23,7 +23,7 @@ ghost use Rattle.nv_machine.specs.World.{Done, Event, Go, Refused, Running, Star
 pub fn calls_alone_are_the_plain_worlds()
     ensures answered { (g : GeometryNumbers) (start : World) (records : List Record)
         (before : List Event) (actor : ℕ) (c : Call) (grants : List Bool) (granted : Bool)
-        (r : Running) (told : Answer) → IsStart g start records → is_on_snapshots c ≡ false
+        (r : Running) (told : Answer) → IsStart g start records → is_maintenance c ≡ false
         → (step (after start before) (Start actor c)).reply ≡ Started
         → let w = after start (before ++ Start actor c ∷ goes actor grants) in
         (actor_at w actor).running ≡ Some r → (step w (Go actor granted)).reply ≡ Done told
@@ -31,7 +31,7 @@ pub fn calls_alone_are_the_plain_worlds()
         (settled_nodes (step w (Go actor granted)).world.shared) c told }
     ensures refused { (g : GeometryNumbers) (start : World) (records : List Record)
         (before : List Event) (actor : ℕ) (c : Call) (grants : List Bool) (granted : Bool)
-        (r : Running) (fault : Fault) → IsStart g start records → is_on_snapshots c ≡ false
+        (r : Running) (fault : Fault) → IsStart g start records → is_maintenance c ≡ false
         → (step (after start before) (Start actor c)).reply ≡ Started
         → let w = after start (before ++ Start actor c ∷ goes actor grants) in
         (actor_at w actor).running ≡ Some r → (step w (Go actor granted)).reply ≡ Refused fault

@@ -10,8 +10,8 @@ use Rattle.nv_base.specs.declared.limits.TheConstants.{DRAIN, MODE}
 use Rattle.nv_base.specs.declared.numbers.Handle.{Handle}
 use Rattle.nv_calls.specs.declared.call.Call.{Call}
 use Rattle.nv_calls.specs.declared.call.Call.TheVariants as call
-use Rattle.nv_calls.specs.declared.snapshot_call.SnapshotCall.{SnapshotCall}
-use Rattle.nv_calls.specs.declared.snapshot_call.SnapshotCall.TheVariants as snapshots
+use Rattle.nv_calls.specs.declared.maintenance_call.MaintenanceCall.{MaintenanceCall}
+use Rattle.nv_calls.specs.declared.maintenance_call.MaintenanceCall.TheVariants as snapshots
 use Rattle.nv_script.specs.declared.call.CallWord.{CallWord}
 use Rattle.nv_script.specs.declared.call.CallWord.TheVariants as calls
 use Rattle.nv_script.specs.declared.command.Command.{Command}
@@ -90,10 +90,10 @@ row calls.Unlink = entry (codes "unlink") (field.Handle ∷ field.Text ∷ []) (
 row calls.Rmdir = entry (codes "rmdir") (field.Handle ∷ field.Text ∷ []) (λ dir name. call.Rmdir dir name)
 row calls.Rename =
     entry (codes "rename") (field.Handle ∷ field.Text ∷ field.Handle ∷ field.Text ∷ []) (λ from old to new. call.Rename from old to new)
-row calls.Snap = entry (codes "snap") [] (call.Snapshots snapshots.Snap)
-row calls.Drop = entry (codes "drop") (field.Number ∷ []) (λ s. call.Snapshots (snapshots.Drop s))
-row calls.Show = entry (codes "show") (field.Number ∷ []) (λ s. call.Snapshots (snapshots.Show s))
-row calls.Drain = entry (codes "drain") (field.Records ∷ []) (λ most. call.Snapshots (snapshots.Drain most))
+row calls.Snap = entry (codes "snap") [] (call.Maintenance snapshots.Snap)
+row calls.Drop = entry (codes "drop") (field.Number ∷ []) (λ s. call.Maintenance (snapshots.Drop s))
+row calls.Show = entry (codes "show") (field.Number ∷ []) (λ s. call.Maintenance (snapshots.Show s))
+row calls.Drain = entry (codes "drain") (field.Records ∷ []) (λ most. call.Maintenance (snapshots.Drain most))
 
 abbrev pub all_calls : List CallWord
 all_calls =
@@ -133,17 +133,17 @@ reads_or_unbinds calls.Show = false
 reads_or_unbinds calls.Drain = false
 
 -- the calls on snapshots
-abbrev pub is_on_snapshots : CallWord → Bool
-is_on_snapshots calls.Snap = true
-is_on_snapshots calls.Drop = true
-is_on_snapshots calls.Show = true
-is_on_snapshots calls.Drain = true
-is_on_snapshots other = false
+abbrev pub is_maintenance : CallWord → Bool
+is_maintenance calls.Snap = true
+is_maintenance calls.Drop = true
+is_maintenance calls.Show = true
+is_maintenance calls.Drain = true
+is_maintenance other = false
 
 -- a call on snapshots that was read
-abbrev pub snapshots_read : Parsed SnapshotCall → Parsed Call
-snapshots_read (Ok c) = Ok (call.Snapshots c)
-snapshots_read (Err fault) = Err fault
+abbrev pub maintenance_read : Parsed MaintenanceCall → Parsed Call
+maintenance_read (Ok c) = Ok (call.Maintenance c)
+maintenance_read (Err fault) = Err fault
 
 -- the first of some calls that has this name
 abbrev pub named_among : List CallWord → List ℕ → Option CallWord

@@ -2,12 +2,12 @@
 //! definition of the same name.
 
 ghost use Rattle.std.specs.Prelude.{◌≡◌, true};
-ghost use Rattle.nv_script.specs.Grammar.{Reads, all_calls, call_with, fields_in, is_on_snapshots, name_in, named_among, reads_or_unbinds, row, snapshots_read, texts, third_call};
+ghost use Rattle.nv_script.specs.Grammar.{Reads, all_calls, call_with, fields_in, is_maintenance, name_in, named_among, reads_or_unbinds, row, maintenance_read, texts, third_call};
 
 use crate::fault::LineFault;
 use crate::field::{Field, handle_at, mode_at, number_at, records_at, text_at, word_at};
 use nv_base::{Epoch, ScriptFaultKind};
-use nv_core::{Call, SnapshotCall};
+use nv_core::{Call, MaintenanceCall};
 use std::alloc::Global;
 
 /// A call by its name.
@@ -167,7 +167,7 @@ impl CallWord {
                 mode: mode_at(words, 4)?,
             }),
             CallWord::Snap | CallWord::Drop | CallWord::Show | CallWord::Drain => {
-                Ok(Call::Snapshots(self.read_snapshots(words)?))
+                Ok(Call::Maintenance(self.read_maintenance(words)?))
             }
             _ => self.read_names(alloc, words),
         }
@@ -208,15 +208,15 @@ impl CallWord {
     }
 
     /// The calls on snapshots.
-    fn read_snapshots(self, words: &[&[u8]]) -> Result<SnapshotCall, ScriptFaultKind>
-        requires { is_on_snapshots self ≡ true }
-        ensures { snapshots_read result ≡ call_with self (texts words.now) }
+    fn read_maintenance(self, words: &[&[u8]]) -> Result<MaintenanceCall, ScriptFaultKind>
+        requires { is_maintenance self ≡ true }
+        ensures { maintenance_read result ≡ call_with self (texts words.now) }
     {
         match self {
-            CallWord::Snap => Ok(SnapshotCall::Snap),
-            CallWord::Drop => Ok(SnapshotCall::Drop(Epoch::new(number_at(words, 3)?))),
-            CallWord::Show => Ok(SnapshotCall::Show(Epoch::new(number_at(words, 3)?))),
-            CallWord::Drain => Ok(SnapshotCall::Drain(records_at(words, 3)?)),
+            CallWord::Snap => Ok(MaintenanceCall::Snap),
+            CallWord::Drop => Ok(MaintenanceCall::Drop(Epoch::new(number_at(words, 3)?))),
+            CallWord::Show => Ok(MaintenanceCall::Show(Epoch::new(number_at(words, 3)?))),
+            CallWord::Drain => Ok(MaintenanceCall::Drain(records_at(words, 3)?)),
             _ => unreachable!(),
         }
     }

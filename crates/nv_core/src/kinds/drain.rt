@@ -1,14 +1,14 @@
 //! A deferred record is picked, and its inode locked.
 
 ghost use Rattle.std.specs.Prelude.{◌≡◌, ◌≢◌, ◌<◌, [], length};
-ghost use Rattle.nv_machine.specs.Snapshots.{lock_picked_turn, pick_turn};
+ghost use Rattle.nv_machine.specs.Maintenance.{lock_picked_turn, pick_turn};
 ghost use Rattle.nv_machine.specs.World.{HandState, empty_hand, owner_at};
 ghost use Rattle.nv_core.specs.Rooms.{HasRooms, HasRoomsAfter};
 ghost use Rattle.nv_core.specs.Shown.{Told, draining_of, hand_of, shared_of, shown, slots_in, turn_of};
 ghost use Rattle.nv_core.specs.Told.{IsEither, KeepsJob};
 
 use crate::hold::Hold;
-use crate::next::{Draining, Next, SnapshotStep};
+use crate::next::{Draining, MaintenanceStep, Next};
 use crate::running::Running;
 use crate::shared::Shared;
 use crate::slots::Slots;
@@ -25,7 +25,7 @@ pub(crate) fn pick(
     running: &mut Running,
     draining: Draining,
 ) -> Turn
-    requires next { running.old.next ≡ Next.Snapshots (SnapshotStep.Pick draining) }
+    requires next { running.old.next ≡ Next.Maintenance (MaintenanceStep.Pick draining) }
     requires slots { slots_in running.old.slots ≡ [] }
     requires empty { hand_of hand.old ≡ empty_hand }
     requires rooms { HasRooms shared.old (Hold.Hand hand.old) running.old }
@@ -48,7 +48,7 @@ pub(crate) fn pick(
         return Turn::Ends(Ok(Answer::Count(draining.released)));
     };
     running.slots = Slots::one(picked.ino);
-    running.next = Next::Snapshots(SnapshotStep::LockPicked(draining, picked));
+    running.next = Next::Maintenance(MaintenanceStep::LockPicked(draining, picked));
     Turn::Moves
 }
 
@@ -60,7 +60,7 @@ pub(crate) fn lock_picked(
     draining: Draining,
     picked: Record,
 ) -> Turn
-    requires next { running.old.next ≡ Next.Snapshots (SnapshotStep.LockPicked draining picked) }
+    requires next { running.old.next ≡ Next.Maintenance (MaintenanceStep.LockPicked draining picked) }
     requires there { picked.ino < length shared.old.owners.items }
     ensures turn { (told : Told) (h : HandState) → let s = shared_of shared.old in
         lock_picked_turn (owner_at s picked.ino) actor (draining_of draining) picked s h
@@ -76,6 +76,6 @@ pub(crate) fn lock_picked(
         return Turn::Waits;
     }
     shared.set_owner(picked.ino, Some(actor));
-    running.next = Next::Snapshots(SnapshotStep::Release(draining, picked));
+    running.next = Next::Maintenance(MaintenanceStep::Release(draining, picked));
     Turn::Moves
 }

@@ -1,7 +1,7 @@
 //! A snapshot is made.
 
 ghost use Rattle.std.specs.Prelude.{◌≡◌, ◌≢◌, []};
-ghost use Rattle.nv_machine.specs.Snapshots.{make_tests, make_turn};
+ghost use Rattle.nv_machine.specs.Maintenance.{make_tests, make_turn};
 ghost use Rattle.nv_machine.specs.World as machine;
 ghost use Rattle.nv_machine.specs.World.{empty_hand};
 ghost use Rattle.nv_core.specs.Shown.{shared_of, turn_of};

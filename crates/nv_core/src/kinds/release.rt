@@ -1,7 +1,7 @@
 //! A deferred record is released.
 
 ghost use Rattle.std.specs.Prelude.{◌≡◌, ◌≢◌, ◌∷◌, ℕ, []};
-ghost use Rattle.nv_machine.specs.Snapshots.{release_turn};
+ghost use Rattle.nv_machine.specs.Maintenance.{release_turn};
 ghost use Rattle.nv_machine.specs.World.{empty_hand};
 ghost use Rattle.nv_machine.specs.Locks.{held_at};
 ghost use Rattle.nv_core.specs.Frames.{LeavesRest};
@@ -13,7 +13,7 @@ ghost use Rattle.nv_core.specs.Told.{KeepsJob};
 
 use crate::ending::end;
 use crate::hold::Hold;
-use crate::next::{Draining, Ending, Next, SnapshotStep};
+use crate::next::{Draining, Ending, MaintenanceStep, Next};
 use crate::running::Running;
 use crate::shared::Shared;
 use crate::turn::Turn;
@@ -29,7 +29,7 @@ pub(crate) fn release(
     draining: Draining,
     picked: Record,
 ) -> Turn
-    requires next { running.old.next ≡ Next.Snapshots (SnapshotStep.Release draining picked) }
+    requires next { running.old.next ≡ Next.Maintenance (MaintenanceStep.Release draining picked) }
     requires slots { slots_in running.old.slots ≡ picked.ino ∷ [] }
     requires home { AreHome shared.old }
     requires can { CanRelease shared.old picked }

@@ -6,7 +6,7 @@ ghost use Rattle.nv_base.specs.Refusals.{FailsOnly};
 ghost use Rattle.nv_base.specs.Memory.{out_of_memory};
 ghost use Rattle.nv_base.specs.declared.limits.TheConstants.{PINS};
 ghost use Rattle.nv_epoch.specs.SnapList.{pins_of};
-ghost use Rattle.nv_machine.specs.Snapshots.{copies_at, pin_turn, seen_on, show_turn, showing_on, unpin_turn, visited};
+ghost use Rattle.nv_machine.specs.Maintenance.{copies_at, pin_turn, seen_on, show_turn, showing_on, unpin_turn, visited};
 ghost use Rattle.nv_machine.specs.World as machine;
 ghost use Rattle.nv_machine.specs.World.{HandState, empty_hand, owner_at};
 ghost use Rattle.nv_core.specs.Rooms.{HasRooms, HasRoomsAfter, HasStepRoom, IsShow, IsUnpin};
@@ -15,7 +15,7 @@ ghost use Rattle.nv_core.specs.Steps.{CanShow};
 ghost use Rattle.nv_core.specs.Told.{IsEither, KeepsJob};
 
 use crate::hold::Hold;
-use crate::next::{Ending, Next, SnapshotStep};
+use crate::next::{Ending, MaintenanceStep, Next};
 use crate::running::Running;
 use crate::shared::Shared;
 use crate::showing::Showing;
@@ -29,7 +29,7 @@ use std::mem;
 
 /// Pins a snapshot, if it lives. Takes no memory.
 pub(crate) fn pin(alloc: Global, shared: &mut Shared, running: &mut Running, snapshot: u64) -> Turn
-    requires next { running.old.next ≡ Next.Snapshots (SnapshotStep.Pin snapshot) }
+    requires next { running.old.next ≡ Next.Maintenance (MaintenanceStep.Pin snapshot) }
     requires slots { slots_in running.old.slots ≡ [] }
     requires pins { ForSome (pins_of shared.old.book.state.snaps snapshot) (λ pins. pins < PINS) }
     ensures turn { (told : Told) → let s = shared_of shared.old in
@@ -45,20 +45,20 @@ pub(crate) fn pin(alloc: Global, shared: &mut Shared, running: &mut Running, sna
         return Turn::Ends(Err(fault));
     }
     let showing = Showing::first(alloc, shared.cells.len());
-    running.next = Next::Snapshots(showing_on(snapshot, showing));
+    running.next = Next::Maintenance(showing_on(snapshot, showing));
     Turn::Moves
 }
 
 /// The next visit, or the end where there is none.
-fn showing_on(snapshot: u64, showing: Showing) -> SnapshotStep
+fn showing_on(snapshot: u64, showing: Showing) -> MaintenanceStep
     ensures step { step_on result ≡ showing_on snapshot (showing_of showing) }
     ensures room { (hand : Hand) → HasStepRoom result hand }
 {
     if showing.is_over() {
         let Showing { seen, .. } = showing;
-        return SnapshotStep::Unpin(snapshot, seen);
+        return MaintenanceStep::Unpin(snapshot, seen);
     }
-    SnapshotStep::Show(snapshot, showing)
+    MaintenanceStep::Show(snapshot, showing)
 }
 
 /// Visits one inode at the epoch of a snapshot, or waits for its lock. Where memory is refused, the pin is to go.
@@ -76,23 +76,23 @@ pub(crate) fn show(alloc: Global, shared: &Shared, running: &mut Running) -> Tur
     ensures rooms { (hand : Hand) → HasRooms shared.now (Hold.Hand hand) running.old
         → HasRoomsAfter result shared.now (Hold.Hand hand) running.new }
 {
-    let Next::Snapshots(SnapshotStep::Show(_, showing)) = &running.next else {
+    let Next::Maintenance(MaintenanceStep::Show(_, showing)) = &running.next else {
         unreachable!()
     };
     if shared.is_locked(showing.visited().ino) {
         return Turn::Waits;
     }
-    let Next::Snapshots(SnapshotStep::Show(snapshot, showing)) = mem::replace(
+    let Next::Maintenance(MaintenanceStep::Show(snapshot, showing)) = mem::replace(
         &mut running.next,
         Next::Visit,
     ) else {
         unreachable!()
     };
     match see(alloc, shared, snapshot, showing) {
-        Ok(showing) => running.next = Next::Snapshots(showing_on(snapshot, showing)),
+        Ok(showing) => running.next = Next::Maintenance(showing_on(snapshot, showing)),
         Err(fault) => {
             running.ending = Ending::Refuses(fault);
-            running.next = Next::Snapshots(SnapshotStep::Unpin(snapshot, Vec::new(alloc)));
+            running.next = Next::Maintenance(MaintenanceStep::Unpin(snapshot, Vec::new(alloc)));
         }
     }
     Turn::Moves
@@ -124,7 +124,7 @@ pub(crate) fn unpin(shared: &mut Shared, running: &mut Running) -> Turn
     ensures job { KeepsJob running.old running.new }
     ensures rest { shared.new ≡ record shared.old { book = shared.new.book } }
 {
-    let Next::Snapshots(SnapshotStep::Unpin(snapshot, seen)) = mem::replace(
+    let Next::Maintenance(MaintenanceStep::Unpin(snapshot, seen)) = mem::replace(
         &mut running.next,
         Next::Visit,
     ) else {

@@ -1,7 +1,7 @@
 //! The twelve calls on files and directories, each on several nodes of what is prepared, and the four on snapshots.
 
 use nv_base::{Bytes, Epoch, Mode};
-use nv_core::{Call, SnapshotCall};
+use nv_core::{Call, MaintenanceCall};
 use nv_scenes::{below, handle};
 use std::alloc::Global;
 use std::test::Fail;
@@ -254,10 +254,10 @@ pub(super) fn call(alloc: Global, says: &Says) -> Result<Call, Fail> {
             handle: handle(node),
         }),
         List(dir) => Ok(Call::List { dir: handle(dir) }),
-        Snap => Ok(Call::Snapshots(SnapshotCall::Snap)),
-        Says::Drop(number) => Ok(Call::Snapshots(SnapshotCall::Drop(Epoch::new(number)))),
-        Show(number) => Ok(Call::Snapshots(SnapshotCall::Show(Epoch::new(number)))),
-        Drain(most) => Ok(Call::Snapshots(SnapshotCall::Drain(most))),
+        Snap => Ok(Call::Maintenance(MaintenanceCall::Snap)),
+        Says::Drop(number) => Ok(Call::Maintenance(MaintenanceCall::Drop(Epoch::new(number)))),
+        Show(number) => Ok(Call::Maintenance(MaintenanceCall::Show(Epoch::new(number)))),
+        Drain(most) => Ok(Call::Maintenance(MaintenanceCall::Drain(most))),
     }
 }
 

@@ -1,7 +1,7 @@
 //! Calls by their words, and replies that are wanted.
 
 use nv_base::{Bytes, Epoch, Fault, Handle, Kind, Mode};
-use nv_core::{Answer, Call, Reply, SnapshotCall, TreeNode};
+use nv_core::{Answer, Call, MaintenanceCall, Reply, TreeNode};
 use nv_entry::BoundName;
 use nv_scenes::handle_of;
 use std::alloc::Global;
@@ -127,17 +127,17 @@ fn call_on_a_node(rt: &impl Abort, alloc: Global, words: &Words) -> Call {
             dir: at_handle(at),
             name: bytes(rt, alloc, name),
         },
-        _ => Call::Snapshots(call_on_snapshots(rt, words)),
+        _ => Call::Maintenance(maintenance_call_of(rt, words)),
     }
 }
 
 /// The same for calls on snapshots.
-fn call_on_snapshots(rt: &impl Abort, words: &Words) -> SnapshotCall {
+fn maintenance_call_of(rt: &impl Abort, words: &Words) -> MaintenanceCall {
     match *words {
-        Words::Snap => SnapshotCall::Snap,
-        Words::Drop(number) => SnapshotCall::Drop(Epoch::new(number)),
-        Words::Show(number) => SnapshotCall::Show(Epoch::new(number)),
-        Words::Drain(most) => SnapshotCall::Drain(most),
+        Words::Snap => MaintenanceCall::Snap,
+        Words::Drop(number) => MaintenanceCall::Drop(Epoch::new(number)),
+        Words::Show(number) => MaintenanceCall::Show(Epoch::new(number)),
+        Words::Drain(most) => MaintenanceCall::Drain(most),
         _ => panic!(rt; "a call on names"),
     }
 }

@@ -72,8 +72,8 @@ returns-in-Visit-clause-turn c r shows =
 pub returns-in-Lock-clause-rooms : goal.returns-in-Lock-clause-rooms
 returns-in-Lock-clause-rooms c = c.lock.ensures.rooms c.args.hand.now c.requires.rooms
 
-pub returns-in-Snapshots-clause-turn : goal.returns-in-Snapshots-clause-turn
-returns-in-Snapshots-clause-turn c r shows =
-    turns_alone c.args.running.now.next c.args.actor c.args.shared.now c.args.hand.now c.args.running.now r c.on_snapshots.result
-    c.on_snapshots.new.shared c.on_snapshots.new.hand c.on_snapshots.new.running refl shows c.on_snapshots.ensures.job
-    (λ told is. either _ _ (c.on_snapshots.ensures.turn told))
+pub returns-in-Maintenance-clause-turn : goal.returns-in-Maintenance-clause-turn
+returns-in-Maintenance-clause-turn c r shows =
+    turns_alone c.args.running.now.next c.args.actor c.args.shared.now c.args.hand.now c.args.running.now r c.maintain.result
+    c.maintain.new.shared c.maintain.new.hand c.maintain.new.running refl shows c.maintain.ensures.job
+    (λ told is. either _ _ (c.maintain.ensures.turn told))

@@ -28,7 +28,7 @@ use Rattle.nv_machine.specs.Reading.{ArePins, pins_at, pins_by_call, shows_of}
 use Rattle.nv_machine.specs.Recorded.{IsOfPair, is_kept, is_record_of}
 use Rattle.nv_machine.specs.Starts.{IsStart}
 use Rattle.nv_machine.specs.Step.{after}
-use Rattle.nv_machine.specs.World.{Actor, Draining, Drop, Event, LockPicked, Make, Next, Pick, Pin, Release, Running, Show, SnapshotStep, Snapshots, Unpin, World, actor_at, cell_at, idle, owner_at}
+use Rattle.nv_machine.specs.World.{Actor, Draining, Drop, Event, LockPicked, Make, Next, Pick, Pin, Release, Running, Show, MaintenanceStep, Maintenance, Unpin, World, actor_at, cell_at, idle, owner_at}
 use Rattle.nv_machine.proofs.EachElement.{all_back}
 use Rattle.nv_machine.proofs.OverEvents.{runs_inside}
 use Rattle.nv_machine.proofs.FiledLaw.{recorded_once, recorded_pairs}
@@ -139,7 +139,7 @@ module _ (g : GeometryNumbers) (start : World) (records : List Record) (events :
   -- ---- a picked record
 
   module _ (actor : ℕ) (q : Running) (is : (actor_at w actor).running ≡ Some q) (draining : Draining) (picked : Record)
-      (e : q.next ≡ Snapshots (Release draining picked)) where
+      (e : q.next ≡ Maintenance (Release draining picked)) where
     has_it : picked_by_actor (actor_at w actor) ≡ picked ∷ []
     has_it = ap picked_by_call is ∙ ap picked_at e
 
@@ -176,7 +176,7 @@ module _ (g : GeometryNumbers) (start : World) (records : List Record) (events :
           recorded_once g start records events is_start picked.ino of_pair.n,
         ))
 
-    stands : Standing g (Snapshots (Release draining picked)) actor w.shared (actor_at w actor).hand q
+    stands : Standing g (Maintenance (Release draining picked)) actor w.shared (actor_at w actor).hand q
     stands =
         let known = reached g start records events is_start in
         subst (λ (k : Next). Standing g k actor w.shared (actor_at w actor).hand q) e
@@ -184,10 +184,10 @@ module _ (g : GeometryNumbers) (start : World) (records : List Record) (events :
         (all_pooled g start records events is_start) is)
 
     low : picked.ino < length w.shared.cells
-    low = lent_inside (Snapshots (Release draining picked)) actor w.shared q stands.before picked.ino refl
+    low = lent_inside (Maintenance (Release draining picked)) actor w.shared q stands.before picked.ino refl
 
     owned : owner_at w.shared picked.ino ≡ Some actor
-    owned = lent_cell (Snapshots (Release draining picked)) (length w.shared.lists) actor w.shared q stands.before picked.ino refl
+    owned = lent_cell (Maintenance (Release draining picked)) (length w.shared.lists) actor w.shared q stands.before picked.ino refl
 
     has_picked : HasPicked g w.shared picked
     has_picked = record {
@@ -204,14 +204,14 @@ module _ (g : GeometryNumbers) (start : World) (records : List Record) (events :
 
   -- ---- every kind
 
-  pub on_snapshots : (actor : ℕ) (q : Running) → (actor_at w actor).running ≡ Some q → (step : SnapshotStep) → q.next ≡ Snapshots step
+  pub maintain : (actor : ℕ) (q : Running) → (actor_at w actor).running ≡ Some q → (step : MaintenanceStep) → q.next ≡ Maintenance step
       → HasOn g w.shared step
-  on_snapshots actor q is Make e = tt
-  on_snapshots actor q is (Drop snapshot) e = tt
-  on_snapshots actor q is (Pin snapshot) e = pin_fewer actor q is snapshot (ap (pins_at snapshot) e)
-  on_snapshots actor q is (Show snapshot showing) e =
+  maintain actor q is Make e = tt
+  maintain actor q is (Drop snapshot) e = tt
+  maintain actor q is (Pin snapshot) e = pin_fewer actor q is snapshot (ap (pins_at snapshot) e)
+  maintain actor q is (Show snapshot showing) e =
       none_out_at g start records events is_start snapshot (lives actor q is snapshot (ap (pins_at snapshot) e ∙ self snapshot))
-  on_snapshots actor q is (Unpin snapshot seen) e = has_pin actor q is snapshot (ap (pins_at snapshot) e ∙ self snapshot)
-  on_snapshots actor q is (Pick draining) e = tt
-  on_snapshots actor q is (LockPicked draining picked) e = tt
-  on_snapshots actor q is (Release draining picked) e = has_picked actor q is draining picked e
+  maintain actor q is (Unpin snapshot seen) e = has_pin actor q is snapshot (ap (pins_at snapshot) e ∙ self snapshot)
+  maintain actor q is (Pick draining) e = tt
+  maintain actor q is (LockPicked draining picked) e = tt
+  maintain actor q is (Release draining picked) e = has_picked actor q is draining picked e

@@ -4,7 +4,7 @@ use nv_base::Epoch;
 
 /// A call on snapshots, each of which is named by the epoch that it closed.
 #[derive(Clone, Copy, Debug, PartialEq, Eq)]
-pub enum SnapshotCall {
+pub enum MaintenanceCall {
     /// Makes a snapshot of all nodes as they are.
     Snap,
     /// Drops a snapshot: what no older one holds either is deferred.

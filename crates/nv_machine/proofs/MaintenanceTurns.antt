@@ -3,14 +3,14 @@
 use Rattle.std.proofs.Common.{◌≡◌, ◌⊎◌, ℕ, Bool, true, false, Result, Ok, Err, refl, inl, inr, ap}
 use Rattle.nv_base.specs.declared.fault.Fault.{Fault}
 use Rattle.nv_calls.specs.declared.answer.Answer.{Answer}
-use Rattle.nv_machine.specs.PlainRun.{Nothing, OnSnapshots, done_on, keeps_nodes}
-use Rattle.nv_machine.specs.Snapshots.{snapshot_turn}
-use Rattle.nv_machine.specs.World.{Answers, Back, Drains, Ending, Ends, Give, HandState, Moves, Next, Overtaken, Refuses, Running, Shared, SnapshotStep, Snapshots, Turn, Unlock, Unpin, Waits}
+use Rattle.nv_machine.specs.PlainRun.{Nothing, Maintains, done_on, keeps_nodes}
+use Rattle.nv_machine.specs.Maintenance.{maintenance_turn}
+use Rattle.nv_machine.specs.World.{Answers, Back, Drains, Ending, Ends, Give, HandState, Moves, Next, Overtaken, Refuses, Running, Shared, MaintenanceStep, Maintenance, Turn, Unlock, Unpin, Waits}
 use Rattle.nv_machine.proofs.StepWays.{After, Closes, any_ends, is_last, by_last}
-use Rattle.nv_machine.proofs.SnapshotWalk.{snapshot_walk}
+use Rattle.nv_machine.proofs.MaintenanceWalk.{maintenance_walk}
 
 abbrev pub is_quiet : Next → Bool
-is_quiet (Snapshots step) = true
+is_quiet (Maintenance step) = true
 is_quiet (Unlock place) = true
 is_quiet (Give cpu) = true
 is_quiet Back = true
@@ -49,9 +49,9 @@ module _ (P : Turn → Type 0) (waits : P Waits) (ends : (result : Result Answer
     picks = λ d left drains some. moves s h _ refl refl;
   }
 
-  pub snapshot_any : (step : SnapshotStep) (actor : ℕ) (granted : Bool) (s : Shared) (h : HandState) (r : Running)
-      → P (snapshot_turn step actor granted s h r)
-  snapshot_any step actor granted s h r = on_turn (snapshot_turn step actor granted s h r) (snapshot_walk _ _ actor s h r step granted (record {
+  pub snapshot_any : (step : MaintenanceStep) (actor : ℕ) (granted : Bool) (s : Shared) (h : HandState) (r : Running)
+      → P (maintenance_turn step actor granted s h r)
+  snapshot_any step actor granted s h r = on_turn (maintenance_turn step actor granted s h r) (maintenance_walk _ _ actor s h r step granted (record {
     stops = λ fault cause. any_ends (closes s h r _ (λ over. cc));
     goes = λ on clear. moves _ _ _ refl refl;
     told = λ on clear. ends _ _ _;
@@ -62,7 +62,7 @@ module _ (P : Turn → Type 0) (waits : P Waits) (ends : (result : Result Answer
 
 -- ---- what it does in the plain world
 
-pub done_is : (step : SnapshotStep) (t : Turn) → (done_on step t ≡ Nothing) ⊎ (done_on step t ≡ OnSnapshots step)
+pub done_is : (step : MaintenanceStep) (t : Turn) → (done_on step t ≡ Nothing) ⊎ (done_on step t ≡ Maintains step)
 done_is step (Moves s h r) = inr refl
 done_is step Waits = inl refl
 done_is (Unpin snapshot seen) (Ends result s h) = inr refl
@@ -70,7 +70,7 @@ done_is other (Ends (Ok found) s h) = inr refl
 done_is other (Ends (Err fault) s h) = inl refl
 
 -- it keeps nodes
-pub done_keeps : (step : SnapshotStep) (t : Turn) → keeps_nodes (done_on step t) ≡ true
+pub done_keeps : (step : MaintenanceStep) (t : Turn) → keeps_nodes (done_on step t) ≡ true
 done_keeps step t = elim (done_is step t) [
   | inl none ↦ ap keeps_nodes none
   | inr some ↦ ap keeps_nodes some

@@ -11,11 +11,11 @@ use Rattle.nv_calls.specs.declared.answer.Answer.TheVariants as answers
 use Rattle.nv_machine.specs.Kinds.{blocks_in}
 use Rattle.nv_machine.specs.Locks.{slots_on}
 use Rattle.nv_machine.specs.Reads.{home_from}
-use Rattle.nv_machine.specs.Snapshots.{one_more, snapshot_turn}
-use Rattle.nv_machine.specs.World.{Draining, Drains, Drop, Ends, HandState, Make, Moves, Pick, Pin, Refuses, Release, Running, Shared, Show, Showing, SnapshotStep, Snapshots, Turn, Unlock, Unpin, Waits, empty_hand}
-use Rattle.nv_machine.proofs.StepWork.{snapshot_work}
+use Rattle.nv_machine.specs.Maintenance.{one_more, maintenance_turn}
+use Rattle.nv_machine.specs.World.{Draining, Drains, Drop, Ends, HandState, Make, Moves, Pick, Pin, Refuses, Release, Running, Shared, Show, Showing, MaintenanceStep, Maintenance, Turn, Unlock, Unpin, Waits, empty_hand}
+use Rattle.nv_machine.proofs.StepWork.{maintenance_work}
 use Rattle.nv_machine.proofs.StepWays.{After, EndsBy, Going, IsClearOn, Telling, is_overtaken}
-use Rattle.nv_machine.proofs.SnapshotWalk.{goes_next, is_denied, next_on, slots_next, snapshot_walk, tells, told_on}
+use Rattle.nv_machine.proofs.MaintenanceWalk.{goes_next, is_denied, next_on, slots_next, maintenance_walk, tells, told_on}
 
 pub none_home : (from cpu : ℕ) (lists : List FreeBlocks) → home_from from cpu lists [] ≡ None
 none_home from cpu [] = refl
@@ -25,7 +25,7 @@ none_home from cpu (list ∷ lists) = go (nat_lt cpu from) (none_home from (cpu 
   go true none = none
   go false none = none
 
-denied_slots : (step : SnapshotStep) → is_denied step ≡ true → slots_on step ≡ []
+denied_slots : (step : MaintenanceStep) → is_denied step ≡ true → slots_on step ≡ []
 denied_slots Make is = refl
 denied_slots (Drop snapshot) is = refl
 denied_slots (Pin snapshot) is = refl
@@ -51,17 +51,17 @@ at_once P E fault s h r empty none told = record {
 
 -- WHAT A LAW SAYS OF A TURN of such a step: of one that waits, of one that is refused, and behind its work of one that goes
 -- on or is told; of a show whose memory is refused; of a release, which unlocks; and of a pick that finds none
-pub record AloneWays (Q : Turn → Type 0) (step : SnapshotStep) (a : ℕ) (s : Shared) (h : HandState) (r : Running) : Type 0 where
+pub record AloneWays (Q : Turn → Type 0) (step : MaintenanceStep) (a : ℕ) (s : Shared) (h : HandState) (r : Running) : Type 0 where
   pub waits : Q Waits
   pub refused : (fault : Fault) → is_denied step ≡ true → Q (Ends (Err fault) s h)
-  pub goes : goes_next step ≡ true → IsClearOn step s → Q (Moves (snapshot_work step a s h).shared (snapshot_work step a s h).hand
-      (record r { slots = slots_next step s r; next = Snapshots (next_on step s) }))
+  pub goes : goes_next step ≡ true → IsClearOn step s → Q (Moves (maintenance_work step a s h).shared (maintenance_work step a s h).hand
+      (record r { slots = slots_next step s r; next = Maintenance (next_on step s) }))
   pub told : tells step ≡ true → IsClearOn step s
-      → Q (Ends (told_on step s r) (snapshot_work step a s h).shared (snapshot_work step a s h).hand)
+      → Q (Ends (told_on step s r) (maintenance_work step a s h).shared (maintenance_work step a s h).hand)
   pub denied : (snapshot : ℕ) (showing : Showing) → step ≡ Show snapshot showing
-      → Q (Moves s h (record r { ending = Refuses out_of_memory; next = Snapshots (Unpin snapshot []) }))
+      → Q (Moves s h (record r { ending = Refuses out_of_memory; next = Maintenance (Unpin snapshot []) }))
   pub over : (draining : Draining) (picked : Record) → step ≡ Release draining picked
-      → Q (Moves (snapshot_work step a s h).shared (snapshot_work step a s h).hand
+      → Q (Moves (maintenance_work step a s h).shared (maintenance_work step a s h).hand
       (record r { ending = Drains (one_more draining); next = Unlock 0 }))
   pub none : (draining : Draining) → step ≡ Pick draining → s.book.deferred ≡ [] → Q (Ends (Ok (answers.Count draining.released)) s h)
 
@@ -77,10 +77,10 @@ module _ (Q : Turn → Type 0) where
   by_turn waits Waits on = waits
   by_turn waits (Ends result t h) on = on
 
-  pub alone_walk : (step : SnapshotStep) (a : ℕ) (granted : Bool) (s : Shared) (h : HandState) (r : Running) → h ≡ empty_hand
-      → r.slots ≡ slots_on step → AloneWays Q step a s h r → Q (snapshot_turn step a granted s h r)
+  pub alone_walk : (step : MaintenanceStep) (a : ℕ) (granted : Bool) (s : Shared) (h : HandState) (r : Running) → h ≡ empty_hand
+      → r.slots ≡ slots_on step → AloneWays Q step a s h r → Q (maintenance_turn step a granted s h r)
   alone_walk step a granted s h r empty slots w =
-      by_turn w.waits (snapshot_turn step a granted s h r) (snapshot_walk P E a s h r step granted (record {
+      by_turn w.waits (maintenance_turn step a granted s h r) (maintenance_walk P E a s h r step granted (record {
         stops = λ fault cause.
             at_once P E fault s h r empty (slots ∙ denied_slots step cause.0) (w.refused fault cause.0);
         goes = w.goes;

@@ -6,12 +6,12 @@ use Rattle.nv_calls.specs.declared.call.Call.{Call}
 use Rattle.nv_machine.specs.EndsDecided.{decides}
 use Rattle.nv_machine.specs.Locks.{commits_at}
 use Rattle.nv_machine.specs.Step.{kind_turn, step}
-use Rattle.nv_machine.specs.World.{Append, Back, Close, Ending, Ends, Give, HandState, Leave, Moves, Next, Open, Overtaken, Publish, Retire, Running, Shared, Snapshots, Turn, Unlock, Waits}
+use Rattle.nv_machine.specs.World.{Append, Back, Close, Ending, Ends, Give, HandState, Leave, Moves, Next, Open, Overtaken, Publish, Retire, Running, Shared, Maintenance, Turn, Unlock, Waits}
 use Rattle.nv_machine.proofs.NextSteps.{Untold}
-use Rattle.nv_machine.proofs.SnapshotTurns.{done_keeps, fair_for, is_fair, is_quiet, snapshot_any}
+use Rattle.nv_machine.proofs.MaintenanceTurns.{done_keeps, fair_for, is_fair, is_quiet, snapshot_any}
 use Rattle.nv_machine.proofs.StepWays.{After, Going, Rests}
 use Rattle.nv_machine.proofs.StepWalk.{walk_of}
-use Rattle.nv_machine.proofs.SnapshotCalls.{OnFrom, last_from, snapshot_from}
+use Rattle.nv_machine.proofs.MaintenanceCalls.{OnFrom, last_from, snapshot_from}
 
 -- of a call on snapshots nothing is decided, and it stays at such a step or comes to the last ones
 pub record IsSilent (r : Running) (d : List Answer) : Type 0 where
@@ -49,7 +49,7 @@ unlock_fair place e fair over = false≢true (sym (ap (is_fair (Unlock place)) o
 
 pub quiet_kind : (k : Next) (block a : ℕ) (granted : Bool) (s : Shared) (h : HandState) (r : Running) → is_quiet k ≡ true
     → is_fair k r.ending ≡ true → OnQuiet (kind_turn k block a granted s h r) × OnFrom r (kind_turn k block a granted s h r)
-quiet_kind (Snapshots step) block a granted s h r quiet fair = (
+quiet_kind (Maintenance step) block a granted s h r quiet fair = (
   snapshot_any OnQuiet tt (λ result t x. tt) (λ t x q e fair. (e, fair)) step a granted s h r,
   snapshot_from step a granted s h r,
 )
@@ -84,7 +84,7 @@ quiet_out other e = refl
 
 -- it decides nothing
 pub decides_none : (k : Next) (block : ℕ) (s : Shared) (r : Running) (t : Turn) → is_quiet k ≡ true → decides k block s r t ≡ false
-decides_none (Snapshots step) block s r t e = ap not (done_keeps step t)
+decides_none (Maintenance step) block s r t e = ap not (done_keeps step t)
 decides_none (Unlock place) block s r t e = refl
 decides_none (Give cpu) block s r t e = refl
 decides_none Back block s r t e = refl

@@ -21,7 +21,7 @@ use Rattle.nv_epoch.specs.SnapList.{Snapshots as Living, pins_of}
 use Rattle.nv_reader.specs.Walk as walk
 use Rattle.nv_machine.specs.Kinds.{end_turn, grown, refuse, with_erased}
 use Rattle.nv_machine.specs.Reads.{bytes_among}
-use Rattle.nv_machine.specs.World.{Draining, Drains, Drop, Ending, Ends, HandState, LockPicked, Make, Moves, Pick, Pin, Refuses, Release, Running, Shared, Show, Showing, SnapshotStep, Snapshots, Turn, Unpin, Waits, cell_at, go_to, owner_at, with_book, with_cell, with_owner}
+use Rattle.nv_machine.specs.World.{Draining, Drains, Drop, Ending, Ends, HandState, LockPicked, Make, Moves, Pick, Pin, Refuses, Release, Running, Shared, Show, Showing, MaintenanceStep, Maintenance, Turn, Unpin, Waits, cell_at, go_to, owner_at, with_book, with_cell, with_owner}
 
 -- a step that is lent the book waits while a commit is under way
 abbrev pub if_free : Option ℕ → Turn → Turn
@@ -57,18 +57,18 @@ abbrev pub first_showing : Shared → Showing
 first_showing s = record { left = INODES; visits = walk.root_visit (length s.cells) root; seen = [] }
 
 -- the next visit, or the end where there is none
-abbrev pub show_or_unpin : ℕ → List walk.Visit → ℕ → Showing → SnapshotStep
+abbrev pub show_or_unpin : ℕ → List walk.Visit → ℕ → Showing → MaintenanceStep
 show_or_unpin zero visits snapshot showing = Unpin snapshot showing.seen
 show_or_unpin (suc left) [] snapshot showing = Unpin snapshot showing.seen
 show_or_unpin (suc left) (visit ∷ visits) snapshot showing = Show snapshot showing
 
-abbrev pub showing_on : ℕ → Showing → SnapshotStep
+abbrev pub showing_on : ℕ → Showing → MaintenanceStep
 showing_on snapshot showing = show_or_unpin showing.left showing.visits snapshot showing
 
 abbrev pub pin_turn : ℕ → Option ℕ → Shared → HandState → Running → Turn
 pin_turn snapshot None s h r = refuse NoSnapshot s h r
 pin_turn snapshot (Some pins) s h r =
-    Moves (with_book (after_pin_snapshot snapshot s.book) s) h (go_to (Snapshots (showing_on snapshot (first_showing s))) r)
+    Moves (with_book (after_pin_snapshot snapshot s.book) s) h (go_to (Maintenance (showing_on snapshot (first_showing s))) r)
 
 -- the slot and the node of the next visit
 abbrev pub visited : List walk.Visit → Handle
@@ -94,9 +94,9 @@ seen_on found showing = record {
 abbrev pub show_turn : Option ℕ → Bool → Option NodeCopy → ℕ → Showing → Shared → HandState → Running → Turn
 show_turn (Some other) granted found snapshot showing s h r = Waits
 show_turn None true found snapshot showing s h r =
-    Moves s h (go_to (Snapshots (showing_on snapshot (seen_on found showing))) r)
+    Moves s h (go_to (Maintenance (showing_on snapshot (seen_on found showing))) r)
 show_turn None false found snapshot showing s h r =
-    Moves s h (record r { ending = Refuses out_of_memory; next = Snapshots (Unpin snapshot []) })
+    Moves s h (record r { ending = Refuses out_of_memory; next = Maintenance (Unpin snapshot []) })
 
 abbrev pub shown_by : Ending → List TreeNode → Result Answer Fault
 shown_by (Refuses fault) seen = Err fault
@@ -110,7 +110,7 @@ unpin_turn snapshot seen s h r = Ends (shown_by r.ending seen) (with_book (after
 abbrev pub picked_turn : List Record → Draining → Shared → HandState → Running → Turn
 picked_turn [] draining s h r = Ends (Ok (answers.Count draining.released)) s h
 picked_turn (picked ∷ deferred) draining s h r =
-    Moves (with_book (after_pick s.book) s) h (record r { slots = picked.ino ∷ []; next = Snapshots (LockPicked draining picked) })
+    Moves (with_book (after_pick s.book) s) h (record r { slots = picked.ino ∷ []; next = Maintenance (LockPicked draining picked) })
 
 -- the first pick of a drain makes room in the hand for a block
 abbrev pub is_first : Draining → Bool
@@ -124,7 +124,7 @@ pick_turn draining granted s h r = grown (granted || not (is_first draining)) (p
 abbrev pub lock_picked_turn : Option ℕ → ℕ → Draining → Record → Shared → HandState → Running → Turn
 lock_picked_turn (Some other) actor draining picked s h r = Waits
 lock_picked_turn None actor draining picked s h r =
-    Moves (with_owner picked.ino (Some actor) s) h (go_to (Snapshots (Release draining picked)) r)
+    Moves (with_owner picked.ino (Some actor) s) h (go_to (Maintenance (Release draining picked)) r)
 
 -- ---- release: the part goes out, and its block goes to the hand; a gone inode that keeps nothing is erased
 
@@ -141,15 +141,15 @@ release_turn draining picked s h r =
 
 -- ---- THE STEP of a call on snapshots
 
-abbrev pub snapshot_turn : SnapshotStep → ℕ → Bool → Shared → HandState → Running → Turn
-snapshot_turn Make actor granted s h r = if_free s.holder (make_turn (make_tests s.book.snaps) s h r)
-snapshot_turn (Drop snapshot) actor granted s h r =
+abbrev pub maintenance_turn : MaintenanceStep → ℕ → Bool → Shared → HandState → Running → Turn
+maintenance_turn Make actor granted s h r = if_free s.holder (make_turn (make_tests s.book.snaps) s h r)
+maintenance_turn (Drop snapshot) actor granted s h r =
     if_free s.holder (drop_turn snapshot (drop_tests (pins_of s.book.snaps snapshot)) s h r)
-snapshot_turn (Pin snapshot) actor granted s h r = if_free s.holder (pin_turn snapshot (pins_of s.book.snaps snapshot) s h r)
-snapshot_turn (Show snapshot showing) actor granted s h r =
+maintenance_turn (Pin snapshot) actor granted s h r = if_free s.holder (pin_turn snapshot (pins_of s.book.snaps snapshot) s h r)
+maintenance_turn (Show snapshot showing) actor granted s h r =
     show_turn (owner_at s (visited showing.visits).ino) granted (copies_at s snapshot (visited showing.visits)) snapshot showing s h r
-snapshot_turn (Unpin snapshot seen) actor granted s h r = if_free s.holder (unpin_turn snapshot seen s h r)
-snapshot_turn (Pick draining) actor granted s h r = if_free s.holder (pick_turn draining granted s h r)
-snapshot_turn (LockPicked draining picked) actor granted s h r =
+maintenance_turn (Unpin snapshot seen) actor granted s h r = if_free s.holder (unpin_turn snapshot seen s h r)
+maintenance_turn (Pick draining) actor granted s h r = if_free s.holder (pick_turn draining granted s h r)
+maintenance_turn (LockPicked draining picked) actor granted s h r =
     lock_picked_turn (owner_at s picked.ino) actor draining picked s h r
-snapshot_turn (Release draining picked) actor granted s h r = release_turn draining picked s h r
+maintenance_turn (Release draining picked) actor granted s h r = release_turn draining picked s h r

@@ -3,12 +3,12 @@ use Rattle.std.proofs.Common.{◌≡◌, ℕ, Bool, true, refl}
 use Rattle.std.specs.Prelude.{Result}
 use Rattle.nv_base.specs.declared.fault.Fault.{Fault}
 use Rattle.nv_calls.specs.declared.answer.Answer.{Answer}
-use Rattle.nv_machine.specs.Snapshots.{snapshot_turn}
+use Rattle.nv_machine.specs.Maintenance.{maintenance_turn}
 use Rattle.nv_machine.specs.Step.{kind_turn}
-use Rattle.nv_machine.specs.World.{Ending, HandState, Next, Overtaken, Refuses, Running, Shared, SnapshotStep, Turn}
+use Rattle.nv_machine.specs.World.{Ending, HandState, Next, Overtaken, Refuses, Running, Shared, MaintenanceStep, Turn}
 use Rattle.nv_machine.proofs.StepWays.{After, Closes, any_ends, is_last}
 use Rattle.nv_machine.proofs.StepWalk.{last_walk}
-use Rattle.nv_machine.proofs.SnapshotWalk.{snapshot_walk}
+use Rattle.nv_machine.proofs.MaintenanceWalk.{maintenance_walk}
 
 -- the same call, overtaken only where it was
 pub record IsFrom (r q : Running) : Type 0 where
@@ -37,9 +37,9 @@ pub last_from : (k : Next) (block a : ℕ) (granted : Bool) (s : Shared) (h : Ha
     → OnFrom r (kind_turn k block a granted s h r)
 last_from k block a granted s h r is = last_walk (From r) IsEnd block a s h r k granted is (closes _ _ r r.ending (λ over. over))
 
-pub snapshot_from : (step : SnapshotStep) (actor : ℕ) (granted : Bool) (s : Shared) (h : HandState) (r : Running)
-    → OnFrom r (snapshot_turn step actor granted s h r)
-snapshot_from step actor granted s h r = snapshot_walk (From r) IsEnd actor s h r step granted (record {
+pub snapshot_from : (step : MaintenanceStep) (actor : ℕ) (granted : Bool) (s : Shared) (h : HandState) (r : Running)
+    → OnFrom r (maintenance_turn step actor granted s h r)
+snapshot_from step actor granted s h r = maintenance_walk (From r) IsEnd actor s h r step granted (record {
   stops = λ fault cause. any_ends (closes s h r (Refuses fault) (λ is. cc));
   goes = λ on clear. record { call = refl; looked = refl; over = λ is. is };
   told = λ on clear. tt;

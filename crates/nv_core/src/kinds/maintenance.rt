@@ -3,7 +3,7 @@
 ghost use Rattle.std.specs.Prelude.{◌≡◌, []};
 ghost use Rattle.nv_machine.specs.Step.{kind_turn};
 ghost use Rattle.nv_core.specs.Frames.{LeavesRest};
-ghost use Rattle.nv_core.specs.Rooms.{HasRooms, HasRoomsAfter, IsOnBook, IsSnapshotStep};
+ghost use Rattle.nv_core.specs.Rooms.{HasRooms, HasRoomsAfter, IsOnBook, IsMaintenanceStep};
 ghost use Rattle.nv_core.specs.Shown.{Told, hand_of, next_of, shared_of, shown, slots_in, turn_of};
 ghost use Rattle.nv_core.specs.Steps.{CanStep};
 ghost use Rattle.nv_core.specs.Told.{IsEither, KeepsJob};
@@ -15,7 +15,7 @@ use crate::kinds::drop_snapshot::drop_snapshot;
 use crate::kinds::make_snapshot::make_snapshot;
 use crate::kinds::release::release;
 use crate::kinds::show::{pin, show, unpin};
-use crate::next::{Next, SnapshotStep};
+use crate::next::{MaintenanceStep, Next};
 use crate::running::Running;
 use crate::shared::Shared;
 use crate::turn::Turn;
@@ -23,14 +23,14 @@ use nv_alloc::Hand;
 use std::alloc::Global;
 
 /// A step of a call on snapshots.
-pub(crate) fn on_snapshots(
+pub(crate) fn maintain(
     alloc: Global,
     shared: &mut Shared,
     hand: &mut Hand,
     running: &mut Running,
     actor: u64,
 ) -> Turn
-    requires step { IsSnapshotStep running.old.next }
+    requires step { IsMaintenanceStep running.old.next }
     requires can { CanStep shared.old (Hold.Hand hand.old) running.old actor }
     requires rooms { HasRooms shared.old (Hold.Hand hand.old) running.old }
     ensures turn { (told : Told) → IsEither (λ granted. kind_turn (next_of running.old.next)
@@ -45,11 +45,11 @@ pub(crate) fn on_snapshots(
         (slots_in running.old.slots)) shared.old shared.new }
 {
     match running.next {
-        Next::Snapshots(SnapshotStep::Show(..)) => show(alloc, shared, running),
-        Next::Snapshots(SnapshotStep::LockPicked(draining, picked)) => {
+        Next::Maintenance(MaintenanceStep::Show(..)) => show(alloc, shared, running),
+        Next::Maintenance(MaintenanceStep::LockPicked(draining, picked)) => {
             lock_picked(shared, running, actor, draining, picked)
         }
-        Next::Snapshots(SnapshotStep::Release(draining, picked)) => {
+        Next::Maintenance(MaintenanceStep::Release(draining, picked)) => {
             release(shared, hand, running, draining, picked)
         }
         _ => on_book(alloc, shared, hand, running, actor),
@@ -83,11 +83,11 @@ fn on_book(
         return Turn::Waits;
     }
     match running.next {
-        Next::Snapshots(SnapshotStep::Make) => make_snapshot(shared),
-        Next::Snapshots(SnapshotStep::Drop(snapshot)) => drop_snapshot(shared, snapshot),
-        Next::Snapshots(SnapshotStep::Pin(snapshot)) => pin(alloc, shared, running, snapshot),
-        Next::Snapshots(SnapshotStep::Unpin(..)) => unpin(shared, running),
-        Next::Snapshots(SnapshotStep::Pick(draining)) => pick(shared, hand, running, draining),
+        Next::Maintenance(MaintenanceStep::Make) => make_snapshot(shared),
+        Next::Maintenance(MaintenanceStep::Drop(snapshot)) => drop_snapshot(shared, snapshot),
+        Next::Maintenance(MaintenanceStep::Pin(snapshot)) => pin(alloc, shared, running, snapshot),
+        Next::Maintenance(MaintenanceStep::Unpin(..)) => unpin(shared, running),
+        Next::Maintenance(MaintenanceStep::Pick(draining)) => pick(shared, hand, running, draining),
         _ => unreachable!(),
     }
 }
