@@ -24,4 +24,10 @@ pub enum Answer {
     Snapshot(Epoch),
     /// The tree of a snapshot.
     Tree(Tree),
+    /// Which cleaning was made of a log, and how many entries and pages the log lost.
+    Cleaned {
+        thorough: bool,
+        entries: usize,
+        pages: usize,
+    },
 }

@@ -9,7 +9,7 @@ use Rattle.nv_machine.specs.Hands.{is_going}
 use Rattle.nv_machine.specs.Kinds.{result_by}
 use Rattle.nv_machine.specs.Maintenance.{shown_by}
 use Rattle.nv_machine.specs.Step.{kind_turn, turned}
-use Rattle.nv_machine.specs.World.{Actor, Answers, Back, Drains, Ending, Ends, Give, HandState, Moves, Next, Overtaken, Refused, Refuses, Running, Shared, Maintenance, Turn, Unlock, Unpin, Waits, World}
+use Rattle.nv_machine.specs.World.{Actor, Answers, Back, Drains, Ending, Ends, Give, HandState, Moves, Next, Overtaken, Refused, Refuses, Running, Shared, Maintenance, Turn, Unlock, Unpin, Waits, World, Cleans}
 use Rattle.nv_machine.proofs.OverEvents.{OwnAfter}
 use Rattle.nv_machine.proofs.AloneLooks.{IsLate}
 use Rattle.nv_machine.proofs.StepWays.{After, Closes, Going, Telling}
@@ -75,6 +75,7 @@ module _ (P : Fault → Type 0) where
     go (Refuses fault) f = cause fault f.0
     go Overtaken f = tt
     go (Drains draining) f = tt
+    go (Cleans cleaned) f = tt
   caused_fine C Q cause Waits is = tt
   caused_fine C Q cause (Ends (Ok found) s h) is = tt
   caused_fine C Q cause (Ends (Err fault) s h) is = cause fault is

@@ -20,6 +20,7 @@ use Rattle.nv_machine.specs.Settled.{settled_nodes}
 use Rattle.nv_machine.specs.Starts.{IsStart}
 use Rattle.nv_machine.specs.Step.{after, ending_at, handle_at, is_numbered, kind_turn, made_in, same_looked, turn}
 use Rattle.nv_machine.specs.World.{Actor, Answers, Check, Ending, Ends, Event, Go, HandState, Lock, Look, Moves, Next, Number, Overtaken, Running, Shared, MaintenanceStep, Maintenance, Turn, Waits, World, actor_at, go_to, owner_at}
+use Rattle.nv_machine.proofs.EveryWorld.{all_known}
 use Rattle.nv_machine.proofs.AloneLooks.{FoundBy, HasFound, IsLate, OnFound, call_sees, check_same, late_turn, locking_found, looked_self, on_found, refused_found}
 use Rattle.nv_machine.proofs.NextSteps.{KnowsNext, Untold}
 use Rattle.nv_machine.proofs.LoopSteps.{is_on_files}
@@ -32,7 +33,6 @@ use Rattle.nv_machine.proofs.DecidedReads.{ending_settled}
 use Rattle.nv_machine.proofs.DecidedRuns.{plainly_told, relied}
 use Rattle.nv_machine.proofs.DecidedNext.{Stage, told_at}
 use Rattle.nv_machine.proofs.DecidedTurns.{Relied}
-use Rattle.nv_machine.proofs.FitsEvents.{all_known}
 use Rattle.nv_machine.proofs.LooksToCome.{look_inside}
 use Rattle.nv_machine.proofs.OverEvents.{OwnAfter, own_goes, turn_at}
 use Rattle.nv_machine.proofs.VisitsRead.{free_node}
@@ -109,7 +109,8 @@ module _ (c : Call) (nodes : Handle → Option PlainNode) where
 
 module _ (g : GeometryNumbers) (start : World) (records : List Record) (is_start : IsStart g start records) (actor : ℕ) (c : Call)
     (nodes : Handle → Option PlainNode)
-    (plainly : is_maintenance c ≡ false) (events : List Event) (granted : Bool) (was : IsAlone g start records actor c nodes events) where
+    (plainly : is_maintenance c ≡ false) (events : List Event) (granted : Bool)
+    (was : IsAlone g start records actor c nodes events) where
   abbrev w : World
   w = after start events
 

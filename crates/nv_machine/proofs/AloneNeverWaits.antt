@@ -4,7 +4,7 @@ use Rattle.std.proofs.lemmas.Bool.{false≢true, ltb-true}
 use Rattle.nv_alloc.specs.Numbers.{has}
 use Rattle.nv_machine.specs.Locks.{AreLocks, IsHeldByOther, WaitsFor, WaitsOn, commits_by, held_by, is_owner}
 use Rattle.nv_machine.specs.Step.{go_step, step}
-use Rattle.nv_machine.specs.World.{Drop, Enter, Go, Lock, LockPicked, Look, Make, Next, Pick, Pin, Running, Show, MaintenanceStep, Maintenance, Unpin, Visit, Waiting, World, actor_at, owner_at}
+use Rattle.nv_machine.specs.World.{Drop, Enter, Go, Lock, LockPicked, Look, Make, Next, Pick, Pin, Running, Show, MaintenanceStep, Maintenance, Unpin, Visit, Waiting, World, actor_at, owner_at, LockCleaned}
 use Rattle.nv_machine.proofs.Lists.{self}
 use Rattle.nv_machine.proofs.LocksOverEvents.{waits}
 
@@ -24,6 +24,7 @@ module _ (w : World) (actor : ℕ) (locks : AreLocks w) (idle : (other : ℕ) �
   none_on : (kind : MaintenanceStep) → WaitsOn w.shared actor kind → ⊥
   none_on (Show snapshot showing) held = no_slot _ held
   none_on (LockPicked draining picked) held = no_slot _ held
+  none_on (LockCleaned manner ino) held = no_slot _ held
   none_on Make held = no_commit held
   none_on (Drop snapshot) held = no_commit held
   none_on (Pin snapshot) held = no_commit held

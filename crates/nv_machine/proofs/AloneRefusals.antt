@@ -25,6 +25,7 @@ use Rattle.nv_machine.specs.Settled.{settled_nodes}
 use Rattle.nv_machine.specs.Starts.{IsStart}
 use Rattle.nv_machine.specs.Step.{after, same_looked, step, turn}
 use Rattle.nv_machine.specs.World.{Actor, Answers, Back, Check, Ending, Enter, Event, Give, Go, HandState, Leave, Lock, Look, Next, Number, Overtaken, Ready, Refused, Retire, Running, Shared, Maintenance, Start, Started, TakeBlocks, TakePages, Turn, Unlock, Visit, World, actor_at}
+use Rattle.nv_machine.proofs.EveryWorld.{all_numbers}
 use Rattle.nv_machine.proofs.AloneEndings.{Fine, FineOf, OnFine, after_fine, caused_fine, ends_fine, reply_fine}
 use Rattle.nv_machine.proofs.AloneFinds.{FoundOf, found_more, unchanged}
 use Rattle.nv_machine.proofs.AloneLooks.{HasFound, IsLate, locking_found, looked_self, upto_none}
@@ -36,7 +37,6 @@ use Rattle.nv_machine.proofs.DecidedRuns.{plainly_told}
 use Rattle.nv_machine.proofs.DecidedNext.{Stage, told_at}
 use Rattle.nv_machine.proofs.SingleEvents.{goes as goes_by_turn}
 use Rattle.nv_machine.proofs.FitsLaws.{still_passes}
-use Rattle.nv_machine.proofs.FromScratch.{all_numbers}
 use Rattle.nv_machine.proofs.OverEvents.{own_goes, runs_inside, turn_at}
 use Rattle.nv_calls.specs.declared.call.Call.TheVariants as call
 use Rattle.nv_machine.specs.Sequence as sequence

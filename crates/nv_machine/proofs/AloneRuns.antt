@@ -15,6 +15,7 @@ use Rattle.nv_calls.specs.declared.answer.Answer.{Answer}
 use Rattle.nv_calls.specs.declared.call.Call.{Call}
 use Rattle.nv_calls.specs.declared.call.Call.TheVariants as call
 use Rattle.nv_entry.specs.declared.node.NodeCopy.{NodeCopy}
+use Rattle.nv_machine.proofs.EveryWorld.{all_numbers, reached}
 use Rattle.nv_machine.proofs.DecidedTurns.{nothing_is as no_change}
 use Rattle.nv_machine.specs.Alone.{IsAnsweredOn, goes}
 use Rattle.nv_machine.specs.EndsDecided.{decided, decides, decision_of, is_maintenance, is_pass, unless_started}
@@ -30,9 +31,8 @@ use Rattle.nv_machine.proofs.CallsStay.{IsCallOf, call_stays}
 use Rattle.nv_machine.proofs.CopiesAll.{after_one}
 use Rattle.nv_machine.proofs.DecidedRuns.{decided_more, is_decided, is_undecided, visits_of}
 use Rattle.nv_machine.proofs.FitsLaws.{has_effect, has_passed}
-use Rattle.nv_machine.proofs.FromScratch.{all_numbers}
 use Rattle.nv_machine.proofs.Lists.{self}
-use Rattle.nv_machine.proofs.Reached.{reached, reached_nodes}
+use Rattle.nv_machine.proofs.Reached.{reached_nodes}
 use Rattle.nv_machine.proofs.OverEvents.{own_goes, runs_inside, started as begins_at, commits_if as commits}
 
 -- ---- what a step decides

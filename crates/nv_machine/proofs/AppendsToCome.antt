@@ -1,16 +1,14 @@
 -- What a turn leaves of the order of logs, and what a commit has yet to append.
-use Rattle.std.proofs.Common.{Bool, List, None, Option, Some, [], ap, append_assoc, arith, drop, false, if◌then◌else◌, length, nat_lt, refl, subst, sym, true, ℕ, ◌++◌, ◌+◌, ◌<◌, ◌∙◌, ◌∷◌, ◌≡◌, ◌≢◌, ◌≤◌}
+use Rattle.std.proofs.Common.{Bool, List, Some, [], ap, append_assoc, arith, drop, false, if◌then◌else◌, length, nat_lt, refl, subst, sym, true, ℕ, ◌++◌, ◌+◌, ◌<◌, ◌∙◌, ◌∷◌, ◌≡◌, ◌≢◌, ◌≤◌}
 use Rattle.std.proofs.lemmas.Bool.{false≢true}
 use Rattle.std.specs.List.{AllByRecursion}
 use Rattle.nv_alloc.specs.Block.{BlockValue}
 use Rattle.nv_alloc.specs.Numbers.{has}
 use Rattle.nv_book.specs.Book.{BookState}
-use Rattle.nv_book.specs.declared.record.Record.{Record}
-use Rattle.nv_calls.specs.Retiring.{erased, is_erased, keeper_of, released, retired, retired_one, settled}
+use Rattle.nv_calls.specs.Retiring.{erased, is_erased}
 use Rattle.nv_calls.proofs.Places.{log_rises}
 use Rattle.nv_calls.specs.Slots.{IsBefore, entries_of}
-use Rattle.nv_cell.specs.Cell.{CellState, empty_cell, number_in}
-use Rattle.nv_cell.specs.declared.killed.KilledPart.{KilledPart}
+use Rattle.nv_cell.specs.Cell.{CellState, empty_cell}
 use Rattle.nv_entry.specs.declared.item.Entry.{Entry}
 use Rattle.nv_entry.specs.declared.item.Item.{Item}
 use Rattle.nv_machine.specs.Kinds.{end_turn, with_entries, with_pages}
@@ -58,21 +56,7 @@ entries_more [] blocks cell = sym (append_nil cell.chain.entries) where
   append_nil (x ∷ l) = ap (λ (rest : List Entry). x ∷ rest) (append_nil l)
 entries_more (e ∷ entries) blocks cell = entries_more entries _ _ ∙ append_assoc cell.chain.entries (e ∷ []) entries
 
--- ---- what a retire leaves
-
-settled_keeps : (keeper : Option ℕ) (n : ℕ) (cell : CellState) → (settled keeper n cell).chain.entries ≡ cell.chain.entries
-settled_keeps None n cell = refl
-settled_keeps (Some s) n cell = refl
-
-pub retired_keeps : (living : List ℕ) (ino epoch : ℕ) (parts : List KilledPart) (cell : CellState)
-    → (retired living ino epoch parts cell).chain.entries ≡ cell.chain.entries
-retired_keeps living ino epoch [] cell = refl
-retired_keeps living ino epoch (killed ∷ later) cell =
-    retired_keeps living ino epoch later (retired_one living ino epoch killed cell)
-    ∙ settled_keeps (keeper_of living ino epoch killed) (number_in cell killed.part) cell
-
-pub released_keeps : (d : Record) (cell : CellState) → (released d cell).chain.entries ≡ cell.chain.entries
-released_keeps d cell = refl
+-- ---- logs that stay in order
 
 -- a later epoch
 pub later_epoch : (commit epoch : ℕ) (log : List Entry) → IsBefore commit epoch log → IsBefore commit (epoch + 1) log

@@ -1,6 +1,6 @@
 -- A step moves blocks between the hand and what it is lent: each number stands as often as before.
 use Rattle.std.proofs.Common.{Bool, List, None, Option, Some, [], ap, arith, drop, false, length, map, refl, set, suc, sym, take, true, zero, ℕ, ◌++◌, ◌+◌, ◌<◌, ◌∙◌, ◌∷◌, ◌≡◌, ◌≤◌}
-use Rattle.std.proofs.lemmas.Bool.{le-leb, le-ltb}
+use Rattle.std.proofs.lemmas.Bool.{le-leb, le-ltb, false≢true}
 use Rattle.std.proofs.lemmas.List.{get_or_past}
 use Rattle.std.specs.List.{flat_map}
 use Rattle.nv_alloc.specs.Block.{BlockValue, numbers_of}
@@ -8,7 +8,7 @@ use Rattle.nv_alloc.specs.FreeList.{FreeBlocks}
 use Rattle.nv_alloc.specs.Giving.{after_giving, kept_of, takes}
 use Rattle.nv_alloc.specs.Numbers.{times}
 use Rattle.nv_alloc.proofs.GivingLemmas.{kept_of-append, times-blocks, times-given}
-use Rattle.nv_alloc.proofs.Lists.{times-append}
+use Rattle.nv_alloc.proofs.Lists.{times-append, times-cons}
 use Rattle.nv_calls.specs.Retiring.{erased, is_erased}
 use Rattle.nv_cell.specs.Append.{appended, blocks_for, part_blocks}
 use Rattle.nv_cell.specs.Cell.{CellState, published}
@@ -22,10 +22,13 @@ use Rattle.nv_machine.specs.Numbers.{free_of, held_in, of_part, stored_in}
 use Rattle.nv_calls.proofs.FillPages.{filled_numbers}
 use Rattle.nv_calls.specs.FillPages.{fresh_pages}
 use Rattle.nv_machine.specs.Reads.{copies, pages_needed, slot_at, written_slots}
-use Rattle.nv_machine.specs.World.{Append, Back, Give, HandState, Next, Number, Publish, Ready, Retire, Running, Shared, Maintenance, TakeBlocks, TakePages, cell_at, list_at, no_cell, no_list}
+use Rattle.nv_machine.specs.World.{Append, Back, Give, HandState, Next, Number, Publish, Ready, Retire, Running, Shared, Maintenance, TakeBlocks, TakePages, cell_at, list_at, no_cell, no_list, Unlink, Compact, MaintenanceStep}
 use Rattle.nv_machine.proofs.Occurrences.{cut_times, set_times, three_times}
-use Rattle.nv_machine.proofs.StepWork.{append_work, by_back, by_number, work}
-use Rattle.nv_machine.proofs.CellChanges.{IsRemoval, Removal, hand_freed, is_removal, is_removed, lent_removal, on_step, removal, removal_on, removed, stored_times}
+use Rattle.nv_machine.proofs.StepWork.{append_work, by_back, by_number, work, maintenance_work}
+use Rattle.nv_machine.proofs.CellChanges.{IsRemoval, Removal, hand_freed, is_removal, is_removed, lent_removal, on_step, removal, removal_on, removed, stored_times, clean_cell, clean_slot, is_clean, is_clean_on, clean_slot_on, clean_cell_on, lent_clean}
+use Rattle.nv_machine.specs.Cleaning.{with_fresh, compacted_cell, unlinked, with_old_chain, with_unlinked}
+use Rattle.nv_clean.specs.Plans.{unlinkable_of}
+use Rattle.nv_log.specs.Chain.{gone_of, left_of}
 
 -- how often a number stands in what is shared and in one hand
 abbrev pub count : ℕ → Shared → HandState → ℕ
@@ -205,12 +208,83 @@ removal_times n x s h is inside none =
 pub record CanCount (a : ℕ) (k : Next) (s : Shared) (h : HandState) (r : Running) : Type 0 where
   pub inside : (ino : ℕ) → (lent k (length s.lists) a r).cell ≡ Some ino → ino < length s.cells
   pub none : is_removal k ≡ true → LeavesNone (removal k s h r)
+  pub cleans : is_clean k ≡ true → flat_map of_part (clean_cell k s h).blocks ≡ flat_map of_part (cell_at s (clean_slot k)).blocks
 
 publish_times : (n ino : ℕ) (s : Shared) → ino < length s.cells
     → times n (flat_map stored_in (set s.cells ino (published (cell_at s ino)))) ≡ times n (flat_map stored_in s.cells)
 publish_times n ino s inside =
     let e = set_times stored_in n s.cells ino (published (cell_at s ino)) no_cell (λ past. absurd (omega (arith, past, inside))) in
     omega (arith, e)
+
+-- pages that stay and pages that go are all pages
+parted_times : (n : ℕ) (stays : List Bool) (bs : List BlockValue)
+    → times n (numbers_of (left_of stays bs)) + times n (numbers_of (gone_of stays bs)) ≡ times n (numbers_of bs)
+parted_times n [] bs = omega arith
+parted_times n (b ∷ stays) [] = omega arith
+parted_times n (true ∷ stays) (x ∷ bs) = omega (
+  arith,
+  parted_times n stays bs,
+  times-cons n x.number (numbers_of bs),
+  times-cons n x.number (numbers_of (left_of stays bs)),
+)
+parted_times n (false ∷ stays) (x ∷ bs) = omega (
+  arith,
+  parted_times n stays bs,
+  times-cons n x.number (numbers_of bs),
+  times-cons n x.number (numbers_of (gone_of stays bs)),
+)
+
+-- a cleaning moves log pages between the chain and the hand, where the parts keep their blocks
+clean_times : (step : MaintenanceStep) (n actor : ℕ) (s : Shared) (h : HandState) → is_clean_on step ≡ true
+    → clean_slot_on step < length s.cells
+    → flat_map of_part (clean_cell_on step s h).blocks ≡ flat_map of_part (cell_at s (clean_slot_on step)).blocks
+    → count n (maintenance_work step actor s h).shared (maintenance_work step actor s h).hand ≡ count n s h
+clean_times (Unlink ino) n actor s h is inside same =
+    let cell = cell_at s ino in
+    let new = unlinked cell in
+    let gone = gone_of (unlinkable_of cell).stays cell.chain.blocks in
+    let parts = ap (times n) same in
+    let e = set_times stored_in n s.cells ino new no_cell (λ past. absurd (omega (arith, past, inside))) in
+    omega (
+      arith,
+      e,
+      parts,
+      stored_times n cell,
+      stored_times n new,
+      parted_times n (unlinkable_of cell).stays cell.chain.blocks,
+      times-blocks n h.pages gone,
+      held_times n h,
+      held_times n (with_unlinked cell h),
+    )
+clean_times (Compact ino) n actor s h is inside same =
+    let cell = cell_at s ino in
+    let new = compacted_cell h cell in
+    let parts = ap (times n) same in
+    let e = set_times stored_in n s.cells ino new no_cell (λ past. absurd (omega (arith, past, inside))) in
+    omega (
+      arith,
+      e,
+      parts,
+      stored_times n cell,
+      stored_times n new,
+      times-blocks n h.chain cell.chain.blocks,
+      held_times n h,
+      held_times n (with_old_chain cell h),
+    )
+clean_times other n actor s h is inside same = absurd (false≢true is)
+
+-- fresh log pages go from a list to the hand
+fresh_times : (n cpu wanted : ℕ) (s : Shared) (h : HandState)
+    → count n (less_list cpu wanted s) (with_fresh cpu wanted s h) ≡ count n s h
+fresh_times n cpu wanted s h =
+    let taken = take wanted (list_at s cpu).blocks in
+    omega (
+      arith,
+      taken_times n wanted cpu s,
+      taken_more n h.pages taken,
+      held_times n h,
+      held_times n (with_fresh cpu wanted s h),
+    )
 
 pub work_times : (k : Next) (n block actor : ℕ) (s : Shared) (h : HandState) (r : Running) → CanCount actor k s h r
     → count n (work k block actor s h r).shared (work k block actor s h r).hand ≡ count n s h
@@ -244,5 +318,7 @@ work_times (Maintenance step) n block actor s h r can =
     on_step (λ (t : Shared) (g : HandState). count n t g ≡ count n s h) step actor s h
     (λ is. removal_times n (removal_on step s h) s h (is_removed k s h r is)
     (can.inside _ (lent_removal k (length s.lists) actor s h r is)) (can.none is))
+    (λ ino asked wanted is. fresh_times n (asked_list (length s.lists) actor asked) wanted s h)
+    (λ is. clean_times step n actor s h is (can.inside _ (lent_clean k (length s.lists) actor r is)) (can.cleans is))
     (λ book owners. refl)
 work_times other n block actor s h r can = refl

@@ -10,12 +10,17 @@ use Rattle.nv_alloc.proofs.Lists.{times-append, times-cons, times-yes}
 use Rattle.nv_base.specs.declared.geometry.GeometryNumbers.{GeometryNumbers}
 use Rattle.nv_log.specs.Chain.{ChainState}
 use Rattle.nv_machine.specs.Frame.{lent}
-use Rattle.nv_machine.specs.Hands.{AreNumbers, AreTailsLast, unpublished_at, unpublished_by}
+use Rattle.nv_machine.specs.Hands.{AreNumbers, AreTailsLast, IsParted, unpublished_at, unpublished_by}
 use Rattle.nv_machine.specs.Kinds.{blocks_in}
 use Rattle.nv_machine.specs.Locks.{AreLocks}
 use Rattle.nv_machine.specs.Numbers.{IsEachOnce, all_blocks, free_of, held_by_actor, stored_in, used_blocks}
 use Rattle.nv_machine.specs.Reads.{written_slots}
 use Rattle.nv_machine.specs.World.{Actor, Give, HandState, Next, Running, Shared, World, actor_at, cell_at, idle, no_list, owner_at}
+use Rattle.nv_machine.proofs.Cleanable.{IsCleanable}
+use Rattle.nv_machine.proofs.CleanedCells.{Cleans, cleaned_numbers, cleaned_parted}
+use Rattle.nv_machine.proofs.CleanedSlots.{clean_sized, cleans_own, cleans_published, stays_at}
+use Rattle.nv_cell.specs.Retained.{retention_by_marks}
+use Rattle.nv_machine.specs.Numbers.{of_part}
 use Rattle.nv_machine.proofs.BlockCounts.{CanCount, LeavesNone, count}
 use Rattle.nv_machine.proofs.Occurrences.{set_times}
 use Rattle.nv_machine.proofs.OverEvents.{set_one}
@@ -24,9 +29,9 @@ use Rattle.nv_machine.proofs.HandsInCommits.{CanGive}
 use Rattle.nv_machine.proofs.Homes.{AreBelow}
 use Rattle.nv_machine.proofs.Lists.{self}
 use Rattle.nv_machine.proofs.LocksHeld.{Before, lent_cell}
-use Rattle.nv_machine.proofs.SoundWorlds.{IsSound}
+use Rattle.nv_machine.proofs.SoundWorlds.{IsSound, all_sized}
 use Rattle.nv_machine.proofs.LogTails.{IsTailLast, erased_none, others_published}
-use Rattle.nv_machine.proofs.CellChanges.{is_removal, is_removed, lent_inside_own, lent_removal, removal, removes_published}
+use Rattle.nv_machine.proofs.CellChanges.{clean_cell, clean_slot, is_clean, lent_clean, is_removal, is_removed, lent_inside_own, lent_removal, removal, removes_published}
 
 -- ---- how often a number stands
 
@@ -84,20 +89,65 @@ same_actor a b P own other = go (a == b) refl where
   go false e = other (λ is. eqb-false a b e (sym is))
 
 -- of the slot that is lent all others have published, and so it is settled where its own actor has
-lent_settled : (w : World) (actor ino : ℕ) → AreLocks w → AreTailsLast w → owner_at w.shared ino ≡ Some actor
+pub lent_settled : (w : World) (actor ino : ℕ) → AreLocks w → AreTailsLast w → owner_at w.shared ino ≡ Some actor
     → has (unpublished_by (actor_at w actor).running) ino ≡ false → IsTailLast (cell_at w.shared ino)
 lent_settled w actor ino locks tails own mine =
     tails ino (λ b. same_actor actor b (λ c. has (unpublished_by (actor_at w c).running) ino ≡ false) mine
     (λ ne. others_published actor b ino w.shared (actor_at w b).running ne own (locks.each b)))
 
+-- a step that cleans is lent a cell that ends at its tail
+module _ (w : World) (actor : ℕ) (r : Running) (k : Next) (block : ℕ) (next : r.next ≡ k) (locks : AreLocks w) (tails : AreTailsLast w)
+    (is : (actor_at w actor).running ≡ Some r) (b : Before actor w.shared k r) where
+  abbrev slot : ℕ
+  slot = clean_slot k
+
+  clean_lent : is_clean k ≡ true → (slot < length w.shared.cells) × (owner_at w.shared slot ≡ Some actor)
+  clean_lent cleaning = lent_inside_own k actor w.shared r b slot (lent_clean k (length w.shared.lists) actor r cleaning)
+
+  pub clean_settled : is_clean k ≡ true → IsTailLast (cell_at w.shared slot)
+  clean_settled cleaning =
+      lent_settled w actor slot locks tails (clean_lent cleaning).1
+      (ap (λ (o : Option Running). has (unpublished_by o) slot) is
+      ∙ ap (λ (k : Next). has (unpublished_at k (written_slots r)) slot) next
+      ∙ ap (λ (l : List ℕ). has l slot) (cleans_published k (written_slots r) cleaning))
+
+  pub cleans_now : IsCleanable k block w.shared (actor_at w actor).hand r → is_clean k ≡ true
+      → Cleans (retention_by_marks (cell_at w.shared slot)) (stays_at k w.shared) (cell_at w.shared slot)
+      (clean_cell k w.shared (actor_at w actor).hand)
+  cleans_now ready cleaning =
+      cleans_own k block w.shared (actor_at w actor).hand r cleaning (clean_lent cleaning).0 (clean_settled cleaning) ready
+
+-- so it keeps a place for each part, and blocks of one size
+pub clean_parted : (g : GeometryNumbers) (w : World) (actor : ℕ) (r : Running) (k : Next) → r.next ≡ k → AreLocks w
+    → AreNumbers g w → (actor_at w actor).running ≡ Some r → Before actor w.shared k r
+    → IsCleanable k g.block w.shared (actor_at w actor).hand r → is_clean k ≡ true
+    → IsParted g.block (clean_cell k w.shared (actor_at w actor).hand)
+clean_parted g w actor r k next locks all is b ready cleaning =
+    let s = w.shared in
+    let h = (actor_at w actor).hand in
+    let was = all.cells (clean_slot k) in
+    cleaned_parted _ (stays_at k s) (cell_at s (clean_slot k)) (clean_cell k s h)
+    (cleans_now w actor r k g.block next locks all.tails is b ready cleaning) g.block was
+    (clean_sized k g.block s h cleaning was.pages (all_sized g.block h (all.sized actor)).pages)
+
 pub can_count : (g : GeometryNumbers) (w : World) (actor : ℕ) (r : Running) (k : Next) → r.next ≡ k → AreLocks w → AreNumbers g w
-    → (actor_at w actor).running ≡ Some r → Before actor w.shared k r → CanCount actor k w.shared (actor_at w actor).hand r
-can_count g w actor r k next locks all is b = record { inside = lent_inside k actor w.shared r b; none = none } where
+    → (actor_at w actor).running ≡ Some r → Before actor w.shared k r → IsCleanable k g.block w.shared (actor_at w actor).hand r
+    → CanCount actor k w.shared (actor_at w actor).hand r
+can_count g w actor r k next locks all is b ready = record {
+  inside = lent_inside k actor w.shared r b;
+  none = none;
+  cleans = cleans;
+} where
   s : Shared
   s = w.shared
 
   h : HandState
   h = (actor_at w actor).hand
+
+  cleans : is_clean k ≡ true → flat_map of_part (clean_cell k s h).blocks ≡ flat_map of_part (cell_at s (clean_slot k)).blocks
+  cleans cleaning =
+      cleaned_numbers _ (stays_at k s) (cell_at s (clean_slot k)) (clean_cell k s h)
+      (cleans_now w actor r k g.block next locks all.tails is b ready cleaning)
 
   none : is_removal k ≡ true → LeavesNone (removal k s h r)
   none removes =

@@ -8,25 +8,28 @@ use Rattle.nv_base.specs.Limits.{IsWithinLimits}
 use Rattle.nv_base.specs.declared.geometry.GeometryNumbers.{GeometryNumbers}
 use Rattle.nv_calls.specs.declared.call.Call.{Call}
 use Rattle.nv_machine.specs.Frame.{IsFramed, lent}
-use Rattle.nv_machine.specs.Hands.{AreNumbers, HandOf, makes_inode, unpublished_at, unpublished_by}
+use Rattle.nv_machine.specs.Hands.{AreNumbers, HandOf, makes_inode, unpublished_at, unpublished_by, HandOn}
 use Rattle.nv_machine.specs.Kinds.{blocks_in}
+use Rattle.nv_machine.specs.Kept.{AreCleanable}
 use Rattle.nv_machine.specs.Locks.{AreLocks}
 use Rattle.nv_machine.specs.Reads.{slots_of, written_slots}
-use Rattle.nv_machine.specs.Sequence.{Beginning, Locks, Looks, Numbers, beginning, begun, nothing_looked, started}
-use Rattle.nv_machine.specs.Step.{after, kind_turn, turned}
-use Rattle.nv_machine.specs.World.{Actor, Check, Ends, Event, HandState, Lock, Moves, Running, Shared, Turn, Waits, World, actor_at, cell_at, empty_hand, owner_at}
+use Rattle.nv_machine.specs.Sequence.{Beginning, Locks, Looks, Numbers, beginning, begun, nothing_looked, started, Maintains}
+use Rattle.nv_machine.specs.Step.{kind_turn, step, turned}
+use Rattle.nv_machine.specs.World.{Actor, Check, Ends, Event, HandState, Lock, Moves, Running, Shared, Turn, Waits, World, actor_at, cell_at, empty_hand, owner_at, MaintenanceStep}
 use Rattle.nv_machine.proofs.BlockCounts.{work_times}
-use Rattle.nv_machine.proofs.OverEvents.{begun_at, begun_in, event_by, events_by, turn_at}
+use Rattle.nv_machine.proofs.OverEvents.{begun_at, begun_in, event_by, turn_at}
 use Rattle.nv_machine.proofs.StepFrames.{framed}
 use Rattle.nv_machine.proofs.HandsAfterSteps.{OnHand, taken_none}
 use Rattle.nv_machine.proofs.HandsInCommits.{hand_kept}
 use Rattle.nv_machine.proofs.StepWork.{work}
 use Rattle.nv_machine.proofs.WorkKeeps.{AfterTurn, turn_keeps}
 use Rattle.nv_machine.proofs.LocksHeld.{lent_cell}
-use Rattle.nv_machine.proofs.LocksOverEvents.{before, events_locks}
-use Rattle.nv_machine.proofs.BlockNumbers.{IsKept, can_count, can_give, goes_home, lent_inside, new_times, set_actor, tails_after, was_kept}
+use Rattle.nv_machine.proofs.LocksOverEvents.{before}
+use Rattle.nv_machine.proofs.Cleanable.{IsCleanable, cleanable}
+use Rattle.nv_machine.proofs.BlockNumbers.{IsKept, can_count, clean_parted, can_give, goes_home, lent_inside, new_times, set_actor, tails_after, was_kept}
 use Rattle.nv_machine.proofs.SoundWorlds.{work_sound}
 use Rattle.nv_machine.proofs.LogTails.{HasLeft, IsTailLast, LeavesTail, left_unpublished, lent_tail}
+use Rattle.nv_machine.proofs.FirstSteps.{first_by}
 
 -- ---- a Go
 
@@ -41,9 +44,9 @@ record IsKnownTurn (g : GeometryNumbers) (w : World) (actor : ℕ) (r : Running)
       → (has (unpublished_at r.next (written_slots r)) ino ≡ false → IsTailLast (cell_at w.shared ino)) → LeavesTail ino t
 
 known : (g : GeometryNumbers) (w : World) (actor : ℕ) (granted : Bool) (r : Running) → IsWithinLimits g → AreLocks w
-    → AreNumbers g w → (actor_at w actor).running ≡ Some r
+    → AreNumbers g w → (actor_at w actor).running ≡ Some r → IsCleanable r.next g.block w.shared (actor_at w actor).hand r
     → IsKnownTurn g w actor r (kind_turn r.next g.block actor granted w.shared (actor_at w actor).hand r)
-known g w actor granted r limits locks all is =
+known g w actor granted r limits locks all is ready =
     let some : 0 < g.cpus = omega (arith, limits.some_cpus) in
     let s = w.shared in
     let h = (actor_at w actor).hand in
@@ -51,8 +54,9 @@ known g w actor granted r limits locks all is =
     let own : HandOf g h (Some r) = subst (λ (o : Option Running). HandOf g h o) is (all.hands actor) in
     let was = was_kept g w actor all in
     let done : IsKept g w actor (work r.next g.block actor s h r).shared (work r.next g.block actor s h r).hand = record {
-      sound = work_sound g r.next actor s h r b own.0 was.sound;
-      same = λ n. work_times r.next n g.block actor s h r (can_count g w actor r r.next refl locks all is b);
+      sound = work_sound g r.next actor s h r b own.0 was.sound
+          (clean_parted g w actor r r.next refl locks all is b ready);
+      same = λ n. work_times r.next n g.block actor s h r (can_count g w actor r r.next refl locks all is b ready);
     } in
     record {
       kept = turn_keeps (IsKept g w actor) r.next g.block actor granted s h r was done;
@@ -103,14 +107,16 @@ turned_numbers g w actor r (Ends result t h) there locks all is owned k = record
 
 go_numbers : (g : GeometryNumbers) (w : World) → IsWithinLimits g → AreLocks w → AreNumbers g w → (actor : ℕ) (granted : Bool)
     (r : Running) → actor < length w.actors → (actor_at w actor).running ≡ Some r
+    → IsCleanable r.next w.numbers.block w.shared (actor_at w actor).hand r
     → AreNumbers g (turned (turn_at w actor granted r) actor w).world
-go_numbers g w limits locks all actor granted r there is =
+go_numbers g w limits locks all actor granted r there is ready =
     let h = (actor_at w actor).hand in
     subst (λ (n : GeometryNumbers). AreNumbers g (turned (kind_turn r.next n.block actor granted w.shared h r) actor w).world)
     (sym all.numbers)
     (turned_numbers g w actor r (kind_turn r.next g.block actor granted w.shared h r) there locks all is
     (λ ino here. lent_cell r.next (length w.shared.lists) actor w.shared r (before w actor r locks is) ino here)
-    (known g w actor granted r limits locks all is))
+    (known g w actor granted r limits locks all is
+    (subst (λ (n : GeometryNumbers). IsCleanable r.next n.block w.shared h r) all.numbers ready)))
 
 -- ---- a Start
 
@@ -124,17 +130,12 @@ begun_hand g Locks s c h is empty =
       go : (slots : List ℕ) (lock : Bool) → HandOf g h (Some (started c (if lock then Lock 0 else Check) slots))
       go slots true = (taken_none h (started c (Lock 0) slots) empty (ap makes_inode is), λ e. refl)
       go slots false = (taken_none h (started c Check slots) empty (ap makes_inode is), λ e. refl)
+begun_hand g (Maintains what) s c h is empty = (
+  first_by (λ (step : MaintenanceStep). HandOn step h) (length s.cells) empty (λ snapshot. empty) (λ snapshot. empty)
+      (λ count. empty) (λ manner ino inside. empty) (λ manner. empty) what,
+  λ e. refl,
+)
 begun_hand g other s c h is empty = (empty, λ e. refl)
-
-begun_published : (b : Beginning) (s : Shared) (c : Call) (ino : ℕ) → has (unpublished_by (Some (begun b s c))) ino ≡ false
-begun_published Locks s c ino =
-    let slots = slots_of s None nothing_looked c in
-    go slots (nat_lt 0 (length slots)) where
-      go : (slots : List ℕ) (lock : Bool)
-          → has (unpublished_by (Some (started c (if lock then Lock 0 else Check) slots))) ino ≡ false
-      go slots true = refl
-      go slots false = refl
-begun_published other s c ino = refl
 
 start_numbers : (g : GeometryNumbers) (w : World) → AreLocks w → AreNumbers g w → (actor : ℕ) (c : Call) → actor < length w.actors
     → (actor_at w actor).running ≡ None → AreNumbers g (begun_in w actor c)
@@ -157,8 +158,7 @@ start_numbers g w locks all actor c there is =
 
 -- ---- events
 
-pub events_numbers : (g : GeometryNumbers) (events : List Event) (w : World) → IsWithinLimits g → AreLocks w → AreNumbers g w
-    → AreNumbers g (after w events)
-events_numbers g events w limits locks all =
-    events_by AreLocks (AreNumbers g) (λ v e locks all. event_by (AreNumbers g) v all e (start_numbers g v locks all)
-    (go_numbers g v limits locks all)) events w (λ before. events_locks before w locks) all
+pub event_blocks : (g : GeometryNumbers) (w : World) (e : Event) → IsWithinLimits g → AreLocks w → AreNumbers g w → AreCleanable w
+    → AreNumbers g (step w e).world
+event_blocks g w e limits locks all are = event_by (AreNumbers g) w all e (start_numbers g w locks all)
+    (λ actor granted r there is. go_numbers g w limits locks all actor granted r there is (cleanable w actor r are is))

@@ -25,7 +25,7 @@ use Rattle.nv_machine.proofs.NextSteps.{Known, KnowsNext, OnKnown, Untold}
 use Rattle.nv_machine.proofs.PlansOfBlocks.{length_numbers, plan_fits, runs_are, small_numbers}
 use Rattle.nv_machine.proofs.LoopSteps.{locking_any}
 use Rattle.nv_machine.proofs.StepWays.{Closes, EndsBy, any_ends, by_last, is_last, is_overtaken}
-use Rattle.nv_machine.proofs.MaintenanceWalk.{maintenance_walk}
+use Rattle.nv_machine.proofs.MaintenanceWalk.{maintenance_walk, ends_apart}
 use Rattle.nv_calls.specs.declared.call.Call.TheVariants as call
 
 abbrev pub KnownBy : ℕ → ℕ → Known
@@ -62,7 +62,8 @@ module _ (block cpu : ℕ) where
     goes = λ on clear. tt;
     told = λ on clear. tt;
     denied = λ snapshot showing on. tt;
-    over = λ draining picked on. any_ends (closes_knows _ _ _ _ (λ over. absurd (false≢true (ap is_overtaken over))));
+    leads_on = λ next leads. tt;
+    over = λ e ends. any_ends (closes_knows _ _ _ _ (λ over. absurd (ends_apart step actor s h e ends over)));
     none = λ draining on empty. tt;
   })
 

@@ -34,14 +34,15 @@ module _ (c : Call) where
   stopped_is Check s h r is = is
   stopped_is other s h r is = is
 
-  kind_stays : (k : Next) (block a : ℕ) (granted : Bool) (s : Shared) (h : HandState) (r : Running) → r.call ≡ c
+  pub kind_stays : (k : Next) (block a : ℕ) (granted : Bool) (s : Shared) (h : HandState) (r : Running) → r.call ≡ c
       → After P E (kind_turn k block a granted s h r)
   kind_stays (Maintenance step) block a granted s h r is = maintenance_walk P E a s h r step granted (record {
     stops = λ fault cause. any_ends (closes s h r _ is);
     goes = λ on clear. is;
     told = λ on clear. tt;
     denied = λ snapshot showing on. is;
-    over = λ draining picked on. any_ends (closes _ _ r _ is);
+    leads_on = λ next leads. is;
+    over = λ e ends. any_ends (closes _ _ r _ is);
     none = λ draining on empty. tt;
   })
   kind_stays other block a granted s h r is = walk P E block a s h r other granted (record {

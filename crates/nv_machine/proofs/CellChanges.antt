@@ -1,6 +1,6 @@
 -- WHAT A STEP MAKES OF THE CELL THAT IT IS LENT, told once for all laws: entries come to it, it is published, or parts go
 -- out of it. Every other cell stays.
-use Rattle.std.proofs.Common.{◌≡◌, ◌∙◌, ℕ, ◌+◌, ◌<◌, ◌++◌, Bool, true, false, List, [], ◌∷◌, Option, Some, None, ap, arith, drop, inl, inr, length, refl, subst, sym, take}
+use Rattle.std.proofs.Common.{◌≡◌, ◌∙◌, ℕ, ◌+◌, ◌<◌, ◌++◌, Bool, true, false, List, [], ◌∷◌, Option, Some, None, ap, arith, drop, inl, inr, length, refl, subst, sym, take, take_all}
 use Rattle.std.specs.List.{flat_map}
 use Rattle.std.proofs.lemmas.Bool.{cases_lt, false≢true, true≢false}
 use Rattle.std.proofs.lemmas.List.{get_or_past}
@@ -20,13 +20,19 @@ use Rattle.nv_machine.specs.Hands.{IsParted, unpublished_at}
 use Rattle.nv_machine.specs.Kinds.{entries_for, first_killed, retired_book, retired_cell, with_entries, with_erased, with_pages}
 use Rattle.nv_machine.specs.Numbers.{of_part, stored_in}
 use Rattle.nv_machine.specs.Reads.{pages_needed, slot_at, written_slots}
-use Rattle.nv_machine.specs.World.{Append, Back, Close, Enter, HandState, Leave, Make, Next, Number, Open, Publish, Release, Retire, Running, Shared, MaintenanceStep, Maintenance, cell_at, no_cell, owner_at, with_book, with_cell}
+use Rattle.nv_machine.specs.World.{Append, Back, Close, Enter, HandState, Leave, Make, Next, Number, Open, Publish, Release, Retire, Running, Shared, MaintenanceStep, Maintenance, cell_at, no_cell, owner_at, with_book, with_cell, Compact, Fresh, Unlink}
 use Rattle.nv_machine.proofs.Occurrences.{set_times}
 use Rattle.nv_machine.proofs.StepWork.{Both, both, work, maintenance_work, by_number, by_back}
 use Rattle.nv_machine.proofs.StepFrames.{work_framed}
 use Rattle.nv_machine.proofs.LocksHeld.{Before, lent_cell}
 use Rattle.nv_machine.proofs.LogsKept.{cell_set}
 use Rattle.nv_machine.proofs.PartPlaces.{freed_by_sized, freed_sized, retired_parted, settled_parted}
+use Rattle.nv_machine.specs.Cleaning.{compacted_cell, unlinked}
+use Rattle.nv_machine.specs.Locks.{commits_at}
+use Rattle.nv_machine.proofs.PagesLeft.{item_flags, parts_left}
+use Rattle.nv_clean.specs.Plans.{unlinkable_of, wanted_of}
+use Rattle.nv_log.specs.Chain.{left_of, joined, log, parts_from}
+use Rattle.nv_entry.specs.declared.item.Entry.{Entry}
 
 -- ---- the numbers of blocks in a cell that gives up parts
 
@@ -162,29 +168,127 @@ removes_published Open written is = absurd (false≢true is)
 removes_published (Publish place) written is = absurd (false≢true is)
 removes_published other written is = refl
 
-stays_lent : (step : MaintenanceStep) → is_removal_on step ≡ false → (lent_on step).cell ≡ None
-stays_lent (Release draining picked) is = absurd (true≢false is)
-stays_lent other is = refl
+-- ---- a cleaning
 
--- a step of a call on snapshots is lent a cell to remove parts of it
-pub lent_removes : (step : MaintenanceStep) (ino : ℕ) → (lent_on step).cell ≡ Some ino → is_removal_on step ≡ true
-lent_removes step ino is = go (is_removal_on step) refl where
-  go : (b : Bool) → is_removal_on step ≡ b → b ≡ true
-  go true e = refl
-  go false e = absurd (none-some ino (sym (stays_lent step e) ∙ is))
+-- the slot that a step cleans, and its cell behind it
+abbrev pub is_clean_on : MaintenanceStep → Bool
+is_clean_on (Unlink ino) = true
+is_clean_on (Compact ino) = true
+is_clean_on other = false
+
+abbrev pub clean_slot_on : MaintenanceStep → ℕ
+clean_slot_on (Unlink ino) = ino
+clean_slot_on (Compact ino) = ino
+clean_slot_on other = 0
+
+abbrev pub clean_cell_on : MaintenanceStep → Shared → HandState → CellState
+clean_cell_on (Unlink ino) s h = unlinked (cell_at s ino)
+clean_cell_on (Compact ino) s h = compacted_cell h (cell_at s ino)
+clean_cell_on other s h = no_cell
+
+abbrev pub is_clean : Next → Bool
+is_clean (Maintenance step) = is_clean_on step
+is_clean other = false
+
+abbrev pub clean_slot : Next → ℕ
+clean_slot (Maintenance step) = clean_slot_on step
+clean_slot other = 0
+
+abbrev pub clean_cell : Next → Shared → HandState → CellState
+clean_cell (Maintenance step) s h = clean_cell_on step s h
+clean_cell other s h = no_cell
+
+-- A CLEANING leaves number of generations, version and sizes of its cell
+pub record IsCleaning (old new : CellState) : Type 0 where
+  pub generation : new.generation ≡ old.generation
+  pub version : new.version ≡ old.version
+  pub block : new.block ≡ old.block
+  pub page : new.chain.page ≡ old.chain.page
+
+pub is_cleaning : (k : Next) (s : Shared) (h : HandState) → is_clean k ≡ true
+    → IsCleaning (cell_at s (clean_slot k)) (clean_cell k s h)
+is_cleaning (Maintenance step) s h is = go step is where
+  go : (step : MaintenanceStep) → is_clean_on step ≡ true → IsCleaning (cell_at s (clean_slot_on step)) (clean_cell_on step s h)
+  go (Unlink ino) is = record { generation = refl; version = refl; block = refl; page = refl }
+  go (Compact ino) is = record { generation = refl; version = refl; block = refl; page = refl }
+  go other is = absurd (false≢true is)
+is_cleaning other s h is = absurd (false≢true is)
+
+-- the entries that stay, by flags
+abbrev pub clean_flags_on : MaintenanceStep → Shared → List Bool
+clean_flags_on (Unlink ino) s =
+    let cell = cell_at s ino in item_flags 0 (unlinkable_of cell).stays cell.chain.ends cell.chain.entries
+clean_flags_on (Compact ino) s = (wanted_of (cell_at s ino)).stays
+clean_flags_on other s = []
+
+abbrev pub clean_flags : Next → Shared → List Bool
+clean_flags (Maintenance step) s = clean_flags_on step s
+clean_flags other s = []
+
+pub clean_entries : (k : Next) (s : Shared) (h : HandState) → is_clean k ≡ true
+    → (clean_cell k s h).chain.entries ≡ left_of (clean_flags k s) (cell_at s (clean_slot k)).chain.entries
+clean_entries (Maintenance step) s h is = go step is where
+  go : (step : MaintenanceStep) → is_clean_on step ≡ true
+      → (clean_cell_on step s h).chain.entries ≡ left_of (clean_flags_on step s) (cell_at s (clean_slot_on step)).chain.entries
+  go (Unlink ino) is =
+      let cell = cell_at s ino in parts_left 0 (unlinkable_of cell).stays cell.chain.ends cell.chain.entries
+  go (Compact ino) is = refl
+  go other is = absurd (false≢true is)
+clean_entries other s h is = absurd (false≢true is)
+
+-- a log that ends at its tail does so still
+pub clean_tail : (k : Next) (s : Shared) (h : HandState) → is_clean k ≡ true
+    → (cell_at s (clean_slot k)).chain.tail ≡ length (cell_at s (clean_slot k)).chain.entries
+    → (clean_cell k s h).chain.tail ≡ length (clean_cell k s h).chain.entries
+clean_tail (Maintenance step) s h is last = go step is last where
+  whole : (cell : CellState) → cell.chain.tail ≡ length cell.chain.entries → log cell.chain ≡ cell.chain.entries
+  whole cell last = take_all cell.chain.tail cell.chain.entries (omega (arith, last))
+
+  go : (step : MaintenanceStep) → is_clean_on step ≡ true
+      → (cell_at s (clean_slot_on step)).chain.tail ≡ length (cell_at s (clean_slot_on step)).chain.entries
+      → (clean_cell_on step s h).chain.tail ≡ length (clean_cell_on step s h).chain.entries
+  go (Unlink ino) is last =
+      let cell = cell_at s ino in
+      ap (λ (l : List Entry). length (joined (left_of (unlinkable_of cell).stays (parts_from 0 cell.chain.ends l)))) (whole cell last)
+  go (Compact ino) is last =
+      let cell = cell_at s ino in ap (λ (l : List Entry). length (left_of (wanted_of cell).stays l)) (whole cell last)
+  go other is last = absurd (false≢true is)
+clean_tail other s h is last = absurd (false≢true is)
+
+-- its cell is lent
+pub lent_clean : (k : Next) (cpus a : ℕ) (r : Running) → is_clean k ≡ true → (lent k cpus a r).cell ≡ Some (clean_slot k)
+lent_clean (Maintenance step) cpus a r is = go step is where
+  go : (step : MaintenanceStep) → is_clean_on step ≡ true → (lent_on step cpus a).cell ≡ Some (clean_slot_on step)
+  go (Unlink ino) is = refl
+  go (Compact ino) is = refl
+  go other is = absurd (false≢true is)
+lent_clean other cpus a r is = absurd (false≢true is)
+
+-- no commit, no removal
+pub cleans_alone : (k : Next) → is_clean k ≡ true → (commits_at k ≡ false) × (is_removal k ≡ false)
+cleans_alone (Maintenance (Unlink ino)) is = (refl, refl)
+cleans_alone (Maintenance (Compact ino)) is = (refl, refl)
+cleans_alone other is = absurd (false≢true is)
 
 -- what a drain releases leaves the killed parts in the hand
 pub killed_on : (step : MaintenanceStep) (s : Shared) (h : HandState) → (removal_on step s h).killed ≡ h.killed
 killed_on Make s h = refl
 killed_on other s h = refl
 
--- A STEP OF A CALL ON SNAPSHOTS removes parts, or leaves all but the book and the locks of slots
+-- A STEP OF A CALL ON SNAPSHOTS OR OF A CLEANER removes parts, takes fresh pages, cleans a cell, or leaves all but the book and
+-- the locks of slots
 pub on_step : (P : Shared → HandState → Type 0) (step : MaintenanceStep) (a : ℕ) (s : Shared) (h : HandState)
     → (is_removal_on step ≡ true → let d = removed (removal_on step s h) s h in P d.shared d.hand)
+    → ((ino asked wanted : ℕ) → step ≡ Fresh ino asked wanted
+    → let d = maintenance_work (Fresh ino asked wanted) a s h in P d.shared d.hand)
+    → (is_clean_on step ≡ true → let d = maintenance_work step a s h in P d.shared d.hand)
     → ((book : BookState) (owners : List (Option ℕ)) → P (record s { book = book; owners = owners }) h)
     → P (maintenance_work step a s h).shared (maintenance_work step a s h).hand
-on_step P (Release draining picked) a s h removes stays = removes refl
-on_step P other a s h removes stays = stays _ _
+on_step P (Release draining picked) a s h removes takes cleans stays = removes refl
+on_step P (Fresh ino asked wanted) a s h removes takes cleans stays = takes ino asked wanted refl
+on_step P (Unlink ino) a s h removes takes cleans stays = cleans refl
+on_step P (Compact ino) a s h removes takes cleans stays = cleans refl
+on_step P other a s h removes takes cleans stays = stays _ _
 
 -- ---- the cell that is lent is its actor's, and one of the world
 
@@ -211,6 +315,7 @@ pub record CellWays (P : ℕ → CellState → Type 0) (k : Next) (s : Shared) (
   pub publishes : (place : ℕ) → k ≡ Publish place → place < length (written_slots r) → let ino = slot_at (written_slots r) place in
       ino < length s.cells → P ino (published (cell_at s ino))
   pub removes : is_removal k ≡ true → let x = removal k s h r in x.slot < length s.cells → IsRemoval s x → P x.slot (erased x.cell)
+  pub cleans : is_clean k ≡ true → clean_slot k < length s.cells → P (clean_slot k) (clean_cell k s h)
 
 -- the kinds that add to a log
 abbrev pub adds : Next → Bool
@@ -221,11 +326,12 @@ adds other = false
 -- of a kind that adds to none
 pub no_more : (P : ℕ → CellState → Type 0) (k : Next) (s : Shared) (h : HandState) (r : Running) → adds k ≡ false
     → (is_removal k ≡ true → let x = removal k s h r in x.slot < length s.cells → IsRemoval s x → P x.slot (erased x.cell))
-    → CellWays P k s h r
-no_more P k s h r none removes = record {
+    → (is_clean k ≡ true → clean_slot k < length s.cells → P (clean_slot k) (clean_cell k s h)) → CellWays P k s h r
+no_more P k s h r none removes cleans = record {
   appends = λ place is inside low. absurd (true≢false (sym (ap adds is) ∙ none));
   publishes = λ place is inside low. absurd (true≢false (sym (ap adds is) ∙ none));
   removes = removes;
+  cleans = cleans;
 }
 
 module _ (P : ℕ → CellState → Type 0) (block a : ℕ) (s : Shared) (h : HandState) (r : Running)
@@ -246,6 +352,10 @@ module _ (P : ℕ → CellState → Type 0) (block a : ℕ) (s : Shared) (h : Ha
       let k : Next = Maintenance (Release draining picked) in
       let inside = low k b picked.ino refl in
       set_cell picked.ino _ inside (w.removes refl inside (is_removed k s h r refl))
+  cells_on (Unlink ino) b w =
+      let inside = low (Maintenance (Unlink ino)) b ino refl in set_cell ino _ inside (w.cleans refl inside)
+  cells_on (Compact ino) b w =
+      let inside = low (Maintenance (Compact ino)) b ino refl in set_cell ino _ inside (w.cleans refl inside)
   cells_on other b w = stays (Maintenance other) refl
 
   -- WHAT HOLDS OF EACH CELL before a step holds of each behind its work, where it holds of the one that the step changes
@@ -286,7 +396,8 @@ journals_stay Back block a s h r is = ap (λ (b : BookState). b.journals) (work_
 journals_stay (Maintenance step) block a s h r is = journals_on step a s h
 journals_stay other block a s h r is = refl
 
-commit_on : (step : MaintenanceStep) (a : ℕ) (s : Shared) (h : HandState) → (maintenance_work step a s h).shared.book.commit ≡ s.book.commit
+commit_on : (step : MaintenanceStep) (a : ℕ) (s : Shared) (h : HandState)
+    → (maintenance_work step a s h).shared.book.commit ≡ s.book.commit
 commit_on Make a s h = refl
 commit_on other a s h = refl
 

@@ -6,7 +6,6 @@ use Rattle.std.proofs.lemmas.Bool.{false≢true, le-ltb}
 use Rattle.nv_alloc.specs.Block.{AreSized, BlockValue, number_of}
 use Rattle.nv_base.specs.Limits.{IsWithinLimits}
 use Rattle.nv_base.specs.declared.geometry.GeometryNumbers.{GeometryNumbers}
-use Rattle.nv_calls.specs.Nodes.{HasBytes}
 use Rattle.nv_book.specs.declared.record.Record.{Record}
 use Rattle.nv_calls.specs.Retiring.{released}
 use Rattle.nv_calls.specs.Slots.{items_for, place_in}
@@ -23,35 +22,33 @@ use Rattle.nv_machine.specs.Hands.{HandAt, HandOf}
 use Rattle.nv_machine.specs.Held.{killed_in, picked_at, picked_by_actor, picked_by_call}
 use Rattle.nv_machine.specs.Kinds.{entries_for, first_killed, with_pages}
 use Rattle.nv_machine.specs.Locks.{commits_at}
-use Rattle.nv_machine.specs.Reads.{bytes_among, pages_needed, slot_at, written_slots}
-use Rattle.nv_machine.specs.Starts.{IsStart}
-use Rattle.nv_machine.specs.Step.{after, step}
+use Rattle.nv_machine.specs.Reads.{pages_needed, slot_at, written_slots}
+use Rattle.nv_machine.specs.Step.{step}
 use Rattle.nv_machine.specs.Pages.{AreOnPages}
 use Rattle.nv_machine.specs.Whole.{HasItsParts, HaveTheirParts}
 use Rattle.nv_machine.specs.World.{Append, Event, HandState, Next, Release, Retire, Running, Shared, Maintenance, World, actor_at, cell_at, idle}
 use Rattle.nv_machine.proofs.NewWorld.{new_cell}
-use Rattle.nv_machine.proofs.SlotsBeforeCheck.{own_bytes}
 use Rattle.nv_machine.proofs.FiledCommits.{retire_mine}
-use Rattle.nv_machine.proofs.OverEvents.{event_shared, events_by}
+use Rattle.nv_machine.proofs.OverEvents.{event_shared}
 use Rattle.nv_machine.proofs.EachElement.{all_back}
 use Rattle.nv_machine.proofs.FiledLists.{count, count_append, count_cons, one}
 use Rattle.nv_machine.proofs.FiledMarks.{IsTold}
 use Rattle.nv_machine.proofs.FiledRuns.{can_list}
 use Rattle.nv_machine.proofs.FiledWorlds.{AreMarked, picked_in}
-use Rattle.nv_machine.proofs.FitsEvents.{IsKnown, all_known, filed_known}
-use Rattle.nv_machine.proofs.FromScratch.{all_numbers}
+use Rattle.nv_machine.proofs.FitsEvents.{IsKnown, filed_known}
 use Rattle.nv_machine.proofs.HandsInCommits.{slot_first}
 use Rattle.nv_machine.proofs.StepWork.{work}
 use Rattle.nv_machine.proofs.WorkKeeps.{turn_keeps}
-use Rattle.nv_machine.proofs.CellChanges.{appended_at, cells_after, is_removal, removal, slots_stay}
+use Rattle.nv_machine.proofs.BlockNumbers.{cleans_now}
+use Rattle.nv_machine.proofs.CleanedCells.{cleaned_parts}
+use Rattle.nv_machine.proofs.CleanedSlots.{stays_at}
+use Rattle.nv_machine.proofs.CellChanges.{appended_at, cells_after, clean_cell, clean_slot, is_clean, is_removal, removal, slots_stay}
 use Rattle.nv_machine.proofs.LocksHeld.{Before, lent_holder}
 use Rattle.nv_machine.proofs.LocksOverEvents.{before}
+use Rattle.nv_machine.proofs.Cleanable.{IsCleanable, cleanable}
 use Rattle.nv_machine.proofs.CellMarks.{empty_parts, entries_parts, erased_parts, paged_parts, published_parts, released_parts, retired_parts}
-use Rattle.nv_machine.proofs.PageEvents.{logs_paged}
 use Rattle.nv_machine.proofs.PartsFor.{own_all, swap_count}
-use Rattle.nv_machine.proofs.Reached.{reached}
 use Rattle.nv_machine.proofs.SoundWorlds.{entries_within, sized_left}
-use Rattle.nv_machine.proofs.StartParts.{first_parts}
 
 -- ---- kind by kind
 
@@ -125,22 +122,31 @@ module _ (g : GeometryNumbers) (w : World) (known : IsKnown g w) (all : HaveThei
   removal_parts (Maintenance (Release draining d)) e is low = release_parts d (ap picked_at e) low
   removal_parts other e is low = absurd (false≢true is)
 
-  work_parts : (k : Next) → r.next ≡ k → HaveTheirParts g.block (work k block a s h r).shared
-  work_parts k e ino lt =
+  clean_parts : (k : Next) → r.next ≡ k → IsCleanable k block s h r → is_clean k ≡ true → clean_slot k < length s.cells
+      → HasItsParts g.block (clean_cell k s h)
+  clean_parts k e ready is low =
+      let slot = clean_slot k in
+      let c = cleans_now w a r k block e known.reached.locks known.numbers.tails running (before_it k e) ready is in
+      cleaned_parts _ (stays_at k s) (cell_at s slot) (clean_cell k s h) c g.block (all slot low).size
+
+  work_parts : (k : Next) → r.next ≡ k → IsCleanable k block s h r → HaveTheirParts g.block (work k block a s h r).shared
+  work_parts k e ready ino lt =
       cells_after (λ (n : ℕ) (c : CellState). n < length s.cells → HasItsParts g.block c) block a s h r all k (before_it k e) (record {
         appends = λ place is inside low there. append_parts place (e ∙ is) inside low;
         publishes = λ place is inside low there.
             let slot = slot_at (written_slots r) place in published_parts g.block (cell_at s slot) (all slot low);
         removes = λ is low left there. erased_parts g.block (removal k s h r).cell (removal_parts k e is low);
+        cleans = λ is low there. clean_parts k e ready is low;
       }) ino (let n = slots_stay k block a s h r in omega (arith, lt, n))
 
 -- ---- events
 
-event_parts : (g : GeometryNumbers) (w : World) (e : Event) → IsKnown g w → HaveTheirParts g.block w.shared
+pub event_parts : (g : GeometryNumbers) (w : World) (e : Event) → IsKnown g w → HaveTheirParts g.block w.shared
     → HaveTheirParts g.block (step w e).world.shared
 event_parts g w e known all = event_shared (HaveTheirParts g.block) w all e (λ actor granted r there is.
     turn_keeps (λ (t : Shared) (x : HandState). HaveTheirParts g.block t) r.next w.numbers.block actor granted w.shared
-    (actor_at w actor).hand r all (work_parts g w known all actor w.numbers.block r there is r.next refl))
+    (actor_at w actor).hand r all (work_parts g w known all actor w.numbers.block r there is r.next refl
+    (cleanable w actor r known.reached.apart.cleanable is)))
 
 -- ---- a new world
 
@@ -176,14 +182,6 @@ pub new_parts : (g : GeometryNumbers) → HaveTheirParts g.block (formatted g).s
 new_parts g = new_cell g (λ (ino : ℕ) (c : CellState). ino < length (formatted g).shared.cells → HasItsParts g.block c)
     (λ lt. root_parts g) (λ n lt. empty_parts g.block g.page 1 0) (λ n past lt. absurd (omega (arith, past, lt)))
 
--- ---- every world
-
-pub all_parts : (g : GeometryNumbers) (start : World) (records : List Record) (events : List Event) → IsStart g start records
-    → HaveTheirParts g.block (after start events).shared
-all_parts g start records events is_start =
-    events_by (IsKnown g) (λ (v : World). HaveTheirParts g.block v.shared) (λ v e known all. event_parts g v e known all) events start
-    (all_known g start records is_start) (first_parts g start records is_start)
-
 -- a cell with its parts, whose log stands on its pages, is one
 pub is_cell : (g : GeometryNumbers) (cell : CellState) → IsWithinLimits g → HasItsParts g.block cell → AreOnPages g.page cell.chain
     → IsLog cell.chain.entries → AreSized g.block cell.chain.blocks → IsCell cell
@@ -200,22 +198,4 @@ is_cell g cell within h on log sized = record {
   pages = subst (λ (size : ℕ). AreSized size cell.chain.blocks) (sym h.size) sized;
   marks = h.marks;
   blocks = h.blocks;
-}
-
-pub are_cells : (g : GeometryNumbers) (start : World) (records : List Record) (events : List Event) (ino : ℕ) → IsStart g start records
-    → ino < length (after start events).shared.cells → IsCell (cell_at (after start events).shared ino)
-are_cells g start records events ino is_start lt =
-    is_cell g (cell_at (after start events).shared ino) is_start.limits (all_parts g start records events is_start ino lt)
-    (logs_paged g start records events ino is_start lt) ((reached g start records events is_start).order.logs ino).ordered
-    ((all_numbers g start records events is_start).cells ino).pages
-
--- with the bytes that a search among its blocks finds
-pub have_bytes : (g : GeometryNumbers) (start : World) (records : List Record) (events : List Event) (ino : ℕ) → IsStart g start records
-    → ino < length (after start events).shared.cells
-    → HasBytes (bytes_among (cell_at (after start events).shared ino).blocks) g.block
-    (cell_at (after start events).shared ino)
-have_bytes g start records events ino is_start lt = record {
-  is = are_cells g start records events ino is_start lt;
-  size = (all_parts g start records events is_start ino lt).size;
-  are = own_bytes (after start events) (reached g start records events is_start) ino;
 }

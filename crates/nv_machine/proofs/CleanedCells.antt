@@ -22,19 +22,17 @@ use Rattle.nv_entry.specs.declared.item.Entry.{Entry}
 use Rattle.nv_cell.proofs.CleanNodes.{cleaned_nodes}
 use Rattle.nv_cell.proofs.CleanParts.{cleaned_records}
 use Rattle.nv_cell.proofs.Removing.{AreTaken, last_stays}
+use Rattle.nv_cell.proofs.Sources.{block_left}
 use Rattle.nv_cell.proofs.ValuesNow.{IsLog-take}
 use Rattle.nv_entry.specs.Clean.{select}
 use Rattle.nv_entry.specs.Laws.{KeepsReads}
-use Rattle.nv_log.specs.Chain.{AreEnds, ChainState, IsChain, last_of, left_of}
-use Rattle.nv_log.proofs.Flags.{all_left}
-use Rattle.nv_log.proofs.Logs.{IsLog-left_of}
+use Rattle.nv_log.specs.Chain.{ChainState, IsChain, last_of, left_of}
 use Rattle.nv_calls.specs.Plain.{stamped}
-use Rattle.nv_calls.specs.Slots.{IsBefore, last_commit}
+use Rattle.nv_calls.specs.Slots.{last_commit}
 use Rattle.nv_machine.specs.Effects.{IsSoundIn}
 use Rattle.nv_machine.specs.Hands.{IsParted}
-use Rattle.nv_machine.specs.Kept.{AreApart, HasPages}
+use Rattle.nv_machine.specs.Kept.{HasPages}
 use Rattle.nv_machine.specs.Numbers.{of_part}
-use Rattle.nv_machine.specs.Pages.{AreOnPages}
 use Rattle.nv_machine.specs.Reads.{bytes_among}
 use Rattle.nv_machine.specs.Settled.{node_by}
 use Rattle.nv_machine.specs.Whole.{HasItsParts}
@@ -61,7 +59,7 @@ commit_of : Option Entry → ℕ
 commit_of None = 0
 commit_of (Some e) = e.id.commit
 
-last_step : (x y : Entry) (ys : List Entry) → last_of (x ∷ y ∷ ys) ≡ last_of (y ∷ ys)
+pub last_step : (x y : Entry) (ys : List Entry) → last_of (x ∷ y ∷ ys) ≡ last_of (y ∷ ys)
 last_step x y ys = let e : length (x ∷ y ∷ ys) - 1 ≡ suc (length (y ∷ ys) - 1) = omega arith in rw e refl
 
 last_commit_is : (log : List Entry) → last_commit log ≡ commit_of (last_of log)
@@ -80,15 +78,6 @@ last_there [] some = absurd (omega (arith, some))
 last_there (e ∷ []) some = (e, refl)
 last_there (e ∷ f ∷ log) some =
     let more = last_there (f ∷ log) (omega arith) in (more.0, last_step e f log ∙ more.1)
-
--- no two items that are left had one number
-source_one : (flags : List Bool) (n m : ℕ) → source flags n ≡ source flags m → n ≡ m
-source_one [] n m e = e
-source_one (true ∷ flags) zero zero e = refl
-source_one (true ∷ flags) zero (suc m) e = cc
-source_one (true ∷ flags) (suc n) zero e = cc
-source_one (true ∷ flags) (suc n) (suc m) e = ap suc (source_one flags n m (omega (arith, e)))
-source_one (false ∷ flags) n m e = source_one flags n m (omega (arith, e))
 
 fresh_mark : (marks : List Mark) (n : ℕ) → n < length marks → mark_or_fresh marks n ≡ mark_at marks n
 fresh_mark [] n lt = absurd (omega (arith, lt))
@@ -118,28 +107,9 @@ parts_paged cell within marks blocks = record {
     | inr ge ↦ ap is_there (get_or_past cell.marks n Current ge)
   ]
 
--- a part that is out has no block, and a block is of the number that its entry says
-pub parts_told : (size : ℕ) (cell : CellState) → cell.block ≡ size → cell.chain.tail ≤ length cell.chain.entries → HasMarks cell
-    → HasBlocks cell → AreSized size cell.chain.blocks → IsParted size cell
-parts_told size cell is within marks blocks sized = record {
-  within = within;
-  marks = marks.len;
-  places = blocks.len;
-  out = λ n out. none (slice_index_or cell.blocks n None)
-      (blocks.numbers n ∙ ap (λ (b : Bool). cond b (page_block cell.block cell.chain.entries n) None) out);
-  told = λ n b e. told n b e (is_there (mark_or_fresh cell.marks n)) (sym (ap (option_map number_of) e) ∙ blocks.numbers n);
-  sized = λ n b e. blocks.sized n b e ∙ is;
-  pages = sized;
-} where
-  none : (o : Option BlockValue) → option_map number_of o ≡ None → o ≡ None
-  none None e = refl
-  none (Some b) e = cc
-
-  told : (n : ℕ) (b : BlockValue) → slice_index_or cell.blocks n None ≡ Some b → (c : Bool)
-      → Some b.number ≡ cond c (page_block cell.block cell.chain.entries n) None
-      → page_block size cell.chain.entries n ≡ Some b.number
-  told n b e true q = ap (λ (k : ℕ). page_block k cell.chain.entries n) (sym is) ∙ sym q
-  told n b e false q = cc
+no_block : (o : Option BlockValue) → option_map number_of o ≡ None → o ≡ None
+no_block None e = refl
+no_block (Some b) e = cc
 
 -- ---- WHAT A CLEANING LEAVES OF A CELL, told once for both: entries are taken out of its log by flags, the last one stays, and
 -- what is left has the nodes, the blocks and the parts that it had
@@ -185,21 +155,6 @@ module _ (r : Retention) (flags : List Bool) (old new : CellState) (c : Cleans r
 
   pub new_log : log_of new ≡ new.chain.entries
   new_log = take_all new.chain.tail new.chain.entries (omega (arith, c.tail))
-
-  -- ids rise and epochs never fall
-  pub cleaned_order : (commit epoch : ℕ) → IsBefore commit epoch old.chain.entries → IsBefore commit epoch new.chain.entries
-  cleaned_order commit epoch h = subst (IsBefore commit epoch) (sym c.entries) (record {
-    ordered = IsLog-left_of flags old.chain.entries h.ordered;
-    earlier = all_left (λ (e : Entry). (e.id.commit < commit) × (e.epoch ≤ epoch)) flags old.chain.entries h.earlier;
-  })
-
-  -- each entry stands on a page
-  pub cleaned_on : (page : ℕ) → old.chain.page ≡ page → AreOnPages page new.chain
-  cleaned_on page is = record {
-    size = c.page ∙ is;
-    each = c.chain.paged;
-    parted = subst (λ (n : ℕ). AreEnds n 0 new.chain.ends (length new.chain.entries)) (c.page ∙ is) c.chain.parted;
-  }
 
   -- a log with an entry keeps one, and one without has none
   pub cleaned_some : 0 < length (log_of old) → 0 < length (log_of new)
@@ -253,15 +208,23 @@ module _ (r : Retention) (flags : List Bool) (old new : CellState) (c : Cleans r
     blocks = c.nodes.blocks;
   }
 
-  pub cleaned_parted : (size : ℕ) → old.block ≡ size → AreSized size new.chain.blocks → IsParted size new
-  cleaned_parted size is sized =
-      parts_told size new (c.block ∙ is) (omega (arith, c.tail)) c.nodes.marks c.nodes.blocks sized
-
-  -- no two blocks have one number
-  pub cleaned_apart : AreApart old.blocks → AreApart new.blocks
-  cleaned_apart apart n m x y e f same =
-      source_one (part_flags flags (log_of old)) n m
-      (apart (was_number flags old n) (was_number flags old m) x y (sym (c.records.blocks n) ∙ e) (sym (c.records.blocks m) ∙ f) same)
+  -- a part that is out has no block, and a block is of the number that its entry says
+  pub cleaned_parted : (size : ℕ) → IsParted size old → AreSized size new.chain.blocks → IsParted size new
+  cleaned_parted size parted sized = record {
+    within = omega (arith, c.tail);
+    marks = c.nodes.marks.len;
+    places = c.nodes.blocks.len;
+    out = λ n out. no_block (slice_index_or new.blocks n None)
+        (c.nodes.blocks.numbers n
+        ∙ ap (λ (b : Bool). cond b (page_block new.block new.chain.entries n) None) out);
+    told = λ n b e. says n ∙ parted.told (was_number flags old n) b (sym (c.records.blocks n) ∙ e);
+    sized = λ n b e. parted.sized (was_number flags old n) b (sym (c.records.blocks n) ∙ e);
+    pages = sized;
+  } where
+    says : (n : ℕ) → page_block size new.chain.entries n ≡ page_block size old.chain.entries (was_number flags old n)
+    says n =
+        ap (λ (l : List Entry). page_block size l n) c.entries ∙ block_left size flags old.chain.entries n
+        ∙ ap (λ (l : List Entry). page_block size old.chain.entries (source (part_flags flags l) n)) (sym old_log)
 
   -- an inode that is gone and keeps nothing was so before
   pub cleaned_gone : is_gone (log_of new) ≡ is_gone (log_of old)

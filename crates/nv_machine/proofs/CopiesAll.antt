@@ -15,6 +15,7 @@ use Rattle.nv_machine.specs.Starts.{IsStart}
 use Rattle.nv_machine.specs.Step.{after, step}
 use Rattle.nv_epoch.specs.declared.snapshot.Snapshot.{Snapshot}
 use Rattle.nv_machine.specs.World.{Shared, Event, World}
+use Rattle.nv_machine.proofs.EveryWorld.{all_parts, reached}
 use Rattle.nv_machine.proofs.CopiesKept.{IsWhole, ReadsAs, copied, event_alike, stays, whole}
 use Rattle.nv_machine.proofs.CopyMarks.{all_have_marks}
 use Rattle.nv_machine.proofs.CopyRuns.{IsReadable, cells_stay}
@@ -22,8 +23,6 @@ use Rattle.nv_machine.proofs.DirectoriesChanged.{some_directory}
 use Rattle.nv_machine.proofs.DirectoryLaws.{all_numbered, all_trees}
 use Rattle.nv_machine.proofs.OverEvents.{events_by}
 use Rattle.nv_machine.proofs.FitsPlain.{plain_nodes}
-use Rattle.nv_machine.proofs.CellMarksRuns.{all_parts}
-use Rattle.nv_machine.proofs.Reached.{reached}
 use Rattle.nv_machine.proofs.SnapRuns.{all_bare, in_step}
 use Rattle.nv_machine.proofs.SnapSteps.{AreBare}
 use Rattle.nv_machine.proofs.SnapshotCopies.{AreAlike}

@@ -40,6 +40,7 @@ use Rattle.nv_machine.specs.Reads.{slot_at, written_slots}
 use Rattle.nv_machine.specs.Starts.{IsStart}
 use Rattle.nv_machine.specs.Step.{after}
 use Rattle.nv_machine.specs.World.{Actor, Draining, Event, Next, Release, Retire, Running, Maintenance, World, actor_at, cell_at, idle}
+use Rattle.nv_machine.proofs.EveryWorld.{all_known}
 use Rattle.nv_machine.proofs.CopyRuns.{HaveMarks, earlier}
 use Rattle.nv_machine.proofs.CopySteps.{GoesOut}
 use Rattle.nv_machine.proofs.EpochLogs.{IsHeldAt, born_by, log_at, splits, up_to_within}
@@ -49,7 +50,7 @@ use Rattle.nv_machine.proofs.EachElement.{all_at, all_back, all_front}
 use Rattle.nv_machine.proofs.FiledMarks.{IsDying, IsTold}
 use Rattle.nv_machine.proofs.FiledSteps.{AreFresh, MarksOf}
 use Rattle.nv_machine.proofs.FiledWorlds.{AreMarked, picked_in}
-use Rattle.nv_machine.proofs.FitsEvents.{IsKnown, all_known}
+use Rattle.nv_machine.proofs.FitsEvents.{IsKnown}
 use Rattle.nv_machine.proofs.LocksHeld.{Before, lent_cell}
 use Rattle.nv_machine.proofs.LocksOverEvents.{before}
 use Rattle.nv_machine.proofs.Pairs.{has_number, IsRecordOf, pair_there, record_number}

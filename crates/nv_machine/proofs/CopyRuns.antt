@@ -22,6 +22,7 @@ use Rattle.nv_machine.specs.Settled.{settled, settled_copies}
 use Rattle.nv_machine.specs.Step.{step}
 use Rattle.nv_machine.specs.Whole.{HaveTheirParts}
 use Rattle.nv_machine.specs.World.{Append, Close, Event, HandState, Next, Open, Publish, Running, Shared, World, actor_at, cell_at, no_cell, owner_at}
+use Rattle.nv_machine.proofs.Cleanable.{cleanable}
 use Rattle.nv_machine.proofs.CopySteps.{GoesOut, Stands, StepsTo, work_steps, entries_later, same_cell}
 use Rattle.nv_machine.proofs.OverEvents.{event_by, event_shared, turn_at}
 use Rattle.nv_machine.proofs.EpochLogs.{IsHeldAt, copies_same, copy_at, log_at}
@@ -132,7 +133,8 @@ module _ (g : GeometryNumbers) (w : World) (known : IsReadable g w) (epoch : ℕ
   event_steps e = event_shared All w all_same e (λ actor granted r there is.
       let h = (actor_at w actor).hand in
       turn_keeps (λ (t : Shared) (x : HandState). All t) r.next w.numbers.block actor granted w.shared h r all_same
-      (work_steps epoch w.numbers.block actor w.shared h r r.next (stands actor r is)))
+      (work_steps epoch w.numbers.block actor w.shared h r r.next (stands actor r is)
+      (cleanable w actor r known.reached.apart.cleanable is)))
 
 -- no cell comes or goes
 pub cells_stay : (w : World) (e : Event) → length (step w e).world.shared.cells ≡ length w.shared.cells

@@ -35,7 +35,11 @@ use Rattle.nv_machine.proofs.EpochSteps.{AreParts, out_held, retired_held}
 use Rattle.nv_machine.proofs.FitsCells.{append_wider}
 use Rattle.nv_machine.proofs.StepWork.{work}
 use Rattle.nv_machine.proofs.LocksHeld.{Before}
-use Rattle.nv_machine.proofs.CellChanges.{cells_after, is_removal, lent_inside_own, lent_removal, removal}
+use Rattle.nv_machine.proofs.CellChanges.{cells_after, clean_cell, clean_slot, is_clean, is_removal, lent_inside_own, lent_removal, removal}
+use Rattle.nv_machine.proofs.Cleanable.{IsCleanable}
+use Rattle.nv_machine.proofs.CleanedLogs.{clean_here, cleans_held}
+use Rattle.nv_machine.proofs.CleanedSlots.{stays_at}
+use Rattle.nv_machine.proofs.EpochCleanings.{cleaned_copy}
 
 -- ---- one cell
 
@@ -201,9 +205,21 @@ module _ (epoch block a : ℕ) (s : Shared) (h : HandState) (r : Running) where
       let k = number_in cell (name_of picked) in (one_fewer None k cell, out_held epoch k cell st.goes (st.held picked.ino))
   removal_held other st is = absurd (false≢true is)
 
-  pub work_steps : (k : Next) → Stands epoch k a s h r → (ino : ℕ)
+  -- a cleaning keeps the copy
+  clean_copy : (k : Next) → Stands epoch k a s h r → IsCleanable k block s h r → is_clean k ≡ true
+      → KeepsCopy epoch (cell_at s (clean_slot k)) (clean_cell k s h)
+  clean_copy k st ready is =
+      let low = (clean_here k block a s h r is st.before st.grown ready).0 in
+      let cleans = cleans_held k block a s h r is st.before st.grown ready in
+      record {
+        generation = cleans.generation;
+        copy = cleaned_copy epoch (stays_at k s) (cell_at s (clean_slot k)) (clean_cell k s h) cleans
+            (ready.cells (clean_slot k) low) (st.held (clean_slot k));
+      }
+
+  pub work_steps : (k : Next) → Stands epoch k a s h r → IsCleanable k block s h r → (ino : ℕ)
       → StepsTo epoch (cell_at s ino) (cell_at (work k block a s h r).shared ino)
-  work_steps k st =
+  work_steps k st ready =
       cells_after (λ (ino : ℕ). StepsTo epoch (cell_at s ino)) block a s h r (λ ino. same_cell epoch (cell_at s ino)) k st.before
       (record {
         appends = λ place is inside low.
@@ -218,4 +234,5 @@ module _ (epoch block a : ℕ) (s : Shared) (h : HandState) (r : Running) where
             let own = (lent_inside_own k a s r st.before x.slot (lent_removal k (length s.lists) a s h r is)).1 in
             let tail = st.grown.tails x.slot own (none_behind k (written_slots r) x.slot is) in
             erased_steps epoch (cell_at s x.slot) x.cell held.0 (st.logs x.slot) (all_marks k st x.slot low tail) held.1;
+        cleans = λ is low. inr (inl (clean_copy k st ready is));
       })

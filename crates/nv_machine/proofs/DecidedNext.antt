@@ -11,9 +11,9 @@ use Rattle.nv_machine.specs.Answered.{answer_of}
 use Rattle.nv_machine.specs.EndsDecided.{is_maintenance}
 use Rattle.nv_machine.specs.Kinds.{result_by}
 use Rattle.nv_machine.specs.Sequence.{Visits, appending, beginning, closing, locking, looking, opening, publishing, retiring}
-use Rattle.nv_machine.specs.World.{Answers, Append, Back, Check, Close, Drains, Ending, Give, HandState, Leave, Lock, Look, Next, Number, Open, Overtaken, Publish, Refuses, Retire, Running, Shared, Maintenance, Turn, Unlock, Visit, go_to}
+use Rattle.nv_machine.specs.World.{Answers, Append, Back, Check, Close, Drains, Ending, Give, HandState, Leave, Lock, Look, Next, Number, Open, Overtaken, Publish, Refuses, Retire, Running, Shared, Maintenance, Turn, Unlock, Visit, go_to, Cleans}
 use Rattle.nv_machine.proofs.LoopSteps.{by_test, either, locking_any, looking_any}
-use Rattle.nv_machine.proofs.StepWays.{AfterBy, EndsBy, Going, Lasts, Overs, Rests, Telling, by_taking, is_drain, is_taking}
+use Rattle.nv_machine.proofs.StepWays.{AfterBy, EndsBy, Going, Lasts, Overs, Rests, Telling, by_taking, is_maintained, is_taking}
 use Rattle.nv_calls.specs.declared.call.Call.TheVariants as call
 
 -- ---- by the next step
@@ -35,7 +35,7 @@ IsNoVisit c = (beginning c ≡ Visits → ⊥) × (is_maintenance c ≡ false)
 
 -- in the last steps, of a call on files and directories
 abbrev pub IsLastOf : Ending → Call → Type 0
-IsLastOf e c = (is_drain e ≡ false) × (is_maintenance c ≡ false)
+IsLastOf e c = (is_maintained e ≡ false) × (is_maintenance c ≡ false)
 
 -- from its check on a call has something to commit
 abbrev pub Stage : Next → Ending → Call → Type 0
@@ -84,15 +84,17 @@ plain_visit other e = refl
 
 -- ---- last steps
 
-result_told : (e : Ending) (r : Running) (d : List Answer) → is_drain e ≡ false → d ≡ told_by e (answer_of r) → ResultTold (result_by e r) d
+result_told : (e : Ending) (r : Running) (d : List Answer) → is_maintained e ≡ false
+    → d ≡ told_by e (answer_of r) → ResultTold (result_by e r) d
 result_told (Drains draining) r d last is = absurd (false≢true (sym last))
+result_told (Cleans cleaned) r d last is = absurd (false≢true (sym last))
 result_told other r d last is = is
 
 module _ {d : List Answer} {r : Running} {e : Ending} (last : IsLastOf e r.call) (is : d ≡ told_by e (answer_of r)) where
   pub lasts_told : {s : Shared} {h : HandState} → Lasts (ToldGoes d) (ToldEnds d) s h r e
   lasts_told = record {
     told = λ full. result_told e r d last.0 is;
-    picks = λ draining left drains some. absurd (false≢true (sym last.0 ∙ ap is_drain drains));
+    picks = λ draining left drains some. absurd (false≢true (sym last.0 ∙ ap is_maintained drains));
   }
 
   pub rests_told : {home : Option ℕ} {s : Shared} {h : HandState} → Rests (ToldGoes d) (ToldEnds d) home s h r e

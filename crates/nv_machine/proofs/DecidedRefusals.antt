@@ -16,11 +16,11 @@ use Rattle.nv_machine.specs.Settled.{settled_nodes}
 use Rattle.nv_machine.specs.Starts.{IsStart}
 use Rattle.nv_machine.specs.Step.{after, handle_at, is_numbered, kind_turn, made_in, same_looked, turn}
 use Rattle.nv_machine.specs.World.{Answers, Check, Event, HandState, Look, Next, Running, Shared, Visit, World, actor_at, owner_at}
+use Rattle.nv_machine.proofs.EveryWorld.{all_known}
 use Rattle.nv_machine.proofs.RefusalCauses.{CheckCause, ReadsAs, caused_by, check_told}
 use Rattle.nv_machine.proofs.DecidedReads.{ending_settled, first_look}
 use Rattle.nv_machine.proofs.DecidedRuns.{relied, visits_of}
 use Rattle.nv_machine.proofs.DecidedTurns.{Relied}
-use Rattle.nv_machine.proofs.FitsEvents.{all_known}
 use Rattle.nv_machine.proofs.VisitsRead.{free_node}
 
 module _ (block a cpu : ℕ) (s : Shared) (h : HandState) (r : Running) (going : r.ending ≡ Answers)

@@ -22,13 +22,14 @@ use Rattle.nv_machine.specs.Step.{Step, after, start_step, step, turn, turned}
 use Rattle.nv_machine.specs.World.{Actor, Append, Back, Check, Close, Done, Ending, Ends, Event, Give, Go, HandState, Leave, Lock, Look, Moves, Next, Number, Open, Publish, Refused, Reply, Retire, Running, Shared, Maintenance, Start, Turn, Unlock, Visit, Waits, World, actor_at, idle}
 use Rattle.nv_calls.specs.declared.taken.Taken.{Taken}
 use Rattle.nv_calls.proofs.Nothing.{told_nothing}
+use Rattle.nv_machine.proofs.EveryWorld.{all_fit, all_known}
 use Rattle.nv_machine.proofs.EndingsStay.{deed_is}
 use Rattle.nv_machine.proofs.OverEvents.{OwnAfter, event_of, own_goes, runs_inside, turn_at}
 use Rattle.nv_machine.proofs.DecidedReads.{logs_held}
 use Rattle.nv_machine.proofs.DecidedWrites.{enter_writes}
 use Rattle.nv_machine.proofs.SingleEvents.{go_is_turn}
 use Rattle.nv_machine.proofs.FitsBytes.{point_fits}
-use Rattle.nv_machine.proofs.FitsEvents.{IsKnown, all_fit, all_known}
+use Rattle.nv_machine.proofs.FitsEvents.{IsKnown}
 use Rattle.nv_machine.proofs.FitsLaws.{has_passed}
 use Rattle.nv_machine.proofs.FitsStages.{FitsAt, FitsOf}
 use Rattle.nv_machine.proofs.Lists.{self}
@@ -165,7 +166,8 @@ module _ (g : GeometryNumbers) (w : World) (known : IsKnown g w) (actor : ℕ) w
   own_told granted before had =
       own_goes (Then (decision_of (actor_at w actor).running w actor granted ++ before)) w actor granted (λ none. rw none tt)
       (λ r there is. subst (λ (o : Option Running). OwnAfter (actor_at w actor) (Then (decision_of o w actor granted ++ before))
-      (turn_at w actor granted r)) (sym is) (go r is (is_maintenance r.call) refl (subst (λ (o : Option Running). HasTold o before) is had)))
+      (turn_at w actor granted r)) (sym is) (go r is (is_maintenance r.call) refl
+      (subst (λ (o : Option Running). HasTold o before) is had)))
     where
       go : (r : Running) → (actor_at w actor).running ≡ Some r → (b : Bool) → is_maintenance r.call ≡ b → ToldBy b r before
           → OwnAfter (actor_at w actor) (Then (decision_of (Some r) w actor granted ++ before)) (turn_at w actor granted r)

@@ -27,15 +27,16 @@ use Rattle.nv_machine.specs.Reads.{copies, nodes, written_slots}
 use Rattle.nv_machine.specs.Sequence.{Visits, appending, beginning, nothing_looked, publishing, retiring}
 use Rattle.nv_machine.specs.Settled.{settled, settled_nodes}
 use Rattle.nv_machine.specs.Step.{ending_at, handle_at, is_numbered, kind_turn, made_in, same_looked, visit_grows, with_made}
-use Rattle.nv_machine.specs.World.{Answers, Append, Back, Check, Close, Draining, Drains, Ending, Ends, Enter, Give, HandState, Leave, Lock, Look, Moves, Next, Number, Open, Overtaken, Publish, Ready, Refuses, Retire, Running, Shared, Maintenance, TakeBlocks, TakePages, Turn, Unlock, Visit, Waits, cell_at, go_to, owner_at}
+use Rattle.nv_machine.specs.World.{Answers, Append, Back, Check, Close, Draining, Drains, Ending, Ends, Enter, Give, HandState, Leave, Lock, Look, Moves, Next, Number, Open, Overtaken, Publish, Ready, Refuses, Retire, Running, Shared, Maintenance, TakeBlocks, TakePages, Turn, Unlock, Visit, Waits, cell_at, go_to, owner_at, Cleans}
 use Rattle.nv_machine.proofs.EndingsStay.{no_node_tells}
 use Rattle.nv_machine.proofs.DecidedReads.{ending_settled, settled_ending}
 use Rattle.nv_machine.proofs.DecidedNext.{IsNoVisit, IsTold, OnTold, ToldEnds, ToldGoes, appending_before, before_told, behind_told, denied_told, ends_told, lasts_told, locking_told, looking_told, no_visit, overs_told, plain_visit, rests_told, retiring_behind, several_before, single_behind, taking_told, told_by}
 use Rattle.nv_machine.proofs.FitsStages.{FitsAt}
 use Rattle.nv_machine.proofs.LoopSteps.{is_on_files}
-use Rattle.nv_machine.proofs.StepWays.{Going, Takes, Telling, ends_go, is_drain, is_list_taker, noted, numbered_slots}
+use Rattle.nv_machine.proofs.StepWays.{Going, Takes, Telling, ends_go, is_maintained, is_list_taker, noted, numbered_slots}
 use Rattle.nv_machine.proofs.StepWalk.{WaysOf, any_takes, walk_by}
 use Rattle.nv_calls.specs.declared.call.Call.TheVariants as call
+use Rattle.nv_clean.specs.declared.cleaned.Cleaned.{Cleaned}
 
 -- ---- what a check decides
 
@@ -86,10 +87,6 @@ pub nothing_is : (changes : List Change) → is_no_change changes ≡ true → c
 nothing_is [] e = refl
 nothing_is (change ∷ changes) e = absurd (false≢true e)
 
-something_is : (changes : List Change) → is_no_change changes ≡ false → 0 < length changes
-something_is [] e = cc
-something_is (change ∷ changes) e = omega arith
-
 -- a call that passes and has something to change is not told to be nothing
 some_call : (block : ℕ) (nodes : Handle → Option NodeCopy) (made : Handle) (c : Call) → refusal block nodes c ≡ passes
     → 0 < length (effect nodes made c) → is_nothing c ≡ false
@@ -120,6 +117,16 @@ no_drain (Ok passed) true (Err fault) numbered changes draining e = cc
 no_drain (Ok passed) true (Ok all) false changes draining e = cc
 no_drain (Ok passed) true (Ok all) true [] draining e = cc
 no_drain (Ok passed) true (Ok all) true (change ∷ changes) draining e = cc
+
+-- nor to what a cleaner ends with
+no_clean : (first : Tests) (same : Bool) (tests : Tests) (numbered : Bool) (changes : List Change) (cleaned : Cleaned)
+    → check_ending first same tests numbered changes ≡ Some (Cleans cleaned) → ⊥
+no_clean (Err fault) same tests numbered changes cleaned e = cc
+no_clean (Ok passed) false tests numbered changes cleaned e = cc
+no_clean (Ok passed) true (Err fault) numbered changes cleaned e = cc
+no_clean (Ok passed) true (Ok all) false changes cleaned e = cc
+no_clean (Ok passed) true (Ok all) true [] cleaned e = cc
+no_clean (Ok passed) true (Ok all) true (change ∷ changes) cleaned e = cc
 
 -- a turn that ends with a refusal answers nothing
 abbrev Unanswered : Telling
@@ -189,13 +196,17 @@ module _ (block a cpu : ℕ) (s : Shared) (h : HandState) (r : Running) where
   check_is false (Some (Refuses fault)) x before is same e = e
   check_is false (Some (Drains draining)) x before is same e = e
   check_is false (Some Overtaken) x before is same e = e
+  check_is false (Some (Cleans cleaned)) x before is same e = e
   check_is true other x before is same e = cc
 
   -- no check leads to a drain
-  drains_not : (e : Ending) → ending_at block s h r ≡ Some e → is_drain e ≡ false
+  drains_not : (e : Ending) → ending_at block s h r ≡ Some e → is_maintained e ≡ false
   drains_not (Drains draining) is =
       absurd (no_drain (early (copies s) r.call) (same_looked (looked (copies s) r.call) r.looked) (refusal block (copies s) r.call)
       (is_numbered (beginning r.call) h.ino) (effect (copies s) (made_in s h.ino r.made) r.call) draining is)
+  drains_not (Cleans cleaned) is =
+      absurd (no_clean (early (copies s) r.call) (same_looked (looked (copies s) r.call) r.looked) (refusal block (copies s) r.call)
+      (is_numbered (beginning r.call) h.ino) (effect (copies s) (made_in s h.ino r.made) r.call) cleaned is)
   drains_not other is = refl
 
   -- ---- enter and publish
@@ -276,7 +287,7 @@ module _ (block a cpu : ℕ) (s : Shared) (h : HandState) (r : Running) where
     ways (Retire place) st d on =
         behind_told (retiring (place + 1) (written_slots r)) _ before (retiring_behind (written_slots r) (place + 1)) d.told d.stage
     ways Leave st d on =
-        ends_told (ap is_drain (st.ending refl), (no_visit r.call d.stage).1)
+        ends_told (ap is_maintained (st.ending refl), (no_visit r.call d.stage).1)
         (d.told ∙ ap (λ (e : Ending). told_by e (answer_of r)) (sym (st.ending refl))) (λ e. no_visit r.call d.stage)
     ways (Unlock place) st d on =
         (λ more. record { told = d.told; stage = d.stage }, λ past. overs_told d.stage.0 d.told d.stage.1)

@@ -26,6 +26,7 @@ use Rattle.nv_entry.specs.Sound.{empty_node, rewritten}
 use Rattle.nv_entry.specs.Tree.{FormTree, names_of_node, names_under, root}
 use Rattle.nv_entry.specs.declared.names.BoundName.{BoundName}
 use Rattle.nv_entry.specs.declared.node.NodeCopy.{NodeCopy}
+use Rattle.nv_machine.proofs.EveryWorld.{all_known}
 use Rattle.nv_machine.proofs.DirectoriesBegun.{KeepsNames}
 use Rattle.nv_machine.proofs.DirectoriesChanged.{found_in}
 use Rattle.nv_machine.proofs.DirectoriesKept.{begin_kept, changed_by, changed_nodes, directory_of, file_of, found_there, leave_kept, no_names, none_there, one_kept}
@@ -34,7 +35,7 @@ use Rattle.nv_machine.proofs.DirectoriesStay.{same_self}
 use Rattle.nv_machine.proofs.FitsCalls.{handles_same}
 use Rattle.nv_machine.proofs.CommitEffects.{point_effect}
 use Rattle.nv_machine.proofs.OverEvents.{by_points, events_by}
-use Rattle.nv_machine.proofs.FitsEvents.{IsKnown, all_known, fits_now, passes_now}
+use Rattle.nv_machine.proofs.FitsEvents.{IsKnown, fits_now, passes_now}
 use Rattle.nv_machine.proofs.NewHandles.{no_node}
 use Rattle.nv_machine.proofs.LogsKeptRuns.{nodes_stay}
 use Rattle.nv_machine.proofs.PlainStart.{plain_start}

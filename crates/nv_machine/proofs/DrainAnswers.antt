@@ -15,7 +15,7 @@ use Rattle.nv_machine.specs.PlainRun.{actor_of}
 use Rattle.nv_machine.specs.Reading.{releases, releases_at, releases_in, releases_of}
 use Rattle.nv_machine.specs.Maintenance.{maintenance_turn}
 use Rattle.nv_machine.specs.Step.{after, go_step, kind_turn, reply_of, step, turn, turned}
-use Rattle.nv_machine.specs.World.{Actor, Answers, Back, Done, Draining, Drains, Ending, Ends, Event, Give, Go, HandState, LockPicked, Moves, Next, Overtaken, Pick, Refused, Refuses, Release, Running, Shared, MaintenanceStep, Maintenance, Start, Started, Turn, Unlock, Waits, World, actor_at, idle}
+use Rattle.nv_machine.specs.World.{Actor, Answers, Back, Done, Draining, Drains, Ending, Ends, Event, Give, Go, HandState, LockPicked, Moves, Next, Overtaken, Pick, Refused, Refuses, Release, Running, Shared, MaintenanceStep, Maintenance, Start, Started, Turn, Unlock, Waits, World, actor_at, idle, Cleans}
 use Rattle.nv_machine.proofs.StepWays.{After, AfterBy, EndsBy, Going, IsFull, Lasts, Overs, Rests, Telling, any_ends}
 use Rattle.nv_machine.proofs.StepWalk.{walk_by}
 use Rattle.nv_machine.proofs.MaintenanceWalk.{step_walk_by}
@@ -32,6 +32,7 @@ HasReleased all n (Drains draining) = (draining.released ≡ n) × (draining.rel
 HasReleased all n (Refuses fault) = (fault ≡ out_of_memory) × (n ≡ 0)
 HasReleased all n Answers = ⊥
 HasReleased all n Overtaken = ⊥
+HasReleased all n (Cleans cleaned) = ⊥
 
 -- one more is picked, or to be picked
 abbrev pub HasPicked : ℕ → ℕ → Draining → Type 0
@@ -146,7 +147,8 @@ more_none all n e is = subst (λ (m : ℕ). HasReleased all m e) (same_none n) i
 module _ (all n block actor : ℕ) (granted : Bool) (s : Shared) (h : HandState) (r : Running) where
   -- memory is asked for before the first record alone
   snapshots_on : (step : MaintenanceStep) → HasReleasedOn all n step
-      → OnDrain (IsLastPick (Maintenance step) s) all n (n + releases_at (Maintenance step)) (maintenance_turn step actor granted s h r)
+      → OnDrain (IsLastPick (Maintenance step) s) all n (n + releases_at (Maintenance step))
+      (maintenance_turn step actor granted s h r)
   snapshots_on (Pick draining) is =
       let none = IsLastPick (Maintenance (Pick draining)) s in
       step_walk_by (n ≡ n + 0) (DrainGoes all (n + 0)) (DrainTold none all (n + 0)) actor s h r (Pick draining) granted
@@ -158,7 +160,8 @@ module _ (all n block actor : ℕ) (granted : Bool) (s : Shared) (h : HandState)
         λ picked rest free some. (omega (arith, is.0), is.1),
       )
   snapshots_on (LockPicked draining picked) is =
-      step_walk_by (n ≡ n + 0) (DrainGoes all (n + 0)) (DrainTold (IsLastPick (Maintenance (LockPicked draining picked)) s) all (n + 0))
+      step_walk_by (n ≡ n + 0) (DrainGoes all (n + 0))
+      (DrainTold (IsLastPick (Maintenance (LockPicked draining picked)) s) all (n + 0))
       actor s h r (LockPicked draining picked) granted (λ blocked. same_none n) (λ free. (omega (arith, is.0), is.1))
   snapshots_on (Release draining picked) is =
       let none = IsLastPick (Maintenance (Release draining picked)) s in
@@ -368,7 +371,8 @@ module _ (actor count : ℕ) (w : World) (is : (step w (Start actor (call.Mainte
 
   begun_drains : IsDrainAt all 0 actor v
   begun_drains =
-      subst (λ (x : Actor). IsDrainOf all 0 x.running) (sym (started w actor (call.Maintenance (on.Drain count)) is)) (refl, nearest count)
+      subst (λ (x : Actor). IsDrainOf all 0 x.running) (sym (started w actor (call.Maintenance (on.Drain count)) is))
+      (refl, nearest count)
 
   -- behind none that were released before
   from_none : (n : ℕ) → 0 + n ≡ n

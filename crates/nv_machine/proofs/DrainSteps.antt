@@ -1,5 +1,5 @@
 -- What a step leaves of the deferred list, beside the records that its call has picked and is yet to be answered.
-use Rattle.std.proofs.Common.{◌≡◌, ◌∙◌, ℕ, zero, suc, ◌+◌, ◌<◌, ◌≤◌, Bool, true, false, List, [], ◌∷◌, drop, length, Option, Some, None, Ok, Err, ap, arith, refl, subst, sym}
+use Rattle.std.proofs.Common.{◌≡◌, ◌∙◌, ℕ, zero, suc, ◌+◌, ◌<◌, ◌≤◌, Bool, true, false, List, [], ◌∷◌, drop, length, Option, Some, None, Ok, Err, ap, arith, refl, sym}
 use Rattle.std.specs.Prelude.{Result}
 use Rattle.std.proofs.lemmas.Bool.{false≢true, true≢false}
 use Rattle.nv_base.specs.declared.fault.Fault.{Fault}
@@ -17,16 +17,16 @@ use Rattle.nv_machine.specs.Kinds.{check_ending, result_by}
 use Rattle.nv_machine.specs.Needed.{count_in, told_to}
 use Rattle.nv_machine.specs.Reads.{nodes}
 use Rattle.nv_machine.specs.Sequence.{sequel}
-use Rattle.nv_machine.specs.Maintenance.{copies_at, first_showing, one_more, seen_on, show_or_unpin, shown_by, maintenance_turn, visited}
+use Rattle.nv_machine.specs.Maintenance.{copies_at, first_showing, seen_on, show_or_unpin, shown_by, maintenance_turn, visited}
 use Rattle.nv_machine.specs.Step.{kind_turn, reply_of}
-use Rattle.nv_machine.specs.World.{Answers, Check, Done, Draining, Drains, Drop, Ending, HandState, LockPicked, Make, Next, Pick, Pin, Refuses, Release, Running, Shared, Show, Showing, MaintenanceStep, Maintenance, Turn, Unpin}
+use Rattle.nv_machine.specs.World.{Answers, Check, Done, Draining, Drains, Drop, Ending, HandState, LockPicked, Make, Next, Pick, Pin, Refuses, Release, Running, Shared, Show, Showing, MaintenanceStep, Maintenance, Turn, Unpin, Compact, Fresh, Judge, LockCleaned, Unlink}
 use Rattle.nv_machine.proofs.UnlentSteps.{files_leave}
 use Rattle.nv_machine.proofs.StepWork.{work, maintenance_work}
 use Rattle.nv_machine.proofs.NextSteps.{last_on, taking_on}
 use Rattle.nv_machine.proofs.LoopSteps.{is_on_files, sequel_on}
 use Rattle.nv_machine.proofs.StepWays.{After, Closes, IsClearOn, StopsBy, any_ends, noted}
 use Rattle.nv_machine.proofs.StepWalk.{walk}
-use Rattle.nv_machine.proofs.MaintenanceWalk.{goes_next, next_on, picked_next, maintenance_walk, tells, told_on}
+use Rattle.nv_machine.proofs.MaintenanceWalk.{goes_next, next_on, picked_next, maintenance_walk, tells, told_on, EndsWith, LeadsTo, is_cleaning}
 
 -- ---- how many records a call has picked that it is yet to be answered
 
@@ -137,7 +137,8 @@ module _ (most : ℕ) where
 
   goes_owe : (step : MaintenanceStep) (a : ℕ) (s : Shared) (h : HandState) → length s.book.deferred + owed_on step ≤ most
       → goes_next step ≡ true → IsClearOn step s
-      → (length (maintenance_work step a s h).shared.book.deferred + owed_on (next_on step s) ≤ most) × (drops_on (next_on step s) ≡ false)
+      → (length (maintenance_work step a s h).shared.book.deferred + owed_on (next_on step s) ≤ most)
+      × (drops_on (next_on step s) ≡ false)
   goes_owe (Pin snapshot) a s h few on clear =
       showing_owes (length s.book.deferred) (first_showing s).left (first_showing s).visits snapshot (first_showing s) few
   goes_owe (Show snapshot showing) a s h few on clear =
@@ -145,6 +146,7 @@ module _ (most : ℕ) where
       showing_owes (length s.book.deferred) next.left next.visits snapshot next few
   goes_owe (Pick draining) a s h few on clear = picked_owes s.book.deferred draining few clear.1
   goes_owe (LockPicked draining picked) a s h few on clear = (few, refl)
+  goes_owe (LockCleaned manner ino) a s h few on clear = (few, refl)
   goes_owe other a s h few on clear = absurd (false≢true on)
 
   tells_owe : (step : MaintenanceStep) (a : ℕ) (s : Shared) (h : HandState) (r : Running) → drops_on step ≡ false
@@ -159,6 +161,30 @@ module _ (most : ℕ) where
         none other = refl
   tells_owe other a s h r apart few on = absurd (false≢true on)
 
+  ends_owe : (step : MaintenanceStep) (a : ℕ) (s : Shared) (h : HandState) (e : Ending) → length s.book.deferred + owed_on step ≤ most
+      → EndsWith step a s h e → length (maintenance_work step a s h).shared.book.deferred + owed_by e ≤ most
+  ends_owe (Release draining picked) a s h e few is = let owed = ap owed_by is in omega (arith, few, owed)
+  ends_owe (Judge manner slot) a s h e few is = let owed = ap owed_by is.0 in omega (arith, few, owed)
+  ends_owe (Fresh ino asked wanted) a s h e few is = let owed = ap owed_by is.0 in omega (arith, few, owed)
+  ends_owe (Unlink ino) a s h e few is = let owed = ap owed_by is in omega (arith, few, owed)
+  ends_owe (Compact ino) a s h e few is = let owed = ap owed_by is in omega (arith, few, owed)
+  ends_owe other a s h e few is = absurd is
+
+  cleaning_owes : (next : MaintenanceStep) → is_cleaning next ≡ true → (owed_on next ≡ 0) × (drops_on next ≡ false)
+  cleaning_owes (Fresh ino asked wanted) is = (refl, refl)
+  cleaning_owes (Unlink ino) is = (refl, refl)
+  cleaning_owes (Compact ino) is = (refl, refl)
+  cleaning_owes other is = absurd (false≢true is)
+
+  leads_owe : (step : MaintenanceStep) (a : ℕ) (s : Shared) (h : HandState) → length s.book.deferred + owed_on step ≤ most
+      → (next : MaintenanceStep) → LeadsTo step next
+      → (length (maintenance_work step a s h).shared.book.deferred + owed_on next ≤ most) × (drops_on next ≡ false)
+  leads_owe (Judge manner slot) a s h few next leads =
+      let none = cleaning_owes next leads.to in let owed = none.0 in (omega (arith, few, owed), none.1)
+  leads_owe (Fresh ino asked wanted) a s h few next leads =
+      let none = cleaning_owes next leads.to in let owed = none.0 in (omega (arith, few, owed), none.1)
+  leads_owe other a s h few next leads = absurd (false≢true leads.from)
+
   on_owes : (step : MaintenanceStep) (actor : ℕ) (granted : Bool) (s : Shared) (h : HandState) (r : Running) → drops_on step ≡ false
       → length s.book.deferred + owed_on step ≤ most → OnDeferred most r.call (maintenance_turn step actor granted s h r)
   on_owes step actor granted s h r apart few = maintenance_walk (Owes most) (Told most r.call) actor s h r step granted (record {
@@ -166,9 +192,8 @@ module _ (most : ℕ) where
     goes = goes_owe step actor s h few;
     told = λ on clear. tells_owe step actor s h r apart few on;
     denied = λ snapshot showing on. (omega (arith, few), refl);
-    over = λ draining picked on. any_ends (let owed = ap owed_on (sym on) in
-        subst (λ (x : MaintenanceStep). let d = maintenance_work x actor s h in Closes (Owes most) (Told most r.call) d.shared d.hand r (Drains (one_more draining)))
-        (sym on) (closes _ _ r (Drains (one_more draining)) (omega (arith, few, owed))));
+    leads_on = leads_owe step actor s h few;
+    over = λ e ends. any_ends (closes _ _ r e (ends_owe step actor s h e few ends));
     none = λ draining on empty. let owed = ap owed_on (sym on) in omega (arith, few, owed, told_few r.call draining.released);
   })
 

@@ -2,7 +2,6 @@
 -- blocks are in the hand.
 use Rattle.std.proofs.Common.{Bool, List, None, Option, Some, [], ap, arith, false, flat_map, if◌then◌else◌, length, not, refl, slice_index_or, suc, true, zero, ℕ, ◌&&◌, ◌++◌, ◌+◌, ◌<◌, ◌==◌, ◌||◌, ◌∙◌, ◌∷◌, ◌≡◌, ◌≤◌}
 use Rattle.std.specs.List.{list_any}
-use Rattle.std.proofs.lemmas.Bool.{false≢true}
 use Rattle.nv_alloc.specs.Block.{BlockValue, numbers_of}
 use Rattle.nv_alloc.specs.Numbers.{has, times}
 use Rattle.nv_alloc.proofs.Lists.{times-append, times-yes}
@@ -57,14 +56,6 @@ erased_slot living ino epoch killed cell q =
 
 abbrev has_block : List BlockValue → ℕ → Bool
 has_block blocks number = has (numbers_of blocks) number
-
-pub in_front : (xs ys : List BlockValue) (number : ℕ) → has_block xs number ≡ true → has_block (xs ++ ys) number ≡ true
-in_front [] ys number h = absurd (false≢true h)
-in_front (x ∷ xs) ys number h = go (x.number == number) h (in_front xs ys number) where
-  go : (b : Bool) → (b || has_block xs number) ≡ true
-      → (has_block xs number ≡ true → has_block (xs ++ ys) number ≡ true) → (b || has_block (xs ++ ys) number) ≡ true
-  go true e more = refl
-  go false e more = more e
 
 pub behind : (xs ys : List BlockValue) (number : ℕ) → has_block ys number ≡ true → has_block (xs ++ ys) number ≡ true
 behind [] ys number h = h

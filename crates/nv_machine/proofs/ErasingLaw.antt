@@ -1,5 +1,5 @@
 -- The law of erasing: in its retire step an inode that is gone is erased whole, and its number goes back to the pool.
-use Rattle.std.proofs.Common.{Bool, List, None, Option, Some, [], ap, append-nil, arith, false, filter, get_or-set_same, if◌then◌else◌, inl, inr, length, map, nat_lt, refl, slice_get, slice_index_or, subst, sym, take, true, ℕ, ◌++◌, ◌+◌, ◌<◌, ◌||◌, ◌∙◌, ◌≡◌}
+use Rattle.std.proofs.Common.{Bool, List, None, Option, Some, [], ap, append-nil, arith, false, filter, get_or-set_same, if◌then◌else◌, inl, inr, length, map, nat_lt, refl, slice_get, slice_index_or, subst, sym, take, true, ℕ, ◌%◌, ◌++◌, ◌+◌, ◌<◌, ◌||◌, ◌∙◌, ◌≡◌}
 use Rattle.std.specs.List.{list_any}
 use Rattle.std.specs.Prelude.{nat_le}
 use Rattle.std.specs.Option.{IsSome}
@@ -33,7 +33,7 @@ use Rattle.nv_machine.specs.Hands.{IsParted}
 use Rattle.nv_machine.specs.Held.{in_use_by, is_of_slot, killed_in, pending_at, pending_in, retention_at}
 use Rattle.nv_machine.specs.Locks.{commits_at}
 use Rattle.nv_machine.specs.Recorded.{is_kept, with_parts}
-use Rattle.nv_machine.specs.Kept.{AreClosed}
+use Rattle.nv_machine.specs.Kept.{AreClosed, Knows}
 use Rattle.nv_machine.specs.Kinds.{first_killed, retired_book, retired_cell, with_erased, with_freed}
 use Rattle.nv_machine.specs.PoolScan.{is_withheld}
 use Rattle.nv_machine.specs.Reads.{slot_at, written_slots}
@@ -42,6 +42,8 @@ use Rattle.nv_machine.specs.Settled.{settled}
 use Rattle.nv_machine.specs.Starts.{IsStart}
 use Rattle.nv_machine.specs.Step.{Step, after, changed, kind_turn, step, turned}
 use Rattle.nv_machine.specs.World.{Actor, Event, Go, HandState, Leave, Next, Retire, Running, Shared, World, actor_at, cell_at, go_to, idle, no_cell, owner_at, with_book, with_cell}
+use Rattle.nv_machine.proofs.EveryWorld.{all_known, reached}
+use Rattle.nv_machine.proofs.WorldFacts.{have_marks, log_in}
 use Rattle.nv_machine.proofs.ErasedCells.{all_freed, behind, erased_slot, gone_erased}
 use Rattle.nv_machine.proofs.OverEvents.{runs_inside}
 use Rattle.nv_machine.proofs.SingleEvents.{goes}
@@ -49,9 +51,8 @@ use Rattle.nv_machine.proofs.FiledCommits.{retire_left}
 use Rattle.nv_machine.proofs.EachElement.{all_append, all_back, all_front}
 use Rattle.nv_machine.proofs.FiledLists.{HasHolder, all_filed, count, count_append, count_filed, held_filed}
 use Rattle.nv_machine.proofs.FiledMarks.{IsTold, is_filed_on}
-use Rattle.nv_machine.proofs.FiledParts.{have_marks, log_in}
 use Rattle.nv_machine.proofs.FiledRuns.{can_list}
-use Rattle.nv_machine.proofs.FitsEvents.{IsKnown, all_known, filed_known}
+use Rattle.nv_machine.proofs.FitsEvents.{IsKnown, filed_known}
 use Rattle.nv_machine.proofs.FiledSteps.{MarksOf, parts_held, retired_block}
 use Rattle.nv_machine.proofs.FiledWorlds.{no_killed, picked_in}
 use Rattle.nv_machine.proofs.HeldMarks.{used_there}
@@ -59,15 +60,13 @@ use Rattle.nv_machine.proofs.MarksInUse.{in_use_there, same_default}
 use Rattle.nv_machine.proofs.Pairs.{pair_there}
 use Rattle.nv_machine.proofs.GoneRuns.{none_retiring}
 use Rattle.nv_machine.proofs.Journals.{closed_tail}
-use Rattle.nv_machine.proofs.LogsKeptRuns.{standing as kept_standing}
-use Rattle.nv_machine.proofs.LogsKeptTurns.{Standing as KeptStanding}
+use Rattle.nv_machine.proofs.LogsKeptRuns.{known_at}
 use Rattle.nv_machine.proofs.LocksHeld.{lent_cell, lent_holder}
 use Rattle.nv_machine.proofs.BlockNumbers.{lent_inside}
 use Rattle.nv_machine.proofs.PartPlaces.{retired_parted}
 use Rattle.nv_machine.proofs.PoolCommits.{erased_number}
 use Rattle.nv_machine.proofs.PoolRuns.{standing}
 use Rattle.nv_machine.proofs.PoolTurns.{Standing}
-use Rattle.nv_machine.proofs.Reached.{reached}
 use Rattle.nv_machine.proofs.CellChanges.{retired_times}
 
 -- ---- the retire step
@@ -107,10 +106,9 @@ module _ (g : GeometryNumbers) (w : World) (all : IsKnown g w) (actor place : �
 
   closed : AreClosed s.book.journals
   closed =
-      let kept : KeptStanding (Retire place) w.numbers.block actor s h r =
-      subst (λ (k : Next). KeptStanding k w.numbers.block actor s h r) next
-      (kept_standing w actor r all.reached.locks all.reached.order all.reached.kept all.reached.apart runs) in
-      kept.knows.2
+      let knows : Knows (Retire place) w.numbers.block s (actor % length s.lists) h r =
+      subst (λ (k : Next). Knows k w.numbers.block s (actor % length s.lists) h r) next (known_at w actor r all.reached.kept runs) in
+      knows.2
 
   settled_log : settled s slot ≡ log_of cell
   settled_log = ap (λ (n : ℕ). take n cell.chain.entries) (closed_tail s.book.journals slot cell.chain.tail closed)

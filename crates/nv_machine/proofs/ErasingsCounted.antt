@@ -1,5 +1,5 @@
 -- A slot's generation counts how often its inode was erased.
-use Rattle.std.proofs.Common.{Bool, List, [], ap, arith, false, Some, if◌then◌else◌, length, not, refl, sym, take, true, zero, suc, ℕ, ◌&&◌, ◌+◌, ◌-◌, ◌<◌, ◌∙◌, ◌∷◌, ◌≡◌}
+use Rattle.std.proofs.Common.{Bool, List, [], ap, arith, false, Option, Some, if◌then◌else◌, length, not, refl, subst, sym, take, true, zero, suc, ℕ, ◌&&◌, ◌+◌, ◌-◌, ◌<◌, ◌∙◌, ◌∷◌, ◌≡◌}
 use Rattle.std.proofs.lemmas.Bool.{false≢true}
 use Rattle.nv_base.specs.declared.geometry.GeometryNumbers.{GeometryNumbers}
 use Rattle.nv_base.specs.Limits.{IsWithinLimits}
@@ -10,6 +10,7 @@ use Rattle.nv_entry.specs.declared.item.Entry.{Entry}
 use Rattle.nv_machine.specs.Erasing.{emptied}
 use Rattle.nv_machine.specs.Erasings.{erased_once, erasings}
 use Rattle.nv_machine.specs.Format.{formatted}
+use Rattle.nv_machine.specs.Grown.{HasGrownBy}
 use Rattle.nv_machine.specs.Hands.{makes_inode}
 use Rattle.nv_machine.specs.Kinds.{entries_for}
 use Rattle.nv_machine.specs.PlainRun.{Commits, deed_of}
@@ -20,14 +21,16 @@ use Rattle.nv_machine.specs.Sequence.{beginning}
 use Rattle.nv_machine.specs.Starts.{IsStart}
 use Rattle.nv_machine.specs.Step.{after, step}
 use Rattle.nv_machine.specs.World.{Event, Go, HandState, Running, Shared, World, actor_at, cell_at}
-use Rattle.nv_machine.proofs.CellChanges.{cells_after, removal}
-use Rattle.nv_machine.proofs.FitsEvents.{all_known, passed_now}
+use Rattle.nv_machine.proofs.CellChanges.{cells_after, clean_cell, clean_slot, removal}
+use Rattle.nv_machine.proofs.Cleanable.{cleanable}
+use Rattle.nv_machine.proofs.CleanedLogs.{clean_like}
+use Rattle.nv_machine.proofs.EveryWorld.{all_known, reached}
+use Rattle.nv_machine.proofs.FitsEvents.{passed_now}
 use Rattle.nv_machine.proofs.LocksOverEvents.{before, many_same}
 use Rattle.nv_machine.proofs.NewStart.{new_start}
 use Rattle.nv_machine.proofs.NewWorld.{new_cell}
 use Rattle.nv_machine.proofs.OverEvents.{event_shared}
 use Rattle.nv_machine.proofs.PoolCells.{IsLike, appended_like, erased_gone, gone_inode, keeps_like, published_log}
-use Rattle.nv_machine.proofs.Reached.{reached}
 use Rattle.nv_machine.proofs.StepWork.{work}
 use Rattle.nv_machine.proofs.WorkKeeps.{turn_keeps}
 
@@ -92,6 +95,11 @@ module _ (w : World) (k : IsReached w) where
         removes = λ on low left.
             let x = removal r.next s h r in
             erased_counted (cell_at s x.slot) x.cell (keeps_like (cell_at s x.slot) x.cell left.keeps);
+        cleans = λ on low.
+            like_counted (cell_at s (clean_slot r.next)) (clean_cell r.next s h)
+            (clean_like r.next w.numbers.block actor s h r on (before w actor r k.locks is)
+            (subst (λ (o : Option Running). HasGrownBy o s actor) is (k.grown.each actor))
+            (cleanable w actor r k.apart.cleanable is));
       })
 
   event_counted : (e : Event) → AreCounted (step w e).world.shared

@@ -18,7 +18,6 @@ use Rattle.nv_cell.specs.Numbers.{is_number}
 use Rattle.nv_cell.specs.declared.killed.KilledPart.{KilledPart}
 use Rattle.nv_cell.specs.declared.mark.Mark.{Mark}
 use Rattle.nv_cell.specs.declared.mark.Mark.TheVariants.{Current, Kept, Killed, Out}
-use Rattle.nv_cell.proofs.ValuesNow.{IsLog-take}
 use Rattle.nv_entry.specs.Held.{has_name, holds, is_current}
 use Rattle.nv_entry.specs.Log.{IsLog, pairs}
 use Rattle.nv_entry.specs.declared.held.Pair.{Pair}
@@ -28,11 +27,11 @@ use Rattle.nv_epoch.specs.SnapList.{ids}
 use Rattle.nv_machine.specs.Held.{is_of_slot, killed_in}
 use Rattle.nv_machine.specs.Recorded.{is_kept, is_killed_pair, is_recorded_for, recorded_in}
 use Rattle.nv_machine.specs.Step.{after}
-use Rattle.nv_machine.proofs.FiledLaw.{all_marked, recorded_all, recorded_once}
+use Rattle.nv_machine.proofs.EveryWorld.{all_marked}
+use Rattle.nv_machine.proofs.WorldFacts.{log_in, recorded_all, recorded_once}
 use Rattle.nv_machine.proofs.EachElement.{all_at, all_weaker}
 use Rattle.nv_machine.proofs.FiledLists.{count}
 use Rattle.nv_machine.proofs.FiledMarks.{AreMarks, IsTold, is_filed_on, is_killed_on, pair_low}
-use Rattle.nv_machine.proofs.FiledRuns.{known}
 use Rattle.nv_machine.proofs.MarksInUse.{any_of}
 use Rattle.nv_cell.proofs.NamedPairs.{current_is, number_is}
 use Rattle.nv_machine.proofs.Pairs.{named_same, record_number}
@@ -133,8 +132,7 @@ recorded_for g start records events snapshot ino n pair is_start lives got =
     let w = after start events in
     let cell : CellState = cell_at w.shared ino in
     let m = (all_marked g start records events is_start).cells ino in
-    let log : IsLog (log_of cell) =
-    IsLog-take cell.chain.tail cell.chain.entries ((known g start records events is_start).order.logs ino).ordered in
+    let log : IsLog (log_of cell) = log_in g start records events ino is_start in
     held_told (ids w.shared.book.snaps) ino w.shared.book.snaps.epoch (killed_in w ino) _ cell.block (log_of cell) cell.marks log m n
     pair got
     snapshot (recorded_in w)

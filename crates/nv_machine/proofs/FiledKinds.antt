@@ -3,13 +3,22 @@ use Rattle.nv_book.specs.Book.{after_pick}
 use Rattle.std.proofs.lemmas.Bool.{false≢true}
 use Rattle.nv_reader.specs.Walk as walk
 use Rattle.nv_machine.proofs.StepWays.{IsClearOn}
-use Rattle.nv_machine.proofs.MaintenanceWalk.{goes_next, is_denied, next_on, picked_next, picked_slots, slots_next, tells, told_on}
+use Rattle.nv_machine.proofs.Cleanable.{IsCleanable}
+use Rattle.nv_machine.proofs.CleanedCells.{Cleans}
+use Rattle.nv_machine.proofs.CleanedSlots.{cleans_by, stays_at}
+use Rattle.nv_machine.proofs.FiledCleans.{clean_marked}
+use Rattle.nv_machine.proofs.KilledByOthers.{none_locked}
+use Rattle.nv_machine.proofs.MarksInUse.{slot_marks}
+use Rattle.nv_cell.specs.Cell.{log_of}
+use Rattle.nv_cell.proofs.ValuesNow.{IsLog-take}
+use Rattle.nv_entry.specs.Log.{IsLog}
+use Rattle.nv_machine.proofs.MaintenanceWalk.{goes_next, is_denied, next_on, picked_next, picked_slots, slots_next, tells, told_on, LeadsTo, EndsWith, is_cleaning}
 use Rattle.nv_machine.proofs.MaintenanceAlone.{alone_walk}
 use Rattle.std.proofs.lemmas.Option.{none-some}
 use Rattle.nv_machine.specs.Frame.{lent}
 use Rattle.nv_machine.proofs.StepFrames.{work_framed}
 use Rattle.nv_machine.proofs.UnlentSteps.{files_leave}
-use Rattle.nv_machine.proofs.CellChanges.{killed_stays}
+use Rattle.nv_machine.proofs.CellChanges.{clean_cell_on, clean_slot_on, is_clean_on, killed_stays, lent_clean, lent_inside_own}
 use Rattle.std.proofs.Common.{◌≡◌, ℕ, ◌+◌, ◌-◌, ◌<◌, ◌≤◌, ◌∙◌, Bool, true, false, List, [], ◌∷◌, Option, Some, None, ap, arith, length, nat_lt, refl, subst, sym, zero, suc}
 use Rattle.std.specs.Prelude.{Ok, Err}
 use Rattle.nv_alloc.specs.Numbers.{IsRising, has}
@@ -20,14 +29,14 @@ use Rattle.nv_book.specs.declared.record.Record.{Record}
 use Rattle.nv_calls.specs.declared.answer.Answer.TheVariants as answers
 use Rattle.nv_epoch.specs.SnapList.{Snapshots as Living, ids}
 use Rattle.nv_machine.specs.Hands.{HandAt, HandOf, unpublished_at, unpublished_by}
-use Rattle.nv_machine.specs.Held.{killed_by_actor, killed_by_call, killed_slots, parts_for, picked_at, picked_by_actor, picked_by_call}
+use Rattle.nv_machine.specs.Held.{killed_by_actor, killed_by_call, killed_slots, parts_for, picked_at, picked_by_actor, picked_by_call, retention_at}
 use Rattle.nv_machine.specs.Locks.{commits_at, commits_by, is_owner}
 use Rattle.nv_machine.specs.PlainRun as plain
 use Rattle.nv_machine.specs.Reads.{is_written, pages_needed, slot_at, written_slots}
 use Rattle.nv_machine.specs.Recorded.{after_deed}
-use Rattle.nv_machine.specs.Maintenance.{one_more, copies_at, first_showing, seen_on, show_or_unpin, visited}
+use Rattle.nv_machine.specs.Maintenance.{copies_at, first_showing, seen_on, show_or_unpin, visited}
 use Rattle.nv_machine.specs.Step.{kind_turn, turned, changed}
-use Rattle.nv_machine.specs.World.{Append, Close, Draining, Drains, Drop, Ends, Enter, HandState, Leave, LockPicked, Make, Moves, Next, Open, Pick, Pin, Publish, Release, Retire, Running, Shared, Show, MaintenanceStep, Maintenance, Turn, Unpin, Waits, World, actor_at, cell_at, empty_hand, Refuses, Showing, Unlock, with_book}
+use Rattle.nv_machine.specs.World.{Append, Close, Draining, Drop, Ends, Enter, HandState, Leave, LockPicked, Make, Moves, Next, Open, Pick, Pin, Publish, Release, Retire, Running, Shared, Show, MaintenanceStep, Maintenance, Turn, Unpin, Waits, World, actor_at, cell_at, owner_at, with_cell, Refuses, Showing, Unlock, with_book, Judge, LockCleaned, Fresh, Unlink, Compact, Ending, go_to}
 use Rattle.nv_machine.proofs.FiledBooks.{ids_pinned}
 use Rattle.nv_machine.proofs.FiledCommits.{append_marked, publish_marked, retire_marked}
 use Rattle.nv_machine.proofs.FiledLists.{none_first}
@@ -41,9 +50,11 @@ use Rattle.nv_machine.proofs.WorkKeeps.{AfterTurn, turn_keeps}
 use Rattle.nv_machine.proofs.Lists.{rising_filter}
 use Rattle.nv_machine.proofs.LocksHeld.{Before, lent_holder}
 use Rattle.nv_machine.proofs.LocksOverEvents.{before}
-use Rattle.nv_machine.proofs.BlockNumbers.{lent_inside}
+use Rattle.nv_machine.proofs.BlockNumbers.{clean_settled, lent_inside}
 use Rattle.nv_machine.proofs.PartsFor.{none_for, retiring_slots}
 use Rattle.nv_machine.proofs.LoopSteps.{appending_on, publishing_on, retiring_on, is_on_files}
+use Rattle.nv_machine.proofs.HandsInCommits.{none_in}
+use Rattle.nv_machine.specs.Sequence.{slots_on}
 
 -- ---- small things
 
@@ -130,11 +141,8 @@ module _ (g : GeometryNumbers) (w : World) (known : IsListable g w) (rs : List R
   AfterStep step t = AreMarked (turned t a w).world (after_deed (plain.done_on step t) living rs)
 
   module _ (step : MaintenanceStep) (next : r.next ≡ Maintenance step) where
-    empty : h ≡ empty_hand
-    empty = (can.alone step next).0
-
     nothing : h.killed ≡ []
-    nothing = rw empty refl
+    nothing = none_in step h (can.alone step next).0
 
     -- no part of its call is killed, and what it has picked is this
     own_none : (ino : ℕ) → [] ≡ killed_by_actor ino (actor_at w a)
@@ -143,10 +151,16 @@ module _ (g : GeometryNumbers) (w : World) (known : IsListable g w) (rs : List R
     own_picked : picked_by_actor (actor_at w a) ≡ picked_at (Maintenance step)
     own_picked = own_picks (Maintenance step) next
 
-    -- cells and snapshots stay, and what is picked
+    -- cells and snapshots stay, and what is picked, with any hand
+    kept_with : (u : Shared) (x : HandState) (running : Option Running) → IsQuiet s u → ((ino : ℕ) → killed_by_call running x ino ≡ [])
+        → picked_by_call running ≡ picked_at (Maintenance step) → AreMarked (changed u x running a w) rs
+    kept_with u x running left none same =
+        quiet_marked w a rs u x running left (λ ino. none ino ∙ own_none ino) (same ∙ sym own_picked) m
+
+    -- with the same
     kept : (u : Shared) (running : Option Running) → IsQuiet s u → ((ino : ℕ) → killed_by_call running h ino ≡ [])
         → picked_by_call running ≡ picked_at (Maintenance step) → AreMarked (changed u h running a w) rs
-    kept u running left none same = quiet_marked w a rs u h running left (λ ino. none ino ∙ own_none ino) (same ∙ sym own_picked) m
+    kept u running left none same = kept_with u h running left none same
 
     tails : s.holder ≡ None → (ino : ℕ) → (cell_at s ino).chain.tail ≡ length (cell_at s ino).chain.entries
     tails free ino =
@@ -159,12 +173,20 @@ module _ (g : GeometryNumbers) (w : World) (known : IsListable g w) (rs : List R
   none_shown (suc left) [] snapshot showing = refl
   none_shown (suc left) (visit ∷ visits) snapshot showing = refl
 
+  -- a cleaner has picked none
+  none_led : (step : MaintenanceStep) → is_cleaning step ≡ true → picked_at (Maintenance step) ≡ []
+  none_led (Fresh ino asked wanted) on = refl
+  none_led (Unlink ino) on = refl
+  none_led (Compact ino) on = refl
+  none_led other on = absurd (false≢true on)
+
   refused_marked : (step : MaintenanceStep) → r.next ≡ Maintenance step → (fault : Fault) → is_denied step ≡ true
       → AfterStep step (Ends (Err fault) s h)
   refused_marked Make next fault on = kept Make next s None (same_quiet s) (λ ino. refl) refl
   refused_marked (Drop snapshot) next fault on = kept (Drop snapshot) next s None (same_quiet s) (λ ino. refl) refl
   refused_marked (Pin snapshot) next fault on = kept (Pin snapshot) next s None (same_quiet s) (λ ino. refl) refl
   refused_marked (Pick draining) next fault on = kept (Pick draining) next s None (same_quiet s) (λ ino. refl) refl
+  refused_marked (Judge manner slot) next fault on = kept (Judge manner slot) next s None (same_quiet s) (λ ino. refl) refl
   refused_marked other next fault on = absurd (false≢true on)
 
   -- behind its work, where another step of these comes next
@@ -189,7 +211,29 @@ module _ (g : GeometryNumbers) (w : World) (known : IsListable g w) (rs : List R
         (own_picked (Pick draining) next) refl
   goes_marked (LockPicked draining picked) next on clear =
       kept (LockPicked draining picked) next _ _ (record { cells = λ i. refl; living = refl; epoch = refl }) (λ ino. refl) refl
+  goes_marked (LockCleaned manner ino) next on clear =
+      kept (LockCleaned manner ino) next _ _ (record { cells = λ i. refl; living = refl; epoch = refl }) (λ i. refl) refl
   goes_marked other next on clear = absurd (false≢true on)
+
+  -- a judge and a taking leave cells and book
+  leads_marked : (step : MaintenanceStep) → r.next ≡ Maintenance step → (after : MaintenanceStep) → LeadsTo step after
+      → AfterStep step (Moves (maintenance_work step a s h).shared (maintenance_work step a s h).hand (go_to (Maintenance after) r))
+  leads_marked (Judge manner slot) next after leads =
+      kept (Judge manner slot) next s (Some (go_to (Maintenance after) r)) (same_quiet s) (λ ino. refl) (none_led after leads.to)
+  leads_marked (Fresh ino asked wanted) next after leads =
+      kept_with (Fresh ino asked wanted) next _ _ (Some (go_to (Maintenance after) r))
+      (record { cells = λ i. refl; living = refl; epoch = refl }) (λ i. refl) (none_led after leads.to)
+  leads_marked other next after leads = absurd (false≢true leads.from)
+
+  -- where a judge refuses its call, with a slot locked
+  unlocks_marked : (step : MaintenanceStep) → r.next ≡ Maintenance step → (fault : Fault) → is_denied step ≡ true
+      → 0 < length (slots_on step) → AfterStep step (Moves s h (record r { ending = Refuses fault; next = Unlock 0 }))
+  unlocks_marked (Judge manner slot) next fault on some = kept (Judge manner slot) next s _ (same_quiet s) (λ ino. refl) refl
+  unlocks_marked Make next fault on some = absurd (omega (arith, some))
+  unlocks_marked (Drop snapshot) next fault on some = absurd (omega (arith, some))
+  unlocks_marked (Pin snapshot) next fault on some = absurd (omega (arith, some))
+  unlocks_marked (Pick draining) next fault on some = absurd (omega (arith, some))
+  unlocks_marked other next fault on some = absurd (false≢true on)
 
   told_marked : (step : MaintenanceStep) → r.next ≡ Maintenance step → tells step ≡ true → IsClearOn step s
       → AfterStep step (Ends (told_on step s r) (maintenance_work step a s h).shared (maintenance_work step a s h).hand)
@@ -205,16 +249,56 @@ module _ (g : GeometryNumbers) (w : World) (known : IsListable g w) (rs : List R
       (λ ino. refl) refl
   told_marked other next on clear = absurd (false≢true on)
 
-  released_marked : (step : MaintenanceStep) → r.next ≡ Maintenance step → (draining : Draining) (picked : Record)
-      → step ≡ Release draining picked → AfterStep step (Moves (maintenance_work step a s h).shared (maintenance_work step a s h).hand
-      (record r { ending = Drains (one_more draining); next = Unlock 0 }))
-  released_marked (Release d picked) next draining other on =
+  -- a cleaning keeps the records of its slot, and no part of it is killed
+  module _ (step : MaintenanceStep) (ready : IsCleanable (Maintenance step) block s h r) (next : r.next ≡ Maintenance step)
+      (cleans : is_clean_on step ≡ true) where
+    abbrev slot : ℕ
+    slot = clean_slot_on step
+
+    own : (slot < length s.cells) × (owner_at s slot ≡ Some a)
+    own =
+        lent_inside_own (Maintenance step) a s r (before_it (Maintenance step) next) slot
+        (lent_clean (Maintenance step) (length s.lists) a r cleans)
+
+    log_is : IsLog (log_of (cell_at s slot))
+    log_is = IsLog-take (cell_at s slot).chain.tail (cell_at s slot).chain.entries (known.order.logs slot).ordered
+
+    by_records : Cleans (retention_at w slot) (stays_at (Maintenance step) s) (cell_at s slot) (clean_cell_on step s h)
+    by_records =
+        cleans_by (Maintenance step) block s h r cleans own.0
+        (clean_settled w a r (Maintenance step) block next known.locks known.numbers.tails is (before_it (Maintenance step) next)
+        cleans)
+        ready (retention_at w slot) (slot_marks w rs l m slot log_is)
+
+    cleaned : (x : HandState) (q : Running) → ((ino : ℕ) → killed_by_call (Some q) x ino ≡ [])
+        → picked_at q.next ≡ picked_at (Maintenance step)
+        → AreMarked (changed (with_cell slot (clean_cell_on step s h) s) x (Some q) a w) rs
+    cleaned x q none picked =
+        clean_marked w a slot rs x (Some q) (stays_at (Maintenance step) s) (clean_cell_on step s h) by_records own.0 log_is
+        (none_locked w a slot known.locks own.1 (own_killed (nothing step next) slot)) (λ ino. none ino ∙ own_none step next ino)
+        (picked ∙ sym (own_picked step next)) m
+
+  over_marked : (step : MaintenanceStep) → IsCleanable (Maintenance step) block s h r → r.next ≡ Maintenance step → (e : Ending)
+      → EndsWith step a s h e
+      → AfterStep step (Moves (maintenance_work step a s h).shared (maintenance_work step a s h).hand
+      (record r { ending = e; next = Unlock 0 }))
+  over_marked (Release d picked) ready next e is =
       let step = Release d picked in
       let low = lent_inside (Maintenance step) a s r (before_it (Maintenance step) next) picked.ino refl in
       release_marked w a rs picked _ _ there (own_none step next) (own_picked step next) refl low (known.order.logs picked.ino).ordered m
-  released_marked other next draining picked on = cc
+  over_marked (Judge manner slot) ready next e is = kept (Judge manner slot) next s _ (same_quiet s) (λ ino. refl) refl
+  over_marked (Fresh ino asked wanted) ready next e is =
+      kept_with (Fresh ino asked wanted) next _ _ _ (record { cells = λ i. refl; living = refl; epoch = refl }) (λ i. refl) refl
+  over_marked (Unlink ino) ready next e is =
+      cleaned (Unlink ino) ready next refl (maintenance_work (Unlink ino) a s h).hand (record r { ending = e; next = Unlock 0 })
+      (λ i. refl) refl
+  over_marked (Compact ino) ready next e is =
+      cleaned (Compact ino) ready next refl (maintenance_work (Compact ino) a s h).hand (record r { ending = e; next = Unlock 0 })
+      (λ i. refl) refl
+  over_marked other ready next e is = absurd is
 
-  none_marked : (step : MaintenanceStep) → r.next ≡ Maintenance step → (draining : Draining) → step ≡ Pick draining → s.book.deferred ≡ []
+  none_marked : (step : MaintenanceStep) → r.next ≡ Maintenance step → (draining : Draining) → step ≡ Pick draining
+      → s.book.deferred ≡ []
       → AfterStep step (Ends (Ok (answers.Count draining.released)) s h)
   none_marked (Pick d) next draining on empty =
       subst (AreMarked (turned (Ends (Ok (answers.Count draining.released)) s h) a w).world)
@@ -222,19 +306,25 @@ module _ (g : GeometryNumbers) (w : World) (known : IsListable g w) (rs : List R
       (kept (Pick d) next s None (same_quiet s) (λ ino. refl) refl)
   none_marked other next draining on empty = cc
 
-  snapshot_marked : (step : MaintenanceStep) → r.next ≡ Maintenance step → AfterStep step (KindTurn (Maintenance step))
-  snapshot_marked step next = alone_walk (AfterStep step) step a granted s h r (empty step next) (can.alone step next).1 (record {
-    waits = m;
-    refused = refused_marked step next;
-    goes = goes_marked step next;
-    told = told_marked step next;
-    denied = λ snapshot showing on.
-        let q : Running = record r { ending = Refuses out_of_memory; next = Maintenance (Unpin snapshot []) } in
-        subst (λ (x : MaintenanceStep). AreMarked (turned (Moves s h q) a w).world (after_deed (plain.Maintains x) living rs)) (sym on)
-        (kept step next s (Some q) (same_quiet s) (λ ino. refl) (sym (ap (λ (x : MaintenanceStep). picked_at (Maintenance x)) on)));
-    over = released_marked step next;
-    none = none_marked step next;
-  })
+  snapshot_marked : (step : MaintenanceStep) → r.next ≡ Maintenance step → IsCleanable (Maintenance step) block s h r
+      → AfterStep step (KindTurn (Maintenance step))
+  snapshot_marked step next ready =
+      alone_walk (AfterStep step) step a granted s h r (can.alone step next).0 (can.alone step next).1 (record {
+        waits = m;
+        refused = refused_marked step next;
+        goes = goes_marked step next;
+        told = told_marked step next;
+        denied = λ snapshot showing on.
+            let q : Running = record r { ending = Refuses out_of_memory; next = Maintenance (Unpin snapshot []) } in
+            subst (λ (x : MaintenanceStep). AreMarked (turned (Moves s h q) a w).world (after_deed (plain.Maintains x) living rs))
+            (sym on)
+            (kept step next s (Some q) (same_quiet s) (λ ino. refl)
+            (sym (ap (λ (x : MaintenanceStep). picked_at (Maintenance x)) on)));
+        unlocks = unlocks_marked step next;
+        leads_on = leads_marked step next;
+        over = over_marked step ready next;
+        none = none_marked step next;
+      })
 
   -- ---- every kind
 
@@ -244,19 +334,20 @@ module _ (g : GeometryNumbers) (w : World) (known : IsListable g w) (rs : List R
   epoch_of : (k : Next) → r.next ≡ k → commits_at k ≡ true → r.epoch ≡ s.book.snaps.epoch
   epoch_of k e c = can.epoch (ap commits_at e ∙ c)
 
-  pub kind_marked : (k : Next) → r.next ≡ k → AreMarked (turned (KindTurn k) a w).world (list_after k s h r (KindTurn k) rs)
-  kind_marked Enter e =
+  pub kind_marked : (k : Next) → r.next ≡ k → IsCleanable k block s h r
+      → AreMarked (turned (KindTurn k) a w).world (list_after k s h r (KindTurn k) rs)
+  kind_marked Enter e ready =
       let none = none_now Enter e refl in
       subst (AreMarked (turned (KindTurn Enter) a w).world) (sym (entered_same (KindTurn Enter) living rs))
       (quiet Enter e refl refl none none (quiet_work Enter refl refl))
-  kind_marked (Append place) e =
+  kind_marked (Append place) e ready =
       let slot = slot_at (written_slots r) place in
       let b = before_it (Append place) e in
       append_marked w a rs r there known.locks (lent_holder (Append place) a s r b refl) is (epoch_of (Append place) e refl) m slot
       (pages_needed s r.plan slot) place e (lent_inside (Append place) a s r b slot refl) (within slot) (hand_at (Append place) e).killed
       (none_on _ (appending_on (place + 1) (written_slots r)))
-  kind_marked Open e = let none = hand_at Open e in quiet Open e refl refl none none (quiet_work Open refl refl)
-  kind_marked (Publish place) e =
+  kind_marked Open e ready = let none = hand_at Open e in quiet Open e refl refl none none (quiet_work Open refl refl)
+  kind_marked (Publish place) e ready =
       let slot = slot_at (written_slots r) place in
       let b = before_it (Publish place) e in
       subst (AreMarked (turned (KindTurn (Publish place)) a w).world)
@@ -264,20 +355,20 @@ module _ (g : GeometryNumbers) (w : World) (known : IsListable g w) (rs : List R
       (publish_marked w a rs r there known.locks (lent_holder (Publish place) a s r b refl) is (epoch_of (Publish place) e refl) m place e
       b.inside (rising (Publish place) e) (lent_inside (Publish place) a s r b slot refl) (known.order.logs slot).ordered (within slot)
       (hand_at (Publish place) e) (none_on _ (publishing_on (place + 1) (written_slots r))))
-  kind_marked Close e =
+  kind_marked Close e ready =
       quiet_marked w a rs _ _ _ (record { cells = λ i. refl; living = refl; epoch = refl })
       (λ ino. ap (λ (slots : List ℕ). parts_for slots h.killed ino) (retiring_slots 0 (written_slots r))
       ∙ sym (ap (λ (o : Option Running). killed_by_call o h ino) is
       ∙ ap (λ (k : Next). parts_for (killed_slots k (written_slots r)) h.killed ino) e))
       (none_on _ (retiring_on 0 (written_slots r)) ∙ sym (own_picks Close e)) m
-  kind_marked (Retire place) e =
+  kind_marked (Retire place) e ready =
       let slot = slot_at (written_slots r) place in
       let b = before_it (Retire place) e in
       retire_marked w a rs r there known.locks (lent_holder (Retire place) a s r b refl) is (epoch_of (Retire place) e refl) m place e
       b.inside (rising (Retire place) e) (lent_inside (Retire place) a s r b slot refl) (known.order.logs slot).ordered
       (hand_at (Retire place) e) (none_on _ (retiring_on (place + 1) (written_slots r)))
-  kind_marked Leave e = let none = hand_at Leave e in quiet Leave e refl refl none none (quiet_work Leave refl refl)
-  kind_marked (Maintenance step) e = snapshot_marked step e
-  kind_marked other e =
+  kind_marked Leave e ready = let none = hand_at Leave e in quiet Leave e refl refl none none (quiet_work Leave refl refl)
+  kind_marked (Maintenance step) e ready = snapshot_marked step e ready
+  kind_marked other e ready =
       let none = none_now other e refl in
       quiet other e refl refl none (killed_stays other block a s h r refl ∙ none) (quiet_work other refl refl)

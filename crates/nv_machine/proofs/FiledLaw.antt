@@ -1,6 +1,6 @@
 -- Whatever events come, marks say of every slot what is killed, recorded and out; so each part that is
 -- kept has one record.
-use Rattle.std.proofs.Common.{◌≡◌, ℕ, ◌++◌, ◌∙◌, Bool, true, false, List, [], ◌∷◌, Option, Some, None, ap, arith, if◌then◌else◌, length, nat_lt, refl, sym}
+use Rattle.std.proofs.Common.{◌≡◌, ℕ, ◌∙◌, Bool, true, false, List, [], ◌∷◌, Option, Some, None, ap, arith, if◌then◌else◌, length, nat_lt, refl, sym}
 use Rattle.std.specs.List.{AllByRecursion}
 use Rattle.std.proofs.lemmas.Bool.{ltb-false, ltb-true}
 use Rattle.nv_base.specs.declared.geometry.GeometryNumbers.{GeometryNumbers}
@@ -10,21 +10,19 @@ use Rattle.nv_cell.specs.Cell.{log_of}
 use Rattle.nv_epoch.specs.SnapList.{ids}
 use Rattle.nv_machine.specs.Held.{killed_by_call, picked_by_call}
 use Rattle.nv_machine.specs.PlainRun as plain
-use Rattle.nv_machine.specs.Recorded.{AreRecordedOnce, IsOfPair, after_deed, recorded_in, records_after, records_in, retired_in}
+use Rattle.nv_machine.specs.Recorded.{IsOfPair, after_deed, records_in, retired_in}
 use Rattle.nv_machine.specs.Sequence.{beginning, begun}
-use Rattle.nv_machine.specs.Starts.{IsStart}
-use Rattle.nv_machine.specs.Step.{after, go_step, start_step, step}
+use Rattle.nv_machine.specs.Step.{go_step, start_step, step}
 use Rattle.nv_machine.specs.World.{Event, Go, Running, Start, World, actor_at, cell_at}
 use Rattle.nv_machine.proofs.OverEvents.{runs_inside}
+use Rattle.nv_machine.proofs.Cleanable.{cleanable}
 use Rattle.nv_machine.proofs.FiledKinds.{kind_marked}
 use Rattle.nv_machine.proofs.FiledMarks.{IsTold}
 use Rattle.nv_machine.proofs.FiledPicks.{begun_none}
-use Rattle.nv_machine.proofs.FiledRuns.{IsListable, all_listed, event_listed, known}
+use Rattle.nv_machine.proofs.FiledRuns.{IsListable}
 use Rattle.nv_machine.proofs.FiledTurns.{Listed}
-use Rattle.nv_machine.proofs.FiledWorlds.{AreMarked, outside, picked_in, quiet_marked, same_quiet}
+use Rattle.nv_machine.proofs.FiledWorlds.{AreMarked, outside, quiet_marked, same_quiet}
 use Rattle.nv_machine.proofs.LogsInOrder.{begun_commits}
-use Rattle.nv_machine.proofs.MarksInUse.{each_recorded, once_of}
-use Rattle.nv_machine.proofs.StartRecords.{first_listed, first_marked}
 
 -- ---- events
 
@@ -39,6 +37,7 @@ module _ (g : GeometryNumbers) (w : World) (is_known : IsListable g w) (rs : Lis
   go_marked true None actor granted there e = m
   go_marked true (Some r) actor granted there e =
       kind_marked g w is_known rs l m actor w.numbers.block granted r (ltb-true actor (length w.actors) there) e r.next refl
+      (cleanable w actor r is_known.cleanable e)
 
   start_marked : (b : Bool) (running : Option Running) (actor : ℕ) (c : Call) → (actor_at w actor).running ≡ running
       → AreMarked (start_step b running actor c w).world rs
@@ -56,37 +55,7 @@ module _ (g : GeometryNumbers) (w : World) (is_known : IsListable g w) (rs : Lis
   event_marked (Start actor c) = start_marked (nat_lt actor (length w.actors)) (actor_at w actor).running actor c refl
   event_marked (Go actor granted) = go_marked (nat_lt actor (length w.actors)) (actor_at w actor).running actor granted refl refl
 
-events_marked : (g : GeometryNumbers) (events : List Event) (w : World) (rs : List Record)
-    → ((before : List Event) → IsListable g (after w before)) → Listed rs w.shared → AreMarked w rs
-    → AreMarked (after w events) (records_after w events rs)
-events_marked g [] w rs each l m = m
-events_marked g (e ∷ events) w rs each l m =
-    events_marked g events (step w e).world (records_in w e rs) (λ before. each (e ∷ before)) (event_listed g w (each []) rs l e)
-    (event_marked g w (each []) rs l m e)
-
--- ---- every world
-
-pub all_marked : (g : GeometryNumbers) (start : World) (records : List Record) (events : List Event) → IsStart g start records
-    → AreMarked (after start events) (records_after start events records)
-all_marked g start records events is_start =
-    events_marked g events start records (λ before. known g start records before is_start) (first_listed g start records is_start)
-    (first_marked g start records is_start)
-
--- ---- the laws
-
-pub recorded_once : (g : GeometryNumbers) (start : World) (records : List Record) (events : List Event) → IsStart g start records
-    → AreRecordedOnce (after start events)
-recorded_once g start records events is_start =
-    once_of (after start events) (records_after start events records) (all_listed g start records events is_start)
-    (all_marked g start records events is_start)
-
--- what holds of all that is listed or picked holds of each record
-pub recorded_all : (g : GeometryNumbers) (start : World) (records : List Record) (events : List Event) (P : Record → Type 0)
-    → IsStart g start records
-    → AllByRecursion P (records_after start events records ++ picked_in (after start events))
-    → AllByRecursion P (recorded_in (after start events))
-recorded_all g start records events P is_start all =
-    each_recorded (after start events) (records_after start events records) P (all_listed g start records events is_start) all
+-- ---- the laws, of each world
 
 -- what is told of each slot is told of each record
 pub each_of : (w : World) (rs : List Record)
@@ -107,10 +76,3 @@ each_of w (d ∷ rs) told =
       },
       each_of w rs (λ ino. (told ino).1),
     )
-
-pub recorded_pairs : (g : GeometryNumbers) (start : World) (records : List Record) (events : List Event) → IsStart g start records
-    → AllByRecursion (IsOfPair (after start events)) (recorded_in (after start events))
-recorded_pairs g start records events is_start =
-    let w = after start events in
-    recorded_all g start records events (IsOfPair w) is_start
-    (each_of w (records_after start events records ++ picked_in w) (λ ino. ((all_marked g start records events is_start).cells ino).told))

@@ -68,10 +68,6 @@ pub bit_none : (b : Bool) → bit b ≡ 0 → b ≡ false
 bit_none true e = absurd (omega (arith, e))
 bit_none false e = refl
 
-bit_one : (b : Bool) → bit b ≡ one b
-bit_one true = refl
-bit_one false = refl
-
 killed_not_kept : (m : Mark) → is_killed m ≡ true → is_kept m ≡ false
 killed_not_kept Kept e = absurd (false≢true e)
 killed_not_kept other e = refl

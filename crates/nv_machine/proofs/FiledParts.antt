@@ -2,10 +2,9 @@
 use Rattle.std.proofs.Common.{◌≡◌, ℕ, ◌<◌, ◌≤◌, ◌++◌, ◌∙◌, Bool, true, false, not, List, [], ◌∷◌, Option, Some, None, ap, arith, length, refl, sym}
 use Rattle.std.specs.Prelude.{unwrap_or}
 use Rattle.std.specs.List.{AllByRecursion}
-use Rattle.nv_base.specs.declared.geometry.GeometryNumbers.{GeometryNumbers}
 use Rattle.nv_book.specs.declared.record.Record.{Record}
 use Rattle.nv_calls.specs.Retiring.{name_of}
-use Rattle.nv_cell.specs.Cell.{CellState, HasMarks, log_of, number_in}
+use Rattle.nv_cell.specs.Cell.{CellState, log_of, number_in}
 use Rattle.nv_cell.specs.Marks.{mark_at}
 use Rattle.nv_cell.specs.declared.killed.KilledPart.{KilledPart}
 use Rattle.nv_cell.specs.declared.mark.Mark.{Mark}
@@ -16,33 +15,22 @@ use Rattle.nv_entry.specs.declared.item.Entry.{Entry}
 use Rattle.nv_epoch.specs.SnapList.{ids}
 use Rattle.nv_machine.specs.Held.{picked_by_actor, picked_by_call}
 use Rattle.nv_machine.specs.Kept.{IsReleaseCovered, IsReleaseCoveredBy}
-use Rattle.nv_machine.specs.Recorded.{is_kept, records_after}
-use Rattle.nv_machine.specs.Starts.{IsStart}
-use Rattle.nv_machine.specs.Step.{after}
-use Rattle.nv_machine.specs.World.{Event, Next, Release, Running, Maintenance, World, actor_at, cell_at}
+use Rattle.nv_machine.specs.Order.{IsInOrder}
+use Rattle.nv_machine.specs.Recorded.{is_kept}
+use Rattle.nv_machine.specs.World.{Next, Release, Running, Maintenance, World, actor_at, cell_at}
 use Rattle.nv_machine.proofs.OverEvents.{runs_inside}
-use Rattle.nv_machine.proofs.FiledLaw.{all_marked}
 use Rattle.nv_machine.proofs.EachElement.{all_back}
 use Rattle.nv_machine.proofs.FiledLists.{count, count_append, count_cons, one}
 use Rattle.nv_machine.proofs.FiledMarks.{AreMarks, IsTold, bit_is, is_filed_on, kept_not_current, pair_low}
-use Rattle.nv_machine.proofs.FiledRuns.{known}
-use Rattle.nv_machine.proofs.FiledWorlds.{picked_in}
+use Rattle.nv_machine.proofs.FiledWorlds.{AreMarked, picked_in}
 use Rattle.nv_machine.proofs.Lists.{self}
 use Rattle.nv_machine.proofs.Pairs.{IsRecordOf, record_number}
 use Rattle.nv_machine.proofs.PartsFor.{own_all, own_count}
 
 -- the log of a slot is one
-pub log_in : (g : GeometryNumbers) (start : World) (records : List Record) (events : List Event) (ino : ℕ) → IsStart g start records
-    → IsLog (log_of (cell_at (after start events).shared ino))
-log_in g start records events ino is_start =
-    let cell : CellState = cell_at (after start events).shared ino in
-    IsLog-take cell.chain.tail cell.chain.entries ((known g start records events is_start).order.logs ino).ordered
-
--- each published part has its mark, and is marked current exactly where it is not covered
-pub have_marks : (g : GeometryNumbers) (start : World) (records : List Record) (events : List Event) (ino : ℕ) → IsStart g start records
-    → HasMarks (cell_at (after start events).shared ino)
-have_marks g start records events ino is_start =
-    let m = (all_marked g start records events is_start).cells ino in record { len = m.len; current = m.current }
+pub is_log : (w : World) (ino : ℕ) → IsInOrder w → IsLog (log_of (cell_at w.shared ino))
+is_log w ino order =
+    IsLog-take (cell_at w.shared ino).chain.tail (cell_at w.shared ino).chain.entries (order.logs ino).ordered
 
 -- a part that is recorded is covered
 pub filed_covered : (living : List ℕ) (ino epoch : ℕ) (killed : List KilledPart) (rs : List Record) (block : ℕ) (log : List Entry)
@@ -62,20 +50,13 @@ filed_covered living ino epoch killed rs block log marks d is h mine pair some =
       covered true e = refl
       covered false e = cc
 
-pub releases_covered : (g : GeometryNumbers) (start : World) (records : List Record) (events : List Event) (actor : ℕ)
-    → IsStart g start records
-    → IsReleaseCoveredBy (after start events).shared (actor_at (after start events) actor).running
-releases_covered g start records events actor is_start = go (actor_at w actor).running refl where
-  w : World
-  w = after start events
-
-  rs : List Record
-  rs = records_after start events records
-
+pub releases_covered : (w : World) (rs : List Record) (actor : ℕ) → IsInOrder w → AreMarked w rs
+    → IsReleaseCoveredBy w.shared (actor_at w actor).running
+releases_covered w rs actor order marked = go (actor_at w actor).running refl where
   at : (k : Next) (r : Running) → (actor_at w actor).running ≡ Some r → r.next ≡ k → IsReleaseCovered w.shared k
   at (Maintenance (Release draining d)) r is e =
       let cell : CellState = cell_at w.shared d.ino in
-      let m = (all_marked g start records events is_start).cells d.ino in
+      let m = marked.cells d.ino in
       let T : Record → Type 0 = IsTold (ids w.shared.book.snaps) d.ino cell.block (log_of cell) in
       let had : picked_by_actor (actor_at w actor) ≡ d ∷ [] =
       ap (λ (o : Option Running). picked_by_call o) is ∙ ap (λ (k : Next). picked_by_call (Some (record r { next = k }))) e in
@@ -85,10 +66,10 @@ releases_covered g start records events actor is_start = go (actor_at w actor).r
       let pair = told.0 refl in
       let p : Record → Bool = is_filed_on d.ino (log_of cell) pair.n in
       let number : number_in cell (name_of d) ≡ pair.n = ap (λ (o : Option ℕ). unwrap_or o 0)
-      (record_number (ids w.shared.book.snaps) cell.block (log_of cell) d (log_in g start records events d.ino is_start) pair) in
+      (record_number (ids w.shared.book.snaps) cell.block (log_of cell) d (is_log w d.ino order) pair) in
       ap (is_covered cell.block (log_of cell)) number
       ∙ filed_covered _ d.ino _ _ (rs ++ picked_in w) cell.block (log_of cell) cell.marks d
-      (log_in g start records events d.ino is_start) m refl pair
+      (is_log w d.ino order) m refl pair
       (omega (
         arith,
         own_count picked_by_actor p w.actors actor low,

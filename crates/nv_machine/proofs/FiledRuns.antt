@@ -1,40 +1,28 @@
 -- What is filed is told by the record list, whatever events come.
-use Rattle.std.proofs.Common.{◌≡◌, ℕ, Bool, true, false, if◌then◌else◌, List, [], ◌∷◌, Option, Some, None, arith, length, nat_lt, refl, subst, sym}
+use Rattle.std.proofs.Common.{◌≡◌, ℕ, Bool, true, false, if◌then◌else◌, List, Option, Some, None, arith, length, nat_lt, refl, subst, sym}
 use Rattle.std.proofs.lemmas.Bool.{ltb-false}
 use Rattle.nv_base.specs.declared.geometry.GeometryNumbers.{GeometryNumbers}
-use Rattle.nv_book.specs.Listed.{IsRecordList, unheld}
 use Rattle.nv_book.specs.declared.record.Record.{Record}
 use Rattle.nv_calls.specs.declared.call.Call.{Call}
 use Rattle.nv_epoch.specs.SnapList.{ids}
-use Rattle.nv_machine.specs.Hands.{AreNumbers, HandAt, HandOf}
-use Rattle.nv_machine.specs.Locks.{AreLocks, HasSlots, IsInside, slots_on}
+use Rattle.nv_machine.specs.Hands.{AreNumbers, HandAt, HandOf, HandOn}
+use Rattle.nv_machine.specs.Kept.{AreCleanable}
+use Rattle.nv_machine.specs.Locks.{AreLocks, HasSlots, IsInside}
 use Rattle.nv_machine.specs.Order.{CommitsIn, IsInOrder}
 use Rattle.nv_machine.specs.PlainRun as plain
-use Rattle.nv_machine.specs.Recorded.{after_deed, records_after, records_in, retired_in}
-use Rattle.nv_machine.specs.Starts.{IsStart}
-use Rattle.nv_machine.specs.Step.{after, go_step, start_step, step, turn, turned}
-use Rattle.nv_machine.specs.World.{Ends, Event, Go, HandState, Moves, Next, Running, MaintenanceStep, Maintenance, Start, Turn, Waits, World, actor_at, empty_hand}
+use Rattle.nv_machine.specs.Recorded.{after_deed, records_in, retired_in}
+use Rattle.nv_machine.specs.Step.{go_step, start_step, step, turn, turned}
+use Rattle.nv_machine.specs.World.{Ends, Event, Go, HandState, Moves, Next, Running, MaintenanceStep, Maintenance, Start, Turn, Waits, World, actor_at}
 use Rattle.nv_machine.proofs.OverEvents.{runs_inside}
 use Rattle.nv_machine.proofs.FiledTurns.{CanList, Listed, OnListed, list_after, turn_listed, waits_listed}
-use Rattle.nv_machine.proofs.FromScratch.{all_numbers}
-use Rattle.nv_machine.proofs.LogsInOrder.{events_order}
-use Rattle.nv_machine.proofs.LocksOverEvents.{events_locks}
-use Rattle.nv_machine.proofs.StartParts.{first_locks, first_order}
-use Rattle.nv_machine.proofs.StartRecords.{first_listed}
+use Rattle.nv_machine.specs.Sequence.{slots_on}
 
 -- what is known of each world that events lead to
 pub record IsListable (g : GeometryNumbers) (w : World) : Type 0 where
   pub locks : AreLocks w
   pub order : IsInOrder w
   pub numbers : AreNumbers g w
-
-pub known : (g : GeometryNumbers) (start : World) (records : List Record) (events : List Event) → IsStart g start records
-    → IsListable g (after start events)
-known g start records events is_start = record {
-  locks = events_locks events start (first_locks g start records is_start);
-  order = events_order events start (first_locks g start records is_start) (first_order g start records is_start);
-  numbers = all_numbers g start records events is_start;
-}
+  pub cleanable : AreCleanable w
 
 pub can_list : (g : GeometryNumbers) (w : World) (actor : ℕ) (r : Running) → IsListable g w → (actor_at w actor).running ≡ Some r
     → CanList r.next w.shared (actor_at w actor).hand r
@@ -48,7 +36,7 @@ can_list g w actor r known is = record {
   own : CommitsIn w.shared (Some r)
   own = subst (λ (running : Option Running). CommitsIn w.shared running) is (known.order.each actor)
 
-  at : (step : MaintenanceStep) → r.next ≡ Maintenance step → h ≡ empty_hand
+  at : (step : MaintenanceStep) → r.next ≡ Maintenance step → HandOn step h
   at step e =
       let hand : HandOf g h (Some r) = subst (λ (o : Option Running). HandOf g h o) is (known.numbers.hands actor) in
       let here : HandAt g (Maintenance step) h r = subst (λ (k : Next). HandAt g k h r) e hand.0 in here
@@ -91,27 +79,3 @@ module _ (g : GeometryNumbers) (w : World) (known : IsListable g w) (rs : List R
   pub event_listed : (e : Event) → Listed (records_in w e rs) (step w e).world.shared
   event_listed (Start actor c) = start_listed (nat_lt actor (length w.actors)) (actor_at w actor).running actor c
   event_listed (Go actor granted) = go_listed (nat_lt actor (length w.actors)) (actor_at w actor).running actor granted refl refl
-
-events_listed : (g : GeometryNumbers) (events : List Event) (w : World) (rs : List Record)
-    → ((before : List Event) → IsListable g (after w before)) → Listed rs w.shared
-    → Listed (records_after w events rs) (after w events).shared
-events_listed g [] w rs each is = is
-events_listed g (e ∷ events) w rs each is =
-    events_listed g events (step w e).world (records_in w e rs) (λ before. each (e ∷ before)) (event_listed g w (each []) rs is e)
-
--- ---- every world
-
-pub all_listed : (g : GeometryNumbers) (start : World) (records : List Record) (events : List Event) → IsStart g start records
-    → Listed (records_after start events records) (after start events).shared
-all_listed g start records events is_start =
-    events_listed g events start records (λ before. known g start records before is_start) (first_listed g start records is_start)
-
-pub are_listed : (g : GeometryNumbers) (start : World) (records : List Record) (events : List Event) → IsStart g start records
-    → IsRecordList (ids (after start events).shared.book.snaps) (after start events).shared.book.manifests
-    (after start events).shared.book.deferred (records_after start events records)
-are_listed g start records events is_start = (all_listed g start records events is_start).list
-
-pub are_deferred : (g : GeometryNumbers) (start : World) (records : List Record) (events : List Event) → IsStart g start records
-    → (after start events).shared.book.deferred
-    ≡ unheld (ids (after start events).shared.book.snaps) (records_after start events records)
-are_deferred g start records events is_start = (are_listed g start records events is_start).deferred_is

@@ -1,5 +1,5 @@
 -- Makings, drops, picks and releases keep what marks say of every slot.
-use Rattle.std.proofs.Common.{◌≡◌, ℕ, zero, suc, ◌+◌, ◌-◌, ◌<◌, ◌≤◌, ◌==◌, ◌++◌, ◌∙◌, Bool, true, false, cond, not, List, [], ◌∷◌, Option, Some, None, ap, arith, drop, inl, inr, length, refl, slice_get, subst, sym, take}
+use Rattle.std.proofs.Common.{◌≡◌, ℕ, zero, suc, ◌+◌, ◌-◌, ◌<◌, ◌≤◌, ◌==◌, ◌++◌, ◌∙◌, Bool, true, false, cond, not, List, [], ◌∷◌, Option, Some, None, ap, arith, inl, inr, length, refl, slice_get, subst, sym, take}
 use Rattle.std.specs.List.{AllByRecursion}
 use Rattle.std.specs.Option.{option_map}
 use Rattle.std.proofs.lemmas.Bool.{cases_lt, false≢true}
@@ -37,7 +37,7 @@ use Rattle.nv_machine.proofs.EachElement.{all_append, all_back, all_filter, all_
 use Rattle.nv_machine.proofs.FiledLists.{all_first, all_moved, count, count_append, count_cons, count_first, count_moved, first_among, first_unheld, one}
 use Rattle.nv_machine.proofs.FiledMarks.{IsTold, is_filed_on, pair_low}
 use Rattle.nv_machine.proofs.FiledPublish.{filed_marks, living_marks}
-use Rattle.nv_machine.proofs.FiledSteps.{MarksOf, erased_cell, erased_fresh, other_slot, recounted, released_cell}
+use Rattle.nv_machine.proofs.FiledSteps.{MarksOf, erased_cell, erased_fresh, none_fresh, other_slot, recounted, released_cell}
 use Rattle.nv_machine.proofs.FiledTurns.{Listed}
 use Rattle.nv_machine.proofs.FiledWorlds.{AreMarked, marks_as, no_killed, picked_in, same_killed, same_picked}
 use Rattle.nv_cell.proofs.NamedPairs.{current_is}
@@ -141,7 +141,7 @@ module _ (w : World) (a : ℕ) (rs : List Record) (locks : AreLocks w) (free : w
               not_held_later living ino epoch [] (rs ++ picked_in w) (cell_at s ino) (log_is ino) (by_now ino) (before ino) n pair got out,
               tt,
             ))));
-        fresh = λ ino. none_past (cell_at s ino).chain.tail (cell_at s ino).chain.entries (tails ino);
+        fresh = λ ino. none_fresh (epoch + 1) (cell_at s ino) (tails ino);
         unheld = subst (λ (ss : List ℕ). AllByRecursion (λ d. holder_of ss d ≡ None) (picked_in v)) (sym (ids_made s.book.snaps))
             (subst (AllByRecursion (λ d. holder_of (living ++ epoch ∷ []) d ≡ None)) (sym picked)
             (still_unheld (picked_in w) m.unheld m.dead));
@@ -161,12 +161,6 @@ module _ (w : World) (a : ℕ) (rs : List Record) (locks : AreLocks w) (free : w
           (λ n death pair got dead. dead_by cell.block epoch (log_of cell) n death pair (by_now ino) got dead) (of same))
           (rs ++ picked_in w) (before ino).told
           (all_append (λ (d : Record). d.death ≤ epoch) rs (picked_in w) l.dead m.dead)
-
-      none_past : (tail : ℕ) (es : List Entry) → tail ≡ length es → AllByRecursion (λ (e : Entry). e.epoch ≡ epoch + 1) (drop tail es)
-      none_past tail es e = rw e (go es) where
-        go : (es : List Entry) → AllByRecursion (λ (e : Entry). e.epoch ≡ epoch + 1) (drop (length es) es)
-        go [] = tt
-        go (x ∷ es) = go es
 
       still_unheld : (ds : List Record) → AllByRecursion (λ d. holder_of living d ≡ None) ds
           → AllByRecursion (λ (d : Record). d.death ≤ epoch) ds → AllByRecursion (λ d. holder_of (living ++ epoch ∷ []) d ≡ None) ds

@@ -101,6 +101,13 @@ appended_gone entries bs pages cell within =
 abbrev pub AreFresh : ℕ → CellState → Type 0
 AreFresh epoch cell = AllByRecursion (λ (e : Entry). e.epoch ≡ epoch) (drop cell.chain.tail cell.chain.entries)
 
+-- a log that ends at its tail has nothing past it
+pub none_fresh : (epoch : ℕ) (cell : CellState) → cell.chain.tail ≡ length cell.chain.entries → AreFresh epoch cell
+none_fresh epoch cell last = rw last (go cell.chain.entries) where
+  go : (es : List Entry) → AllByRecursion (λ (e : Entry). e.epoch ≡ epoch) (drop (length es) es)
+  go [] = tt
+  go (e ∷ es) = go es
+
 pub appended_fresh : (epoch : ℕ) (entries : List Entry) (bs pages : List BlockValue) (cell : CellState)
     → cell.chain.tail ≤ length cell.chain.entries → AllByRecursion (λ (e : Entry). e.epoch ≡ epoch) entries → AreFresh epoch cell
     → AreFresh epoch (with_entries entries bs (with_pages pages cell))

@@ -1,24 +1,26 @@
 -- What is filed is told by the record list after every step.
 use Rattle.nv_calls.specs.declared.answer.Answer.TheVariants as answers
 use Rattle.nv_machine.proofs.StepWays.{IsClearOn}
-use Rattle.nv_machine.proofs.MaintenanceWalk.{is_denied, tells, told_on}
+use Rattle.nv_machine.proofs.MaintenanceWalk.{is_denied, tells, told_on, ends_clear, leads_clear}
 use Rattle.nv_machine.proofs.MaintenanceAlone.{alone_walk, none_home}
-use Rattle.std.proofs.Common.{◌≡◌, ℕ, zero, suc, ◌==◌, Bool, true, false, cond, List, [], ◌∷◌, Option, Some, None, ap, arith, drop, if◌then◌else◌, length, nat_lt, refl, subst, sym}
+use Rattle.std.proofs.Common.{◌≡◌, ℕ, zero, suc, ◌==◌, Bool, true, false, cond, List, [], ◌∷◌, Option, Some, None, ap, arith, drop, if◌then◌else◌, length, nat_lt, refl, subst, sym, ◌<◌}
 use Rattle.std.specs.Prelude.{Ok, Err}
 use Rattle.std.specs.List.{Contains}
-use Rattle.std.proofs.lemmas.Bool.{eqb-true, true≢false, false≢true}
+use Rattle.std.proofs.lemmas.Bool.{eqb-true, false≢true}
 use Rattle.nv_base.specs.declared.fault.Fault.{Fault}
 use Rattle.nv_book.specs.declared.record.Record.{Record}
 use Rattle.nv_epoch.specs.SnapList.{ids, numbers, pins_at, pins_of}
 use Rattle.nv_epoch.specs.declared.snapshot.Snapshot.{Snapshot}
 use Rattle.nv_machine.specs.Kinds.{end_turn, first_killed, refuse, rest_turn}
-use Rattle.nv_machine.specs.Locks.{commits_at, slots_on}
+use Rattle.nv_machine.specs.Hands.{HandOn}
+use Rattle.nv_machine.specs.Locks.{commits_at}
+use Rattle.nv_machine.specs.Sequence.{slots_on}
 use Rattle.nv_machine.specs.PlainRun as plain
 use Rattle.nv_machine.specs.Reads.{slot_at, written_slots}
 use Rattle.nv_machine.specs.Recorded.{after_deed, after_retire}
 use Rattle.nv_machine.specs.Maintenance.{drop_tests, maintenance_turn}
 use Rattle.nv_machine.specs.Step.{kind_turn}
-use Rattle.nv_machine.specs.World.{Back, Close, Draining, Drop, Ends, Enter, HandState, Make, Moves, Next, Number, Open, Pick, Pin, Publish, Refuses, Retire, Running, Shared, MaintenanceStep, Maintenance, Turn, Unpin, Waits, empty_hand}
+use Rattle.nv_machine.specs.World.{Back, Close, Draining, Drop, Ends, Enter, HandState, Make, Moves, Next, Number, Open, Pick, Pin, Publish, Refuses, Retire, Running, Shared, MaintenanceStep, Maintenance, Turn, Unpin, Waits, empty_hand, Judge}
 use Rattle.nv_machine.proofs.FiledBooks.{IsListed, dropped_listed, made_listed, picked_listed, pinned_listed, retired_listed, unpinned_listed}
 use Rattle.nv_machine.proofs.StepWork.{work, maintenance_work, by_number, by_back}
 use Rattle.nv_machine.proofs.WorkKeeps.{AfterTurn, turn_keeps}
@@ -65,18 +67,6 @@ moves (Drop snapshot) = true
 moves (Pick draining) = true
 moves other = false
 
-pub list_same : (step : MaintenanceStep) (t : Turn) (living : List ℕ) (rs : List Record) → moves step ≡ false
-    → after_deed (plain.done_on step t) living rs ≡ rs
-list_same step Waits living rs none = refl
-list_same (Drop snapshot) (Moves t g q) living rs none = absurd (true≢false none)
-list_same (Drop snapshot) (Ends result t g) living rs none = absurd (true≢false none)
-list_same (Pick draining) (Moves t g q) living rs none = absurd (true≢false none)
-list_same (Pick draining) (Ends result t g) living rs none = absurd (true≢false none)
-list_same (Unpin snapshot seen) (Ends result t g) living rs none = refl
-list_same other (Moves t g q) living rs none = refl
-list_same other (Ends (Ok found) t g) living rs none = refl
-list_same other (Ends (Err fault) t g) living rs none = refl
-
 -- what is left of the list by a step of these, where the turn is this
 abbrev After : MaintenanceStep → List Record → Shared → Turn → Type 0
 After step rs s t = OnListed (after_deed (plain.done_on step t) (ids s.book.snaps) rs) t
@@ -93,6 +83,16 @@ module _ (rs : List Record) (s : Shared) (h : HandState) (r : Running) (is : Lis
   refused_listed : (step : MaintenanceStep) (fault : Fault) → is_denied step ≡ true → After step rs s (Ends (Err fault) s h)
   refused_listed (Unpin snapshot seen) fault on = absurd (false≢true on)
   refused_listed other fault on = is
+
+  -- a step that is refused and unlocks leaves the list
+  denied_listed : (step : MaintenanceStep) → 0 < length (slots_on step) → is_denied step ≡ true
+      → Listed (after_deed (plain.Maintains step) (ids s.book.snaps) rs) s
+  denied_listed (Judge manner slot) some on = is
+  denied_listed Make some on = absurd (omega (arith, some))
+  denied_listed (Drop snapshot) some on = absurd (omega (arith, some))
+  denied_listed (Pin snapshot) some on = absurd (omega (arith, some))
+  denied_listed (Pick draining) some on = absurd (omega (arith, some))
+  denied_listed other some on = absurd (false≢true on)
 
   -- behind its work
   abbrev LeftBy : MaintenanceStep → Shared → Type 0
@@ -126,7 +126,7 @@ module _ (rs : List Record) (s : Shared) (h : HandState) (r : Running) (is : Lis
       (after_deed (plain.Maintains (Pick draining)) (ids s.book.snaps) rs))
       none (picked_listed s.book.snaps s.book.manifests s.book.deferred rs is)
 
-  snapshot_listed : (step : MaintenanceStep) (actor : ℕ) (granted : Bool) → h ≡ empty_hand → r.slots ≡ slots_on step
+  snapshot_listed : (step : MaintenanceStep) (actor : ℕ) (granted : Bool) → HandOn step h → r.slots ≡ slots_on step
       → After step rs s (maintenance_turn step actor granted s h r)
   snapshot_listed step actor granted empty slots = alone_walk (After step rs s) step actor granted s h r empty slots (record {
     waits = tt;
@@ -134,7 +134,9 @@ module _ (rs : List Record) (s : Shared) (h : HandState) (r : Running) (is : Lis
     goes = λ on clear. work_listed step actor clear;
     told = λ on clear. told_listed step _ (maintenance_work step actor s h).hand on (work_listed step actor clear);
     denied = λ snapshot showing on. subst (λ (x : MaintenanceStep). LeftBy x s) (sym on) is;
-    over = λ draining picked on. work_listed step actor (subst (λ (x : MaintenanceStep). IsClearOn x s) (sym on) tt);
+    unlocks = λ fault on some. denied_listed step some on;
+    leads_on = λ next leads. work_listed step actor (leads_clear step s leads);
+    over = λ e ends. work_listed step actor (ends_clear step actor s h e ends);
     none = λ draining on nothing.
         subst (λ (x : MaintenanceStep). After x rs s (Ends (Ok (answers.Count draining.released)) s h)) (sym on)
         (none_listed nothing draining);
@@ -142,10 +144,11 @@ module _ (rs : List Record) (s : Shared) (h : HandState) (r : Running) (is : Lis
 
 -- ---- every step
 
--- a commit has the book's epoch; a step of a call on snapshots has nothing in the hand, and locks what it releases
+-- a commit has the book's epoch; a step of a call on snapshots or of a cleaner has log pages in the hand at most, and locks
+-- what it releases or cleans
 pub record CanList (k : Next) (s : Shared) (h : HandState) (r : Running) : Type 0 where
   pub epoch : commits_at k ≡ true → r.epoch ≡ s.book.snaps.epoch
-  pub alone : (step : MaintenanceStep) → k ≡ Maintenance step → (h ≡ empty_hand) × (r.slots ≡ slots_on step)
+  pub alone : (step : MaintenanceStep) → k ≡ Maintenance step → HandOn step h × (r.slots ≡ slots_on step)
 
 -- the list after a step of this kind, where the turn is this
 abbrev pub list_after : Next → Shared → HandState → Running → Turn → List Record → List Record

@@ -4,7 +4,7 @@ use Rattle.std.specs.List.{AllByRecursion}
 use Rattle.std.proofs.lemmas.List.{take-append-drop, take-append-le}
 use Rattle.nv_alloc.specs.Block.{BlockValue, numbers_of}
 use Rattle.nv_alloc.specs.Numbers.{has}
-use Rattle.nv_calls.specs.Retiring.{erased, is_erased, settled as settled_part}
+use Rattle.nv_calls.specs.Retiring.{erased, is_erased}
 use Rattle.nv_cell.specs.Append.{appended, blocks_for, part_blocks}
 use Rattle.nv_cell.specs.Cell.{CellState, empty_cell, published}
 use Rattle.nv_entry.specs.Blocks.{item_blocks}
@@ -110,10 +110,6 @@ entries_stored (e ∷ entries) bs cell front none =
     (later_rest e.item (items_in entries) bs front ∙ none)))
 
 -- ---- a retire
-
-part_block : (keeper : Option ℕ) (n : ℕ) (cell : CellState) → (settled_part keeper n cell).block ≡ cell.block
-part_block None n cell = refl
-part_block (Some s) n cell = refl
 
 pub erased_block : (cell : CellState) → (erased cell).block ≡ cell.block
 erased_block cell = go (is_erased cell) where

@@ -20,33 +20,29 @@ use Rattle.nv_machine.specs.FitsNow.{bytes_in}
 use Rattle.nv_machine.specs.Frame.{IsFramed, Lent, lent}
 use Rattle.nv_machine.specs.Hands.{AreNumbers, HandAt, HandOf}
 use Rattle.nv_machine.specs.Kinds.{entries_for}
-use Rattle.nv_machine.specs.Locks.{AreSlots, HoldsIts, commits_at}
+use Rattle.nv_machine.specs.Locks.{HoldsIts, commits_at}
 use Rattle.nv_machine.specs.Order.{CommitsIn}
 use Rattle.nv_machine.specs.PlainRun.{Commits, deed_of}
 use Rattle.nv_machine.specs.Reached.{IsReached}
-use Rattle.nv_machine.specs.Recorded.{records_after}
 use Rattle.nv_machine.specs.Reads.{pages_needed, slot_at, slots_of, written_slots}
 use Rattle.nv_machine.specs.Sequence.{Beginning, Locks, beginning, begun, nothing_looked}
 use Rattle.nv_machine.specs.Settled.{node_by, settled, settled_nodes, settled_tail}
 use Rattle.nv_machine.specs.Starts.{IsStart}
-use Rattle.nv_machine.specs.Step.{after, step, turn, turned}
+use Rattle.nv_machine.specs.Step.{step, turn, turned}
 use Rattle.nv_machine.specs.World.{Actor, Ends, Event, Go, HandState, Moves, Next, Running, Shared, Turn, Waits, World, actor_at, cell_at, empty_hand, no_cell, owner_at}
 use Rattle.nv_machine.proofs.EndingsStay.{deed_is}
 use Rattle.nv_machine.proofs.CommitEffects.{IsRead, point_is_sound, take_none}
 use Rattle.nv_machine.proofs.FitsBytes.{all_read, grows_now, plan_now, point_fits}
 use Rattle.nv_machine.proofs.FitsCells.{append_wider, erased_block}
-use Rattle.nv_machine.proofs.OverEvents.{by_points, event_by, event_numbers, events_by, set_begun, set_one, turn_at, with_call}
-use Rattle.nv_machine.proofs.FiledLaw.{all_marked}
+use Rattle.nv_machine.proofs.OverEvents.{by_points, event_by, event_numbers, set_begun, set_one, turn_at, with_call}
 use Rattle.nv_machine.proofs.FiledRuns as filed
-use Rattle.nv_machine.proofs.FiledRuns.{all_listed}
 use Rattle.nv_machine.proofs.FiledTurns.{Listed}
 use Rattle.nv_machine.proofs.FiledWorlds.{AreMarked}
-use Rattle.nv_machine.proofs.FitsPooled.{HaveFreeNumbers, free_numbers}
+use Rattle.nv_machine.proofs.FitsPooled.{HaveFreeNumbers}
 use Rattle.nv_machine.proofs.FitsKinds.{own_turn, their_fits}
 use Rattle.nv_machine.proofs.FitsStages.{Drawn, FitsAt, FitsOf, IsLocked, IsStored, Passed, SameStored}
 use Rattle.nv_machine.proofs.FitsTurns.{OnFits, locking_fits}
 use Rattle.nv_machine.proofs.StepFrames.{framed}
-use Rattle.nv_machine.proofs.FromScratch.{all_numbers}
 use Rattle.nv_machine.proofs.UnsettledLogs.{CellsLeft, OnGrown}
 use Rattle.nv_machine.proofs.UnsettledTurns.{grown_turn, standing as grown_standing}
 use Rattle.nv_machine.proofs.StepWork.{work}
@@ -54,19 +50,14 @@ use Rattle.nv_machine.proofs.WorkKeeps.{AfterTurn, turn_keeps}
 use Rattle.nv_machine.proofs.LogsKeptRuns.{sound_stays, standing as kept_standing}
 use Rattle.nv_machine.proofs.LocksHeld.{Before, owner_is}
 use Rattle.nv_machine.proofs.LocksOverEvents.{before}
-use Rattle.nv_machine.proofs.PoolLaw.{all_pooled}
 use Rattle.nv_machine.proofs.PoolRuns.{ArePooled}
-use Rattle.nv_machine.proofs.Reached.{reached}
 use Rattle.nv_machine.proofs.Shapes.{Grows}
-use Rattle.nv_machine.proofs.CellChanges.{cells_after, removal, slots_stay}
+use Rattle.nv_machine.proofs.CellChanges.{cells_after, removal, slots_stay, clean_slot, is_cleaning}
 
 -- ---- blocks have one size
 
 abbrev pub AreSizes : ℕ → Shared → Type 0
 AreSizes block s = (ino : ℕ) → ino < length s.cells → (cell_at s ino).block ≡ block
-
-pub slots_in_cells : (k : Next) (a : ℕ) (s : Shared) (r : Running) → Before a s k r → AreSlots (length s.cells) r.slots
-slots_in_cells k a s r b = subst (λ (n : ℕ). AreSlots n r.slots) b.wide b.are
 
 work_sizes : (k : Next) (block a : ℕ) (s : Shared) (h : HandState) (r : Running) → Before a s k r → AreSizes block s
     → AreSizes block (work k block a s h r).shared
@@ -78,6 +69,7 @@ work_sizes k block a s h r b sizes ino lt =
       publishes = λ place is inside low there. sizes (slot_at (written_slots r) place) low;
       removes = λ is low left there.
           let x = removal k s h r in erased_block x.cell ∙ left.keeps.block ∙ sizes x.slot low;
+      cleans = λ is low there. (is_cleaning k s h is).block ∙ sizes (clean_slot k) low;
     }) ino (let n = slots_stay k block a s h r in omega (arith, lt, n))
 
 -- ---- what is known of a world
@@ -99,7 +91,12 @@ pub record IsKnown (g : GeometryNumbers) (w : World) : Type 0 where
   pub fit : AreFit w
 
 pub filed_known : (g : GeometryNumbers) (w : World) → IsKnown g w → filed.IsListable g w
-filed_known g w known = record { locks = known.reached.locks; order = known.reached.order; numbers = known.numbers }
+filed_known g w known = record {
+  locks = known.reached.locks;
+  order = known.reached.order;
+  numbers = known.numbers;
+  cleanable = known.reached.apart.cleanable;
+}
 
 -- ---- what others leave
 
@@ -270,7 +267,7 @@ module _ (g : GeometryNumbers) (w : World) (known : IsKnown g w) where
       (fits_now g w known actor granted r is there e))
       (λ e keeps. let k = known.reached in sound_stays w e k.locks k.order k.kept k.apart keeps known.fit.sound)
 
-  event_fits : (e : Event) → AreFit (step w e).world
+  pub event_fits : (e : Event) → AreFit (step w e).world
   event_fits e =
       let v = (step w e).world in
       let same = sym (event_numbers w e) in
@@ -281,9 +278,9 @@ module _ (g : GeometryNumbers) (w : World) (known : IsKnown g w) where
             ((event_each e).1 b);
       }
 
--- ---- every world
+-- ---- a start
 
-first_fit : (g : GeometryNumbers) (start : World) (records : List Record) → IsStart g start records → AreFit start
+pub first_fit : (g : GeometryNumbers) (start : World) (records : List Record) → IsStart g start records → AreFit start
 first_fit g start records is_start = record {
   sizes =
       subst (λ (n : GeometryNumbers). AreSizes n.block start.shared) (sym is_start.numbers)
@@ -291,28 +288,3 @@ first_fit g start records is_start = record {
   sound = is_start.sound;
   each = λ actor. subst (λ (x : Actor). FitsOf x.running start.numbers.block start.shared x.hand) (sym (is_start.idle_all actor)) tt;
 }
-
-known_with : (g : GeometryNumbers) (start : World) (records : List Record) → IsStart g start records → (events : List Event)
-    → AreFit (after start events) → IsKnown g (after start events)
-known_with g start records is_start events fit =
-    let pooled = all_pooled g start records events is_start in
-    record {
-      reached = reached g start records events is_start;
-      numbers = all_numbers g start records events is_start;
-      rs = records_after start events records;
-      listed = all_listed g start records events is_start;
-      marked = all_marked g start records events is_start;
-      pooled = pooled;
-      free = free_numbers g (after start events) pooled;
-      fit = fit;
-    }
-
-pub all_fit : (g : GeometryNumbers) (start : World) (records : List Record) → IsStart g start records → (events : List Event)
-    → AreFit (after start events)
-all_fit g start records is_start events =
-    events_by (λ (v : World). AreFit v → IsKnown g v) AreFit (λ v e known fit. event_fits g v (known fit) e) events start
-    (known_with g start records is_start) (first_fit g start records is_start)
-
-pub all_known : (g : GeometryNumbers) (start : World) (records : List Record) → IsStart g start records → (events : List Event)
-    → IsKnown g (after start events)
-all_known g start records is_start events = known_with g start records is_start events (all_fit g start records is_start events)

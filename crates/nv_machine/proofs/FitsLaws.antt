@@ -13,8 +13,9 @@ use Rattle.nv_machine.specs.Settled.{settled_nodes}
 use Rattle.nv_machine.specs.Starts.{IsStart}
 use Rattle.nv_machine.specs.Step.{after, step}
 use Rattle.nv_machine.specs.World.{Append, Close, Enter, Event, Go, HandState, Next, Open, Publish, Ready, Running, Shared, TakeBlocks, TakePages, World, actor_at}
+use Rattle.nv_machine.proofs.EveryWorld.{all_fit, all_known}
 use Rattle.nv_machine.proofs.CommitEffects.{point_effect}
-use Rattle.nv_machine.proofs.FitsEvents.{all_fit, all_known, fits_now, passes_now}
+use Rattle.nv_machine.proofs.FitsEvents.{fits_now, passes_now}
 use Rattle.nv_machine.proofs.FitsStages.{FitsAt, FitsOf, Passed}
 
 -- from its check to its commit point

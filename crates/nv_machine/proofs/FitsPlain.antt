@@ -14,10 +14,11 @@ use Rattle.nv_machine.specs.Settled.{settled_nodes}
 use Rattle.nv_machine.specs.Starts.{IsStart}
 use Rattle.nv_machine.specs.Step.{after, step}
 use Rattle.nv_machine.specs.World.{Event, Go, Make, Running, MaintenanceStep, World, actor_at}
+use Rattle.nv_machine.proofs.EveryWorld.{all_fit, all_known}
 use Rattle.nv_machine.proofs.CommitNumbers.{events_counted}
 use Rattle.nv_machine.proofs.CommitEffects.{point_effect}
 use Rattle.nv_machine.proofs.OverEvents.{by_points}
-use Rattle.nv_machine.proofs.FitsEvents.{IsKnown, all_fit, all_known, fits_now, number_now}
+use Rattle.nv_machine.proofs.FitsEvents.{IsKnown, fits_now, number_now}
 use Rattle.nv_machine.proofs.LogsKeptRuns.{nodes_stay}
 
 same_done : (d : Deed) (running : Option Running) (p : Plain) → keeps_nodes d ≡ true → (done d running p).nodes ≡ p.nodes

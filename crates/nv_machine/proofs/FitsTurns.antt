@@ -23,7 +23,7 @@ fits_quiet block = record {
   give = λ cpu s h r. tt;
   back = λ s h r. tt;
   look = λ s h r. tt;
-  steps = λ step s h r. tt;
+  steps = λ step plain s h r. tt;
 }
 
 module _ (block : ℕ) where

@@ -1,5 +1,4 @@
 -- Each free list is what one scan of all cells and hands leaves.
-use Rattle.nv_book.specs.declared.record.Record.{Record}
 use Rattle.std.proofs.Common.{◌≡◌, ◌≢◌, ℕ, zero, suc, ◌+◌, ◌-◌, ◌<◌, ◌≤◌, ◌==◌, ◌∙◌, Bool, true, false, List, [], ◌∷◌, Option, None, ap, arith, inl, inr, length, nat_lt, not, refl, subst, sym}
 use Rattle.std.specs.Prelude.{◌&&◌, ◌||◌, nat_le, slice_index_or}
 use Rattle.std.specs.List.{AllByRecursion, flat_map}
@@ -12,15 +11,10 @@ use Rattle.nv_alloc.proofs.Lists.{times-append, times-no, times-yes}
 use Rattle.nv_base.specs.Homes.{home_start}
 use Rattle.nv_base.specs.declared.geometry.GeometryNumbers.{GeometryNumbers}
 use Rattle.nv_base.proofs.HomeRanges.{cuts}
-use Rattle.nv_machine.specs.Hands.{AreLists, AreNumbers, ArePagesTold, HandOf}
-use Rattle.nv_machine.specs.Locks.{commits_by, held_by}
-use Rattle.nv_machine.specs.Numbers.{IdleHaveNothing, IsEachOnce, all_blocks, free_from_scratch, free_of, used_blocks}
-use Rattle.nv_machine.specs.Starts.{IsStart}
-use Rattle.nv_machine.specs.Step.{after}
-use Rattle.nv_machine.specs.World.{Event, Running, World, actor_at, cell_at, list_at, no_list}
-use Rattle.nv_machine.proofs.LocksOverEvents.{events_locks}
-use Rattle.nv_machine.proofs.BlockNumbersRuns.{events_numbers}
-use Rattle.nv_machine.proofs.StartParts.{first_locks, first_numbers}
+use Rattle.nv_machine.specs.Hands.{AreLists, AreNumbers, HandOf}
+use Rattle.nv_machine.specs.Locks.{AreLocks, commits_by, held_by}
+use Rattle.nv_machine.specs.Numbers.{IdleHaveNothing, all_blocks, free_from_scratch, free_of, used_blocks}
+use Rattle.nv_machine.specs.World.{Running, World, actor_at, list_at, no_list}
 
 -- ---- what stands in a list is counted
 
@@ -163,46 +157,22 @@ is_scan g w cpu n some all inside = elim (cases_lt n low) [
   order : home_start g.blocks g.cpus cpu ≤ home_start g.blocks g.cpus (cpu + 1)
   order = (cuts g.blocks g.cpus some).in_order cpu
 
--- ---- the laws
+-- ---- the laws, of each world
 
-pub all_numbers : (g : GeometryNumbers) (start : World) (records : List Record) (events : List Event) → IsStart g start records
-    → AreNumbers g (after start events)
-all_numbers g start records events is_start =
-    events_numbers g events start is_start.limits (first_locks g start records is_start) (first_numbers g start records is_start)
-
-pub each_once : (g : GeometryNumbers) (start : World) (records : List Record) (events : List Event) → IsStart g start records
-    → IsEachOnce g.blocks (all_blocks (after start events))
-each_once g start records events is_start = (all_numbers g start records events is_start).once
-
-pub sorted : (g : GeometryNumbers) (start : World) (records : List Record) (events : List Event) → IsStart g start records
-    → AreLists g (after start events).shared
-sorted g start records events is_start = (all_numbers g start records events is_start).lists
-
-pub scanned : (g : GeometryNumbers) (start : World) (records : List Record) (events : List Event) (cpu : ℕ)
-    → IsStart g start records → cpu < g.cpus
-    → free_of (list_at (after start events).shared cpu) ≡ free_from_scratch g (after start events) cpu
-scanned g start records events cpu is_start inside =
-    let w = after start events in
-    let all = all_numbers g start records events is_start in
+pub is_scanned : (g : GeometryNumbers) (w : World) (cpu : ℕ) → 0 < g.cpus → AreNumbers g w → cpu < g.cpus
+    → free_of (list_at w.shared cpu) ≡ free_from_scratch g w cpu
+is_scanned g w cpu some all inside =
     from_scratch (has (used_blocks w)) (home_start g.blocks g.cpus cpu)
     (home_start g.blocks g.cpus (cpu + 1) - home_start g.blocks g.cpus cpu)
-    (free_of (list_at w.shared cpu)) (all.lists.each cpu inside).free.rising
-    (λ n. is_scan g w cpu n (omega (arith, is_start.limits.some_cpus)) all inside)
+    (free_of (list_at w.shared cpu)) (all.lists.each cpu inside).free.rising (λ n. is_scan g w cpu n some all inside)
 
-pub idle_nothing : (g : GeometryNumbers) (start : World) (records : List Record) (events : List Event) → IsStart g start records
-    → IdleHaveNothing (after start events)
-idle_nothing g start records events is_start actor is =
-    let w = after start events in
-    let locks = events_locks events start (first_locks g start records is_start) in
-    let held = (locks.each actor) in
+pub has_nothing : (g : GeometryNumbers) (w : World) → AreLocks w → AreNumbers g w → IdleHaveNothing w
+has_nothing g w locks all actor is =
+    let held = locks.each actor in
     let own : HandOf g (actor_at w actor).hand None =
-    subst (λ (o : Option Running). HandOf g (actor_at w actor).hand o) is ((all_numbers g start records events is_start).hands actor) in
+    subst (λ (o : Option Running). HandOf g (actor_at w actor).hand o) is (all.hands actor) in
     record {
       hand = own;
       locks = λ ino. held.owners ino ∙ ap (λ (o : Option Running). has (held_by o) ino) is;
       commit_lock = held.holder ∙ ap commits_by is;
     }
-
-pub told : (g : GeometryNumbers) (start : World) (records : List Record) (events : List Event) (ino : ℕ) → IsStart g start records
-    → ArePagesTold g.block (cell_at (after start events).shared ino)
-told g start records events ino is_start = ((all_numbers g start records events is_start).cells ino).told

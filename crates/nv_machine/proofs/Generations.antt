@@ -19,23 +19,25 @@ use Rattle.nv_machine.specs.Reads.{is_written, pages_needed, slot_at, written_sl
 use Rattle.nv_machine.specs.Starts.{IsStart}
 use Rattle.nv_machine.specs.Step.{after, step}
 use Rattle.nv_machine.specs.World.{Append, Close, Enter, Event, HandState, Next, Open, Publish, Ready, Running, Shared, TakeBlocks, TakePages, World, actor_at, cell_at}
+use Rattle.nv_machine.proofs.EveryWorld.{all_known, all_pooled}
 use Rattle.nv_machine.proofs.NewWorld.{each_cell}
 use Rattle.nv_machine.proofs.FromScratch.{counted}
 use Rattle.nv_machine.proofs.StepWork.{work}
 use Rattle.nv_machine.proofs.OverEvents.{event_shared, events_by}
-use Rattle.nv_machine.proofs.FitsEvents.{IsKnown, all_known}
+use Rattle.nv_machine.proofs.FitsEvents.{IsKnown}
 use Rattle.nv_machine.proofs.WorkKeeps.{turn_keeps}
 use Rattle.nv_machine.proofs.Lists.{has_filter, self}
 use Rattle.nv_machine.proofs.PoolCells.{IsLike, appended_like, no_inode, keeps_like}
 use Rattle.nv_machine.proofs.PoolCommits.{begun_inode}
 use Rattle.nv_machine.proofs.PoolKnown.{HaveInodes}
-use Rattle.nv_machine.proofs.PoolLaw.{all_pooled}
 use Rattle.nv_machine.proofs.PoolRuns.{ArePooled, standing}
 use Rattle.nv_machine.proofs.PoolTally.{is_begun, loose, loose_by, tally}
 use Rattle.nv_machine.proofs.PoolTurns.{Standing}
 use Rattle.nv_machine.proofs.WrittenSlots.{written_there}
 use Rattle.nv_book.specs.declared.record.Record.{Record}
-use Rattle.nv_machine.proofs.CellChanges.{cells_after, removal}
+use Rattle.nv_machine.proofs.CellChanges.{cells_after, clean_cell, clean_slot, removal}
+use Rattle.nv_machine.proofs.Cleanable.{IsCleanable, cleanable}
+use Rattle.nv_machine.proofs.CleanedLogs.{clean_like}
 
 -- a cell that has an inode is not of the last generation
 abbrev pub IsEarly : CellState → Type 0
@@ -88,8 +90,8 @@ module _ (g : GeometryNumbers) (block a : ℕ) (s : Shared) (h : HandState) (r :
 
   -- ---- what a step leaves
 
-  work_early : (k : Next) → Standing g k a s h r → AreEarly (work k block a s h r).shared
-  work_early k st = cells_after (λ (ino : ℕ). IsEarly) block a s h r early k st.before (record {
+  work_early : (k : Next) → Standing g k a s h r → IsCleanable k block s h r → AreEarly (work k block a s h r).shared
+  work_early k st ready = cells_after (λ (ino : ℕ). IsEarly) block a s h r early k st.before (record {
     appends = λ place is inside low.
         let slot = slot_at written place in
         like_early (cell_at s slot) _ (appended_like (entries_for r slot) h.blocks (take (pages_needed s r.plan slot) h.pages)
@@ -101,6 +103,9 @@ module _ (g : GeometryNumbers) (block a : ℕ) (s : Shared) (h : HandState) (r :
         let x = removal k s h r in
         by_erased IsEarly x.cell (like_early (cell_at s x.slot) x.cell (keeps_like (cell_at s x.slot) x.cell left.keeps) (early x.slot))
         (λ there. absurd (false≢true there));
+    cleans = λ is low.
+        let slot = clean_slot k in
+        like_early (cell_at s slot) (clean_cell k s h) (clean_like k block a s h r is st.before st.grown ready) (early slot);
   })
 
 -- ---- events
@@ -110,7 +115,8 @@ event_early g w e known early = event_shared AreEarly w early e (λ actor grante
     let h = (actor_at w actor).hand in
     turn_keeps (λ (s : Shared) (h : HandState). AreEarly s) r.next w.numbers.block actor granted w.shared h r early
     (work_early g w.numbers.block actor w.shared h r early r.next
-    (standing g w actor r known.reached.locks known.numbers known.reached.grown known.pooled is)))
+    (standing g w actor r known.reached.locks known.numbers known.reached.grown known.pooled is)
+    (cleanable w actor r known.reached.apart.cleanable is)))
 
 module _ (g : GeometryNumbers) (w : World) (known : IsKnown g w) (early : AreEarly w.shared) (actor : ℕ) where
   -- the slots of a call that has passed its check
@@ -190,11 +196,3 @@ pub writes_early : (g : GeometryNumbers) (start : World) (records : List Record)
 writes_early g start records events actor place r is_start is e lt =
     let slot = slot_at (written_slots r) place in
     calls_early g start records events actor slot r is_start is e (has_filter (is_written r.plan) r.slots slot (written_there r place lt))
-
--- so at its enter
-pub enters_early : (g : GeometryNumbers) (start : World) (records : List Record) (events : List Event) (actor : ℕ) (r : Running)
-    → IsStart g start records
-    → (actor_at (after start events) actor).running ≡ Some r → r.next ≡ Enter → (place : ℕ) → place < length (written_slots r)
-    → (cell_at (after start events).shared (slot_at (written_slots r) place)).generation < NUMBER
-enters_early g start records events actor r is_start is next place lt =
-    writes_early g start records events actor place r is_start is (ap is_checked next) lt

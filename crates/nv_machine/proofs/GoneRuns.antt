@@ -7,22 +7,25 @@ use Rattle.nv_base.specs.declared.geometry.GeometryNumbers.{GeometryNumbers}
 use Rattle.nv_calls.specs.Retiring.{is_erased}
 use Rattle.nv_cell.specs.Cell.{CellState}
 use Rattle.nv_machine.specs.Format.{formatted}
+use Rattle.nv_machine.specs.Grown.{HasGrownBy}
 use Rattle.nv_machine.specs.Hands.{AreNumbers}
 use Rattle.nv_machine.specs.Held.{killed_slots}
 use Rattle.nv_machine.specs.Locks.{AreLocks, commits_at, commits_by, is_owner}
+use Rattle.nv_machine.specs.Reached.{IsReached}
 use Rattle.nv_machine.specs.Reads.{written_slots}
 use Rattle.nv_machine.specs.Starts.{IsStart}
 use Rattle.nv_machine.specs.Step.{after, kind_turn, step, turned}
 use Rattle.nv_machine.specs.World.{Actor, Append, Close, Ends, Event, HandState, Leave, Moves, Next, Open, Publish, Retire, Running, Shared, Turn, Waits, World, actor_at, cell_at, idle}
+use Rattle.nv_machine.proofs.EveryWorld.{all_known, reached}
 use Rattle.nv_machine.proofs.NewWorld.{each_cell}
 use Rattle.nv_machine.proofs.FiledWorlds.{others_out}
 use Rattle.nv_machine.proofs.OverEvents.{begun_at, event_by, events_by}
-use Rattle.nv_machine.proofs.FitsEvents.{IsKnown, all_known}
+use Rattle.nv_machine.proofs.FitsEvents.{IsKnown}
+use Rattle.nv_machine.proofs.Cleanable.{cleanable}
 use Rattle.nv_machine.proofs.GoneTurns.{IsGoneAt, OnGone, OnlyGone, WasGone, gone_kept, turn_was}
 use Rattle.nv_machine.proofs.WorkKeeps.{AfterTurn}
 use Rattle.nv_machine.proofs.LocksHeld.{lent_holder}
 use Rattle.nv_machine.proofs.LocksOverEvents.{before}
-use Rattle.nv_machine.proofs.Reached.{reached}
 
 -- ---- what holds of each world
 
@@ -103,9 +106,12 @@ turned_other (Ends result s h) a w r is out was on = λ ino gone.
     others_retiring w a (record { hand = h; running = None }) s ino (ap commits_by is ∙ out) (was ino (on ino gone))
 
 running_retiring : (g : GeometryNumbers) (w : World) (a : ℕ) (granted : Bool) (r : Running) → a < length w.actors
-    → (actor_at w a).running ≡ Some r → AreLocks w → AreNumbers g w → AreRetiring w → (b : Bool) → commits_at r.next ≡ b
+    → (actor_at w a).running ≡ Some r → IsReached w → AreNumbers g w → AreRetiring w → (b : Bool) → commits_at r.next ≡ b
     → AreRetiring (turned (kind_turn r.next w.numbers.block a granted w.shared (actor_at w a).hand r) a w).world
-running_retiring g w a granted r there is locks all was b c = go b c where
+running_retiring g w a granted r there is reached all was b c = go b c where
+  locks : AreLocks w
+  locks = reached.locks
+
   h : HandState
   h = (actor_at w a).hand
 
@@ -119,13 +125,15 @@ running_retiring g w a granted r there is locks all was b c = go b c where
       (gone_kept r.next w.numbers.block a granted w.shared h r c (before w a r locks is) (λ ino. (all.cells ino).within)
       (only_own w a r locks held is was))
   go false c =
-      turned_other t a w r is c was (turn_was w.numbers.block a w.shared h r r.next granted c (before w a r locks is))
+      turned_other t a w r is c was (turn_was w.numbers.block a w.shared h r r.next granted c (before w a r locks is)
+      (subst (λ (o : Option Running). HasGrownBy o w.shared a) is (reached.grown.each a))
+      (cleanable w a r reached.apart.cleanable is))
 
-event_retiring : (g : GeometryNumbers) (w : World) (e : Event) → AreLocks w → AreNumbers g w → AreRetiring w
+event_retiring : (g : GeometryNumbers) (w : World) (e : Event) → IsReached w → AreNumbers g w → AreRetiring w
     → AreRetiring (step w e).world
-event_retiring g w e locks all was = event_by AreRetiring w was e
+event_retiring g w e reached all was = event_by AreRetiring w was e
     (λ a c there is ino gone. others_retiring w a (begun_at w a c) w.shared ino (ap commits_by is) (was ino gone))
-    (λ a granted r there is. running_retiring g w a granted r there is locks all was (commits_at r.next) refl)
+    (λ a granted r there is. running_retiring g w a granted r there is reached all was (commits_at r.next) refl)
 
 -- ---- every world
 
@@ -135,7 +143,7 @@ new_erased g = each_cell g (λ (c : CellState). is_erased c ≡ false) refl (λ 
 pub all_retiring : (g : GeometryNumbers) (start : World) (records : List Record) (events : List Event) → IsStart g start records
     → AreRetiring (after start events)
 all_retiring g start records events is_start =
-    events_by (IsKnown g) AreRetiring (λ v e known was. event_retiring g v e known.reached.locks known.numbers was) events start
+    events_by (IsKnown g) AreRetiring (λ v e known was. event_retiring g v e known.reached known.numbers was) events start
     (all_known g start records is_start) (λ ino gone. absurd (true≢false (sym gone ∙ is_start.erased ino)))
 
 -- with the commit lock free none is

@@ -7,6 +7,7 @@ use Rattle.nv_alloc.specs.Numbers.{has}
 use Rattle.nv_calls.specs.Retiring.{erased, is_erased}
 use Rattle.nv_cell.specs.Cell.{CellState, published}
 use Rattle.nv_machine.specs.Erasing.{emptied}
+use Rattle.nv_machine.specs.Grown.{HasGrown}
 use Rattle.nv_machine.specs.Held.{killed_slots}
 use Rattle.nv_machine.specs.Kinds.{entries_for, first_killed, retired_book, retired_cell, with_entries, with_pages}
 use Rattle.nv_machine.specs.Locks.{commits_at}
@@ -15,6 +16,8 @@ use Rattle.nv_machine.specs.Step.{kind_turn}
 use Rattle.nv_machine.specs.World.{Append, Close, Ends, HandState, Leave, Moves, Next, Open, Publish, Retire, Running, Shared, Turn, Waits, cell_at, with_book, with_cell}
 use Rattle.nv_machine.proofs.FiledSteps.{appended_gone}
 use Rattle.nv_machine.proofs.CellChanges.{cells_after, removal}
+use Rattle.nv_machine.proofs.Cleanable.{IsCleanable}
+use Rattle.nv_machine.proofs.CleanedLogs.{clean_erased}
 use Rattle.nv_machine.proofs.StepWork.{work}
 use Rattle.nv_machine.proofs.WorkKeeps.{AfterTurn, turn_keeps}
 use Rattle.nv_machine.proofs.Lists.{has_drop, has_take, or_left, or_right, self}
@@ -133,16 +136,20 @@ abbrev pub WasGone : Shared → Shared → Type 0
 WasGone s t = (ino : ℕ) → IsGoneAt t ino → IsGoneAt s ino
 
 module _ (block a : ℕ) (s : Shared) (h : HandState) (r : Running) where
-  work_was : (k : Next) → commits_at k ≡ false → Before a s k r → WasGone s (work k block a s h r).shared
-  work_was k c b =
+  work_was : (k : Next) → commits_at k ≡ false → Before a s k r → HasGrown k s a r → IsCleanable k block s h r
+      → WasGone s (work k block a s h r).shared
+  work_was k c b grown ready =
       cells_after (λ (ino : ℕ) (cell : CellState). is_erased cell ≡ true → IsGoneAt s ino) block a s h r (λ ino gone. gone) k b
       (record {
         appends = λ place is inside low. absurd (true≢false (sym (ap commits_at is) ∙ c));
         publishes = λ place is inside low. absurd (true≢false (sym (ap commits_at is) ∙ c));
         removes = λ is low left gone. absurd (false≢true (sym (erased_not_gone (removal k s h r).cell) ∙ gone));
+        cleans = λ is low gone. clean_erased k block a s h r is b grown ready gone;
       })
 
-  pub turn_was : (k : Next) (granted : Bool) → commits_at k ≡ false → Before a s k r
+  pub turn_was : (k : Next) (granted : Bool) → commits_at k ≡ false → Before a s k r → HasGrown k s a r
+      → IsCleanable k block s h r
       → AfterTurn (λ (t : Shared) (g : HandState). WasGone s t) (kind_turn k block a granted s h r)
-  turn_was k granted c b =
-      turn_keeps (λ (t : Shared) (g : HandState). WasGone s t) k block a granted s h r (λ ino gone. gone) (work_was k c b)
+  turn_was k granted c b grown ready =
+      turn_keeps (λ (t : Shared) (g : HandState). WasGone s t) k block a granted s h r (λ ino gone. gone)
+      (work_was k c b grown ready)

@@ -3,7 +3,7 @@ use Rattle.std.proofs.Common.{Bool, List, None, Option, Some, [], false, if◌th
 use Rattle.std.specs.Prelude.{Err, Ok, is_some}
 use Rattle.nv_base.specs.Names.{is_lawful_name}
 use Rattle.nv_base.specs.declared.fault.Fault.{Fault}
-use Rattle.nv_base.specs.declared.fault.Fault.TheVariants.{BadName, CommitLimit, Contended, EpochLimit, Exists, FileTooBig, MoveDirectory, NoInode, NoSnapshot, NoSpace, NotEmpty, OutOfMemory, TooManySnapshots, WriteTooBig}
+use Rattle.nv_base.specs.declared.fault.Fault.TheVariants.{BadName, CommitLimit, Contended, EpochLimit, Exists, FileTooBig, MoveDirectory, NoInode, NoSnapshot, NoSpace, NotEmpty, OutOfMemory, TooManySnapshots, WriteTooBig, Stale}
 use Rattle.nv_base.specs.declared.limits.TheConstants.{FILE_PAGES, NUMBER}
 use Rattle.nv_base.specs.declared.node.Kind.{Kind}
 use Rattle.nv_base.specs.declared.node.Kind.TheVariants.{Dir, File}
@@ -23,7 +23,7 @@ use Rattle.nv_machine.specs.Causes.{EndsFor, IsCause, IsDenied, IsShort, MayBeOv
 use Rattle.nv_machine.specs.Memory.{IsOther}
 use Rattle.nv_machine.specs.Reads.{copies}
 use Rattle.nv_machine.specs.Step.{kind_turn}
-use Rattle.nv_machine.specs.World.{Answers, Check, Drop, Ending, Ends, Enter, HandState, Look, Make, Moves, Next, Pick, Pin, Ready, Refuses, Running, Shared, Show, Maintenance, TakeBlocks, TakePages, Turn, Visit, Waits}
+use Rattle.nv_machine.specs.World.{Answers, Check, Drop, Ending, Ends, Enter, HandState, Look, Make, Moves, Next, Pick, Pin, Ready, Refuses, Running, Shared, Show, Maintenance, TakeBlocks, TakePages, Turn, Visit, Waits, Fresh, Judge}
 use Rattle.nv_machine.proofs.RefusalCauses.{caused}
 use Rattle.nv_machine.specs.Maintenance.{drop_tests, make_tests}
 use Rattle.nv_epoch.specs.SnapList.{Snapshots as Living, pins_of}
@@ -154,7 +154,7 @@ is_other fault own is e = else_other fault (subst IsElse (sym e) is)
 granted_other : (fault : Fault) → IsDenied true fault → IsOther fault
 granted_other fault lack = let none = lack.1 in cc
 
-short_other : (s : Shared) (cpu asked : ℕ) (r : Running) (fault : Fault) → IsShort s cpu asked r fault → IsOther fault
+short_other : (s : Shared) (cpu asked wanted : ℕ) (fault : Fault) → IsShort s cpu asked wanted fault → IsOther fault
 short_other s cpu asked r fault short = is_other fault NoSpace tt short.is
 
 make_else : (snaps : Living) → AreElse (make_tests snaps)
@@ -178,8 +178,8 @@ cause_other Check block actor s h r fault (inl told) =
 cause_other Check block actor s h r fault (inr (inl none)) = is_other fault NoInode tt none.0.0
 cause_other Check block actor s h r fault (inr (inr (inl lack))) = granted_other fault lack.0
 cause_other Check block actor s h r fault (inr (inr (inr last))) = is_other fault Contended tt last.0
-cause_other (TakeBlocks asked) block actor s h r fault short = short_other s _ asked r fault short
-cause_other (TakePages asked) block actor s h r fault short = short_other s _ asked r fault short
+cause_other (TakeBlocks asked) block actor s h r fault short = short_other s _ asked r.wanted fault short
+cause_other (TakePages asked) block actor s h r fault short = short_other s _ asked r.wanted fault short
 cause_other Ready block actor s h r fault lack = granted_other fault lack
 cause_other Enter block actor s h r fault (inl limit) = is_other fault CommitLimit tt limit.0
 cause_other Enter block actor s h r fault (inr lack) = granted_other fault lack
@@ -193,6 +193,9 @@ cause_other (Maintenance (Drop snapshot)) block actor s h r fault told =
 cause_other (Maintenance (Pin snapshot)) block actor s h r fault told = is_other fault NoSnapshot tt told.0
 cause_other (Maintenance (Show snapshot showing)) block actor s h r fault lack = granted_other fault lack
 cause_other (Maintenance (Pick draining)) block actor s h r fault lack = granted_other fault lack.0
+cause_other (Maintenance (Judge manner slot)) block actor s h r fault (inl none) = is_other fault Stale tt none.0
+cause_other (Maintenance (Judge manner slot)) block actor s h r fault (inr lack) = granted_other fault lack.0
+cause_other (Maintenance (Fresh ino asked wanted)) block actor s h r fault short = short_other s _ asked wanted fault short
 cause_other other block actor s h r fault none = absurd none
 
 module _ (P R : Fault → Type 0) (Q : Type 0) (more : (fault : Fault) → P fault → R fault) where

@@ -25,7 +25,9 @@ use Rattle.nv_machine.proofs.UnsettledTurns.{point_shared}
 use Rattle.nv_machine.proofs.Journals.{closed_tail, open_same}
 use Rattle.nv_machine.proofs.StepWork.{work}
 use Rattle.nv_machine.proofs.WorkKeeps.{turn_keeps}
-use Rattle.nv_machine.proofs.CellChanges.{adds, cells_after, journals_stay, no_more, notes, removal}
+use Rattle.nv_machine.proofs.CellChanges.{adds, cells_after, clean_cell, clean_slot, cleans_alone, is_clean, journals_stay, lent_clean, lent_inside_own, no_more, notes, removal}
+use Rattle.nv_machine.proofs.CleanedCells.{cleaned_some}
+use Rattle.nv_machine.proofs.CleanedSlots.{cleans_own, cleans_published}
 use Rattle.nv_machine.proofs.LogsKeptRuns.{standing}
 use Rattle.nv_machine.proofs.LogsKeptTurns.{Standing}
 use Rattle.nv_machine.proofs.WrittenSlots.{written_there}
@@ -113,6 +115,23 @@ module _ (block a : ℕ) (s : Shared) (h : HandState) (r : Running) where
       ⊎ ((c.generation ≡ (cell_at s ino).generation)
       × (0 < length (settled s ino) → 0 < length (take (settled_tail s.book.journals ino c.chain.tail) c.chain.entries)))
 
+  -- a cleaning leaves a log an entry that has one
+  clean_lives : (k : Next) → Standing k block a s h r → is_clean k ≡ true → LivesBy (clean_slot k) (clean_cell k s h)
+  clean_lives k st is =
+      let slot = clean_slot k in
+      let old = cell_at s slot in
+      let new = clean_cell k s h in
+      let here = lent_inside_own k a s r st.before slot (lent_clean k (length s.lists) a r is) in
+      let last = st.published slot here.1 (ap (λ (l : List ℕ). has l slot) (cleans_published k (written_slots r) is)) in
+      let cleans = cleans_own k block s h r is here.0 last st.ready in
+      let tail = st.tails slot here.1 (st.before.mine.holder ∙ (cleans_alone k is).0) in
+      inr (
+        cleans.generation,
+        λ some. subst (λ (n : ℕ). 0 < length (take n new.chain.entries)) (sym (tail new.chain.tail))
+            (cleaned_some _ _ old new cleans
+            (subst (λ (n : ℕ). 0 < length (take n old.chain.entries)) (tail old.chain.tail) some)),
+      )
+
   removal_lives : (k : Next) → Standing k block a s h r → adds k ≡ false → notes k ≡ false → LivesOn s (work k block a s h r).shared
   removal_lives k st plain quiet ino =
       let t = (work k block a s h r).shared in
@@ -131,7 +150,7 @@ module _ (block a : ℕ) (s : Shared) (h : HandState) (r : Running) where
         λ some. subst (λ (c : ChainState). 0 < length (take (settled_tail s.book.journals x.slot c.tail) c.entries))
             (sym left.keeps.chain) some,
       ))
-      (inl (omega (arith, same))))) ino)
+      (inl (omega (arith, same)))) (λ is low. clean_lives k st is)) ino)
 
   many_published : (b : Bool) → keeps_nodes (if b then Nothing else Commits) ≡ true → b ≡ true
   many_published true e = refl

@@ -1,8 +1,9 @@
 -- What the hand of an actor has along a commit, and after every kind of step.
-use Rattle.nv_machine.proofs.CellChanges.{hand_freed, killed_on, on_step, removal_on}
+use Rattle.nv_reader.specs.Walk as walk
+use Rattle.nv_machine.proofs.CellChanges.{hand_freed, killed_on, on_step, removal_on, is_clean_on}
 use Rattle.std.proofs.Common.{Bool, List, None, Option, Some, [], add-one, ap, arith, drop, drop-cons, false, if◌then◌else◌, length, length-append, nat_lt, refl, subst, suc, sym, take, true, zero, ℕ, ◌++◌, ◌+◌, ◌-◌, ◌<◌, ◌^◌, ◌∙◌, ◌∷◌, ◌≡◌, ◌≤◌}
 use Rattle.std.specs.List.{flat_map}
-use Rattle.std.proofs.lemmas.Bool.{false≢true, ltb-false}
+use Rattle.std.proofs.lemmas.Bool.{false≢true, ltb-false, true≢false}
 use Rattle.std.proofs.lemmas.List.{drop-drop}
 use Rattle.nv_alloc.specs.Block.{AreSized, BlockValue, numbers_of}
 use Rattle.nv_alloc.specs.Numbers.{times}
@@ -14,13 +15,13 @@ use Rattle.nv_cell.specs.Cell.{CellState}
 use Rattle.nv_entry.specs.Blocks.{item_blocks}
 use Rattle.nv_entry.specs.declared.item.Entry.{Entry}
 use Rattle.nv_entry.specs.declared.item.Item.{Item}
-use Rattle.nv_machine.specs.Hands.{AreGiven, FitsFile, HandAt, HandOf, HasPlanned, is_going, planned_blocks}
+use Rattle.nv_machine.specs.Hands.{AreGiven, FitsFile, HandAt, HandOf, HasPlanned, is_going, planned_blocks, HandOn, HasPagesAlone}
 use Rattle.nv_machine.specs.Kinds.{asked_list, blocks_in, blocks_left, entries_for, first_killed, given, retired_cell, with_erased, with_freed, with_given}
 use Rattle.nv_machine.specs.Reads.{slot_at, written_slots}
 use Rattle.nv_machine.specs.Sequence.{appending, closing, opening, publishing, retiring}
-use Rattle.nv_machine.specs.Maintenance.{maintenance_turn}
+use Rattle.nv_machine.specs.Maintenance.{maintenance_turn, show_or_unpin, first_showing, copies_at, seen_on, visited}
 use Rattle.nv_machine.specs.Step.{kind_turn}
-use Rattle.nv_machine.specs.World.{Answers, Append, Back, Check, Close, Drop, Ending, Enter, Give, HandState, Leave, Lock, LockPicked, Look, Make, Next, Number, Open, Pick, Pin, Publish, Ready, Retire, Running, Shared, Show, MaintenanceStep, Maintenance, TakeBlocks, TakePages, Unlock, Unpin, Visit, empty_hand, go_to, list_at}
+use Rattle.nv_machine.specs.World.{Answers, Append, Back, Check, Close, Drop, Ending, Enter, Give, HandState, Leave, Lock, LockPicked, Look, Make, Next, Number, Open, Pick, Pin, Publish, Ready, Retire, Running, Shared, Show, MaintenanceStep, Maintenance, TakeBlocks, TakePages, Unlock, Unpin, Visit, empty_hand, go_to, list_at, LockCleaned, Fresh, Unlink, Compact, Showing, Draining, Judge}
 use Rattle.nv_machine.proofs.BlockCounts.{given_all}
 use Rattle.nv_machine.proofs.StepWork.{back_work, work, maintenance_work}
 use Rattle.nv_machine.proofs.HandsAfterSteps.{GoesHome, HandGoes, HandTold, OnHand, denied_hand, ends_hand, is_empty, lasts_hand, locking_hand, looking_hand, number_hand, overs_hand, rests_hand}
@@ -31,7 +32,10 @@ use Rattle.nv_machine.proofs.PartPlaces.{entry_blocks}
 use Rattle.nv_machine.proofs.LoopSteps.{by_test, either}
 use Rattle.nv_machine.proofs.StepWays.{is_overtaken, noted, take_sum}
 use Rattle.nv_machine.proofs.StepWalk.{WaysOf, counted, walk_of}
-use Rattle.nv_machine.proofs.MaintenanceWalk.{goes_next, next_on, slots_next, maintenance_walk, tells}
+use Rattle.nv_machine.proofs.MaintenanceWalk.{goes_next, next_on, slots_next, maintenance_walk, tells, ends_apart, picked_next, step_walk_by, LeadsTo}
+use Rattle.nv_machine.proofs.MaintenanceAlone.{denied_empty}
+use Rattle.nv_book.specs.declared.record.Record.{Record}
+use Rattle.nv_machine.specs.Lenders.{takes_fresh}
 
 -- ---- along a commit
 
@@ -170,38 +174,107 @@ CanGive g other s h = Unit {0}
 
 -- ---- calls on snapshots
 
-snapshot_hand : (g : GeometryNumbers) (step : MaintenanceStep) (a : ℕ) (granted : Bool) (s : Shared) (h : HandState) (r : Running)
-    → AllGoHome g (Maintenance step) s h r g.block a → h ≡ empty_hand → (is_going (Maintenance step) ≡ true → r.ending ≡ Answers)
-    → OnHand g (maintenance_turn step a granted s h r)
-snapshot_hand g step a granted s h r goes empty going = maintenance_walk (HandGoes g) HandTold a s h r step granted (record {
-  stops = λ fault cause. denied_hand g s h goes.0 (ap (λ (x : HandState). x.killed) empty);
-  goes = λ on clear. moves step on going;
-  told = λ on clear. told_empty step on;
-  denied = λ snapshot showing on. (empty, λ e. absurd (false≢true e));
-  over = λ draining picked on. ends_hand g _ _ goes.1 (none_killed step) (λ over. absurd (false≢true (ap is_overtaken over)));
-  none = λ draining on nothing. empty;
+module _ (h : HandState) (empty : h ≡ empty_hand) where
+  showing_empty : (left : ℕ) (visits : List walk.Visit) (snapshot : ℕ) (showing : Showing)
+      → HandOn (show_or_unpin left visits snapshot showing) h
+  showing_empty zero visits snapshot showing = empty
+  showing_empty (suc left) [] snapshot showing = empty
+  showing_empty (suc left) (visit ∷ visits) snapshot showing = empty
+
+  picked_empty : (deferred : List Record) (draining : Draining) → HandOn (picked_next deferred draining) h
+  picked_empty [] draining = empty
+  picked_empty (picked ∷ deferred) draining = empty
+
+  -- an empty hand has no more than log pages
+  pages_empty : HasPagesAlone h
+  pages_empty = empty ∙ sym (ap (λ (x : HandState). record empty_hand { pages = x.pages }) empty)
+
+-- of such a step no part is killed, and a cleaning kills none
+pub none_in : (step : MaintenanceStep) (h : HandState) → HandOn step h → h.killed ≡ []
+none_in (Fresh ino asked wanted) h at = ap (λ (x : HandState). x.killed) at
+none_in (Compact ino) h at = ap (λ (x : HandState). x.killed) at
+none_in Make h at = ap (λ (x : HandState). x.killed) at
+none_in other h at = ap (λ (x : HandState). x.killed) at
+
+clean_killed : (step : MaintenanceStep) (a : ℕ) (s : Shared) (h : HandState) → is_clean_on step ≡ true
+    → (maintenance_work step a s h).hand.killed ≡ h.killed
+clean_killed (Unlink ino) a s h is = refl
+clean_killed (Compact ino) a s h is = refl
+clean_killed other a s h is = absurd (false≢true is)
+
+-- before a step that goes on with a taking or a clean step
+fresh_alone : (ino asked wanted a : ℕ) (s : Shared) (h : HandState) → HasPagesAlone h
+    → HasPagesAlone (maintenance_work (Fresh ino asked wanted) a s h).hand
+fresh_alone ino asked wanted a s h alone =
+    ap (λ (x : HandState). record x { pages = h.pages ++ take wanted (list_at s (asked_list (length s.lists) a asked)).blocks }) alone
+
+-- every step but a taking
+other_hand : (g : GeometryNumbers) (step : MaintenanceStep) (a : ℕ) (granted : Bool) (s : Shared) (h : HandState) (r : Running)
+    → takes_fresh step ≡ false → AllGoHome g (Maintenance step) s h r g.block a → HandOn step h
+    → (is_going (Maintenance step) ≡ true → r.ending ≡ Answers) → OnHand g (maintenance_turn step a granted s h r)
+other_hand g step a granted s h r apart goes hand going = maintenance_walk (HandGoes g) HandTold a s h r step granted (record {
+  stops = λ fault cause. denied_hand g s h goes.0 (ap (λ (x : HandState). x.killed) (denied_empty step h cause.0 hand));
+  goes = λ on clear. moves step on hand going;
+  told = λ on clear. told_empty step on hand;
+  denied = λ snapshot showing on. (subst (λ (x : MaintenanceStep). HandOn x h) on.0 hand, λ e. absurd (false≢true e));
+  leads_on = λ next leads. (leads_hand step next apart leads hand, λ e. going (leads_going step leads));
+  over = λ e ends. ends_hand g _ _ goes.1 (none_killed step) (λ over. absurd (ends_apart step a s h e ends over));
+  none = λ draining on nothing. subst (λ (x : MaintenanceStep). HandOn x h) on hand;
 }) where
-  moves : (k : MaintenanceStep) → goes_next k ≡ true → (is_going (Maintenance k) ≡ true → r.ending ≡ Answers)
+  moves : (k : MaintenanceStep) → goes_next k ≡ true → HandOn k h → (is_going (Maintenance k) ≡ true → r.ending ≡ Answers)
       → HandGoes g (maintenance_work k a s h).shared (maintenance_work k a s h).hand
       (record r { slots = slots_next k s r; next = Maintenance (next_on k s) })
-  moves (Pin snapshot) on going = (empty, λ e. going refl)
-  moves (Show snapshot showing) on going = (empty, λ e. going refl)
-  moves (Pick draining) on going = (empty, λ e. going refl)
-  moves (LockPicked draining picked) on going = (empty, λ e. going refl)
-  moves other on going = absurd (false≢true on)
+  moves (Pin snapshot) on empty going =
+      (showing_empty h empty (first_showing s).left (first_showing s).visits snapshot (first_showing s), λ e. going refl)
+  moves (Show snapshot showing) on empty going =
+      let seen = seen_on (copies_at s snapshot (visited showing.visits)) showing in
+      (showing_empty h empty seen.left seen.visits snapshot seen, λ e. going refl)
+  moves (Pick draining) on empty going = (picked_empty h empty s.book.deferred draining, λ e. going refl)
+  moves (LockPicked draining picked) on empty going = (empty, λ e. going refl)
+  moves (LockCleaned manner ino) on empty going = (empty, λ e. going refl)
+  moves other on empty going = absurd (false≢true on)
 
-  told_empty : (k : MaintenanceStep) → tells k ≡ true → (maintenance_work k a s h).hand ≡ empty_hand
-  told_empty Make on = empty
-  told_empty (Drop snapshot) on = empty
-  told_empty (Unpin snapshot seen) on = empty
-  told_empty other on = absurd (false≢true on)
+  -- a judge leads to a clean step or to its taking
+  leads_hand : (k next : MaintenanceStep) → takes_fresh k ≡ false → LeadsTo k next → HandOn k h
+      → HandOn next (maintenance_work k a s h).hand
+  leads_hand (Judge manner slot) (Fresh ino asked wanted) apart leads empty = pages_empty h empty
+  leads_hand (Judge manner slot) (Unlink ino) apart leads empty = empty
+  leads_hand (Judge manner slot) (Compact ino) apart leads empty = pages_empty h empty
+  leads_hand (Judge manner slot) other apart leads empty = absurd (false≢true leads.to)
+  leads_hand (Fresh ino asked wanted) next apart leads empty = absurd (true≢false apart)
+  leads_hand other next apart leads empty = absurd (false≢true leads.from)
+
+  leads_going : {next : MaintenanceStep} (k : MaintenanceStep) → LeadsTo k next → is_going (Maintenance k) ≡ true
+  leads_going (Judge manner slot) leads = refl
+  leads_going (Fresh ino asked wanted) leads = refl
+  leads_going other leads = absurd (false≢true leads.from)
+
+  told_empty : (k : MaintenanceStep) → tells k ≡ true → HandOn k h → (maintenance_work k a s h).hand ≡ empty_hand
+  told_empty Make on empty = empty
+  told_empty (Drop snapshot) on empty = empty
+  told_empty (Unpin snapshot seen) on empty = empty
+  told_empty other on empty = absurd (false≢true on)
 
   none_killed : (k : MaintenanceStep) → (maintenance_work k a s h).hand.killed ≡ []
   none_killed k =
-      let none : h.killed ≡ [] = ap (λ (x : HandState). x.killed) empty in
+      let none = none_in step h hand in
       let x = removal_on k s h in
       on_step (λ (t : Shared) (g : HandState). g.killed ≡ []) k a s h
-      (λ is. erased_killed x.slot x.cell (hand_freed x h) ∙ killed_on k s h ∙ none) (λ book owners. none)
+      (λ is. erased_killed x.slot x.cell (hand_freed x h) ∙ killed_on k s h ∙ none) (λ ino asked wanted is. none)
+      (λ is. clean_killed k a s h is ∙ none) (λ book owners. none)
+
+snapshot_hand : (g : GeometryNumbers) (step : MaintenanceStep) (a : ℕ) (granted : Bool) (s : Shared) (h : HandState) (r : Running)
+    → AllGoHome g (Maintenance step) s h r g.block a → HandOn step h → (is_going (Maintenance step) ≡ true → r.ending ≡ Answers)
+    → OnHand g (maintenance_turn step a granted s h r)
+snapshot_hand g (Fresh ino asked wanted) a granted s h r goes hand going =
+    let left = fresh_alone ino asked wanted a s h hand in
+    step_walk_by (Unit {0}) (HandGoes g) HandTold a s h r (Fresh ino asked wanted) granted (λ blocked. tt) (record {
+      ready = λ q. (left, λ e. going refl);
+      more = λ n q m. (left, λ e. going refl);
+      short = λ n q m. ends_hand g _ _ goes.1 (ap (λ (x : HandState). x.killed) left)
+          (λ over. absurd (false≢true (ap is_overtaken over)));
+    })
+snapshot_hand g other a granted s h r goes hand going = other_hand g other a granted s h r refl goes hand going
 
 -- ---- every kind
 

@@ -1,8 +1,8 @@
 -- What the hand of an actor has from the check to the enter.
-use Rattle.std.proofs.Common.{Bool, List, None, Option, Some, [], ap, arith, false, length, length-append, refl, subst, sym, take, true, ℕ, ◌++◌, ◌+◌, ◌<◌, ◌^◌, ◌∙◌, ◌∷◌, ◌≡◌}
-use Rattle.std.specs.Prelude.{Err, Ok, is_none}
+use Rattle.std.proofs.Common.{Bool, List, None, Some, [], ap, arith, false, length, length-append, refl, subst, sym, take, true, ℕ, ◌++◌, ◌+◌, ◌<◌, ◌^◌, ◌∙◌, ◌∷◌, ◌≡◌}
+use Rattle.std.specs.Prelude.{Err, Ok}
 use Rattle.std.specs.List.{AllByRecursion}
-use Rattle.std.proofs.lemmas.Bool.{false≢true, true≢false}
+use Rattle.std.proofs.lemmas.Bool.{false≢true}
 use Rattle.std.proofs.lemmas.List.{length-map}
 use Rattle.nv_alloc.specs.Block.{BlockValue, number_of, numbers_of}
 use Rattle.nv_base.specs.declared.geometry.GeometryNumbers.{GeometryNumbers}
@@ -23,9 +23,6 @@ use Rattle.nv_machine.proofs.Lists.{rising_filter}
 use Rattle.nv_machine.proofs.LocksHeld.{Before}
 
 -- ---- the check's own
-
-over_some : {X : Type 0} (x : X) → None ≡ Some x → ⊥
-over_some x e = true≢false (ap (λ (o : Option _). is_none o) e)
 
 -- a call that is overtaken has looked names up
 overtaken_looked : (early : Tests) (same : Bool) (tests : Tests) (numbered : Bool) (changes : List _)

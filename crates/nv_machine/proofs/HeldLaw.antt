@@ -20,9 +20,9 @@ use Rattle.nv_machine.specs.Numbers.{free_of, held_by_actor, of_part, stored_in,
 use Rattle.nv_machine.specs.Starts.{IsStart}
 use Rattle.nv_machine.specs.Step.{after}
 use Rattle.nv_machine.specs.World.{Event, World, cell_at, list_at, no_cell}
-use Rattle.nv_machine.proofs.FromScratch.{scanned}
+use Rattle.nv_machine.proofs.EveryWorld.{all_parts}
+use Rattle.nv_machine.proofs.WorldFacts.{scanned}
 use Rattle.nv_machine.proofs.HeldMarks.{used_there}
-use Rattle.nv_machine.proofs.CellMarksRuns.{all_parts}
 
 -- a list that is gone over by its places
 by_place : {X : Type 0} (f : X → List ℕ) (g : ℕ → List ℕ) (d : X) (xs : List X) (from : ℕ)

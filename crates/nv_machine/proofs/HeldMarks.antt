@@ -16,10 +16,9 @@ use Rattle.nv_machine.specs.Recorded.{records_after}
 use Rattle.nv_machine.specs.Starts.{IsStart}
 use Rattle.nv_machine.specs.Step.{after}
 use Rattle.nv_machine.specs.World.{Event, World, cell_at}
-use Rattle.nv_machine.proofs.FiledLaw.{all_marked}
+use Rattle.nv_machine.proofs.EveryWorld.{all_listed, all_marked}
+use Rattle.nv_machine.proofs.WorldFacts.{log_in}
 use Rattle.nv_machine.proofs.FiledMarks.{pair_low}
-use Rattle.nv_machine.proofs.FiledParts.{log_in}
-use Rattle.nv_machine.proofs.FiledRuns.{all_listed}
 use Rattle.nv_machine.proofs.MarksInUse.{pair_there_now, same_default}
 use Rattle.nv_machine.proofs.Pairs.{pair_there}
 

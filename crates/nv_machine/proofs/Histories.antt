@@ -1,5 +1,5 @@
 -- The history is that of what happened: each commit with its actor, each making and each drop.
-use Rattle.std.proofs.Common.{Bool, List, [], ap, false, if◌then◌else◌, length, nat_lt, refl, subst, sym, true, ℕ, ◌++◌, ◌∙◌, ◌∷◌, ◌≡◌}
+use Rattle.std.proofs.Common.{Bool, List, [], ap, false, if◌then◌else◌, length, nat_lt, refl, subst, sym, true, ℕ, ◌++◌, ◌∙◌, ◌∷◌, ◌≡◌, arith, ◌<◌}
 use Rattle.std.specs.Prelude.{Err, Ok, Result}
 use Rattle.std.proofs.lemmas.Bool.{false≢true, true≢false}
 use Rattle.nv_base.specs.declared.fault.Fault.{Fault}
@@ -11,14 +11,14 @@ use Rattle.nv_book.specs.declared.record.Record.{Record}
 use Rattle.nv_calls.specs.declared.answer.Answer.{Answer}
 use Rattle.nv_calls.specs.declared.answer.Answer.TheVariants as answers
 use Rattle.nv_machine.specs.Happened.{added, all_noted, happened}
-use Rattle.nv_machine.specs.Locks.{commits_at, slots_on}
+use Rattle.nv_machine.specs.Locks.{commits_at}
 use Rattle.nv_machine.specs.PlainRun.{Commits, Deed, Nothing, Numbers, Maintains, actor_of, deed, deed_of, done_on, entered}
 use Rattle.nv_machine.specs.Reads.{written_slots}
-use Rattle.nv_machine.specs.Sequence.{appending}
+use Rattle.nv_machine.specs.Sequence.{appending, slots_on}
 use Rattle.nv_machine.specs.Maintenance.{maintenance_turn}
 use Rattle.nv_machine.specs.Starts.{IsStart}
 use Rattle.nv_machine.specs.Step.{after, kind_turn, step, turned}
-use Rattle.nv_machine.specs.World.{Back, Drop, Ending, Ends, Enter, Event, Go, HandState, Make, Moves, Next, Number, Publish, Running, Shared, MaintenanceStep, Maintenance, Start, Turn, Unpin, Waits, World, actor_at, empty_hand}
+use Rattle.nv_machine.specs.World.{Back, Drop, Ending, Ends, Enter, Event, Go, HandState, Make, Moves, Next, Number, Publish, Running, Shared, MaintenanceStep, Maintenance, Start, Turn, Unpin, Waits, World, actor_at, Judge, Pin, Pick}
 use Rattle.nv_machine.proofs.CommitNumbers.{enters_appending}
 use Rattle.nv_machine.proofs.LoopSteps.{goes_on}
 use Rattle.nv_machine.proofs.OverEvents.{go_deed, start_deed, turn_at}
@@ -30,6 +30,7 @@ use Rattle.nv_machine.proofs.StepWays.{After, Closes, by_last, is_last}
 use Rattle.nv_machine.proofs.StepWalk.{walk}
 use Rattle.nv_machine.proofs.StepWork.{by_back, by_number, maintenance_work, work}
 use Rattle.nv_machine.proofs.WorkKeeps.{AfterTurn, turn_keeps}
+use Rattle.nv_machine.specs.Hands.{HandOn}
 
 -- the history of what is shared, with what a deed adds
 abbrev told_after : Deed → ℕ → Shared → Account
@@ -61,7 +62,7 @@ same_history d a s t none on = go t on where
 abbrev OnStep : MaintenanceStep → ℕ → Shared → Turn → Type 0
 OnStep step a s t = OnHistory (done_on step t) a s t
 
-module _ (a : ℕ) (granted : Bool) (s : Shared) (h : HandState) (r : Running) (empty : h ≡ empty_hand) where
+module _ (a : ℕ) (granted : Bool) (s : Shared) (h : HandState) (r : Running) where
   work_told : (step : MaintenanceStep) → Tells (Maintains step) a s (maintenance_work step a s h).shared
   work_told Make = refl
   work_told (Drop snapshot) = refl
@@ -78,14 +79,26 @@ module _ (a : ℕ) (granted : Bool) (s : Shared) (h : HandState) (r : Running) (
   answered_told (Unpin snapshot seen) is = refl
   answered_told other is = absurd (false≢true is)
 
-  step_told : (step : MaintenanceStep) → r.slots ≡ slots_on step → OnStep step a s (maintenance_turn step a granted s h r)
-  step_told step slots = alone_walk (OnStep step a s) step a granted s h r empty slots (record {
+  -- a step that is refused and unlocks leaves it
+  denied_told : (step : MaintenanceStep) → 0 < length (slots_on step) → is_denied step ≡ true → Tells (Maintains step) a s s
+  denied_told (Judge manner slot) some on = refl
+  denied_told Make some on = absurd (omega (arith, some))
+  denied_told (Drop snapshot) some on = absurd (omega (arith, some))
+  denied_told (Pin snapshot) some on = absurd (omega (arith, some))
+  denied_told (Pick draining) some on = absurd (omega (arith, some))
+  denied_told other some on = absurd (false≢true on)
+
+  step_told : (step : MaintenanceStep) → HandOn step h → r.slots ≡ slots_on step
+      → OnStep step a s (maintenance_turn step a granted s h r)
+  step_told step empty slots = alone_walk (OnStep step a s) step a granted s h r empty slots (record {
     waits = refl;
     refused = refused_told step;
     goes = λ on clear. work_told step;
     told = λ on clear. answered_told step on;
     denied = λ snapshot showing on. subst (λ (x : MaintenanceStep). Tells (Maintains x) a s s) (sym on) refl;
-    over = λ draining picked on. work_told step;
+    unlocks = λ fault on some. denied_told step some on;
+    leads_on = λ next leads. work_told step;
+    over = λ e ends. work_told step;
     none = λ draining on nothing.
         subst (λ (x : MaintenanceStep). OnStep x a s (Ends (Ok (answers.Count draining.released)) s h)) (sym on) refl;
   })
@@ -155,7 +168,7 @@ module _ (block a : ℕ) (granted : Bool) (s : Shared) (h : HandState) (r : Runn
   kind_told (Publish place) bare = file_told (Publish place) refl (publish_none (nat_lt 1 (length (written_slots r))) a s)
   kind_told Back bare = file_told Back
       (by_back (λ (u : Shared) (x : HandState). u.book.history ≡ s.book.history) s h (λ numbers ino. refl)) refl
-  kind_told (Maintenance step) bare = step_told a granted s h r bare.0 step bare.1
+  kind_told (Maintenance step) bare = step_told a granted s h r step bare.0 bare.1
   kind_told other bare = file_told other refl refl
 
 -- ---- events

@@ -1,6 +1,6 @@
 -- What is left of a log of its shape, whatever entries are taken out: nothing stands behind a Gone, and behind its first entry
 -- each item is lawful for the kind of the node.
-use Rattle.std.proofs.Common.{◌≡◌, ◌≢◌, ℕ, ◌<◌, ◌≤◌, Bool, true, false, List, [], ◌∷◌, Some, arith, length, refl, subst, sym}
+use Rattle.std.proofs.Common.{◌≡◌, ◌≢◌, ℕ, ◌<◌, ◌≤◌, Bool, true, false, List, [], ◌∷◌, Some, arith, length, refl, subst, sym, None, Option}
 use Rattle.nv_base.specs.declared.node.Kind.{Kind}
 use Rattle.nv_entry.specs.Clean.{select}
 use Rattle.nv_entry.specs.Shape.{AreLawful, IsGoneLast, IsLawful, items_of, kind_after}
@@ -14,7 +14,7 @@ few_left (b ∷ flags) [] = omega arith
 few_left (true ∷ flags) (e ∷ log) = omega (arith, few_left flags log)
 few_left (false ∷ flags) (e ∷ log) = omega (arith, few_left flags log)
 
-none_left : (flags : List Bool) → select {X = Entry} flags [] ≡ []
+pub none_left : (flags : List Bool) → select {X = Entry} flags [] ≡ []
 none_left [] = refl
 none_left (b ∷ flags) = refl
 
@@ -48,7 +48,7 @@ left_last (false ∷ flags) (e ∷ log) h = left_last flags log (later e log h)
 -- ---- behind the first entry
 
 -- an item that is lawful for a kind, and no Gone, leaves the kind
-kind_stays : (block : ℕ) (item : Item) (kind : Kind) → IsLawful block item (Some kind) → item ≢ Gone
+pub kind_stays : (block : ℕ) (item : Item) (kind : Kind) → IsLawful block item (Some kind) → item ≢ Gone
     → kind_after item (Some kind) ≡ Some kind
 kind_stays block (Init other mode) kind lawful not = absurd lawful
 kind_stays block Gone kind lawful not = absurd (not refl)
@@ -74,3 +74,40 @@ left_lawful block kind (true ∷ flags) (e ∷ f ∷ log) h last = (
   subst (AreLawful block (items_of (select flags (f ∷ log)))) (sym (kind_stays block e.item kind h.0 last.0))
       (left_lawful block kind flags (f ∷ log) (rest_lawful block kind e (f ∷ log) h last) last.1),
 )
+
+-- ---- the whole
+
+-- the first item behind nothing tells the kind
+pub first_kind : (block : ℕ) (item : Item) → IsLawful block item None → (kind : Kind) × (kind_after item None ≡ Some kind)
+first_kind block (Init kind mode) h = (kind, refl)
+first_kind block other h = absurd h
+
+-- what is left behind the first entry of a log that is lawful from nothing on
+pub first_left : (block : ℕ) (flags : List Bool) (e : Entry) (log : List Entry) → AreLawful block (items_of (e ∷ log)) None
+    → IsGoneLast (items_of (e ∷ log))
+    → (kind : Kind) × (kind_after e.item None ≡ Some kind) × AreLawful block (items_of (select flags log)) (Some kind)
+first_left block flags e log h last =
+    let first = first_kind block e.item h.0 in (
+      first.0,
+      first.1,
+      left_lawful block first.0 flags log (subst (AreLawful block (items_of log)) first.1 h.1) (later e log last),
+    )
+
+-- what is left is lawful from some kind on
+pub left_some : (block : ℕ) (before : Option Kind) (flags : List Bool) (log : List Entry) → AreLawful block (items_of log) before
+    → IsGoneLast (items_of log) → (kind : Option Kind) × AreLawful block (items_of (select flags log)) kind
+left_some block (Some kind) flags log h last = (Some kind, left_lawful block kind flags log h last)
+left_some block None [] log h last = (None, tt)
+left_some block None (b ∷ flags) [] h last = (None, tt)
+left_some block None (true ∷ flags) (e ∷ log) h last =
+    let rest = first_left block flags e log h last in
+    (None, (h.0, subst (AreLawful block (items_of (select flags log))) (sym rest.1) rest.2))
+left_some block None (false ∷ flags) (e ∷ log) h last =
+    let rest = first_left block flags e log h last in (Some rest.0, rest.2)
+
+-- and from nothing on where the first entry stays
+pub left_nothing : (block : ℕ) (flags : List Bool) (e : Entry) (log : List Entry) → AreLawful block (items_of (e ∷ log)) None
+    → IsGoneLast (items_of (e ∷ log)) → AreLawful block (items_of (select (true ∷ flags) (e ∷ log))) None
+left_nothing block flags e log h last =
+    let rest = first_left block flags e log h last in
+    (h.0, subst (AreLawful block (items_of (select flags log))) (sym rest.1) rest.2)

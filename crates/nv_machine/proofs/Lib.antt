@@ -8,6 +8,7 @@ pub mod WorldSizes
 pub mod Reached
 pub mod CallRows
 pub mod EachElement
+pub mod FirstSteps
 pub mod Lists
 pub mod LocksAlongCalls
 pub mod LocksHeld
@@ -51,6 +52,7 @@ pub mod BlockNumbersRuns
 pub mod NewNumbers
 pub mod FromScratch
 pub mod CellPages
+pub mod PagesLeft
 pub mod CellChanges
 pub mod CellSteps
 pub mod MaintenanceAlone
@@ -58,6 +60,7 @@ pub mod Journals
 pub mod OpenJournals
 pub mod LogsKept
 pub mod LogsKeptByReleases
+pub mod LogsKeptByCleanings
 pub mod WrittenSlots
 pub mod LogsKeptByCommits
 pub mod PlansOfBlocks
@@ -122,6 +125,7 @@ pub mod GoneRuns
 pub mod ErasingLaw
 pub mod NumbersReturn
 pub mod ErasedRows
+pub mod CleanedRows
 pub mod HeldRows
 pub mod SnapshotRows
 pub mod WrongSnapshots
@@ -149,6 +153,8 @@ pub mod SlotsBeforeCheck
 pub mod LooksToCome
 pub mod CellMarks
 pub mod CellMarksRuns
+pub mod EveryWorld
+pub mod WorldFacts
 pub mod Generations
 pub mod ErasingsCounted
 pub mod VersionSteps
@@ -193,9 +199,20 @@ pub mod FiledWorlds
 pub mod FiledCommits
 pub mod FiledSnaps
 pub mod MarksInUse
+pub mod Cleanable
 pub mod CleanedCells
+pub mod CleanedLogs
+pub mod CleaningLaw
 pub mod CleanedMarks
+pub mod CleanedSlots
+pub mod EpochCleanings
+pub mod EpochSpans
+pub mod CleanSteps
+pub mod CleanedPool
+pub mod FiledCleans
+pub mod KilledByOthers
 pub mod LeftShapes
+pub mod LeftKinds
 pub mod FiledKinds
 pub mod FiledLaw
 pub mod FiledHeld
@@ -216,3 +233,5 @@ pub mod NoNumberFree
 pub mod WorldsAtRest
 pub mod NewStart
 pub mod NewWorld
+pub mod CleanerSteps
+pub mod CleanerRuns

@@ -2,7 +2,7 @@
 use Rattle.nv_book.specs.declared.record.Record.{Record}
 use Rattle.std.proofs.Common.{Bool, List, None, Option, Some, [], add-one, ap, arith, drop, false, get_or-set_same, if◌then◌else◌, length, length-append, mod-lt, nat_lt, refl, subst, suc, sym, take, true, zero, ℕ, ◌++◌, ◌+◌, ◌-◌, ◌<◌, ◌==◌, ◌∙◌, ◌∷◌, ◌≡◌, ◌≤◌}
 use Rattle.std.specs.List.{sum_by}
-use Rattle.std.proofs.lemmas.Bool.{eqb-true, ltb-false, ltb-true}
+use Rattle.std.proofs.lemmas.Bool.{eqb-true, ltb-false, ltb-true, false≢true}
 use Rattle.std.proofs.lemmas.List.{length-drop, length-take}
 use Rattle.std.proofs.lemmas.List.Sums.{sum_by-cons}
 use Rattle.nv_alloc.specs.Block.{BlockValue}
@@ -15,16 +15,18 @@ use Rattle.nv_machine.specs.Hands.{HandOf, is_going}
 use Rattle.nv_machine.specs.Kinds.{asked_list, blocks_in, blocks_turn, end_turn, less_list, pages_turn, rest_turn, wants_pages}
 use Rattle.nv_machine.specs.PlainRun.{actor_of}
 use Rattle.nv_machine.specs.Reads.{home_from, slots_of}
-use Rattle.nv_machine.specs.Sequence.{Beginning, Locks, beginning, begun, nothing_looked}
+use Rattle.nv_machine.specs.Sequence.{Beginning, Locks, beginning, begun, nothing_looked, Maintains}
 use Rattle.nv_machine.specs.Starts.{IsStart}
 use Rattle.nv_machine.specs.Step.{after, kind_turn, start_step, step, turn}
 use Rattle.nv_machine.specs.Takings.{AreEmptied, Asked, IsEmptied, IsShortInAll, Taking, and_asked, asked_in, asking, asks_list, beginning_with, no_taking, taking_after, taking_by, taking_in, taking_of}
-use Rattle.nv_machine.specs.World.{Actor, Answers, Check, Ends, Event, Go, HandState, Lock, Moves, Next, Ready, Refuses, Running, Shared, Start, TakeBlocks, TakePages, Turn, Waits, World, actor_at, idle, list_at, no_list}
+use Rattle.nv_machine.specs.World.{Actor, Answers, Check, Ends, Event, Go, HandState, Lock, Moves, Next, Ready, Refuses, Running, Shared, Start, TakeBlocks, TakePages, Turn, Waits, World, actor_at, idle, list_at, no_list, Maintenance, Fresh, Compact, MaintenanceStep}
+use Rattle.nv_machine.proofs.EveryWorld.{all_numbers}
 use Rattle.nv_machine.proofs.OverEvents.{OwnAfter, event_of, own_goes, turn_at}
 use Rattle.nv_machine.proofs.RefusalCauses.{unrefused}
 use Rattle.nv_machine.proofs.StepPhases.{IsFirst, OnFirst, end_plain, first, on_apart, on_first, pages_first}
-use Rattle.nv_machine.proofs.FromScratch.{all_numbers}
 use Rattle.nv_machine.proofs.Lists.{self}
+use Rattle.nv_machine.specs.Cleaning.{fresh_turn}
+use Rattle.nv_machine.proofs.FirstSteps.{first_by}
 
 -- ---- what a taking knows
 
@@ -37,6 +39,7 @@ record IsAsking (cpus actor asked : ℕ) (taking : Taking) (wanted : ℕ) : Type
 abbrev Asks : Next → ℕ → ℕ → Taking → ℕ → Type 0
 Asks (TakeBlocks asked) cpus actor taking wanted = IsAsking cpus actor asked taking wanted
 Asks (TakePages asked) cpus actor taking wanted = IsAsking cpus actor asked taking wanted
+Asks (Maintenance (Fresh ino asked some)) cpus actor taking wanted = IsAsking cpus actor asked taking some
 Asks other cpus actor taking wanted = Unit {0}
 
 abbrev AsksOf : Option Running → ℕ → ℕ → Taking → Type 0
@@ -61,6 +64,8 @@ first_asks : (next : Next) (cpus actor wanted : ℕ) (taking : Taking) → IsFir
     → Asks next cpus actor (beginning_with next wanted taking) wanted
 first_asks (TakeBlocks asked) cpus actor wanted taking is some = new_taking cpus actor asked wanted taking (asked == 0) refl is some
 first_asks (TakePages asked) cpus actor wanted taking is some = new_taking cpus actor asked wanted taking (asked == 0) refl is some
+first_asks (Maintenance (Fresh ino asked fresh)) cpus actor wanted taking is some =
+    new_taking cpus actor asked fresh taking (asked == 0) refl is some
 first_asks other cpus actor wanted taking is some = tt
 
 first_turn : (k : Next) (cpus actor : ℕ) (s : Shared) (h : HandState) (taking : Taking) (t : Turn) → 0 < cpus → OnFirst t
@@ -157,39 +162,40 @@ module _ (cpus actor asked : ℕ) (s : Shared) (h after : HandState) (wanted : �
 
 -- ---- a step of a taking
 
-module _ (cpus actor asked block : ℕ) (s : Shared) (h : HandState) (r : Running) (taking : Taking) (many : length s.lists ≡ cpus)
-    (asks : IsAsking cpus actor asked taking r.wanted) where
+module _ (cpus actor asked wanted block : ℕ) (s : Shared) (h : HandState) (r : Running) (taking : Taking)
+    (many : length s.lists ≡ cpus)
+    (asks : IsAsking cpus actor asked taking wanted) where
   abbrev asked_cpu : ℕ
   asked_cpu = asked_list (length s.lists) actor asked
 
   abbrev t : Shared
-  t = less_list asked_cpu r.wanted s
+  t = less_list asked_cpu wanted s
 
   abbrev with_blocks : HandState
-  with_blocks = record h { blocks = h.blocks ++ take r.wanted (list_at s asked_cpu).blocks }
+  with_blocks = record h { blocks = h.blocks ++ take wanted (list_at s asked_cpu).blocks }
 
   abbrev with_log_pages : HandState
-  with_log_pages = record h { pages = h.pages ++ take r.wanted (list_at s asked_cpu).blocks }
+  with_log_pages = record h { pages = h.pages ++ take wanted (list_at s asked_cpu).blocks }
 
   some_cpus : 0 < cpus
   some_cpus = let inside = asks.inside in omega (arith, inside)
 
-  blocks_asks : (left : ℕ) (more : Bool) → r.wanted - length (list_at s asked_cpu).blocks ≡ left
+  blocks_asks : (left : ℕ) (more : Bool) → wanted - length (list_at s asked_cpu).blocks ≡ left
       → nat_lt (asked + 1) (length s.lists) ≡ more
       → OnAsks (TakeBlocks asked) cpus actor s h taking (blocks_turn left more asked block t with_blocks r)
   blocks_asks zero more is lt = first_turn (TakeBlocks asked) cpus actor s h taking _ some_cpus (pages_first _ t with_blocks r)
   blocks_asks (suc n) true is lt =
-      asks_next cpus actor asked s h with_blocks r.wanted taking many asks (more_blocks h _) (suc n) is (omega arith)
+      asks_next cpus actor asked s h with_blocks wanted taking many asks (more_blocks h _) (suc n) is (omega arith)
       (let below = ltb-true (asked + 1) (length s.lists) lt in omega (arith, below, many))
   blocks_asks (suc n) false is lt = first_turn (TakeBlocks asked) cpus actor s h taking _ some_cpus
       (on_first _ (on_apart _ (end_plain r.slots (Refuses NoSpace) t with_blocks r)))
 
-  pages_asks : (left : ℕ) (more : Bool) → r.wanted - length (list_at s asked_cpu).blocks ≡ left
+  pages_asks : (left : ℕ) (more : Bool) → wanted - length (list_at s asked_cpu).blocks ≡ left
       → nat_lt (asked + 1) (length s.lists) ≡ more
       → OnAsks (TakePages asked) cpus actor s h taking (pages_turn left more asked t with_log_pages r)
   pages_asks zero more is lt = tt
   pages_asks (suc n) true is lt =
-      asks_next cpus actor asked s h with_log_pages r.wanted taking many asks (more_pages h _) (suc n) is (omega arith)
+      asks_next cpus actor asked s h with_log_pages wanted taking many asks (more_pages h _) (suc n) is (omega arith)
       (let below = ltb-true (asked + 1) (length s.lists) lt in omega (arith, below, many))
   pages_asks (suc n) false is lt = first_turn (TakePages asked) cpus actor s h taking _ some_cpus
       (on_first _ (on_apart _ (end_plain r.slots (Refuses NoSpace) t with_log_pages r)))
@@ -213,21 +219,40 @@ module _ (cpus actor asked block : ℕ) (s : Shared) (h : HandState) (r : Runnin
     wants_short zero h2 = unrefused _ ⊥ Ready r.ending answers
     wants_short (suc n) h2 = unrefused _ ⊥ (TakePages 0) r.ending answers
 
-    blocks_short : (left : ℕ) (more : Bool) → r.wanted - length (list_at s asked_cpu).blocks ≡ left
+    blocks_short : (left : ℕ) (more : Bool) → wanted - length (list_at s asked_cpu).blocks ≡ left
         → nat_lt (asked + 1) (length s.lists) ≡ more → Shorts (TakeBlocks asked) (blocks_turn left more asked block t with_blocks r)
     blocks_short zero more is lt = wants_short _ with_blocks
     blocks_short (suc n) true is lt = unrefused _ ⊥ (TakeBlocks (asked + 1)) r.ending answers
     blocks_short (suc n) false is lt = end_short (TakeBlocks asked) r.slots with_blocks
-        (is_short cpus actor asked s h with_blocks r.wanted taking many asks (more_blocks h _) (suc n) is (omega arith)
+        (is_short cpus actor asked s h with_blocks wanted taking many asks (more_blocks h _) (suc n) is (omega arith)
         (let past = ltb-false (asked + 1) (length s.lists) lt in omega (arith, past, many)))
 
-    pages_short : (left : ℕ) (more : Bool) → r.wanted - length (list_at s asked_cpu).blocks ≡ left
+    pages_short : (left : ℕ) (more : Bool) → wanted - length (list_at s asked_cpu).blocks ≡ left
         → nat_lt (asked + 1) (length s.lists) ≡ more → Shorts (TakePages asked) (pages_turn left more asked t with_log_pages r)
     pages_short zero more is lt = unrefused _ ⊥ Ready r.ending answers
     pages_short (suc n) true is lt = unrefused _ ⊥ (TakePages (asked + 1)) r.ending answers
     pages_short (suc n) false is lt = end_short (TakePages asked) r.slots with_log_pages
-        (is_short cpus actor asked s h with_log_pages r.wanted taking many asks (more_pages h _) (suc n) is (omega arith)
+        (is_short cpus actor asked s h with_log_pages wanted taking many asks (more_pages h _) (suc n) is (omega arith)
         (let past = ltb-false (asked + 1) (length s.lists) lt in omega (arith, past, many)))
+
+  fresh_asks : (ino left : ℕ) (more : Bool) → wanted - length (list_at s asked_cpu).blocks ≡ left
+      → nat_lt (asked + 1) (length s.lists) ≡ more
+      → OnAsks (Maintenance (Fresh ino asked wanted)) cpus actor s h taking (fresh_turn left more ino asked t with_log_pages r)
+  fresh_asks ino zero more is lt = tt
+  fresh_asks ino (suc n) true is lt =
+      asks_next cpus actor asked s h with_log_pages wanted taking many asks (more_pages h _) (suc n) is (omega arith)
+      (let below = ltb-true (asked + 1) (length s.lists) lt in omega (arith, below, many))
+  fresh_asks ino (suc n) false is lt = first_turn (Maintenance (Fresh ino asked wanted)) cpus actor s h taking _ some_cpus
+      (on_first _ (on_apart _ (end_plain r.slots (Refuses NoSpace) t with_log_pages r)))
+
+  fresh_short : (answers : r.ending ≡ Answers) (ino left : ℕ) (more : Bool) → wanted - length (list_at s asked_cpu).blocks ≡ left
+      → nat_lt (asked + 1) (length s.lists) ≡ more
+      → Shorts (Maintenance (Fresh ino asked wanted)) (fresh_turn left more ino asked t with_log_pages r)
+  fresh_short answers ino zero more is lt = unrefused _ ⊥ (Maintenance (Compact ino)) r.ending answers
+  fresh_short answers ino (suc n) true is lt = unrefused _ ⊥ (Maintenance (Fresh ino (asked + 1) (suc n))) r.ending answers
+  fresh_short answers ino (suc n) false is lt = end_short (Maintenance (Fresh ino asked wanted)) r.slots with_log_pages
+      (is_short cpus actor asked s h with_log_pages wanted taking many asks (more_pages h _) (suc n) is (omega arith)
+      (let past = ltb-false (asked + 1) (length s.lists) lt in omega (arith, past, many)))
 
 -- ---- every kind
 
@@ -235,9 +260,11 @@ kind_asks : (k : Next) (cpus block actor : ℕ) (granted : Bool) (s : Shared) (h
     → length s.lists ≡ cpus → 0 < cpus → Asks k cpus actor taking r.wanted
     → OnAsks k cpus actor s h taking (kind_turn k block actor granted s h r)
 kind_asks (TakeBlocks asked) cpus block actor granted s h r taking many some asks =
-    blocks_asks cpus actor asked block s h r taking many asks _ _ refl refl
+    blocks_asks cpus actor asked r.wanted block s h r taking many asks _ _ refl refl
 kind_asks (TakePages asked) cpus block actor granted s h r taking many some asks =
-    pages_asks cpus actor asked block s h r taking many asks _ _ refl refl
+    pages_asks cpus actor asked r.wanted block s h r taking many asks _ _ refl refl
+kind_asks (Maintenance (Fresh ino asked wanted)) cpus block actor granted s h r taking many some asks =
+    fresh_asks cpus actor asked wanted block s h r taking many asks ino _ _ refl refl
 kind_asks other cpus block actor granted s h r taking many some asks =
     first_turn other cpus actor s h taking (kind_turn other block actor granted s h r) some (first other block actor granted s h r refl)
 
@@ -246,10 +273,12 @@ kind_short : (k : Next) (cpus block actor : ℕ) (granted : Bool) (s : Shared) (
     → RefusesFor (IsShortInAll cpus actor (taking_by k actor s h (kind_turn k block actor granted s h r) taking)) ⊥
     (kind_turn k block actor granted s h r)
 kind_short (TakeBlocks asked) cpus block actor granted s h r taking e many answers asks =
-    blocks_short cpus actor asked block s h r taking many asks answers _ _ refl refl
+    blocks_short cpus actor asked r.wanted block s h r taking many asks answers _ _ refl refl
 kind_short (TakePages asked) cpus block actor granted s h r taking e many answers asks =
-    pages_short cpus actor asked block s h r taking many asks answers _ _ refl refl
-kind_short other cpus block actor granted s h r taking e many answers asks = cc
+    pages_short cpus actor asked r.wanted block s h r taking many asks answers _ _ refl refl
+kind_short (Maintenance (Fresh ino asked wanted)) cpus block actor granted s h r taking e many answers asks =
+    fresh_short cpus actor asked wanted block s h r taking many asks answers ino _ _ refl refl
+kind_short other cpus block actor granted s h r taking e many answers asks = absurd (false≢true e)
 
 -- ---- over events
 
@@ -282,6 +311,10 @@ module _ (cpus actor : ℕ) (some : 0 < cpus) where
 
   begun_asks : (b : Beginning) (s : Shared) (c : Call) (taking : Taking) → AsksOf (Some (begun b s c)) cpus actor taking
   begun_asks Locks s c taking = locking_asks (nat_lt 0 (length (slots_of s None nothing_looked c))) 0 taking
+  begun_asks (Maintains what) s c taking =
+      first_by (λ (step : MaintenanceStep). Asks (Maintenance step) cpus actor taking 0)
+      (length s.cells) tt (λ snapshot. tt) (λ snapshot. tt)
+      (λ count. tt) (λ manner ino inside. tt) (λ manner. tt) what
   begun_asks other s c taking = tt
 
   start_asks : (b : Bool) (running : Option Running) (w : World) (c : Call) (taking : Taking) → nat_lt actor (length w.actors) ≡ b
@@ -334,4 +367,5 @@ lists_asked g start records events actor granted r is_start is takes =
       goes_on : (k : Next) → asks_list k ≡ true → (is_going k ≡ true → r.ending ≡ Answers) → r.ending ≡ Answers
       goes_on (TakeBlocks asked) e f = f refl
       goes_on (TakePages asked) e f = f refl
-      goes_on other e f = cc
+      goes_on (Maintenance (Fresh ino asked wanted)) e f = f refl
+      goes_on other e f = absurd (false≢true e)

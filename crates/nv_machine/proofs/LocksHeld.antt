@@ -1,5 +1,5 @@
 -- Each actor holds exactly the locks of its call, and waits for another's alone.
-use Rattle.std.proofs.Common.{Bool, List, None, Option, Some, [], ap, arith, drop, false, length, refl, subst, suc, sym, true, zero, ℕ, ◌+◌, ◌<◌, ◌==◌, ◌∙◌, ◌∷◌, ◌≡◌}
+use Rattle.std.proofs.Common.{Bool, List, None, Option, Some, [], ap, arith, drop, false, length, refl, subst, suc, sym, true, zero, ℕ, ◌+◌, ◌<◌, ◌==◌, ◌∙◌, ◌∷◌, ◌≡◌, option_to_list}
 use Rattle.std.proofs.lemmas.Option.{none-some}
 use Rattle.std.specs.Prelude.{slice_index_or, unwrap_or, ◌||◌}
 use Rattle.std.proofs.lemmas.Bool.{eqb-false, eqb-true, false≢true, ltb-false, ltb-true}
@@ -7,20 +7,21 @@ use Rattle.std.specs.List.{AllByRecursion}
 use Rattle.nv_alloc.specs.Numbers.{has}
 use Rattle.nv_base.specs.declared.fault.Fault.{Fault}
 use Rattle.nv_machine.specs.Frame.{lent, lent_on}
-use Rattle.nv_machine.specs.Locks.{AreSlots, HoldsIts, IsHeldByOther, IsInside, IsOfSlot, WaitsFor, WaitsOn, commits_at, held_at, is_owner}
+use Rattle.nv_machine.specs.Locks.{AreSlots, HoldsIts, IsHeldByOther, IsInside, IsOfSlot, WaitsFor, WaitsOn, commits_at, held_at, is_owner, held_on}
 use Rattle.nv_calls.specs.declared.looked.Looked.{Looked}
 use Rattle.nv_machine.specs.Reads.{is_written, slot_at, slots_of, written_slots}
-use Rattle.nv_machine.specs.Sequence.{locking}
+use Rattle.nv_machine.specs.Sequence.{locking, slots_on}
 use Rattle.nv_machine.specs.Maintenance.{copies_at, first_showing, seen_on, show_or_unpin, visited}
 use Rattle.nv_machine.specs.Step.{kind_turn, with_made}
-use Rattle.nv_machine.specs.World.{Append, Back, Check, Close, Drop, Enter, Give, HandState, Leave, Lock, LockPicked, Look, Make, Next, Number, Open, Pick, Pin, Publish, Ready, Refuses, Release, Retire, Running, Shared, Show, Showing, MaintenanceStep, Maintenance, TakeBlocks, TakePages, Unlock, Unpin, Visit, go_to, owner_at, with_numbers, with_owner}
-use Rattle.nv_machine.proofs.StepWork.{back_work, work, number_work}
+use Rattle.nv_machine.specs.World.{Append, Back, Check, Close, Drop, Enter, Give, HandState, Leave, Lock, LockPicked, Look, Make, Next, Number, Open, Pick, Pin, Publish, Ready, Refuses, Release, Retire, Running, Shared, Show, Showing, MaintenanceStep, Maintenance, TakeBlocks, TakePages, Unlock, Unpin, Visit, go_to, owner_at, with_numbers, with_owner, Compact, Fresh, Judge, LockCleaned, Unlink, cell_at}
+use Rattle.nv_machine.proofs.StepWork.{back_work, work, number_work, maintenance_work}
 use Rattle.nv_machine.proofs.Lists.{drop_all, has_at, has_drop, has_filter, self, slot_inside, slots_are, take_apart}
 use Rattle.nv_machine.proofs.LocksAlongCalls.{Holds, LocksGo, LocksLeft, LocksTold, OnLocks, apart, appending_holds, ends_locks, holds_as, idle_as, lasts_locks, locked_holds, locked_left, locking_holds, looking_holds, others_not, overs_locks, publishing_holds, rests_locks, retiring_holds, same_locks, unlocked_holds, unlocked_left}
 use Rattle.nv_machine.proofs.StepWays.{EndsBy, Going, IsBlocked, IsBlockedOn, Telling, by_taking, is_taking, noted, numbered_slots}
 use Rattle.nv_machine.proofs.StepWalk.{WaysOf, any_takes, walk_by}
 use Rattle.nv_machine.proofs.MaintenanceWalk.{StepWaysOf, step_walk_by}
 use Rattle.nv_reader.specs.Walk as walk
+use Rattle.nv_clean.specs.Plans.{wanted_of}
 
 -- ---- the kinds
 
@@ -60,10 +61,16 @@ as_before a s t e f = record {
 
 -- ---- what it waits for
 
-waits_on : (a : ℕ) (s : Shared) (r : Running) (step : MaintenanceStep) → Before a s (Maintenance step) r → IsBlockedOn step s → WaitsOn s a step
+waits_on : (a : ℕ) (s : Shared) (r : Running) (step : MaintenanceStep) → Before a s (Maintenance step) r → IsBlockedOn step s
+    → WaitsOn s a step
 waits_on a s r (Show snapshot showing) b held = not_mine a _ held.0 held.1 (b.mine.owners (visited showing.visits).ino)
 waits_on a s r (LockPicked draining picked) b held = not_mine a _ held.0 held.1 (b.mine.owners picked.ino)
 waits_on a s r (Release draining picked) b held = held
+waits_on a s r (LockCleaned manner ino) b held = not_mine a _ held.0 held.1 (b.mine.owners ino)
+waits_on a s r (Judge manner slot) b held = held
+waits_on a s r (Fresh ino asked wanted) b held = held
+waits_on a s r (Unlink ino) b held = held
+waits_on a s r (Compact ino) b held = held
 waits_on a s r other b held = not_mine a s.holder held.0 held.1 b.mine.holder
 
 waits_for : (a : ℕ) (s : Shared) (r : Running) (k : Next) → Before a s k r → IsBlocked k s r → WaitsFor s a r k
@@ -121,6 +128,25 @@ module _ (a : ℕ) (granted : Bool) (s : Shared) (h : HandState) (r : Running) w
       → EndsBy Goes Tells r.slots s h r (Refuses fault)
   none_held none mine are = ends_locks (same_locks a s) (subst (λ (l : List ℕ). Holds s a l false) (sym none) mine) are
 
+  -- the lock of a slot that the call has and no other
+  locked_one : (ino : ℕ) (next : MaintenanceStep) → r.slots ≡ ino ∷ [] → AreSlots (length s.owners) r.slots → Holds s a [] false
+      → owner_at s ino ≡ None → held_on next r.slots ≡ r.slots → slots_on next ≡ ino ∷ []
+      → Goes (with_owner ino (Some a) s) h (go_to (Maintenance next) r)
+  locked_one ino next one are mine free held same =
+      let in-range = (subst (λ (l : List ℕ). AreSlots (length s.owners) l) one are).inside.0 in
+      let left = locked_left a s ino in-range free in
+      let now = locked_holds a s 0 (ino ∷ []) (omega arith) in-range mine in (
+        left,
+        holds_as _ a _ r.slots false (subst (λ (l : List ℕ). Holds (with_owner ino (Some a) s) a l false) (sym one) now)
+            held refl (subst (λ (n : ℕ). AreSlots n r.slots) (sym left.wide) are) (one ∙ sym same),
+      )
+
+  -- the slot of a cleaner stays locked
+  leads_locks : (next : MaintenanceStep) (t : Shared) (g : HandState) → LocksLeft a s t → Holds t a r.slots false
+      → AreSlots (length t.owners) r.slots → held_on next r.slots ≡ r.slots → r.slots ≡ slots_on next
+      → Goes t g (go_to (Maintenance next) r)
+  leads_locks next t g left mine are held inside = (left, holds_as t a _ r.slots false mine held refl are inside)
+
   step_ways : (step : MaintenanceStep) → Before a s (Maintenance step) r → StepWaysOf Goes Tells step a granted s h r
   step_ways Make b = (
     λ fault by. none_held b.inside b.mine b.are,
@@ -153,15 +179,34 @@ module _ (a : ℕ) (granted : Bool) (s : Shared) (h : HandState) (r : Running) w
       }) refl,
     ),
   )
-  step_ways (LockPicked draining picked) b = λ free.
-      let in-range = (subst (λ (l : List ℕ). AreSlots (length s.owners) l) b.inside b.are).inside.0 in
-      let left = locked_left a s picked.ino in-range free in
-      let now = locked_holds a s 0 (picked.ino ∷ []) (omega arith) in-range b.mine in (
-        left,
-        holds_as _ a _ r.slots false (subst (λ (l : List ℕ). Holds (with_owner picked.ino (Some a) s) a l false) (sym b.inside) now)
-            refl refl (subst (λ (n : ℕ). AreSlots n r.slots) (sym left.wide) b.are) b.inside,
-      )
+  step_ways (LockPicked draining picked) b =
+      λ free. locked_one picked.ino (Release draining picked) b.inside b.are b.mine free refl refl
   step_ways (Release draining picked) b =
+      ends_locks (as_before a s _ refl refl) (record { owners = b.mine.owners; holder = b.mine.holder }) b.are
+  step_ways (LockCleaned manner ino) b =
+      λ free. locked_one ino (Judge manner (Some ino)) b.inside b.are b.mine free refl refl
+  step_ways (Judge manner slot) b = (
+    λ none. ends_locks (same_locks a s) b.mine b.are,
+    λ some lacks. ends_locks (same_locks a s) b.mine b.are,
+    λ ino is some. (let one = b.inside ∙ ap (λ (o : Option ℕ). option_to_list o) is in record {
+      fast = λ plain. leads_locks (Unlink ino) s h (same_locks a s) b.mine b.are refl one;
+      some = λ n plain more. leads_locks (Fresh ino 0 (wanted_of (cell_at s ino)).pages) s h (same_locks a s) b.mine b.are refl one;
+      none = λ plain less. ends_locks (same_locks a s) b.mine b.are;
+    }),
+  )
+  step_ways (Fresh ino asked wanted) b =
+      let left = as_before a s (maintenance_work (Fresh ino asked wanted) a s h).shared refl refl in
+      let mine : Holds (maintenance_work (Fresh ino asked wanted) a s h).shared a r.slots false =
+      record { owners = b.mine.owners; holder = b.mine.holder } in
+      record {
+        ready = λ q. leads_locks (Compact ino) _ (maintenance_work (Fresh ino asked wanted) a s h).hand left mine b.are refl b.inside;
+        more = λ n q m. leads_locks (Fresh ino (asked + 1) (suc n)) _ (maintenance_work (Fresh ino asked wanted) a s h).hand left
+            mine b.are refl b.inside;
+        short = λ n q m. ends_locks left mine b.are;
+      }
+  step_ways (Unlink ino) b =
+      ends_locks (as_before a s _ refl refl) (record { owners = b.mine.owners; holder = b.mine.holder }) b.are
+  step_ways (Compact ino) b =
       ends_locks (as_before a s _ refl refl) (record { owners = b.mine.owners; holder = b.mine.holder }) b.are
 
   ways : (k : Next) (block : ℕ) → Before a s k r → WaysOf Goes Tells k block a granted s h r
@@ -277,13 +322,18 @@ some_cell a n ino s own e = subst (λ (m : ℕ). owner_at s m ≡ Some a) (ap (�
 self_or : (n : ℕ) → has (n ∷ []) n ≡ true
 self_or n = ap (λ (b : Bool). b || false) (self n)
 
--- the slot of a picked record
-lent_on_cell : (step : MaintenanceStep) (a : ℕ) (s : Shared) (r : Running) → Before a s (Maintenance step) r → (ino : ℕ)
-    → (lent_on step).cell ≡ Some ino → owner_at s ino ≡ Some a
-lent_on_cell (Release draining picked) a s r b ino e = some_cell a picked.ino ino s
-    (owner_is a (owner_at s picked.ino)
-    (b.mine.owners picked.ino ∙ ap (λ (l : List ℕ). has l picked.ino) b.inside ∙ self_or picked.ino)) e
-lent_on_cell other a s r b ino e = absurd (none-some ino e)
+-- the slot of a picked record, and the one that is cleaned
+one_owned : (slot a : ℕ) (s : Shared) (r : Running) → Holds s a r.slots false → r.slots ≡ slot ∷ [] → owner_at s slot ≡ Some a
+one_owned slot a s r mine one =
+    owner_is a (owner_at s slot) (mine.owners slot ∙ ap (λ (l : List ℕ). has l slot) one ∙ self_or slot)
+
+lent_on_cell : (step : MaintenanceStep) (cpus a : ℕ) (s : Shared) (r : Running) → Before a s (Maintenance step) r → (ino : ℕ)
+    → (lent_on step cpus a).cell ≡ Some ino → owner_at s ino ≡ Some a
+lent_on_cell (Release draining picked) cpus a s r b ino e =
+    some_cell a picked.ino ino s (one_owned picked.ino a s r b.mine b.inside) e
+lent_on_cell (Unlink slot) cpus a s r b ino e = some_cell a slot ino s (one_owned slot a s r b.mine b.inside) e
+lent_on_cell (Compact slot) cpus a s r b ino e = some_cell a slot ino s (one_owned slot a s r b.mine b.inside) e
+lent_on_cell other cpus a s r b ino e = absurd (none-some ino e)
 
 pub lent_cell : (k : Next) (cpus a : ℕ) (s : Shared) (r : Running) → Before a s k r → (ino : ℕ)
     → (lent k cpus a r).cell ≡ Some ino → owner_at s ino ≡ Some a
@@ -293,7 +343,7 @@ lent_cell (Publish place) cpus a s r b ino e = some_cell a (slot_at (written_slo
     (written_owned a place s r b.mine b.inside) e
 lent_cell (Retire place) cpus a s r b ino e = some_cell a (slot_at (written_slots r) place) ino s
     (written_owned a place s r b.mine b.inside) e
-lent_cell (Maintenance step) cpus a s r b ino e = lent_on_cell step a s r b ino e
+lent_cell (Maintenance step) cpus a s r b ino e = lent_on_cell step cpus a s r b ino e
 lent_cell other cpus a s r b ino e = absurd (none-some ino e)
 
 pub lent_holder : (k : Next) (a : ℕ) (s : Shared) (r : Running) → Before a s k r → commits_at k ≡ true → s.holder ≡ Some a

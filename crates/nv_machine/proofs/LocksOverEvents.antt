@@ -1,15 +1,15 @@
 -- The locks of a world, over events.
-use Rattle.std.proofs.Common.{Bool, List, None, Option, Some, [], ap, false, length, nat_lt, refl, replicate, subst, suc, sym, true, zero, ℕ, ◌<◌, ◌∙◌, ◌≡◌, ◌≢◌}
+use Rattle.std.proofs.Common.{Bool, List, None, Option, Some, [], ap, false, length, nat_lt, refl, replicate, subst, suc, sym, true, zero, ℕ, ◌<◌, ◌∙◌, ◌≡◌, ◌≢◌, arith}
 use Rattle.std.specs.Prelude.{Err, Ok, slice_index_or}
 use Rattle.std.proofs.lemmas.Bool.{lt-ltb, true≢false}
 use Rattle.nv_book.specs.Book.{BookState}
 use Rattle.nv_calls.specs.declared.call.Call.{Call}
 use Rattle.nv_machine.specs.Frame.{lent}
-use Rattle.nv_machine.specs.Locks.{AllRecords, AreLocks, AreSlots, HasLent, HasSlots, HoldsIts, IsInside, IsOfSlot, WaitsFor, held_on, slots_on}
-use Rattle.nv_machine.specs.Sequence.{Beginning, Locks, Looks, Numbers, Maintains, Visits, beginning, begun, new_draining, nothing_looked, started}
+use Rattle.nv_machine.specs.Locks.{AllRecords, AreLocks, AreSlots, HasLent, HasSlots, HoldsIts, IsInside, IsOfSlot, WaitsFor, held_on}
+use Rattle.nv_machine.specs.Sequence.{Beginning, Locks, Looks, Numbers, Maintains, Visits, beginning, begun, nothing_looked, started, first_step, slots_on}
 use Rattle.nv_machine.specs.Step.{Step, after, go_step, step, turn, turned}
 use Rattle.nv_machine.specs.Reads.{slots_of, written_slots}
-use Rattle.nv_machine.specs.World.{Actor, Check, Drop, Ends, Event, Go, Make, Moves, Next, Pick, Pin, Reply, Retire, Running, Shared, MaintenanceStep, Maintenance, Turn, Waiting, Waits, World, actor_at}
+use Rattle.nv_machine.specs.World.{Actor, Check, Ends, Event, Go, Moves, Next, Reply, Retire, Running, Shared, MaintenanceStep, Maintenance, Turn, Waiting, Waits, World, actor_at}
 use Rattle.nv_machine.proofs.BookRecords.{OnRecords, records_all}
 use Rattle.nv_machine.proofs.OverEvents.{begun_in, event_by, events_by, set_begun, set_one, turn_at, with_call}
 use Rattle.nv_machine.proofs.SingleEvents.{go_is_turn, turned_frame}
@@ -17,7 +17,7 @@ use Rattle.nv_machine.proofs.StepFrames.{framed}
 use Rattle.nv_machine.proofs.LocksAlongCalls.{Holds, LocksLeft, OnLocks, holds_as, locking_holds}
 use Rattle.nv_machine.proofs.Lists.{written_inside}
 use Rattle.nv_machine.proofs.LocksHeld.{Before, lent_cell, lent_holder, locks_kept, new_slots}
-use Rattle.nv_calls.specs.declared.maintenance_call.MaintenanceCall.TheVariants as on
+use Rattle.nv_machine.proofs.FirstSteps.{first_by}
 
 -- ---- replies
 
@@ -97,8 +97,9 @@ no_slots : (n : ℕ) → AreSlots n []
 no_slots n = record { rising = tt; inside = tt }
 
 first_holds : (step : MaintenanceStep) (s : Shared) (actor : ℕ) (c : Call) → Holds s actor [] false
-    → held_on step [] ≡ [] → [] ≡ slots_on step → HoldsIts s actor (Some (started c (Maintenance step) []))
-first_holds step s actor c h e f = holds_as s actor (started c (Maintenance step) []) [] false h e refl (no_slots (length s.owners)) f
+    → held_on step (slots_on step) ≡ [] → AreSlots (length s.owners) (slots_on step)
+    → HoldsIts s actor (Some (started c (Maintenance step) (slots_on step)))
+first_holds step s actor c h e are = holds_as s actor (started c (Maintenance step) (slots_on step)) [] false h e refl are refl
 
 begun_locks : (b : Beginning) (w : World) (actor : ℕ) (c : Call) → AreLocks w → Holds w.shared actor [] false
     → HoldsIts w.shared actor (Some (begun b w.shared c))
@@ -111,10 +112,13 @@ begun_locks Locks w actor c locks h =
     locking_holds w.shared actor 0 (started c Check slots) h (new_slots w.shared None nothing_looked (started c Check slots) locks.wide)
 begun_locks Visits w actor c locks h = holds_as w.shared actor (begun Visits w.shared c) [] false h refl refl
     (no_slots (length w.shared.owners)) refl
-begun_locks (Maintains on.Snap) w actor c locks h = first_holds Make w.shared actor c h refl refl
-begun_locks (Maintains (on.Drop snapshot)) w actor c locks h = first_holds (Drop snapshot) w.shared actor c h refl refl
-begun_locks (Maintains (on.Show snapshot)) w actor c locks h = first_holds (Pin snapshot) w.shared actor c h refl refl
-begun_locks (Maintains (on.Drain count)) w actor c locks h = first_holds (Pick (new_draining count)) w.shared actor c h refl refl
+begun_locks (Maintains what) w actor c locks h =
+    first_holds (first_step (length w.shared.cells) what) w.shared actor c h
+    (first_by (λ (step : MaintenanceStep). held_on step (slots_on step) ≡ []) (length w.shared.cells) refl
+    (λ snapshot. refl) (λ snapshot. refl) (λ count. refl) (λ manner ino inside. refl) (λ manner. refl) what)
+    (first_by (λ (step : MaintenanceStep). AreSlots (length w.shared.owners) (slots_on step)) (length w.shared.cells) (no_slots _)
+    (λ snapshot. no_slots _) (λ snapshot. no_slots _) (λ count. no_slots _)
+    (λ manner ino inside. record { rising = (tt, tt); inside = (omega (arith, inside, locks.wide), tt) }) (λ manner. no_slots _) what)
 
 start_locks : (w : World) → AreLocks w → (actor : ℕ) (c : Call) → actor < length w.actors → (actor_at w actor).running ≡ None
     → AreLocks (begun_in w actor c)

@@ -25,7 +25,7 @@ use Rattle.nv_machine.specs.Step.{kind_turn}
 use Rattle.nv_machine.specs.World.{Append, Ends, HandState, Moves, Next, Open, Publish, Retire, Running, Shared, Maintenance, Turn, Waits, cell_at, no_cell, owner_at}
 use Rattle.nv_machine.proofs.Lists.{drop_all, has_drop, has_filter, has_later, has_take, self}
 use Rattle.nv_machine.proofs.LocksHeld.{Before}
-use Rattle.nv_machine.proofs.CellChanges.{cells_after, is_removal, lent_removes, removal, removes_published}
+use Rattle.nv_machine.proofs.CellChanges.{cells_after, removal, clean_slot, adds, clean_tail}
 use Rattle.nv_machine.proofs.WorkKeeps.{AfterTurn, turn_keeps}
 
 -- ---- what is unpublished is held
@@ -151,25 +151,27 @@ after_tail ino (Moves u k q) on = inr on
 after_tail ino Waits on = tt
 after_tail ino (Ends result u k) on = on
 
--- a removal leaves the log, or erases it
-removal_tail : (k : Next) (block a : ℕ) (granted : Bool) (s : Shared) (h : HandState) (r : Running) → Before a s k r → (ino : ℕ)
-    → is_removal k ≡ true → (has (unpublished_at k (written_slots r)) ino ≡ false → IsTailLast (cell_at s ino))
+-- a kind that appends nothing leaves the log, erases it or cleans it
+kept_tail : (k : Next) (block a : ℕ) (granted : Bool) (s : Shared) (h : HandState) (r : Running) → Before a s k r → (ino : ℕ)
+    → adds k ≡ false → unpublished_at k (written_slots r) ≡ []
+    → (has (unpublished_at k (written_slots r)) ino ≡ false → IsTailLast (cell_at s ino))
     → LeavesTail ino (kind_turn k block a granted s h r)
-removal_tail k block a granted s h r b ino removes was =
+kept_tail k block a granted s h r b ino plain none was =
     after_tail ino (kind_turn k block a granted s h r)
     (turn_keeps (λ (t : Shared) (g : HandState). IsTailLast (cell_at t ino)) k block a granted s h r last
     (cells_after Last block a s h r each k b (record {
-      appends = λ place is inside low. absurd (true≢false (sym removes ∙ ap is_removal is));
+      appends = λ place is inside low. absurd (true≢false (sym (ap adds is) ∙ plain));
       publishes = λ place is inside low same. refl;
       removes = λ is low left same.
           let x = removal k s h r in
           erased_tail x.cell (subst (λ (c : ChainState). c.tail ≡ length c.entries) (sym left.keeps.chain) (each x.slot same));
+      cleans = λ is low same. clean_tail k s h is (each (clean_slot k) same);
     }) ino refl)) where
       Last : ℕ → CellState → Type 0
       Last n cell = n ≡ ino → IsTailLast cell
 
       last : IsTailLast (cell_at s ino)
-      last = was (ap (λ (l : List ℕ). has l ino) (removes_published k (written_slots r) removes))
+      last = was (ap (λ (l : List ℕ). has l ino) none)
 
       each : (n : ℕ) → Last n (cell_at s n)
       each n same = subst (λ (m : ℕ). IsTailLast (cell_at s m)) (sym same) last
@@ -190,9 +192,9 @@ lent_tail (Publish place) block a granted s h r b ino is inside was =
     let same = same_slot slot ino is in
     inr (subst (λ (n : ℕ). IsTailLast (slice_index_or (set s.cells slot (published (cell_at s slot))) n no_cell)) same
     (set_tail slot (published (cell_at s slot)) s (omega (arith, same, inside)) refl))
-lent_tail (Retire place) block a granted s h r b ino is inside was = removal_tail (Retire place) block a granted s h r b ino refl was
+lent_tail (Retire place) block a granted s h r b ino is inside was = kept_tail (Retire place) block a granted s h r b ino refl refl was
 lent_tail (Maintenance step) block a granted s h r b ino is inside was =
-    removal_tail (Maintenance step) block a granted s h r b ino (lent_removes step ino is) was
+    kept_tail (Maintenance step) block a granted s h r b ino refl refl was
 lent_tail other block a granted s h r b ino is inside was = none_lent ino is
 
 -- ---- an erased cell has no block in a part

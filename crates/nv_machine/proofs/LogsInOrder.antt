@@ -89,7 +89,7 @@ pub begun_commits : (b : Beginning) (s : Shared) (c : Call) → commits_at (begu
 begun_commits Locks s c = locking_commits 0 (slots_of s None nothing_looked c) (nat_lt 0 (length (slots_of s None nothing_looked c)))
 begun_commits other s c = refl
 
-event_order : (w : World) (e : Event) → AreLocks w → IsInOrder w → IsInOrder (step w e).world
+pub event_order : (w : World) (e : Event) → AreLocks w → IsInOrder w → IsInOrder (step w e).world
 event_order w e locks order = event_by IsInOrder w order e
     (λ actor c there none. record {
       logs = order.logs;

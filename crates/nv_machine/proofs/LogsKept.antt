@@ -5,14 +5,13 @@ use Rattle.nv_base.specs.declared.numbers.Handle.{Handle}
 use Rattle.nv_book.specs.Book.{BookState}
 use Rattle.nv_calls.specs.Plain.{PlainNode}
 use Rattle.nv_cell.specs.Cell.{CellState}
-use Rattle.nv_entry.specs.Shape.{IsShaped}
 use Rattle.nv_entry.specs.declared.item.Entry.{Entry}
 use Rattle.nv_journal.specs.declared.old_tail.OldTail.{OldTail}
 use Rattle.nv_machine.specs.Effects.{AreSound, IsSoundIn}
 use Rattle.nv_machine.specs.Kept.{AreClosed, AreLogsKept, HasPages}
 use Rattle.nv_machine.specs.Locks.{is_owner}
 use Rattle.nv_machine.specs.Settled.{node_by, settled, settled_nodes, settled_tail}
-use Rattle.nv_machine.specs.Shapes.{AreShaped}
+use Rattle.nv_machine.specs.Shapes.{AreShaped, IsLeftShaped}
 use Rattle.nv_machine.specs.World.{Shared, cell_at, no_cell, with_book, with_cell, owner_at}
 
 -- ---- nodes
@@ -36,16 +35,16 @@ pub record SameLogs (s t : Shared) : Type 0 where
 
 -- ---- shapes
 
-pub no_shape : (block : ℕ) → IsShaped block []
-no_shape block = record { lawful = tt; last = tt }
+pub no_shape : (block : ℕ) → IsLeftShaped block []
+no_shape block = record { some = (None, tt); lawful = λ there. tt; last = tt }
 
 -- a settled log is as it was, or it is emptied
 abbrev pub IsSameOrEmpty : List Entry → List Entry → Type 0
 IsSameOrEmpty new old = (new ≡ old) ⊎ (new ≡ [])
 
-pub still_shaped : (block : ℕ) (new old : List Entry) → IsSameOrEmpty new old → IsShaped block old → IsShaped block new
-still_shaped block new old (inl same) is = subst (IsShaped block) (sym same) is
-still_shaped block new old (inr empty) is = subst (IsShaped block) (sym empty) (no_shape block)
+pub still_shaped : (block : ℕ) (new old : List Entry) → IsSameOrEmpty new old → IsLeftShaped block old → IsLeftShaped block new
+still_shaped block new old (inl same) is = subst (IsLeftShaped block) (sym same) is
+still_shaped block new old (inr empty) is = subst (IsLeftShaped block) (sym empty) (no_shape block)
 
 -- ---- what a turn leaves
 
@@ -124,11 +123,11 @@ module _ (a : ℕ) (s : Shared) (kept : AreLogsKept s) (slot : ℕ) (cell : Cell
 
   pub cell_nodes : ((generation : ℕ) → node_at cell (log_with cell slot) generation
       ≡ node_at (cell_at s slot) (settled s slot) generation)
-      → ((block : ℕ) → IsShaped block (settled s slot) → IsShaped block (log_with cell slot))
+      → ((block : ℕ) → IsLeftShaped block (settled s slot) → IsLeftShaped block (log_with cell slot))
       → (IsSoundIn (cell_at s slot) (settled s slot) → IsSoundIn cell (log_with cell slot)) → SameLogs s t
   cell_nodes same shape sounds = record {
-    shaped = λ block are ino. rw (journals) (cell_set s slot cell ino (λ (c : CellState). IsShaped block (log_with c ino)) inside
-        (λ e. subst (λ (n : ℕ). IsShaped block (log_with cell n)) e (shape block (are slot))) (λ e. are ino));
+    shaped = λ block are ino. rw (journals) (cell_set s slot cell ino (λ (c : CellState). IsLeftShaped block (log_with c ino)) inside
+        (λ e. subst (λ (n : ℕ). IsLeftShaped block (log_with cell n)) e (shape block (are slot))) (λ e. are ino));
     nodes = λ ino generation. rw (journals) (cell_set s slot cell ino
         (λ (c : CellState). node_at c (log_with c ino) generation ≡ node_at (cell_at s ino) (settled s ino) generation) inside
         (λ e. subst (λ (n : ℕ). node_at cell (log_with cell n) generation ≡ node_at (cell_at s n) (settled s n) generation) e

@@ -23,7 +23,6 @@ use Rattle.nv_machine.specs.Kinds.{append_turn, close_turn, entries_for, first_k
 use Rattle.nv_machine.specs.Locks.{AreSlots, is_owner}
 use Rattle.nv_machine.specs.Reads.{bytes_among, is_written, slot_at, written_slots}
 use Rattle.nv_machine.specs.Sequence.{appending, closing, opening, publishing, retiring}
-use Rattle.nv_entry.specs.Shape.{IsShaped}
 use Rattle.nv_machine.specs.Settled.{node_by, settled, settled_tail}
 use Rattle.nv_machine.specs.World.{Answers, Append, Close, Ends, HandState, Leave, Moves, Next, Open, Publish, Retire, Running, Shared, Turn, Waits, cell_at, go_to, no_cell, with_book, with_cell}
 use Rattle.nv_machine.proofs.LoopSteps.{by_test, either}
@@ -33,6 +32,7 @@ use Rattle.nv_machine.proofs.Journals.{closed_again, closed_tail, open_free, ope
 use Rattle.nv_machine.proofs.Lists.{drop_apart, rising_filter, take_all, take_apart, take_more, written_inside}
 use Rattle.nv_machine.proofs.WrittenSlots.{front_of, many_planned, within_of, written_there}
 use Rattle.nv_machine.proofs.LogsKept.{IsSameOrEmpty, KeptLeft, SameLogs, cell_left, cell_nodes, cell_set, node_at, still_shaped}
+use Rattle.nv_machine.specs.Shapes.{IsLeftShaped}
 
 -- what a turn owes: settled logs are kept, nodes stay but at a commit point, and the call knows what it is to know
 abbrev pub OnKept : Bool → ℕ → ℕ → Shared → Turn → Type 0
@@ -365,7 +365,7 @@ module _ (block a : ℕ) (s : Shared) (h : HandState) (r : Running) (kept : AreL
     },
     (λ e. record {
       nodes = λ ino generation. ap (λ (l : List Entry). node_at (cell_at s ino) l generation) (same ino);
-      shaped = λ size are ino. subst (IsShaped size) (sym (same ino)) (are ino);
+      shaped = λ size are ino. subst (IsLeftShaped size) (sym (same ino)) (are ino);
       sound = λ sound ino. subst (IsSoundIn (cell_at s ino)) (sym (same ino)) (sound ino);
     }),
     knows_publishing block t cpu h r k.1 0 (none_killed t h.killed k.0)

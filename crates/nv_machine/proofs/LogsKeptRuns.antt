@@ -7,6 +7,9 @@ use Rattle.nv_calls.specs.declared.call.Call.{Call}
 use Rattle.nv_cell.specs.declared.killed.KilledPart.{KilledPart}
 use Rattle.nv_machine.specs.Effects.{AreSound}
 use Rattle.nv_machine.specs.Kept.{AreBlocksApart, AreKilledIn, HasNoted, HasNothing, IsKept, IsNotedIf, IsReleaseCoveredBy, Knows, KnowsOf}
+use Rattle.nv_machine.specs.Hands.{unpublished_by}
+use Rattle.nv_machine.proofs.BlockNumbers.{lent_settled}
+use Rattle.nv_machine.proofs.Cleanable.{cleanable}
 use Rattle.nv_machine.specs.Locks.{AreLocks, HoldsIts, commits_at, commits_by, held_at, is_owner}
 use Rattle.nv_machine.specs.Order.{IsInOrder}
 use Rattle.nv_machine.specs.PlainRun.{Deed, deed_by, deed_of, keeps_nodes}
@@ -185,6 +188,13 @@ module _ (w : World) (locks : AreLocks w) (kept : IsKept w) (actor ino : ℕ) (m
   pub own_tail : OwnTail
   own_tail = by_holder w.shared.holder refl
 
+-- what the call of an actor knows
+pub known_at : (w : World) (actor : ℕ) (r : Running) → IsKept w → (actor_at w actor).running ≡ Some r
+    → Knows r.next w.numbers.block w.shared (actor % length w.shared.lists) (actor_at w actor).hand r
+known_at w actor r kept is =
+    subst (λ (running : Option Running).
+    KnowsOf running w.numbers.block w.shared (actor % length w.shared.lists) (actor_at w actor).hand) is (kept.each actor)
+
 pub standing : (w : World) (actor : ℕ) (r : Running) → AreLocks w → IsInOrder w → IsKept w → AreBlocksApart w
     → (actor_at w actor).running ≡ Some r
     → Standing r.next w.numbers.block actor w.shared (actor_at w actor).hand r
@@ -195,11 +205,12 @@ standing w actor r locks order kept apart is = record {
   apart = apart.cells;
   small = apart.small actor;
   some = kept.some;
-  knows = subst (λ (running : Option Running). KnowsOf running w.numbers.block w.shared (actor % length w.shared.lists)
-      (actor_at w actor).hand) is
-      (kept.each actor);
+  knows = known_at w actor r kept is;
   releases = subst (λ (running : Option Running). IsReleaseCoveredBy w.shared running) is (apart.releases actor);
   tails = λ ino mine out. own_tail w locks kept actor ino mine out;
+  published = λ ino mine none. lent_settled w actor ino locks apart.tails mine
+      (ap (λ (o : Option Running). has (unpublished_by o) ino) is ∙ none);
+  ready = cleanable w actor r apart.cleanable is;
 }
 
 begun_knows : (b : Beginning) (block cpu : ℕ) (s : Shared) (c : Call) (h : HandState) → HasNothing h

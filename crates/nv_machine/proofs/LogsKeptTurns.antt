@@ -6,16 +6,20 @@ use Rattle.std.proofs.lemmas.Bool.{false≢true, true≢false}
 use Rattle.nv_alloc.specs.Block.{BlockValue}
 use Rattle.nv_base.specs.declared.fault.Fault.{Fault}
 use Rattle.nv_calls.specs.AllCalls.{blocks_wanted, early, effect, looked, refusal}
-use Rattle.nv_cell.specs.Cell.{CellState}
+use Rattle.nv_cell.specs.Cell.{CellState, IsCell, log_of}
 use Rattle.nv_machine.specs.Kept.{AreApart, AreLogsKept, HasNothing, IsInFile, IsPlanFor, IsReleaseCovered, Knows}
+use Rattle.nv_alloc.specs.Numbers.{has}
+use Rattle.nv_machine.specs.Hands.{unpublished_at}
 use Rattle.nv_machine.specs.Kinds.{enter_turn}
+use Rattle.nv_machine.proofs.Cleanable.{IsCleanable}
+use Rattle.nv_machine.proofs.LogTails.{IsTailLast}
 use Rattle.nv_machine.specs.Locks.{AreSlots, is_owner}
 use Rattle.nv_machine.specs.Order.{AreLogsOrdered}
 use Rattle.nv_machine.specs.PlainRun.{Commits, Nothing, deed, keeps_nodes}
 use Rattle.nv_machine.specs.Reads.{copies, has_last_page, slot_at, written_slots}
 use Rattle.nv_machine.specs.Sequence.{beginning, locking, looking}
 use Rattle.nv_machine.specs.Step.{ending_at, is_numbered, kind_turn, made_in, same_looked}
-use Rattle.nv_machine.specs.World.{Append, Back, Check, Close, Ending, Ends, Enter, Give, HandState, Leave, Lock, LockPicked, Look, Moves, Next, Number, Open, Overtaken, Publish, Ready, Refuses, Release, Retire, Running, Shared, Show, MaintenanceStep, Maintenance, TakeBlocks, TakePages, Turn, Unlock, Visit, Waits, cell_at, go_to, no_cell, owner_at, with_book}
+use Rattle.nv_machine.specs.World.{Append, Back, Check, Close, Ending, Ends, Enter, Give, HandState, Leave, Lock, LockPicked, Look, Moves, Next, Number, Open, Overtaken, Publish, Ready, Refuses, Release, Retire, Running, Shared, Show, MaintenanceStep, Maintenance, TakeBlocks, TakePages, Turn, Unlock, Visit, Waits, cell_at, go_to, no_cell, owner_at, with_book, LockCleaned, Judge, Fresh, Unlink, Compact, with_cell}
 use Rattle.nv_machine.proofs.LogsKeptByCommits.{OnKept, append_kept, close_kept, knows_appending, open_kept, publish_kept, retire_kept}
 use Rattle.nv_machine.proofs.UnlentSteps.{IsBeside, aside, is_aside}
 use Rattle.nv_machine.proofs.CallKnowledge.{KnownBy, OnKnows, closes_knows, denied_knows, locking_knows, not_overtaken, number_nothing, passed_check, ready_knows, snapshot_knows, wanted_in_file}
@@ -35,6 +39,17 @@ use Rattle.nv_calls.specs.Retiring.{released}
 use Rattle.nv_book.specs.Book.{BookState}
 use Rattle.nv_machine.proofs.MaintenanceTurns.{done_keeps}
 use Rattle.nv_machine.proofs.CellChanges.{lent_inside_own}
+use Rattle.nv_machine.proofs.LogsKeptByCleanings.{cleaned_left, cleaned_logs}
+use Rattle.nv_machine.proofs.CleanedCells.{Cleans}
+use Rattle.nv_machine.proofs.CleanSteps.{compact_cleans, compact_shape, unlink_cleans, unlink_shape}
+use Rattle.nv_cell.proofs.MarksKeep.{are_marks}
+use Rattle.nv_entry.specs.Held.{Retention}
+use Rattle.nv_machine.specs.Shapes.{IsLeftShaped}
+use Rattle.nv_machine.specs.Cleaning.{compacted_cell, unlinked}
+use Rattle.nv_clean.specs.Plans.{entries_staying, pages_staying}
+use Rattle.nv_cell.specs.Removal.{log_flags}
+use Rattle.nv_machine.specs.Frame.{lent}
+use Rattle.nv_cell.specs.Retained.{retention_by_marks}
 
 pub none_some : (ino : ℕ) → None ≡ Some ino → ⊥
 none_some ino e = true≢false (ap (λ (o : Option ℕ). is_none o) e)
@@ -110,6 +125,9 @@ pub record Standing (k : Next) (block a : ℕ) (s : Shared) (h : HandState) (r :
   pub knows : Knows k block s (a % length s.lists) h r
   pub releases : IsReleaseCovered s k
   pub tails : (ino : ℕ) → owner_at s ino ≡ Some a → is_owner a s.holder ≡ false → (tail : ℕ) → settled_tail s.book.journals ino tail ≡ tail
+  pub published : (ino : ℕ) → owner_at s ino ≡ Some a → has (unpublished_at k (written_slots r)) ino ≡ false
+      → IsTailLast (cell_at s ino)
+  pub ready : IsCleanable k block s h r
 
 -- a step of a call on snapshots that is lent the book alone: it leaves journals and cells
 booked : (block a : ℕ) (s : Shared) (book : BookState) (h : HandState) → AreLogsKept s → book.journals ≡ s.book.journals
@@ -148,6 +166,34 @@ book_step block a granted step s h r kept same is on =
     (subst (λ (t : Shared). IsLeft a s t (maintenance_work step a s h).hand) (sym is)
     (booked block a s (maintenance_work step a s h).shared.book h kept same))) on
 
+-- a cleaning, by its record
+cleaned_kept : (step : MaintenanceStep) (ino : ℕ) (new : CellState) (block a : ℕ)
+    (granted : Bool) (s : Shared) (h : HandState) (r : Running)
+    → Standing (Maintenance step) block a s h r → (lent (Maintenance step) (length s.lists) a r).cell ≡ Some ino
+    → with_cell ino new s ≡ (maintenance_work step a s h).shared → (keeper : Retention) (flags : List Bool)
+    → Cleans keeper flags (cell_at s ino) new
+    → ((size : ℕ) → IsLeftShaped size (log_of (cell_at s ino)) → IsLeftShaped size (log_of new))
+    → OnKnows block (a % length s.lists) (maintenance_turn step a granted s h r)
+    → OnKept true block a s (maintenance_turn step a granted s h r)
+cleaned_kept step ino new block a granted s h r st is made keeper flags cleans shape on =
+    let here = lent_inside_own (Maintenance step) a s r st.before ino is in
+    let tails = st.tails ino here.1 st.before.mine.holder in
+    kept_after block a s (maintenance_turn step a granted s h r)
+    (snapshot_keeps (IsLeft a s) step a granted s h r
+    (still_left a s s st.kept (same_still s) st.kept.closed, still_nodes s s (same_still s))
+    (subst (λ (t : Shared). IsLeft a s t (maintenance_work step a s h).hand) made (
+      cleaned_left a s st.kept ino new here.0 here.1 tails keeper flags cleans shape,
+      cleaned_logs a s st.kept ino new here.0 here.1 tails keeper flags cleans shape,
+    ))) on
+
+-- its slot has a cell, whose log ends at its tail
+clean_ready : (step : MaintenanceStep) (ino block a : ℕ) (s : Shared) (h : HandState) (r : Running)
+    → Standing (Maintenance step) block a s h r → (lent (Maintenance step) (length s.lists) a r).cell ≡ Some ino
+    → IsCell (cell_at s ino) × IsTailLast (cell_at s ino)
+clean_ready step ino block a s h r st is =
+    let here = lent_inside_own (Maintenance step) a s r st.before ino is in
+    (st.ready.cells ino here.0, st.published ino here.1 refl)
+
 snapshot_kept : (step : MaintenanceStep) (block a : ℕ) (granted : Bool) (s : Shared) (h : HandState) (r : Running)
     → Standing (Maintenance step) block a s h r → OnKnows block (a % length s.lists) (maintenance_turn step a granted s h r)
     → OnKept true block a s (maintenance_turn step a granted s h r)
@@ -155,6 +201,28 @@ snapshot_kept (Show snapshot showing) block a granted s h r st on =
     aside_kept (Maintenance (Show snapshot showing)) block a granted s h r refl true st.kept on
 snapshot_kept (LockPicked draining picked) block a granted s h r st on =
     aside_kept (Maintenance (LockPicked draining picked)) block a granted s h r refl true st.kept on
+snapshot_kept (LockCleaned manner ino) block a granted s h r st on =
+    aside_kept (Maintenance (LockCleaned manner ino)) block a granted s h r refl true st.kept on
+snapshot_kept (Judge manner slot) block a granted s h r st on =
+    aside_kept (Maintenance (Judge manner slot)) block a granted s h r refl true st.kept on
+snapshot_kept (Fresh ino asked wanted) block a granted s h r st on =
+    aside_kept (Maintenance (Fresh ino asked wanted)) block a granted s h r refl true st.kept on
+snapshot_kept (Unlink ino) block a granted s h r st on =
+    let cell = cell_at s ino in
+    let is = clean_ready (Unlink ino) ino block a s h r st refl in
+    let keeper = retention_by_marks cell in
+    let marks = are_marks cell is.0 in
+    cleaned_kept (Unlink ino) ino (unlinked cell) block a granted s h r st refl refl keeper
+    (log_flags (pages_staying cell) cell.chain) (unlink_cleans keeper cell is.0 is.1 marks)
+    (unlink_shape keeper cell is.0 is.1 marks) on
+snapshot_kept (Compact ino) block a granted s h r st on =
+    let cell = cell_at s ino in
+    let is = clean_ready (Compact ino) ino block a s h r st refl in
+    let keeper = retention_by_marks cell in
+    let marks = are_marks cell is.0 in
+    cleaned_kept (Compact ino) ino (compacted_cell h cell) block a granted s h r st refl refl keeper
+    (entries_staying cell) (compact_cleans keeper cell is.0 is.1 marks h st.ready.pages)
+    (compact_shape keeper cell is.0 is.1 marks h st.ready.pages) on
 snapshot_kept (Release draining picked) block a granted s h r st on =
     let here = lent_inside_own (Maintenance (Release draining picked)) a s r st.before picked.ino refl in
     let new = released picked (cell_at s picked.ino) in

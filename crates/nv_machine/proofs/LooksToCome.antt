@@ -20,7 +20,7 @@ use Rattle.nv_machine.proofs.OverEvents.{Keeps, each, steady}
 use Rattle.nv_machine.proofs.LoopSteps.{Commits, appending_any, locking_any, publishing_any, retiring_any}
 use Rattle.nv_machine.proofs.StepWays.{After, Closes, StopsBy, any_ends, is_last, is_taker, is_taking, noted, stopped}
 use Rattle.nv_machine.proofs.StepWalk.{walk}
-use Rattle.nv_machine.proofs.MaintenanceWalk.{maintenance_walk}
+use Rattle.nv_machine.proofs.MaintenanceWalk.{maintenance_walk, ends_apart}
 use Rattle.nv_calls.specs.declared.call.Call.TheVariants as call
 
 -- a look to come is in one of its directories
@@ -182,7 +182,8 @@ kind_looks (Maintenance step) block a granted s h r has is = maintenance_walk P 
   goes = λ on clear. record { place = λ p q. cc; nothing = has.nothing; names = has.names };
   told = λ on clear. tt;
   denied = λ snapshot showing on. record { place = λ p q. cc; nothing = has.nothing; names = λ e. cc };
-  over = λ draining picked on. any_ends (closes _ _ r _ has (λ e. cc));
+  leads_on = λ next leads. record { place = λ p q. cc; nothing = has.nothing; names = has.names };
+  over = λ e ends. any_ends (closes _ _ r _ has (λ over. absurd (ends_apart step a s h e ends over)));
   none = λ draining on empty. tt;
 })
 kind_looks other block a granted s h r has is = walk P E block a s h r other granted (record {

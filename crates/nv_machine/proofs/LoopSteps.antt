@@ -112,9 +112,6 @@ sequel_on = sequel_any IsOnFiles
 pub locking_on : (place : ℕ) (slots : List ℕ) → is_on_files (locking place slots) ≡ true
 locking_on = locking_any IsOnFiles (λ place. refl) refl
 
-pub looking_on : (place : ℕ) (r : Running) → is_on_files (looking place r) ≡ true
-looking_on = looking_any IsOnFiles (λ place. refl) (λ place. refl) refl
-
 pub retiring_on : (place : ℕ) (written : List ℕ) → is_on_files (retiring place written) ≡ true
 retiring_on = retiring_any IsOnFiles commits_on
 

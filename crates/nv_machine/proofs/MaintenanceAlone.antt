@@ -1,21 +1,21 @@
 -- A call on snapshots holds nothing but the lock of a picked record: where a step of it is refused, it is answered at once.
-use Rattle.std.proofs.Common.{◌≡◌, ◌∙◌, ℕ, ◌+◌, Bool, true, false, cond, List, [], ◌∷◌, None, ap, arith, length, nat_lt, refl, sym}
+use Rattle.std.proofs.Common.{◌≡◌, ◌∙◌, ℕ, ◌+◌, Bool, true, false, cond, List, [], ◌∷◌, None, ap, arith, length, nat_lt, refl, sym, ◌<◌}
 use Rattle.std.specs.Prelude.{Ok, Err}
 use Rattle.std.proofs.lemmas.Bool.{false≢true}
 use Rattle.std.proofs.lemmas.Option.{none-some}
 use Rattle.nv_alloc.specs.FreeList.{FreeBlocks}
 use Rattle.nv_base.specs.declared.fault.Fault.{Fault}
 use Rattle.nv_base.specs.Memory.{out_of_memory}
-use Rattle.nv_book.specs.declared.record.Record.{Record}
 use Rattle.nv_calls.specs.declared.answer.Answer.TheVariants as answers
 use Rattle.nv_machine.specs.Kinds.{blocks_in}
-use Rattle.nv_machine.specs.Locks.{slots_on}
+use Rattle.nv_machine.specs.Hands.{HandOn}
+use Rattle.nv_machine.specs.Sequence.{slots_on}
 use Rattle.nv_machine.specs.Reads.{home_from}
-use Rattle.nv_machine.specs.Maintenance.{one_more, maintenance_turn}
-use Rattle.nv_machine.specs.World.{Draining, Drains, Drop, Ends, HandState, Make, Moves, Pick, Pin, Refuses, Release, Running, Shared, Show, Showing, MaintenanceStep, Maintenance, Turn, Unlock, Unpin, Waits, empty_hand}
+use Rattle.nv_machine.specs.Maintenance.{maintenance_turn}
+use Rattle.nv_machine.specs.World.{Draining, Drop, Ends, HandState, Make, Moves, Pick, Pin, Refuses, Running, Shared, Show, Showing, MaintenanceStep, Maintenance, Turn, Unlock, Unpin, Waits, empty_hand, Ending, Judge, go_to}
 use Rattle.nv_machine.proofs.StepWork.{maintenance_work}
 use Rattle.nv_machine.proofs.StepWays.{After, EndsBy, Going, IsClearOn, Telling, is_overtaken}
-use Rattle.nv_machine.proofs.MaintenanceWalk.{goes_next, is_denied, next_on, slots_next, maintenance_walk, tells, told_on}
+use Rattle.nv_machine.proofs.MaintenanceWalk.{goes_next, is_denied, next_on, slots_next, maintenance_walk, tells, told_on, EndsWith, LeadsTo, ends_slots}
 
 pub none_home : (from cpu : ℕ) (lists : List FreeBlocks) → home_from from cpu lists [] ≡ None
 none_home from cpu [] = refl
@@ -25,12 +25,14 @@ none_home from cpu (list ∷ lists) = go (nat_lt cpu from) (none_home from (cpu 
   go true none = none
   go false none = none
 
-denied_slots : (step : MaintenanceStep) → is_denied step ≡ true → slots_on step ≡ []
-denied_slots Make is = refl
-denied_slots (Drop snapshot) is = refl
-denied_slots (Pin snapshot) is = refl
-denied_slots (Pick draining) is = refl
-denied_slots other is = absurd (false≢true is)
+-- a step that may be refused has an empty hand, unless it is a taking
+pub denied_empty : (step : MaintenanceStep) (h : HandState) → is_denied step ≡ true → HandOn step h → h ≡ empty_hand
+denied_empty Make h is empty = empty
+denied_empty (Drop snapshot) h is empty = empty
+denied_empty (Pin snapshot) h is empty = empty
+denied_empty (Pick draining) h is empty = empty
+denied_empty (Judge manner slot) h is empty = empty
+denied_empty other h is empty = absurd (false≢true is)
 
 at_once : (P : Going) (E : Telling) (fault : Fault) (s : Shared) (h : HandState) (r : Running) → h ≡ empty_hand → r.slots ≡ []
     → E (Err fault) s h → EndsBy P E r.slots s h r (Refuses fault)
@@ -49,20 +51,24 @@ at_once P E fault s h r empty none told = record {
   nothing_home : home_from 0 0 s.lists (blocks_in h) ≡ None
   nothing_home = ap (λ (x : HandState). home_from 0 0 s.lists (blocks_in x)) empty ∙ none_home 0 0 s.lists
 
--- WHAT A LAW SAYS OF A TURN of such a step: of one that waits, of one that is refused, and behind its work of one that goes
--- on or is told; of a show whose memory is refused; of a release, which unlocks; and of a pick that finds none
+-- WHAT A LAW SAYS OF A TURN of such a step: of one that waits, of one that is refused, at once or by an unlock, and behind its
+-- work of one that goes on or is told; of a show whose memory is refused; of one that unlocks; and of a pick that finds none
 pub record AloneWays (Q : Turn → Type 0) (step : MaintenanceStep) (a : ℕ) (s : Shared) (h : HandState) (r : Running) : Type 0 where
   pub waits : Q Waits
   pub refused : (fault : Fault) → is_denied step ≡ true → Q (Ends (Err fault) s h)
-  pub goes : goes_next step ≡ true → IsClearOn step s → Q (Moves (maintenance_work step a s h).shared (maintenance_work step a s h).hand
+  pub goes : goes_next step ≡ true → IsClearOn step s
+      → Q (Moves (maintenance_work step a s h).shared (maintenance_work step a s h).hand
       (record r { slots = slots_next step s r; next = Maintenance (next_on step s) }))
   pub told : tells step ≡ true → IsClearOn step s
       → Q (Ends (told_on step s r) (maintenance_work step a s h).shared (maintenance_work step a s h).hand)
   pub denied : (snapshot : ℕ) (showing : Showing) → step ≡ Show snapshot showing
       → Q (Moves s h (record r { ending = Refuses out_of_memory; next = Maintenance (Unpin snapshot []) }))
-  pub over : (draining : Draining) (picked : Record) → step ≡ Release draining picked
-      → Q (Moves (maintenance_work step a s h).shared (maintenance_work step a s h).hand
-      (record r { ending = Drains (one_more draining); next = Unlock 0 }))
+  pub unlocks : (fault : Fault) → is_denied step ≡ true → 0 < length (slots_on step)
+      → Q (Moves s h (record r { ending = Refuses fault; next = Unlock 0 }))
+  pub leads_on : (next : MaintenanceStep) → LeadsTo step next
+      → Q (Moves (maintenance_work step a s h).shared (maintenance_work step a s h).hand (go_to (Maintenance next) r))
+  pub over : (e : Ending) → EndsWith step a s h e
+      → Q (Moves (maintenance_work step a s h).shared (maintenance_work step a s h).hand (record r { ending = e; next = Unlock 0 }))
   pub none : (draining : Draining) → step ≡ Pick draining → s.book.deferred ≡ [] → Q (Ends (Ok (answers.Count draining.released)) s h)
 
 module _ (Q : Turn → Type 0) where
@@ -77,18 +83,33 @@ module _ (Q : Turn → Type 0) where
   by_turn waits Waits on = waits
   by_turn waits (Ends result t h) on = on
 
-  pub alone_walk : (step : MaintenanceStep) (a : ℕ) (granted : Bool) (s : Shared) (h : HandState) (r : Running) → h ≡ empty_hand
+  pub alone_walk : (step : MaintenanceStep) (a : ℕ) (granted : Bool) (s : Shared) (h : HandState) (r : Running) → HandOn step h
       → r.slots ≡ slots_on step → AloneWays Q step a s h r → Q (maintenance_turn step a granted s h r)
   alone_walk step a granted s h r empty slots w =
       by_turn w.waits (maintenance_turn step a granted s h r) (maintenance_walk P E a s h r step granted (record {
-        stops = λ fault cause.
-            at_once P E fault s h r empty (slots ∙ denied_slots step cause.0) (w.refused fault cause.0);
+        stops = λ fault cause. stops fault cause.0;
         goes = w.goes;
         told = w.told;
         denied = λ snapshot showing on. w.denied snapshot showing on.0;
-        over = λ draining picked on. record {
-          unlock = λ some. w.over draining picked on;
-          overs = λ nothing. let e : [] ≡ picked.ino ∷ [] = sym nothing ∙ slots ∙ ap slots_on on in cc;
+        leads_on = w.leads_on;
+        over = λ e ends. record {
+          unlock = λ some. w.over e ends;
+          overs = λ nothing. absurd (omega (arith, ends_slots step a s h e ends, ap (λ (l : List ℕ). length l) (sym slots ∙ nothing)));
         };
         none = w.none;
-      }))
+      })) where
+        slotted : (fault : Fault) → is_denied step ≡ true → 0 < length (slots_on step) → EndsBy P E r.slots s h r (Refuses fault)
+        slotted fault on some = record {
+          unlock = λ there. w.unlocks fault on some;
+          overs = λ nothing. absurd (omega (arith, some, ap (λ (l : List ℕ). length l) (sym slots ∙ nothing)));
+        }
+
+        by_slots : (fault : Fault) → is_denied step ≡ true → (l : List ℕ) → slots_on step ≡ l
+            → EndsBy P E r.slots s h r (Refuses fault)
+        by_slots fault on [] none =
+            at_once P E fault s h r (denied_empty step h on empty) (slots ∙ none) (w.refused fault on)
+        by_slots fault on (slot ∷ l) some =
+            slotted fault on (omega (arith, ap (λ (m : List ℕ). length m) some))
+
+        stops : (fault : Fault) → is_denied step ≡ true → EndsBy P E r.slots s h r (Refuses fault)
+        stops fault on = by_slots fault on (slots_on step) refl

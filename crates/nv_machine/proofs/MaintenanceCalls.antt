@@ -8,7 +8,7 @@ use Rattle.nv_machine.specs.Step.{kind_turn}
 use Rattle.nv_machine.specs.World.{Ending, HandState, Next, Overtaken, Refuses, Running, Shared, MaintenanceStep, Turn}
 use Rattle.nv_machine.proofs.StepWays.{After, Closes, any_ends, is_last}
 use Rattle.nv_machine.proofs.StepWalk.{last_walk}
-use Rattle.nv_machine.proofs.MaintenanceWalk.{maintenance_walk}
+use Rattle.nv_machine.proofs.MaintenanceWalk.{maintenance_walk, ends_apart}
 
 -- the same call, overtaken only where it was
 pub record IsFrom (r q : Running) : Type 0 where
@@ -25,7 +25,8 @@ IsEnd result s h = Unit {0}
 abbrev pub OnFrom : Running → Turn → Type 0
 OnFrom b turn = After (From b) IsEnd turn
 
-closes : (s : Shared) (h : HandState) (r : Running) (e : Ending) → (e ≡ Overtaken → r.ending ≡ Overtaken) → Closes (From r) IsEnd s h r e
+closes : (s : Shared) (h : HandState) (r : Running) (e : Ending) → (e ≡ Overtaken → r.ending ≡ Overtaken)
+    → Closes (From r) IsEnd s h r e
 closes s h r e over = record {
   last = λ k is. record { call = refl; looked = refl; over = over };
   told = tt;
@@ -44,6 +45,7 @@ snapshot_from step actor granted s h r = maintenance_walk (From r) IsEnd actor s
   goes = λ on clear. record { call = refl; looked = refl; over = λ is. is };
   told = λ on clear. tt;
   denied = λ snapshot showing on. record { call = refl; looked = refl; over = λ is. cc };
-  over = λ draining picked on. any_ends (closes _ _ r _ (λ is. cc));
+  leads_on = λ next leads. record { call = refl; looked = refl; over = λ is. is };
+  over = λ e ends. any_ends (closes _ _ r _ (λ over. absurd (ends_apart step actor s h e ends over)));
   none = λ draining on empty. tt;
 })

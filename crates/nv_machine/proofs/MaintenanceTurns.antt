@@ -7,7 +7,7 @@ use Rattle.nv_machine.specs.PlainRun.{Nothing, Maintains, done_on, keeps_nodes}
 use Rattle.nv_machine.specs.Maintenance.{maintenance_turn}
 use Rattle.nv_machine.specs.World.{Answers, Back, Drains, Ending, Ends, Give, HandState, Moves, Next, Overtaken, Refuses, Running, Shared, MaintenanceStep, Maintenance, Turn, Unlock, Unpin, Waits}
 use Rattle.nv_machine.proofs.StepWays.{After, Closes, any_ends, is_last, by_last}
-use Rattle.nv_machine.proofs.MaintenanceWalk.{maintenance_walk}
+use Rattle.nv_machine.proofs.MaintenanceWalk.{maintenance_walk, ends_apart}
 
 abbrev pub is_quiet : Next → Bool
 is_quiet (Maintenance step) = true
@@ -31,8 +31,10 @@ fair_for (Unlock place) (Refuses fault) not = refl
 fair_for (Unlock place) (Drains draining) not = refl
 fair_for other e not = refl
 
-module _ (P : Turn → Type 0) (waits : P Waits) (ends : (result : Result Answer Fault) (s : Shared) (h : HandState) → P (Ends result s h))
-    (moves : (s : Shared) (h : HandState) (q : Running) → is_quiet q.next ≡ true → is_fair q.next q.ending ≡ true → P (Moves s h q)) where
+module _ (P : Turn → Type 0) (waits : P Waits)
+    (ends : (result : Result Answer Fault) (s : Shared) (h : HandState) → P (Ends result s h))
+    (moves : (s : Shared) (h : HandState) (q : Running) → is_quiet q.next ≡ true → is_fair q.next q.ending ≡ true
+    → P (Moves s h q)) where
   on_turn : (t : Turn) → After (λ (s : Shared) (h : HandState) (q : Running). P (Moves s h q))
       (λ (x : Result Answer Fault) (s : Shared) (h : HandState). P (Ends x s h)) t → P t
   on_turn (Moves s h q) on = on
@@ -51,14 +53,16 @@ module _ (P : Turn → Type 0) (waits : P Waits) (ends : (result : Result Answer
 
   pub snapshot_any : (step : MaintenanceStep) (actor : ℕ) (granted : Bool) (s : Shared) (h : HandState) (r : Running)
       → P (maintenance_turn step actor granted s h r)
-  snapshot_any step actor granted s h r = on_turn (maintenance_turn step actor granted s h r) (maintenance_walk _ _ actor s h r step granted (record {
-    stops = λ fault cause. any_ends (closes s h r _ (λ over. cc));
-    goes = λ on clear. moves _ _ _ refl refl;
-    told = λ on clear. ends _ _ _;
-    denied = λ snapshot showing on. moves s h _ refl refl;
-    over = λ draining picked on. any_ends (closes _ _ r _ (λ over. cc));
-    none = λ draining on empty. ends _ s h;
-  }))
+  snapshot_any step actor granted s h r = on_turn (maintenance_turn step actor granted s h r)
+      (maintenance_walk _ _ actor s h r step granted (record {
+        stops = λ fault cause. any_ends (closes s h r _ (λ over. cc));
+        goes = λ on clear. moves _ _ _ refl refl;
+        told = λ on clear. ends _ _ _;
+        denied = λ snapshot showing on. moves s h _ refl refl;
+        leads_on = λ next leads. moves _ _ _ refl refl;
+        over = λ e ends. any_ends (closes _ _ r _ (ends_apart step actor s h e ends));
+        none = λ draining on empty. ends _ s h;
+      }))
 
 -- ---- what it does in the plain world
 

@@ -1,20 +1,27 @@
--- EVERY STEP OF A CALL ON SNAPSHOTS, walked once for all laws: a law that says what it wants of each way
+-- EVERY STEP OF A CALL ON SNAPSHOTS AND OF A CLEANER, walked once for all laws: a law that says what it wants of each way
 -- (`MaintenanceWays`) gets it of the turn.
-use Rattle.std.proofs.Common.{◌≡◌, ℕ, ◌||◌, not, Bool, true, false, List, [], ◌∷◌, Option, Some, None, ap, arith, length, refl, subst}
+use Rattle.std.proofs.Common.{◌≡◌, ℕ, ◌<◌, zero, suc, ◌+◌, ◌-◌, ◌||◌, not, Bool, true, false, List, [], ◌∷◌, Option, Some, None, ap, arith, inl, inr, length, nat_lt, option_to_list, refl, subst, sym, ◌∙◌}
 use Rattle.std.specs.Prelude.{Result, Ok, Err, is_some}
+use Rattle.std.proofs.lemmas.Bool.{false≢true, ltb-false, true≢false}
 use Rattle.nv_base.specs.declared.fault.Fault.{Fault}
-use Rattle.nv_base.specs.declared.fault.Fault.TheVariants.{NoSnapshot}
+use Rattle.nv_base.specs.declared.fault.Fault.TheVariants.{NoSnapshot, NoSpace, Stale}
 use Rattle.nv_base.specs.Memory.{out_of_memory}
 use Rattle.nv_book.specs.declared.record.Record.{Record}
 use Rattle.nv_calls.specs.Refusals.{Check as Tests}
 use Rattle.nv_calls.specs.declared.answer.Answer.{Answer}
 use Rattle.nv_calls.specs.declared.answer.Answer.TheVariants as answers
 use Rattle.nv_epoch.specs.SnapList.{pins_of}
-use Rattle.nv_machine.specs.Causes.{IsCauseOn}
+use Rattle.nv_clean.specs.Cleaned.{answer_of}
+use Rattle.nv_clean.specs.Plans.{wanted_of}
+use Rattle.nv_machine.specs.Causes.{IsCauseOn, IsShort, is_cleanable}
+use Rattle.nv_machine.specs.Cleaning.{chosen_turn, compacted_cell, fresh_turn, inode_turn, is_thorough, judge_turn, lock_cleaned_turn, nothing_cleaned, thorough_turn, unlinked}
+use Rattle.nv_machine.specs.Kinds.{asked_list}
+use Rattle.nv_machine.specs.PoolScan.{has_inode}
+use Rattle.nv_machine.specs.Sequence.{slots_on}
 use Rattle.nv_machine.specs.Maintenance.{copies_at, drop_tests, drop_turn, first_showing, if_free, is_first, lock_picked_turn, make_tests, make_turn, one_more, picked_turn, pin_turn, seen_on, show_turn, showing_on, shown_by, maintenance_turn, visited}
-use Rattle.nv_machine.specs.World.{Draining, Drains, Drop, HandState, LockPicked, Make, Pick, Pin, Refuses, Release, Running, Shared, Show, Showing, MaintenanceStep, Maintenance, Turn, Unpin, go_to, owner_at}
+use Rattle.nv_machine.specs.World.{Cleans, Compact, Draining, Drains, Drop, Ending, Fresh, HandState, Judge, LockCleaned, LockPicked, Make, Manner, Overtaken, Pick, Pin, Refuses, Release, Running, Shared, Show, Showing, MaintenanceStep, Maintenance, Turn, Unlink, Unpin, cell_at, go_to, list_at, owner_at}
 use Rattle.nv_machine.proofs.StepWork.{maintenance_work}
-use Rattle.nv_machine.proofs.StepWays.{After, AfterBy, EndsBy, Going, IsBlockedOn, IsClearOn, IsHeld, Telling, ends_go}
+use Rattle.nv_machine.proofs.StepWays.{After, AfterBy, EndsBy, Going, IsBlockedOn, IsClearOn, IsHeld, Telling, ends_go, is_overtaken}
 use Rattle.nv_machine.proofs.StepWalk.{Denies, grown_goes, refused_goes}
 
 -- ---- calls on snapshots
@@ -25,6 +32,7 @@ goes_next (Pin snapshot) = true
 goes_next (Show snapshot showing) = true
 goes_next (Pick draining) = true
 goes_next (LockPicked draining picked) = true
+goes_next (LockCleaned manner ino) = true
 goes_next other = false
 
 abbrev pub picked_next : List Record → Draining → MaintenanceStep
@@ -36,6 +44,7 @@ next_on (Pin snapshot) s = showing_on snapshot (first_showing s)
 next_on (Show snapshot showing) s = showing_on snapshot (seen_on (copies_at s snapshot (visited showing.visits)) showing)
 next_on (Pick draining) s = picked_next s.book.deferred draining
 next_on (LockPicked draining picked) s = Release draining picked
+next_on (LockCleaned manner ino) s = Judge manner (Some ino)
 next_on other s = other
 
 abbrev pub picked_slots : List Record → List ℕ
@@ -52,6 +61,7 @@ is_denied Make = true
 is_denied (Drop snapshot) = true
 is_denied (Pin snapshot) = true
 is_denied (Pick draining) = true
+is_denied (Judge manner slot) = true
 is_denied other = false
 
 -- what the last step of a call is told
@@ -66,6 +76,73 @@ told_on Make s r = Ok (answers.Snapshot s.book.snaps.epoch)
 told_on (Unpin snapshot seen) s r = shown_by r.ending seen
 told_on other s r = Ok answers.Nothing
 
+-- a judge and a taking go on to another step of their cleaner, of the same slot
+abbrev pub leads : MaintenanceStep → Bool
+leads (Judge manner slot) = true
+leads (Fresh ino asked wanted) = true
+leads other = false
+
+abbrev pub is_cleaning : MaintenanceStep → Bool
+is_cleaning (Fresh ino asked wanted) = true
+is_cleaning (Unlink ino) = true
+is_cleaning (Compact ino) = true
+is_cleaning other = false
+
+pub record LeadsTo (step next : MaintenanceStep) : Type 0 where
+  pub from : leads step ≡ true
+  pub to : is_cleaning next ≡ true
+  pub slots : slots_on next ≡ slots_on step
+
+-- how the call is to end behind the work of a step that turns to the last steps: a drain has released one more; a judge has
+-- found nothing, and a clean step tells what it took out; and a taking lacks blocks
+abbrev pub EndsWith : MaintenanceStep → ℕ → Shared → HandState → Ending → Type 0
+EndsWith (Release draining picked) a s h e = e ≡ Drains (one_more draining)
+EndsWith (Judge manner slot) a s h e = (e ≡ Cleans nothing_cleaned) × (is_cleanable slot s ≡ true)
+EndsWith (Fresh ino asked wanted) a s h e =
+    (e ≡ Refuses NoSpace) × IsCauseOn (Fresh ino asked wanted) a true s NoSpace
+EndsWith (Unlink ino) a s h e = e ≡ Cleans (answer_of false (cell_at s ino) (unlinked (cell_at s ino)))
+EndsWith (Compact ino) a s h e = e ≡ Cleans (answer_of true (cell_at s ino) (compacted_cell h (cell_at s ino)))
+EndsWith other a s h e = ⊥
+
+-- it does not look its names up again
+pub ends_fair : (step : MaintenanceStep) (a : ℕ) (s : Shared) (h : HandState) (e : Ending) → EndsWith step a s h e
+    → is_overtaken e ≡ false
+ends_fair (Release draining picked) a s h e is = ap is_overtaken is
+ends_fair (Judge manner slot) a s h e is = ap is_overtaken is.0
+ends_fair (Fresh ino asked wanted) a s h e is = ap is_overtaken is.0
+ends_fair (Unlink ino) a s h e is = ap is_overtaken is
+ends_fair (Compact ino) a s h e is = ap is_overtaken is
+ends_fair other a s h e is = absurd is
+
+pub ends_apart : (step : MaintenanceStep) (a : ℕ) (s : Shared) (h : HandState) (e : Ending) → EndsWith step a s h e
+    → e ≡ Overtaken → ⊥
+ends_apart step a s h e is over = true≢false (sym (ap is_overtaken over) ∙ ends_fair step a s h e is)
+
+-- such a step has a slot locked
+pub ends_slots : (step : MaintenanceStep) (a : ℕ) (s : Shared) (h : HandState) (e : Ending) → EndsWith step a s h e
+    → 0 < length (slots_on step)
+ends_slots (Release draining picked) a s h e is = omega arith
+ends_slots (Judge manner None) a s h e is = absurd (false≢true is.1)
+ends_slots (Judge manner (Some ino)) a s h e is = omega arith
+ends_slots (Fresh ino asked wanted) a s h e is = omega arith
+ends_slots (Unlink ino) a s h e is = omega arith
+ends_slots (Compact ino) a s h e is = omega arith
+ends_slots other a s h e is = absurd is
+
+-- nothing stops such a step
+pub ends_clear : (step : MaintenanceStep) (a : ℕ) (s : Shared) (h : HandState) (e : Ending) → EndsWith step a s h e → IsClearOn step s
+ends_clear (Release draining picked) a s h e is = tt
+ends_clear (Judge manner slot) a s h e is = tt
+ends_clear (Fresh ino asked wanted) a s h e is = tt
+ends_clear (Unlink ino) a s h e is = tt
+ends_clear (Compact ino) a s h e is = tt
+ends_clear other a s h e is = absurd is
+
+pub leads_clear : {next : MaintenanceStep} (step : MaintenanceStep) (s : Shared) → LeadsTo step next → IsClearOn step s
+leads_clear (Judge manner slot) s l = tt
+leads_clear (Fresh ino asked wanted) s l = tt
+leads_clear other s l = absurd (false≢true l.from)
+
 -- memory is not granted that is asked for
 pub no_growth : (granted grows : Bool) → (granted || not grows) ≡ false → (granted ≡ false) × (grows ≡ true)
 no_growth true grows e = cc
@@ -73,10 +150,11 @@ no_growth false true e = (refl, refl)
 no_growth false false e = cc
 
 -- WHAT A LAW SAYS OF A STEP of a call on snapshots: of one that is refused, and behind its work of one that goes on to
--- another such step and of one that is told; of a show whose memory is refused; of a release; and of a pick that finds none
+-- another such step and of one that is told; of a show whose memory is refused; of one that turns to the last steps; and of a
+-- pick that finds none
 pub record MaintenanceWays (P : Going) (E : Telling) (step : MaintenanceStep) (a : ℕ) (granted : Bool) (s : Shared) (h : HandState)
     (r : Running) : Type 0 where
-  pub stops : (fault : Fault) → (is_denied step ≡ true) × IsCauseOn step granted s fault
+  pub stops : (fault : Fault) → (is_denied step ≡ true) × IsCauseOn step a granted s fault
       → EndsBy P E r.slots s h r (Refuses fault)
   pub goes : goes_next step ≡ true → IsClearOn step s → P (maintenance_work step a s h).shared (maintenance_work step a s h).hand
       (record r { slots = slots_next step s r; next = Maintenance (next_on step s) })
@@ -84,8 +162,10 @@ pub record MaintenanceWays (P : Going) (E : Telling) (step : MaintenanceStep) (a
       → E (told_on step s r) (maintenance_work step a s h).shared (maintenance_work step a s h).hand
   pub denied : (snapshot : ℕ) (showing : Showing) → (step ≡ Show snapshot showing) × (granted ≡ false)
       → P s h (record r { ending = Refuses out_of_memory; next = Maintenance (Unpin snapshot []) })
-  pub over : (draining : Draining) (picked : Record) → step ≡ Release draining picked
-      → EndsBy P E r.slots (maintenance_work step a s h).shared (maintenance_work step a s h).hand r (Drains (one_more draining))
+  pub leads_on : (next : MaintenanceStep) → LeadsTo step next
+      → P (maintenance_work step a s h).shared (maintenance_work step a s h).hand (go_to (Maintenance next) r)
+  pub over : (e : Ending) → EndsWith step a s h e
+      → EndsBy P E r.slots (maintenance_work step a s h).shared (maintenance_work step a s h).hand r e
   pub none : (draining : Draining) → step ≡ Pick draining → s.book.deferred ≡ [] → E (Ok (answers.Count draining.released)) s h
 
 -- behind its work a step goes on to another such step, or its call is told
@@ -98,7 +178,28 @@ abbrev pub StepTold : Telling → MaintenanceStep → ℕ → Shared → HandSta
 StepTold E step a s h r =
     IsClearOn step s → E (told_on step s r) (maintenance_work step a s h).shared (maintenance_work step a s h).hand
 
--- EVERY WAY OF A STEP of a call on snapshots, with what is known there
+-- what a judge finds: pages that may go, or none; entries that go, so that the others move; or none
+pub record Judged (P : Going) (E : Telling) (manner : Manner) (ino : ℕ) (s : Shared) (h : HandState) (r : Running) : Type 0 where
+  pub fast : is_thorough manner (cell_at s ino) ≡ false → P s h (go_to (Maintenance (Unlink ino)) r)
+  pub some : (n : ℕ) → is_thorough manner (cell_at s ino) ≡ true → (wanted_of (cell_at s ino)).dropped ≡ suc n
+      → P s h (go_to (Maintenance (Fresh ino 0 (wanted_of (cell_at s ino)).pages)) r)
+  pub none : is_thorough manner (cell_at s ino) ≡ true → (wanted_of (cell_at s ino)).dropped ≡ 0
+      → EndsBy P E r.slots s h r (Cleans nothing_cleaned)
+
+-- so many pages are wanted yet of another list, where there is one, or none are
+abbrev pub fresh_yet : ℕ → ℕ → ℕ → Shared → ℕ
+fresh_yet asked wanted a s = wanted - length (list_at s (asked_list (length s.lists) a asked)).blocks
+
+pub record Freshened (P : Going) (E : Telling) (ino asked wanted a : ℕ) (s : Shared) (h : HandState) (r : Running) : Type 0 where
+  pub ready : fresh_yet asked wanted a s ≡ 0
+      → let d = maintenance_work (Fresh ino asked wanted) a s h in P d.shared d.hand (go_to (Maintenance (Compact ino)) r)
+  pub more : (n : ℕ) → fresh_yet asked wanted a s ≡ suc n → nat_lt (asked + 1) (length s.lists) ≡ true
+      → let d = maintenance_work (Fresh ino asked wanted) a s h in
+      P d.shared d.hand (go_to (Maintenance (Fresh ino (asked + 1) (suc n))) r)
+  pub short : (n : ℕ) → fresh_yet asked wanted a s ≡ suc n → nat_lt (asked + 1) (length s.lists) ≡ false
+      → let d = maintenance_work (Fresh ino asked wanted) a s h in Denies P E d.shared d.hand r NoSpace
+
+-- EVERY WAY OF A STEP of a call on snapshots or of a cleaner, with what is known there
 abbrev pub StepWaysOf : Going → Telling → MaintenanceStep → ℕ → Bool → Shared → HandState → Running → Type 0
 StepWaysOf P E Make a granted s h r =
     ((fault : Fault) → make_tests s.book.snaps ≡ Err fault → Denies P E s h r fault) × StepTold E Make a s h r
@@ -119,8 +220,21 @@ StepWaysOf P E (Pick draining) a granted s h r =
     (record r { slots = picked.ino ∷ []; next = Maintenance (LockPicked draining picked) }))
 StepWaysOf P E (LockPicked draining picked) a granted s h r = StepGoes P (LockPicked draining picked) a s h r
 StepWaysOf P E (Release draining picked) a granted s h r =
-    EndsBy P E r.slots (maintenance_work (Release draining picked) a s h).shared (maintenance_work (Release draining picked) a s h).hand r
+    EndsBy P E r.slots (maintenance_work (Release draining picked) a s h).shared
+    (maintenance_work (Release draining picked) a s h).hand r
     (Drains (one_more draining))
+StepWaysOf P E (LockCleaned manner ino) a granted s h r = StepGoes P (LockCleaned manner ino) a s h r
+StepWaysOf P E (Judge manner slot) a granted s h r =
+    (is_cleanable slot s ≡ false → Denies P E s h r Stale)
+    × (is_cleanable slot s ≡ true → granted ≡ false → Denies P E s h r out_of_memory)
+    × ((ino : ℕ) → slot ≡ Some ino → has_inode (cell_at s ino) ≡ true → Judged P E manner ino s h r)
+StepWaysOf P E (Fresh ino asked wanted) a granted s h r = Freshened P E ino asked wanted a s h r
+StepWaysOf P E (Unlink ino) a granted s h r =
+    EndsBy P E r.slots (maintenance_work (Unlink ino) a s h).shared (maintenance_work (Unlink ino) a s h).hand r
+    (Cleans (answer_of false (cell_at s ino) (unlinked (cell_at s ino))))
+StepWaysOf P E (Compact ino) a granted s h r =
+    EndsBy P E r.slots (maintenance_work (Compact ino) a s h).shared (maintenance_work (Compact ino) a s h).hand r
+    (Cleans (answer_of true (cell_at s ino) (compacted_cell h (cell_at s ino))))
 
 module _ (W : Type 0) (P : Going) (E : Telling) (a : ℕ) (s : Shared) (h : HandState) (r : Running) where
   abbrev Steps : MaintenanceStep → Bool → Type 0
@@ -165,7 +279,42 @@ module _ (W : Type 0) (P : Going) (E : Telling) (a : ℕ) (s : Shared) (h : Hand
   lock_picked_goes (Some other) draining picked granted free wait w = wait (other, free)
   lock_picked_goes None draining picked granted free wait w = w free
 
-  -- EVERY STEP of a call on snapshots
+  lock_cleaned_goes : (owner : Option ℕ) (manner : Manner) (ino : ℕ) (granted : Bool) → owner_at s ino ≡ owner
+      → (IsBlockedOn (LockCleaned manner ino) s → W) → Steps (LockCleaned manner ino) granted
+      → AfterBy W P E (lock_cleaned_turn owner a manner ino s h r)
+  lock_cleaned_goes (Some other) manner ino granted free wait w = wait (other, free)
+  lock_cleaned_goes None manner ino granted free wait w = w free
+
+  thorough_goes : (n : ℕ) (manner : Manner) (ino : ℕ) → (wanted_of (cell_at s ino)).dropped ≡ n
+      → is_thorough manner (cell_at s ino) ≡ true → Judged P E manner ino s h r
+      → AfterBy W P E (thorough_turn n (wanted_of (cell_at s ino)).pages ino s h r)
+  thorough_goes zero manner ino none is w = ends_go W P E s h r _ r.slots (w.none is none)
+  thorough_goes (suc n) manner ino some is w = w.some n is some
+
+  chosen_goes : (b : Bool) (manner : Manner) (ino : ℕ) → is_thorough manner (cell_at s ino) ≡ b → Judged P E manner ino s h r
+      → AfterBy W P E (chosen_turn b ino s h r)
+  chosen_goes true manner ino is w = thorough_goes _ manner ino refl is w
+  chosen_goes false manner ino is w = w.fast is
+
+  inode_goes : (b : Bool) (manner : Manner) (ino : ℕ) (granted : Bool) → has_inode (cell_at s ino) ≡ b
+      → Steps (Judge manner (Some ino)) granted → AfterBy W P E (inode_turn b manner ino granted s h r)
+  inode_goes false manner ino granted is w = refused_goes W P E Stale s h r (w.0 is)
+  inode_goes true manner ino granted is w =
+      grown_goes W P E granted _ s h r (w.1 is) (chosen_goes _ manner ino refl (w.2 ino refl is))
+
+  judge_goes : (manner : Manner) (slot : Option ℕ) (granted : Bool) → Steps (Judge manner slot) granted
+      → AfterBy W P E (judge_turn manner slot granted s h r)
+  judge_goes manner None granted w = refused_goes W P E Stale s h r (w.0 refl)
+  judge_goes manner (Some ino) granted w = inode_goes _ manner ino granted refl w
+
+  fresh_goes : (n : ℕ) (more : Bool) (ino asked wanted : ℕ) → fresh_yet asked wanted a s ≡ n
+      → nat_lt (asked + 1) (length s.lists) ≡ more → Freshened P E ino asked wanted a s h r
+      → let d = maintenance_work (Fresh ino asked wanted) a s h in AfterBy W P E (fresh_turn n more ino asked d.shared d.hand r)
+  fresh_goes zero more ino asked wanted q m w = w.ready q
+  fresh_goes (suc n) true ino asked wanted q m w = w.more n q m
+  fresh_goes (suc n) false ino asked wanted q m w = refused_goes W P E NoSpace _ _ r (w.short n q m)
+
+  -- EVERY STEP of a call on snapshots, or of a cleaner
   pub step_walk_by : (step : MaintenanceStep) (granted : Bool) → (IsBlockedOn step s → W) → StepWaysOf P E step a granted s h r
       → AfterBy W P E (maintenance_turn step a granted s h r)
   step_walk_by Make granted wait w = free_goes s.holder _ refl wait (make_goes (make_tests s.book.snaps) granted refl w)
@@ -179,9 +328,23 @@ module _ (W : Type 0) (P : Going) (E : Telling) (a : ℕ) (s : Shared) (h : Hand
       (picked_goes s.book.deferred draining granted free refl w))
   step_walk_by (LockPicked draining picked) granted wait w = lock_picked_goes _ draining picked granted refl wait w
   step_walk_by (Release draining picked) granted wait w = ends_go W P E _ _ r _ r.slots w
+  step_walk_by (LockCleaned manner ino) granted wait w = lock_cleaned_goes _ manner ino granted refl wait w
+  step_walk_by (Judge manner slot) granted wait w = judge_goes manner slot granted w
+  step_walk_by (Fresh ino asked wanted) granted wait w = fresh_goes _ _ ino asked wanted refl refl w
+  step_walk_by (Unlink ino) granted wait w = ends_go W P E _ _ r _ r.slots w
+  step_walk_by (Compact ino) granted wait w = ends_go W P E _ _ r _ r.slots w
 
 module _ (P : Going) (E : Telling) (a : ℕ) (s : Shared) (h : HandState) (r : Running) where
-  any_step_ways : (step : MaintenanceStep) (granted : Bool) → MaintenanceWays P E step a granted s h r → StepWaysOf P E step a granted s h r
+  short_of : (asked wanted n : ℕ) → fresh_yet asked wanted a s ≡ suc n → nat_lt (asked + 1) (length s.lists) ≡ false
+      → IsShort s (asked_list (length s.lists) a asked) asked wanted NoSpace
+  short_of asked wanted n q m = record {
+    is = refl;
+    last = omega (arith, ltb-false (asked + 1) (length s.lists) m);
+    short = omega (arith, q);
+  }
+
+  any_step_ways : (step : MaintenanceStep) (granted : Bool) → MaintenanceWays P E step a granted s h r
+      → StepWaysOf P E step a granted s h r
   any_step_ways Make granted w = (λ fault by. w.stops fault (refl, by), w.told refl)
   any_step_ways (Drop snapshot) granted w = (λ fault by. w.stops fault (refl, by), w.told refl)
   any_step_ways (Pin snapshot) granted w = (λ none. w.stops NoSnapshot (refl, (refl, none)), w.goes refl)
@@ -195,7 +358,27 @@ module _ (P : Going) (E : Telling) (a : ℕ) (s : Shared) (h : HandState) (r : R
         (w.goes refl (free, (let some = ap (λ (l : List Record). length l) is in omega (arith, some)))),
   )
   any_step_ways (LockPicked draining picked) granted w = w.goes refl
-  any_step_ways (Release draining picked) granted w = w.over draining picked refl
+  any_step_ways (Release draining picked) granted w = w.over (Drains (one_more draining)) refl
+  any_step_ways (LockCleaned manner ino) granted w = w.goes refl
+  any_step_ways (Judge manner slot) granted w = (
+    λ none. w.stops Stale (refl, inl (refl, none)),
+    λ some lacks. w.stops out_of_memory (refl, inr ((refl, lacks), some)),
+    λ ino is some. record {
+      fast = λ plain. w.leads_on (Unlink ino)
+          (record { from = refl; to = refl; slots = ap (λ (o : Option ℕ). option_to_list o) (sym is) });
+      some = λ n plain more. w.leads_on (Fresh ino 0 (wanted_of (cell_at s ino)).pages)
+          (record { from = refl; to = refl; slots = ap (λ (o : Option ℕ). option_to_list o) (sym is) });
+      none = λ plain less. w.over (Cleans nothing_cleaned)
+          (refl, ap (λ (o : Option ℕ). is_cleanable o s) is ∙ some);
+    },
+  )
+  any_step_ways (Fresh ino asked wanted) granted w = record {
+    ready = λ q. w.leads_on (Compact ino) (record { from = refl; to = refl; slots = refl });
+    more = λ n q m. w.leads_on (Fresh ino (asked + 1) (suc n)) (record { from = refl; to = refl; slots = refl });
+    short = λ n q m. w.over (Refuses NoSpace) (refl, short_of asked wanted n q m);
+  }
+  any_step_ways (Unlink ino) granted w = w.over _ refl
+  any_step_ways (Compact ino) granted w = w.over _ refl
 
   pub maintenance_walk : (step : MaintenanceStep) (granted : Bool) → MaintenanceWays P E step a granted s h r
       → After P E (maintenance_turn step a granted s h r)

@@ -9,8 +9,8 @@ use Rattle.nv_machine.specs.Bound.{IsNoStart, bound_at, bound_of, most_steps, mo
 use Rattle.nv_machine.specs.Starts.{IsStart}
 use Rattle.nv_machine.specs.Step.{after, replies, step}
 use Rattle.nv_machine.specs.World.{Actor, Event, Go, Moved, Running, Start, World, actor_at}
+use Rattle.nv_machine.proofs.EveryWorld.{all_numbers}
 use Rattle.nv_machine.proofs.SingleEvents.{event_bound, event_cpus, events_bound, start_bound}
-use Rattle.nv_machine.proofs.FromScratch.{all_numbers}
 use Rattle.nv_machine.proofs.Lists.{self}
 use Rattle.nv_machine.proofs.StepBounds.{steps_of_any}
 

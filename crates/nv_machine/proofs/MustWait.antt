@@ -4,7 +4,7 @@ use Rattle.std.proofs.lemmas.Bool.{lt-ltb}
 use Rattle.nv_machine.specs.Locks.{AreLocks, WaitsFor, WaitsOn}
 use Rattle.nv_machine.specs.Maintenance.{maintenance_turn}
 use Rattle.nv_machine.specs.Step.{Step, kind_turn, step, turned}
-use Rattle.nv_machine.specs.World.{Drop, Enter, Go, HandState, Lock, LockPicked, Look, Make, Next, Pick, Pin, Release, Running, Shared, Show, MaintenanceStep, Maintenance, Turn, Unpin, Visit, Waiting, Waits, World, actor_at}
+use Rattle.nv_machine.specs.World.{Drop, Enter, Go, HandState, Lock, LockPicked, Look, Make, Next, Pick, Pin, Release, Running, Shared, Show, MaintenanceStep, Maintenance, Turn, Unpin, Visit, Waiting, Waits, World, actor_at, Compact, Fresh, Judge, LockCleaned, Unlink}
 use Rattle.nv_machine.proofs.LocksOverEvents.{waits}
 use Rattle.nv_machine.proofs.SingleEvents.{go_is_turn}
 
@@ -18,6 +18,11 @@ module _ (block a : ℕ) (granted : Bool) (s : Shared) (h : HandState) (r : Runn
   held_on (Pick draining) held = rw held.1 refl
   held_on (LockPicked draining picked) held = rw held.1 refl
   held_on (Release draining picked) held = absurd held
+  held_on (LockCleaned manner ino) held = rw held.1 refl
+  held_on (Judge manner slot) held = absurd held
+  held_on (Fresh ino asked wanted) held = absurd held
+  held_on (Unlink ino) held = absurd held
+  held_on (Compact ino) held = absurd held
 
   -- every kind
   must_wait : (k : Next) → WaitsFor s a r k → kind_turn k block a granted s h r ≡ Waits

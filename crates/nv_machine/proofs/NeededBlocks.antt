@@ -26,8 +26,8 @@ use Rattle.nv_machine.specs.Numbers.{free_of, held_by_actor, held_in}
 use Rattle.nv_machine.specs.Starts.{IsStart}
 use Rattle.nv_machine.specs.Step.{after}
 use Rattle.nv_machine.specs.World.{Event, HandState, Running, World, actor_at, cell_at, list_at}
-use Rattle.nv_machine.proofs.FiledParts.{log_in}
-use Rattle.nv_machine.proofs.FromScratch.{all_numbers, idle_nothing}
+use Rattle.nv_machine.proofs.EveryWorld.{all_numbers}
+use Rattle.nv_machine.proofs.WorldFacts.{idle_nothing, log_in}
 use Rattle.nv_machine.proofs.HeldLaw.{scanned_by_logs}
 use Rattle.nv_machine.proofs.Pairs.{pair_there}
 use Rattle.nv_machine.proofs.PartsFor.{none_of}

@@ -10,8 +10,8 @@ use Rattle.nv_machine.specs.Reads.{slots_in, slots_of, with_slot}
 use Rattle.nv_machine.specs.Starts.{IsStart}
 use Rattle.nv_machine.specs.Step.{after}
 use Rattle.nv_machine.specs.World.{Check, Event, HandState, Lock, Next, Running, World, actor_at}
+use Rattle.nv_machine.proofs.EveryWorld.{all_pooled}
 use Rattle.nv_machine.proofs.PoolKnown.{Sees, SeesOf}
-use Rattle.nv_machine.proofs.PoolLaw.{all_pooled}
 use Rattle.nv_machine.proofs.PoolSlots.{has_with}
 
 no_list : (b : Bool) → false ≡ (b && false)

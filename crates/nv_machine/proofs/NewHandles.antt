@@ -29,9 +29,10 @@ use Rattle.nv_machine.specs.Settled.{node_by, settled, settled_nodes}
 use Rattle.nv_machine.specs.Starts.{IsStart}
 use Rattle.nv_machine.specs.Step.{after, step}
 use Rattle.nv_machine.specs.World.{Event, Go, Running, Shared, World, actor_at, cell_at}
+use Rattle.nv_machine.proofs.EveryWorld.{all_known}
 use Rattle.nv_machine.proofs.DirectoriesChanged.{some_directory}
 use Rattle.nv_machine.proofs.OverEvents.{by_points}
-use Rattle.nv_machine.proofs.FitsEvents.{IsKnown, all_known, drawn_now, passed_now}
+use Rattle.nv_machine.proofs.FitsEvents.{IsKnown, drawn_now, passed_now}
 use Rattle.nv_machine.proofs.FitsStages.{Passed, made_locked}
 use Rattle.nv_machine.proofs.UnsettledTurns.{point_shared}
 use Rattle.nv_machine.proofs.FitsRuns.{present_in, taken_of}

@@ -1,17 +1,22 @@
 -- What comes next behind a step: behind one of a call on files and directories another such step, or the pick of a drain.
-use Rattle.std.proofs.Common.{◌≡◌, ℕ, Bool, true, List, [], None, refl}
+use Rattle.nv_reader.specs.Walk as walk
+use Rattle.std.proofs.Common.{◌≡◌, ℕ, Bool, true, List, [], None, refl, zero, suc, ◌+◌, ◌∷◌, false, sym, ◌∙◌}
 use Rattle.std.specs.Prelude.{Result}
 use Rattle.nv_base.specs.declared.fault.Fault.{Fault}
 use Rattle.nv_calls.specs.declared.answer.Answer.{Answer}
 use Rattle.nv_machine.specs.Kinds.{end_turn}
 use Rattle.nv_machine.specs.Sequence.{sequel}
-use Rattle.nv_machine.specs.Maintenance.{maintenance_turn}
+use Rattle.nv_machine.specs.Maintenance.{maintenance_turn, show_or_unpin, first_showing, seen_on, copies_at, visited}
 use Rattle.nv_machine.specs.Step.{ending_at, kind_turn}
-use Rattle.nv_machine.specs.World.{Back, Check, Draining, Ending, Enter, Give, HandState, Leave, Lock, Look, Next, Pick, Ready, Running, Shared, Show, Showing, MaintenanceStep, Maintenance, TakeBlocks, TakePages, Turn, Unlock, Unpin, Visit}
+use Rattle.nv_machine.specs.World.{Back, Check, Draining, Ending, Enter, Give, HandState, Leave, Lock, Look, Next, Pick, Ready, Running, Shared, Show, Showing, MaintenanceStep, Maintenance, TakeBlocks, TakePages, Turn, Unlock, Unpin, Visit, Judge, Fresh, Unlink, Compact, LockPicked, LockCleaned, Pin, cell_at, go_to}
 use Rattle.nv_machine.proofs.LoopSteps.{goes_on, is_on_files, sequel_on}
 use Rattle.nv_machine.proofs.StepWays.{After, Closes, EndsBy, Going, IsClear, IsClearOn, Takes, Telling, any_ends, end_goes, is_last, is_taker, is_taking, noted, by_last, by_taking}
 use Rattle.nv_machine.proofs.StepWalk.{WaysOf, Works, last_walk, walk, walk_of}
-use Rattle.nv_machine.proofs.MaintenanceWalk.{goes_next, next_on, maintenance_walk}
+use Rattle.nv_machine.proofs.MaintenanceWalk.{goes_next, next_on, maintenance_walk, LeadsTo, is_cleaning, leads, fresh_yet, step_walk_by, picked_next}
+use Rattle.nv_clean.specs.Plans.{wanted_of}
+use Rattle.nv_machine.proofs.StepWork.{maintenance_work}
+use Rattle.nv_book.specs.declared.record.Record.{Record}
+use Rattle.std.proofs.lemmas.Bool.{true≢false, false≢true}
 
 pub last_on : (k : Next) → is_last k ≡ true → is_on_files k ≡ true
 last_on = by_last (λ (k : Next). is_on_files k ≡ true) (λ place. refl) (λ cpu. refl) refl
@@ -49,20 +54,20 @@ module _ (P : Next → Type 0) (last : (k : Next) → is_last k ≡ true → P k
   pub step_next : (step : MaintenanceStep) (a : ℕ) (granted : Bool) (s : Shared) (h : HandState) (r : Running)
       → (goes_next step ≡ true → IsClearOn step s → P (Maintenance (next_on step s)))
       → ((snapshot : ℕ) (showing : Showing) → step ≡ Show snapshot showing → P (Maintenance (Unpin snapshot [])))
+      → ((next : MaintenanceStep) → LeadsTo step next → P (Maintenance next))
       → IsNext P (maintenance_turn step a granted s h r)
-  step_next step a granted s h r goes denied = maintenance_walk _ _ a s h r step granted (record {
+  step_next step a granted s h r goes denied leads = maintenance_walk _ _ a s h r step granted (record {
     stops = λ fault cause. any_ends (closes_next s h r _);
     goes = goes;
     told = λ on clear. tt;
     denied = λ snapshot showing on. denied snapshot showing on.0;
-    over = λ draining picked on. any_ends (closes_next _ _ r _);
+    leads_on = leads;
+    over = λ e ends. any_ends (closes_next _ _ r _);
     none = λ draining on empty. tt;
   })
 
-module _ (P : Next → Type 0) (files : (k : Next) → is_on_files k ≡ true → P k) (picks : (draining : Draining) → P (Maintenance (Pick draining))) where
-  pub end_on : (slots : List ℕ) (e : Ending) (s : Shared) (h : HandState) (r : Running) → IsNext P (end_turn slots e s h r)
-  end_on slots e s h r = end_next P (λ next last. files next (last_on next last)) (files (Look 0) refl) picks slots e s h r
-
+module _ (P : Next → Type 0) (files : (k : Next) → is_on_files k ≡ true → P k)
+    (picks : (draining : Draining) → P (Maintenance (Pick draining))) where
   pub files_next : (k : Next) (block a : ℕ) (granted : Bool) (s : Shared) (h : HandState) (r : Running) → is_on_files k ≡ true
       → IsNext P (kind_turn k block a granted s h r)
   files_next k block a granted s h r is =
@@ -73,11 +78,13 @@ module _ (P : Next → Type 0) (files : (k : Next) → is_on_files k ≡ true �
   pub snapshots_next : (step : MaintenanceStep) (a : ℕ) (granted : Bool) (s : Shared) (h : HandState) (r : Running)
       → (goes_next step ≡ true → IsClearOn step s → P (Maintenance (next_on step s)))
       → ((snapshot : ℕ) (showing : Showing) → step ≡ Show snapshot showing → P (Maintenance (Unpin snapshot [])))
+      → ((next : MaintenanceStep) → LeadsTo step next → P (Maintenance next))
       → IsNext P (maintenance_turn step a granted s h r)
-  snapshots_next step a granted s h r goes denied =
-      step_next P (λ next last. files next (last_on next last)) (files (Look 0) refl) picks step a granted s h r goes denied
+  snapshots_next step a granted s h r goes denied leads =
+      step_next P (λ next last. files next (last_on next last)) (files (Look 0) refl) picks step a granted s h r goes denied leads
 
--- ---- what a call knows before its next step, where of a look anew, of the last steps and of calls on snapshots that is nothing
+-- ---- what a call knows before its next step, where of a look anew, of the last steps and of calls on snapshots that is
+-- nothing: of a cleaner behind its judge it may be something
 
 abbrev pub Known : Type 1
 Known = Next → Shared → HandState → Running → Type 0
@@ -96,7 +103,8 @@ pub record IsQuiet (X : Known) : Type 0 where
   pub give : (cpu : ℕ) (s : Shared) (h : HandState) (r : Running) → X (Give cpu) s h r
   pub back : (s : Shared) (h : HandState) (r : Running) → X Back s h r
   pub look : (s : Shared) (h : HandState) (r : Running) → X (Look 0) s h r
-  pub steps : (step : MaintenanceStep) (s : Shared) (h : HandState) (r : Running) → X (Maintenance step) s h r
+  pub steps : (step : MaintenanceStep) → is_cleaning step ≡ false
+      → (s : Shared) (h : HandState) (r : Running) → X (Maintenance step) s h r
 
 -- what is left to say of each kind
 abbrev pub QuietWays : Known → Next → ℕ → ℕ → Shared → HandState → Running → Type 0
@@ -109,8 +117,37 @@ QuietWays X (Unlock place) block a s h r = Unit {0}
 QuietWays X (Give cpu) block a s h r = Unit {0}
 QuietWays X Back block a s h r = Unit {0}
 QuietWays X Visit block a s h r = Unit {0}
+QuietWays X (Maintenance (Judge manner slot)) block a s h r =
+    (ino : ℕ) → X (Maintenance (Unlink ino)) s h (go_to (Maintenance (Unlink ino)) r)
+    × X (Maintenance (Fresh ino 0 (wanted_of (cell_at s ino)).pages)) s h
+    (go_to (Maintenance (Fresh ino 0 (wanted_of (cell_at s ino)).pages)) r)
+QuietWays X (Maintenance (Fresh ino asked wanted)) block a s h r =
+    let d = maintenance_work (Fresh ino asked wanted) a s h in
+    (fresh_yet asked wanted a s ≡ 0 → X (Maintenance (Compact ino)) d.shared d.hand (go_to (Maintenance (Compact ino)) r))
+    × ((n : ℕ) → fresh_yet asked wanted a s ≡ suc n
+    → X (Maintenance (Fresh ino (asked + 1) (suc n))) d.shared d.hand (go_to (Maintenance (Fresh ino (asked + 1) (suc n))) r))
 QuietWays X (Maintenance step) block a s h r = Unit {0}
 QuietWays X other block a s h r = Works (KnowsNext X) other block a s h r
+
+-- a step of a call on snapshots goes on to no step of a cleaner behind its judge
+showing_plain : (left : ℕ) (visits : List walk.Visit) (snapshot : ℕ) (showing : Showing)
+    → is_cleaning (show_or_unpin left visits snapshot showing) ≡ false
+showing_plain zero visits snapshot showing = refl
+showing_plain (suc left) [] snapshot showing = refl
+showing_plain (suc left) (visit ∷ visits) snapshot showing = refl
+
+picked_plain : (deferred : List Record) (draining : Draining) → is_cleaning (picked_next deferred draining) ≡ false
+picked_plain [] draining = refl
+picked_plain (picked ∷ deferred) draining = refl
+
+goes_plain : (step : MaintenanceStep) (s : Shared) → goes_next step ≡ true → is_cleaning (next_on step s) ≡ false
+goes_plain (Pin snapshot) s on = showing_plain (first_showing s).left (first_showing s).visits snapshot (first_showing s)
+goes_plain (Show snapshot showing) s on =
+    let seen = seen_on (copies_at s snapshot (visited showing.visits)) showing in showing_plain seen.left seen.visits snapshot seen
+goes_plain (Pick draining) s on = picked_plain s.book.deferred draining
+goes_plain (LockPicked draining picked) s on = refl
+goes_plain (LockCleaned manner ino) s on = refl
+goes_plain other s on = absurd (false≢true on)
 
 module _ (X : Known) (quiet : IsQuiet X) where
   pub quiet_closes : {s : Shared} {h : HandState} {r : Running} {e : Ending} → Closes (KnowsNext X) Untold s h r e
@@ -119,22 +156,37 @@ module _ (X : Known) (quiet : IsQuiet X) where
         (λ cpu. quiet.give cpu _ _ _) (quiet.back _ _ _);
     told = tt;
     again = λ n over some. quiet.look _ _ _;
-    picks = λ d left drains some. quiet.steps _ _ _ _;
+    picks = λ d left drains some. quiet.steps _ refl _ _ _;
   }
 
   pub quiet_ends : {slots : List ℕ} {s : Shared} {h : HandState} {r : Running} {e : Ending} → EndsBy (KnowsNext X) Untold slots s h r e
   quiet_ends = any_ends quiet_closes
 
-  pub quiet_step : (step : MaintenanceStep) (a : ℕ) (granted : Bool) (s : Shared) (h : HandState) (r : Running)
+  -- every step of a call on snapshots
+  other_step : (step : MaintenanceStep) (a : ℕ) (granted : Bool) (s : Shared) (h : HandState) (r : Running) → leads step ≡ false
       → OnKnown X (maintenance_turn step a granted s h r)
-  quiet_step step a granted s h r = maintenance_walk (KnowsNext X) Untold a s h r step granted (record {
+  other_step step a granted s h r apart = maintenance_walk (KnowsNext X) Untold a s h r step granted (record {
     stops = λ fault cause. any_ends (quiet_closes);
-    goes = λ on clear. quiet.steps _ _ _ _;
+    goes = λ on clear. quiet.steps _ (goes_plain step s on) _ _ _;
     told = λ on clear. tt;
-    denied = λ snapshot showing on. quiet.steps _ _ _ _;
-    over = λ draining picked on. any_ends (quiet_closes);
+    denied = λ snapshot showing on. quiet.steps _ refl _ _ _;
+    leads_on = λ next is. absurd (true≢false (sym is.from ∙ apart));
+    over = λ e ends. any_ends (quiet_closes);
     none = λ draining on empty. tt;
   })
+
+  pub quiet_step : (step : MaintenanceStep) (block a : ℕ) (granted : Bool) (s : Shared) (h : HandState) (r : Running)
+      → QuietWays X (Maintenance step) block a s h r → OnKnown X (maintenance_turn step a granted s h r)
+  quiet_step (Judge manner slot) block a granted s h r w =
+      step_walk_by (Unit {0}) (KnowsNext X) Untold a s h r (Judge manner slot) granted (λ blocked. tt) (
+        λ none. quiet_ends,
+        λ some lacks. quiet_ends,
+        λ ino is some. record { fast = λ plain. (w ino).0; some = λ n plain more. (w ino).1; none = λ plain less. quiet_ends },
+      )
+  quiet_step (Fresh ino asked wanted) block a granted s h r w =
+      step_walk_by (Unit {0}) (KnowsNext X) Untold a s h r (Fresh ino asked wanted) granted (λ blocked. tt)
+      (record { ready = w.0; more = λ n q m. w.1 n q; short = λ n q m. quiet_ends })
+  quiet_step other block a granted s h r w = other_step other a granted s h r refl
 
   pub quiet_walk : (block a : ℕ) (granted : Bool) (s : Shared) (h : HandState) (r : Running) (k : Next) → QuietWays X k block a s h r
       → OnKnown X (kind_turn k block a granted s h r)
@@ -156,5 +208,5 @@ module _ (X : Known) (quiet : IsQuiet X) where
     go (Give cpu) w = last_walk (KnowsNext X) Untold block a s h r (Give cpu) granted refl quiet_closes
     go Back w = last_walk (KnowsNext X) Untold block a s h r Back granted refl quiet_closes
     go Visit w = walks Visit (λ fault free by. quiet_ends, λ free passed lacks. quiet_ends, λ free passed. tt) refl
-    go (Maintenance step) w = quiet_step step a granted s h r
+    go (Maintenance step) w = quiet_step step block a granted s h r w
     go other w = walks other w refl

@@ -17,8 +17,9 @@ use Rattle.nv_machine.specs.PlainRun.{actor_of}
 use Rattle.nv_machine.specs.Starts.{IsStart}
 use Rattle.nv_machine.specs.Step.{Step, after, kind_turn, step, turned}
 use Rattle.nv_machine.specs.World.{Actor, Answers, Back, Ending, Ends, Event, Give, Go, HandState, Leave, Moves, Next, Overtaken, Retire, Running, Shared, Start, Turn, Unlock, Waits, World, actor_at, idle}
+use Rattle.nv_machine.proofs.EveryWorld.{all_known}
 use Rattle.nv_machine.proofs.OverEvents.{others_stay, runs_inside}
-use Rattle.nv_machine.proofs.FitsEvents.{IsKnown, all_known}
+use Rattle.nv_machine.proofs.FitsEvents.{IsKnown}
 use Rattle.nv_machine.proofs.SingleEvents.{busy, goes}
 use Rattle.nv_machine.proofs.FromScratch.{not_counted}
 use Rattle.nv_machine.proofs.Lists.{self}

@@ -15,10 +15,9 @@ use Rattle.nv_machine.specs.Settled.{noted_or, settled_tail}
 use Rattle.nv_machine.specs.Starts.{IsStart}
 use Rattle.nv_machine.specs.Step.{after}
 use Rattle.nv_machine.specs.World.{Append, Close, Event, Leave, Next, Open, Publish, Retire, Running, Shared, World, actor_at}
-use Rattle.nv_machine.proofs.FromScratch.{all_numbers}
+use Rattle.nv_machine.proofs.EveryWorld.{all_numbers, reached}
 use Rattle.nv_machine.proofs.Journals.{open_tail}
 use Rattle.nv_machine.proofs.Lists.{self}
-use Rattle.nv_machine.proofs.Reached.{reached}
 
 -- ---- journals
 

@@ -1,5 +1,5 @@
 -- Ids rise and epochs never fall.
-use Rattle.std.proofs.Common.{Bool, List, None, Option, Some, [], ap, drop, false, get_or-set_other, length, nat_lt, refl, subst, sym, take, true, ℕ, ◌++◌, ◌+◌, ◌<◌, ◌==◌, ◌∙◌, ◌≡◌, ◌≢◌}
+use Rattle.std.proofs.Common.{Bool, List, None, Option, Some, [], ap, drop, false, get_or-set_other, length, nat_lt, refl, subst, sym, take, true, ℕ, ◌++◌, ◌+◌, ◌<◌, ◌==◌, ◌∙◌, ◌≡◌, ◌≢◌, ◌≤◌}
 use Rattle.std.specs.Prelude.{◌||◌}
 use Rattle.std.proofs.lemmas.Bool.{false≢true}
 use Rattle.nv_alloc.specs.Block.{BlockValue}
@@ -8,7 +8,7 @@ use Rattle.nv_book.specs.Book.{BookState}
 use Rattle.nv_calls.specs.Slots.{IsBefore, items_for, place_in}
 use Rattle.nv_cell.specs.Cell.{CellState}
 use Rattle.nv_entry.specs.declared.item.Entry.{Entry}
-use Rattle.nv_log.specs.Chain.{ChainState}
+use Rattle.nv_log.specs.Chain.{ChainState, left_of}
 use Rattle.nv_machine.specs.Kinds.{enter_turn, entries_for, with_entries, with_pages}
 use Rattle.nv_machine.specs.Locks.{commits_at, is_owner}
 use Rattle.nv_machine.specs.Order.{AreLogsOrdered, CommitsIn, entries_at, to_append}
@@ -16,7 +16,7 @@ use Rattle.nv_machine.specs.Reads.{is_written, pages_needed, slot_at, written_sl
 use Rattle.nv_machine.specs.Sequence.{publishing, retiring}
 use Rattle.nv_machine.specs.Step.{kind_turn}
 use Rattle.nv_machine.specs.World.{Append, Close, Ends, Enter, HandState, Leave, Make, Moves, Next, Open, Publish, Retire, Running, Shared, MaintenanceStep, Maintenance, Turn, Waits, cell_at, go_to, no_cell, with_book, with_cell}
-use Rattle.nv_machine.proofs.CellChanges.{cells_after, commit_stays, enters, epoch_stays, holder_stays, makes, removal}
+use Rattle.nv_machine.proofs.CellChanges.{cells_after, commit_stays, enters, epoch_stays, holder_stays, makes, removal, clean_cell, clean_slot, is_clean, clean_entries, clean_flags}
 use Rattle.nv_machine.proofs.StepWork.{work, maintenance_work}
 use Rattle.nv_machine.proofs.WorkKeeps.{AfterTurn, snapshot_works, turn_keeps}
 use Rattle.nv_machine.proofs.Lists.{drop_apart, has_drop, rising_filter, self}
@@ -24,6 +24,8 @@ use Rattle.nv_machine.proofs.StepWays.{IsClearOn}
 use Rattle.nv_machine.proofs.LocksAlongCalls.{OnLocks}
 use Rattle.nv_machine.proofs.LocksHeld.{Before, locks_kept}
 use Rattle.nv_machine.proofs.AppendsToCome.{KeepsNumber, OnOrder, OrderLeft, appended_log, end_shared, entries_more, erased_log, later_epoch, later_too, left_order, none_publishing, none_retiring, not_committing, nothing_left, pages_keep, same_order, still_left}
+use Rattle.nv_log.proofs.Flags.{all_left}
+use Rattle.nv_log.proofs.Logs.{IsLog-left_of}
 
 -- ---- the kinds of a commit
 
@@ -80,6 +82,21 @@ others_early s k r place slot cell is rising inside early ino there =
     (early ino (has_drop place (written_slots r) ino inside
     ∙ or_second (slot_at (written_slots r) place == ino) (has (drop (place + 1) (written_slots r)) ino) there))
 
+-- what a cleaning leaves of a log in order is in order
+left_in_order : (commit epoch : ℕ) (flags : List Bool) (es : List Entry) → IsBefore commit epoch es
+    → IsBefore commit epoch (left_of flags es)
+left_in_order commit epoch flags es is = record {
+  ordered = IsLog-left_of flags es is.ordered;
+  earlier = all_left (λ (e : Entry). (e.id.commit < commit) × (e.epoch ≤ epoch)) flags es is.earlier;
+}
+
+clean_order : (k : Next) (s : Shared) (h : HandState) → is_clean k ≡ true
+    → IsBefore (s.book.commit + 1) s.book.snaps.epoch (cell_at s (clean_slot k)).chain.entries
+    → IsBefore (s.book.commit + 1) s.book.snaps.epoch (clean_cell k s h).chain.entries
+clean_order k s h is was =
+    subst (IsBefore (s.book.commit + 1) s.book.snaps.epoch) (sym (clean_entries k s h is))
+    (left_in_order (s.book.commit + 1) s.book.snaps.epoch (clean_flags k s) (cell_at s (clean_slot k)).chain.entries was)
+
 -- a kind that keeps number and epoch leaves logs in order
 kept_order : (k : Next) (block a : ℕ) (s : Shared) (h : HandState) (r : Running) → enters k ≡ false → makes k ≡ false → Before a s k r
     → (commits_at k ≡ true → EnteredAt s k r) → AreLogsOrdered s → OrderLeft a s (work k block a s h r).shared
@@ -107,6 +124,7 @@ kept_order k block a s h r out same b own logs = record { logs = in_order; other
             let x = removal k s h r in
             erased_log (s.book.commit + 1) s.book.snaps.epoch x.cell
             (subst (λ (c : ChainState). IsBefore (s.book.commit + 1) s.book.snaps.epoch c.entries) (sym left.keeps.chain) (logs x.slot));
+        cleans = λ is low. clean_order k s h is (logs (clean_slot k));
       })
 
   in_order : AreLogsOrdered t

@@ -16,14 +16,15 @@ use Rattle.nv_machine.specs.Sequence.{Beginning, Numbers, beginning, begun}
 use Rattle.nv_machine.specs.Settled.{settled_nodes}
 use Rattle.nv_machine.specs.Starts.{IsStart}
 use Rattle.nv_machine.specs.Step.{Step, after, kind_turn, start_step, step, turned}
-use Rattle.nv_machine.specs.World.{Actor, Answers, Draining, Drains, Ending, Ends, Event, Go, Moves, Next, Overtaken, Refused, Refuses, Reply, Running, Shared, Start, Turn, Unlock, Waits, World, actor_at, idle}
+use Rattle.nv_machine.specs.World.{Actor, Answers, Draining, Drains, Ending, Ends, Event, Go, Moves, Next, Overtaken, Refused, Refuses, Reply, Running, Shared, Start, Turn, Unlock, Waits, World, actor_at, idle, Cleans}
 use Rattle.nv_machine.proofs.DecidedRefusals.{plainly_caused}
 use Rattle.nv_machine.proofs.Lists.{self}
 use Rattle.nv_machine.proofs.OverEvents.{OwnAfter, event_of, own_goes, runs_inside, turn_at}
 use Rattle.nv_machine.proofs.RefusalCauses.{contended}
-use Rattle.nv_machine.proofs.RefusedTurns.{ClosingGoes, ClosingTold, DrainGoes, DrainTells, DrainingGoes, Goes, OpenGoes, OvertakenGoes, OverGoes, OverTold, Tells, closing_kind, drain_kind, is_closing, is_open, is_unlock, open_kind, over_kind}
+use Rattle.nv_machine.proofs.RefusedTurns.{ClosingGoes, ClosingTold, DrainGoes, DrainTells, DrainingGoes, Goes, OpenGoes, OvertakenGoes, OverGoes, OverTold, Tells, closing_kind, drain_kind, is_closing, is_open, is_unlock, open_kind, over_kind, CleanGoes, CleanedGoes, clean_kind}
 use Rattle.nv_machine.proofs.SingleEvents.{go_is_turn}
 use Rattle.nv_machine.proofs.StepWays.{After, is_last}
+use Rattle.nv_clean.specs.declared.cleaned.Cleaned.{Cleaned}
 
 -- ---- what holds before each step, of what its call was refused for and of what its steps have left
 
@@ -33,6 +34,7 @@ StandsBy faults left Answers k = (faults ≡ []) × (is_open k ≡ true → left
 StandsBy faults left (Refuses fault) k = (faults ≡ fault ∷ []) × left × (is_closing k ≡ true)
 StandsBy faults left Overtaken k = (faults ≡ []) × left × (is_unlock k ≡ true)
 StandsBy faults left (Drains draining) k = (faults ≡ []) × (0 < draining.released) × (is_last k ≡ true)
+StandsBy faults left (Cleans cleaned) k = (faults ≡ []) × (is_last k ≡ true)
 
 pub record IsMet (r : Running) (steps : List OwnStep) : Type 0 where
   pub stands : StandsBy (refused_for steps) (AllByRecursion IsLeft steps) r.ending r.next
@@ -55,6 +57,7 @@ module _ (k : Next) (s : Shared) (faults : List Fault) (left : Type 0) where
     go (Refuses fault) on = (ap (λ (l : List Fault). fault ∷ l) none, (on.1.1, may on.1.0), on.0)
     go Overtaken on = (none, (on.1.1, may on.1.0), on.0)
     go (Drains d) on = (none, on.1, on.0)
+    go (Cleans c) on = (none, on)
   from_answers Waits on none may = (none, λ o. (tt, may o))
   from_answers (Ends (Ok found) t h) on none may = tt
   from_answers (Ends (Err fault) t h) on none may = (ap (λ (l : List Fault). fault ∷ l) none, (on.1, may on.0))
@@ -89,6 +92,26 @@ module _ (k : Next) (s : Shared) (faults : List Fault) (left : Type 0) where
   from_drain d Waits on none some last = (none, some, last)
   from_drain d (Ends (Ok found) t h) on none some last = tt
   from_drain d (Ends (Err fault) t h) on none some last = absurd on
+
+  from_clean : (c : Cleaned) (t : Turn) → After CleanGoes DrainTells t → faults ≡ [] → is_last k ≡ true
+      → AfterStep (Cleans c) k (fault_in t ++ faults) (LeavesButPins s t × left) t
+  from_clean c (Moves t h q) on none last = go q.ending on where
+    go : (e : Ending) → CleanedGoes e q.next → StandsBy (fault_of e ++ faults) (SameButPins s t × left) e q.next
+    go (Cleans d) on = (none, on)
+    go other on = absurd on
+  from_clean c Waits on none last = (none, last)
+  from_clean c (Ends (Ok found) t h) on none last = tt
+  from_clean c (Ends (Err fault) t h) on none last = absurd on
+
+-- a cleaner's last steps refuse nothing
+clean_refuses : (t : Turn) → After CleanGoes DrainTells t → fault_in t ≡ []
+clean_refuses (Moves t h q) on = go q.ending on where
+  go : (e : Ending) → CleanedGoes e q.next → fault_of e ≡ []
+  go (Cleans c) on = refl
+  go other on = absurd on
+clean_refuses Waits on = refl
+clean_refuses (Ends (Ok found) t h) on = refl
+clean_refuses (Ends (Err fault) t h) on = absurd on
 
 -- a drain's last steps refuse nothing
 drain_refuses : (t : Turn) → After DrainGoes DrainTells t → fault_in t ≡ []
@@ -152,6 +175,10 @@ module _ (w : World) (known : HasCauses w) (actor : ℕ) (granted : Bool) (r : R
       subst (AllByRecursion (HasCauseBy (Drains d) its))
       (sym (drain_refuses its_turn
       (drain_kind d w.numbers.block actor granted w.shared (actor_at w actor).hand r is stands.1 r.next stands.2))) tt
+  caused_by (Cleans c) is stands =
+      subst (AllByRecursion (HasCauseBy (Cleans c) its))
+      (sym (clean_refuses its_turn
+      (clean_kind c w.numbers.block actor granted w.shared (actor_at w actor).hand r is r.next stands.1))) tt
 
   stands_after : (e : Ending) → r.ending ≡ e → StandsBy (refused_for before) left_before e r.next
       → AfterStep e r.next (refused_by e its_turn ++ refused_for before) (LeavesButPins w.shared its_turn × left_before) its_turn
@@ -169,6 +196,10 @@ module _ (w : World) (known : HasCauses w) (actor : ℕ) (granted : Bool) (r : R
       from_drain r.next w.shared (refused_for before) left_before d its_turn
       (drain_kind d w.numbers.block actor granted w.shared (actor_at w actor).hand r is stands.1 r.next stands.2)
       stands.0 stands.1 stands.2
+  stands_after (Cleans c) is stands =
+      from_clean r.next w.shared (refused_for before) left_before c its_turn
+      (clean_kind c w.numbers.block actor granted w.shared (actor_at w actor).hand r is r.next stands.1)
+      stands.0 stands.1
 
   pub all_caused : AllByRecursion IsCaused (its ∷ before)
   all_caused = (caused_by r.ending refl met.stands, met.caused)
@@ -243,7 +274,7 @@ events_met (e ∷ events) w actor before known had =
     events_met events (step w e).world actor (steps_in actor w e before) (λ some. known (e ∷ some)) (event_met w (known []) actor e before had)
 
 -- one more event
-steps_more : (events : List Event) (w : World) (actor : ℕ) (e : Event) (before : List OwnStep)
+pub steps_more : (events : List Event) (w : World) (actor : ℕ) (e : Event) (before : List OwnStep)
     → own_steps actor w (events ++ e ∷ []) before ≡ steps_in actor (after w events) e (own_steps actor w events before)
 steps_more [] w actor e before = refl
 steps_more (f ∷ events) w actor e before = steps_more events (step w f).world actor e (steps_in actor w f before)

@@ -1,12 +1,13 @@
 -- Each entry of a chain stands on one of its pages, whatever a step does to the chain.
 use Rattle.std.proofs.Common.{◌≡◌, ℕ, suc, ◌+◌, ◌*◌, ◌<◌, ◌≤◌, ◌++◌, ◌∙◌, Bool, true, false, List, [], ◌∷◌, ap, append_assoc, arith, if◌then◌else◌, length, refl, subst, sym, take}
 use Rattle.std.specs.List.{AllByRecursion}
+use Rattle.std.proofs.lemmas.Bool.{false≢true}
 use Rattle.std.proofs.lemmas.List.{length-take-le, length_push}
 use Rattle.nv_alloc.specs.Block.{BlockValue}
 use Rattle.nv_base.specs.declared.limits.TheConstants.{LEAST_PAGE_ENTRIES, PAGE_ENTRIES}
 use Rattle.nv_calls.specs.Retiring.{erased, is_erased}
 use Rattle.nv_cell.specs.Append.{appended, blocks_for}
-use Rattle.nv_cell.specs.Cell.{CellState, empty_cell, published}
+use Rattle.nv_cell.specs.Cell.{CellState, IsCell, empty_cell, published}
 use Rattle.nv_cell.proofs.ReadySteps.{adds_page}
 use Rattle.nv_entry.specs.Log.{IsLog, MayFollow}
 use Rattle.nv_entry.specs.declared.item.Entry.{Entry}
@@ -16,7 +17,11 @@ use Rattle.nv_log.proofs.Chains.{IsOpen, appends_entry, is_open, open_within}
 use Rattle.nv_log.proofs.Parts.{AreEnds-push, AreEnds-take}
 use Rattle.nv_calls.proofs.Next.{Keeps}
 use Rattle.nv_machine.specs.Kinds.{with_entries, with_pages}
-use Rattle.nv_machine.specs.Pages.{AreOnPages}
+use Rattle.nv_machine.specs.Cleaning.{unlinked, compacted_cell}
+use Rattle.nv_machine.specs.Pages.{AreOnPages, HasLogPages}
+use Rattle.nv_machine.specs.World.{Compact, HandState, Maintenance, Next, Running, Shared, Unlink, cell_at}
+use Rattle.nv_machine.proofs.CellChanges.{clean_cell, clean_slot, is_clean}
+use Rattle.nv_machine.proofs.CleanSteps.{compact_chain, unlink_chain}
 
 -- ---- a log at the front of another
 
@@ -138,3 +143,21 @@ erased_on page cell on = go (is_erased cell) where
 -- what gives up parts alone keeps its log
 pub remove_on : (page : ℕ) (old new : CellState) → Keeps old new → AreOnPages page old.chain → AreOnPages page (erased new).chain
 remove_on page old new kept on = erased_on page new (subst (AreOnPages page) (sym kept.chain) on)
+
+-- ---- a cleaning
+
+chain_on : (page : ℕ) (chain : ChainState) → chain.page ≡ page → IsChain chain → AreOnPages page chain
+chain_on page chain same is = record {
+  size = same;
+  each = is.paged;
+  parted = subst (λ (n : ℕ). AreEnds n 0 chain.ends (length chain.entries)) same is.parted;
+}
+
+pub clean_on : (page : ℕ) (k : Next) (block : ℕ) (s : Shared) (h : HandState) (r : Running) → is_clean k ≡ true
+    → AreOnPages page (cell_at s (clean_slot k)).chain → HasLogPages k block s h r → IsCell (cell_at s (clean_slot k))
+    → AreOnPages page (clean_cell k s h).chain
+clean_on page (Maintenance (Unlink ino)) block s h r is on has_them cell =
+    chain_on page (unlinked (cell_at s ino)).chain on.size (unlink_chain (cell_at s ino) cell)
+clean_on page (Maintenance (Compact ino)) block s h r is on has_them cell =
+    chain_on page (compacted_cell h (cell_at s ino)).chain on.size (compact_chain (cell_at s ino) cell h has_them)
+clean_on page other block s h r is on has_them cell = absurd (false≢true is)

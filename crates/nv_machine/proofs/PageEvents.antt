@@ -13,16 +13,16 @@ use Rattle.nv_machine.specs.Frame.{IsFramed, Lent, lent}
 use Rattle.nv_machine.specs.Grown.{HasGrownBy}
 use Rattle.nv_machine.specs.Locks.{HoldsIts, held_at}
 use Rattle.nv_machine.specs.Order.{CommitsIn, entries_at}
-use Rattle.nv_machine.specs.Pages.{AreOnPages, HasLogPages}
+use Rattle.nv_machine.specs.Pages.{AreOnPages, HasLogPages, HasPagesOn, PagesOf}
 use Rattle.nv_machine.specs.Reads.{slots_of, written_slots}
-use Rattle.nv_machine.specs.Sequence.{Beginning, Locks, beginning, begun, nothing_looked}
+use Rattle.nv_machine.specs.Sequence.{Beginning, Locks, beginning, begun, nothing_looked, Maintains}
 use Rattle.nv_machine.specs.Starts.{IsStart}
-use Rattle.nv_machine.specs.Step.{after, step, turn, turned}
-use Rattle.nv_machine.specs.World.{Actor, Check, Ends, Event, HandState, Lock, Moves, Running, Shared, Turn, Waits, World, actor_at, cell_at, owner_at}
+use Rattle.nv_machine.specs.Step.{step, turn, turned}
+use Rattle.nv_machine.specs.World.{Actor, Check, Ends, Event, HandState, Lock, Moves, Running, Shared, Turn, Waits, World, actor_at, owner_at, MaintenanceStep}
 use Rattle.nv_machine.proofs.NewWorld.{new_cell}
 use Rattle.nv_machine.proofs.AppendsToCome.{appended_log}
-use Rattle.nv_machine.proofs.OverEvents.{event_by, event_numbers, events_by, set_begun, set_one, turn_at, with_call}
-use Rattle.nv_machine.proofs.FitsEvents.{IsKnown, all_known, own_hand}
+use Rattle.nv_machine.proofs.OverEvents.{event_by, event_numbers, set_begun, set_one, turn_at, with_call}
+use Rattle.nv_machine.proofs.FitsEvents.{IsKnown, own_hand}
 use Rattle.nv_machine.proofs.FitsStages.{FitsOf}
 use Rattle.nv_machine.proofs.StepFrames.{framed}
 use Rattle.nv_machine.proofs.UnsettledLogs.{CellsLeft, OnGrown}
@@ -32,12 +32,9 @@ use Rattle.nv_machine.proofs.LocksHeld.{owner_is}
 use Rattle.nv_machine.proofs.LocksOverEvents.{before}
 use Rattle.nv_machine.proofs.PageTurns.{OnPages}
 use Rattle.nv_machine.proofs.PageRuns.{AllOnPages, work_on, appends_commit, own_pages, their_pages}
+use Rattle.nv_machine.proofs.FirstSteps.{first_by}
 
 -- ---- one event
-
-abbrev PagesOf : Option Running → ℕ → Shared → HandState → Type 0
-PagesOf None block s h = Unit {0}
-PagesOf (Some r) block s h = HasLogPages r.next block s h r
 
 pub record ArePaged (w : World) : Type 0 where
   pub on : AllOnPages w.numbers.page w.shared
@@ -63,7 +60,8 @@ module _ (g : GeometryNumbers) (limits : IsWithinLimits g) (w : World) (known : 
       → PagesOf running block w.shared (actor_at w b).hand → PagesOf running block t (actor_at w b).hand
   others_pages b t None ne left many is has_them = has_them
   others_pages b t (Some r) ne left many is has_them =
-      their_pages r.next block b w.shared t (actor_at w b).hand r many (λ e ino held. left.cells ino (not_theirs e ino held)) mine
+      their_pages r.next block b w.shared t (actor_at w b).hand r many (λ e ino held. left.cells ino (not_theirs e ino held))
+      mine holds.slots.1
       (subst (λ (o : Option Running). HasGrownBy o w.shared b) is (known.reached.grown.each b))
       (subst (λ (o : Option Running). FitsOf o block w.shared (actor_at w b).hand) is (known.fit.each b)) has_them where
         holds : HoldsIts w.shared b (Some r)
@@ -103,18 +101,22 @@ module _ (g : GeometryNumbers) (limits : IsWithinLimits g) (w : World) (known : 
       (turn_keeps (λ (t : Shared) (h : HandState). AllOnPages w.numbers.page t) r.next block actor granted s h r paged.on
       (work_on w.numbers within actor s h r paged.on r.next b has_them (λ ino there.
       (appended_log r.commit r.epoch (place_in r.plan ino) (items_for r.plan ino) (entries_at s ino)
-      ((commits (appends_commit r.next (written_slots r) ino there)).earlier ino there)).ordered)))
+      ((commits (appends_commit r.next (written_slots r) ino there)).earlier ino there)).ordered) k.apart.cleanable.cells))
 
   begun_pages : (b : Beginning) (c : Call) (h : HandState) → PagesOf (Some (begun b w.shared c)) block w.shared h
   begun_pages Locks c h = go (nat_lt 0 (length (slots_of w.shared None nothing_looked c))) where
     go : (b : Bool) → HasLogPages (if b then Lock 0 else Check) block w.shared h (begun Locks w.shared c)
     go true = tt
     go false = tt
+  begun_pages (Maintains what) c h =
+      first_by (λ (step : MaintenanceStep). HasPagesOn step w.shared h) (length w.shared.cells) tt (λ snapshot. tt) (λ snapshot. tt)
+      (λ count. tt) (λ manner ino inside. tt) (λ manner. tt) what
   begun_pages other c h = tt
 
 -- ---- all events
 
-event_pages : (g : GeometryNumbers) → IsWithinLimits g → (w : World) (e : Event) → IsKnown g w → ArePaged w → ArePaged (step w e).world
+pub event_pages : (g : GeometryNumbers) → IsWithinLimits g → (w : World) (e : Event) → IsKnown g w → ArePaged w
+    → ArePaged (step w e).world
 event_pages g limits w e known paged = as_paged (event_by (EachPaged w.numbers) w (paged.on, paged.each) e
     (λ actor c there is. (
       paged.on,
@@ -143,33 +145,13 @@ new_all g limits =
     })
     (λ n lt. record { size = refl; each = omega arith; parted = refl }) (λ n past lt. absurd (omega (arith, past, lt)))
 
-all_pages : (g : GeometryNumbers) (start : World) (records : List Record) → IsStart g start records → (events : List Event)
-    → ArePaged (after start events)
-all_pages g start records is_start events =
-    events_by (IsKnown g) ArePaged (event_pages g is_start.limits) events start (all_known g start records is_start) (record {
-      on =
-          subst (λ (n : GeometryNumbers). AllOnPages n.page start.shared) (sym is_start.numbers)
-          (λ ino lt. is_start.pages ino (omega (arith, lt, is_start.slots)));
-      each = λ actor.
-          subst (λ (x : Actor). PagesOf x.running start.numbers.block start.shared x.hand) (sym (is_start.idle_all actor)) tt;
-    })
+-- ---- a start
 
--- ---- the laws
-
-pub logs_paged : (g : GeometryNumbers) (start : World) (records : List Record) (events : List Event) (ino : ℕ) → IsStart g start records
-    → ino < length (after start events).shared.cells
-    → AreOnPages g.page (cell_at (after start events).shared ino).chain
-logs_paged g start records events ino is_start lt =
-    subst (λ (n : GeometryNumbers). AreOnPages n.page (cell_at (after start events).shared ino).chain)
-    (all_known g start records is_start events).numbers.numbers ((all_pages g start records is_start events).on ino lt)
-
-pub hands_paged : (g : GeometryNumbers) (start : World) (records : List Record) (events : List Event) (actor : ℕ) (r : Running)
-    → IsStart g start records
-    → (actor_at (after start events) actor).running ≡ Some r
-    → HasLogPages r.next g.block (after start events).shared (actor_at (after start events) actor).hand r
-hands_paged g start records events actor r is_start is =
-    let w = after start events in
-    subst (λ (n : GeometryNumbers). HasLogPages r.next n.block w.shared (actor_at w actor).hand r)
-    (all_known g start records is_start events).numbers.numbers
-    (subst (λ (o : Option Running). PagesOf o w.numbers.block w.shared (actor_at w actor).hand) is
-    ((all_pages g start records is_start events).each actor))
+pub first_paged : (g : GeometryNumbers) (start : World) (records : List Record) → IsStart g start records → ArePaged start
+first_paged g start records is_start = record {
+  on =
+      subst (λ (n : GeometryNumbers). AllOnPages n.page start.shared) (sym is_start.numbers)
+      (λ ino lt. is_start.pages ino (omega (arith, lt, is_start.slots)));
+  each = λ actor.
+      subst (λ (x : Actor). PagesOf x.running start.numbers.block start.shared x.hand) (sym (is_start.idle_all actor)) tt;
+}

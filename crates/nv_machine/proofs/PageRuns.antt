@@ -11,21 +11,21 @@ use Rattle.nv_calls.specs.AllCalls.{plan}
 use Rattle.nv_calls.specs.Plain.{node_in}
 use Rattle.nv_calls.specs.Retiring.{is_erased}
 use Rattle.nv_calls.specs.Slots.{Slot, entries_of, items_for, place_in}
-use Rattle.nv_cell.specs.Cell.{CellState, log_of}
+use Rattle.nv_cell.specs.Cell.{CellState, IsCell, log_of}
 use Rattle.nv_entry.specs.Log.{IsLog}
 use Rattle.nv_entry.specs.declared.item.Item.{Item}
 use Rattle.nv_log.specs.Chain.{pages_for}
 use Rattle.nv_machine.specs.Grown.{HasGrown, is_appended, is_behind}
 use Rattle.nv_machine.specs.Hands.{HandAt}
 use Rattle.nv_machine.specs.Kinds.{asked_list, entries_for, first_killed, retired_cell, with_entries, with_freed, with_pages}
-use Rattle.nv_machine.specs.Locks.{AreSlots, commits_at, held_at}
+use Rattle.nv_machine.specs.Locks.{AreSlots, commits_at, held_at, IsInside}
 use Rattle.nv_machine.specs.Order.{entries_at, to_append}
 use Rattle.nv_machine.specs.Pages.{AreOnPages, HasLogPages}
 use Rattle.nv_machine.specs.Reads.{is_written, node_of, pages_needed, pages_wanted, plan_by, slot_at, written_slots}
 use Rattle.nv_machine.specs.Sequence.{appending, locking, looking}
 use Rattle.nv_machine.specs.Step.{kind_turn}
 use Rattle.nv_machine.specs.Wanted.{log_pages_wanted}
-use Rattle.nv_machine.specs.World.{Append, Check, Close, Enter, HandState, Lock, Look, Next, Number, Open, Publish, Ready, Retire, Running, Shared, TakeBlocks, TakePages, cell_at, go_to, list_at, no_cell, owner_at, with_cell}
+use Rattle.nv_machine.specs.World.{Append, Check, Close, Enter, HandState, Lock, Look, Next, Number, Open, Publish, Ready, Retire, Running, Shared, TakeBlocks, TakePages, cell_at, go_to, list_at, no_cell, owner_at, with_cell, Maintenance, Fresh, Compact, Judge}
 use Rattle.nv_machine.proofs.FitsKinds.{logs_of}
 use Rattle.nv_machine.proofs.FitsOwn.{last_page, now, same_then}
 use Rattle.nv_machine.proofs.FitsRuns.{present_in, taken_of}
@@ -34,12 +34,13 @@ use Rattle.nv_machine.proofs.StepWork.{work}
 use Rattle.nv_machine.proofs.Lists.{drop_apart, has_filter, has_later, or_left, rising_filter, self, written_inside}
 use Rattle.nv_machine.proofs.LocksHeld.{Before}
 use Rattle.nv_machine.proofs.LogsKept.{cell_set}
-use Rattle.nv_machine.proofs.PageCells.{append_on, publish_on, remove_on}
+use Rattle.nv_machine.proofs.PageCells.{append_on, clean_on, publish_on, remove_on}
 use Rattle.nv_machine.proofs.NextSteps.{QuietWays, quiet_walk}
 use Rattle.nv_machine.proofs.PageTurns.{OnPages, Pages, appending_pages, erased_pages, next_want, pages_quiet, publishing_pages, retiring_pages, same_want, written_want}
 use Rattle.nv_machine.proofs.LoopSteps.{locking_any, looking_any}
 use Rattle.nv_machine.proofs.StepWays.{noted, take_sum}
-use Rattle.nv_machine.proofs.CellChanges.{cells_after, removal, slots_stay}
+use Rattle.nv_machine.proofs.CellChanges.{cells_after, clean_slot, removal, slots_stay}
+use Rattle.nv_clean.specs.Plans.{wanted_of}
 
 -- ---- an append
 
@@ -141,6 +142,15 @@ module _ (g : GeometryNumbers) (a : ℕ) (granted : Bool) (s : Shared) (h : Hand
       looking_any (λ (k : Next). Pages g.block k s h (go_to (looking (place + 1) q) q)) (λ place. tt) (λ place. tt) tt (place + 1) q
   ways (Lock place) at b has_them =
       locking_any (λ (k : Next). Pages g.block k (work (Lock place) g.block a s h r).shared h (go_to (locking (place + 1) r.slots) r)) (λ place. tt) tt (place + 1) r.slots
+  ways (Maintenance (Judge manner slot)) at b has_them = λ ino. (
+    tt,
+    (let none = ap (λ (x : HandState). length x.pages) at in omega (arith, none)),
+  )
+  ways (Maintenance (Fresh ino asked wanted)) at b has_them =
+      let here = (list_at s (asked_list (length s.lists) a asked)).blocks in (
+        λ q. omega (arith, has_them, q, length-append h.pages (take wanted here), length-take wanted here),
+        λ n q. omega (arith, has_them, q, length-append h.pages (take wanted here), length-take wanted here),
+      )
   ways other at b has_them = tt
 
   pub own_pages : (k : Next) → HandAt g k h r → Before a s k r → HasLogPages k g.block s h r
@@ -161,8 +171,9 @@ module _ (g : GeometryNumbers) (within : IsWithinLimits g) (a : ℕ) (s : Shared
     (all : AllOnPages g.page s) where
   pub work_on : (k : Next) → Before a s k r → HasLogPages k g.block s h r
       → ((ino : ℕ) → has (to_append k (written_slots r)) ino ≡ true → IsLog (entries_at s ino ++ entries_for r ino))
+      → ((ino : ℕ) → ino < length s.cells → IsCell (cell_at s ino))
       → AllOnPages g.page (work k g.block a s h r).shared
-  work_on k b has_them logs ino lt =
+  work_on k b has_them logs cells ino lt =
       cells_after (λ (n : ℕ) (c : CellState). n < length s.cells → AreOnPages g.page c.chain) g.block a s h r all k b (record {
         appends = λ place is inside low there.
             let slot = slot_at (written_slots r) place in
@@ -175,6 +186,8 @@ module _ (g : GeometryNumbers) (within : IsWithinLimits g) (a : ℕ) (s : Shared
             let slot = slot_at (written_slots r) place in publish_on g.page (cell_at s slot) (all slot low);
         removes = λ is low left there.
             let x = removal k s h r in remove_on g.page (cell_at s x.slot) x.cell left.keeps (all x.slot low);
+        cleans = λ is low there.
+            let slot = clean_slot k in clean_on g.page k g.block s h r is (all slot low) has_them (cells slot low);
       }) ino (let n = slots_stay k g.block a s h r in omega (arith, lt, n))
 
 pub appends_commit : (k : Next) (written : List ℕ) (ino : ℕ) → has (to_append k written) ino ≡ true → commits_at k ≡ true
@@ -218,16 +231,23 @@ module _ (block b : ℕ) (s t : Shared) (h : HandState) (r : Running) (many : le
     pub wanted_same : log_pages_wanted block t h r ≡ log_pages_wanted block s h r
     wanted_same = same_want s t (plan_by block t h r) r.slots own ∙ ap (pages_wanted s r.slots) same_plan
 
+one_slot : (ino : ℕ) (slots : List ℕ) → slots ≡ ino ∷ [] → has slots ino ≡ true
+one_slot ino slots is = ap (λ (l : List ℕ). has l ino) is ∙ or_left (ino == ino) (has [] ino) (self ino)
+
 pub their_pages : (k : Next) (block b : ℕ) (s t : Shared) (h : HandState) (r : Running) → length t.cells ≡ length s.cells
     → (held_at k r.slots ≡ r.slots → (ino : ℕ) → has r.slots ino ≡ true → cell_at t ino ≡ cell_at s ino)
     → (held_at k r.slots ≡ r.slots → (ino : ℕ) → has r.slots ino ≡ true → owner_at s ino ≡ Some b)
-    → HasGrown k s b r → FitsAt k block s h r → HasLogPages k block s h r → HasLogPages k block t h r
-their_pages (TakePages asked) block b s t h r many own mine grown fits has_them =
+    → IsInside k r → HasGrown k s b r → FitsAt k block s h r → HasLogPages k block s h r → HasLogPages k block t h r
+their_pages (TakePages asked) block b s t h r many own mine inside grown fits has_them =
     has_them ∙ sym (wanted_same block b s t h r many (own refl) (TakePages asked) (λ ino. refl) (λ ino. refl) grown (mine refl) fits.0)
-their_pages Ready block b s t h r many own mine grown fits has_them =
+their_pages Ready block b s t h r many own mine inside grown fits has_them =
     has_them ∙ sym (wanted_same block b s t h r many (own refl) Ready (λ ino. refl) (λ ino. refl) grown (mine refl) fits.0)
-their_pages Enter block b s t h r many own mine grown fits has_them = has_them ∙ sym (same_want s t r.plan r.slots (own refl))
-their_pages (Append place) block b s t h r many own mine grown fits has_them =
+their_pages Enter block b s t h r many own mine inside grown fits has_them = has_them ∙ sym (same_want s t r.plan r.slots (own refl))
+their_pages (Append place) block b s t h r many own mine inside grown fits has_them =
     has_them ∙ sym (same_want s t r.plan (drop place (written_slots r)) (λ ino there.
     own refl ino (has_filter (is_written r.plan) r.slots ino (has_later place (written_slots r) ino there))))
-their_pages other block b s t h r many own mine grown fits has_them = has_them
+their_pages (Maintenance (Fresh ino asked wanted)) block b s t h r many own mine inside grown fits has_them =
+    has_them ∙ ap (λ (c : CellState). (wanted_of c).pages) (sym (own refl ino (one_slot ino r.slots inside)))
+their_pages (Maintenance (Compact ino)) block b s t h r many own mine inside grown fits has_them =
+    has_them ∙ ap (λ (c : CellState). (wanted_of c).pages) (sym (own refl ino (one_slot ino r.slots inside)))
+their_pages other block b s t h r many own mine inside grown fits has_them = has_them

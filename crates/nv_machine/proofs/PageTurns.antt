@@ -1,6 +1,6 @@
 -- The log pages in a hand, after each step of its own call.
 use Rattle.std.proofs.Common.{◌≡◌, ℕ, zero, suc, ◌+◌, ◌<◌, ◌≤◌, ◌==◌, ◌∙◌, Bool, true, false, cond, List, [], ◌∷◌, ap, ap₂, arith, drop, filter, if◌then◌else◌, length, nat_lt, refl, sym}
-use Rattle.std.proofs.lemmas.Bool.{ltb-false}
+use Rattle.std.proofs.lemmas.Bool.{ltb-false, true≢false}
 use Rattle.std.proofs.lemmas.List.Sums.{sum_by-cons}
 use Rattle.nv_alloc.specs.Numbers.{has}
 use Rattle.nv_calls.specs.Slots.{items_for}
@@ -10,10 +10,11 @@ use Rattle.nv_log.specs.Chain.{pages_for}
 use Rattle.nv_machine.specs.Pages.{HasLogPages}
 use Rattle.nv_machine.specs.Reads.{is_written, pages_needed, pages_wanted, slot_at, written_slots}
 use Rattle.nv_machine.specs.Sequence.{appending, closing, opening, publishing, retiring}
-use Rattle.nv_machine.specs.World.{Append, Close, HandState, Leave, Next, Open, Publish, Retire, Running, Shared, Turn, cell_at}
+use Rattle.nv_machine.specs.World.{Append, Close, HandState, Leave, Next, Open, Publish, Retire, Running, Shared, Turn, cell_at, Fresh, Compact, Maintenance, MaintenanceStep}
 use Rattle.nv_machine.proofs.Lists.{or_left, or_right, self}
 use Rattle.nv_machine.proofs.NextSteps.{IsQuiet, Known, OnKnown}
 use Rattle.nv_machine.proofs.LoopSteps.{by_test, either}
+use Rattle.nv_machine.proofs.MaintenanceWalk.{is_cleaning}
 
 -- ---- how many pages are wanted
 
@@ -68,13 +69,19 @@ Pages block k s h r = HasLogPages k block s h r
 abbrev pub OnPages : ℕ → Turn → Type 0
 OnPages block t = OnKnown (Pages block) t
 
+none_wanted : (block : ℕ) (step : MaintenanceStep) → is_cleaning step ≡ false → (s : Shared) (h : HandState) (r : Running)
+    → Pages block (Maintenance step) s h r
+none_wanted block (Fresh ino asked wanted) plain s h r = absurd (true≢false plain)
+none_wanted block (Compact ino) plain s h r = absurd (true≢false plain)
+none_wanted block other plain s h r = tt
+
 pub pages_quiet : (block : ℕ) → IsQuiet (Pages block)
 pages_quiet block = record {
   unlock = λ place s h r. tt;
   give = λ cpu s h r. tt;
   back = λ s h r. tt;
   look = λ s h r. tt;
-  steps = λ step s h r. tt;
+  steps = λ step plain s h r. none_wanted block step plain s h r;
 }
 
 -- ---- a commit

@@ -168,16 +168,6 @@ appended_parted block e bs cell within nums sized h = record {
 abbrev pub entry_blocks : List Entry → List ℕ
 entry_blocks entries = flat_map (λ (e : Entry). item_blocks e.item) entries
 
-long_first : (n : ℕ) (bs : List BlockValue) → n ≤ length bs → length (take n bs) ≡ n
-long_first zero bs h = refl
-long_first (suc n) [] h = absurd (omega (arith, h))
-long_first (suc n) (b ∷ bs) h = ap suc (long_first n bs (omega (arith, h)))
-
-long_later : (n : ℕ) (bs : List BlockValue) → length (drop n bs) ≡ length bs - n
-long_later zero bs = omega arith
-long_later (suc n) [] = omega arith
-long_later (suc n) (b ∷ bs) = long_later n bs ∙ (let e : length bs - n ≡ suc (length bs) - suc n = omega arith in e)
-
 pub entries_parted : (block : ℕ) (entries : List Entry) (bs : List BlockValue) (cell : CellState)
     → AllByRecursion (λ (e : Entry). IsWithinFile e.item) entries
     → take (length (entry_blocks entries)) (numbers_of bs) ≡ entry_blocks entries → AreSized block bs

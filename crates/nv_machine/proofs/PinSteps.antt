@@ -11,15 +11,15 @@ use Rattle.nv_reader.specs.Walk as walks
 use Rattle.nv_book.specs.declared.record.Record.{Record}
 use Rattle.nv_machine.specs.Reading.{ArePins, pins_at, pins_on}
 use Rattle.nv_machine.specs.Sequence.{sequel}
-use Rattle.nv_machine.specs.Maintenance.{copies_at, drop_tests, first_showing, one_more, seen_on, show_or_unpin, maintenance_turn, visited}
+use Rattle.nv_machine.specs.Maintenance.{copies_at, drop_tests, first_showing, seen_on, show_or_unpin, maintenance_turn, visited}
 use Rattle.nv_machine.specs.Step.{kind_turn}
-use Rattle.nv_machine.specs.World.{Drains, Drop, Ending, HandState, LockPicked, Make, Next, Pick, Pin, Refuses, Running, Shared, Show, Showing, MaintenanceStep, Maintenance, Turn, Unpin}
+use Rattle.nv_machine.specs.World.{Drop, Ending, HandState, LockPicked, Make, Next, Pick, Pin, Refuses, Running, Shared, Show, Showing, MaintenanceStep, Maintenance, Turn, Unpin, Compact, Fresh, Judge, LockCleaned, Release, Unlink}
 use Rattle.nv_machine.proofs.UnlentSteps.{files_leave}
 use Rattle.nv_machine.proofs.StepWork.{maintenance_work}
 use Rattle.nv_machine.proofs.LoopSteps.{is_on_files, sequel_on}
 use Rattle.nv_machine.proofs.StepWays.{After, Closes, IsClearOn, any_ends, is_last, is_taking, noted, by_last, by_taking}
 use Rattle.nv_machine.proofs.StepWalk.{walk}
-use Rattle.nv_machine.proofs.MaintenanceWalk.{goes_next, is_denied, next_on, picked_next, maintenance_walk, tells}
+use Rattle.nv_machine.proofs.MaintenanceWalk.{goes_next, is_denied, next_on, picked_next, maintenance_walk, tells, EndsWith, LeadsTo, is_cleaning}
 
 -- ---- pins and shows
 
@@ -170,7 +170,8 @@ module _ (snapshot : ℕ) where
   pinned_some living other None now is some shown = cc
 
   goes_on_pins : (step : MaintenanceStep) (a : ℕ) (s : Shared) (h : HandState) → goes_next step ≡ true → IsClearOn step s
-      → Fits snapshot (pins_on snapshot step) (pins_on snapshot (next_on step s)) s.book.snaps (maintenance_work step a s h).shared.book.snaps
+      → Fits snapshot (pins_on snapshot step) (pins_on snapshot (next_on step s)) s.book.snaps
+      (maintenance_work step a s h).shared.book.snaps
   goes_on_pins (Pin other) a s h on clear =
       let first = first_showing s in
       pinned_some s.book.snaps other (pins_of s.book.snaps other) _ refl clear.1 (showing_pins other first.left first.visits first)
@@ -182,6 +183,7 @@ module _ (snapshot : ℕ) where
     go [] = refl
     go (picked ∷ deferred) = refl
   goes_on_pins (LockPicked draining picked) a s h on clear = same_fits snapshot false s.book.snaps
+  goes_on_pins (LockCleaned manner ino) a s h on clear = same_fits snapshot false s.book.snaps
   goes_on_pins other a s h on clear = absurd (false≢true on)
 
   told_pins : (step : MaintenanceStep) (a : ℕ) (s : Shared) (h : HandState) → tells step ≡ true → IsClearOn step s
@@ -197,7 +199,30 @@ module _ (snapshot : ℕ) where
   stops_pins (Drop other) s h r fault on = closes s.book.snaps s h r _ refl
   stops_pins (Pin other) s h r fault on = closes s.book.snaps s h r _ refl
   stops_pins (Pick draining) s h r fault on = closes s.book.snaps s h r _ refl
+  stops_pins (Judge manner slot) s h r fault on = closes s.book.snaps s h r _ refl
   stops_pins other s h r fault on = absurd (false≢true on)
+
+  ends_pins : (step : MaintenanceStep) (a : ℕ) (s : Shared) (h : HandState) (r : Running) (e : Ending) → EndsWith step a s h e
+      → let b = pins_on snapshot step in let d = maintenance_work step a s h in
+      Closes (P b s.book.snaps) (E b s.book.snaps) d.shared d.hand r e
+  ends_pins (Release draining picked) a s h r e is = closes s.book.snaps _ _ r _ refl
+  ends_pins (Judge manner slot) a s h r e is = closes s.book.snaps _ _ r _ refl
+  ends_pins (Fresh ino asked wanted) a s h r e is = closes s.book.snaps _ _ r _ refl
+  ends_pins (Unlink ino) a s h r e is = closes s.book.snaps _ _ r _ refl
+  ends_pins (Compact ino) a s h r e is = closes s.book.snaps _ _ r _ refl
+  ends_pins other a s h r e is = absurd is
+
+  cleaning_pins : (next : MaintenanceStep) → is_cleaning next ≡ true → pins_on snapshot next ≡ false
+  cleaning_pins (Fresh ino asked wanted) is = refl
+  cleaning_pins (Unlink ino) is = refl
+  cleaning_pins (Compact ino) is = refl
+  cleaning_pins other is = absurd (false≢true is)
+
+  leads_pins : (step : MaintenanceStep) (a : ℕ) (s : Shared) (h : HandState) (next : MaintenanceStep) → LeadsTo step next
+      → Fits snapshot (pins_on snapshot step) (pins_on snapshot next) s.book.snaps (maintenance_work step a s h).shared.book.snaps
+  leads_pins (Judge manner slot) a s h next leads = plain_fits snapshot _ s.book.snaps (cleaning_pins next leads.to)
+  leads_pins (Fresh ino asked wanted) a s h next leads = plain_fits snapshot _ s.book.snaps (cleaning_pins next leads.to)
+  leads_pins other a s h next leads = absurd (false≢true leads.from)
 
   on_pins : (step : MaintenanceStep) (a : ℕ) (granted : Bool) (s : Shared) (h : HandState) (r : Running)
       → let b = pins_on snapshot step in After (P b s.book.snaps) (E b s.book.snaps) (maintenance_turn step a granted s h r)
@@ -205,11 +230,11 @@ module _ (snapshot : ℕ) where
     stops = λ fault cause. any_ends (stops_pins step s h r fault cause.0);
     goes = goes_on_pins step a s h;
     told = told_pins step a s h;
-    denied = λ other showing on. subst (λ (x : MaintenanceStep). Fits snapshot (pins_on snapshot x) (other == snapshot) s.book.snaps s.book.snaps)
+    denied = λ other showing on.
+        subst (λ (x : MaintenanceStep). Fits snapshot (pins_on snapshot x) (other == snapshot) s.book.snaps s.book.snaps)
         (sym on.0) (same_fits snapshot (other == snapshot) s.book.snaps);
-    over = λ draining picked on. any_ends (subst (λ (x : MaintenanceStep). let b = pins_on snapshot x in let d = maintenance_work x a s h in
-        Closes (P b s.book.snaps) (E b s.book.snaps) d.shared d.hand r (Drains (one_more draining)))
-        (sym on) (closes s.book.snaps _ _ r _ refl));
+    leads_on = leads_pins step a s h;
+    over = λ e ends. any_ends (ends_pins step a s h r e ends);
     none = λ draining on empty. subst (λ (x : MaintenanceStep). Fits snapshot (pins_on snapshot x) false s.book.snaps s.book.snaps)
         (sym on) (same_fits snapshot false s.book.snaps);
   })

@@ -1,29 +1,26 @@
 -- A snapshot has a pin for each show of it that is under way.
 use Rattle.nv_book.specs.declared.record.Record.{Record}
-use Rattle.std.proofs.Common.{◌≡◌, ℕ, zero, suc, ◌+◌, ◌<◌, ◌∙◌, Bool, false, List, [], ◌∷◌, length, Option, Some, None, ap, arith, refl, set, sym, subst}
+use Rattle.std.proofs.Common.{◌≡◌, ℕ, suc, ◌+◌, ◌<◌, ◌∙◌, Bool, false, List, [], ◌∷◌, length, Option, Some, None, ap, arith, refl, set, sym, subst}
 use Rattle.std.proofs.lemmas.List.Sums.{sum_by-cons, sum_by-set}
-use Rattle.std.specs.Prelude.{count_by, replicate, slice_index_or}
+use Rattle.std.specs.Prelude.{count_by, slice_index_or}
 use Rattle.nv_base.specs.declared.geometry.GeometryNumbers.{GeometryNumbers}
 use Rattle.nv_calls.specs.declared.call.Call.{Call}
 use Rattle.nv_calls.specs.declared.maintenance_call.MaintenanceCall.{MaintenanceCall}
 use Rattle.nv_calls.specs.declared.call.Call.TheVariants as call
-use Rattle.nv_calls.specs.declared.maintenance_call.MaintenanceCall.TheVariants as on
 use Rattle.nv_epoch.specs.SnapList.{pins_of}
 use Rattle.nv_machine.specs.Reading.{ArePins, pins_at, pins_by_call, pins_on, shows_of}
 use Rattle.nv_machine.specs.Sequence.{beginning, begun, first_step}
 use Rattle.nv_machine.specs.Starts.{IsStart}
 use Rattle.nv_machine.specs.Step.{after, step, turned}
-use Rattle.nv_machine.specs.World.{Actor, Ends, Event, Moves, Running, Shared, Turn, Waits, World, actor_at, idle}
+use Rattle.nv_machine.specs.World.{Actor, Ends, Event, Moves, Running, Shared, Turn, Waits, World, actor_at, idle, MaintenanceStep}
 use Rattle.nv_machine.proofs.OverEvents.{begun_at, begun_in, event_by, events_by, turn_at, with_call}
 use Rattle.nv_machine.proofs.PinSteps.{OnPins, kind_pins, no_pin, one_if, same_fits}
 use Rattle.nv_machine.proofs.LoopSteps.{locking_on}
+use Rattle.nv_machine.proofs.FirstSteps.{first_by}
 
 -- ---- an actor that changes its call
 
 module _ (snapshot : ℕ) where
-  is_show : Actor → Bool
-  is_show actor = pins_by_call snapshot actor.running
-
   abbrev counted : Actor → ℕ
   counted actor = one_if (pins_by_call snapshot actor.running)
 
@@ -52,15 +49,15 @@ module _ (snapshot : ℕ) where
       ∙ shows_change w actor (with_call h None) s there) are
 
   -- a call that starts is no show yet
-  first_none : (c : MaintenanceCall) → pins_on snapshot (first_step c) ≡ false
-  first_none on.Snap = refl
-  first_none rest = refl
+  first_none : (slots : ℕ) (c : MaintenanceCall) → pins_on snapshot (first_step slots c) ≡ false
+  first_none slots = first_by (λ (step : MaintenanceStep). pins_on snapshot step ≡ false) slots refl (λ other. refl) (λ other. refl)
+      (λ count. refl) (λ manner ino inside. refl) (λ manner. refl)
 
   pub begun_none : (c : Call) (s : Shared) → pins_at snapshot (begun (beginning c) s c).next ≡ false
   begun_none (call.Write file offset text) s = no_pin snapshot _ (locking_on 0 _)
   begun_none (call.Size file size) s = no_pin snapshot _ (locking_on 0 _)
   begun_none (call.Mode handle mode) s = no_pin snapshot _ (locking_on 0 _)
-  begun_none (call.Maintenance c) s = first_none c
+  begun_none (call.Maintenance c) s = first_none (length s.cells) c
   begun_none other s = refl
 
   event_pinned : (w : World) (e : Event) → Pinned w → Pinned (step w e).world
@@ -73,10 +70,6 @@ module _ (snapshot : ℕ) where
       ∙ ap (λ (b : Bool). shows_of snapshot w + one_if b) (begun_none c w.shared)) are)
       (λ actor granted r there is. turned_pinned (turn_at w actor granted r) actor w r there is
       (kind_pins snapshot r.next w.numbers.block actor granted w.shared (actor_at w actor).hand r) are)
-
-  idle_none : (n : ℕ) → count_by (λ (actor : Actor). pins_by_call snapshot actor.running) (replicate n idle) ≡ 0
-  idle_none zero = refl
-  idle_none (suc n) = omega (arith, sum_by-cons counted idle (replicate n idle), idle_none n)
 
 pub no_shows : (snapshot : ℕ) (actors : List Actor) → ((a : ℕ) → slice_index_or actors a idle ≡ idle)
     → count_by (λ (actor : Actor). pins_by_call snapshot actor.running) actors ≡ 0

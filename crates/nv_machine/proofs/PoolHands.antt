@@ -15,16 +15,14 @@ use Rattle.nv_machine.specs.Reads.{is_written, written_slots}
 use Rattle.nv_machine.specs.Starts.{IsStart}
 use Rattle.nv_machine.specs.Step.{after}
 use Rattle.nv_machine.specs.World.{Close, Event, Next, Publish, Running, World, actor_at, cell_at, idle, owner_at}
-use Rattle.nv_machine.proofs.FromScratch.{all_numbers}
+use Rattle.nv_machine.proofs.EveryWorld.{all_numbers, all_pooled, reached}
 use Rattle.nv_machine.proofs.Lists.{has_filter, self}
 use Rattle.nv_machine.proofs.LocksHeld.{owner_is}
 use Rattle.nv_machine.proofs.BlockNumbers.{part_times}
 use Rattle.nv_machine.proofs.PoolCells.{with_inode}
 use Rattle.nv_machine.proofs.PoolCommits.{begun_inode}
-use Rattle.nv_machine.proofs.PoolLaw.{all_pooled}
 use Rattle.nv_machine.proofs.PoolRuns.{ArePooled, own_loose, standing}
 use Rattle.nv_machine.proofs.PoolTally.{is_begun, loose_by, loose_of, tally}
-use Rattle.nv_machine.proofs.Reached.{reached}
 use Rattle.nv_machine.proofs.LogTails.{has_front}
 
 -- ---- two parts of all

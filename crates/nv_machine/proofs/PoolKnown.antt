@@ -96,7 +96,7 @@ sees_quiet = record {
   give = λ cpu s h r. (tt, λ n. refl);
   back = λ s h r. (tt, λ n. refl);
   look = λ s h r. (tt, λ n. refl);
-  steps = λ step s h r. (tt, λ n. refl);
+  steps = λ step plain s h r. (tt, λ n. refl);
 }
 
 -- ---- before the check

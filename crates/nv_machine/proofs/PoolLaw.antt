@@ -1,5 +1,4 @@
 -- The pool is what one scan of all logs and hands leaves.
-use Rattle.nv_book.specs.declared.record.Record.{Record}
 use Rattle.std.proofs.Common.{◌≡◌, inl, inr, ℕ, suc, ◌+◌, ◌<◌, ◌≤◌, ◌==◌, ◌∙◌, Bool, true, false, cond, List, [], ◌∷◌, Option, Some, None, ap, ap₂, arith, nat_lt, not, refl, sym}
 use Rattle.std.specs.Prelude.{◌&&◌, ◌||◌, nat_le, slice_index_or}
 use Rattle.std.specs.List.{flat_map}
@@ -14,17 +13,12 @@ use Rattle.nv_machine.specs.Hands.{AreNumbers}
 use Rattle.nv_machine.specs.Locks.{AreLocks}
 use Rattle.nv_machine.specs.PoolScan.{has_inode, is_number_used, is_withheld, number_held, numbers_held, pool_from_scratch}
 use Rattle.nv_machine.specs.Reads.{if_number, written_slots}
-use Rattle.nv_machine.specs.Starts.{IsStart}
-use Rattle.nv_machine.specs.Step.{after}
-use Rattle.nv_machine.specs.World.{Actor, Event, Running, World, actor_at, cell_at, idle}
-use Rattle.nv_machine.proofs.OverEvents.{events_by}
-use Rattle.nv_machine.proofs.FromScratch.{all_numbers, counted, none_true, not_counted}
+use Rattle.nv_machine.specs.World.{Actor, Running, World, actor_at, cell_at, idle}
+use Rattle.nv_machine.proofs.FromScratch.{counted, none_true, not_counted}
 use Rattle.nv_machine.proofs.PoolCells.{no_inode, not_taken, taken_once}
 use Rattle.nv_machine.proofs.PoolCommits.{begun_inode}
-use Rattle.nv_machine.proofs.PoolRuns.{ArePooled, event_pooled, own_loose, standing}
+use Rattle.nv_machine.proofs.PoolRuns.{ArePooled, own_loose, standing}
 use Rattle.nv_machine.proofs.PoolTally.{is_begun, loose, loose_by, loose_of, tally}
-use Rattle.nv_machine.proofs.Reached.{reached}
-use Rattle.nv_machine.proofs.StartPool.{first_pooled}
 
 -- ---- what stands in a list of lists
 
@@ -145,23 +139,9 @@ is_scan g w n locks all grown pooled = elim (cases_lt n g.inodes) [
       none_true (has w.shared.pool.numbers n) (λ there. omega (arith, none, counted n w.shared.pool.numbers there)) ∙ sym (rw (a, b) refl)
 ]
 
--- ---- the law
+-- ---- the law, of each world
 
-pub all_pooled : (g : GeometryNumbers) (start : World) (records : List Record) (events : List Event) → IsStart g start records
-    → ArePooled g (after start events)
-all_pooled g start records events is_start =
-    events_by (λ (v : World). AreLocks v × AreNumbers g v × AreGrown v) (ArePooled g)
-    (λ v e is pooled. event_pooled g v e is.0 is.1 is.2 pooled) events start
-    (λ before.
-    let is = reached g start records before is_start in
-    (is.locks, all_numbers g start records before is_start, is.grown))
-    (first_pooled g start records is_start)
-
-pub pool_scanned : (g : GeometryNumbers) (start : World) (records : List Record) (events : List Event) → IsStart g start records
-    → (after start events).shared.pool.numbers ≡ pool_from_scratch g (after start events)
-pool_scanned g start records events is_start =
-    let w = after start events in
-    let is = reached g start records events is_start in
-    let pooled = all_pooled g start records events is_start in
-    from_scratch (is_number_used w) 0 g.inodes w.shared.pool.numbers pooled.rising
-    (λ n. is_scan g w n is.locks (all_numbers g start records events is_start) is.grown pooled)
+pub is_pool_scanned : (g : GeometryNumbers) (w : World) → AreLocks w → AreNumbers g w → AreGrown w → ArePooled g w
+    → w.shared.pool.numbers ≡ pool_from_scratch g w
+is_pool_scanned g w locks all grown pooled = from_scratch (is_number_used w) 0 g.inodes w.shared.pool.numbers pooled.rising
+    (λ n. is_scan g w n locks all grown pooled)

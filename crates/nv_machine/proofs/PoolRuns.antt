@@ -12,6 +12,7 @@ use Rattle.nv_calls.specs.declared.call.Call.{Call}
 use Rattle.nv_machine.specs.Frame.{IsFramed, lent}
 use Rattle.nv_machine.specs.Grown.{AreGrown, HasGrownBy}
 use Rattle.nv_machine.specs.Hands.{AreNumbers, HandOf}
+use Rattle.nv_machine.specs.Kept.{AreCleanable}
 use Rattle.nv_machine.specs.Locks.{AreLocks, HoldsIts, held_at}
 use Rattle.nv_machine.specs.Reads.{if_number, is_written, slots_in, slots_of, written_slots}
 use Rattle.nv_machine.specs.Sequence.{Beginning, Looks, Locks, Numbers, Visits, beginning, begun, nothing_looked, started, Maintains}
@@ -25,7 +26,9 @@ use Rattle.nv_machine.proofs.WorkKeeps.{AfterTurn, turn_keeps}
 use Rattle.nv_machine.proofs.Lists.{has_filter, has_later, self}
 use Rattle.nv_machine.proofs.LocksHeld.{lent_cell, owner_is}
 use Rattle.nv_machine.proofs.LocksOverEvents.{before}
-use Rattle.nv_machine.proofs.BlockNumbers.{part_times}
+use Rattle.nv_machine.proofs.Cleanable.{IsCleanable, cleanable}
+use Rattle.nv_machine.proofs.CleanedPool.{cleaned_like}
+use Rattle.nv_machine.proofs.BlockNumbers.{cleans_now, part_times}
 use Rattle.nv_machine.proofs.PoolKnown.{HaveInodes, OnSeen, Sees, SeesOf, begun_by}
 use Rattle.nv_machine.proofs.PoolSlots.{inos_of}
 use Rattle.nv_machine.proofs.PoolSteps.{OnTally, turn_seen, turn_tally}
@@ -194,16 +197,17 @@ record IsKnownTurn (g : GeometryNumbers) (w : World) (actor : ℕ) (r : Running)
   frame : IsFramed (lent r.next (length w.shared.lists) actor r) w.shared t
 
 known : (g : GeometryNumbers) (w : World) (actor block : ℕ) (granted : Bool) (r : Running) → AreLocks w → AreNumbers g w → AreGrown w
-    → ArePooled g w → (actor_at w actor).running ≡ Some r
+    → ArePooled g w → (actor_at w actor).running ≡ Some r → IsCleanable r.next block w.shared (actor_at w actor).hand r
     → IsKnownTurn g w actor r (kind_turn r.next block actor granted w.shared (actor_at w actor).hand r)
-known g w actor block granted r locks all grown pooled is =
+known g w actor block granted r locks all grown pooled is ready =
     let s = w.shared in
     let h = (actor_at w actor).hand in
     let st = standing g w actor r locks all grown pooled is in
     record {
       seen = turn_seen g block actor granted s h r r.next st;
       tallied = λ n. subst (λ (o : Option Running). OnTally n (tally n s (loose_of o h.ino)) (kind_turn r.next block actor granted s h r))
-          (sym is) (turn_tally g r.next n block actor granted s h r st);
+          (sym is) (turn_tally g r.next n block actor granted s h r st
+          (λ cleaning. cleaned_like _ _ _ _ (cleans_now w actor r r.next block refl locks all.tails is st.before ready cleaning)));
       rising = turn_keeps (λ (t : Shared) (x : HandState). IsRising t.pool.numbers) r.next block actor granted s h r pooled.rising
           (work_rising g r.next block actor s h r st pooled.rising);
       frame = framed r.next block actor granted s h r;
@@ -270,9 +274,9 @@ start_pooled g w locks all pooled actor c there is =
 
 -- ---- events
 
-pub event_pooled : (g : GeometryNumbers) (w : World) (e : Event) → AreLocks w → AreNumbers g w → AreGrown w → ArePooled g w
-    → ArePooled g (step w e).world
-event_pooled g w e locks all grown pooled = event_by (ArePooled g) w pooled e (start_pooled g w locks all pooled)
+pub event_pooled : (g : GeometryNumbers) (w : World) (e : Event) → AreLocks w → AreNumbers g w → AreGrown w → AreCleanable w
+    → ArePooled g w → ArePooled g (step w e).world
+event_pooled g w e locks all grown are pooled = event_by (ArePooled g) w pooled e (start_pooled g w locks all pooled)
     (λ actor granted r there is. turned_pooled g w actor r (turn_at w actor granted r) there locks pooled
     (λ ino here. lent_cell r.next (length w.shared.lists) actor w.shared r (before w actor r locks is) ino here)
-    (known g w actor w.numbers.block granted r locks all grown pooled is))
+    (known g w actor w.numbers.block granted r locks all grown pooled is (cleanable w actor r are is)))

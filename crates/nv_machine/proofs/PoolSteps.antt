@@ -1,5 +1,5 @@
 -- After each kind of step: what the call knows of inodes, and that each number stands as often as before.
-use Rattle.std.proofs.Common.{◌≡◌, ◌⊎◌, inl, inr, ℕ, ◌+◌, ◌==◌, ◌∙◌, Bool, true, false, cond, List, [], ◌∷◌, Option, Some, None, ap, arith, refl, subst, sym, take, length}
+use Rattle.std.proofs.Common.{◌≡◌, ◌⊎◌, inl, inr, ℕ, ◌+◌, ◌<◌, ◌==◌, ◌∙◌, Bool, true, false, cond, List, [], ◌∷◌, Option, Some, None, ap, arith, refl, subst, sym, take, length}
 use Rattle.std.specs.Prelude.{◌||◌}
 use Rattle.std.proofs.lemmas.Bool.{eqb-true, false≢true}
 use Rattle.std.proofs.lemmas.Option.{none-some}
@@ -9,12 +9,12 @@ use Rattle.nv_base.specs.declared.geometry.GeometryNumbers.{GeometryNumbers}
 use Rattle.nv_cell.specs.Cell.{published}
 use Rattle.nv_machine.specs.Reads.{if_number, is_written, slot_at, written_slots}
 use Rattle.nv_machine.specs.Step.{kind_turn}
-use Rattle.nv_machine.specs.World.{Append, Check, Close, Ends, Enter, HandState, Lock, Look, Moves, Next, Number, Open, Publish, Ready, Retire, Running, Shared, TakeBlocks, TakePages, Turn, Waits, cell_at, with_cell, MaintenanceStep, Maintenance}
+use Rattle.nv_machine.specs.World.{Append, Check, Close, Ends, Enter, HandState, Lock, Look, Moves, Next, Number, Open, Publish, Ready, Retire, Running, Shared, TakeBlocks, TakePages, Turn, Waits, cell_at, with_cell, MaintenanceStep, Maintenance, Fresh, Compact, Make, Judge}
 use Rattle.nv_machine.proofs.StepWork.{work}
 use Rattle.nv_machine.proofs.WorkKeeps.{AfterTurn, turn_keeps}
 use Rattle.nv_machine.proofs.Lists.{has_filter, has_take, rising_filter, self, take_apart}
 use Rattle.nv_machine.proofs.LogsKept.{cell_set}
-use Rattle.nv_machine.proofs.PoolCells.{taken_once, with_inode}
+use Rattle.nv_machine.proofs.PoolCells.{IsLike, taken_once, with_inode}
 use Rattle.nv_machine.proofs.PoolCommits.{append_inside, append_plan, close_retiring, erased_number, publish_inode, publish_inside, publish_plan, publish_retiring, retire_inside, retire_retiring}
 use Rattle.nv_machine.proofs.NextSteps.{QuietWays, quiet_walk}
 use Rattle.nv_machine.proofs.PoolKnown.{OnSeen, SeesBy, appending_seen, beginning_seen, begun_by, locking_sees, looking_sees, none_begun, number_sees, publishing_seen, retiring_seen, sees_quiet}
@@ -22,7 +22,9 @@ use Rattle.nv_machine.proofs.PoolTally.{CanTally, work_tally, is_begun, loose, n
 use Rattle.nv_machine.proofs.PoolTurns.{Standing, check_taken, ready_plan}
 use Rattle.nv_machine.proofs.StepWays.{noted}
 use Rattle.nv_machine.proofs.WrittenSlots.{written_there}
-use Rattle.nv_machine.proofs.CellChanges.{lent_inside_own, lent_removal}
+use Rattle.nv_machine.specs.Frame.{lent}
+use Rattle.nv_machine.proofs.CellChanges.{clean_cell, clean_cell_on, clean_slot, clean_slot_on, is_clean, is_clean_on, lent_clean, lent_inside_own, lent_removal, removal_on}
+use Rattle.nv_machine.specs.Hands.{HandOn}
 
 -- ---- what the call knows
 
@@ -52,6 +54,8 @@ module _ (g : GeometryNumbers) (block a : ℕ) (granted : Bool) (s : Shared) (h 
   ways (Publish place) st =
       publishing_seen _ (work (Publish place) block a s h r).hand r (place + 1) (publish_plan g block a s h r place st)
       (λ past single. publish_retiring g block a s h r place st single) (omega arith)
+  ways (Maintenance (Judge manner slot)) st = λ ino. ((tt, λ n. refl), (tt, λ n. refl))
+  ways (Maintenance (Fresh ino asked wanted)) st = (λ q. (tt, λ n. refl), λ n q. (tt, λ n. refl))
   ways other st = tt
 
   pub turn_seen : (k : Next) → Standing g k a s h r → OnSeen (begun_by k (written_slots r)) (kind_turn k block a granted s h r)
@@ -214,29 +218,42 @@ close_tally g block a s h r st n = ap (tally n s) (go h.ino refl) where
 
 -- ---- every kind
 
+none_numbered : (step : MaintenanceStep) (h : HandState) → HandOn step h → h.ino ≡ None
+none_numbered (Fresh ino asked wanted) h at = ap (λ (x : HandState). x.ino) at
+none_numbered (Compact ino) h at = ap (λ (x : HandState). x.ino) at
+none_numbered Make h at = ap (λ (x : HandState). x.ino) at
+none_numbered other h at = ap (λ (x : HandState). x.ino) at
+
 can_tally : (g : GeometryNumbers) (step : MaintenanceStep) (a : ℕ) (s : Shared) (h : HandState) (r : Running)
-    → Standing g (Maintenance step) a s h r → CanTally (Maintenance step) s h r
-can_tally g step a s h r st = λ is. (
-  (lent_inside_own (Maintenance step) a s r st.before _ (lent_removal (Maintenance step) (length s.lists) a s h r is)).0,
-  λ q. ap (λ (x : HandState). x.ino) st.hand,
-)
+    → Standing g (Maintenance step) a s h r
+    → (is_clean_on step ≡ true → IsLike (cell_at s (clean_slot_on step)) (clean_cell_on step s h))
+    → CanTally (Maintenance step) s h r
+can_tally g step a s h r st like = (
+  λ is. (inside (removal_on step s h).slot (lent_removal k (length s.lists) a s h r is), λ q. none_numbered step h st.hand),
+  λ is. (inside (clean_slot_on step) (lent_clean k (length s.lists) a r is), like is),
+) where
+  k : Next
+  k = Maintenance step
+
+  inside : (ino : ℕ) → (lent k (length s.lists) a r).cell ≡ Some ino → ino < length s.cells
+  inside ino is = (lent_inside_own k a s r st.before ino is).0
 
 pub turn_tally : (g : GeometryNumbers) (k : Next) (n block a : ℕ) (granted : Bool) (s : Shared) (h : HandState) (r : Running)
-    → Standing g k a s h r
+    → Standing g k a s h r → (is_clean k ≡ true → IsLike (cell_at s (clean_slot k)) (clean_cell k s h))
     → OnTally n (tally n s (loose k (written_slots r) h.ino)) (kind_turn k block a granted s h r)
-turn_tally g Number n block a granted s h r st = quiet_tally g Number n block a granted s h r
+turn_tally g Number n block a granted s h r st like = quiet_tally g Number n block a granted s h r
     (ap (λ (x : HandState). x.ino) st.hand.0) (λ m. refl) (turn_seen g block a granted s h r Number st)
-turn_tally g (Append place) n block a granted s h r st = quiet_tally g (Append place) n block a granted s h r
+turn_tally g (Append place) n block a granted s h r st like = quiet_tally g (Append place) n block a granted s h r
     (append_inside g block a s h r place st, st.within _) (λ m. refl) (turn_seen g block a granted s h r (Append place) st)
-turn_tally g (Publish place) n block a granted s h r st =
+turn_tally g (Publish place) n block a granted s h r st like =
     ap (λ (numbers : List ℕ). tally n (work (Publish place) block a s h r).shared numbers)
     (same_begun h.ino _ _ (turn_seen g block a granted s h r (Publish place) st).1)
     ∙ published_tally g block a s h r place st n
-turn_tally g Close n block a granted s h r st = close_tally g block a s h r st n
-turn_tally g (Retire place) n block a granted s h r st = quiet_tally g (Retire place) n block a granted s h r
+turn_tally g Close n block a granted s h r st like = close_tally g block a s h r st n
+turn_tally g (Retire place) n block a granted s h r st like = quiet_tally g (Retire place) n block a granted s h r
     (retire_inside g block a s h r place st, erased_number g block a s h r place st) (λ m. refl)
     (turn_seen g block a granted s h r (Retire place) st)
-turn_tally g (Maintenance step) n block a granted s h r st = quiet_tally g (Maintenance step) n block a granted s h r
-    (can_tally g step a s h r st) (λ m. refl) (turn_seen g block a granted s h r (Maintenance step) st)
-turn_tally g other n block a granted s h r st = quiet_tally g other n block a granted s h r tt (λ m. refl)
+turn_tally g (Maintenance step) n block a granted s h r st like = quiet_tally g (Maintenance step) n block a granted s h r
+    (can_tally g step a s h r st like) (λ m. refl) (turn_seen g block a granted s h r (Maintenance step) st)
+turn_tally g other n block a granted s h r st like = quiet_tally g other n block a granted s h r tt (λ m. refl)
     (turn_seen g block a granted s h r other st)

@@ -1,7 +1,7 @@
 -- A step moves inode numbers between the pool, the hand and the slots: each stands as often as before.
 use Rattle.std.proofs.Common.{◌≡◌, ◌≢◌, ◌+◌, ◌<◌, ◌≤◌, ◌==◌, ◌∙◌, ◌∷◌, ℕ, Bool, true, false, cond, List, [], Option, Some, None, ap, arith, length, refl, subst, sym, take, if◌then◌else◌}
 use Rattle.std.specs.Prelude.{nat_le}
-use Rattle.std.proofs.lemmas.Bool.{eqb-true}
+use Rattle.std.proofs.lemmas.Bool.{eqb-true, false≢true}
 use Rattle.std.proofs.lemmas.List.{map-id}
 use Rattle.nv_alloc.specs.Numbers.{has, put_by, times}
 use Rattle.nv_alloc.proofs.Lists.{times-cons, times-no, times-put_by, times-yes}
@@ -9,13 +9,14 @@ use Rattle.nv_base.specs.declared.limits.TheConstants.{NUMBER}
 use Rattle.nv_calls.specs.Retiring.{erased, is_erased, number_back}
 use Rattle.nv_cell.specs.Cell.{CellState, empty_cell}
 use Rattle.nv_machine.specs.Kinds.{entries_for, with_erased}
+use Rattle.nv_machine.specs.Cleaning.{compacted_cell, unlinked}
 use Rattle.nv_machine.specs.Reads.{if_number, pages_needed, slot_at, written_slots}
-use Rattle.nv_machine.specs.World.{Actor, Append, Back, Close, HandState, Next, Number, Publish, Retire, Running, Shared, cell_at, with_cell, Maintenance}
-use Rattle.nv_machine.proofs.StepWork.{back_work, work, number_work}
+use Rattle.nv_machine.specs.World.{Actor, Append, Back, Close, HandState, Next, Number, Publish, Retire, Running, Shared, cell_at, with_cell, Maintenance, MaintenanceStep, Compact, Unlink}
+use Rattle.nv_machine.proofs.StepWork.{back_work, maintenance_work, work, number_work}
 use Rattle.nv_machine.proofs.Lists.{self}
 use Rattle.nv_machine.proofs.LogsKept.{cell_set}
 use Rattle.nv_machine.proofs.PoolCells.{IsLike, appended_like, erased_gone, gone_inode, like_taken, one_if, keeps_like, taken_once, with_inode}
-use Rattle.nv_machine.proofs.CellChanges.{IsRemoval, Removal, hand_freed, is_removal_on, is_removed, on_step, removal, removal_on, removed}
+use Rattle.nv_machine.proofs.CellChanges.{clean_cell_on, clean_slot_on, is_clean_on, IsRemoval, Removal, hand_freed, is_removal_on, is_removed, on_step, removal, removal_on, removed}
 
 -- ---- how often a number stands
 
@@ -157,8 +158,19 @@ CanTally (Append place) s h r = (slot_at (written_slots r) place < length s.cell
 CanTally (Publish place) s h r = ⊥
 CanTally Close s h r = ⊥
 CanTally (Retire place) s h r = CanErase (removal (Retire place) s h r) s h
-CanTally (Maintenance step) s h r = is_removal_on step ≡ true → CanErase (removal_on step s h) s h
+CanTally (Maintenance step) s h r =
+    (is_removal_on step ≡ true → CanErase (removal_on step s h) s h)
+    × (is_clean_on step ≡ true
+    → (clean_slot_on step < length s.cells) × IsLike (cell_at s (clean_slot_on step)) (clean_cell_on step s h))
 CanTally other s h r = Unit {0}
+
+cleaned_tally : (step : MaintenanceStep) (n a : ℕ) (s : Shared) (h : HandState) → is_clean_on step ≡ true
+    → clean_slot_on step < length s.cells → IsLike (cell_at s (clean_slot_on step)) (clean_cell_on step s h)
+    → tally n (maintenance_work step a s h).shared (if_number (maintenance_work step a s h).hand.ino) ≡ tally n s (if_number h.ino)
+cleaned_tally (Unlink ino) n a s h is low like = let e = set_taken s ino (unlinked (cell_at s ino)) n low like in omega (arith, e)
+cleaned_tally (Compact ino) n a s h is low like =
+    let e = set_taken s ino (compacted_cell h (cell_at s ino)) n low like in omega (arith, e)
+cleaned_tally other n a s h is low like = absurd (false≢true is)
 
 pub work_tally : (k : Next) (n block actor : ℕ) (s : Shared) (h : HandState) (r : Running) → CanTally k s h r
     → tally n (work k block actor s h r).shared (if_number (work k block actor s h r).hand.ino) ≡ tally n s (if_number h.ino)
@@ -175,6 +187,8 @@ work_tally (Retire place) n block actor s h r can =
 work_tally Back n block actor s h r can = back_tally n h.ino s h refl
 work_tally (Maintenance step) n block actor s h r can =
     on_step (λ (t : Shared) (g : HandState). tally n t (if_number g.ino) ≡ tally n s (if_number h.ino)) step actor s h
-    (λ is. let ok = can is in removal_tally n (removal_on step s h) s h (is_removed (Maintenance step) s h r is) ok.0 ok.1)
+    (λ is. let ok = can.0 is in removal_tally n (removal_on step s h) s h (is_removed (Maintenance step) s h r is) ok.0 ok.1)
+    (λ ino asked wanted is. refl)
+    (λ is. let ok = can.1 is in cleaned_tally step n actor s h is ok.0 ok.1)
     (λ book owners. refl)
 work_tally other n block actor s h r can = refl

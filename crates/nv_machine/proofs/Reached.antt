@@ -1,5 +1,4 @@
--- What the laws of nodes ask of a world holds of every world that events lead to from a new one.
-use Rattle.nv_book.specs.declared.record.Record.{Record}
+-- What the laws of nodes ask of a world: no two of its blocks have one number.
 use Rattle.std.proofs.Common.{◌≡◌, ℕ, zero, suc, ◌^◌, ◌<◌, ◌≤◌, ◌++◌, ◌∙◌, Bool, true, false, List, [], ◌∷◌, Option, Some, None, ap, arith, if◌then◌else◌, inl, inr, length, nat_lt, refl, subst, sym}
 use Rattle.std.specs.Prelude.{is_none, slice_index_or}
 use Rattle.std.specs.List.{AllByRecursion, flat_map}
@@ -11,22 +10,18 @@ use Rattle.nv_alloc.proofs.GivingLemmas.{times-blocks}
 use Rattle.nv_alloc.proofs.Lists.{times-append, times-cons, times-yes}
 use Rattle.nv_base.specs.declared.geometry.GeometryNumbers.{GeometryNumbers}
 use Rattle.nv_cell.specs.Cell.{CellState}
-use Rattle.nv_machine.specs.Kept.{AreApart, AreBlocksApart}
+use Rattle.nv_machine.specs.Hands.{AreNumbers}
+use Rattle.nv_machine.specs.Kept.{AreApart, AreBlocksApart, AreCleanable, IsReleaseCoveredBy}
+use Rattle.nv_machine.specs.Locks.{AreLocks}
 use Rattle.nv_machine.specs.Numbers.{IsEachOnce, all_blocks, free_of, held_by_actor, held_in, of_part, stored_in, used_blocks}
 use Rattle.nv_machine.specs.PlainRun.{deed_of, keeps_nodes}
 use Rattle.nv_machine.specs.Reached.{IsReached}
 use Rattle.nv_machine.specs.Settled.{settled_nodes}
-use Rattle.nv_machine.specs.Starts.{IsStart}
-use Rattle.nv_machine.specs.Step.{after, step}
+use Rattle.nv_machine.specs.Step.{step}
 use Rattle.nv_machine.specs.World.{Actor, Event, World, actor_at, cell_at, idle, no_cell}
 use Rattle.nv_base.specs.declared.numbers.Handle.{Handle}
-use Rattle.nv_machine.proofs.FiledParts.{releases_covered}
-use Rattle.nv_machine.proofs.FromScratch.{each_once, idle_nothing}
-use Rattle.nv_machine.proofs.UnsettledRuns.{events_grown}
-use Rattle.nv_machine.proofs.LogsInOrder.{events_order}
-use Rattle.nv_machine.proofs.LogsKeptRuns.{events_kept, nodes_stay}
-use Rattle.nv_machine.proofs.LocksOverEvents.{events_locks}
-use Rattle.nv_machine.proofs.StartParts.{first_grown, first_kept, first_locks, first_order}
+use Rattle.nv_machine.proofs.FromScratch.{has_nothing}
+use Rattle.nv_machine.proofs.LogsKeptRuns.{nodes_stay}
 
 -- ---- how often a number stands in a part of all
 
@@ -144,34 +139,18 @@ hands_small many w fits each actor = elim (cases_lt actor (length w.actors)) [
       let front = times-blocks k h.blocks h.pages in
       omega (arith, fits, some_small many (all_blocks w) each k (omega (arith, all, joined, front, some)))
 
--- ---- every world
+-- ---- of each world
 
-pub blocks_apart : (g : GeometryNumbers) (start : World) (records : List Record) (events : List Event) → IsStart g start records
-    → AreBlocksApart (after start events)
-blocks_apart g start records events is_start =
-    let w = after start events in
-    let each = each_once g start records events is_start in
-    record {
-      cells = cells_apart g.blocks w each;
-      small = hands_small g.blocks w (omega (arith, is_start.limits.blocks_fit)) each;
-      idle = λ actor is. (idle_nothing g start records events is_start actor is).hand;
-      releases = λ actor. releases_covered g start records events actor is_start;
-    }
-
-pub reached : (g : GeometryNumbers) (start : World) (records : List Record) (events : List Event) → IsStart g start records
-    → IsReached (after start events)
-reached g start records events is_start =
-    let locks = first_locks g start records is_start in
-    let kept = first_kept g start records is_start in
-    let order = first_order g start records is_start in
-    let apart : (before : List Event) → AreBlocksApart (after start before) = λ before. blocks_apart g start records before is_start in
-    record {
-      locks = events_locks events start locks;
-      order = events_order events start locks order;
-      kept = events_kept events start locks order kept apart;
-      grown = events_grown events start locks order kept (first_grown g start records is_start) apart;
-      apart = blocks_apart g start records events is_start;
-    }
+pub blocks_apart : (g : GeometryNumbers) (w : World) → g.blocks ≤ 2 ^ 32 → AreLocks w → AreNumbers g w
+    → ((actor : ℕ) → IsReleaseCoveredBy w.shared (actor_at w actor).running) → AreCleanable w → AreBlocksApart w
+blocks_apart g w fits locks all releases cleanable = record {
+  cells = cells_apart g.blocks w all.once;
+  small = hands_small g.blocks w fits all.once;
+  idle = λ actor is. (has_nothing g w locks all actor is).hand;
+  releases = releases;
+  tails = all.tails;
+  cleanable = cleanable;
+}
 
 pub reached_nodes : (w : World) (e : Event) → IsReached w → keeps_nodes (deed_of w e) ≡ true
     → (handle : Handle) → settled_nodes (step w e).world.shared handle ≡ settled_nodes w.shared handle

@@ -18,10 +18,11 @@ use Rattle.nv_machine.specs.Reads.{copies}
 use Rattle.nv_machine.specs.Sequence.{beginning, directories, sequel}
 use Rattle.nv_machine.specs.Maintenance.{shown_by, maintenance_turn}
 use Rattle.nv_machine.specs.Step.{check_grows, ending_at, handle_at, is_numbered, kind_turn, made_in, same_looked, visit_grows, with_made}
-use Rattle.nv_machine.specs.World.{Answers, Back, Check, Draining, Drains, Ending, Enter, Give, HandState, Leave, Lock, Look, Make, Moves, Next, Overtaken, Ready, Refuses, Running, Shared, MaintenanceStep, Maintenance, TakeBlocks, TakePages, Turn, Unlock, Unpin, Visit, list_at, owner_at}
+use Rattle.nv_machine.specs.World.{Answers, Back, Check, Draining, Drains, Ending, Enter, Give, HandState, Leave, Lock, Look, Make, Moves, Next, Overtaken, Ready, Refuses, Running, Shared, MaintenanceStep, Maintenance, TakeBlocks, TakePages, Turn, Unlock, Unpin, Visit, list_at, owner_at, Cleans, Compact, Fresh, Judge, Release, Unlink}
 use Rattle.nv_machine.proofs.StepWays.{After, Closes, EndsBy, Going, IsClear, Takes, Telling, any_ends, any_lasts, any_rests, asks_on, by_last, is_last, is_overtaken, noted, noted_ending}
 use Rattle.nv_machine.proofs.StepWalk.{WaysOf, last_ways, walk_of}
-use Rattle.nv_machine.proofs.MaintenanceWalk.{next_on, no_growth, maintenance_walk, told_on}
+use Rattle.nv_machine.proofs.MaintenanceWalk.{next_on, no_growth, maintenance_walk, told_on, EndsWith}
+use Rattle.nv_clean.specs.declared.cleaned.Cleaned.{Cleaned}
 
 -- ---- a call that goes on or is answered
 
@@ -53,6 +54,9 @@ module _ (P : Fault → Type 0) (Q : Type 0) where
     picks = λ d left drains some. tt;
   }
 
+  cleans : {s : Shared} {h : HandState} {r : Running} (c : Cleaned) → Closes GoesFor TellsFor s h r (Cleans c)
+  cleans c = record { last = λ k is. tt; told = tt; again = λ n over some. tt; picks = λ d left drains some. tt }
+
   drains : {s : Shared} {h : HandState} {r : Running} (d : Draining) → Closes GoesFor TellsFor s h r (Drains d)
   drains d = record { last = λ k is. tt; told = tt; again = λ n over some. tt; picks = λ d left drains some. tt }
 
@@ -72,6 +76,7 @@ CheckCause first same all numbered None = all ≡ passes
 CheckCause first same all numbered (Some Answers) = Unit {0}
 CheckCause first same all numbered (Some Overtaken) = (first ≡ passes) × (same ≡ false)
 CheckCause first same all numbered (Some (Drains draining)) = ⊥
+CheckCause first same all numbered (Some (Cleans cleaned)) = ⊥
 CheckCause first same all numbered (Some (Refuses fault)) =
     (first ≡ Err fault) ⊎ (all ≡ Err fault) ⊎ ((fault ≡ NoInode) × (numbered ≡ false) × (all ≡ passes))
 
@@ -90,7 +95,7 @@ first_refuses : (block : ℕ) (nodes : Handle → Option NodeCopy) (r : Running)
 first_refuses block nodes r fault e = ap (λ tests. and_then tests (late block nodes (looked nodes r.call) r.call)) e
 
 short_list : (s : Shared) (cpu asked : ℕ) (r : Running) → 0 < r.wanted - length (list_at s cpu).blocks
-    → nat_lt (asked + 1) (length s.lists) ≡ false → IsShort s cpu asked r NoSpace
+    → nat_lt (asked + 1) (length s.lists) ≡ false → IsShort s cpu asked r.wanted NoSpace
 short_list s cpu asked r left none = record {
   is = refl;
   last = ltb-false (asked + 1) (length s.lists) none;
@@ -160,12 +165,13 @@ module _ (nodes : Handle → Option NodeCopy) (block a : ℕ) (granted : Bool) (
     };
   }
   check_ends (Drains d) told = absurd told
+  check_ends (Cleans c) told = absurd told
   check_ends (Refuses fault) (inl first) = denied Check fault (inl (first_refuses block nodes r fault first))
   check_ends (Refuses fault) (inr (inl all)) = denied Check fault (inl all)
   check_ends (Refuses fault) (inr (inr number)) = denied Check fault (inr (inl ((number.0, number.1), number.2)))
 
   short : (n asked : ℕ) → r.wanted - length (list_at s (asked_list (length s.lists) a asked)).blocks ≡ suc n
-      → nat_lt (asked + 1) (length s.lists) ≡ false → IsShort s (asked_list (length s.lists) a asked) asked r NoSpace
+      → nat_lt (asked + 1) (length s.lists) ≡ false → IsShort s (asked_list (length s.lists) a asked) asked r.wanted NoSpace
   short n asked is last = short_list s (asked_list (length s.lists) a asked) asked r (omega (arith, is)) last
 
   works : (k : Next) → EndsFor (For k) (MayBeOvertaken k nodes r) (sequel (noted k block s h r) k) (noted k block s h r).ending
@@ -207,17 +213,31 @@ module _ (nodes : Handle → Option NodeCopy) (block a : ℕ) (granted : Bool) (
   ways (Maintenance step) reads = tt
   ways other reads = works other
 
+  ends_for : (step : MaintenanceStep) (e : Ending) → EndsWith step a s h e → {t : Shared} {x : HandState}
+      → Closes (Goes (Maintenance step)) (Tells (Maintenance step)) t x r e
+  ends_for (Release draining picked) e is =
+      subst (Closes _ _ _ _ r) (sym is) (drains (For (Maintenance (Release draining picked))) _ _)
+  ends_for (Judge manner slot) e is = subst (Closes _ _ _ _ r) (sym is.0) (cleans (For (Maintenance (Judge manner slot))) _ _)
+  ends_for (Fresh ino asked wanted) e is =
+      subst (Closes _ _ _ _ r) (sym is.0) (refuses (For (Maintenance (Fresh ino asked wanted))) _ NoSpace is.1)
+  ends_for (Unlink ino) e is = subst (Closes _ _ _ _ r) (sym is) (cleans (For (Maintenance (Unlink ino))) _ _)
+  ends_for (Compact ino) e is = subst (Closes _ _ _ _ r) (sym is) (cleans (For (Maintenance (Compact ino))) _ _)
+  ends_for other e is = absurd is
+
   snapshot_caused : (step : MaintenanceStep)
       → RefusesFor (For (Maintenance step)) (MayBeOvertaken (Maintenance step) nodes r) (maintenance_turn step a granted s h r)
   snapshot_caused step =
       on_turn (For (Maintenance step)) (MayBeOvertaken (Maintenance step) nodes r) (maintenance_turn step a granted s h r)
       (maintenance_walk (Goes (Maintenance step)) (Tells (Maintenance step)) a s h r step granted (record {
         stops = λ fault cause. any_ends (refuses (For (Maintenance step)) (MayBeOvertaken (Maintenance step) nodes r) fault cause.1);
-        goes = λ on clear. unrefused (For (Maintenance step)) (MayBeOvertaken (Maintenance step) nodes r) (Maintenance (next_on step s)) r.ending going;
+        goes = λ on clear. unrefused (For (Maintenance step)) (MayBeOvertaken (Maintenance step) nodes r)
+            (Maintenance (next_on step s)) r.ending going;
         told = λ on clear. told step;
         denied = λ snapshot showing on.
-            (subst (λ (x : MaintenanceStep). IsCauseOn x granted s out_of_memory) (sym on.0) (refl, on.1), tt);
-        over = λ draining picked on. any_ends (drains (For (Maintenance step)) (MayBeOvertaken (Maintenance step) nodes r) _);
+            (subst (λ (x : MaintenanceStep). IsCauseOn x a granted s out_of_memory) (sym on.0) (refl, on.1), tt);
+        leads_on = λ next leads. unrefused (For (Maintenance step)) (MayBeOvertaken (Maintenance step) nodes r)
+            (Maintenance next) r.ending going;
+        over = λ e ends. any_ends (ends_for step e ends);
         none = λ draining on empty. tt;
       })) where
         told : (other : MaintenanceStep) → ResultFor (For (Maintenance step)) (told_on other s r)

@@ -12,14 +12,14 @@ use Rattle.nv_machine.specs.Refusing.{GoesOn, IsUnanswered, LeavesBooks, SameBoo
 use Rattle.nv_machine.specs.Maintenance.{shown_by}
 use Rattle.nv_machine.specs.Starts.{IsStart}
 use Rattle.nv_machine.specs.Step.{after, kind_turn, turn}
-use Rattle.nv_machine.specs.World.{Answers, Append, Back, Close, Draining, Drains, Drop, Ending, Ends, Enter, Event, HandState, LockPicked, Make, Moves, Next, Number, Open, Pick, Pin, Publish, Refuses, Release, Retire, Running, Shared, Show, MaintenanceStep, Maintenance, Turn, Unpin, Waits, World, actor_at, with_book}
+use Rattle.nv_machine.specs.World.{Answers, Append, Back, Close, Draining, Drains, Drop, Ending, Ends, Enter, Event, HandState, LockPicked, Make, Moves, Next, Number, Open, Pick, Pin, Publish, Refuses, Release, Retire, Running, Shared, Show, MaintenanceStep, Maintenance, Turn, Unpin, Waits, World, actor_at, with_book, Cleans, Compact, Fresh, Judge, LockCleaned, Unlink}
+use Rattle.nv_machine.proofs.EveryWorld.{all_numbers, reached}
 use Rattle.nv_machine.proofs.StepWork.{by_back, by_number, work}
-use Rattle.nv_machine.proofs.FromScratch.{all_numbers}
 use Rattle.nv_machine.proofs.WorkKeeps.{AfterTurn, turn_keeps}
-use Rattle.nv_machine.proofs.Reached.{reached}
 use Rattle.nv_machine.proofs.StepWays.{After, EndsBy, Going, Telling, any_ends}
 use Rattle.nv_machine.proofs.StepWalk.{walk_of}
 use Rattle.nv_machine.proofs.MaintenanceWalk.{StepWaysOf, step_walk_by}
+use Rattle.nv_clean.specs.declared.cleaned.Cleaned.{Cleaned}
 
 -- what leaves them whatever becomes of the call
 abbrev Left : Next → Shared → Shared → HandState → Type 0
@@ -65,6 +65,12 @@ module _ (k : Next) (s : Shared) where
   drained_left =
       any_ends (record { last = λ n is out. absurd out; told = tt; again = λ n over some out. absurd out; picks = λ d left drains some out. absurd out })
 
+  -- and after a cleaning it is one of a cleaner
+  cleaned_left : {slots : List ℕ} {t : Shared} {h : HandState} {r : Running} {c : Cleaned}
+      → EndsBy (LeftGoes k s) (LeftTold k s) slots t h r (Cleans c)
+  cleaned_left =
+      any_ends (record { last = λ n is out. absurd out; told = tt; again = λ n over some out. absurd out; picks = λ d left drains some out. absurd out })
+
 module _ (actor : ℕ) (granted : Bool) (s : Shared) (h : HandState) (r : Running) where
   step_left : (step : MaintenanceStep) → (is_going_on step ≡ true → r.ending ≡ Answers)
       → StepWaysOf (LeftGoes (Maintenance step) s) (LeftTold (Maintenance step) s) step actor granted s h r
@@ -74,7 +80,8 @@ module _ (actor : ℕ) (granted : Bool) (s : Shared) (h : HandState) (r : Runnin
       (λ none. refused_left (Maintenance (Pin snapshot)) s (refl, refl), λ clear. answered r.ending (going refl))
   step_left (Show snapshot showing) going = (λ lacks out. (refl, refl), λ clear out. (refl, refl))
   step_left (Unpin snapshot seen) going = λ clear. go r.ending where
-    go : (e : Ending) → told_left (Maintenance (Unpin snapshot seen)) s (with_book (after_unpin_snapshot snapshot s.book) s) (shown_by e seen)
+    go : (e : Ending) → told_left (Maintenance (Unpin snapshot seen)) s (with_book (after_unpin_snapshot snapshot s.book) s)
+        (shown_by e seen)
     go (Refuses fault) = (refl, refl)
     go other = tt
   step_left (Pick draining) going = (
@@ -84,6 +91,28 @@ module _ (actor : ℕ) (granted : Bool) (s : Shared) (h : HandState) (r : Runnin
   )
   step_left (LockPicked draining picked) going = λ clear out. (refl, refl)
   step_left (Release draining picked) going = drained_left (Maintenance (Release draining picked)) s
+  step_left (LockCleaned manner ino) going = λ clear out. (refl, refl)
+  step_left (Judge manner slot) going = (
+    λ none. refused_left (Maintenance (Judge manner slot)) s (refl, refl),
+    λ some lacks. refused_left (Maintenance (Judge manner slot)) s (refl, refl),
+    λ ino is some. record {
+      fast = λ plain out. (refl, refl);
+      some = λ n plain more out. (refl, refl);
+      none = λ plain less. cleaned_left (Maintenance (Judge manner slot)) s;
+    },
+  )
+  step_left (Fresh ino asked wanted) going = record {
+    ready = λ q out. (refl, refl);
+    more = λ n q m out. (refl, refl);
+    short = λ n q m. any_ends (record {
+      last = λ n is out. (refl, refl);
+      told = (refl, refl);
+      again = λ n over some out. absurd out;
+      picks = λ d left drains some out. absurd out;
+    });
+  }
+  step_left (Unlink ino) going = cleaned_left (Maintenance (Unlink ino)) s
+  step_left (Compact ino) going = cleaned_left (Maintenance (Compact ino)) s
 
 -- ---- every kind
 
@@ -107,7 +136,8 @@ module _ (block actor cpu : ℕ) (granted : Bool) (s : Shared) (h : HandState) (
   books_left (Retire place) knows on = answered r.ending knows.1
   books_left Back knows on = quiet_left Back (refl, refl) (by_back (λ (t : Shared) (g : HandState). SameBooks Back s t) s h (λ numbers ino. (refl, refl)))
   books_left (Maintenance step) knows on =
-      leaves (Maintenance step) s _ (step_walk_by (Unit {0}) (LeftGoes (Maintenance step) s) (LeftTold (Maintenance step) s) actor s h r step granted
+      leaves (Maintenance step) s _ (step_walk_by (Unit {0}) (LeftGoes (Maintenance step) s) (LeftTold (Maintenance step) s)
+      actor s h r step granted
       (λ blocked. tt) (step_left actor granted s h r step on))
   books_left other knows on = quiet_left other (refl, refl) (refl, refl)
 

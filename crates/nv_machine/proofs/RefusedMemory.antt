@@ -1,25 +1,27 @@
 -- Memory that is refused makes the same turn of every step that grows anything, and want of it is answered only there.
 use Rattle.std.proofs.Common.{Bool, List, None, Option, Some, [], ap, false, if◌then◌else◌, nat_le, not, refl, suc, true, zero, ℕ, ◌||◌, ◌∷◌, ◌≡◌}
-use Rattle.std.specs.Prelude.{Err, Ok, Result}
+use Rattle.std.specs.Prelude.{Err, Ok, Result, ◌||◌}
 use Rattle.nv_base.specs.declared.fault.Fault.{Fault}
-use Rattle.nv_base.specs.declared.fault.Fault.TheVariants.{CommitLimit}
+use Rattle.nv_base.specs.declared.fault.Fault.TheVariants.{CommitLimit, Stale}
 use Rattle.nv_base.specs.Memory.{out_of_memory}
 use Rattle.nv_base.specs.declared.limits.TheConstants.{NUMBER}
 use Rattle.nv_calls.specs.AllCalls.{answer, refusal}
 use Rattle.nv_calls.specs.Refusals.{Check as Tests}
 use Rattle.nv_calls.specs.declared.answer.Answer.{Answer}
 use Rattle.nv_calls.specs.Locked.{handles}
-use Rattle.nv_machine.specs.Kinds.{check_turn, end_turn, enter_turn, grown, refuse, visit_turn, wants_blocks, wants_pages, wants_room}
-use Rattle.nv_machine.specs.Memory.{denied_at, denied_turn, does_its_work, grows, grows_on, is_answered, is_onward, moves_onward, noted}
-use Rattle.nv_machine.specs.Reads.{copies, nodes, pages_wanted, plan_by, written_slots}
+use Rattle.nv_machine.specs.Kinds.{check_turn, end_turn, enter_turn, grown, refuse, visit_turn, wants_blocks, wants_pages, wants_room, blocks_in, rest_turn}
+use Rattle.nv_machine.specs.Memory.{denied_at, denied_turn, does_its_work, grows, grows_on, is_answered, is_onward, moves_onward, noted, moves_unrefused}
+use Rattle.nv_machine.specs.Reads.{copies, nodes, pages_wanted, plan_by, written_slots, home_from}
 use Rattle.nv_machine.specs.Sequence.{appending, nothing_looked}
 use Rattle.nv_machine.specs.Step.{ending_at, handle_at, kind_turn, visit_grows, with_made}
-use Rattle.nv_machine.specs.World.{Check, Draining, Ending, Ends, Enter, HandState, Moves, Next, Pick, Ready, Refuses, Running, Shared, Show, Showing, MaintenanceStep, Maintenance, Turn, Visit, Waits, owner_at}
+use Rattle.nv_machine.specs.World.{Check, Draining, Ending, Ends, Enter, HandState, Moves, Next, Pick, Ready, Refuses, Running, Shared, Show, Showing, MaintenanceStep, Maintenance, Turn, Visit, Waits, owner_at, Judge, Manner, Cleans}
 use Rattle.nv_machine.specs.Maintenance.{if_free, is_first, picked_turn, show_turn, maintenance_turn}
 use Rattle.nv_machine.proofs.LoopSteps.{appending_any}
 use Rattle.nv_machine.proofs.StepWays.{After, Going, Telling, by_last, end_goes, is_last}
 use Rattle.nv_book.specs.declared.record.Record.{Record}
 use Rattle.nv_entry.specs.declared.node.NodeCopy.{NodeCopy}
+use Rattle.nv_machine.specs.Cleaning.{chosen_turn, inode_turn, judge_turn, thorough_turn, nothing_cleaned}
+use Rattle.nv_clean.specs.declared.cleaned.Cleaned.{Cleaned}
 
 -- ---- the last steps
 
@@ -141,16 +143,66 @@ pick_alike : (first : Bool) (turn : Turn) (s : Shared) (h : HandState) (r : Runn
 pick_alike true turn s h r e = cc
 pick_alike false turn s h r e = refl
 
+-- a judge that ends with what it found does its work, and one that refuses does not
+abbrev judges : Turn → Bool
+judges t = is_answered t || moves_unrefused t
+
+cleans_works : (slots : List ℕ) (c : Cleaned) (s : Shared) (h : HandState) (r : Running)
+    → judges (end_turn slots (Cleans c) s h r) ≡ true
+cleans_works (slot ∷ slots) c s h r = refl
+cleans_works [] c s h r = go (home_from 0 0 s.lists (blocks_in h)) h.ino where
+  go : (home number : Option ℕ) → judges (rest_turn home number s h (record r { ending = Cleans c })) ≡ true
+  go (Some cpu) number = refl
+  go None (Some ino) = refl
+  go None None = refl
+
+stale_stops : (slots : List ℕ) (s : Shared) (h : HandState) (r : Running) → judges (end_turn slots (Refuses Stale) s h r) ≡ false
+stale_stops (slot ∷ slots) s h r = refl
+stale_stops [] s h r = go (home_from 0 0 s.lists (blocks_in h)) h.ino where
+  go : (home number : Option ℕ) → judges (rest_turn home number s h (record r { ending = Refuses Stale })) ≡ false
+  go (Some cpu) number = refl
+  go None (Some ino) = refl
+  go None None = refl
+
+-- a judge of an inode refuses its call by the walk's memory wherever it would go on or end
+thorough_denied : (n pages ino : ℕ) (manner : Manner) (slot : Option ℕ) (s : Shared) (h : HandState) (r : Running)
+    → refuse out_of_memory s h r ≡ denied_turn (Maintenance (Judge manner slot)) s h r (thorough_turn n pages ino s h r)
+thorough_denied zero pages ino manner slot s h r =
+    refuses_so (Maintenance (Judge manner slot)) s h r _ (cleans_works r.slots nothing_cleaned s h r)
+thorough_denied (suc n) pages ino manner slot s h r =
+    refl
+
+chosen_denied : (thorough : Bool) (ino : ℕ) (manner : Manner) (slot : Option ℕ) (s : Shared) (h : HandState) (r : Running)
+    → refuse out_of_memory s h r ≡ denied_turn (Maintenance (Judge manner slot)) s h r (chosen_turn thorough ino s h r)
+chosen_denied true ino manner slot s h r = thorough_denied _ _ ino manner slot s h r
+chosen_denied false ino manner slot s h r = refl
+
+inode_denied : (is : Bool) (ino : ℕ) (manner : Manner) (slot : Option ℕ) (s : Shared) (h : HandState) (r : Running)
+    → inode_turn is manner ino false s h r
+    ≡ denied_turn (Maintenance (Judge manner slot)) s h r (inode_turn is manner ino true s h r)
+inode_denied true ino manner slot s h r = chosen_denied _ ino manner slot s h r
+inode_denied false ino manner slot s h r =
+    stays_so (Maintenance (Judge manner slot)) s h r (refuse Stale s h r) (stale_stops r.slots s h r)
+
+judge_denied : (named : Option ℕ) (manner : Manner) (slot : Option ℕ) (s : Shared) (h : HandState) (r : Running)
+    → judge_turn manner named false s h r
+    ≡ denied_turn (Maintenance (Judge manner slot)) s h r (judge_turn manner named true s h r)
+judge_denied None manner slot s h r =
+    stays_so (Maintenance (Judge manner slot)) s h r (refuse Stale s h r) (stale_stops r.slots s h r)
+judge_denied (Some ino) manner slot s h r = inode_denied _ ino manner slot s h r
+
 snapshot_denied : (step : MaintenanceStep) (actor : ℕ) (s : Shared) (h : HandState) (r : Running) → grows_on step ≡ true
     → maintenance_turn step actor false s h r ≡ denied_turn (Maintenance step) s h r (maintenance_turn step actor true s h r)
 snapshot_denied (Show snapshot showing) actor s h r e = show_denied _ _ snapshot showing s h r
 snapshot_denied (Pick draining) actor s h r e = pick_denied s.holder (is_first draining) draining s h r e
+snapshot_denied (Judge manner slot) actor s h r e = judge_denied slot manner slot s h r
 snapshot_denied other actor s h r e = cc
 
 snapshot_alike : (step : MaintenanceStep) (actor : ℕ) (s : Shared) (h : HandState) (r : Running) → grows_on step ≡ false
     → maintenance_turn step actor false s h r ≡ maintenance_turn step actor true s h r
 snapshot_alike (Show snapshot showing) actor s h r e = cc
 snapshot_alike (Pick draining) actor s h r e = ap (if_free s.holder) (pick_alike (is_first draining) _ s h r e)
+snapshot_alike (Judge manner slot) actor s h r e = cc
 snapshot_alike other actor s h r e = refl
 
 -- ---- all kinds

@@ -1,10 +1,10 @@
 -- A step that may yet refuse its call leaves all cells, and the book except for pins; and so does each further step of a
 -- call that was refused.
-use Rattle.std.proofs.Common.{◌≡◌, ◌∙◌, ℕ, ◌-◌, ◌+◌, ◌<◌, ◌==◌, Bool, true, false, cond, List, [], ◌∷◌, Some, ap, ap₂, arith, map, refl, subst, sym}
+use Rattle.std.proofs.Common.{◌≡◌, ◌∙◌, ℕ, ◌-◌, ◌+◌, ◌<◌, ◌==◌, Bool, true, false, cond, List, [], ◌∷◌, Some, ap, ap₂, arith, map, refl, subst, sym, suc}
 use Rattle.std.specs.Prelude.{Err, Ok, Result}
 use Rattle.std.proofs.lemmas.Bool.{eqb-true, false≢true, true≢false}
 use Rattle.nv_base.specs.declared.fault.Fault.{Fault}
-use Rattle.nv_base.specs.declared.fault.Fault.TheVariants.{CommitLimit, NoSnapshot, NoSpace}
+use Rattle.nv_base.specs.declared.fault.Fault.TheVariants.{CommitLimit, NoSnapshot, NoSpace, Stale}
 use Rattle.nv_base.specs.Memory.{out_of_memory}
 use Rattle.nv_book.specs.Book.{after_pin_snapshot, after_unpin_snapshot}
 use Rattle.nv_calls.specs.AllCalls.{early, looked, refusal}
@@ -17,13 +17,16 @@ use Rattle.nv_machine.specs.Reads.{copies, written_slots}
 use Rattle.nv_machine.specs.Sequence.{beginning, sequel}
 use Rattle.nv_machine.specs.Maintenance.{is_first, one_more, shown_by}
 use Rattle.nv_machine.specs.Step.{ending_at, is_numbered, kind_turn, same_looked, with_made}
-use Rattle.nv_machine.specs.World.{Answers, Append, Back, Check, Close, Draining, Drains, Drop, Ending, Enter, Give, HandState, Leave, Lock, LockPicked, Look, Make, Next, Number, Open, Overtaken, Pick, Pin, Publish, Ready, Refuses, Release, Retire, Running, Shared, Show, MaintenanceStep, Maintenance, TakeBlocks, TakePages, Unlock, Unpin, Visit, with_book}
+use Rattle.nv_machine.specs.World.{Answers, Append, Back, Check, Close, Draining, Drains, Drop, Ending, Enter, Give, HandState, Leave, Lock, LockPicked, Look, Make, Next, Number, Open, Overtaken, Pick, Pin, Publish, Ready, Refuses, Release, Retire, Running, Shared, Show, MaintenanceStep, Maintenance, TakeBlocks, TakePages, Unlock, Unpin, Visit, with_book, Cleans, Compact, Fresh, Judge, LockCleaned, Unlink, cell_at}
 use Rattle.nv_machine.proofs.LoopSteps.{Commits, appending_any, publishing_any, retiring_any}
 use Rattle.nv_machine.proofs.RefusalCauses.{CheckCause, reads_itself}
 use Rattle.nv_machine.proofs.MaintenanceWalk.{StepWaysOf, next_on, step_walk_by}
 use Rattle.nv_machine.proofs.StepWalk.{WaysOf, last_walk, last_ways, walk_of}
 use Rattle.nv_machine.proofs.StepWays.{After, Closes, EndsBy, Going, Takes, Telling, any_ends, asks_on, by_last, is_last, is_overtaken, noted, noted_ending}
 use Rattle.nv_machine.proofs.StepWork.{by_back, by_number, work}
+use Rattle.nv_clean.specs.declared.cleaned.Cleaned.{Cleaned}
+use Rattle.nv_clean.specs.Plans.{wanted_of}
+use Rattle.nv_machine.specs.Cleaning.{nothing_cleaned}
 
 -- ---- where a call may yet be refused, and where it was
 
@@ -33,6 +36,9 @@ is_open_on (Drop snapshot) = true
 is_open_on (Pin snapshot) = true
 is_open_on (Show snapshot showing) = true
 is_open_on (Pick draining) = is_first draining
+is_open_on (LockCleaned manner ino) = true
+is_open_on (Judge manner slot) = true
+is_open_on (Fresh ino asked wanted) = true
 is_open_on other = false
 
 abbrev pub is_open : Next → Bool
@@ -125,6 +131,7 @@ OpenGoes k s t Answers n = is_open n ≡ true → IsOpenLeft k s t
 OpenGoes k s t (Refuses fault) n = (is_closing n ≡ true) × IsOpenLeft k s t
 OpenGoes k s t Overtaken n = (is_unlock n ≡ true) × IsOpenLeft k s t
 OpenGoes k s t (Drains draining) n = (is_last n ≡ true) × (0 < draining.released)
+OpenGoes k s t (Cleans cleaned) n = is_last n ≡ true
 
 abbrev pub OpenTold : Next → Shared → Shared → Result Answer Fault → Type 0
 OpenTold k s t (Ok found) = Unit {0}
@@ -150,6 +157,14 @@ module _ (k : Next) (s : Shared) where
     picks = λ d l drains some o. absurd (false≢true (ap is_draining drains));
   })
 
+  cleans_closes : {t : Shared} {h : HandState} {r : Running} (c : Cleaned) → Closes (Goes k s) (Tells k s) t h r (Cleans c)
+  cleans_closes c = record {
+    last = λ n is. is;
+    told = tt;
+    again = λ n over x o. absurd (false≢true (ap is_overtaken over));
+    picks = λ other l drains x o. absurd (false≢true (ap is_draining drains));
+  }
+
   drains_closes : {t : Shared} {h : HandState} {r : Running} (d : Draining) → 0 < d.released
       → Closes (Goes k s) (Tells k s) t h r (Drains d)
   drains_closes d some = record {
@@ -163,6 +178,11 @@ module _ (k : Next) (s : Shared) where
 -- a check leads to no drain
 no_drain : (block : ℕ) (s : Shared) (h : HandState) (r : Running) (d : Draining) → ending_at block s h r ≡ Some (Drains d) → ⊥
 no_drain block s h r d by =
+    subst (CheckCause (early (copies s) r.call) (same_looked (looked (copies s) r.call) r.looked) (refusal block (copies s) r.call)
+    (is_numbered (beginning r.call) h.ino)) by (reads_itself Check block s h r)
+
+no_clean : (block : ℕ) (s : Shared) (h : HandState) (r : Running) (c : Cleaned) → ending_at block s h r ≡ Some (Cleans c) → ⊥
+no_clean block s h r c by =
     subst (CheckCause (early (copies s) r.call) (same_looked (looked (copies s) r.call) r.looked) (refusal block (copies s) r.call)
     (is_numbered (beginning r.call) h.ino)) by (reads_itself Check block s h r)
 
@@ -232,6 +252,7 @@ module _ (block a : ℕ) (granted : Bool) (s : Shared) (h : HandState) (r : Runn
     };
   }
   check_ends (Drains d) by = absurd (no_drain block s h r d by)
+  check_ends (Cleans c) by = absurd (no_clean block s h r c by)
 
   ways : (k : Next) → WaysOf (Goes k s) (Tells k s) k block a granted s h r
   ways Number = opens Number _ _ (refl, numbered s h block a r)
@@ -296,10 +317,33 @@ module _ (block a : ℕ) (granted : Bool) (s : Shared) (h : HandState) (r : Runn
       λ clear. shuts (Maintenance (LockPicked draining picked)) (Maintenance (Release draining picked)) _ refl
   step_ways (Release draining picked) =
       any_ends (drains_closes (Maintenance (Release draining picked)) s (one_more draining) (omega arith))
+  step_ways (LockCleaned manner ino) =
+      λ clear. opens (Maintenance (LockCleaned manner ino)) (Maintenance (Judge manner (Some ino))) _
+      (refl, record { book = refl; cells = refl })
+  step_ways (Judge manner slot) = (
+    λ none. denies (Maintenance (Judge manner slot)) Stale (refl, same_as s),
+    λ some lacks. denies (Maintenance (Judge manner slot)) out_of_memory (refl, same_as s),
+    λ ino is some. record {
+      fast = λ plain. opens (Maintenance (Judge manner slot)) (Maintenance (Unlink ino)) s (refl, same_as s);
+      some = λ n plain more. opens (Maintenance (Judge manner slot)) (Maintenance (Fresh ino 0 (wanted_of (cell_at s ino)).pages)) s
+          (refl, same_as s);
+      none = λ plain less. any_ends (cleans_closes (Maintenance (Judge manner slot)) s nothing_cleaned);
+    },
+  )
+  step_ways (Fresh ino asked wanted) = record {
+    ready = λ q. opens (Maintenance (Fresh ino asked wanted)) (Maintenance (Compact ino)) _
+        (refl, record { book = refl; cells = refl });
+    more = λ n q m. opens (Maintenance (Fresh ino asked wanted)) (Maintenance (Fresh ino (asked + 1) (suc n))) _
+        (refl, record { book = refl; cells = refl });
+    short = λ n q m. denies (Maintenance (Fresh ino asked wanted)) NoSpace (refl, record { book = refl; cells = refl });
+  }
+  step_ways (Unlink ino) = any_ends (cleans_closes (Maintenance (Unlink ino)) s _)
+  step_ways (Compact ino) = any_ends (cleans_closes (Maintenance (Compact ino)) s _)
 
   pub open_kind : (k : Next) → After (Goes k s) (Tells k s) (kind_turn k block a granted s h r)
   open_kind (Maintenance step) =
-      step_walk_by (Unit {0}) (Goes (Maintenance step) s) (Tells (Maintenance step) s) a s h r step granted (λ blocked. tt) (step_ways step)
+      step_walk_by (Unit {0}) (Goes (Maintenance step) s) (Tells (Maintenance step) s) a s h r step granted
+      (λ blocked. tt) (step_ways step)
   open_kind other = walk_of (Goes other s) (Tells other s) block a s h r other granted (ways other) refl
 
 -- ---- a call that was refused
@@ -393,3 +437,24 @@ module _ (d : Draining) (block a : ℕ) (granted : Bool) (s : Shared) (h : HandS
 
   pub drain_kind : (k : Next) → is_last k ≡ true → After DrainGoes DrainTells (kind_turn k block a granted s h r)
   drain_kind k last = last_walk DrainGoes DrainTells block a s h r k granted last draining_closes
+
+-- ---- a cleaner that ends
+
+abbrev pub CleanedGoes : Ending → Next → Type 0
+CleanedGoes (Cleans cleaned) n = is_last n ≡ true
+CleanedGoes other n = ⊥
+
+abbrev pub CleanGoes : Going
+CleanGoes t h q = CleanedGoes q.ending q.next
+
+module _ (c : Cleaned) (block a : ℕ) (granted : Bool) (s : Shared) (h : HandState) (r : Running) (is : r.ending ≡ Cleans c) where
+  cleaned_closes : {t : Shared} {x : HandState} → Closes CleanGoes DrainTells t x r r.ending
+  cleaned_closes = subst (Closes CleanGoes DrainTells _ _ r) (sym is) (record {
+    last = λ n last. last;
+    told = tt;
+    again = λ n over left. absurd (false≢true (ap is_overtaken over));
+    picks = λ other l drains left. absurd (false≢true (ap is_draining drains));
+  })
+
+  pub clean_kind : (k : Next) → is_last k ≡ true → After CleanGoes DrainTells (kind_turn k block a granted s h r)
+  clean_kind k last = last_walk CleanGoes DrainTells block a s h r k granted last cleaned_closes

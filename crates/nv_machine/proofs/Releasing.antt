@@ -1,11 +1,10 @@
 -- The law of erasing, of the release step: where the record that it releases was the last that kept a gone inode,
 -- this is erased whole.
-use Rattle.std.proofs.Common.{◌≡◌, ◌≢◌, ℕ, ◌<◌, ◌==◌, ◌||◌, ◌++◌, ◌∙◌, Bool, true, false, List, [], ◌∷◌, Option, Some, None, ap, append-nil, arith, filter, get_or-set_same, if◌then◌else◌, inl, inr, length, map, refl, slice_get, slice_index_or, subst, sym, take}
+use Rattle.std.proofs.Common.{◌≡◌, ℕ, ◌<◌, ◌||◌, ◌++◌, ◌∙◌, Bool, true, false, List, [], ◌∷◌, Option, Some, None, ap, append-nil, arith, filter, get_or-set_same, if◌then◌else◌, inl, inr, length, map, refl, slice_get, slice_index_or, subst, sym, take}
 use Rattle.std.specs.List.{AllByRecursion, list_any}
 use Rattle.std.specs.Option.{IsSome}
-use Rattle.std.proofs.lemmas.Bool.{cases_lt, eqb-false, eqb-true, false≢true}
+use Rattle.std.proofs.lemmas.Bool.{cases_lt, false≢true}
 use Rattle.std.proofs.lemmas.List.{get_or_past}
-use Rattle.std.proofs.lemmas.Option.{same_Some}
 use Rattle.nv_alloc.specs.Block.{BlockValue, numbers_of}
 use Rattle.nv_alloc.specs.Numbers.{has}
 use Rattle.nv_base.specs.declared.geometry.GeometryNumbers.{GeometryNumbers}
@@ -26,66 +25,38 @@ use Rattle.nv_entry.specs.declared.item.Entry.{Entry}
 use Rattle.nv_entry.specs.declared.part.PartId.{PartId}
 use Rattle.nv_entry.proofs.Covering.{at_place_of}
 use Rattle.nv_epoch.specs.SnapList.{ids}
-use Rattle.nv_machine.proofs.LogTails.{has_front}
+use Rattle.nv_machine.proofs.EveryWorld.{all_known}
 use Rattle.nv_machine.specs.Erasing.{IsErasedWhole, IsOnItsWay, IsOver, emptied, keepers_of, pending_but}
 use Rattle.nv_machine.specs.Grown.{HasGrown, HasGrownBy}
 use Rattle.nv_machine.specs.Hands.{IsParted}
-use Rattle.nv_machine.specs.Held.{is_of_slot, killed_by_actor, killed_by_call, killed_in, killed_slots, parts_for, pending_in, picked_at, picked_by_actor, picked_by_call}
+use Rattle.nv_machine.specs.Held.{is_of_slot, killed_by_call, killed_in, killed_slots, parts_for, pending_in, picked_at, picked_by_actor, picked_by_call}
 use Rattle.nv_machine.specs.Kinds.{end_turn, with_erased}
-use Rattle.nv_machine.specs.Locks.{AreLocks, held_at, held_by}
 use Rattle.nv_machine.specs.PoolScan.{is_withheld}
-use Rattle.nv_machine.specs.Reads.{is_written, written_slots}
+use Rattle.nv_machine.specs.Reads.{written_slots}
 use Rattle.nv_machine.specs.Recorded.{is_kept}
 use Rattle.nv_machine.specs.Settled.{settled}
 use Rattle.nv_machine.specs.Maintenance.{one_more, with_released}
 use Rattle.nv_machine.specs.Starts.{IsStart}
 use Rattle.nv_machine.specs.Step.{Step, after, changed, kind_turn, step, turned}
-use Rattle.nv_machine.specs.World.{Actor, Close, Draining, Drains, Event, Go, HandState, Next, Publish, Release, Retire, Running, Shared, Maintenance, Unlock, World, actor_at, cell_at, empty_hand, idle, no_cell, owner_at, with_cell}
+use Rattle.nv_machine.specs.World.{Actor, Draining, Drains, Event, Go, HandState, Next, Release, Running, Shared, Maintenance, Unlock, World, actor_at, cell_at, empty_hand, idle, no_cell, owner_at, with_cell}
 use Rattle.nv_machine.proofs.ErasedCells.{all_freed, behind, gone_erased}
 use Rattle.nv_machine.proofs.OverEvents.{runs_inside}
-use Rattle.nv_machine.proofs.FitsEvents.{IsKnown, all_known, filed_known}
+use Rattle.nv_machine.proofs.FitsEvents.{IsKnown, filed_known}
 use Rattle.nv_machine.proofs.SingleEvents.{goes}
 use Rattle.nv_machine.proofs.EachElement.{all_append, all_back, all_front}
 use Rattle.nv_machine.proofs.FiledLists.{all_filed, count, count_append, count_cons, count_filed, held_filed}
 use Rattle.nv_machine.proofs.FiledMarks.{IsTold, is_filed_on}
 use Rattle.nv_machine.proofs.FiledRuns.{can_list}
 use Rattle.nv_machine.proofs.FiledSteps.{MarksOf, released_cell}
+use Rattle.nv_machine.proofs.KilledByOthers.{none_locked}
 use Rattle.nv_machine.proofs.FiledWorlds.{marks_as, picked_in}
 use Rattle.nv_machine.proofs.MarksInUse.{in_use_there, same_default}
-use Rattle.nv_machine.proofs.Lists.{has_filter, has_later}
-use Rattle.nv_machine.proofs.LocksHeld.{Before, lent_cell, owner_is}
+use Rattle.nv_machine.proofs.LocksHeld.{Before, lent_cell}
 use Rattle.nv_machine.proofs.LocksOverEvents.{before}
 use Rattle.nv_machine.proofs.Pairs.{IsRecordOf, pair_there}
 use Rattle.nv_machine.proofs.PartPlaces.{settled_parted}
-use Rattle.nv_machine.proofs.PartsFor.{none_of, none_there, own_all, swap_all, swap_count}
+use Rattle.nv_machine.proofs.PartsFor.{own_all, swap_all, swap_count}
 use Rattle.nv_machine.proofs.CellChanges.{settled_times}
-
--- ---- of a slot that an actor has locked no other has killed parts
-
-pub killed_held : (k : Next) (r : Running) (ino : ℕ) → has (killed_slots k (written_slots r)) ino ≡ true
-    → has (held_at k r.slots) ino ≡ true
-killed_held (Publish place) r ino h = has_filter (is_written r.plan) r.slots ino (has_front place (written_slots r) ino h)
-killed_held Close r ino h = has_filter (is_written r.plan) r.slots ino h
-killed_held (Retire place) r ino h = has_filter (is_written r.plan) r.slots ino (has_later place (written_slots r) ino h)
-killed_held other r ino h = absurd (false≢true h)
-
-none_killed : (w : World) (a ino : ℕ) → AreLocks w → owner_at w.shared ino ≡ Some a → killed_by_actor ino (actor_at w a) ≡ []
-    → killed_in w ino ≡ []
-none_killed w a ino locks owned own = none_of (killed_by_actor ino) w.actors (λ b. each b (b == a) refl) where
-  call : (b : ℕ) (running : Option Running) → (actor_at w b).running ≡ running → b ≢ a → killed_by_call running (actor_at w b).hand ino ≡ []
-  call b None is ne = refl
-  call b (Some r) is ne = none_there (killed_slots r.next (written_slots r)) (actor_at w b).hand.killed ino
-      (go (has (killed_slots r.next (written_slots r)) ino) refl) where
-        go : (c : Bool) → has (killed_slots r.next (written_slots r)) ino ≡ c → c ≡ false
-        go false e = refl
-        go true e =
-            let held = killed_held r.next r ino e in
-            let holds = (locks.each b).owners ino ∙ ap (λ (o : Option Running). has (held_by o) ino) is ∙ held in
-            absurd (ne (same_Some b a (sym (owner_is b (owner_at w.shared ino) holds) ∙ owned)))
-
-  each : (b : ℕ) (c : Bool) → (b == a) ≡ c → killed_by_actor ino (actor_at w b) ≡ []
-  each b true e = ap (λ (i : ℕ). killed_by_actor ino (actor_at w i)) (eqb-true b a e) ∙ own
-  each b false e = call b (actor_at w b).running refl (eqb-false b a e)
 
 -- ---- the release step
 
@@ -169,7 +140,7 @@ module _ (g : GeometryNumbers) (w : World) (all : IsKnown g w) (actor : ℕ) (dr
       own.0
 
   none : killed_in w d.ino ≡ []
-  none = none_killed w actor d.ino all.reached.locks owned
+  none = none_locked w actor d.ino all.reached.locks owned
       (ap (λ (o : Option Running). killed_by_call o h d.ino) runs
       ∙ ap (λ (k : Next). parts_for (killed_slots k (written_slots r)) h.killed d.ino) next)
 

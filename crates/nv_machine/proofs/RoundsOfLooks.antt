@@ -14,9 +14,10 @@ use Rattle.nv_machine.specs.Step.{after, ending_at, kind_turn, step, turn}
 use Rattle.nv_machine.specs.World.{Actor, Check, Ending, Ends, Event, Go, HandState, Moves, Next, Number, Overtaken, Refuses, Running, Shared, MaintenanceStep, Maintenance, Start, Started, Turn, Waits, World, actor_at}
 use Rattle.nv_machine.proofs.OverEvents.{OwnAfter, event_of, own_goes, started, turn_at}
 use Rattle.nv_machine.proofs.Lists.{self}
-use Rattle.nv_machine.proofs.StepWays.{After, Closes, StopsBy, any_ends, noted, stopped}
+use Rattle.nv_machine.proofs.StepWays.{After, Closes, StopsBy, any_ends, noted, stopped, is_overtaken}
 use Rattle.nv_machine.proofs.StepWalk.{walk}
-use Rattle.nv_machine.proofs.MaintenanceWalk.{maintenance_walk}
+use Rattle.nv_machine.proofs.MaintenanceWalk.{maintenance_walk, ends_fair}
+use Rattle.std.proofs.lemmas.Bool.{true≢false}
 
 -- what is moved on to has at least so many left, with these failed
 abbrev HasLeft : ℕ → ℕ → Shared → HandState → Running → Type 0
@@ -31,6 +32,10 @@ KeepsLeft least failed turn = After (HasLeft least failed) IsEnd turn
 one_more : (e : Ending) (rounds : ℕ) → checks_left e rounds ≤ rounds + 1
 one_more Overtaken rounds = omega arith
 one_more other rounds = omega arith
+
+left_if : (least : ℕ) (e : Ending) (rounds : ℕ) → least ≤ rounds + 1 → is_overtaken e ≡ false → least ≤ 0 + checks_left e rounds
+left_if least Overtaken rounds few is = absurd (true≢false is)
+left_if least other rounds few is = omega (arith, few)
 
 -- ---- every kind
 
@@ -68,7 +73,8 @@ snapshot_left step actor granted s h r =
       goes = λ on clear. omega arith;
       told = λ on clear. tt;
       denied = λ snapshot showing on. omega (arith, more);
-      over = λ draining picked on. any_ends (closes _ 0 _ _ r _ (omega (arith, more)));
+      leads_on = λ next leads. omega arith;
+      over = λ e ends. any_ends (closes _ 0 _ _ r _ (left_if _ e r.rounds more (ends_fair step actor s h e ends)));
       none = λ draining on empty. tt;
     })
 

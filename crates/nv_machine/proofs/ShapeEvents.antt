@@ -1,5 +1,5 @@
 -- Whatever events come, settled logs are of their shape.
-use Rattle.std.proofs.Common.{◌≡◌, ◌⊎◌, ◌+◌, ◌++◌, ◌∙◌, ℕ, Bool, true, false, List, [], ◌∷◌, ap, append-nil, inl, inr, refl, subst, sym}
+use Rattle.std.proofs.Common.{◌≡◌, ◌⊎◌, ◌+◌, ◌++◌, ◌∙◌, ℕ, Bool, true, false, List, [], ◌∷◌, ap, append-nil, inl, inr, refl, subst, sym, None, Some, Option}
 use Rattle.nv_alloc.specs.Numbers.{has}
 use Rattle.nv_base.specs.declared.geometry.GeometryNumbers.{GeometryNumbers}
 use Rattle.nv_book.specs.declared.record.Record.{Record}
@@ -12,33 +12,73 @@ use Rattle.nv_machine.specs.Format.{formatted}
 use Rattle.nv_machine.specs.PlainRun.{deed_of, keeps_nodes}
 use Rattle.nv_machine.specs.Reads.{written_slots}
 use Rattle.nv_machine.specs.Settled.{settled}
-use Rattle.nv_entry.specs.Shape.{IsShaped, items_of}
-use Rattle.nv_machine.specs.Shapes.{AreShaped}
+use Rattle.nv_entry.specs.Shape.{AreLawful, IsShaped, items_of, kind_after}
+use Rattle.nv_machine.specs.Shapes.{AreShaped, IsLeftShaped}
 use Rattle.nv_machine.specs.Starts.{IsStart}
 use Rattle.nv_machine.specs.Step.{after, step}
 use Rattle.nv_machine.specs.World.{Event, Running, World}
+use Rattle.nv_machine.proofs.EveryWorld.{all_known}
 use Rattle.nv_machine.proofs.NewWorld.{each_cell, new_settled}
 use Rattle.nv_machine.proofs.OverEvents.{by_points, events_by}
-use Rattle.nv_machine.proofs.FitsEvents.{IsKnown, all_known, grow_now}
+use Rattle.nv_machine.proofs.FitsEvents.{IsKnown, grow_now}
 use Rattle.nv_machine.proofs.UnsettledTurns.{point_settles}
 use Rattle.nv_machine.proofs.LogsKeptRuns.{shapes_stay}
 use Rattle.nv_machine.proofs.LogsKept.{no_shape}
-use Rattle.nv_machine.proofs.Shapes.{Grows, shape_more}
+use Rattle.nv_machine.proofs.Shapes.{Grows, kinds_after, shape_more}
+use Rattle.nv_machine.proofs.CleanedCells.{last_step}
+use Rattle.nv_cell.specs.Readers.{is_gone, is_last_word}
+use Rattle.nv_base.specs.declared.node.Kind.{Kind}
+use Rattle.std.specs.Option.{option_map}
+use Rattle.std.specs.Prelude.{unwrap_or}
+use Rattle.std.proofs.lemmas.Bool.{false≢true}
+use Rattle.std.proofs.lemmas.Option.{none-some}
+use Rattle.nv_entry.specs.declared.item.Item.TheVariants.{Gone}
 
 entries_items : (commit epoch place : ℕ) (items : List Item) → items_of (entries_of commit epoch place items) ≡ items
 entries_items commit epoch place [] = refl
 entries_items commit epoch place (item ∷ items) = ap (λ (l : List Item). item ∷ l) (entries_items commit epoch (place + 1) items)
 
+-- ---- a log whose inode is not gone
+
+-- behind a Gone there is no kind
+gone_none : (log : List Entry) (before : Option Kind) → is_gone log ≡ true → kinds_after (items_of log) before ≡ None
+gone_none [] before is = absurd (false≢true is)
+gone_none (e ∷ []) before is = go e.item is where
+  go : (item : Item) → is_last_word item ≡ true → kind_after item before ≡ None
+  go Gone is = refl
+  go other is = absurd (false≢true is)
+gone_none (e ∷ f ∷ log) before is =
+    gone_none (f ∷ log) (kind_after e.item before)
+    (sym (ap (λ (o : Option Entry). unwrap_or (option_map (λ (x : Entry). is_last_word x.item) o) false) (last_step e f log)) ∙ is)
+
+there_still : (log : List Entry) (kind : Kind) → kinds_after (items_of log) None ≡ Some kind → is_gone log ≡ false
+there_still log kind is = go (is_gone log) refl where
+  go : (b : Bool) → is_gone log ≡ b → is_gone log ≡ false
+  go true gone = absurd (none-some kind (sym (gone_none log None gone) ∙ is))
+  go false there = there
+
+-- a log that grows is lawful from nothing on
+whole_shape : (block : ℕ) (log : List Entry) (items : List Item) → IsLeftShaped block log → Grows block log items → IsShaped block log
+whole_shape block log items is grows = record { lawful = go grows.there; last = is.last } where
+  go : (log ≡ []) ⊎ ((kind : Kind) × (kinds_after (items_of log) None ≡ Some kind)) → AreLawful block (items_of log) None
+  go (inl empty) = subst (λ (l : List Entry). AreLawful block (items_of l) None) (sym empty) tt
+  go (inr there) = is.lawful (there_still log there.0 there.1)
+
+left_whole : (block : ℕ) (log : List Entry) → IsShaped block log → IsLeftShaped block log
+left_whole block log is = record { some = (None, is.lawful); lawful = λ there. is.lawful; last = is.last }
+
 -- a log behind which a commit settles its entries
-point_shaped : (block : ℕ) (log : List Entry) (r : Running) (ino : ℕ) (appended : Bool) → IsShaped block log
-    → ((items_for r.plan ino ≡ []) ⊎ Grows block log (items_for r.plan ino)) → IsShaped block (log ++ fresh_entries appended r ino)
-point_shaped block log r ino false is grows = subst (IsShaped block) (sym (append-nil log)) is
+point_shaped : (block : ℕ) (log : List Entry) (r : Running) (ino : ℕ) (appended : Bool) → IsLeftShaped block log
+    → ((items_for r.plan ino ≡ []) ⊎ Grows block log (items_for r.plan ino)) → IsLeftShaped block (log ++ fresh_entries appended r ino)
+point_shaped block log r ino false is grows = subst (IsLeftShaped block) (sym (append-nil log)) is
 point_shaped block log r ino true is (inl none) =
-    subst (IsShaped block) (sym (ap (λ (items : List Item). log ++ entries_of r.commit r.epoch (place_in r.plan ino) items) none
+    subst (IsLeftShaped block) (sym (ap (λ (items : List Item). log ++ entries_of r.commit r.epoch (place_in r.plan ino) items) none
     ∙ append-nil log)) is
 point_shaped block log r ino true is (inr grows) =
-    shape_more block log (entries_of r.commit r.epoch (place_in r.plan ino) (items_for r.plan ino)) is
-    (subst (Grows block log) (sym (entries_items r.commit r.epoch (place_in r.plan ino) (items_for r.plan ino))) grows)
+    let more = entries_of r.commit r.epoch (place_in r.plan ino) (items_for r.plan ino) in
+    left_whole block (log ++ more)
+    (shape_more block log more (whole_shape block log (items_for r.plan ino) is grows)
+    (subst (Grows block log) (sym (entries_items r.commit r.epoch (place_in r.plan ino) (items_for r.plan ino))) grows))
 
 module _ (g : GeometryNumbers) (w : World) (known : IsKnown g w) (are : AreShaped w.numbers.block w.shared) where
   abbrev Shaped : Event → Type 0
@@ -53,7 +93,7 @@ module _ (g : GeometryNumbers) (w : World) (known : IsKnown g w) (are : AreShape
   event_shaped = by_points w Shaped
       (λ actor granted r there is e ino.
       let k = known.reached in
-      subst (IsShaped w.numbers.block) (sym (point_settles w actor granted r k.locks k.kept k.grown there is e ino))
+      subst (IsLeftShaped w.numbers.block) (sym (point_settles w actor granted r k.locks k.kept k.grown there is e ino))
       (point_shaped w.numbers.block (settled w.shared ino) r ino (has (written_slots r) ino) (are ino)
       (grow_now g w known actor granted r is there e ino)))
       kept_shaped
@@ -69,6 +109,7 @@ all_shaped g start records events is_start =
 -- ---- a new world
 
 pub new_shaped : (g : GeometryNumbers) → AreShaped g.block (formatted g).shared
-new_shaped g ino = subst (IsShaped g.block) (sym (new_settled g ino))
-    (each_cell g (λ (c : CellState). IsShaped g.block c.chain.entries) (record { lawful = (tt, tt); last = tt })
+new_shaped g ino = subst (IsLeftShaped g.block) (sym (new_settled g ino))
+    (each_cell g (λ (c : CellState). IsLeftShaped g.block c.chain.entries)
+    (left_whole g.block _ (record { lawful = (tt, tt); last = tt }))
     (λ block page generation. no_shape g.block) ino)

@@ -67,7 +67,8 @@ all_kinds block (e ∷ later) before =
       go (Present (datum.Block number)) = refl
 
 -- it is the node's
-kind_now : (bytes : ℕ → List ℕ) (block : ℕ) (log : List Entry) → kind_of (node_now bytes block log) ≡ kinds_after (items_of log) None
+pub kind_now : (bytes : ℕ → List ℕ) (block : ℕ) (log : List Entry)
+    → kind_of (node_now bytes block log) ≡ kinds_after (items_of log) None
 kind_now bytes block log = go (last_setting block log KindKey) ∙ sym (all_kinds block log None) where
   go : (l : Setting) → kind_of (node_of_kind (value_of l) bytes block log) ≡ kind_by l None
   go Untouched = refl

@@ -23,12 +23,12 @@ use Rattle.nv_machine.specs.Maintenance.{copies_at, first_showing}
 use Rattle.nv_machine.specs.Starts.{IsStart}
 use Rattle.nv_machine.specs.Step.{after, step}
 use Rattle.nv_machine.specs.World.{Actor, Done, Event, Go, Running, Maintenance, Unpin, World, actor_at, cell_at, owner_at}
+use Rattle.nv_machine.proofs.EveryWorld.{reached}
 use Rattle.nv_machine.proofs.CopiesAll.{all_stay, all_whole, events_cells}
 use Rattle.nv_epoch.proofs.Pins.{lives-from_pins}
 use Rattle.nv_machine.proofs.Lists.{self}
 use Rattle.nv_machine.proofs.LocksOverEvents.{many_same}
 use Rattle.nv_machine.proofs.Pins.{pins_of_shows}
-use Rattle.nv_machine.proofs.Reached.{reached}
 use Rattle.nv_machine.proofs.ShowRuns.{AllShow, IsShown, events_show, show_told, shown_lives}
 use Rattle.nv_machine.proofs.Showing.{IsSeen, tree_by}
 use Rattle.nv_machine.proofs.SnapRuns.{all_bare}

@@ -1,6 +1,6 @@
 -- A show has seen the front of its snapshot's tree, and what is to come of its walk is the rest: kind by kind.
 use Rattle.nv_machine.proofs.StepWays.{IsClearOn}
-use Rattle.nv_machine.proofs.MaintenanceWalk.{goes_next, next_on, picked_next}
+use Rattle.nv_machine.proofs.MaintenanceWalk.{goes_next, next_on, picked_next, LeadsTo}
 use Rattle.nv_machine.proofs.MaintenanceAlone.{alone_walk}
 use Rattle.std.proofs.Common.{◌≡◌, ℕ, zero, suc, ◌-◌, ◌≤◌, ◌++◌, ◌∙◌, Bool, true, false, List, [], ◌∷◌, Option, Some, None, ap, append_assoc, arith, refl, subst, sym}
 use Rattle.std.specs.Option.{option_to_list}
@@ -17,7 +17,7 @@ use Rattle.nv_epoch.specs.SnapList.{Snapshots as Living, pins_of}
 use Rattle.nv_machine.specs.Reading.{ArePins, pins_at}
 use Rattle.nv_machine.specs.Maintenance.{copies_at, first_showing, seen_on, show_or_unpin, showing_on, maintenance_turn, visited}
 use Rattle.nv_machine.specs.Step.{kind_turn}
-use Rattle.nv_machine.specs.World.{Back, Ending, Ends, HandState, LockPicked, Moves, Next, Number, Pick, Pin, Refuses, Running, Shared, Show, Showing, MaintenanceStep, Maintenance, Turn, Unpin, Waits, empty_hand, owner_at}
+use Rattle.nv_machine.specs.World.{Back, Ending, Ends, HandState, LockPicked, Moves, Next, Number, Pick, Pin, Refuses, Running, Shared, Show, Showing, MaintenanceStep, Maintenance, Turn, Unpin, Waits, owner_at, Compact, Fresh, LockCleaned, Unlink}
 use Rattle.nv_machine.proofs.StepWork.{work}
 use Rattle.nv_machine.proofs.WorkKeeps.{AfterTurn, turn_keeps}
 use Rattle.nv_machine.proofs.Lists.{self}
@@ -146,8 +146,8 @@ module _ (copies : ℕ → Handle → Option NodeCopy) (inodes : ℕ) where
         go Waits on is = tt
         go (Ends result u x) on is = tt
 
-    module _ (empty : h ≡ empty_hand)
-        (found : (snapshot : ℕ) (handle : Handle) → owner_at s handle.ino ≡ None → copies_at s snapshot handle ≡ copies snapshot handle)
+    module _ (found : (snapshot : ℕ) (handle : Handle) → owner_at s handle.ino ≡ None
+        → copies_at s snapshot handle ≡ copies snapshot handle)
         (first : (snapshot pins : ℕ) → pins_of s.book.snaps snapshot ≡ Some pins
         → IsSeen (copies snapshot) (tree_by copies inodes snapshot) (first_showing s)) where
       goes_shows : (step : MaintenanceStep) → ShowsOn copies inodes step r.ending → goes_next step ≡ true → IsClearOn step s
@@ -166,17 +166,26 @@ module _ (copies : ℕ → Handle → Option NodeCopy) (inodes : ℕ) where
         go [] = tt
         go (picked ∷ deferred) = tt
       goes_shows (LockPicked draining picked) is on clear = tt
+      goes_shows (LockCleaned manner ino) is on clear = tt
       goes_shows other is on clear = absurd (false≢true on)
+
+      leads_shows : (step next : MaintenanceStep) → LeadsTo step next → ShowsOn copies inodes next r.ending
+      leads_shows step (Fresh ino asked wanted) leads = tt
+      leads_shows step (Unlink ino) leads = tt
+      leads_shows step (Compact ino) leads = tt
+      leads_shows step other leads = absurd (false≢true leads.to)
 
       step_shows : (step : MaintenanceStep) → IsBare (Maintenance step) h r → ShowsOn copies inodes step r.ending
           → OnShows (maintenance_turn step a granted s h r)
-      step_shows step bare is = alone_walk OnShows step a granted s h r empty bare.1 (record {
+      step_shows step bare is = alone_walk OnShows step a granted s h r bare.0 bare.1 (record {
         waits = tt;
         refused = λ fault on. tt;
         goes = goes_shows step is;
         told = λ on clear. tt;
         denied = λ snapshot showing on. tt;
-        over = λ draining picked on. tt;
+        unlocks = λ fault on some. tt;
+        leads_on = leads_shows step;
+        over = λ e ends. tt;
         none = λ draining on nothing. tt;
       })
 
@@ -185,7 +194,7 @@ module _ (copies : ℕ → Handle → Option NodeCopy) (inodes : ℕ) where
         → ((snapshot pins : ℕ) → pins_of s.book.snaps snapshot ≡ Some pins
         → IsSeen (copies snapshot) (tree_by copies inodes snapshot) (first_showing s))
         → ShowsAt copies inodes k r.ending → OnShows (kind_turn k block a granted s h r)
-    kind_shows (Maintenance step) bare found first is = step_shows bare.0 found first step bare is
+    kind_shows (Maintenance step) bare found first is = step_shows found first step bare is
     kind_shows Number bare found first is = plain_shows Number (λ n. refl) (number_same s.pool.numbers s h)
     kind_shows Back bare found first is = plain_shows Back (λ n. refl) (back_same h.ino s h)
     kind_shows other bare found first is = plain_shows other (λ n. refl) refl

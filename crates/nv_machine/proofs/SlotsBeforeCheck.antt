@@ -1,9 +1,8 @@
 -- What a call holds before its check: the slots of its handles and of the number in its hand, with
 -- nothing past their tails.
-use Rattle.std.proofs.Common.{Bool, List, None, Option, Some, [], ap, arith, false, length, refl, subst, sym, true, ℕ, ◌++◌, ◌<◌, ◌==◌, ◌∙◌, ◌∷◌, ◌≡◌}
+use Rattle.std.proofs.Common.{List, None, Option, Some, [], ap, arith, false, length, subst, true, ℕ, ◌++◌, ◌<◌, ◌==◌, ◌∙◌, ◌∷◌, ◌≡◌}
 use Rattle.std.specs.List.{AllByRecursion}
 use Rattle.std.proofs.lemmas.Bool.{false≢true}
-use Rattle.std.proofs.lemmas.Option.{none-some}
 use Rattle.nv_alloc.specs.Numbers.{has}
 use Rattle.nv_base.specs.declared.geometry.GeometryNumbers.{GeometryNumbers}
 use Rattle.nv_base.specs.declared.numbers.Handle.{Handle}
@@ -15,7 +14,7 @@ use Rattle.nv_cell.specs.Cell.{log_of}
 use Rattle.nv_cell.specs.Pages.{AreBytesOf}
 use Rattle.nv_entry.specs.declared.node.NodeCopy.{NodeCopy}
 use Rattle.nv_machine.specs.Grown.{HasGrown, HasGrownBy}
-use Rattle.nv_machine.specs.Hands.{AreNumbers, HandAt, HandOf, HasTakenNone, makes_inode}
+use Rattle.nv_machine.specs.Hands.{AreNumbers, HandAt, HandOf, HasTakenNone}
 use Rattle.nv_machine.specs.Locks.{HoldsIts, commits_at, held_at}
 use Rattle.nv_machine.specs.Reached.{IsReached}
 use Rattle.nv_machine.specs.Reads.{bytes_among, copies, if_number, slots_of}
@@ -108,18 +107,6 @@ module _ (g : GeometryNumbers) (w : World) (actor : ℕ) (r : Running) (runs : (
         listed pooled n (ap (λ (o : Option ℕ). has (if_number o ++ inos (handles r.looked r.call)) n) is
             ∙ or_left (n == n) (has (inos (handles r.looked r.call)) n) (self n)) free.inside,
       )
-
-  -- a call that makes no inode has no number
-  pub new_number : AreNumbers g w → (n : ℕ) → hand.ino ≡ Some n → makes_inode (beginning r.call) ≡ true
-  new_number all n is = go (makes_inode (beginning r.call)) refl where
-    go : (b : Bool) → makes_inode (beginning r.call) ≡ b → b ≡ true
-    go true e = refl
-    go false e = absurd (none-some n (sym ((taken_none all).number e) ∙ is))
-
-  pub own_tails : IsReached w → (ino : ℕ) → has r.slots ino ≡ true
-      → (cell_at w.shared ino).chain.tail ≡ length (cell_at w.shared ino).chain.entries
-  own_tails is ino there = held_tails w actor r is runs (ap commits_at next) ino
-      (ap (λ (k : Next). has (held_at k r.slots) ino) next ∙ there)
 
   -- where the check does not end it, it holds a slot: a call whose handles are all out of range has
   -- none, and is refused

@@ -73,7 +73,8 @@ module _ (g : GeometryNumbers) (start : World) (records : List Record) (events :
   abbrev w : World
   w = after start events
 
-  bare : (kind : MaintenanceStep) → IsStart g start records → r.next ≡ Maintenance kind → IsBare (Maintenance kind) (actor_at w actor).hand r
+  bare : (kind : MaintenanceStep) → IsStart g start records → r.next ≡ Maintenance kind
+      → IsBare (Maintenance kind) (actor_at w actor).hand r
   bare kind is_start next =
       subst (λ (k : Next). IsBare k (actor_at w actor).hand r) next (all_bare g start records events is_start actor r is)
 

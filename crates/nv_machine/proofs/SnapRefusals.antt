@@ -16,6 +16,8 @@ use Rattle.nv_machine.proofs.SingleEvents.{goes}
 use Rattle.nv_machine.proofs.FiledTurns.{refused_at_once}
 use Rattle.nv_machine.proofs.SnapRuns.{all_bare, refusals_told}
 use Rattle.nv_machine.proofs.SnapSteps.{IsBare}
+use Rattle.nv_machine.specs.Hands.{HandOn}
+use Rattle.std.proofs.lemmas.Bool.{false≢true}
 
 module _ (a : ℕ) (granted : Bool) (w : World) (h : HandState) (r : Running) (empty : h ≡ empty_hand) where
   -- it waits, or goes by these tests
@@ -56,9 +58,17 @@ module _ (a : ℕ) (granted : Bool) (w : World) (h : HandState) (r : Running) (e
       subst (λ (n : Next). Tested (tests_on kind w.shared.book.snaps) (kind_turn n w.numbers.block a granted w.shared h r)) (sym next)
       (step_tested kind is (subst (λ (n : Next). IsBare n h r) next bare))
 
+-- a step that is tested has an empty hand
+tested_empty : (kind : MaintenanceStep) (h : HandState) → is_tested kind ≡ true → HandOn kind h → h ≡ empty_hand
+tested_empty Make h is empty = empty
+tested_empty (Drop snapshot) h is empty = empty
+tested_empty (Pin snapshot) h is empty = empty
+tested_empty other h is empty = absurd (false≢true is)
+
 pub replies_told : (g : GeometryNumbers) (start : World) (records : List Record) (events : List Event) (actor : ℕ)
     (granted : Bool) (r : Running) (kind : MaintenanceStep)
-    → IsStart g start records → (actor_at (after start events) actor).running ≡ Some r → r.next ≡ Maintenance kind → is_tested kind ≡ true
+    → IsStart g start records → (actor_at (after start events) actor).running ≡ Some r → r.next ≡ Maintenance kind
+    → is_tested kind ≡ true
     → ((step (after start events) (Go actor granted)).reply ≡ Waiting)
     ⊎ GoesBy (plain_tests g.snaps kind (plain_after start events (plain_of start)))
     (step (after start events) (Go actor granted)).reply
@@ -75,4 +85,5 @@ replies_told g start records events actor granted r kind is_start is next tested
           → (actor_at (after start events) actor).hand ≡ empty_hand
       empty_of k bare e =
           let both : IsBare (Maintenance kind) (actor_at (after start events) actor).hand r =
-          subst (λ (n : Next). IsBare n (actor_at (after start events) actor).hand r) e bare in both.0
+          subst (λ (n : Next). IsBare n (actor_at (after start events) actor).hand r) e bare in
+          tested_empty kind (actor_at (after start events) actor).hand tested both.0

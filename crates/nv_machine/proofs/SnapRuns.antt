@@ -17,8 +17,7 @@ use Rattle.nv_machine.specs.Starts.{IsStart}
 use Rattle.nv_machine.specs.Step.{after, step}
 use Rattle.nv_epoch.specs.declared.snapshot.Snapshot.{Snapshot}
 use Rattle.nv_machine.specs.World.{Shared, Drop, Event, Make, Pin, MaintenanceStep, World}
-use Rattle.nv_machine.proofs.FromScratch.{all_numbers}
-use Rattle.nv_machine.proofs.Reached.{reached}
+use Rattle.nv_machine.proofs.EveryWorld.{all_numbers, reached}
 use Rattle.nv_machine.proofs.SnapSteps.{AreBare, are_bare, event_snaps}
 use Rattle.nv_machine.proofs.SnapshotCopies.{AreAlike, AreBefore, as_many, deed_alike, deed_before, deed_epoch, deed_most, same_pins}
 use Rattle.nv_machine.proofs.StartRecords.{first_before}

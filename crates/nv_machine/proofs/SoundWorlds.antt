@@ -2,7 +2,7 @@
 use Rattle.std.proofs.Common.{Bool, List, Option, [], ap, arith, drop, false, get_or-set_other, get_or-set_same, if◌then◌else◌, inl, inr, length, map, refl, set, subst, suc, sym, take, true, zero, ℕ, ◌*◌, ◌++◌, ◌+◌, ◌/◌, ◌<◌, ◌==◌, ◌∙◌, ◌∷◌, ◌≡◌, ◌≤◌, ◌⊎◌}
 use Rattle.std.specs.Prelude.{slice_index_or}
 use Rattle.std.specs.List.{AllByRecursion}
-use Rattle.std.proofs.lemmas.Bool.{cases_lt, eqb-false, eqb-true}
+use Rattle.std.proofs.lemmas.Bool.{cases_lt, eqb-false, eqb-true, false≢true}
 use Rattle.std.proofs.lemmas.List.{get_or_past, set_past}
 use Rattle.std.proofs.lemmas.List.FromFn.{length-map-range_with_len}
 use Rattle.nv_alloc.specs.Block.{AreSized, BlockValue}
@@ -22,15 +22,19 @@ use Rattle.nv_machine.specs.Hands.{AreLists, HandAt, HasPlanned, IsParted}
 use Rattle.nv_machine.specs.Kinds.{asked_list, blocks_in, blocks_left, entries_for, less_list, with_entries, with_pages}
 use Rattle.nv_calls.specs.FillPages.{filled, fresh_pages}
 use Rattle.nv_machine.specs.Reads.{copies, pages_needed, slot_at, written_slots}
-use Rattle.nv_machine.specs.World.{Append, Back, Check, Give, HandState, Look, Next, Number, Publish, Ready, Retire, Running, Shared, Maintenance, TakeBlocks, TakePages, Visit, cell_at, list_at, no_cell, no_list, with_cell, with_numbers}
+use Rattle.nv_machine.specs.World.{Append, Back, Check, Give, HandState, Look, Next, Number, Publish, Ready, Retire, Running, Shared, Maintenance, MaintenanceStep, Compact, Unlink, TakeBlocks, TakePages, Visit, cell_at, list_at, no_cell, no_list, with_cell, with_numbers}
 use Rattle.nv_machine.proofs.BlockCounts.{given_all}
 use Rattle.nv_machine.proofs.HandsInCommits.{slot_first}
-use Rattle.nv_machine.proofs.StepWork.{append_work, by_back, by_number, work}
+use Rattle.nv_machine.proofs.StepWork.{append_work, by_back, by_number, work, maintenance_work}
 use Rattle.nv_machine.proofs.LocksHeld.{Before}
 use Rattle.nv_machine.proofs.PartPlaces.{entries_parted, erased_parted, paged_parted, published_parted, sized_both, sized_first, sized_later}
 use Rattle.nv_machine.proofs.SortedLists.{given_free, less_free, with_home}
-use Rattle.nv_machine.proofs.CellChanges.{IsRemoval, Removal, hand_freed, is_removed, on_step, removal, removal_on, removed}
+use Rattle.nv_machine.proofs.CellChanges.{clean_cell, clean_cell_on, is_clean, is_clean_on, IsRemoval, Removal, hand_freed, is_removed, on_step, removal, removal_on, removed}
 use Rattle.nv_calls.specs.declared.call.Call.TheVariants as call
+use Rattle.nv_clean.specs.Plans.{unlinkable_of}
+use Rattle.nv_log.proofs.Flags.{all_gone}
+use Rattle.nv_log.specs.Chain.{gone_of}
+use Rattle.nv_machine.specs.Cleaning.{compacted_cell, unlinked, with_fresh, with_old_chain, with_unlinked}
 
 -- ---- all cells, where one is another
 
@@ -65,12 +69,12 @@ sized_right : (size : ℕ) (xs ys : List BlockValue) → AreSized size (xs ++ ys
 sized_right size [] ys h = h
 sized_right size (x ∷ xs) ys h = sized_right size xs ys h.1
 
-record AllSized (size : ℕ) (h : HandState) : Type 0 where
-  blocks : AreSized size h.blocks
-  pages : AreSized size h.pages
-  chain : AreSized size h.chain
+pub record AllSized (size : ℕ) (h : HandState) : Type 0 where
+  pub blocks : AreSized size h.blocks
+  pub pages : AreSized size h.pages
+  pub chain : AreSized size h.chain
 
-all_sized : (size : ℕ) (h : HandState) → AreSized size (blocks_in h) → AllSized size h
+pub all_sized : (size : ℕ) (h : HandState) → AreSized size (blocks_in h) → AllSized size h
 all_sized size h all =
     let first = sized_left size (h.blocks ++ h.pages) h.chain all in
     record {
@@ -202,12 +206,60 @@ same_sound : (g : GeometryNumbers) (s : Shared) (h : HandState) → IsSound g s 
 same_sound g s h sound numbers ino =
     record { lists = record { cpus = sound.lists.cpus; each = sound.lists.each }; cells = sound.cells; sized = sound.sized }
 
+-- fresh log pages are of the right size
+fresh_sound : (g : GeometryNumbers) (cpu wanted : ℕ) (s : Shared) (h : HandState) → IsSound g s h
+    → IsSound g (less_list cpu wanted s) (with_fresh cpu wanted s h)
+fresh_sound g cpu wanted s h sound =
+    let all = all_sized g.block h sound.sized in
+    record {
+      lists = less_sound g cpu wanted s sound.lists;
+      cells = sound.cells;
+      sized = in_all g.block (with_fresh cpu wanted s h) (record {
+        blocks = all.blocks;
+        pages = sized_both g.block h.pages (take wanted (list_at s cpu).blocks) all.pages (list_sized g cpu wanted s sound.lists);
+        chain = all.chain;
+      });
+    }
+
+-- a cleaning moves log pages between the chain and the hand
+clean_sound : (g : GeometryNumbers) (step : MaintenanceStep) (a : ℕ) (s : Shared) (h : HandState) → is_clean_on step ≡ true
+    → IsSound g s h → IsParted g.block (clean_cell_on step s h)
+    → IsSound g (maintenance_work step a s h).shared (maintenance_work step a s h).hand
+clean_sound g (Unlink ino) a s h is sound parted =
+    let cell = cell_at s ino in
+    let all = all_sized g.block h sound.sized in
+    let stays = (unlinkable_of cell).stays in
+    let gone = all_gone (λ (b : BlockValue). length b.bytes ≡ g.block) stays cell.chain.blocks (sound.cells ino).pages in
+    record {
+      lists = record { cpus = sound.lists.cpus; each = sound.lists.each };
+      cells = with_parted g ino (unlinked cell) s sound.cells parted;
+      sized = in_all g.block (with_unlinked cell h) (record {
+        blocks = all.blocks;
+        pages = sized_both g.block h.pages (gone_of stays cell.chain.blocks) all.pages gone;
+        chain = all.chain;
+      });
+    }
+clean_sound g (Compact ino) a s h is sound parted =
+    let cell = cell_at s ino in
+    let all = all_sized g.block h sound.sized in
+    record {
+      lists = record { cpus = sound.lists.cpus; each = sound.lists.each };
+      cells = with_parted g ino (compacted_cell h cell) s sound.cells parted;
+      sized = in_all g.block (with_old_chain cell h) (record {
+        blocks = all.blocks;
+        pages = tt;
+        chain = sized_both g.block h.chain cell.chain.blocks all.chain (sound.cells ino).pages;
+      });
+    }
+clean_sound g other a s h is sound parted = absurd (false≢true is)
+
 pub work_sound : (g : GeometryNumbers) (k : Next) (a : ℕ) (s : Shared) (h : HandState) (r : Running) → Before a s k r → HandAt g k h r
-    → IsSound g s h → IsSound g (work k g.block a s h r).shared (work k g.block a s h r).hand
-work_sound g Number a s h r b at sound = by_number (IsSound g) s h (same_sound g s h sound)
-work_sound g (Look place) a s h r b at sound = sound
-work_sound g Check a s h r b at sound = sound
-work_sound g (TakeBlocks asked) a s h r b at sound =
+    → IsSound g s h → (is_clean k ≡ true → IsParted g.block (clean_cell k s h))
+    → IsSound g (work k g.block a s h r).shared (work k g.block a s h r).hand
+work_sound g Number a s h r b at sound cleans = by_number (IsSound g) s h (same_sound g s h sound)
+work_sound g (Look place) a s h r b at sound cleans = sound
+work_sound g Check a s h r b at sound cleans = sound
+work_sound g (TakeBlocks asked) a s h r b at sound cleans =
     let cpu = asked_list (length s.lists) a asked in
     let all = all_sized g.block h sound.sized in
     record {
@@ -219,7 +271,7 @@ work_sound g (TakeBlocks asked) a s h r b at sound =
         chain = all.chain;
       });
     }
-work_sound g (TakePages asked) a s h r b at sound =
+work_sound g (TakePages asked) a s h r b at sound cleans =
     let cpu = asked_list (length s.lists) a asked in
     let all = all_sized g.block h sound.sized in
     record {
@@ -231,7 +283,7 @@ work_sound g (TakePages asked) a s h r b at sound =
         chain = all.chain;
       });
     }
-work_sound g Ready a s h r b at sound =
+work_sound g Ready a s h r b at sound cleans =
     let all = all_sized g.block h sound.sized in
     record {
       lists = sound.lists;
@@ -242,29 +294,31 @@ work_sound g Ready a s h r b at sound =
         chain = all.chain;
       });
     }
-work_sound g (Append place) a s h r b at sound =
+work_sound g (Append place) a s h r b at sound cleans =
     append_sound g place (pages_needed s r.plan (slot_at (written_slots r) place)) s h r b.inside at sound
-work_sound g (Publish place) a s h r b at sound =
+work_sound g (Publish place) a s h r b at sound cleans =
     let ino = slot_at (written_slots r) place in
     record {
       lists = record { cpus = sound.lists.cpus; each = sound.lists.each };
       cells = with_parted g ino (published (cell_at s ino)) s sound.cells (published_parted g.block (cell_at s ino) (sound.cells ino));
       sized = sound.sized;
     }
-work_sound g (Retire place) a s h r b at sound =
+work_sound g (Retire place) a s h r b at sound cleans =
     removal_sound g (removal (Retire place) s h r) s h (is_removed (Retire place) s h r refl) sound
-work_sound g (Give cpu) a s h r b at sound = record {
+work_sound g (Give cpu) a s h r b at sound cleans = record {
   lists = with_home g cpu (after_giving (list_at s cpu) (blocks_in h)) s sound.lists
       (λ lt. given_free g cpu (list_at s cpu) (blocks_in h) (sound.lists.each cpu lt));
   cells = sound.cells;
   sized = subst (λ (l : List BlockValue). AreSized g.block l) (sym (given_all cpu s h))
       (AreSized-kept g.block (list_at s cpu) (blocks_in h) sound.sized);
 }
-work_sound g Back a s h r b at sound = by_back (IsSound g) s h (same_sound g s h sound)
-work_sound g Visit a s h r b at sound = sound
-work_sound g (Maintenance step) a s h r b at sound =
+work_sound g Back a s h r b at sound cleans = by_back (IsSound g) s h (same_sound g s h sound)
+work_sound g Visit a s h r b at sound cleans = sound
+work_sound g (Maintenance step) a s h r b at sound cleans =
     on_step (IsSound g) step a s h (λ is. removal_sound g (removal_on step s h) s h (is_removed (Maintenance step) s h r is) sound)
+    (λ ino asked wanted is. fresh_sound g (asked_list (length s.lists) a asked) wanted s h sound)
+    (λ is. clean_sound g step a s h is sound (cleans is))
     (λ book owners.
     record { lists = record { cpus = sound.lists.cpus; each = sound.lists.each }; cells = sound.cells; sized = sound.sized })
-work_sound g other a s h r b at sound =
+work_sound g other a s h r b at sound cleans =
     record { lists = record { cpus = sound.lists.cpus; each = sound.lists.each }; cells = sound.cells; sized = sound.sized }

@@ -8,16 +8,17 @@ use Rattle.nv_calls.specs.declared.call.Call.{Call}
 use Rattle.nv_machine.specs.Bound.{Falls, bound, most_steps, most_steps_of, rank, rank_behind, round}
 use Rattle.nv_machine.specs.Kinds.{blocks_in, given}
 use Rattle.nv_machine.specs.Reads.{copies, slots_of, written_slots}
-use Rattle.nv_machine.specs.Sequence.{Beginning, Locks, Looks, Numbers, Maintains, Visits, beginning, begun, directories, new_draining, nothing_looked}
+use Rattle.nv_machine.specs.Sequence.{Beginning, Locks, Looks, Numbers, Maintains, Visits, beginning, begun, directories, first_clean, new_draining, nothing_looked, slots_on, started}
 use Rattle.nv_machine.specs.Maintenance.{copies_at, first_showing, seen_on, show_or_unpin, visited}
 use Rattle.nv_machine.specs.Step.{ending_at, is_numbered, kind_turn, made_in, same_looked}
-use Rattle.nv_machine.specs.World.{Append, Back, Check, Close, Drop, Ending, Enter, Give, HandState, Leave, Lock, LockPicked, Look, Make, Next, Number, Open, Pick, Pin, Publish, Ready, Release, Retire, Running, Shared, Show, Showing, MaintenanceStep, Maintenance, TakeBlocks, TakePages, Unlock, Unpin, Visit}
+use Rattle.nv_machine.specs.World.{Append, Auto, Back, Check, Close, Drop, Ending, Enter, Fast, Give, HandState, Leave, Lock, LockPicked, Look, Make, Manner, Next, Number, Open, Pick, Pin, Publish, Ready, Release, Retire, Running, Shared, Show, Showing, MaintenanceStep, Maintenance, TakeBlocks, TakePages, Thorough, Unlock, Unpin, Visit, Compact, Fresh, Judge, LockCleaned, Unlink}
 use Rattle.std.proofs.lemmas.Nat.{mul-le}
 use Rattle.nv_machine.proofs.SlotBounds.{home_from-above, slots_of-length, written-length}
 use Rattle.nv_machine.proofs.FileStepBounds.{Lower, append_from, append_next, behind_of, ends_fall, falls_so, first_lock, lasts_fall, lock_next, look_next, none_behind, overs_fall, publish_from, publish_next, rests_fall, retire_from, retire_next}
 use Rattle.nv_machine.proofs.NextSteps.{Untold}
 use Rattle.nv_machine.proofs.StepWays.{After, EndsBy, noted, numbered_slots}
 use Rattle.nv_machine.proofs.StepWalk.{WaysOf, walk_of}
+use Rattle.nv_machine.proofs.FirstSteps.{clean_by}
 use Rattle.nv_machine.proofs.MaintenanceWalk.{StepWaysOf, step_walk_by}
 use Rattle.nv_calls.specs.declared.call.Call.TheVariants as call
 use Rattle.nv_calls.specs.declared.maintenance_call.MaintenanceCall.TheVariants as on
@@ -82,6 +83,23 @@ module _ (block actor : ℕ) (granted : Bool) (s : Shared) (h : HandState) (r : 
       (λ lacks first. ends (Maintenance (Pick draining)) (omega arith), λ empty. tt, λ picked rest free is. omega arith)
   step_ways (LockPicked draining picked) = λ free. omega arith
   step_ways (Release draining picked) = ends (Maintenance (Release draining picked)) (omega arith)
+  step_ways (LockCleaned manner ino) = λ free. omega arith
+  step_ways (Judge manner slot) = (
+    λ none. ends (Maintenance (Judge manner slot)) (omega arith),
+    λ some lacks. ends (Maintenance (Judge manner slot)) (omega arith),
+    λ ino is some. record {
+      fast = λ plain. omega arith;
+      some = λ n plain more. omega arith;
+      none = λ plain less. ends (Maintenance (Judge manner slot)) (omega arith);
+    },
+  )
+  step_ways (Fresh ino asked wanted) = record {
+    ready = λ q. omega arith;
+    more = λ n q m. omega (arith, ltb-true (asked + 1) cpus m);
+    short = λ n q m. ends (Maintenance (Fresh ino asked wanted)) (omega arith);
+  }
+  step_ways (Unlink ino) = ends (Maintenance (Unlink ino)) (omega arith)
+  step_ways (Compact ino) = ends (Maintenance (Compact ino)) (omega arith)
 
   ways : (k : Next) → WaysOf (Lower cpus (most k)) Untold k block actor granted s h r
   ways Number = omega (arith, first_lock cpus (numbered_slots s.pool.numbers s r) (numbered_few s.pool.numbers s r))
@@ -187,6 +205,14 @@ most_left c count = mul-le (new_draining count).left (round c) DRAIN (round c) (
   few : (n : ℕ) → max 1 (min n DRAIN) - 1 ≤ DRAIN
   few n = omega arith
 
+-- a cleaner
+clean_bound : (s : Shared) (c : Call) (manner : Manner) (ino : ℕ) → let step = first_clean (length s.cells) manner ino in
+    bound (length s.lists) (started c (Maintenance step) (slots_on step)) ≤ 8 * round (length s.lists) + INODES
+clean_bound s c = clean_by
+    (λ (step : MaintenanceStep).
+    bound (length s.lists) (started c (Maintenance step) (slots_on step)) ≤ 8 * round (length s.lists) + INODES)
+    (length s.cells) (λ manner ino inside. omega arith) (λ manner. omega arith)
+
 pub begun_bound : (s : Shared) (c : Call) → bound (length s.lists) (begun (beginning c) s c) ≤ most_steps_of c (length s.lists)
 begun_bound s (call.Create dir name mode) = file_bound Numbers s (call.Create dir name mode) refl
 begun_bound s (call.Mkdir dir name mode) = file_bound Numbers s (call.Mkdir dir name mode) refl
@@ -204,6 +230,9 @@ begun_bound s (call.Maintenance on.Snap) = omega arith
 begun_bound s (call.Maintenance (on.Drop snapshot)) = omega arith
 begun_bound s (call.Maintenance (on.Show snapshot)) = omega arith
 begun_bound s (call.Maintenance (on.Drain count)) = omega (arith, most_left (length s.lists) count)
+begun_bound s (call.Maintenance (on.Fast ino)) = clean_bound s (call.Maintenance (on.Fast ino)) Fast ino
+begun_bound s (call.Maintenance (on.Thorough ino)) = clean_bound s (call.Maintenance (on.Thorough ino)) Thorough ino
+begun_bound s (call.Maintenance (on.Auto ino)) = clean_bound s (call.Maintenance (on.Auto ino)) Auto ino
 
 -- and so of any call
 pub steps_of_any : (c : Call) (cpus : ℕ) → most_steps_of c cpus ≤ most_steps cpus

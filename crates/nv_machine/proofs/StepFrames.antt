@@ -5,11 +5,10 @@ use Rattle.nv_alloc.specs.InodePool.{FreeInodes}
 use Rattle.nv_book.specs.Book.{BookState}
 use Rattle.nv_cell.specs.Cell.{CellState}
 use Rattle.nv_machine.specs.Frame.{Frame, IsFramed, Lent, Stays, lent, lent_on, nothing_lent}
-use Rattle.nv_machine.specs.Kinds.{end_turn}
 use Rattle.nv_machine.specs.Step.{kind_turn}
-use Rattle.nv_machine.specs.World.{Append, Back, Close, Ending, Ends, Enter, Give, HandState, Leave, Lock, LockPicked, Moves, Next, Number, Open, Publish, Release, Retire, Running, Shared, Show, MaintenanceStep, Maintenance, TakeBlocks, TakePages, Turn, Unlock, Waits, no_cell, no_list, with_book, with_cell, with_list, with_owner}
+use Rattle.nv_machine.specs.World.{Append, Back, Close, Ends, Enter, Give, HandState, Leave, Lock, LockPicked, Moves, Next, Number, Open, Publish, Release, Retire, Running, Shared, Show, MaintenanceStep, Maintenance, TakeBlocks, TakePages, Turn, Unlock, Waits, no_cell, no_list, with_book, with_cell, with_list, with_owner, Compact, Fresh, Judge, LockCleaned, Unlink}
 use Rattle.nv_machine.proofs.StepWork.{back_work, work, number_work, maintenance_work}
-use Rattle.nv_machine.proofs.WorkKeeps.{AfterTurn, end_keeps, turn_keeps}
+use Rattle.nv_machine.proofs.WorkKeeps.{AfterTurn, turn_keeps}
 
 -- ---- what is changed
 
@@ -99,10 +98,15 @@ back_framed None s h = same_frame _ s
 back_framed (Some ino) s h = pool_frame _ s
 
 snapshot_framed : (step : MaintenanceStep) (actor : ℕ) (s : Shared) (h : HandState)
-    → Frame (lent_on step) s (maintenance_work step actor s h).shared
+    → Frame (lent_on step (length s.lists) actor) s (maintenance_work step actor s h).shared
 snapshot_framed (Show snapshot showing) actor s h = same_frame _ s
 snapshot_framed (LockPicked draining picked) actor s h = lock_frame picked.ino (Some actor) s
 snapshot_framed (Release draining picked) actor s h = cell_frame false _ s.book _ s refl
+snapshot_framed (LockCleaned manner ino) actor s h = lock_frame ino (Some actor) s
+snapshot_framed (Judge manner slot) actor s h = same_frame _ s
+snapshot_framed (Fresh ino asked wanted) actor s h = list_frame _ _ s
+snapshot_framed (Unlink ino) actor s h = cell_frame false _ s.book _ s refl
+snapshot_framed (Compact ino) actor s h = cell_frame false _ s.book _ s refl
 snapshot_framed other actor s h = book_frame _ s
 
 pub work_framed : (k : Next) (block actor : ℕ) (s : Shared) (h : HandState) (r : Running)
@@ -130,11 +134,6 @@ on_frame : (l : Lent) (s : Shared) (turn : Turn) → AfterTurn (λ (t : Shared) 
 on_frame l s (Moves t h q) f = f
 on_frame l s Waits f = tt
 on_frame l s (Ends result t h) f = f
-
-pub end_framed : (l : Lent) (s t : Shared) (slots : List ℕ) (e : Ending) (h : HandState) (r : Running) → Frame l s t
-    → IsFramed l s (end_turn slots e t h r)
-end_framed l s t slots e h r f =
-    on_frame l s (end_turn slots e t h r) (end_keeps (λ (u : Shared) (g : HandState). Frame l s u) slots e t h r f)
 
 pub framed : (k : Next) (block actor : ℕ) (granted : Bool) (s : Shared) (h : HandState) (r : Running)
     → IsFramed (lent k (length s.lists) actor r) s (kind_turn k block actor granted s h r)

@@ -1,22 +1,26 @@
 -- Which steps go on to which: those before a check, and the last ones, to their like; those of a commit to no taking,
 -- nor past both; and a check to a taking's first list.
-use Rattle.std.proofs.Common.{Bool, List, None, Option, Some, false, refl, suc, sym, true, zero, ℕ, not, ◌+◌, ◌==◌, ◌||◌, ◌∙◌, ◌≡◌}
+use Rattle.nv_reader.specs.Walk as walk
+use Rattle.std.proofs.Common.{Bool, List, None, Option, Some, false, refl, suc, sym, true, zero, ℕ, not, ◌+◌, ◌==◌, ◌||◌, ◌∙◌, ◌≡◌, ap, [], ◌∷◌}
 use Rattle.std.proofs.lemmas.Bool.{false≢true, true≢false}
 use Rattle.nv_base.specs.Memory.{out_of_memory}
 use Rattle.nv_machine.specs.Kinds.{check_turn, end_turn, grown, wants_blocks, wants_pages, wants_room}
 use Rattle.nv_machine.specs.Reads.{pages_wanted, plan_by}
 use Rattle.nv_machine.specs.Sequence.{sequel}
-use Rattle.nv_machine.specs.Maintenance.{maintenance_turn}
+use Rattle.nv_machine.specs.Maintenance.{maintenance_turn, first_showing, seen_on, copies_at, visited, show_or_unpin}
 use Rattle.nv_machine.specs.Step.{ending_at, kind_turn, with_made}
 use Rattle.nv_machine.specs.Takings.{asks_list}
-use Rattle.nv_machine.specs.World.{Back, Check, Ending, Ends, Give, HandState, Leave, Lock, Look, Moves, Next, Number, Ready, Refuses, Running, Shared, Maintenance, TakeBlocks, TakePages, Turn, Unlock, Visit, Waits}
+use Rattle.nv_machine.specs.World.{Back, Check, Ending, Ends, Give, HandState, Leave, Lock, Look, Moves, Next, Number, Ready, Refuses, Running, Shared, Maintenance, TakeBlocks, TakePages, Turn, Unlock, Visit, Waits, Fresh, Judge, LockCleaned, LockPicked, Pin, Pick, Show, Showing, Draining, MaintenanceStep}
 use Rattle.nv_machine.proofs.NextSteps.{IsNext, end_next, kind_next, step_next}
 use Rattle.nv_machine.proofs.LoopSteps.{Sequel, goes_on, locking_any, looking_any, sequel_any}
-use Rattle.nv_machine.proofs.StepWays.{by_last, is_last, is_taker, noted}
+use Rattle.nv_machine.proofs.StepWays.{by_last, is_last, is_taker, noted, EndsBy, any_ends}
+use Rattle.nv_machine.proofs.MaintenanceWalk.{leads, goes_next, next_on, picked_next, step_walk_by}
+use Rattle.nv_book.specs.declared.record.Record.{Record}
 
 abbrev pub IsFirst : Next → Type 0
 IsFirst (TakeBlocks asked) = (asked == 0) ≡ true
 IsFirst (TakePages asked) = (asked == 0) ≡ true
+IsFirst (Maintenance (Fresh ino asked wanted)) = (asked == 0) ≡ true
 IsFirst other = Unit {0}
 
 -- no taking, and not the step behind both; and none of a commit either
@@ -24,6 +28,7 @@ abbrev pub IsApart : Next → Type 0
 IsApart (TakeBlocks asked) = ⊥
 IsApart (TakePages asked) = ⊥
 IsApart Ready = ⊥
+IsApart (Maintenance (Fresh ino asked wanted)) = ⊥
 IsApart other = Unit {0}
 
 abbrev pub IsPlain : Next → Type 0
@@ -35,6 +40,7 @@ IsPlain (Unlock place) = Unit {0}
 IsPlain (Give cpu) = Unit {0}
 IsPlain Back = Unit {0}
 IsPlain Visit = Unit {0}
+IsPlain (Maintenance (Fresh ino asked wanted)) = ⊥
 IsPlain (Maintenance step) = Unit {0}
 IsPlain other = ⊥
 
@@ -59,6 +65,7 @@ plain_apart : (next : Next) → IsPlain next → IsApart next
 plain_apart (TakeBlocks asked) is = absurd is
 plain_apart (TakePages asked) is = absurd is
 plain_apart Ready is = absurd is
+plain_apart (Maintenance (Fresh ino asked wanted)) is = absurd is
 plain_apart other is = tt
 
 pub on_apart : (t : Turn) → OnPlain t → OnApart t
@@ -67,6 +74,7 @@ on_apart t on = next_weaker IsPlain IsApart plain_apart t on
 apart_first : (next : Next) → IsApart next → IsFirst next
 apart_first (TakeBlocks asked) is = absurd is
 apart_first (TakePages asked) is = absurd is
+apart_first (Maintenance (Fresh ino asked wanted)) is = absurd is
 apart_first other is = tt
 
 pub on_first : (t : Turn) → OnApart t → OnFirst t
@@ -92,7 +100,7 @@ leads_to_plain (Unlock place) = true
 leads_to_plain (Give cpu) = true
 leads_to_plain Back = true
 leads_to_plain Visit = true
-leads_to_plain (Maintenance step) = true
+leads_to_plain (Maintenance step) = not (leads step)
 leads_to_plain other = false
 
 sequel_plain : (k : Next) (q : Running) → leads_to_plain k ≡ true → goes_on k ≡ true → IsPlain (sequel q k)
@@ -118,16 +126,39 @@ no_taker (TakeBlocks asked) e on = false≢true e
 no_taker (TakePages asked) e on = false≢true e
 no_taker other e on = false≢true on
 
+plain_showing : (left : ℕ) (visits : List walk.Visit) (snapshot : ℕ) (showing : Showing)
+    → IsPlain (Maintenance (show_or_unpin left visits snapshot showing))
+plain_showing zero visits snapshot showing = tt
+plain_showing (suc left) [] snapshot showing = tt
+plain_showing (suc left) (visit ∷ visits) snapshot showing = tt
+
+plain_picked : (deferred : List Record) (draining : Draining) → IsPlain (Maintenance (picked_next deferred draining))
+plain_picked [] draining = tt
+plain_picked (picked ∷ deferred) draining = tt
+
+-- a step of a call on snapshots goes on to no taking
+plain_goes : (step : MaintenanceStep) (s : Shared) → goes_next step ≡ true → IsPlain (Maintenance (next_on step s))
+plain_goes (Pin snapshot) s on = plain_showing (first_showing s).left (first_showing s).visits snapshot (first_showing s)
+plain_goes (Show snapshot showing) s on =
+    let seen = seen_on (copies_at s snapshot (visited showing.visits)) showing in plain_showing seen.left seen.visits snapshot seen
+plain_goes (Pick draining) s on = plain_picked s.book.deferred draining
+plain_goes (LockPicked draining picked) s on = tt
+plain_goes (LockCleaned manner ino) s on = tt
+plain_goes other s on = absurd (false≢true on)
+
 pub plain : (k : Next) (block actor : ℕ) (granted : Bool) (s : Shared) (h : HandState) (r : Running) → leads_to_plain k ≡ true
     → OnPlain (kind_turn k block actor granted s h r)
 plain (Maintenance step) block actor granted s h r e =
-    step_next IsPlain last_plain tt (λ draining. tt) step actor granted s h r (λ on clear. tt) (λ snapshot showing on. tt)
+    step_next IsPlain last_plain tt (λ draining. tt) step actor granted s h r (λ on clear. plain_goes step s on)
+    (λ snapshot showing on. tt)
+    (λ next is. absurd (true≢false (sym e ∙ ap not is.from)))
 plain other block actor granted s h r e =
     kind_next IsPlain last_plain tt (λ draining. tt) other block actor granted s h r
     (λ on. sequel_plain other (noted other block s h r) e on) (λ on next taking. absurd (no_taker other e on)) refl
 
 abbrev pub leads_to_takings : Next → Bool
 leads_to_takings Check = true
+leads_to_takings (Maintenance step) = leads step
 leads_to_takings other = asks_list other
 
 taker_leads : (k : Next) → is_taker k ≡ true → leads_to_takings k ≡ true
@@ -139,7 +170,7 @@ taker_leads other on = absurd (false≢true on)
 pub apart : (k : Next) (block actor : ℕ) (granted : Bool) (s : Shared) (h : HandState) (r : Running) → leads_to_takings k ≡ false
     → OnApart (kind_turn k block actor granted s h r)
 apart (Maintenance step) block actor granted s h r e =
-    on_apart (maintenance_turn step actor granted s h r) (plain (Maintenance step) block actor granted s h r refl)
+    on_apart (maintenance_turn step actor granted s h r) (plain (Maintenance step) block actor granted s h r (ap not e))
 apart other block actor granted s h r e =
     kind_next IsApart (λ next last. plain_apart next (last_plain next last)) tt (λ draining. tt) other block actor granted s h r
     (λ on. sequel_any IsApart all_apart other (noted other block s h r) on)
@@ -167,8 +198,24 @@ check_first None granted wanted block s h r =
 check_first (Some ending) granted wanted block s h r =
     let t = end_turn r.slots ending s h r in on_first t (on_apart t (end_plain r.slots ending s h r))
 
+-- the last steps
+first_ends : {slots : List ℕ} {s : Shared} {h : HandState} {r : Running} {e : Ending}
+    → EndsBy (λ t g q. IsFirst q.next) (λ x t g. Unit {0}) slots s h r e
+first_ends = any_ends (record {
+  last = by_last IsFirst (λ place. tt) (λ cpu. tt) tt;
+  told = tt;
+  again = λ n over some. tt;
+  picks = λ d left drains some. tt;
+})
+
 pub first : (k : Next) (block actor : ℕ) (granted : Bool) (s : Shared) (h : HandState) (r : Running) → asks_list k ≡ false
     → OnFirst (kind_turn k block actor granted s h r)
 first Check block actor granted s h r e = check_first (ending_at block s h r) granted _ block s h (with_made s h r)
+first (Maintenance (Judge manner slot)) block actor granted s h r e =
+    step_walk_by (Unit {0}) (λ t g q. IsFirst q.next) (λ x t g. Unit {0}) actor s h r (Judge manner slot) granted (λ blocked. tt) (
+      λ none. first_ends,
+      λ some lacks. first_ends,
+      λ ino is some. record { fast = λ plain. tt; some = λ n plain more. refl; none = λ plain less. first_ends },
+    )
 first other block actor granted s h r e =
     on_first (kind_turn other block actor granted s h r) (apart other block actor granted s h r e)

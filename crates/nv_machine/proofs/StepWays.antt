@@ -15,7 +15,7 @@ use Rattle.nv_machine.specs.Reads.{copies, has_last_page, home_from, nodes, page
 use Rattle.nv_machine.specs.Sequence.{directories, nothing_looked, sequel}
 use Rattle.nv_machine.specs.Maintenance.{drop_tests, make_tests, visited}
 use Rattle.nv_machine.specs.Step.{ending_at, handle_at, with_made}
-use Rattle.nv_machine.specs.World.{Answers, Back, Check, Draining, Drains, Drop, Ending, Ends, Enter, Give, HandState, Leave, Lock, LockPicked, Look, Make, Moves, Next, Number, Overtaken, Pick, Pin, Ready, Refuses, Release, Running, Shared, Show, MaintenanceStep, Maintenance, TakeBlocks, TakePages, Turn, Unlock, Unpin, Visit, Waits, go_to, list_at, owner_at}
+use Rattle.nv_machine.specs.World.{Answers, Back, Check, Compact, Draining, Drains, Drop, Ending, Ends, Enter, Fresh, Give, HandState, Judge, Leave, Lock, LockCleaned, LockPicked, Look, Make, Moves, Next, Number, Overtaken, Pick, Pin, Ready, Refuses, Release, Running, Shared, Show, MaintenanceStep, Maintenance, TakeBlocks, TakePages, Turn, Unlink, Unlock, Unpin, Visit, Waits, go_to, list_at, owner_at, Cleans}
 use Rattle.nv_machine.proofs.StepWork.{work}
 use Rattle.nv_machine.proofs.LoopSteps.{goes_on}
 
@@ -146,6 +146,11 @@ IsClearOn (Unpin snapshot seen) s = (s.holder ≡ None) × Unit {0}
 IsClearOn (Pick draining) s = (s.holder ≡ None) × (0 < length s.book.deferred)
 IsClearOn (LockPicked draining picked) s = owner_at s picked.ino ≡ None
 IsClearOn (Release draining picked) s = Unit {0}
+IsClearOn (LockCleaned manner ino) s = owner_at s ino ≡ None
+IsClearOn (Judge manner slot) s = Unit {0}
+IsClearOn (Fresh ino asked wanted) s = Unit {0}
+IsClearOn (Unlink ino) s = Unit {0}
+IsClearOn (Compact ino) s = Unit {0}
 
 abbrev pub IsClear : Next → Shared → Running → Type 0
 IsClear (Look place) s r =
@@ -164,6 +169,11 @@ abbrev pub IsBlockedOn : MaintenanceStep → Shared → Type 0
 IsBlockedOn (Show snapshot showing) s = IsHeld (owner_at s (visited showing.visits).ino)
 IsBlockedOn (LockPicked draining picked) s = IsHeld (owner_at s picked.ino)
 IsBlockedOn (Release draining picked) s = ⊥
+IsBlockedOn (LockCleaned manner ino) s = IsHeld (owner_at s ino)
+IsBlockedOn (Judge manner slot) s = ⊥
+IsBlockedOn (Fresh ino asked wanted) s = ⊥
+IsBlockedOn (Unlink ino) s = ⊥
+IsBlockedOn (Compact ino) s = ⊥
 IsBlockedOn other s = IsHeld s.holder
 
 abbrev pub IsBlocked : Next → Shared → Running → Type 0
@@ -195,6 +205,12 @@ is_overtaken other = false
 abbrev pub is_drain : Ending → Bool
 is_drain (Drains draining) = true
 is_drain other = false
+
+-- of a call on snapshots or of a cleaner
+abbrev pub is_maintained : Ending → Bool
+is_maintained (Drains draining) = true
+is_maintained (Cleans cleaned) = true
+is_maintained other = false
 
 -- no drain, or one that has released its number
 abbrev pub IsFull : Ending → Type 0

@@ -7,10 +7,11 @@ use Rattle.nv_book.specs.declared.record.Record.{Record}
 use Rattle.nv_calls.specs.Retiring.{erased, killed_by, released}
 use Rattle.nv_cell.specs.Cell.{published}
 use Rattle.nv_cell.specs.declared.killed.KilledPart.{KilledPart}
+use Rattle.nv_machine.specs.Cleaning.{compacted_cell, unlinked, with_fresh, with_old_chain, with_unlinked}
 use Rattle.nv_machine.specs.Kinds.{asked_list, blocks_left, entries_for, first_killed, given, less_list, old_tails, retired_book, retired_cell, with_bytes, with_entries, with_erased, with_freed, with_given, with_killed, with_pages}
 use Rattle.nv_machine.specs.Reads.{pages_needed, slot_at, written_slots}
 use Rattle.nv_machine.specs.Maintenance.{with_released}
-use Rattle.nv_machine.specs.World.{Append, Back, Close, Drop, Enter, Give, HandState, Leave, Lock, LockPicked, Make, Next, Number, Open, Pick, Pin, Publish, Ready, Release, Retire, Running, Shared, Show, MaintenanceStep, Maintenance, TakeBlocks, TakePages, Unlock, Unpin, cell_at, list_at, with_book, with_cell, with_numbers, with_owner}
+use Rattle.nv_machine.specs.World.{Append, Back, Close, Compact, Drop, Enter, Fresh, Give, HandState, Judge, Leave, Lock, LockCleaned, LockPicked, Make, Next, Number, Open, Pick, Pin, Publish, Ready, Release, Retire, Running, Shared, Show, MaintenanceStep, Maintenance, TakeBlocks, TakePages, Unlink, Unlock, Unpin, cell_at, list_at, with_book, with_cell, with_numbers, with_owner}
 
 -- what is shared, and a hand
 pub record Both : Type 0 where
@@ -52,6 +53,14 @@ maintenance_work (Unpin snapshot seen) actor s h = both (with_book (after_unpin_
 maintenance_work (Pick draining) actor s h = both (with_book (after_pick s.book) s) h
 maintenance_work (LockPicked draining picked) actor s h = both (with_owner picked.ino (Some actor) s) h
 maintenance_work (Release draining picked) actor s h = release_work picked s h
+maintenance_work (LockCleaned manner ino) actor s h = both (with_owner ino (Some actor) s) h
+maintenance_work (Judge manner slot) actor s h = both s h
+maintenance_work (Fresh ino asked wanted) actor s h =
+    both (less_list (asked_list (length s.lists) actor asked) wanted s)
+    (with_fresh (asked_list (length s.lists) actor asked) wanted s h)
+maintenance_work (Unlink ino) actor s h = both (with_cell ino (unlinked (cell_at s ino)) s) (with_unlinked (cell_at s ino) h)
+maintenance_work (Compact ino) actor s h =
+    both (with_cell ino (compacted_cell h (cell_at s ino)) s) (with_old_chain (cell_at s ino) h)
 
 abbrev pub work : Next → ℕ → ℕ → Shared → HandState → Running → Both
 work Number block actor s h r = number_work s.pool.numbers s h

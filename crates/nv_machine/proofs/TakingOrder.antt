@@ -2,9 +2,9 @@
 use Rattle.std.proofs.Common.{Bool, arith, inl, inr, refl, sym, ℕ}
 use Rattle.nv_machine.specs.Step.{kind_turn}
 use Rattle.nv_machine.specs.Wanted.{LeadsTo, TakesInTurn}
-use Rattle.nv_machine.specs.World.{Check, Ends, HandState, Moves, Next, Ready, Running, Shared, TakeBlocks, TakePages, Turn, Waits}
+use Rattle.nv_machine.specs.World.{Check, Ends, HandState, Moves, Next, Ready, Running, Shared, TakeBlocks, TakePages, Turn, Waits, Maintenance, Judge, Fresh, MaintenanceStep}
 use Rattle.nv_machine.proofs.StepPhases.{IsApart, OnApart, apart}
-use Rattle.nv_machine.proofs.NextSteps.{IsQuiet, Known, OnKnown, quiet_walk}
+use Rattle.nv_machine.proofs.NextSteps.{IsQuiet, Known, OnKnown, quiet_walk, QuietWays, quiet_step}
 
 module _ (k : Next) (block actor : ℕ) (s : Shared) (r : Running) where
   abbrev Leads : Known
@@ -33,7 +33,7 @@ module _ (k : Next) (block actor : ℕ) (s : Shared) (r : Running) where
     give = λ cpu s h r. tt;
     back = λ s h r. tt;
     look = λ s h r. tt;
-    steps = λ step s h r. tt;
+    steps = λ step plain s h r. tt;
   }
 
 pub takes_in_turn : (k : Next) (block actor : ℕ) (granted : Bool) (s : Shared) (h : HandState) (r : Running)
@@ -61,5 +61,13 @@ takes_in_turn (TakePages asked) block actor granted s h r =
       pages = λ n few is. cc;
       ready = λ few is. inr (asked, refl, few);
     }))
+takes_in_turn (Maintenance step) block actor granted s h r =
+    leads (Maintenance step) block actor s r _
+    (quiet_step (Leads (Maintenance step) block actor s r) (quiet (Maintenance step) block actor s r) step block actor granted s h r
+    (leads_nothing step)) where
+      leads_nothing : (x : MaintenanceStep) → QuietWays (Leads (Maintenance step) block actor s r) (Maintenance x) block actor s h r
+      leads_nothing (Judge manner slot) = λ ino. (tt, tt)
+      leads_nothing (Fresh ino asked wanted) = (λ q. tt, λ n q. tt)
+      leads_nothing other = tt
 takes_in_turn other block actor granted s h r =
     from_apart other block actor s r (kind_turn other block actor granted s h r) (apart other block actor granted s h r refl)

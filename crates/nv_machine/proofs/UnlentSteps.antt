@@ -3,7 +3,7 @@ use Rattle.std.proofs.Common.{Bool, false, length, length-set, refl, true, ℕ, 
 use Rattle.std.proofs.lemmas.Bool.{false≢true}
 use Rattle.nv_machine.specs.Kinds.{asked_list}
 use Rattle.nv_machine.specs.Step.{kind_turn}
-use Rattle.nv_machine.specs.World.{Append, Back, Close, Enter, Give, HandState, Leave, LockPicked, Next, Number, Open, Publish, Retire, Running, Shared, Show, MaintenanceStep, Maintenance, TakeBlocks, TakePages}
+use Rattle.nv_machine.specs.World.{Append, Back, Close, Enter, Give, HandState, Leave, LockPicked, Next, Number, Open, Publish, Retire, Running, Shared, Show, MaintenanceStep, Maintenance, TakeBlocks, TakePages, LockCleaned, Judge, Fresh}
 use Rattle.nv_machine.proofs.StepWork.{by_back, by_number, work}
 use Rattle.nv_machine.proofs.WorkKeeps.{AfterTurn, turn_keeps}
 use Rattle.nv_machine.proofs.LoopSteps.{is_on_files}
@@ -17,6 +17,9 @@ pub record IsBeside (s t : Shared) : Type 0 where
 abbrev pub is_aside_on : MaintenanceStep → Bool
 is_aside_on (Show snapshot showing) = true
 is_aside_on (LockPicked draining picked) = true
+is_aside_on (LockCleaned manner ino) = true
+is_aside_on (Judge manner slot) = true
+is_aside_on (Fresh ino asked wanted) = true
 is_aside_on other = false
 
 abbrev pub is_aside : Next → Bool
@@ -37,6 +40,10 @@ on_beside : (step : MaintenanceStep) (block a : ℕ) (s : Shared) (h : HandState
     → IsBeside s (work (Maintenance step) block a s h r).shared
 on_beside (Show snapshot showing) block a s h r is = same s
 on_beside (LockPicked draining picked) block a s h r is = record { cells = refl; book = refl; holder = refl; cpus = refl }
+on_beside (LockCleaned manner ino) block a s h r is = record { cells = refl; book = refl; holder = refl; cpus = refl }
+on_beside (Judge manner slot) block a s h r is = same s
+on_beside (Fresh ino asked wanted) block a s h r is =
+    record { cells = refl; book = refl; holder = refl; cpus = length-set s.lists _ _ }
 on_beside other block a s h r is = absurd (false≢true is)
 
 work_beside : (k : Next) (block a : ℕ) (s : Shared) (h : HandState) (r : Running) → is_aside k ≡ true

@@ -1,10 +1,10 @@
 -- Past settled logs stand the entries of the commit under way, which a commit point settles all at one stroke.
-use Rattle.std.proofs.Common.{Bool, List, None, Option, Some, [], ap, append-nil, false, length, refl, subst, suc, sym, take, true, zero, ℕ, ◌++◌, ◌==◌, ◌∙◌, ◌≡◌, ◌≢◌}
+use Rattle.std.proofs.Common.{Bool, List, None, Option, Some, [], ap, append-nil, false, length, refl, subst, suc, sym, take, true, zero, ℕ, ◌++◌, ◌==◌, ◌∙◌, ◌≡◌, ◌≢◌, arith, inl, inr, ◌⊎◌, ◌≤◌, length-take, take_all, ◌∷◌}
 use Rattle.std.proofs.lemmas.Bool.{eq-eqb, eqb-false, eqb-true, false≢true}
 use Rattle.nv_machine.specs.Grown.{HasGrown, IsAllSettled, fresh_entries, is_appended, is_behind}
 use Rattle.nv_machine.specs.Locks.{commits_at, is_owner}
 use Rattle.nv_machine.specs.Reads.{written_slots}
-use Rattle.nv_machine.specs.Settled.{settled, settled_tail}
+use Rattle.nv_machine.specs.Settled.{settled, settled_tail, noted_or}
 use Rattle.nv_machine.specs.World.{Append, Close, Ends, HandState, Moves, Next, Open, Publish, Running, Shared, Turn, Waits, cell_at, owner_at}
 use Rattle.nv_machine.proofs.LocksAlongCalls.{LocksLeft, OnLocks, apart}
 use Rattle.nv_machine.proofs.LogsKept.{Still}
@@ -14,11 +14,13 @@ use Rattle.nv_entry.specs.declared.item.Entry.{Entry}
 use Rattle.nv_journal.specs.declared.old_tail.OldTail.{OldTail}
 use Rattle.nv_log.specs.Chain.{ChainState}
 use Rattle.nv_machine.specs.Step.{kind_turn}
-use Rattle.nv_machine.proofs.CellChanges.{adds, cells_after, holder_stays, journals_stay, lent_inside_own, locks, no_more, notes, removal}
+use Rattle.nv_machine.proofs.CellChanges.{adds, cells_after, holder_stays, journals_stay, lent_inside_own, locks, no_more, notes, removal, clean_cell, clean_entries, clean_flags, clean_slot, clean_tail, is_clean}
 use Rattle.nv_machine.proofs.StepWork.{work}
 use Rattle.nv_machine.proofs.StepFrames.{work_framed}
 use Rattle.nv_machine.proofs.WorkKeeps.{AfterTurn, turn_keeps}
 use Rattle.nv_machine.proofs.LocksHeld.{Before, locks_kept}
+use Rattle.nv_machine.proofs.PagesLeft.{few_left}
+use Rattle.nv_journal.specs.Journal.{tail_noted}
 
 -- the cells of others, and their settled logs
 pub record CellsLeft (a : ℕ) (s t : Shared) : Type 0 where
@@ -141,10 +143,45 @@ take_none : (n : ℕ) → take {A = Entry} n [] ≡ []
 take_none zero = refl
 take_none (suc n) = refl
 
+-- a tail that journals note is one for all logs, and else each log has its own
+tails_noted : (journals : List (List OldTail)) (ino : ℕ) → ((n : ℕ) → settled_tail journals ino n ≡ n)
+    ⊎ ((c : ℕ) × ((n : ℕ) → settled_tail journals ino n ≡ c))
+tails_noted [] ino = inl (λ n. refl)
+tails_noted (tails ∷ journals) ino = go (tail_noted tails ino) (tails_noted journals ino) where
+  go : (o : Option ℕ) → ((n : ℕ) → settled_tail journals ino n ≡ n) ⊎ ((c : ℕ) × ((n : ℕ) → settled_tail journals ino n ≡ c))
+      → ((n : ℕ) → noted_or o (settled_tail journals ino n) ≡ n) ⊎ ((c : ℕ) × ((n : ℕ) → noted_or o (settled_tail journals ino n) ≡ c))
+  go (Some tail) more = inr (tail, λ n. refl)
+  go None more = more
+
+-- where all of a log is settled, all of one is that has no more entries
+still_all : (journals : List (List OldTail)) (ino old_tail new_tail : ℕ) (old new : List Entry)
+    → old ≡ take (settled_tail journals ino old_tail) old → old_tail ≡ length old → new_tail ≡ length new → length new ≤ length old
+    → take (settled_tail journals ino new_tail) new ≡ new
+still_all journals ino old_tail new_tail old new was at now few = go (tails_noted journals ino) where
+  go : ((n : ℕ) → settled_tail journals ino n ≡ n) ⊎ ((c : ℕ) × ((n : ℕ) → settled_tail journals ino n ≡ c))
+      → take (settled_tail journals ino new_tail) new ≡ new
+  go (inl own) = take_all (settled_tail journals ino new_tail) new (let is = own new_tail in omega (arith, is, now))
+  go (inr noted) = take_all (settled_tail journals ino new_tail) new
+      (let one = noted.1 new_tail in
+      let other = noted.1 old_tail in
+      let long = ap (λ (l : List Entry). length l) was in
+      let cut = length-take (settled_tail journals ino old_tail) old in
+      omega (arith, one, other, long, cut, few))
+
 module _ (k : Next) (block a : ℕ) (s : Shared) (h : HandState) (r : Running) (b : Before a s k r) (plain : adds k ≡ false)
     (none : notes k ≡ false) where
   abbrev t : Shared
   t = (work k block a s h r).shared
+
+  cleaned_whole : is_clean k ≡ true → IsAllSettled s (clean_slot k) → IsWhole s (clean_slot k) (clean_cell k s h)
+  cleaned_whole is was =
+      let old = (cell_at s (clean_slot k)).chain.entries in
+      let new = (clean_cell k s h).chain.entries in
+      let few = ap (λ (l : List Entry). length l) (clean_entries k s h is) in (
+        sym (still_all s.book.journals (clean_slot k) _ _ old new was.entries was.tail (clean_tail k s h is was.tail)
+            (omega (arith, few, few_left (clean_flags k s) old))),
+        clean_tail k s h is was.tail,
+      )
 
   whole : (ino : ℕ) → IsAllSettled s ino → IsWhole s ino (cell_at t ino)
   whole =
@@ -155,7 +192,8 @@ module _ (k : Next) (block a : ℕ) (s : Shared) (h : HandState) (r : Running) (
       by_erased (IsWhole s x.slot) x.cell
       (subst (λ (c : ChainState). (c.entries ≡ take (settled_tail s.book.journals x.slot c.tail) c.entries) × (c.tail ≡ length c.entries))
       (sym left.keeps.chain) (was.entries, was.tail))
-      (sym (take_none (settled_tail s.book.journals x.slot 0)), refl)))
+      (sym (take_none (settled_tail s.book.journals x.slot 0)), refl))
+      (λ is low was. cleaned_whole is was))
 
   journals : t.book.journals ≡ s.book.journals
   journals = journals_stay k block a s h r none

@@ -84,7 +84,7 @@ start_grown w locks grown actor c there is =
           (λ ino q. absurd (no_owner w.shared actor ino holds q))) grown.each;
     }
 
-event_grown : (w : World) (e : Event) → AreLocks w → IsKept w → AreGrown w → AreGrown (step w e).world
+pub event_grown : (w : World) (e : Event) → AreLocks w → IsKept w → AreGrown w → AreGrown (step w e).world
 event_grown w e locks kept grown = event_by AreGrown w grown e (start_grown w locks grown) (go_grown w locks kept grown)
 
 pub events_grown : (events : List Event) (w : World) → AreLocks w → IsInOrder w → IsKept w → AreGrown w

@@ -6,6 +6,7 @@ use Rattle.nv_alloc.specs.Numbers.{has}
 use Rattle.nv_base.specs.declared.geometry.GeometryNumbers.{GeometryNumbers}
 use Rattle.nv_base.specs.declared.limits.TheConstants.{NUMBER}
 use Rattle.nv_cell.specs.Cell.{CellState}
+use Rattle.nv_machine.proofs.EveryWorld.{reached}
 use Rattle.nv_machine.proofs.LogTails.{same_slot as some_same}
 use Rattle.nv_machine.specs.Format.{formatted}
 use Rattle.nv_machine.specs.Frame.{IsFramed, Lent, lent}
@@ -26,7 +27,6 @@ use Rattle.nv_machine.proofs.WorkKeeps.{AfterTurn}
 use Rattle.nv_machine.proofs.Lists.{has_drop, self}
 use Rattle.nv_machine.proofs.LocksHeld.{Before, lent_cell, owner_is}
 use Rattle.nv_machine.proofs.LocksOverEvents.{before}
-use Rattle.nv_machine.proofs.Reached.{reached}
 use Rattle.nv_machine.proofs.StartParts.{first_counted}
 use Rattle.nv_machine.proofs.VersionSteps.{OnUnseen, publish_held, turn_unseen, turn_versions}
 

@@ -1,5 +1,5 @@
 -- A turn keeps what its kind keeps: what holds of what is shared and of a hand before the step, and behind its work.
-use Rattle.std.proofs.Common.{Bool, List, ap, false, refl, subst, sym, true, ℕ, ◌∙◌, ◌≡◌}
+use Rattle.std.proofs.Common.{Bool, List, ap, false, refl, sym, true, ℕ, ◌∙◌, ◌≡◌}
 use Rattle.std.specs.Prelude.{Result}
 use Rattle.std.proofs.lemmas.Bool.{true≢false}
 use Rattle.nv_base.specs.declared.fault.Fault.{Fault}
@@ -12,7 +12,7 @@ use Rattle.nv_machine.proofs.StepWork.{work, maintenance_work}
 use Rattle.nv_machine.proofs.LoopSteps.{is_on_files}
 use Rattle.nv_machine.proofs.StepWays.{After, Closes, IsClearOn, any_ends, end_goes, may_refuse, never_stops}
 use Rattle.nv_machine.proofs.StepWalk.{walk}
-use Rattle.nv_machine.proofs.MaintenanceWalk.{maintenance_walk}
+use Rattle.nv_machine.proofs.MaintenanceWalk.{maintenance_walk, ends_clear, leads_clear}
 
 -- it holds of what is shared and of the hand after a turn
 abbrev pub AfterTurn : (Shared → HandState → Type 0) → Turn → Type 0
@@ -40,7 +40,8 @@ module _ (P : Shared → HandState → Type 0) where
     goes = λ on clear. q clear;
     told = λ on clear. q clear;
     denied = λ snapshot showing on. p;
-    over = λ draining picked on. any_ends (closes _ _ r _ (q (subst (λ (x : MaintenanceStep). IsClearOn x s) (sym on) tt)));
+    leads_on = λ next leads. q (leads_clear step s leads);
+    over = λ e ends. any_ends (closes _ _ r _ (q (ends_clear step actor s h e ends)));
     none = λ draining on empty. p;
   })
 

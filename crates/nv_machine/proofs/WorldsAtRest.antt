@@ -19,6 +19,8 @@ use Rattle.nv_machine.specs.Needed.{IsAtRest}
 use Rattle.nv_machine.specs.Reading.{ArePins}
 use Rattle.nv_machine.specs.Starts.{IsStart}
 use Rattle.nv_machine.specs.World.{Event, HandState, Running, World, actor_at, cell_at, empty_hand, idle, owner_at}
+use Rattle.nv_machine.proofs.EveryWorld.{all_known, all_listed, all_marked, all_parts}
+use Rattle.nv_machine.proofs.WorldFacts.{are_cells, logs_paged, pool_scanned, recorded_once}
 use Rattle.nv_machine.proofs.EachElement.{all_front}
 use Rattle.nv_machine.proofs.FiledLists.{count}
 use Rattle.nv_machine.proofs.FiledMarks.{IsTold, is_killed_on}
@@ -30,16 +32,12 @@ use Rattle.nv_machine.specs.Step.{after}
 use Rattle.nv_machine.proofs.CopiesAll.{all_whole}
 use Rattle.nv_machine.proofs.WorldSizes.{of_numbers}
 use Rattle.nv_machine.proofs.DirectoryLaws.{all_trees}
-use Rattle.nv_machine.proofs.FiledLaw.{all_marked, each_of, recorded_once}
-use Rattle.nv_machine.proofs.FiledRuns.{all_listed}
-use Rattle.nv_machine.proofs.FitsEvents.{IsKnown, all_known}
+use Rattle.nv_machine.proofs.FiledLaw.{each_of}
+use Rattle.nv_machine.proofs.FitsEvents.{IsKnown}
 use Rattle.nv_machine.proofs.FromScratch.{none_true}
 use Rattle.nv_machine.proofs.Generations.{all_early}
 use Rattle.nv_machine.proofs.GoneRuns.{none_retiring}
-use Rattle.nv_machine.proofs.CellMarksRuns.{all_parts, are_cells}
-use Rattle.nv_machine.proofs.PageEvents.{logs_paged}
 use Rattle.nv_machine.proofs.Pins.{no_shows, pins_of_shows}
-use Rattle.nv_machine.proofs.PoolLaw.{pool_scanned}
 use Rattle.nv_machine.proofs.ShapeEvents.{all_shaped}
 use Rattle.nv_machine.proofs.SnapRuns.{in_step}
 use Rattle.nv_machine.proofs.Versions.{all_counted}

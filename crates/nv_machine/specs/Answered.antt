@@ -4,7 +4,7 @@ use Rattle.nv_calls.specs.AllCalls.{answer}
 use Rattle.nv_calls.specs.declared.answer.Answer.{Answer}
 use Rattle.nv_machine.specs.Kinds.{result_by}
 use Rattle.nv_machine.specs.Step.{Step, reply_of}
-use Rattle.nv_machine.specs.World.{Answers, Append, Back, Close, Drains, Ending, Give, Leave, Moved, Next, Open, Overtaken, Publish, Refuses, Retire, Running, Maintenance, Unlock, Unpin, actor_at}
+use Rattle.nv_machine.specs.World.{Answers, Append, Back, Cleans, Close, Drains, Ending, Give, Leave, Moved, Next, Open, Overtaken, Publish, Refuses, Retire, Running, Maintenance, Unlock, Unpin, actor_at}
 
 -- no step is left that decides anything: a commit is under way, or what is locked or in the hand is given up
 abbrev pub IsLast : Next → Type 0
@@ -30,6 +30,7 @@ IsFinal Answers = Unit {0}
 IsFinal (Refuses fault) = Unit {0}
 IsFinal Overtaken = ⊥
 IsFinal (Drains draining) = ⊥
+IsFinal (Cleans cleaned) = Unit {0}
 
 -- a call is to end so, and has only such steps left
 pub record IsToEnd (e : Ending) (r : Running) : Type 0 where

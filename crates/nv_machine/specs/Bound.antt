@@ -6,7 +6,7 @@ use Rattle.nv_calls.specs.declared.call.Call.{Call}
 use Rattle.nv_calls.specs.declared.call.Call.TheVariants as call
 use Rattle.nv_calls.specs.declared.maintenance_call.MaintenanceCall.TheVariants as on
 use Rattle.nv_machine.specs.Step.{step}
-use Rattle.nv_machine.specs.World.{Append, Back, Check, Close, Drains, Drop, Ending, Ends, Enter, Event, Give, Go, Leave, Lock, LockPicked, Look, Make, Moved, Moves, Next, Number, Open, Pick, Pin, Publish, Ready, Release, Reply, Retire, Running, Show, MaintenanceStep, Maintenance, Start, TakeBlocks, TakePages, Turn, Unlock, Unpin, Visit, Waits, World, actor_at}
+use Rattle.nv_machine.specs.World.{Append, Back, Check, Close, Compact, Drains, Drop, Ending, Ends, Enter, Event, Fresh, Give, Go, Judge, Leave, Lock, LockCleaned, LockPicked, Look, Make, Moved, Moves, Next, Number, Open, Pick, Pin, Publish, Ready, Release, Reply, Retire, Running, Show, MaintenanceStep, Maintenance, Start, TakeBlocks, TakePages, Turn, Unlink, Unlock, Unpin, Visit, Waits, World, actor_at}
 
 -- a whole round, whatever its looks find
 abbrev pub round : ℕ → ℕ
@@ -22,6 +22,11 @@ rank_on cpus slots (Unpin snapshot seen) = 1
 rank_on cpus slots (Release draining picked) = draining.left * round cpus + (4 + cpus + slots)
 rank_on cpus slots (LockPicked draining picked) = draining.left * round cpus + (5 + cpus + slots)
 rank_on cpus slots (Pick draining) = draining.left * round cpus + (7 + cpus + slots)
+rank_on cpus slots (LockCleaned manner ino) = 7 + 2 * cpus + slots
+rank_on cpus slots (Judge manner slot) = 6 + 2 * cpus + slots
+rank_on cpus slots (Fresh ino asked wanted) = 5 + cpus + slots + (cpus - asked)
+rank_on cpus slots (Unlink ino) = 4 + cpus + slots
+rank_on cpus slots (Compact ino) = 4 + cpus + slots
 
 -- the steps left in one round, by the step that comes next, with so many CPUs and slots to lock
 abbrev pub rank : ℕ → ℕ → Next → ℕ

@@ -1,7 +1,7 @@
 -- For what a step refuses its call.
-use Rattle.std.specs.Prelude.{◌≡◌, ℕ, ◌+◌, ◌<◌, ◌≤◌, ◌⊎◌, Bool, true, false, [], length, Option, None, Result, Ok, Err}
+use Rattle.std.specs.Prelude.{◌≡◌, ℕ, ◌+◌, ◌<◌, ◌≤◌, ◌⊎◌, Bool, true, false, [], length, Option, Some, None, Result, Ok, Err}
 use Rattle.nv_base.specs.declared.fault.Fault.{Fault}
-use Rattle.nv_base.specs.declared.fault.Fault.TheVariants.{CommitLimit, Contended, NoInode, NoSnapshot, NoSpace}
+use Rattle.nv_base.specs.declared.fault.Fault.TheVariants.{CommitLimit, Contended, NoInode, NoSnapshot, NoSpace, Stale}
 use Rattle.nv_base.specs.Memory.{out_of_memory}
 use Rattle.nv_base.specs.declared.limits.TheConstants.{NUMBER}
 use Rattle.nv_base.specs.declared.numbers.Handle.{Handle}
@@ -11,11 +11,12 @@ use Rattle.nv_calls.specs.Refusals.{passes}
 use Rattle.nv_calls.specs.declared.answer.Answer.{Answer}
 use Rattle.nv_machine.specs.Answered.{IsEnding}
 use Rattle.nv_machine.specs.Kinds.{asked_list}
+use Rattle.nv_machine.specs.PoolScan.{has_inode}
 use Rattle.nv_machine.specs.Sequence.{beginning}
 use Rattle.nv_epoch.specs.SnapList.{pins_of}
 use Rattle.nv_machine.specs.Maintenance.{drop_tests, is_first, make_tests}
 use Rattle.nv_machine.specs.Step.{check_grows, is_numbered, same_looked, visit_grows}
-use Rattle.nv_machine.specs.World.{Answers, Check, Drains, Drop, Ending, Ends, Enter, HandState, Look, Make, Moves, Next, Overtaken, Pick, Pin, Ready, Refuses, Running, Shared, Show, MaintenanceStep, Maintenance, TakeBlocks, TakePages, Turn, Visit, Waits, list_at}
+use Rattle.nv_machine.specs.World.{Answers, Check, Cleans, Drains, Drop, Ending, Ends, Enter, Fresh, HandState, Judge, Look, Make, Moves, Next, Overtaken, Pick, Pin, Ready, Refuses, Running, Shared, Show, MaintenanceStep, Maintenance, TakeBlocks, TakePages, Turn, Visit, Waits, cell_at, list_at}
 
 -- ---- causes
 
@@ -36,10 +37,10 @@ abbrev pub IsWithoutNumber : HandState → Running → Fault → Type 0
 IsWithoutNumber h r fault = (fault ≡ NoInode) × (is_numbered (beginning r.call) h.ino ≡ false)
 
 -- the last list is asked, and has fewer blocks than are wanted yet
-pub record IsShort (s : Shared) (cpu asked : ℕ) (r : Running) (fault : Fault) : Type 0 where
+pub record IsShort (s : Shared) (cpu asked wanted : ℕ) (fault : Fault) : Type 0 where
   pub is : fault ≡ NoSpace
   pub last : length s.lists ≤ asked + 1
-  pub short : length (list_at s cpu).blocks < r.wanted
+  pub short : length (list_at s cpu).blocks < wanted
 
 -- no further commit number is there
 abbrev pub IsAtLimit : Shared → Fault → Type 0
@@ -57,15 +58,25 @@ IsLastRound nodes r fault = (fault ≡ Contended) × IsOvertaken nodes r × (r.s
 abbrev pub IsRoundless : Running → Fault → Type 0
 IsRoundless r fault = (fault ≡ Contended) × (r.rounds ≡ 0)
 
+-- the slot of a number has an inode; a number without a slot has none
+abbrev pub is_cleanable : Option ℕ → Shared → Bool
+is_cleanable None s = false
+is_cleanable (Some ino) s = has_inode (cell_at s ino)
+
 -- for what a step of a call on snapshots refuses it: no further epoch or no room for one more snapshot, no such
--- snapshot, one that has a pin, or memory that a show or a first pick asks for
-abbrev pub IsCauseOn : MaintenanceStep → Bool → Shared → Fault → Type 0
-IsCauseOn Make granted s fault = make_tests s.book.snaps ≡ Err fault
-IsCauseOn (Drop snapshot) granted s fault = drop_tests (pins_of s.book.snaps snapshot) ≡ Err fault
-IsCauseOn (Pin snapshot) granted s fault = (fault ≡ NoSnapshot) × (pins_of s.book.snaps snapshot ≡ None)
-IsCauseOn (Show snapshot showing) granted s fault = IsDenied granted fault
-IsCauseOn (Pick draining) granted s fault = IsDenied granted fault × (is_first draining ≡ true)
-IsCauseOn other granted s fault = ⊥
+-- snapshot, one that has a pin, or memory that a show or a first pick asks for; and a cleaner: no inode of its number, the
+-- memory of its walk where there is one, or too few blocks
+abbrev pub IsCauseOn : MaintenanceStep → ℕ → Bool → Shared → Fault → Type 0
+IsCauseOn Make actor granted s fault = make_tests s.book.snaps ≡ Err fault
+IsCauseOn (Drop snapshot) actor granted s fault = drop_tests (pins_of s.book.snaps snapshot) ≡ Err fault
+IsCauseOn (Pin snapshot) actor granted s fault = (fault ≡ NoSnapshot) × (pins_of s.book.snaps snapshot ≡ None)
+IsCauseOn (Show snapshot showing) actor granted s fault = IsDenied granted fault
+IsCauseOn (Pick draining) actor granted s fault = IsDenied granted fault × (is_first draining ≡ true)
+IsCauseOn (Judge manner slot) actor granted s fault =
+    ((fault ≡ Stale) × (is_cleanable slot s ≡ false)) ⊎ (IsDenied granted fault × (is_cleanable slot s ≡ true))
+IsCauseOn (Fresh ino asked wanted) actor granted s fault =
+    IsShort s (asked_list (length s.lists) actor asked) asked wanted fault
+IsCauseOn other actor granted s fault = ⊥
 
 -- for what each step refuses its call, where it reads these nodes; the others refuse nothing
 abbrev pub IsCause : Next → ℕ → ℕ → Bool → (Handle → Option NodeCopy) → Shared → HandState → Running → Fault → Type 0
@@ -74,13 +85,15 @@ IsCause Check block actor granted nodes s h r fault =
     IsRefusal block nodes r fault ⊎ (IsWithoutNumber h r fault × Passes block nodes r)
     ⊎ (IsDenied granted fault × (check_grows block s h r ≡ true) × Passes block nodes r)
     ⊎ IsLastRound nodes r fault
-IsCause (TakeBlocks asked) block actor granted nodes s h r fault = IsShort s (asked_list (length s.lists) actor asked) asked r fault
-IsCause (TakePages asked) block actor granted nodes s h r fault = IsShort s (asked_list (length s.lists) actor asked) asked r fault
+IsCause (TakeBlocks asked) block actor granted nodes s h r fault =
+    IsShort s (asked_list (length s.lists) actor asked) asked r.wanted fault
+IsCause (TakePages asked) block actor granted nodes s h r fault =
+    IsShort s (asked_list (length s.lists) actor asked) asked r.wanted fault
 IsCause Ready block actor granted nodes s h r fault = IsDenied granted fault
 IsCause Enter block actor granted nodes s h r fault = IsAtLimit s fault ⊎ IsDenied granted fault
 IsCause Visit block actor granted nodes s h r fault =
     IsRefusal block nodes r fault ⊎ (IsDenied granted fault × (visit_grows r.call ≡ true) × Passes block nodes r)
-IsCause (Maintenance step) block actor granted nodes s h r fault = IsCauseOn step granted s fault
+IsCause (Maintenance step) block actor granted nodes s h r fault = IsCauseOn step actor granted s fault
 IsCause other block actor granted nodes s h r fault = ⊥
 
 -- a call may be overtaken at its check alone
@@ -97,6 +110,7 @@ EndsFor P Q next (Refuses fault) = P fault × IsEnding next
 EndsFor P Q next Answers = Unit {0}
 EndsFor P Q next Overtaken = Q
 EndsFor P Q next (Drains draining) = Unit {0}
+EndsFor P Q next (Cleans cleaned) = Unit {0}
 
 abbrev pub ResultFor : (Fault → Type 0) → Result Answer Fault → Type 0
 ResultFor P (Ok found) = Unit {0}

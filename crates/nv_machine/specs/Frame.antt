@@ -5,7 +5,7 @@ use Rattle.nv_machine.specs.Kinds.{asked_list}
 use Rattle.nv_machine.specs.Reads.{slot_at, written_slots}
 use Rattle.nv_machine.specs.Sequence.{beginning, begun}
 use Rattle.nv_machine.specs.Step.{Step, turn, turned}
-use Rattle.nv_machine.specs.World.{Append, Back, Check, Close, Ends, Enter, Give, Leave, Lock, LockPicked, Look, Moves, Next, Number, Open, Publish, Ready, Release, Retire, Running, Shared, Show, MaintenanceStep, Maintenance, Started, TakeBlocks, TakePages, Turn, Unlock, Visit, Waits, World, actor_at, cell_at, list_at, owner_at}
+use Rattle.nv_machine.specs.World.{Append, Back, Check, Close, Compact, Ends, Enter, Fresh, Give, Judge, Leave, Lock, LockCleaned, LockPicked, Look, Moves, Next, Number, Open, Publish, Ready, Release, Retire, Running, Shared, Show, MaintenanceStep, Maintenance, Started, TakeBlocks, TakePages, Turn, Unlink, Unlock, Visit, Waits, World, actor_at, cell_at, list_at, owner_at}
 
 -- the parts that a step may change: the free list of a CPU, the pool, the cell of a slot, the lock of a slot, the
 -- book, and the commit lock
@@ -20,12 +20,17 @@ pub record Lent : Type 0 where
 abbrev pub nothing_lent : Lent
 nothing_lent = record { list = None; pool = false; cell = None; lock = None; book = false; commit_lock = false }
 
--- what a step of a call on snapshots is lent
-abbrev pub lent_on : MaintenanceStep → Lent
-lent_on (Show snapshot showing) = nothing_lent
-lent_on (LockPicked draining picked) = record nothing_lent { lock = Some picked.ino }
-lent_on (Release draining picked) = record nothing_lent { cell = Some picked.ino }
-lent_on other = record nothing_lent { book = true }
+-- what a step of a call on snapshots or of a cleaner is lent, with so many CPUs
+abbrev pub lent_on : MaintenanceStep → ℕ → ℕ → Lent
+lent_on (Show snapshot showing) cpus actor = nothing_lent
+lent_on (LockPicked draining picked) cpus actor = record nothing_lent { lock = Some picked.ino }
+lent_on (Release draining picked) cpus actor = record nothing_lent { cell = Some picked.ino }
+lent_on (LockCleaned manner ino) cpus actor = record nothing_lent { lock = Some ino }
+lent_on (Judge manner slot) cpus actor = nothing_lent
+lent_on (Fresh ino asked wanted) cpus actor = record nothing_lent { list = Some (asked_list cpus actor asked) }
+lent_on (Unlink ino) cpus actor = record nothing_lent { cell = Some ino }
+lent_on (Compact ino) cpus actor = record nothing_lent { cell = Some ino }
+lent_on other cpus actor = record nothing_lent { book = true }
 
 -- what an actor's step is lent, with so many CPUs
 abbrev pub lent : Next → ℕ → ℕ → Running → Lent
@@ -47,7 +52,7 @@ lent (Unlock place) cpus actor r = record nothing_lent { lock = Some (slot_at r.
 lent (Give cpu) cpus actor r = record nothing_lent { list = Some cpu }
 lent Back cpus actor r = record nothing_lent { pool = true }
 lent Visit cpus actor r = nothing_lent
-lent (Maintenance step) cpus actor r = lent_on step
+lent (Maintenance step) cpus actor r = lent_on step cpus actor
 
 -- what is not lent stays
 abbrev pub Stays : Bool → Type 0 → Type 0

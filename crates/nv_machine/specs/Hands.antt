@@ -20,7 +20,7 @@ use Rattle.nv_machine.specs.Kinds.{blocks_in}
 use Rattle.nv_machine.specs.Numbers.{IsEachOnce, all_blocks}
 use Rattle.nv_machine.specs.Reads.{written_slots}
 use Rattle.nv_machine.specs.Sequence.{Beginning, Looks, Locks, Numbers, Maintains, Visits, beginning, nothing_looked}
-use Rattle.nv_machine.specs.World.{Answers, Append, Back, Check, Close, Enter, Give, HandState, Leave, Lock, Look, Next, Number, Open, Overtaken, Publish, Ready, Retire, Running, Shared, MaintenanceStep, Maintenance, TakeBlocks, TakePages, Unlock, Unpin, Visit, World, actor_at, cell_at, empty_hand, list_at}
+use Rattle.nv_machine.specs.World.{Answers, Append, Back, Check, Close, Compact, Enter, Fresh, Give, HandState, Leave, Lock, Look, Next, Number, Open, Overtaken, Publish, Ready, Retire, Running, Shared, MaintenanceStep, Maintenance, TakeBlocks, TakePages, Unlock, Unpin, Visit, World, actor_at, cell_at, empty_hand, list_at}
 
 -- ---- lists and cells
 
@@ -115,6 +115,16 @@ pub record BeginsAnew (h : HandState) (r : Running) : Type 0 where
   pub empty : h ≡ empty_hand
   pub looks : makes_inode (beginning r.call) ≡ false
 
+-- a hand has log pages alone
+abbrev pub HasPagesAlone : HandState → Type 0
+HasPagesAlone h = h ≡ record empty_hand { pages = h.pages }
+
+-- a cleaner has taken log pages at most, and other calls of this kind have nothing before the last steps
+abbrev pub HandOn : MaintenanceStep → HandState → Type 0
+HandOn (Fresh ino asked wanted) h = HasPagesAlone h
+HandOn (Compact ino) h = HasPagesAlone h
+HandOn other h = h ≡ empty_hand
+
 abbrev pub HandAt : GeometryNumbers → Next → HandState → Running → Type 0
 HandAt g Number h r = (h ≡ empty_hand) × (makes_inode (beginning r.call) ≡ true) × (r.looked ≡ nothing_looked)
 HandAt g (Look place) h r = (h ≡ empty_hand) × (makes_inode (beginning r.call) ≡ false)
@@ -134,7 +144,7 @@ HandAt g (Unlock place) h r = (h.killed ≡ []) × (r.ending ≡ Overtaken → B
 HandAt g (Give cpu) h r = (h.killed ≡ []) × (cpu < g.cpus) × AreGiven g cpu (blocks_in h)
 HandAt g Back h r = (h.killed ≡ []) × (blocks_in h ≡ [])
 HandAt g Visit h r = h ≡ empty_hand
-HandAt g (Maintenance step) h r = h ≡ empty_hand
+HandAt g (Maintenance step) h r = HandOn step h
 
 -- until its last steps a call is to be answered; a show takes its pin off whatever it is answered
 abbrev pub is_going_on : MaintenanceStep → Bool

@@ -12,11 +12,13 @@ use Rattle.nv_calls.specs.declared.call.Call.{Call}
 use Rattle.nv_calls.specs.declared.call.Call.TheVariants as call
 use Rattle.nv_calls.specs.declared.plan.Planned.{Planned}
 use Rattle.nv_cell.specs.Append.{IsWithinFile}
-use Rattle.nv_cell.specs.Cell.{CellState, log_of, number_in, page_block}
+use Rattle.nv_cell.specs.Cell.{CellState, IsCell, log_of, number_in, page_block}
 use Rattle.nv_cell.specs.declared.killed.KilledPart.{KilledPart}
 use Rattle.nv_entry.specs.Covered.{is_covered, part_total}
 use Rattle.nv_entry.specs.declared.item.Entry.{Entry}
 use Rattle.nv_journal.specs.declared.old_tail.OldTail.{OldTail}
+use Rattle.nv_machine.specs.Hands.{AreTailsLast}
+use Rattle.nv_machine.specs.Pages.{PagesOf}
 use Rattle.nv_machine.specs.Reads.{written_slots}
 use Rattle.nv_machine.specs.Settled.{settled, settled_tail}
 use Rattle.nv_machine.specs.World.{Answers, Append, Back, Check, Close, Enter, Give, HandState, Leave, Lock, Look, Next, Number, Open, Overtaken, Publish, Ready, Release, Retire, Running, Shared, Maintenance, TakeBlocks, TakePages, Unlock, Visit, World, actor_at, cell_at, empty_hand}
@@ -45,13 +47,21 @@ abbrev pub IsReleaseCoveredBy : Shared → Option Running → Type 0
 IsReleaseCoveredBy s None = Unit {0}
 IsReleaseCoveredBy s (Some r) = IsReleaseCovered s r.next
 
+-- what cleaners ask of a world: each slot has a cell, and each hand the log pages of the step before it
+pub record AreCleanable (w : World) : Type 0 where
+  pub cells : (ino : ℕ) → ino < length w.shared.cells → IsCell (cell_at w.shared ino)
+  pub pages : (actor : ℕ) → PagesOf (actor_at w actor).running w.numbers.block w.shared (actor_at w actor).hand
+
 -- what is known of the numbers of blocks: those of a cell differ, those in hands are numbers of blocks, and the hand of
--- an actor without a call is empty; and drains release what is covered
+-- an actor without a call is empty; drains release what is covered; each log that no commit has appended to ends at its
+-- tail; and slots have cells, and hands the pages that cleaners fill
 pub record AreBlocksApart (w : World) : Type 0 where
   pub cells : (ino : ℕ) → AreApart (cell_at w.shared ino).blocks
   pub small : (actor : ℕ) → AllByRecursion (λ (b : BlockValue). b.number < 2 ^ 32) (actor_at w actor).hand.blocks
   pub idle : (actor : ℕ) → (actor_at w actor).running ≡ None → (actor_at w actor).hand ≡ empty_hand
   pub releases : (actor : ℕ) → IsReleaseCoveredBy w.shared (actor_at w actor).running
+  pub tails : AreTailsLast w
+  pub cleanable : AreCleanable w
 
 -- ---- journals
 

@@ -27,7 +27,7 @@ use Rattle.nv_log.specs.Chain.{with_page}
 use Rattle.nv_calls.specs.FillPages.{filled, fresh_pages}
 use Rattle.nv_machine.specs.Reads.{copies, home_from, pages_wanted, plan_by, slot_at, slots_of, written_slots}
 use Rattle.nv_machine.specs.Sequence.{sequel}
-use Rattle.nv_machine.specs.World.{Answers, Append, Back, Close, Drains, Ending, Ends, Enter, Give, HandState, Lock, Look, Moves, Next, Number, Open, Overtaken, Pick, Publish, Ready, Refuses, Retire, Running, Shared, Maintenance, TakeBlocks, TakePages, Turn, Unlock, Waits, cell_at, go_to, list_at, with_book, with_cell, with_list, with_numbers, with_owner}
+use Rattle.nv_machine.specs.World.{Answers, Append, Back, Cleans, Close, Drains, Ending, Ends, Enter, Give, HandState, Lock, Look, Moves, Next, Number, Open, Overtaken, Pick, Publish, Ready, Refuses, Retire, Running, Shared, Maintenance, TakeBlocks, TakePages, Turn, Unlock, Waits, cell_at, go_to, list_at, with_book, with_cell, with_list, with_numbers, with_owner}
 
 -- ---- how a call ends
 
@@ -40,6 +40,7 @@ result_by Answers r = Ok (answer (λ handle. None) r.made r.call)
 result_by (Refuses fault) r = Err fault
 result_by Overtaken r = Err Contended
 result_by (Drains draining) r = Ok (answers.Count draining.released)
+result_by (Cleans cleaned) r = Ok (answers.Cleaned cleaned.thorough cleaned.entries cleaned.pages)
 
 -- a drain picks the next record, if it may release more
 abbrev pub drained_turn : ℕ → ℕ → Shared → HandState → Running → Turn
@@ -53,6 +54,7 @@ last_turn Answers s h r = Ends (result_by Answers r) s h
 last_turn (Refuses fault) s h r = Ends (Err fault) s h
 last_turn Overtaken s h r = Ends (Err Contended) s h
 last_turn (Drains draining) s h r = drained_turn draining.left draining.released s h r
+last_turn (Cleans cleaned) s h r = Ends (result_by (Cleans cleaned) r) s h
 
 -- nothing is locked: blocks go home, CPU by CPU, and then a number goes back; where nothing is left, the step
 -- replies, or a drain goes on
@@ -70,6 +72,7 @@ abbrev pub over_turn : Ending → Shared → HandState → Running → Turn
 over_turn Answers s h r = rest_turn (home_from 0 0 s.lists (blocks_in h)) h.ino s h r
 over_turn (Refuses fault) s h r = rest_turn (home_from 0 0 s.lists (blocks_in h)) h.ino s h r
 over_turn (Drains draining) s h r = rest_turn (home_from 0 0 s.lists (blocks_in h)) h.ino s h r
+over_turn (Cleans cleaned) s h r = rest_turn (home_from 0 0 s.lists (blocks_in h)) h.ino s h r
 over_turn Overtaken s h r = again_turn r.rounds s h r
 
 -- the call turns to its last steps, of which the first is to unlock what is locked

@@ -1,13 +1,18 @@
 -- WHICH STEPS ARE LENT EACH PART of what is shared, part by part.
 use Rattle.std.specs.Prelude.{◌≡◌, Bool, true, false, is_some}
 use Rattle.nv_machine.specs.Frame.{Lent}
-use Rattle.nv_machine.specs.World.{Append, Back, Close, Drop, Enter, Give, Leave, Lock, LockPicked, Make, Next, Number, Open, Pick, Pin, Publish, Release, Retire, MaintenanceStep, Maintenance, TakeBlocks, TakePages, Unlock, Unpin}
+use Rattle.nv_machine.specs.World.{Append, Back, Close, Compact, Drop, Enter, Fresh, Give, Leave, Lock, LockCleaned, LockPicked, Make, Next, Number, Open, Pick, Pin, Publish, Release, Retire, MaintenanceStep, Maintenance, TakeBlocks, TakePages, Unlink, Unlock, Unpin}
 
 -- a free list: those that take from one or give to one
+abbrev pub takes_fresh : MaintenanceStep → Bool
+takes_fresh (Fresh ino asked wanted) = true
+takes_fresh other = false
+
 abbrev pub moves_blocks : Next → Bool
 moves_blocks (TakeBlocks asked) = true
 moves_blocks (TakePages asked) = true
 moves_blocks (Give cpu) = true
+moves_blocks (Maintenance step) = takes_fresh step
 moves_blocks other = false
 
 -- the pool: those that take a number or give one back
@@ -17,26 +22,29 @@ moves_numbers Back = true
 moves_numbers other = false
 
 -- a cell: those that change a log, or what is kept of it
-abbrev pub is_release : MaintenanceStep → Bool
-is_release (Release draining picked) = true
-is_release other = false
+abbrev pub takes_out : MaintenanceStep → Bool
+takes_out (Release draining picked) = true
+takes_out (Unlink ino) = true
+takes_out (Compact ino) = true
+takes_out other = false
 
 abbrev pub changes_log : Next → Bool
 changes_log (Append place) = true
 changes_log (Publish place) = true
 changes_log (Retire place) = true
-changes_log (Maintenance step) = is_release step
+changes_log (Maintenance step) = takes_out step
 changes_log other = false
 
 -- the lock of a slot: those that lock and unlock
-abbrev pub locks_picked : MaintenanceStep → Bool
-locks_picked (LockPicked draining picked) = true
-locks_picked other = false
+abbrev pub locks_slot : MaintenanceStep → Bool
+locks_slot (LockPicked draining picked) = true
+locks_slot (LockCleaned manner ino) = true
+locks_slot other = false
 
 abbrev pub changes_lock : Next → Bool
 changes_lock (Lock place) = true
 changes_lock (Unlock place) = true
-changes_lock (Maintenance step) = locks_picked step
+changes_lock (Maintenance step) = locks_slot step
 changes_lock other = false
 
 -- the book: those that number a commit, note its tails, or file records; and those that change the list of snapshots or

@@ -42,6 +42,7 @@ pub mod Scanned
 pub mod Sequence
 pub mod Settled
 pub mod Shapes
+pub mod Cleaning
 pub mod Maintenance
 pub mod Starts
 pub mod Step
@@ -50,5 +51,7 @@ pub mod StepRows
 pub mod Takings
 pub mod Versions
 pub mod Wanted
+pub mod WhatStays
 pub mod Whole
 pub mod World
+pub mod CleanerAnswers

@@ -1,5 +1,5 @@
 -- Which locks a call holds, and what a step may wait for.
-use Rattle.std.specs.Prelude.{◌≡◌, ◌≢◌, ℕ, ◌<◌, ◌==◌, Bool, true, false, List, [], ◌∷◌, drop, length, take, Option, Some, None}
+use Rattle.std.specs.Prelude.{◌≡◌, ◌≢◌, ℕ, ◌<◌, ◌==◌, Bool, true, false, List, [], drop, length, take, Option, Some, None}
 use Rattle.std.specs.List.{AllByRecursion}
 use Rattle.nv_alloc.specs.Numbers.{IsRising, has}
 use Rattle.nv_book.specs.Book.{BookState}
@@ -7,17 +7,21 @@ use Rattle.nv_book.specs.declared.manifest.Manifest.{Manifest}
 use Rattle.nv_book.specs.declared.record.Record.{Record}
 use Rattle.nv_machine.specs.Frame.{lent}
 use Rattle.nv_machine.specs.Reads.{slot_at, written_slots}
-use Rattle.nv_machine.specs.Sequence.{directories, nothing_looked}
+use Rattle.nv_machine.specs.Sequence.{directories, nothing_looked, slots_on}
 use Rattle.nv_machine.specs.Step.{handle_at}
 use Rattle.nv_calls.specs.Locked.{handles}
 use Rattle.nv_machine.specs.Maintenance.{visited}
-use Rattle.nv_machine.specs.World.{Append, Back, Close, Enter, Give, Leave, Lock, LockPicked, Look, Next, Number, Open, Publish, Release, Retire, Running, Shared, Show, MaintenanceStep, Maintenance, Unlock, Visit, World, actor_at, owner_at}
+use Rattle.nv_machine.specs.World.{Append, Back, Close, Compact, Enter, Fresh, Give, Judge, Leave, Lock, LockCleaned, LockPicked, Look, Next, Number, Open, Publish, Release, Retire, Running, Shared, Show, MaintenanceStep, Maintenance, Unlink, Unlock, Visit, World, actor_at, owner_at}
 
 -- ---- what a call holds
 
--- a drain has locked the inode of a record that it releases
+-- a drain has locked the inode of a record that it releases, and a cleaner the slot that it judges and cleans
 abbrev pub held_on : MaintenanceStep → List ℕ → List ℕ
 held_on (Release draining picked) slots = slots
+held_on (Judge manner slot) slots = slots
+held_on (Fresh ino asked wanted) slots = slots
+held_on (Unlink ino) slots = slots
+held_on (Compact ino) slots = slots
 held_on other slots = []
 
 -- the slots that a call holds before a step: those that it has locked and not yet unlocked
@@ -58,12 +62,6 @@ is_owner actor (Some other) = other == actor
 pub record AreSlots (slots : ℕ) (list : List ℕ) : Type 0 where
   pub rising : IsRising list
   pub inside : AllByRecursion (λ ino. ino < slots) list
-
--- a call on snapshots locks the inode of the record that it has picked, and none else
-abbrev pub slots_on : MaintenanceStep → List ℕ
-slots_on (LockPicked draining picked) = picked.ino ∷ []
-slots_on (Release draining picked) = picked.ino ∷ []
-slots_on other = []
 
 -- a loop stands at one of those that it goes over; a visit has no slots
 abbrev pub IsInside : Next → Running → Type 0
@@ -112,6 +110,11 @@ abbrev pub WaitsOn : Shared → ℕ → MaintenanceStep → Type 0
 WaitsOn s actor (Show snapshot showing) = IsHeldByOther actor (owner_at s (visited showing.visits).ino)
 WaitsOn s actor (LockPicked draining picked) = IsHeldByOther actor (owner_at s picked.ino)
 WaitsOn s actor (Release draining picked) = ⊥
+WaitsOn s actor (LockCleaned manner ino) = IsHeldByOther actor (owner_at s ino)
+WaitsOn s actor (Judge manner slot) = ⊥
+WaitsOn s actor (Fresh ino asked wanted) = ⊥
+WaitsOn s actor (Unlink ino) = ⊥
+WaitsOn s actor (Compact ino) = ⊥
 WaitsOn s actor other = IsHeldByOther actor s.holder
 
 -- the lock that a step needs; most need none that is not held already

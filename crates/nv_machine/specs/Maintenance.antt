@@ -1,4 +1,4 @@
--- The steps of calls on snapshots, one function a kind. What decides a step is an argument.
+-- The steps of calls on snapshots, one function a kind, and of maintenance in all. What decides a step is an argument.
 use Rattle.std.specs.Prelude.{ℕ, zero, suc, ◌+◌, ◌-◌, ◌==◌, ◌++◌, ◌||◌, Bool, true, false, if◌then◌else◌, nat_le, not, List, [], ◌∷◌, length, Option, Some, None, Result, Ok, Err}
 use Rattle.std.specs.Option.{option_to_list}
 use Rattle.nv_base.specs.declared.fault.Fault.{Fault}
@@ -19,9 +19,10 @@ use Rattle.nv_entry.specs.declared.node.NodeCopy.{NodeCopy}
 use Rattle.nv_entry.specs.declared.tree.TreeNode.{TreeNode}
 use Rattle.nv_epoch.specs.SnapList.{Snapshots as Living, pins_of}
 use Rattle.nv_reader.specs.Walk as walk
-use Rattle.nv_machine.specs.Kinds.{end_turn, grown, refuse, with_erased}
+use Rattle.nv_machine.specs.Cleaning.{compact_turn, judge_turn, lock_cleaned_turn, take_fresh_turn, unlink_turn}
+use Rattle.nv_machine.specs.Kinds.{asked_list, end_turn, grown, refuse, with_erased}
 use Rattle.nv_machine.specs.Reads.{bytes_among}
-use Rattle.nv_machine.specs.World.{Draining, Drains, Drop, Ending, Ends, HandState, LockPicked, Make, Moves, Pick, Pin, Refuses, Release, Running, Shared, Show, Showing, MaintenanceStep, Maintenance, Turn, Unpin, Waits, cell_at, go_to, owner_at, with_book, with_cell, with_owner}
+use Rattle.nv_machine.specs.World.{Compact, Draining, Drains, Drop, Ending, Ends, Fresh, HandState, Judge, LockCleaned, LockPicked, Make, Moves, Pick, Pin, Refuses, Release, Running, Shared, Show, Showing, MaintenanceStep, Maintenance, Turn, Unlink, Unpin, Waits, cell_at, go_to, owner_at, with_book, with_cell, with_owner}
 
 -- a step that is lent the book waits while a commit is under way
 abbrev pub if_free : Option ℕ → Turn → Turn
@@ -139,7 +140,7 @@ release_turn draining picked s h r =
     end_turn r.slots (Drains (one_more draining)) (with_cell picked.ino (erased (released picked (cell_at s picked.ino))) s)
     (with_erased picked.ino (released picked (cell_at s picked.ino)) (with_released picked s h)) r
 
--- ---- THE STEP of a call on snapshots
+-- ---- THE STEP of a call on snapshots, or of a cleaner
 
 abbrev pub maintenance_turn : MaintenanceStep → ℕ → Bool → Shared → HandState → Running → Turn
 maintenance_turn Make actor granted s h r = if_free s.holder (make_turn (make_tests s.book.snaps) s h r)
@@ -153,3 +154,9 @@ maintenance_turn (Pick draining) actor granted s h r = if_free s.holder (pick_tu
 maintenance_turn (LockPicked draining picked) actor granted s h r =
     lock_picked_turn (owner_at s picked.ino) actor draining picked s h r
 maintenance_turn (Release draining picked) actor granted s h r = release_turn draining picked s h r
+maintenance_turn (LockCleaned manner ino) actor granted s h r = lock_cleaned_turn (owner_at s ino) actor manner ino s h r
+maintenance_turn (Judge manner slot) actor granted s h r = judge_turn manner slot granted s h r
+maintenance_turn (Fresh ino asked wanted) actor granted s h r =
+    take_fresh_turn (asked_list (length s.lists) actor asked) ino asked wanted s h r
+maintenance_turn (Unlink ino) actor granted s h r = unlink_turn ino s h r
+maintenance_turn (Compact ino) actor granted s h r = compact_turn ino s h r

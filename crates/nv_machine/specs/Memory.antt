@@ -6,12 +6,13 @@ use Rattle.nv_machine.specs.Hands.{is_going}
 use Rattle.nv_machine.specs.Kinds.{refuse}
 use Rattle.nv_machine.specs.Maintenance.{is_first}
 use Rattle.nv_machine.specs.Step.{check_grows, visit_grows, with_made}
-use Rattle.nv_machine.specs.World.{Check, Ends, Enter, HandState, Look, Moves, Next, Pick, Ready, Refuses, Running, Shared, Show, MaintenanceStep, Maintenance, Turn, Unpin, Visit}
+use Rattle.nv_machine.specs.World.{Check, Ending, Ends, Enter, HandState, Judge, Look, Moves, Next, Pick, Ready, Refuses, Running, Shared, Show, MaintenanceStep, Maintenance, Turn, Unpin, Visit}
 
--- of the steps of calls on snapshots those that show a node, and the first pick of a drain
+-- of the steps of calls on snapshots those that show a node, and the first pick of a drain; and the judge of a cleaner
 abbrev pub grows_on : MaintenanceStep → Bool
 grows_on (Show snapshot showing) = true
 grows_on (Pick draining) = is_first draining
+grows_on (Judge manner slot) = true
 grows_on other = false
 
 -- the steps that grow anything: a check where it wants blocks, and of the others each of its kind
@@ -41,10 +42,24 @@ abbrev pub is_answered : Turn → Bool
 is_answered (Ends (Ok found) t after) = true
 is_answered other = false
 
--- what a step does where nothing stops its call: a visit answers, a step on snapshots answers or moves on, and any
--- other goes on towards the commit
+-- the call moves on to a step of maintenance, or to its last steps and is not to be refused
+abbrev pub is_unrefused : Ending → Bool
+is_unrefused (Refuses fault) = false
+is_unrefused other = true
+
+abbrev pub is_maintaining : Next → Bool
+is_maintaining (Maintenance step) = true
+is_maintaining other = false
+
+abbrev pub moves_unrefused : Turn → Bool
+moves_unrefused (Moves t after q) = is_maintaining q.next || is_unrefused q.ending
+moves_unrefused other = false
+
+-- what a step does where nothing stops its call: a visit answers, a judge answers or moves on unless it refuses, a step on
+-- snapshots answers or moves on, and any other goes on towards the commit
 abbrev pub does_its_work : Next → Turn → Bool
 does_its_work Visit turn = is_answered turn
+does_its_work (Maintenance (Judge manner slot)) turn = is_answered turn || moves_unrefused turn
 does_its_work (Maintenance step) turn = is_answered turn || moves_on turn
 does_its_work other turn = moves_onward turn
 

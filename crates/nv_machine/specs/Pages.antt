@@ -1,9 +1,10 @@
 -- The pages of logs: each entry stands on one, and a hand has as many as the appends to come need.
-use Rattle.std.specs.Prelude.{◌≡◌, ◌≤◌, ℕ, ◌+◌, ◌++◌, drop, length, take}
+use Rattle.std.specs.Prelude.{◌≡◌, ◌≤◌, ℕ, ◌+◌, ◌++◌, drop, length, take, Option, Some, None}
+use Rattle.nv_clean.specs.Plans.{wanted_of}
 use Rattle.nv_log.specs.Chain.{AreEnds, ChainState}
 use Rattle.nv_machine.specs.Reads.{pages_wanted, written_slots}
 use Rattle.nv_machine.specs.Wanted.{log_pages_wanted}
-use Rattle.nv_machine.specs.World.{Append, Close, Enter, HandState, Leave, Next, Open, Publish, Ready, Retire, Running, Shared, TakeBlocks, TakePages, cell_at}
+use Rattle.nv_machine.specs.World.{Append, Close, Compact, Enter, Fresh, HandState, Leave, Maintenance, MaintenanceStep, Next, Open, Publish, Ready, Retire, Running, Shared, TakeBlocks, TakePages, cell_at}
 
 -- each entry of a chain stands on one of its pages, none of which has more than so many; pages without an entry stand last
 pub record AreOnPages (page : ℕ) (chain : ChainState) : Type 0 where
@@ -13,6 +14,12 @@ pub record AreOnPages (page : ℕ) (chain : ChainState) : Type 0 where
 
 -- how many log pages a hand has before a step: with those still wanted as many as the plan needs; then as many as the
 -- entries need that are yet to be appended, and none besides
+-- and of a cleaner: with those still wanted as many as the entries fill that stay
+abbrev pub HasPagesOn : MaintenanceStep → Shared → HandState → Type 0
+HasPagesOn (Fresh ino asked wanted) s h = length h.pages + wanted ≡ (wanted_of (cell_at s ino)).pages
+HasPagesOn (Compact ino) s h = length h.pages ≡ (wanted_of (cell_at s ino)).pages
+HasPagesOn other s h = Unit {0}
+
 abbrev pub HasLogPages : Next → ℕ → Shared → HandState → Running → Type 0
 HasLogPages (TakeBlocks asked) block s h r = length h.pages ≡ 0
 HasLogPages (TakePages asked) block s h r = length h.pages + r.wanted ≡ log_pages_wanted block s h r
@@ -24,7 +31,12 @@ HasLogPages (Publish place) block s h r = length h.pages ≡ 0
 HasLogPages Close block s h r = length h.pages ≡ 0
 HasLogPages (Retire place) block s h r = length h.pages ≡ 0
 HasLogPages Leave block s h r = length h.pages ≡ 0
+HasLogPages (Maintenance step) block s h r = HasPagesOn step s h
 HasLogPages other block s h r = Unit {0}
+
+abbrev pub PagesOf : Option Running → ℕ → Shared → HandState → Type 0
+PagesOf None block s h = Unit {0}
+PagesOf (Some r) block s h = HasLogPages r.next block s h r
 
 -- an append puts so many pages from the front of the hand at the end of a slot's chain, in order
 pub record TakesPages (s : Shared) (ino count : ℕ) (h : HandState) (t : Shared) (after : HandState) : Type 0 where

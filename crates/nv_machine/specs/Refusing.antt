@@ -2,7 +2,7 @@
 use Rattle.std.specs.Prelude.{◌≡◌, true, Ok, Err}
 use Rattle.nv_book.specs.Book.{BookState, after_unpin_snapshot}
 use Rattle.nv_machine.specs.Hands.{is_going_on}
-use Rattle.nv_machine.specs.World.{Answers, Drains, Ending, Ends, Moves, Next, Overtaken, Refuses, Shared, Maintenance, Turn, Unpin, Waits}
+use Rattle.nv_machine.specs.World.{Answers, Cleans, Drains, Ending, Ends, Moves, Next, Overtaken, Refuses, Shared, Maintenance, Turn, Unpin, Waits}
 
 -- the call is to be refused, or its names are looked up again
 abbrev pub IsUnanswered : Ending → Type 0
@@ -10,6 +10,7 @@ IsUnanswered Answers = ⊥
 IsUnanswered (Refuses fault) = Unit {0}
 IsUnanswered Overtaken = Unit {0}
 IsUnanswered (Drains draining) = ⊥
+IsUnanswered (Cleans cleaned) = ⊥
 
 -- the book as it was: a show that is refused takes its pin off
 abbrev pub book_left : Next → BookState → BookState

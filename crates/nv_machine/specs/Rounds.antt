@@ -1,13 +1,14 @@
 -- How often a call may still find a name bound anew.
 use Rattle.std.specs.Prelude.{ℕ, ◌+◌, ◌≤◌, ◌==◌, if◌then◌else◌, List, [], ◌∷◌, Option, Some, None}
 use Rattle.nv_machine.specs.Step.{ending_at, step}
-use Rattle.nv_machine.specs.World.{Answers, Check, Drains, Ending, Event, Go, HandState, Next, Overtaken, Refuses, Running, Shared, Start, World, actor_at}
+use Rattle.nv_machine.specs.World.{Answers, Check, Cleans, Drains, Ending, Event, Go, HandState, Next, Overtaken, Refuses, Running, Shared, Start, World, actor_at}
 
 -- the checks that a call may still fail so: in each round one, and in this round none where it has failed
 abbrev pub checks_left : Ending → ℕ → ℕ
 checks_left Answers rounds = rounds + 1
 checks_left (Refuses fault) rounds = rounds + 1
 checks_left (Drains draining) rounds = rounds + 1
+checks_left (Cleans cleaned) rounds = rounds + 1
 checks_left Overtaken rounds = rounds
 
 -- one where a step is a check that finds a name bound anew

@@ -1,5 +1,5 @@
 -- The order of a call's steps.
-use Rattle.std.specs.Prelude.{ℕ, ◌+◌, ◌-◌, if◌then◌else◌, max, min, nat_lt, List, [], ◌∷◌, length, None}
+use Rattle.std.specs.Prelude.{ℕ, ◌+◌, ◌-◌, if◌then◌else◌, max, min, nat_lt, List, [], ◌∷◌, length, None, option_to_list}
 use Rattle.nv_calls.specs.declared.looked.Looked.{Looked}
 use Rattle.nv_base.specs.declared.limits.TheConstants.{DRAIN}
 use Rattle.nv_base.specs.declared.numbers.Handle.{Handle}
@@ -10,12 +10,12 @@ use Rattle.nv_calls.specs.declared.maintenance_call.MaintenanceCall.{Maintenance
 use Rattle.nv_calls.specs.declared.maintenance_call.MaintenanceCall.TheVariants as on
 use Rattle.nv_entry.specs.Tree.{root}
 use Rattle.nv_machine.specs.Reads.{slots_of, written_slots}
-use Rattle.nv_machine.specs.World.{Answers, Append, Check, Close, Draining, Drop, Enter, Leave, Lock, Look, Make, Next, Number, Open, Pick, Pin, Publish, Ready, Retire, Running, Shared, MaintenanceStep, Maintenance, Visit}
+use Rattle.nv_machine.specs.World.{Answers, Append, Auto, Check, Close, Compact, Draining, Drop, Enter, Fast, Fresh, Judge, Leave, Lock, LockCleaned, LockPicked, Look, Make, Manner, Next, Number, Open, Pick, Pin, Publish, Ready, Release, Retire, Running, Shared, MaintenanceStep, Maintenance, Thorough, Unlink, Visit}
 
 -- ---- how calls begin
 
 -- a new inode takes its number first; names are looked up; slots that are told are locked; a visit is its call's only
--- step; a call on snapshots has steps of its own
+-- step; a call on snapshots and a cleaner have steps of their own
 pub data Beginning : Type 0 where
   Numbers : Beginning
   Looks : Beginning
@@ -109,15 +109,35 @@ started c next slots = record {
 abbrev pub new_draining : ℕ → Draining
 new_draining count = record { released = 0; left = max 1 (min count DRAIN) - 1 }
 
-abbrev pub first_step : MaintenanceCall → MaintenanceStep
-first_step on.Snap = Make
-first_step (on.Drop snapshot) = Drop snapshot
-first_step (on.Show snapshot) = Pin snapshot
-first_step (on.Drain count) = Pick (new_draining count)
+-- a cleaner locks the slot of its number, if there are that many
+abbrev pub first_clean : ℕ → Manner → ℕ → MaintenanceStep
+first_clean slots manner ino = if nat_lt ino slots then LockCleaned manner ino else Judge manner None
+
+-- where there are so many slots
+abbrev pub first_step : ℕ → MaintenanceCall → MaintenanceStep
+first_step slots on.Snap = Make
+first_step slots (on.Drop snapshot) = Drop snapshot
+first_step slots (on.Show snapshot) = Pin snapshot
+first_step slots (on.Drain count) = Pick (new_draining count)
+first_step slots (on.Fast ino) = first_clean slots Fast ino
+first_step slots (on.Thorough ino) = first_clean slots Thorough ino
+first_step slots (on.Auto ino) = first_clean slots Auto ino
+
+-- such a call locks the inode of the record that it has picked, or the slot that it cleans, and none else
+abbrev pub slots_on : MaintenanceStep → List ℕ
+slots_on (LockPicked draining picked) = picked.ino ∷ []
+slots_on (Release draining picked) = picked.ino ∷ []
+slots_on (LockCleaned manner ino) = ino ∷ []
+slots_on (Judge manner slot) = option_to_list slot
+slots_on (Fresh ino asked wanted) = ino ∷ []
+slots_on (Unlink ino) = ino ∷ []
+slots_on (Compact ino) = ino ∷ []
+slots_on other = []
 
 abbrev pub begun : Beginning → Shared → Call → Running
 begun Numbers s c = started c Number []
 begun Looks s c = started c (Look 0) []
 begun Locks s c = started c (locking 0 (slots_of s None nothing_looked c)) (slots_of s None nothing_looked c)
 begun Visits s c = started c Visit []
-begun (Maintains what) s c = started c (Maintenance (first_step what)) []
+begun (Maintains what) s c =
+    started c (Maintenance (first_step (length s.cells) what)) (slots_on (first_step (length s.cells) what))

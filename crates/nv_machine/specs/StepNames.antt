@@ -28,3 +28,8 @@ pub data StepName : Type 0 where
   Pick : StepName
   LockPicked : (slot : ℕ) → StepName
   Release : (slot : ℕ) → StepName
+  LockCleaned : (slot : ℕ) → StepName
+  Judge : StepName
+  Fresh : (cpu : ℕ) → StepName
+  Unlink : (slot : ℕ) → StepName
+  Compact : (slot : ℕ) → StepName

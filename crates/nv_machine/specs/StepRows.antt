@@ -13,19 +13,24 @@ use Rattle.nv_machine.specs.Sequence.{directories, nothing_looked}
 use Rattle.nv_machine.specs.Maintenance.{visited}
 use Rattle.nv_machine.specs.Step.{handle_at, step}
 use Rattle.nv_machine.specs.StepNames as named
-use Rattle.nv_machine.specs.World.{Append, Back, Check, Close, Drop, Enter, Give, Go, Leave, Lock, LockPicked, Look, Make, Next, Number, Open, Pick, Pin, Publish, Ready, Release, Retire, Running, Show, MaintenanceStep, Maintenance, Start, TakeBlocks, TakePages, Unlock, Unpin, Visit, World, actor_at}
+use Rattle.nv_machine.specs.World.{Append, Back, Check, Close, Compact, Drop, Enter, Fresh, Give, Go, Judge, Leave, Lock, LockCleaned, LockPicked, Look, Make, Next, Number, Open, Pick, Pin, Publish, Ready, Release, Retire, Running, Show, MaintenanceStep, Maintenance, Start, TakeBlocks, TakePages, Unlink, Unlock, Unpin, Visit, World, actor_at}
 
 -- ---- the steps of a call
 
-abbrev pub name_on : MaintenanceStep → named.StepName
-name_on Make = named.Make
-name_on (Drop snapshot) = named.Drop
-name_on (Pin snapshot) = named.Pin
-name_on (Show snapshot showing) = named.Show (visited showing.visits).ino
-name_on (Unpin snapshot seen) = named.Unpin
-name_on (Pick draining) = named.Pick
-name_on (LockPicked draining picked) = named.LockPicked picked.ino
-name_on (Release draining picked) = named.Release picked.ino
+abbrev pub name_on : MaintenanceStep → ℕ → ℕ → named.StepName
+name_on Make cpus actor = named.Make
+name_on (Drop snapshot) cpus actor = named.Drop
+name_on (Pin snapshot) cpus actor = named.Pin
+name_on (Show snapshot showing) cpus actor = named.Show (visited showing.visits).ino
+name_on (Unpin snapshot seen) cpus actor = named.Unpin
+name_on (Pick draining) cpus actor = named.Pick
+name_on (LockPicked draining picked) cpus actor = named.LockPicked picked.ino
+name_on (Release draining picked) cpus actor = named.Release picked.ino
+name_on (LockCleaned manner ino) cpus actor = named.LockCleaned ino
+name_on (Judge manner slot) cpus actor = named.Judge
+name_on (Fresh ino asked wanted) cpus actor = named.Fresh (asked_list cpus actor asked)
+name_on (Unlink ino) cpus actor = named.Unlink ino
+name_on (Compact ino) cpus actor = named.Compact ino
 
 -- a step of an actor's call, with so many CPUs
 abbrev pub name_of : Next → ℕ → ℕ → Running → named.StepName
@@ -47,7 +52,7 @@ name_of (Unlock place) cpus actor r = named.Unlock (slot_at r.slots place)
 name_of (Give cpu) cpus actor r = named.Give cpu
 name_of Back cpus actor r = named.Back
 name_of Visit cpus actor r = named.Visit (handle_at (handles nothing_looked r.call) 0).ino
-name_of (Maintenance step) cpus actor r = name_on step
+name_of (Maintenance step) cpus actor r = name_on step cpus actor
 
 -- the steps of the call that an actor runs, up to its end or to so many, and the world that they lead to
 pub record Made : Type 0 where
@@ -167,7 +172,8 @@ rows_on_snapshots =
     row [] (call.Maintenance on.Snap) (named.Make ∷ [])
     ∷ row (call.Maintenance on.Snap ∷ []) (call.Maintenance (on.Drop 1)) (named.Drop ∷ [])
     -- a step for each inode
-    ∷ row (create_a ∷ call.Maintenance on.Snap ∷ []) (call.Maintenance (on.Show 1)) (named.Pin ∷ named.Show 0 ∷ named.Show 1 ∷ named.Unpin ∷ [])
+    ∷ row (create_a ∷ call.Maintenance on.Snap ∷ []) (call.Maintenance (on.Show 1))
+    (named.Pin ∷ named.Show 0 ∷ named.Show 1 ∷ named.Unpin ∷ [])
     -- the last record of its number ends a drain, and a pick that finds nothing
     ∷ row two_deferred (call.Maintenance (on.Drain 2))
     (named.Pick ∷ named.LockPicked 1 ∷ named.Release 1 ∷ named.Unlock 1
@@ -175,4 +181,22 @@ rows_on_snapshots =
     ∷ row two_deferred (call.Maintenance (on.Drain 3))
     (named.Pick ∷ named.LockPicked 1 ∷ named.Release 1 ∷ named.Unlock 1
     ∷ named.Pick ∷ named.LockPicked 1 ∷ named.Release 1 ∷ named.Unlock 1 ∷ named.Give 1 ∷ named.Pick ∷ [])
+    ∷ []
+
+-- a file whose page was written over, so that one entry of its log may go
+abbrev pub written_over : List Call
+written_over = create_a ∷ write_a ∷ write_a ∷ []
+
+abbrev pub rows_of_cleaners : List Row
+rows_of_cleaners =
+    -- whole pages: a step that cleans, also where nothing goes
+    row written_over (call.Maintenance (on.Fast 1)) (named.LockCleaned 1 ∷ named.Judge ∷ named.Unlink 1 ∷ named.Unlock 1 ∷ [])
+    -- entry by entry: fresh pages first, and the old ones go back
+    ∷ row written_over (call.Maintenance (on.Thorough 1))
+    (named.LockCleaned 1 ∷ named.Judge ∷ named.Fresh 1 ∷ named.Compact 1 ∷ named.Unlock 1 ∷ named.Give 1 ∷ [])
+    -- where no entry may go it ends at its judge
+    ∷ row (create_a ∷ []) (call.Maintenance (on.Thorough 1)) (named.LockCleaned 1 ∷ named.Judge ∷ named.Unlock 1 ∷ [])
+    ∷ row written_over (call.Maintenance (on.Auto 1)) (named.LockCleaned 1 ∷ named.Judge ∷ named.Unlink 1 ∷ named.Unlock 1 ∷ [])
+    -- a number without a slot has no lock
+    ∷ row [] (call.Maintenance (on.Fast 99)) (named.Judge ∷ [])
     ∷ []

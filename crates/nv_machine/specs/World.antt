@@ -14,6 +14,7 @@ use Rattle.nv_calls.specs.declared.call.Call.{Call}
 use Rattle.nv_calls.specs.declared.plan.Planned.{Planned}
 use Rattle.nv_cell.specs.Cell.{CellState, empty_cell}
 use Rattle.nv_cell.specs.declared.killed.KilledPart.{KilledPart}
+use Rattle.nv_clean.specs.declared.cleaned.Cleaned.{Cleaned}
 use Rattle.nv_entry.specs.declared.tree.TreeNode.{TreeNode}
 use Rattle.nv_reader.specs.Walk as walk
 
@@ -51,8 +52,16 @@ pub record Draining : Type 0 where
   pub released : ℕ
   pub left : ℕ
 
--- a step of a call on snapshots. It makes one, or drops one; it pins one, shows its nodes inode by inode and unpins it,
--- with what it has seen; or it picks a deferred record, locks its inode and releases it
+-- how a cleaner cleans a log: by whole pages, entry by entry, or as the walk of the log finds to be better
+pub data Manner : Type 0 where
+  Fast : Manner
+  Thorough : Manner
+  Auto : Manner
+
+-- a step of a call on snapshots, or of a cleaner. It makes a snapshot, or drops one; it pins one, shows its nodes inode by
+-- inode and unpins it, with what it has seen; it picks a deferred record, locks its inode and releases it; or it locks the
+-- slot that is to be cleaned, judges what may go of its log, and unlinks pages, or takes fresh ones list by list and moves to
+-- them the entries that stay. A number without a slot is judged too
 pub data MaintenanceStep : Type 0 where
   Make : MaintenanceStep
   Drop : (snapshot : ℕ) → MaintenanceStep
@@ -62,6 +71,11 @@ pub data MaintenanceStep : Type 0 where
   Pick : (draining : Draining) → MaintenanceStep
   LockPicked : (draining : Draining) (picked : Record) → MaintenanceStep
   Release : (draining : Draining) (picked : Record) → MaintenanceStep
+  LockCleaned : (manner : Manner) (ino : ℕ) → MaintenanceStep
+  Judge : (manner : Manner) (slot : Option ℕ) → MaintenanceStep
+  Fresh : (ino asked wanted : ℕ) → MaintenanceStep
+  Unlink : (ino : ℕ) → MaintenanceStep
+  Compact : (ino : ℕ) → MaintenanceStep
 
 -- the step of a call that comes next; in a loop with its place: of a directory, a slot, a list asked, an inode written
 pub data Next : Type 0 where
@@ -86,12 +100,13 @@ pub data Next : Type 0 where
   Maintenance : (step : MaintenanceStep) → Next
 
 -- how a call is to end: with its answer, refused, or not yet, since a name was bound anew after the looks; a drain goes
--- on to the next record, as long as it may release more
+-- on to the next record, as long as it may release more; a cleaner ends with what it has cleaned
 pub data Ending : Type 0 where
   Answers : Ending
   Refuses : (fault : Fault) → Ending
   Overtaken : Ending
   Drains : (draining : Draining) → Ending
+  Cleans : (cleaned : Cleaned) → Ending
 
 -- a call that runs: what its looks found, and how many more rounds of them it may make; the slots that it
 -- locks, in rising number; the handle of a new inode; how many blocks of a taking it still wants; its plan; its

@@ -81,9 +81,9 @@ pub fn data_is_taken_before_log_pages()
 {}
 
 /// Memory that is refused makes one and the same turn of every step that grows anything (a check where the call takes
-/// blocks, a ready, an enter, a read and a list, a show's visit, a drain's first pick), also where that step of that
-/// call would have asked for none: where the step would have done its work, it refuses the call instead, and leaves all that is shared and the
-/// hand as they were. Where it would not, it waits or ends the call as it would have: so a refusal of the plain world,
+/// blocks, a ready, an enter, a read and a list, a show's visit, a drain's first pick, a cleaner's judge), also where that
+/// step of that call would have asked for none: where the step would have done its work, it refuses the call instead, and
+/// leaves all that is shared and the hand as they were. Where it would not, it waits or ends the call as it would have: so a refusal of the plain world,
 /// want of a number and the last commit number come first. All other steps go on as ever. And where memory is granted,
 /// no step refuses a call for want of it.
 pub fn refused_memory_makes_one_turn()
@@ -150,8 +150,9 @@ pub fn ids_rise()
         → IsInOrder (after w events) }
 {}
 
-/// Each settled log is of its shape: its items are lawful one after another from nothing, so that it begins with its kind,
-/// and nothing stands behind a Gone.
+/// Each settled log is of its shape: its items are lawful one after another, and nothing stands behind a Gone. They are
+/// lawful from nothing on unless the inode is gone, so that the log begins with its kind. Of an inode that is gone a
+/// cleaner may have taken out the entry that told the kind: its items are lawful from some kind on.
 pub fn logs_have_their_shape()
     ensures { (g : GeometryNumbers) (start : World) (records : List Record) (events : List Event)
         → IsStart g start records → AreShaped g.block (after start events).shared }

@@ -4,6 +4,8 @@
 pub mod book_laws;
 pub mod call_laws;
 pub mod cell_laws;
+pub mod cleaner_answers;
+pub mod cleaning_laws;
 pub mod erasing_laws;
 pub mod hand_laws;
 pub mod laws;

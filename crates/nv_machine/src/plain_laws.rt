@@ -50,9 +50,10 @@ ghost use Rattle.nv_machine.specs.World.{Answers, Check, Done, Ending, Enter, Ev
 
 /// Only commit points change nodes. Each settled log has the blocks of its pages, but of those that a later
 /// entry covers, and a journal is open only within a commit of several inodes, from any start on and whatever
-/// events come, where no block has the number of another and a call begins with an empty hand. So every event
-/// but a commit point leaves every settled node as it is: a refused call has changed none, and of several
-/// inodes that are published one after another none is seen before the close.
+/// events come, where no block has the number of another, a call begins with an empty hand, and each slot has a
+/// cell and each hand the log pages of its step. So every event but a commit point leaves every settled node as
+/// it is: a refused call has changed none, and of several inodes that are published one after another none is
+/// seen before the close.
 pub fn only_commits_change_nodes()
     ensures start { (g : GeometryNumbers) (start : World) (records : List Record)
         → IsStart g start records → IsKept start }

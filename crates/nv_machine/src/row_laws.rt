@@ -8,7 +8,7 @@ ghost use Rattle.nv_book.specs.declared.record.Record.{Record};
 ghost use Rattle.nv_machine.specs.NeededSlots.{is_locking, needed_inos};
 ghost use Rattle.nv_machine.specs.Starts.{IsStart};
 ghost use Rattle.nv_machine.specs.Step.{after};
-ghost use Rattle.nv_machine.specs.StepRows.{IsRow, rows_of_changes, rows_of_readers, rows_on_snapshots};
+ghost use Rattle.nv_machine.specs.StepRows.{IsRow, rows_of_changes, rows_of_cleaners, rows_of_readers, rows_on_snapshots};
 ghost use Rattle.nv_machine.specs.World.{Event, Running, World, actor_at};
 
 /// A call locks exactly the slots that it needs, whatever events came from any start on: those of the handles that it
@@ -29,4 +29,5 @@ pub fn calls_make_these_steps()
     ensures changes { AllByRecursion IsRow rows_of_changes }
     ensures readers { AllByRecursion IsRow rows_of_readers }
     ensures snapshots { AllByRecursion IsRow rows_on_snapshots }
+    ensures cleaners { AllByRecursion IsRow rows_of_cleaners }
 {}

@@ -1,4 +1,4 @@
-use Rattle.nv_machine.proofs.CellMarksRuns.{are_cells, have_bytes}
+use Rattle.nv_machine.proofs.WorldFacts.{are_cells, have_bytes}
 use Rattle.nv_machine.proofs.hand_laws.cells_are_cells.Goals as goal
 
 pub returns-clause-is : goal.returns-clause-is

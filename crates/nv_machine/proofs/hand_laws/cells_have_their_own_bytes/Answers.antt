@@ -1,5 +1,5 @@
+use Rattle.nv_machine.proofs.EveryWorld.{reached}
 use Rattle.nv_machine.proofs.SlotsBeforeCheck.{own_bytes}
-use Rattle.nv_machine.proofs.Reached.{reached}
 use Rattle.nv_machine.proofs.hand_laws.cells_have_their_own_bytes.Goals as goal
 use Rattle.nv_machine.specs.Step.{after}
 

@@ -1,8 +1,5 @@
+use Rattle.nv_machine.proofs.EveryWorld.{all_known, all_numbers, all_pooled, reached}
 use Rattle.nv_machine.proofs.SlotsBeforeCheck.{held_tails, own_handles, own_number, some_slots, taken_none}
-use Rattle.nv_machine.proofs.FitsEvents.{all_known}
-use Rattle.nv_machine.proofs.FromScratch.{all_numbers}
-use Rattle.nv_machine.proofs.PoolLaw.{all_pooled}
-use Rattle.nv_machine.proofs.Reached.{reached}
 use Rattle.nv_machine.proofs.hand_laws.checks_find_their_slots.Goals as goal
 use Rattle.nv_machine.specs.Step.{after}
 

@@ -1,4 +1,4 @@
-use Rattle.nv_machine.proofs.FromScratch.{all_numbers}
+use Rattle.nv_machine.proofs.EveryWorld.{all_numbers}
 use Rattle.nv_machine.proofs.HandNumbers.{hand_or_list, hands_below}
 use Rattle.nv_machine.proofs.hand_laws.hands_have_blocks_of_the_device.Goals as goal
 use Rattle.nv_machine.specs.Step.{after}

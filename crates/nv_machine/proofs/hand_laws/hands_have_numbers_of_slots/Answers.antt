@@ -1,7 +1,5 @@
-use Rattle.nv_machine.proofs.FromScratch.{all_numbers}
+use Rattle.nv_machine.proofs.EveryWorld.{all_numbers, all_pooled, reached}
 use Rattle.nv_machine.proofs.HandNumbers.{hands_number}
-use Rattle.nv_machine.proofs.PoolLaw.{all_pooled}
-use Rattle.nv_machine.proofs.Reached.{reached}
 use Rattle.nv_machine.proofs.hand_laws.hands_have_numbers_of_slots.Goals as goal
 use Rattle.nv_machine.specs.Step.{after}
 

@@ -1,4 +1,4 @@
-use Rattle.nv_machine.proofs.FromScratch.{idle_nothing}
+use Rattle.nv_machine.proofs.WorldFacts.{idle_nothing}
 use Rattle.nv_machine.proofs.laws.idle_hands_are_empty.Goals as goal
 
 pub returns : goal.returns

@@ -1,4 +1,4 @@
-use Rattle.nv_machine.proofs.FromScratch.{scanned}
+use Rattle.nv_machine.proofs.WorldFacts.{scanned}
 use Rattle.nv_machine.proofs.laws.lists_are_from_scratch.Goals as goal
 
 pub returns : goal.returns

@@ -1,4 +1,4 @@
-use Rattle.nv_machine.proofs.FromScratch.{sorted}
+use Rattle.nv_machine.proofs.WorldFacts.{sorted}
 use Rattle.nv_machine.proofs.laws.lists_are_sorted.Goals as goal
 
 pub returns : goal.returns

@@ -1,4 +1,4 @@
-use Rattle.nv_machine.proofs.PageEvents.{hands_paged, logs_paged}
+use Rattle.nv_machine.proofs.WorldFacts.{hands_paged, logs_paged}
 use Rattle.nv_machine.proofs.laws.logs_have_their_pages.Goals as goal
 
 pub returns-clause-pages : goal.returns-clause-pages

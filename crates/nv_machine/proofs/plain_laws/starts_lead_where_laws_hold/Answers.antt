@@ -1,4 +1,5 @@
-use Rattle.nv_machine.proofs.Reached.{reached, reached_nodes}
+use Rattle.nv_machine.proofs.EveryWorld.{reached}
+use Rattle.nv_machine.proofs.Reached.{reached_nodes}
 use Rattle.nv_machine.proofs.plain_laws.starts_lead_where_laws_hold.Goals as goal
 
 pub returns-clause-reached : goal.returns-clause-reached

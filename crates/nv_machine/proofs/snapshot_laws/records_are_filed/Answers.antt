@@ -1,5 +1,4 @@
-use Rattle.nv_machine.proofs.FiledLaw.{recorded_once, recorded_pairs}
-use Rattle.nv_machine.proofs.FiledRuns.{are_deferred, are_listed}
+use Rattle.nv_machine.proofs.WorldFacts.{are_deferred, are_listed, recorded_once, recorded_pairs}
 use Rattle.nv_machine.proofs.snapshot_laws.records_are_filed.Goals as goal
 
 pub returns-clause-list : goal.returns-clause-list

@@ -1,0 +1,124 @@
+-- What the steps of a cleaner have done since it was started, and so what it is answered or refused for.
+use Rattle.std.specs.Prelude.{◌≡◌, ℕ, ◌+◌, ◌-◌, ◌==◌, ◌&&◌, ◌++◌, Bool, true, false, if◌then◌else◌, nat_lt, List, [], ◌∷◌, length}
+use Rattle.nv_base.specs.declared.fault.Fault.{Fault}
+use Rattle.nv_base.specs.declared.fault.Fault.TheVariants.{NoSpace, Stale}
+use Rattle.nv_base.specs.Memory.{out_of_memory}
+use Rattle.nv_calls.specs.declared.answer.Answer.{Answer}
+use Rattle.nv_calls.specs.declared.answer.Answer.TheVariants as answers
+use Rattle.nv_calls.specs.declared.call.Call.{Call}
+use Rattle.nv_calls.specs.declared.call.Call.TheVariants as call
+use Rattle.nv_calls.specs.declared.maintenance_call.MaintenanceCall.TheVariants as on
+use Rattle.nv_cell.specs.Cell.{CellState}
+use Rattle.nv_clean.specs.Plans.{wanted_of}
+use Rattle.nv_machine.specs.OwnSteps.{OwnStep, turn_of}
+use Rattle.nv_machine.specs.PoolScan.{has_inode}
+use Rattle.nv_machine.specs.World.{Auto, Compact, Ends, Fast, Fresh, Judge, Maintenance, Manner, Moves, Next, Shared, Thorough, Turn, Unlink, Waits, cell_at}
+
+-- the call that cleans the log of an inode so
+abbrev pub cleaner : Manner → ℕ → Call
+cleaner Fast ino = call.Maintenance (on.Fast ino)
+cleaner Thorough ino = call.Maintenance (on.Thorough ino)
+cleaner Auto ino = call.Maintenance (on.Auto ino)
+
+-- ---- its work
+
+-- how many steps were made, those of them that judged, how many lists were asked, of each clean step whether it went entry
+-- by entry, and how many entries and pages the log of the slot lost
+pub record CleanerWork : Type 0 where
+  pub made : ℕ
+  pub judges : List OwnStep
+  pub asked : ℕ
+  pub cleans : List Bool
+  pub entries : ℕ
+  pub pages : ℕ
+
+abbrev pub no_work : CleanerWork
+no_work = record { made = 0; judges = []; asked = 0; cleans = []; entries = 0; pages = 0 }
+
+abbrev pub judges_at : Next → OwnStep → List OwnStep
+judges_at (Maintenance (Judge manner slot)) x = x ∷ []
+judges_at other x = []
+
+abbrev pub asks_at : Next → ℕ
+asks_at (Maintenance (Fresh ino asked wanted)) = 1
+asks_at other = 0
+
+abbrev pub cleans_at : Next → List Bool
+cleans_at (Maintenance (Unlink ino)) = false ∷ []
+cleans_at (Maintenance (Compact ino)) = true ∷ []
+cleans_at other = []
+
+abbrev pub entries_lost : CellState → CellState → ℕ
+entries_lost old new = length old.chain.entries - length new.chain.entries
+
+abbrev pub pages_lost : CellState → CellState → ℕ
+pages_lost old new = length old.chain.blocks - length new.chain.blocks
+
+-- a step of this kind was made that left this
+abbrev pub with_made : Next → ℕ → OwnStep → Shared → CleanerWork → CleanerWork
+with_made k ino x t work = record {
+  made = work.made + 1;
+  judges = judges_at k x ++ work.judges;
+  asked = work.asked + asks_at k;
+  cleans = cleans_at k ++ work.cleans;
+  entries = work.entries + entries_lost (cell_at x.world.shared ino) (cell_at t ino);
+  pages = work.pages + pages_lost (cell_at x.world.shared ino) (cell_at t ino);
+}
+
+-- one that waited has done nothing
+abbrev pub with_turn : ℕ → OwnStep → Turn → CleanerWork → CleanerWork
+with_turn ino x (Moves t h r) work = with_made x.running.next ino x t work
+with_turn ino x Waits work = work
+with_turn ino x (Ends result t h) work = with_made x.running.next ino x t work
+
+-- THE WORK of these steps, the last first, on the log of a slot
+abbrev pub work_done : ℕ → List OwnStep → CleanerWork
+work_done ino [] = no_work
+work_done ino (x ∷ steps) = with_turn ino x (turn_of x) (work_done ino steps)
+
+-- ---- what its judge finds
+
+abbrev pub judged_cell : ℕ → OwnStep → CellState
+judged_cell ino judge = cell_at judge.world.shared ino
+
+-- the log has an entry, and the memory of the walk is granted
+abbrev pub is_passed : ℕ → OwnStep → Bool
+is_passed ino judge = has_inode (judged_cell ino judge) && judge.granted
+
+-- it goes entry by entry: auto does where less than half of the entries stay
+abbrev pub by_entries : Manner → CellState → Bool
+by_entries Fast cell = false
+by_entries Thorough cell = true
+by_entries Auto cell = nat_lt ((wanted_of cell).entries + (wanted_of cell).entries) (length cell.chain.entries)
+
+-- entry by entry, nothing may go
+abbrev pub goes_none : Manner → CellState → Bool
+goes_none manner cell = by_entries manner cell && ((wanted_of cell).dropped == 0)
+
+-- ---- what it is told
+
+-- THE ANSWER of a cleaner that has done this work: it was judged once, and then made one clean step or found nothing
+pub record IsCleanedBy (manner : Manner) (ino : ℕ) (work : CleanerWork) (told : Answer) : Type 0 where
+  pub judge : OwnStep
+  pub judged : work.judges ≡ judge ∷ []
+  pub passed : is_passed ino judge ≡ true
+  pub cleans : work.cleans
+      ≡ (if goes_none manner (judged_cell ino judge) then [] else by_entries manner (judged_cell ino judge) ∷ [])
+  pub is : told ≡ answers.Cleaned (by_entries manner (judged_cell ino judge)) work.entries work.pages
+  pub nothing : goes_none manner (judged_cell ino judge) ≡ true → (work.entries ≡ 0) × (work.pages ≡ 0)
+
+-- for what it is refused, by whether the log has an entry and whether memory is granted: first for want of an inode, then
+-- of memory, and last of blocks
+abbrev pub fault_by : Bool → Bool → Fault
+fault_by false granted = Stale
+fault_by true false = out_of_memory
+fault_by true true = NoSpace
+
+-- THE REFUSAL of one where there are so many lists: for want of blocks each was asked, and else none; the log lost nothing
+pub record IsRefusedInOrder (ino lists : ℕ) (work : CleanerWork) (fault : Fault) : Type 0 where
+  pub judge : OwnStep
+  pub judged : work.judges ≡ judge ∷ []
+  pub is : fault ≡ fault_by (has_inode (judged_cell ino judge)) judge.granted
+  pub asked : work.asked ≡ (if is_passed ino judge then lists else 0)
+  pub cleans : work.cleans ≡ []
+  pub lost : (work.entries ≡ 0) × (work.pages ≡ 0)

@@ -1,0 +1,23 @@
+-- What a cleaner leaves of the log of its slot, said by what keeps the pairs of the slot: the snapshot list, the deferred list, and
+-- the records that drains have picked. Marks are not asked.
+use Rattle.std.specs.Prelude.{◌≡◌, ℕ, [], length}
+use Rattle.std.specs.Int.{div_ceil}
+use Rattle.nv_cell.specs.Cell.{log_of}
+use Rattle.nv_entry.specs.Clean.{kept_of, pages_left}
+use Rattle.nv_entry.specs.Laws.{NoneDroppable}
+use Rattle.nv_log.specs.Chain.{log_pages}
+use Rattle.nv_machine.specs.Held.{retention_at}
+use Rattle.nv_machine.specs.World.{World, cell_at}
+
+-- a compact leaves the entries that a walk by this retention leaves, on as few pages as they fill. By the retention of the world
+-- that it leaves none of them may go
+pub record IsCompacted (ino : ℕ) (w v : World) : Type 0 where
+  pub log : log_of (cell_at v.shared ino) ≡ kept_of (retention_at w ino) (log_of (cell_at w.shared ino))
+  pub pages : length (cell_at v.shared ino).chain.blocks
+      ≡ div_ceil (length (log_of (cell_at v.shared ino))) (cell_at w.shared ino).chain.page
+  pub none : NoneDroppable (retention_at v ino) [] (log_of (cell_at v.shared ino))
+
+-- an unlink leaves the pages with entries that a walk by whole pages leaves
+pub record IsUnlinked (ino : ℕ) (w v : World) : Type 0 where
+  pub pages : log_pages (cell_at v.shared ino).chain
+      ≡ pages_left (retention_at w ino) (log_pages (cell_at w.shared ino).chain)

@@ -1,0 +1,27 @@
+//! A law of the machine of steps on what cleaners leave of a log.
+
+ghost use Rattle.std.specs.Prelude.{◌≡◌, ℕ, Bool, List, Some};
+ghost use Rattle.nv_base.specs.declared.geometry.GeometryNumbers.{GeometryNumbers};
+ghost use Rattle.nv_book.specs.declared.record.Record.{Record};
+ghost use Rattle.nv_machine.specs.Starts.{IsStart};
+ghost use Rattle.nv_machine.specs.Step.{after, step};
+ghost use Rattle.nv_machine.specs.WhatStays.{IsCompacted, IsUnlinked};
+ghost use Rattle.nv_machine.specs.World.{Compact, Event, Go, Maintenance, Running, Unlink, World, actor_at};
+
+/// A step that compacts leaves of its slot's log what the walk by single entries leaves
+/// ([`nv_entry::laws::thorough_takes_what_is_droppable`]), in order and on as few pages as that fills, and none of these
+/// entries may go then. A step that unlinks leaves the pages that the walk by whole pages leaves
+/// ([`nv_entry::laws::fast_takes_what_is_droppable`]). Both walks ask what keeps the pairs of the slot by the snapshot
+/// list, the deferred list and the records that drains have picked, and not the marks, by which the steps go.
+pub fn cleaners_leave_what_is_needed()
+    ensures compact { (g : GeometryNumbers) (start : World) (records : List Record)
+        (events : List Event) (actor ino : ℕ) (granted : Bool) (r : Running)
+        → IsStart g start records → (actor_at (after start events) actor).running ≡ Some r
+        → r.next ≡ Maintenance (Compact ino) → IsCompacted ino (after start events)
+        (step (after start events) (Go actor granted)).world }
+    ensures unlink { (g : GeometryNumbers) (start : World) (records : List Record)
+        (events : List Event) (actor ino : ℕ) (granted : Bool) (r : Running)
+        → IsStart g start records → (actor_at (after start events) actor).running ≡ Some r
+        → r.next ≡ Maintenance (Unlink ino) → IsUnlinked ino (after start events)
+        (step (after start events) (Go actor granted)).world }
+{}
