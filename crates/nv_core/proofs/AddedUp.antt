@@ -4,10 +4,10 @@ use Rattle.std.proofs.Common.{◌≡◌, ℕ, ◌+◌, ◌≤◌, ◌∙◌, ap,
 use Rattle.std.specs.List.{sum_by}
 use Rattle.nv_base.specs.declared.geometry.GeometryNumbers.{GeometryNumbers}
 use Rattle.nv_book.specs.Records.{block_count}
-use Rattle.nv_machine.proofs.FromScratch.{each_once}
 use Rattle.nv_machine.specs.Held.{pending_in}
 use Rattle.nv_machine.specs.Numbers.{IsEachOnce, all_blocks}
 use Rattle.nv_machine.specs.World as machine
+use Rattle.nv_machine.proofs.WorldFacts.{each_once}
 use Rattle.nv_machine.proofs.WorldSizes.{IsOfNumbers, of_numbers}
 use Rattle.nv_core.proofs.Pending.{pending_counts}
 use Rattle.nv_core.proofs.ScannedParts.{pending_few}

@@ -21,14 +21,12 @@ use Rattle.nv_machine.specs.Numbers.{held_by_actor}
 use Rattle.nv_machine.specs.Starts.{IsStart}
 use Rattle.nv_machine.specs.Step.{after}
 use Rattle.nv_machine.specs.World.{Event, World, cell_at, no_cell}
-use Rattle.nv_machine.proofs.FiledLaw.{all_marked}
 use Rattle.nv_machine.proofs.FiledMarks.{pair_low}
-use Rattle.nv_machine.proofs.FiledRuns.{known}
-use Rattle.nv_machine.proofs.FromScratch.{scanned}
 use Rattle.nv_machine.proofs.HeldLaw.{pairs_told}
 use Rattle.nv_machine.proofs.HeldMarks.{used_there}
+use Rattle.nv_machine.proofs.EveryWorld.{all_marked, reached}
+use Rattle.nv_machine.proofs.WorldFacts.{are_cells, scanned}
 use Rattle.nv_machine.proofs.MarksInUse.{same_default}
-use Rattle.nv_machine.proofs.CellMarksRuns.{are_cells}
 use Rattle.nv_core.specs.Audited.{device_of, parts_by_actor}
 use Rattle.nv_core.proofs.AuditNamed.{named_so}
 use Rattle.nv_core.proofs.AuditRecords.{alike}
@@ -53,7 +51,7 @@ module _ (g : GeometryNumbers) (start : World) (records : List Record) (events :
   there ino n pair got =
       kept_there ino n pair got
       ∙ ap (λ (b : Bool). is_needed (ids w.shared.book.snaps) pair || b)
-      (sym (named_so ino pair w (known g start records events is_start).locks))
+      (sym (named_so ino pair w (reached g start records events is_start).locks))
 
   marked : HasMarkedCells (device_of g w)
   marked ino default lt =

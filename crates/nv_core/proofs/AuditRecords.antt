@@ -40,15 +40,14 @@ use Rattle.nv_machine.specs.Step.{after}
 use Rattle.nv_machine.specs.World.{Event, World, cell_at, no_cell}
 use Rattle.nv_machine.proofs.EachElement.{all_at, all_back, all_weaker, all_with}
 use Rattle.nv_machine.proofs.FiledHeld.{recorded_for}
-use Rattle.nv_machine.proofs.FiledLaw.{all_marked, recorded_all, recorded_once}
 use Rattle.nv_machine.proofs.FiledLists.{count, count_append, count_cons, one}
 use Rattle.nv_machine.proofs.FiledMarks.{IsTold}
-use Rattle.nv_machine.proofs.FiledParts.{log_in}
-use Rattle.nv_machine.proofs.FiledRuns.{known}
 use Rattle.nv_machine.proofs.FiledWorlds.{picked_in}
 use Rattle.nv_machine.proofs.MarksInUse.{any_gives}
 use Rattle.nv_machine.proofs.Lists.{self}
 use Rattle.nv_cell.proofs.NamedPairs.{its_number, name_is, own_name}
+use Rattle.nv_machine.proofs.EveryWorld.{all_marked, reached}
+use Rattle.nv_machine.proofs.WorldFacts.{log_in, recorded_all, recorded_once}
 use Rattle.nv_machine.proofs.Pairs.{its_name, record_number}
 use Rattle.nv_core.specs.Audited.{parts_by_actor}
 use Rattle.nv_core.proofs.AuditCounts.{count_any, count_below, count_filter, count_map, count_none, no_pass, none_numbered, one_numbered}
@@ -291,7 +290,7 @@ module _ (g : GeometryNumbers) (start : World) (records : List Record) (events :
           ∙ by_none (holds s pair) (not (is_current pair)) (list_any (in_killed ino pair) (killed_in w ino))
           (list_any (in_record ino pair) (picked_in w)) none_held
           ∙ ap (λ (b : Bool). holds s pair && (not (is_current pair) && not b))
-          (sym (hands_so ino pair w (known g start records events is_start).locks))
+          (sym (hands_so ino pair w (reached g start records events is_start).locks))
 
       same_own : is_same own_part (part_in ino pair) ≡ true
       same_own = both (ino == ino) (has_name pair (pair_name pair)) (self ino) (own_name pair)

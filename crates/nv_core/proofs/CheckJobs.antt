@@ -214,6 +214,7 @@ plain_end : (early : Check) (same : Bool) (tests : Check) (numbered nothing : Bo
 plain_end early same tests numbered nothing ending.Answers j hand is = tt
 plain_end early same tests numbered nothing (ending.Refuses fault) j hand is = tt
 plain_end early same tests numbered nothing ending.Overtaken j hand is = tt
+plain_end early same tests numbered nothing (ending.Cleans cleaned) j hand is = tt
 plain_end (Err fault) same tests numbered nothing (ending.Drains draining) j hand is = cc
 plain_end (Ok passed) false tests numbered nothing (ending.Drains draining) j hand is = cc
 plain_end (Ok passed) true (Err fault) numbered nothing (ending.Drains draining) j hand is = cc

@@ -1,6 +1,6 @@
 -- The turn of a check, and the taking that comes next.
 use Rattle.std.proofs.Common.{◌≡◌, ℕ, zero, suc, ◌+◌, ◌<◌, ◌≤◌, ◌∙◌, Bool, true, false, List, [], ◌∷◌, ◌++◌, length, Option, Some, None, arith, refl, ap, ap₂, sym, subst}
-use Rattle.std.specs.Prelude.{◌||◌, is_some, min, not, option_map}
+use Rattle.std.specs.Prelude.{◌||◌, is_some, not, option_map}
 use Rattle.std.proofs.lemmas.Bool.{lt-ltb}
 use Rattle.nv_base.specs.declared.fault.Fault.{Fault}
 use Rattle.nv_base.specs.declared.fault.Fault.TheVariants as fault

@@ -5,11 +5,9 @@ use Rattle.nv_book.specs.declared.record.Record.{Record}
 use Rattle.nv_machine.proofs.CommitNumbers.{events_counted}
 use Rattle.nv_machine.proofs.CopiesAll.{all_copied}
 use Rattle.nv_machine.proofs.CopyTrees.{trees_are_copied, trees_are_plain}
-use Rattle.nv_machine.proofs.FiledRuns.{are_deferred}
 use Rattle.nv_machine.proofs.FitsPlain.{plain_nodes}
-use Rattle.nv_machine.proofs.FromScratch.{idle_nothing}
 use Rattle.nv_machine.proofs.HeldLaw.{scanned_by_logs}
-use Rattle.nv_machine.proofs.PoolLaw.{pool_scanned}
+use Rattle.nv_machine.proofs.WorldFacts.{are_deferred, idle_nothing, pool_scanned}
 use Rattle.nv_machine.proofs.SnapRuns.{in_step}
 use Rattle.nv_machine.specs.PlainRun.{plain_of}
 use Rattle.nv_machine.specs.Starts.{IsStart}

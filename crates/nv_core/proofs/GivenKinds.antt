@@ -20,7 +20,6 @@ use Rattle.nv_machine.specs.Sequence.{beginning}
 use Rattle.nv_machine.specs.World as machine
 use Rattle.nv_core.specs.Nodes.{CanRead, HoldHandles}
 use Rattle.nv_core.specs.Rooms.{FitsNext}
-use Rattle.nv_book.specs.declared.record.Record.{Record}
 use Rattle.nv_core.specs.Shown.{Told, draining_of, ending_of, hand_of, next_of, shared_of, showing_of, shown, slots_in}
 use Rattle.nv_core.specs.Steps.{CanBeChecked, Given, GivenOn}
 use Rattle.nv_core.specs.Told.{IsChangeWith, IsJobOf, IsToldOf, is_change}
@@ -45,6 +44,7 @@ answers_only ending.Answers e = refl
 answers_only (ending.Refuses fault) e = cc
 answers_only ending.Overtaken e = cc
 answers_only (ending.Drains draining) e = cc
+answers_only (ending.Cleans cleaned) e = cc
 
 -- ---- the call of a job
 
@@ -130,9 +130,9 @@ module _ (shared : Shared) (actor : ℕ) (told : Told) (hand : Hand) (running : 
 
   -- ---- calls on snapshots
 
-  -- the inode of a picked record has a slot
-  picked_slot : (picked : Record) → slots ≡ picked.ino ∷ [] → picked.ino < length shared.cells.items
-  picked_slot picked is =
+  -- a slot that is locked alone is one of the world
+  own_slot : (ino : ℕ) → slots ≡ ino ∷ [] → ino < length shared.cells.items
+  own_slot ino is =
       let inside = (subst (λ (xs : List ℕ). AllByRecursion (λ n. n < length (shared_of shared).cells) xs) is given.slots.inside).0 in
       omega (arith, inside, many_cells shared)
 
@@ -145,17 +145,41 @@ module _ (shared : Shared) (actor : ℕ) (told : Told) (hand : Hand) (running : 
   maintain (on.Unpin snapshot seen) e = given.snapshots (machine.Unpin snapshot seen.items) (ap next_of e)
   maintain (on.Pick draining) e = tt
   maintain (on.LockPicked draining picked) e =
-      let slot = picked_slot picked (inside (next.Maintenance (on.LockPicked draining picked)) e) in
+      let slot = own_slot picked.ino (inside (next.Maintenance (on.LockPicked draining picked)) e) in
       omega (arith, slot, given.wide, many_cells shared)
   maintain (on.Release draining picked) e =
       let has_it = given.snapshots (machine.Release (draining_of draining) picked) (ap next_of e) in
       record {
-        slot = picked_slot picked (inside (next.Maintenance (on.Release draining picked)) e);
+        slot = own_slot picked.ino (inside (next.Maintenance (on.Release draining picked)) e);
         kept = has_it.kept;
         still = has_it.still;
         chain = has_it.chain;
         parts = has_it.parts;
         generation = has_it.generation;
+      }
+  maintain (on.LockCleaned log) e =
+      let slot = own_slot log.ino (inside (next.Maintenance (on.LockCleaned log)) e) in
+      omega (arith, slot, given.wide, many_cells shared)
+  maintain (on.Judge manner None) e = λ ino is. cc
+  maintain (on.Judge manner (Some n)) e = λ ino is.
+      let slot = own_slot n (inside (next.Maintenance (on.Judge manner (Some n))) e) in
+      let same : n ≡ ino = cc in omega (arith, slot, same)
+  maintain (on.Fresh fresh) e = tt
+  maintain (on.Unlink plan) e =
+      let has_it = given.snapshots (machine.Unlink plan.ino) (ap next_of e) in
+      record {
+        slot = own_slot plan.ino (inside (next.Maintenance (on.Unlink plan)) e);
+        still = has_it.still;
+        retired = has_it.retired;
+        chain = has_it.chain;
+      }
+  maintain (on.Compact plan) e =
+      let has_it = given.snapshots (machine.Compact plan.ino) (ap next_of e) in
+      record {
+        slot = own_slot plan.ino (inside (next.Maintenance (on.Compact plan)) e);
+        still = has_it.still;
+        retired = has_it.retired;
+        chain = has_it.chain;
       }
 
   -- ---- all kinds

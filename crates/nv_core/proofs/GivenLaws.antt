@@ -25,12 +25,10 @@ use Rattle.nv_machine.specs.Starts.{IsStart}
 use Rattle.nv_machine.specs.Step.{after}
 use Rattle.nv_machine.specs.World.{Answers, Check, Enter, Event, HandState, Next, Ready, Running, Shared, MaintenanceStep, Maintenance, World, actor_at, cell_at, list_at}
 use Rattle.nv_machine.proofs.DecidedReads.{logs_held}
-use Rattle.nv_machine.proofs.FitsEvents.{AreFit, all_fit}
-use Rattle.nv_machine.proofs.FromScratch.{all_numbers}
+use Rattle.nv_machine.proofs.FitsEvents.{AreFit}
 use Rattle.nv_machine.proofs.LocksHeld.{owner_is, slot_owned}
-use Rattle.nv_machine.proofs.PoolLaw.{all_pooled}
 use Rattle.nv_machine.proofs.PoolRuns.{ArePooled}
-use Rattle.nv_machine.proofs.Reached.{reached}
+use Rattle.nv_machine.proofs.EveryWorld.{all_fit, all_numbers, all_pooled, reached}
 use Rattle.nv_machine.proofs.WorldSizes.{IsOfNumbers, of_numbers}
 use Rattle.nv_core.proofs.GivenOn.{HasOn}
 

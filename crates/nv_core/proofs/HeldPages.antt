@@ -23,9 +23,7 @@ use Rattle.nv_machine.specs.World.{Event, World, cell_at, no_cell}
 use Rattle.nv_machine.proofs.CopyMarks.{all_have_marks, log_same}
 use Rattle.nv_machine.proofs.CopyRuns.{earlier, settled_says}
 use Rattle.nv_machine.proofs.EpochLogs.{block_there, log_at, splits}
-use Rattle.nv_machine.proofs.FiledLaw.{all_marked}
-use Rattle.nv_machine.proofs.CellMarksRuns.{all_parts}
-use Rattle.nv_machine.proofs.Reached.{reached}
+use Rattle.nv_machine.proofs.EveryWorld.{all_marked, all_parts, reached}
 use Rattle.nv_machine.proofs.SnapRuns.{in_step}
 use Rattle.nv_reader.specs.Cells.{NoneOut}
 use Rattle.nv_core.proofs.PageParts.{front_in}

@@ -7,12 +7,10 @@ use Rattle.nv_machine.specs.Starts.{IsStart}
 use Rattle.nv_machine.specs.Step.{after}
 use Rattle.nv_machine.specs.World.{Event, World}
 use Rattle.nv_machine.proofs.SlotsBeforeCheck.{own_handles, own_number}
-use Rattle.nv_machine.proofs.FitsEvents.{all_known}
-use Rattle.nv_machine.proofs.FromScratch.{all_numbers}
 use Rattle.nv_machine.proofs.Generations.{writes_early}
 use Rattle.nv_machine.proofs.HandNumbers.{hand_or_list, hands_below, hands_number}
-use Rattle.nv_machine.proofs.CellMarksRuns.{are_cells}
-use Rattle.nv_machine.proofs.PoolLaw.{all_pooled}
+use Rattle.nv_machine.proofs.EveryWorld.{all_known, all_numbers, all_pooled}
+use Rattle.nv_machine.proofs.WorldFacts.{are_cells}
 use Rattle.nv_machine.proofs.Versions.{cells_counted}
 use Rattle.nv_core.proofs.GivenLaws.{LawsOf}
 use Rattle.nv_core.proofs.Maintains.{maintain}

@@ -12,6 +12,8 @@ pub mod Bounds
 pub mod CheckJobs
 pub mod CheckTurns
 pub mod Checks
+pub mod CleaningStays
+pub mod Cleanings
 pub mod Closes
 pub mod CommitTurns
 pub mod Consistent
@@ -19,6 +21,7 @@ pub mod Ends
 pub mod Enters
 pub mod Formats
 pub mod FreshPages
+pub mod FreshTurns
 pub mod Given
 pub mod GivenCells
 pub mod GivenEnter

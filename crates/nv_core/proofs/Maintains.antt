@@ -1,8 +1,9 @@
 -- What the laws of the machine say of the steps of calls on snapshots: pins are those of the shows under way, a living
--- snapshot has all its pages, and a picked record's part is kept in a cell that stands still.
+-- snapshot has all its pages, a picked record's part is kept in a cell that stands still, and a cell that is to be
+-- cleaned stands still too, with no killed part.
 use Rattle.std.proofs.Common.{◌≡◌, ℕ, zero, suc, ◌<◌, ◌≤◌, ◌++◌, ◌∙◌, Bool, true, false, cond, List, [], ◌∷◌, Option, Some, None, IsSome, ap, arith, inl, inr, length, refl, slice_get, slice_index_or, subst, sym}
 use Rattle.std.specs.Prelude.{count_by, option_and_then}
-use Rattle.std.specs.List.{AllByRecursion, Contains, flat_map}
+use Rattle.std.specs.List.{AllByRecursion, Contains, flat_map, list_any}
 use Rattle.std.specs.Option.{ForSome, IsSomeAnd}
 use Rattle.std.proofs.lemmas.Bool.{cases_lt}
 use Rattle.std.proofs.lemmas.List.{get_or_past}
@@ -12,45 +13,48 @@ use Rattle.nv_base.specs.declared.geometry.GeometryNumbers.{GeometryNumbers}
 use Rattle.nv_base.specs.declared.limits.TheConstants.{PINS}
 use Rattle.nv_book.specs.Listed.{all_records}
 use Rattle.nv_book.specs.declared.record.Record.{Record}
+use Rattle.nv_calls.specs.Prepared.{IsStill}
 use Rattle.nv_calls.specs.Retiring.{name_of}
 use Rattle.nv_cell.proofs.Runs.{count_cons}
 use Rattle.nv_cell.proofs.ValuesNow.{IsLog-take}
 use Rattle.nv_cell.specs.Cell.{CellState, log_of}
-use Rattle.nv_cell.specs.Marks.{mark_at}
+use Rattle.nv_cell.specs.Marks.{is_killed, mark_at}
 use Rattle.nv_cell.specs.Named.{number_named}
+use Rattle.nv_cell.specs.Readers.{has_killed}
+use Rattle.nv_cell.specs.declared.killed.KilledPart.{KilledPart}
 use Rattle.nv_cell.specs.declared.mark.Mark.{Mark}
 use Rattle.nv_cell.specs.declared.mark.Mark.TheVariants.{Current, Kept, Killed, Out}
 use Rattle.nv_entry.specs.Log.{IsLog}
 use Rattle.nv_epoch.proofs.Pins.{lives-from_pins}
 use Rattle.nv_epoch.specs.SnapList.{ids, pins_of}
-use Rattle.nv_machine.specs.Held.{picked_at, picked_by_actor, picked_by_call}
+use Rattle.nv_machine.specs.Frame.{lent_on}
+use Rattle.nv_machine.specs.Held.{killed_by_call, killed_in, killed_slots, parts_for, picked_at, picked_by_actor, picked_by_call}
+use Rattle.nv_machine.specs.Reads.{written_slots}
 use Rattle.nv_machine.specs.Reading.{ArePins, pins_at, pins_by_call, shows_of}
 use Rattle.nv_machine.specs.Recorded.{IsOfPair, is_kept, is_record_of}
 use Rattle.nv_machine.specs.Starts.{IsStart}
 use Rattle.nv_machine.specs.Step.{after}
-use Rattle.nv_machine.specs.World.{Actor, Draining, Drop, Event, LockPicked, Make, Next, Pick, Pin, Release, Running, Show, MaintenanceStep, Maintenance, Unpin, World, actor_at, cell_at, idle, owner_at}
+use Rattle.nv_machine.specs.World.{Actor, Compact, Draining, Drop, Event, Fresh, HandState, Judge, LockCleaned, LockPicked, Make, Next, Pick, Pin, Release, Running, Show, MaintenanceStep, Maintenance, Unlink, Unpin, World, actor_at, cell_at, idle, owner_at}
 use Rattle.nv_machine.proofs.EachElement.{all_back}
 use Rattle.nv_machine.proofs.OverEvents.{runs_inside}
-use Rattle.nv_machine.proofs.FiledLaw.{recorded_once, recorded_pairs}
 use Rattle.nv_machine.proofs.FiledLists.{count, count_append}
-use Rattle.nv_machine.proofs.FiledMarks.{bit_is}
-use Rattle.nv_machine.proofs.FromScratch.{all_numbers}
+use Rattle.nv_machine.proofs.FiledMarks.{bit_is, bit_none, is_killed_on}
 use Rattle.nv_machine.proofs.Generations.{inodes_early}
 use Rattle.nv_machine.proofs.HandNumbers.{chains_below, parts_below}
 use Rattle.nv_machine.proofs.Lists.{self}
 use Rattle.nv_machine.proofs.LocksHeld.{lent_cell}
-use Rattle.nv_machine.proofs.CellMarksRuns.{all_parts}
 use Rattle.nv_machine.proofs.BlockNumbers.{lent_inside}
 use Rattle.nv_cell.proofs.NamedPairs.{its_number}
 use Rattle.nv_machine.proofs.PartsFor.{own_all, own_count}
 use Rattle.nv_machine.proofs.Pins.{pins_of_shows}
 use Rattle.nv_machine.proofs.PoolCells.{gone_inode}
-use Rattle.nv_machine.proofs.PoolLaw.{all_pooled}
 use Rattle.nv_machine.proofs.PoolRuns.{standing}
 use Rattle.nv_machine.proofs.PoolTurns.{Standing}
-use Rattle.nv_machine.proofs.Reached.{reached}
+use Rattle.nv_machine.proofs.KilledByOthers.{none_locked}
+use Rattle.nv_machine.proofs.EveryWorld.{all_marked, all_numbers, all_parts, all_pooled, reached}
+use Rattle.nv_machine.proofs.WorldFacts.{recorded_once, recorded_pairs}
 use Rattle.nv_machine.proofs.WorldSizes.{of_numbers}
-use Rattle.nv_core.proofs.GivenOn.{HasOn, HasPicked}
+use Rattle.nv_core.proofs.GivenOn.{HasCleanable, HasOn, HasPicked}
 use Rattle.nv_core.proofs.HeldPages.{none_out_at}
 
 -- ---- one of some
@@ -91,6 +95,11 @@ kept_there marks n kept = elim (cases_lt n (length marks)) [
   go Current e = cc
   go Killed e = cc
   go Out e = cc
+
+-- where no mark is that of a killed part
+none_marked : (marks : List Mark) → ((n : ℕ) → is_killed (mark_at marks n) ≡ false) → list_any is_killed marks ≡ false
+none_marked [] none = refl
+none_marked (mark ∷ marks) none = rw (none 0, none_marked marks (λ n. none (suc n))) refl
 
 -- ---- a world that events lead to
 
@@ -136,6 +145,52 @@ module _ (g : GeometryNumbers) (start : World) (records : List Record) (events :
   log_is : (ino : ℕ) → IsLog (log_of (cell ino))
   log_is ino = IsLog-take (cell ino).chain.tail (cell ino).chain.entries ((reached g start records events is_start).order.logs ino).ordered
 
+  -- ---- the cell that a step is lent
+
+  module _ (actor : ℕ) (q : Running) (is : (actor_at w actor).running ≡ Some q) (step : MaintenanceStep)
+      (e : q.next ≡ Maintenance step) (ino : ℕ) (its : (lent_on step (length w.shared.lists) actor).cell ≡ Some ino) where
+    abbrev h : HandState
+    h = (actor_at w actor).hand
+
+    stands : Standing g (Maintenance step) actor w.shared h q
+    stands =
+        let known = reached g start records events is_start in
+        subst (λ (k : Next). Standing g k actor w.shared h q) e
+        (standing g w actor q known.locks (all_numbers g start records events is_start) known.grown
+        (all_pooled g start records events is_start) is)
+
+    low : ino < length w.shared.cells
+    low = lent_inside (Maintenance step) actor w.shared q stands.before ino its
+
+    owned : owner_at w.shared ino ≡ Some actor
+    owned = lent_cell (Maintenance step) (length w.shared.lists) actor w.shared q stands.before ino its
+
+    still : IsStill g.block (cell ino)
+    still = record {
+      size = (all_parts g start records events is_start ino low).size;
+      settled = stands.grown.tails ino owned refl;
+    }
+
+    -- its call has no killed parts, and no other call has any of this slot
+    none : killed_in w ino ≡ []
+    none =
+        none_locked w actor ino (reached g start records events is_start).locks owned
+        (ap (λ (o : Option Running). killed_by_call o h ino) is
+        ∙ ap (λ (k : Next). parts_for (killed_slots k (written_slots q)) h.killed ino) e)
+
+    none_at : (n : ℕ) → is_killed (mark_at (cell ino).marks n) ≡ false
+    none_at n =
+        let marked = (all_marked g start records events is_start).cells ino in
+        bit_none (is_killed (mark_at (cell ino).marks n))
+        (sym (marked.killed_are n) ∙ ap (λ (ks : List KilledPart). count (is_killed_on (log_of (cell ino)) n) ks) none)
+
+    has_cleanable : HasCleanable g w.shared ino
+    has_cleanable = record {
+      still = still;
+      retired = none_marked (cell ino).marks none_at;
+      chain = chains_below g w ino (all_numbers g start records events is_start);
+    }
+
   -- ---- a picked record
 
   module _ (actor : ℕ) (q : Running) (is : (actor_at w actor).running ≡ Some q) (draining : Draining) (picked : Record)
@@ -176,27 +231,11 @@ module _ (g : GeometryNumbers) (start : World) (records : List Record) (events :
           recorded_once g start records events is_start picked.ino of_pair.n,
         ))
 
-    stands : Standing g (Maintenance (Release draining picked)) actor w.shared (actor_at w actor).hand q
-    stands =
-        let known = reached g start records events is_start in
-        subst (λ (k : Next). Standing g k actor w.shared (actor_at w actor).hand q) e
-        (standing g w actor q known.locks (all_numbers g start records events is_start) known.grown
-        (all_pooled g start records events is_start) is)
-
-    low : picked.ino < length w.shared.cells
-    low = lent_inside (Maintenance (Release draining picked)) actor w.shared q stands.before picked.ino refl
-
-    owned : owner_at w.shared picked.ino ≡ Some actor
-    owned = lent_cell (Maintenance (Release draining picked)) (length w.shared.lists) actor w.shared q stands.before picked.ino refl
-
     has_picked : HasPicked g w.shared picked
     has_picked = record {
       kept = ap (option_and_then (λ n. slice_get (cell picked.ino).marks n)) number_is
           ∙ kept_there (cell picked.ino).marks of_pair.n recorded;
-      still = record {
-        size = (all_parts g start records events is_start picked.ino low).size;
-        settled = stands.grown.tails picked.ino owned refl;
-      };
+      still = still actor q is (Release draining picked) e picked.ino refl;
       chain = chains_below g w picked.ino (all_numbers g start records events is_start);
       parts = λ n b at. parts_below g w picked.ino n b (all_numbers g start records events is_start) at;
       generation = λ gone. inodes_early g start records events picked.ino is_start (gone_inode (cell picked.ino) gone);
@@ -214,4 +253,9 @@ module _ (g : GeometryNumbers) (start : World) (records : List Record) (events :
   maintain actor q is (Unpin snapshot seen) e = has_pin actor q is snapshot (ap (pins_at snapshot) e ∙ self snapshot)
   maintain actor q is (Pick draining) e = tt
   maintain actor q is (LockPicked draining picked) e = tt
+  maintain actor q is (LockCleaned manner ino) e = tt
+  maintain actor q is (Judge manner slot) e = tt
+  maintain actor q is (Fresh ino asked wanted) e = tt
   maintain actor q is (Release draining picked) e = has_picked actor q is draining picked e
+  maintain actor q is (Unlink ino) e = has_cleanable actor q is (Unlink ino) e ino refl
+  maintain actor q is (Compact ino) e = has_cleanable actor q is (Compact ino) e ino refl

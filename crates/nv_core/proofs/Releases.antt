@@ -52,10 +52,10 @@ release_turns shared picked old hand after cells new d r turn set here state is 
 -- ---- blocks of the device
 
 module _ (blocks : ℕ) where
-  abbrev AllBelow : List BlockValue → Type 0
+  abbrev pub AllBelow : List BlockValue → Type 0
   AllBelow bs = AllByRecursion (λ (b : BlockValue). b.number < blocks) bs
 
-  all_more : (bs cs : List BlockValue) → AllBelow bs → AllBelow cs → AllBelow (bs ++ cs)
+  pub all_more : (bs cs : List BlockValue) → AllBelow bs → AllBelow cs → AllBelow (bs ++ cs)
   all_more [] cs one all = all
   all_more (b ∷ bs) cs one all = (one.0, all_more bs cs one.1 all)
 
@@ -63,7 +63,7 @@ module _ (blocks : ℕ) where
   if_there None each = tt
   if_there (Some b) each = (each b refl, tt)
 
-  split : (h : HandState) → AllBelow h.blocks → AllBelow h.pages → AllBelow h.chain → AllBelow (blocks_in h)
+  pub split : (h : HandState) → AllBelow h.blocks → AllBelow h.pages → AllBelow h.chain → AllBelow (blocks_in h)
   split h one two three =
       all_more (h.blocks ++ h.pages) h.chain (all_more h.blocks h.pages one two) three
 

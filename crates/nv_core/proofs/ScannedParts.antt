@@ -46,18 +46,16 @@ use Rattle.nv_machine.specs.Scanned.{all_pages_that, pages_that, scanned_data, s
 use Rattle.nv_machine.specs.Starts.{IsStart}
 use Rattle.nv_machine.specs.Step.{after}
 use Rattle.nv_machine.specs.World.{Event, World, cell_at, no_cell}
-use Rattle.nv_machine.proofs.CellMarksRuns.{are_cells}
 use Rattle.nv_machine.proofs.EachElement.{all_append, all_back, all_front, all_weaker, all_with}
 use Rattle.nv_machine.proofs.FiledHeld.{any_told}
-use Rattle.nv_machine.proofs.FiledLaw.{all_marked, recorded_all, recorded_once, recorded_pairs}
 use Rattle.nv_machine.proofs.FiledLists.{HasHolder, count, count_append, held_filed, one, unheld_pass}
 use Rattle.nv_machine.proofs.FiledMarks.{IsDying, IsTold, is_filed_on, is_killed_on, pair_low}
-use Rattle.nv_machine.proofs.FiledParts.{log_in}
-use Rattle.nv_machine.proofs.FiledRuns.{all_listed}
 use Rattle.nv_machine.proofs.FiledSteps.{MarksOf}
 use Rattle.nv_machine.proofs.FiledWorlds.{picked_in}
 use Rattle.nv_machine.proofs.MarksInUse.{any_gives, any_none, any_of, same_default}
 use Rattle.nv_cell.proofs.NamedPairs.{current_is, number_is}
+use Rattle.nv_machine.proofs.EveryWorld.{all_listed, all_marked}
+use Rattle.nv_machine.proofs.WorldFacts.{are_cells, log_in, recorded_all, recorded_once, recorded_pairs}
 use Rattle.nv_machine.proofs.Pairs.{has_number, named_same, record_number}
 use Rattle.nv_core.proofs.AuditCounts.{count_at}
 use Rattle.nv_core.proofs.AuditNamed.{in_record}

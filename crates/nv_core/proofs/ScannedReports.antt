@@ -26,9 +26,9 @@ use Rattle.nv_machine.specs.Scanned.{scanned_data, scanned_free, scanned_pending
 use Rattle.nv_machine.specs.Starts.{IsStart}
 use Rattle.nv_machine.specs.Step.{after}
 use Rattle.nv_machine.specs.World.{Event, World, cell_at, list_at, no_cell, no_list}
-use Rattle.nv_machine.proofs.CellMarksRuns.{are_cells}
 use Rattle.nv_machine.proofs.EachElement.{all_weaker}
-use Rattle.nv_machine.proofs.FromScratch.{all_numbers}
+use Rattle.nv_machine.proofs.EveryWorld.{all_numbers}
+use Rattle.nv_machine.proofs.WorldFacts.{are_cells}
 use Rattle.nv_machine.proofs.HeldLaw.{scanned_by_logs}
 use Rattle.nv_core.proofs.AuditLaw.{kept_there}
 use Rattle.nv_core.proofs.ScannedParts.{kept_is}

@@ -30,11 +30,10 @@ use Rattle.nv_machine.specs.World.{Event, World, cell_at}
 use Rattle.nv_machine.proofs.EachElement.{all_filter, all_weaker}
 use Rattle.nv_machine.proofs.FiledDrops.{removes}
 use Rattle.nv_machine.proofs.FiledHeld.{any_and, any_told, recorded_for}
-use Rattle.nv_machine.proofs.FiledLaw.{recorded_pairs}
 use Rattle.nv_machine.proofs.FiledLists.{count, count_append}
+use Rattle.nv_machine.proofs.EveryWorld.{all_listed}
+use Rattle.nv_machine.proofs.WorldFacts.{log_in, recorded_pairs}
 use Rattle.nv_machine.proofs.FiledMarks.{IsTold}
-use Rattle.nv_machine.proofs.FiledParts.{log_in}
-use Rattle.nv_machine.proofs.FiledRuns.{all_listed}
 use Rattle.nv_core.proofs.AuditCounts.{count_at, count_filter, count_none, none_numbered}
 use Rattle.nv_core.proofs.AuditNamed.{in_record}
 use Rattle.nv_core.proofs.AuditRecords.{swapped}

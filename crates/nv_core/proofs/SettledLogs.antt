@@ -8,8 +8,8 @@ use Rattle.nv_machine.specs.Reads.{written_slots}
 use Rattle.nv_machine.specs.World as machine
 use Rattle.nv_machine.specs.World.{Append, Back, Check, Close, Enter, Give, HandState, Leave, Lock, Look, Next, Number, Open, Publish, Ready, Retire, Running, Shared, Maintenance, TakeBlocks, TakePages, Unlock, Visit, actor_at, cell_at}
 use Rattle.nv_machine.proofs.SlotsBeforeCheck.{own_bytes}
+use Rattle.nv_machine.proofs.EveryWorld.{reached}
 use Rattle.nv_machine.proofs.Journals.{closed_tail}
-use Rattle.nv_machine.proofs.Reached.{reached}
 use Rattle.nv_core.proofs.SettledPages.{IsTailWithin, none_out}
 use Rattle.nv_core.specs.Settled.{AreSettled}
 use Rattle.nv_core.specs.Shown.{shared_of}

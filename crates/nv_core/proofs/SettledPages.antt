@@ -9,7 +9,6 @@ use Rattle.nv_cell.proofs.ValuesNow.{IsLog-take}
 use Rattle.nv_cell.specs.Cell.{CellState, log_of, page_block}
 use Rattle.nv_entry.specs.Log.{IsLog}
 use Rattle.nv_entry.specs.declared.item.Entry.{Entry}
-use Rattle.nv_machine.proofs.Reached.{reached}
 use Rattle.nv_machine.specs.Kept.{HasPages}
 use Rattle.nv_machine.specs.Reached.{IsReached}
 use Rattle.nv_machine.specs.Settled.{settled, settled_tail}
@@ -17,6 +16,7 @@ use Rattle.nv_machine.specs.World.{Shared, cell_at}
 use Rattle.nv_reader.specs.Cells.{NoneOut}
 use Rattle.nv_core.proofs.PageParts.{front_in}
 use Rattle.nv_core.specs.Shown.{shared_of}
+use Rattle.nv_machine.proofs.EveryWorld.{reached}
 use Rattle.nv_core.specs.Worlds.{IsWorld, WorldState}
 
 -- ---- in a cell

@@ -48,6 +48,17 @@ rest_cell actor ino old new cells count is = record {
     go false e h = e
     go true e h = let x : true ≡ false = rw e at h in cc
 
+-- the lists alone are others, and as many
+pub rest_lists : (actor : ℕ) (held : List ℕ) (old new : Shared) → new ≡ record old { lists = new.lists }
+    → length new.lists.items ≡ length old.lists.items → LeavesRest actor held old new
+rest_lists actor held old new is count = record {
+  geometry = ap (λ (s : Shared). s.geometry) is;
+  lists = count;
+  count = ap (λ (s : Shared). length s.cells.items) is;
+  cells = λ ino out. ap (λ (s : Shared). cell_in s.cells.items ino) is;
+  book = λ other holds apart. (ap (λ (s : Shared). s.book) is, ap (λ (s : Shared). s.holder) is);
+}
+
 -- a step that is lent the book holds no slot
 pub none_held : (step : Next) (slots : List ℕ) → IsOnBook step → held_at (next_of step) slots ≡ []
 none_held (next.Maintenance on.Make) slots is = refl
@@ -58,6 +69,11 @@ none_held (next.Maintenance (on.Unpin snapshot seen)) slots is = refl
 none_held (next.Maintenance (on.Pick draining)) slots is = refl
 none_held (next.Maintenance (on.LockPicked draining picked)) slots is = absurd is
 none_held (next.Maintenance (on.Release draining picked)) slots is = absurd is
+none_held (next.Maintenance (on.LockCleaned log)) slots is = absurd is
+none_held (next.Maintenance (on.Judge manner slot)) slots is = absurd is
+none_held (next.Maintenance (on.Fresh fresh)) slots is = absurd is
+none_held (next.Maintenance (on.Unlink plan)) slots is = absurd is
+none_held (next.Maintenance (on.Compact plan)) slots is = absurd is
 none_held next.Number slots is = absurd is
 none_held (next.Look place) slots is = absurd is
 none_held (next.Lock place) slots is = absurd is

@@ -22,7 +22,7 @@ use Rattle.nv_calls.specs.Updates.{blank_call}
 use Rattle.nv_calls.specs.declared.looked.Looked.{Looked}
 use Rattle.nv_calls.specs.declared.update.Update.{Update}
 use Rattle.nv_cell.specs.Cell.{CellValue}
-use Rattle.nv_machine.specs.Locks.{AreLocks, HoldsIts, commits_at, held_at, is_owner}
+use Rattle.nv_machine.specs.Locks.{AreLocks, HoldsIts, IsInside, commits_at, held_at, is_owner}
 use Rattle.nv_machine.specs.World as machine
 use Rattle.nv_machine.specs.World.{actor_at, owner_at}
 use Rattle.nv_machine.proofs.Lists.{or_right}
@@ -31,7 +31,7 @@ use Rattle.nv_core.specs.Committing.{IsCommitting}
 use Rattle.nv_core.specs.Frames.{LeavesRest}
 use Rattle.nv_core.specs.Nodes.{CanRead, HasOwn, HoldHandles, wanted_over}
 use Rattle.nv_core.specs.Rooms.{HasActorRooms, HasMade, HasRooms, HasTaken, IsChecked, IsHandOf, IsIdle, IsReadyOver, Takes, TakesBlocks, TakesIf, TakesPages, committing_cpu, takes}
-use Rattle.nv_core.specs.Shown.{Told, next_of, shared_of, shown_by, slots_in}
+use Rattle.nv_core.specs.Shown.{Told, next_of, shared_of, shown, shown_by, slots_in}
 use Rattle.nv_core.specs.Told.{IsChangeWith}
 use Rattle.nv_core.specs.Worlds.{ShowsActor, ShowsRunning, told_of}
 use Rattle.nv_core.specs.declared.hold.Hold.{Hold}
@@ -43,6 +43,7 @@ use Rattle.nv_core.specs.declared.next.Next.TheVariants as next
 use Rattle.nv_core.specs.declared.running.Running.{Running}
 use Rattle.nv_core.specs.declared.shared.Shared.{Shared}
 use Rattle.nv_core.specs.declared.world.Actor.{Actor}
+use Rattle.nv_core.proofs.CleaningStays.{next_room_stays}
 use Rattle.nv_core.proofs.ShownCalls.{commit_commits, commit_holds, shown_slots}
 
 -- the cells of slots that all stay are the same
@@ -176,14 +177,21 @@ module _ (actor : ℕ) (held : List ℕ) (old new : Shared) (rest : LeavesRest a
 
   -- one that commits has the commit lock, and the book with it
   call_stays : (held_by : Hold) (told : Told) (running : Running)
+      → IsInside (shown_by held_by told running).next (shown_by held_by told running)
       → IsOut (held_at (shown_by held_by told running).next (slots_in running.slots))
       → (commits_at (shown_by held_by told running).next ≡ true → (new.book ≡ old.book) × (new.holder ≡ old.holder))
       → HasRooms old held_by running → HasRooms new held_by running
-  call_stays (hold.Hand hand) told running out same p =
-      (p.0, hand_stays hand p.1, takes_if_stays (takes running.next) hand running refl out p.2, p.3)
-  call_stays (hold.Ready ready) told running out same p =
+  call_stays (hold.Hand hand) told running inside out same p = (
+    p.0,
+    hand_stays hand p.1,
+    takes_if_stays (takes running.next) hand running refl out p.2,
+    next_room_stays old new rest.count rest.lists running.next (slots_in running.slots) running.ending running.job hand
+        (λ step e. subst (λ (n : Next). IsInside (next_of n) (shown told running)) e inside)
+        (λ ino h. rest.cells ino (out ino h)) p.3,
+  )
+  call_stays (hold.Ready ready) told running inside out same p =
       (p.0, p.1, hand_stays ready.hand p.2, moved (slots_in running.slots) out (λ g cells. IsReadyOver cells ready) p.3)
-  call_stays (hold.Commit commit) told running out same p =
+  call_stays (hold.Commit commit) told running inside out same p =
       let slots = slots_in running.slots in
       let all = commit_holds (step_of commit) commit slots in
       let stay : IsOut slots = λ ino h. out ino (ap (λ (l : List ℕ). has l ino) all ∙ h) in
@@ -225,7 +233,8 @@ module _ (m : machine.World) (locks : AreLocks m) (old new : Shared) (shows : sh
   rooms_by held None p is shown rooms = idle_stays actor (held_at r.next r.slots) old new rest held rooms
   rooms_by held (Some running) None is shown rooms = absurd shown
   rooms_by held (Some running) (Some q) is shown rooms =
-      call_stays actor (held_at r.next r.slots) old new rest held (told_of q) running out book rooms where
+      call_stays actor (held_at r.next r.slots) old new rest held (told_of q) running
+      (subst (λ (x : machine.Running). IsInside x.next x) (sym shown.shown) theirs.slots.1) out book rooms where
         theirs : HoldsIts (shared_of old) other (Some q)
         theirs =
             subst (λ (s : machine.Shared). HoldsIts s other (Some q)) (sym shows)

@@ -35,6 +35,7 @@ last_goes : (how : machine.Ending) (s : machine.Shared) (h : machine.HandState) 
 last_goes machine.Answers s h r e = cc
 last_goes (machine.Refuses fault) s h r e = cc
 last_goes machine.Overtaken s h r e = cc
+last_goes (machine.Cleans cleaned) s h r e = cc
 last_goes (machine.Drains draining) s h r e = go draining.left e where
   go : (left : ℕ) → drained_turn left draining.released s h r ≢ machine.Waits
   go zero e = cc
@@ -54,6 +55,7 @@ over_goes : (how : machine.Ending) (s : machine.Shared) (h : machine.HandState) 
 over_goes machine.Answers s h r e = rest_goes _ h.ino s h r e
 over_goes (machine.Refuses fault) s h r e = rest_goes _ h.ino s h r e
 over_goes (machine.Drains draining) s h r e = rest_goes _ h.ino s h r e
+over_goes (machine.Cleans cleaned) s h r e = rest_goes _ h.ino s h r e
 over_goes machine.Overtaken s h r e = again_goes r.rounds s h r e
 
 -- a call that turns to its last steps does not wait
@@ -239,7 +241,7 @@ module _ (old new : Shared) (slots : List ℕ) (hand : Hand) (looked : Looked) (
 
 -- ---- the machine's turn, over what is there after it
 
-less_wanted : (n len left : ℕ) → left ≡ n - min n len → n - len ≡ left
+pub less_wanted : (n len left : ℕ) → left ≡ n - min n len → n - len ≡ left
 less_wanted n len left q = omega (arith, q)
 
 module _ (told : Told) (old new : Shared) (hand : Hand) (running : Running) (queue : QueueValue) (below cpu asked left : ℕ)

@@ -6,7 +6,6 @@ use Rattle.std.proofs.lemmas.Grind.{get_or-set_at}
 use Rattle.std.proofs.lemmas.List.{get_or-set_other, length-set}
 use Rattle.nv_base.specs.declared.fault.Fault.TheVariants.{ActorBusy, ActorIdle}
 use Rattle.nv_base.specs.declared.geometry.GeometryNumbers.{GeometryNumbers}
-use Rattle.nv_machine.proofs.Reached.{reached}
 use Rattle.nv_machine.specs.Locks.{AreLocks}
 use Rattle.nv_calls.specs.declared.call.Call.{Call}
 use Rattle.nv_machine.specs.Sequence.{beginning, begun}
@@ -28,6 +27,7 @@ use Rattle.nv_core.specs.declared.event.Reply.{Reply}
 use Rattle.nv_core.specs.declared.event.Reply.TheVariants as reply
 use Rattle.nv_core.specs.declared.running.Running.{Running}
 use Rattle.nv_core.specs.declared.shared.Shared.{Shared}
+use Rattle.nv_machine.proofs.EveryWorld.{reached}
 use Rattle.nv_core.specs.declared.world.Actor.{Actor}
 
 -- the locks of a world that events have led to

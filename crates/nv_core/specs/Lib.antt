@@ -1,5 +1,6 @@
 pub mod Appends
 pub mod Audited
+pub mod Cleaning
 pub mod CommitSteps
 pub mod Committing
 pub mod Consistent

@@ -22,6 +22,7 @@ use Rattle.nv_calls.specs.declared.looked.Looked.{Looked}
 use Rattle.nv_calls.specs.declared.update.Update.{Update}
 use Rattle.nv_cell.specs.Cell.{CellValue}
 use Rattle.nv_machine.specs.Sequence.{directories, nothing_looked}
+use Rattle.nv_core.specs.Cleaning.{CanCompact, CanUnlink, TakesFresh}
 use Rattle.nv_core.specs.Committing.{IsCommitting}
 use Rattle.nv_core.specs.Nodes.{CanRead, wanted_over}
 use Rattle.nv_core.specs.Shown.{is_over, showing_of, slots_in}
@@ -74,8 +75,20 @@ abbrev pub IsOnBook : Next → Type 0
 IsOnBook (next.Maintenance (on.Show snapshot showing)) = ⊥
 IsOnBook (next.Maintenance (on.LockPicked draining picked)) = ⊥
 IsOnBook (next.Maintenance (on.Release draining picked)) = ⊥
+IsOnBook (next.Maintenance (on.LockCleaned log)) = ⊥
+IsOnBook (next.Maintenance (on.Judge manner slot)) = ⊥
+IsOnBook (next.Maintenance (on.Fresh fresh)) = ⊥
+IsOnBook (next.Maintenance (on.Unlink plan)) = ⊥
+IsOnBook (next.Maintenance (on.Compact plan)) = ⊥
 IsOnBook (next.Maintenance step) = Unit {0}
 IsOnBook other = ⊥
+
+-- one of a cleaner behind its judge
+abbrev pub IsCleaning : Next → Type 0
+IsCleaning (next.Maintenance (on.Fresh fresh)) = Unit {0}
+IsCleaning (next.Maintenance (on.Unlink plan)) = Unit {0}
+IsCleaning (next.Maintenance (on.Compact plan)) = Unit {0}
+IsCleaning other = ⊥
 
 abbrev pub IsShow : Next → Type 0
 IsShow (next.Maintenance (on.Show snapshot showing)) = Unit {0}
@@ -203,32 +216,36 @@ WantsBlocks wanted shared hand running =
     × IsChecked shared (slots_in running.slots) hand running.looked u ×
     (wanted ≡ blocks_to_take shared (slots_in running.slots) u)) running.job
 
--- ---- calls on snapshots
+-- ---- calls on snapshots, and cleaners
 
 -- a hand has room for a block once what it holds is given back
 abbrev pub HoldsOne : Hand → Type 0
 HoldsOne hand = 0 < hand.«data».room + length hand.«data».blocks
 
 -- a show has another visit to make; a drain releases no more than it may, and behind its first pick it has room for
--- the block of a record
-abbrev pub HasStepRoom : MaintenanceStep → Hand → Type 0
-HasStepRoom (on.Show snapshot showing) hand = is_over (showing_of showing) ≡ false
-HasStepRoom (on.Pick draining) hand = (draining.released + draining.left < DRAIN) × (0 < draining.released → HoldsOne hand)
-HasStepRoom (on.LockPicked draining picked) hand = (draining.released + draining.left < DRAIN) × HoldsOne hand
-HasStepRoom (on.Release draining picked) hand = (draining.released + draining.left < DRAIN) × HoldsOne hand
-HasStepRoom other hand = Unit {0}
+-- the block of a record; a cleaner has the walk of the cell that it holds, and room for the pages that move
+abbrev pub HasStepRoom : MaintenanceStep → Shared → Hand → Type 0
+HasStepRoom (on.Show snapshot showing) shared hand = is_over (showing_of showing) ≡ false
+HasStepRoom (on.Pick draining) shared hand =
+    (draining.released + draining.left < DRAIN) × (0 < draining.released → HoldsOne hand)
+HasStepRoom (on.LockPicked draining picked) shared hand = (draining.released + draining.left < DRAIN) × HoldsOne hand
+HasStepRoom (on.Release draining picked) shared hand = (draining.released + draining.left < DRAIN) × HoldsOne hand
+HasStepRoom (on.Fresh fresh) shared hand = TakesFresh shared hand fresh
+HasStepRoom (on.Unlink plan) shared hand = CanUnlink shared hand plan
+HasStepRoom (on.Compact plan) shared hand = CanCompact shared hand plan
+HasStepRoom other shared hand = Unit {0}
 
 -- so has one that goes on to its next record, and it is a call on snapshots
 abbrev pub CanDrain : Ending → Job → Hand → Type 0
 CanDrain (ending.Drains draining) j hand = IsMaintenance j × (draining.released + draining.left ≤ DRAIN) × HoldsOne hand
 CanDrain other j hand = Unit {0}
 
-abbrev pub HasNextRoom : Next → Ending → Job → Hand → Type 0
-HasNextRoom (next.Maintenance step) how j hand = HasStepRoom step hand
-HasNextRoom (next.Unlock place) how j hand = CanDrain how j hand
-HasNextRoom (next.Give cpu) how j hand = CanDrain how j hand
-HasNextRoom next.Back how j hand = CanDrain how j hand
-HasNextRoom other how j hand = Unit {0}
+abbrev pub HasNextRoom : Next → Ending → Job → Shared → Hand → Type 0
+HasNextRoom (next.Maintenance step) how j shared hand = HasStepRoom step shared hand
+HasNextRoom (next.Unlock place) how j shared hand = CanDrain how j hand
+HasNextRoom (next.Give cpu) how j shared hand = CanDrain how j hand
+HasNextRoom next.Back how j shared hand = CanDrain how j hand
+HasNextRoom other how j shared hand = Unit {0}
 
 -- what ends so is no drain that goes on
 abbrev pub IsNoDrain : Ending → Type 0
@@ -255,7 +272,7 @@ committing_cpu shared = unwrap_or shared.holder 0 % length shared.lists.items
 abbrev pub HasRooms : Shared → Hold → Running → Type 0
 HasRooms shared (hold.Hand hand) running =
     FitsCall running × IsHandOf shared.geometry.numbers hand × TakesIf (takes running.next) shared hand running
-    × HasNextRoom running.next running.ending running.job hand
+    × HasNextRoom running.next running.ending running.job shared hand
 HasRooms shared (hold.Ready ready) running =
     (running.job ≡ job.Given) × (running.ending ≡ ending.Answers) × IsHandOf shared.geometry.numbers ready.hand
     × IsReadyOver (lent_cells (slots_in running.slots) shared.cells.items) ready

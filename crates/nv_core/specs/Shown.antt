@@ -25,6 +25,8 @@ use Rattle.nv_core.specs.declared.next.Ending.{Ending}
 use Rattle.nv_core.specs.declared.next.Ending.TheVariants as ending
 use Rattle.nv_core.specs.declared.next.Next.{Next}
 use Rattle.nv_core.specs.declared.next.Next.TheVariants as next
+use Rattle.nv_core.specs.declared.next.Manner.{Manner}
+use Rattle.nv_core.specs.declared.next.Manner.TheVariants as manner
 use Rattle.nv_core.specs.declared.next.MaintenanceStep.{MaintenanceStep}
 use Rattle.nv_core.specs.declared.next.MaintenanceStep.TheVariants as on
 use Rattle.nv_core.specs.declared.running.Running.{Running}
@@ -92,6 +94,11 @@ is_over showing = (showing.left == 0) || is_none (next_handle showing.visits)
 abbrev pub draining_of : Draining → machine.Draining
 draining_of draining = record { released = draining.released; left = draining.left }
 
+abbrev pub manner_of : Manner → machine.Manner
+manner_of manner.Fast = machine.Fast
+manner_of manner.Thorough = machine.Thorough
+manner_of manner.Auto = machine.Auto
+
 abbrev pub step_on : MaintenanceStep → machine.MaintenanceStep
 step_on on.Make = machine.Make
 step_on (on.Drop snapshot) = machine.Drop snapshot
@@ -101,6 +108,11 @@ step_on (on.Unpin snapshot seen) = machine.Unpin snapshot seen.items
 step_on (on.Pick draining) = machine.Pick (draining_of draining)
 step_on (on.LockPicked draining picked) = machine.LockPicked (draining_of draining) picked
 step_on (on.Release draining picked) = machine.Release (draining_of draining) picked
+step_on (on.LockCleaned log) = machine.LockCleaned (manner_of log.manner) log.ino
+step_on (on.Judge manner slot) = machine.Judge (manner_of manner) slot
+step_on (on.Fresh fresh) = machine.Fresh fresh.plan.ino fresh.asked fresh.left
+step_on (on.Unlink plan) = machine.Unlink plan.ino
+step_on (on.Compact plan) = machine.Compact plan.ino
 
 abbrev pub next_of : Next → machine.Next
 next_of next.Number = machine.Number
@@ -135,6 +147,7 @@ ending_of ending.Answers = machine.Answers
 ending_of (ending.Refuses fault) = machine.Refuses fault
 ending_of ending.Overtaken = machine.Overtaken
 ending_of (ending.Drains draining) = machine.Drains (draining_of draining)
+ending_of (ending.Cleans cleaned) = machine.Cleans cleaned
 
 -- the numbers of the slots, by rising number
 abbrev pub slots_in : Slots → List ℕ

@@ -15,8 +15,8 @@ use Rattle.nv_cell.specs.declared.mark.Mark.TheVariants.{Kept}
 use Rattle.nv_cell.specs.Readers.{is_gone}
 use Rattle.nv_entry.specs.Log.{up_to}
 use Rattle.nv_epoch.specs.SnapList.{pins_of}
-use Rattle.nv_machine.specs.Hands.{AreGiven}
-use Rattle.nv_machine.specs.Locks.{slots_on}
+use Rattle.nv_machine.specs.Hands.{AreGiven, HandOn}
+use Rattle.nv_machine.specs.Sequence.{slots_on}
 use Rattle.nv_reader.specs.Cells.{NoneOut}
 use Rattle.nv_calls.specs.CanCommit.{TakesCommit}
 use Rattle.nv_calls.specs.Cells.{value_at}
@@ -31,6 +31,7 @@ use Rattle.nv_calls.specs.Updates.{blank_call}
 use Rattle.nv_cell.specs.Cell.{CellValue, log_of, mark_named}
 use Rattle.nv_machine.specs.Effects.{IsSoundIn}
 use Rattle.nv_machine.specs.World.{cell_at, empty_hand, list_at}
+use Rattle.nv_core.specs.Cleaning.{CanClean}
 use Rattle.nv_core.specs.Nodes.{CanRead}
 use Rattle.nv_core.specs.Parts.{AreHome, AreSlots, AreStill, IsOfDevice}
 use Rattle.nv_core.specs.Rooms.{hand_held}
@@ -99,13 +100,17 @@ pub record CanRelease (shared : Shared) (picked : Record) : Type 0 where
   pub generation : is_gone (log_of (cell_at (shared_of shared) picked.ino)) ≡ true
       → (cell_at (shared_of shared) picked.ino).generation < NUMBER
 
--- what a step of a call on snapshots is given
+-- what a step of a call on snapshots or of a cleaner is given
 abbrev pub GivenOn : MaintenanceStep → Shared → Type 0
 GivenOn (on.Pin snapshot) shared = ForSome (pins_of shared.book.state.snaps snapshot) (λ pins. pins < PINS)
 GivenOn (on.Show snapshot showing) shared = CanShow shared snapshot
 GivenOn (on.Unpin snapshot seen) shared = IsSomeAnd (pins_of shared.book.state.snaps snapshot) (λ pins. 0 < pins)
 GivenOn (on.LockPicked draining picked) shared = picked.ino < length shared.owners.items
 GivenOn (on.Release draining picked) shared = CanRelease shared picked
+GivenOn (on.LockCleaned log) shared = log.ino < length shared.owners.items
+GivenOn (on.Judge manner slot) shared = ForSome slot (λ ino. ino < length shared.cells.items)
+GivenOn (on.Unlink plan) shared = CanClean shared plan.ino
+GivenOn (on.Compact plan) shared = CanClean shared plan.ino
 GivenOn other shared = Unit {0}
 
 -- what the next step of a call is given that has its hand alone
@@ -120,7 +125,7 @@ Given next.Back shared hand running = CanPutBack shared hand
 Given next.Visit shared hand running =
     (slots_in running.slots ≡ []) × ((ino : ℕ) → HasOwnBytes (shared_of shared) ino) × (hand_of hand ≡ empty_hand)
 Given (next.Maintenance step) shared hand running =
-    (slots_in running.slots ≡ slots_on (step_on step)) × (hand_of hand ≡ empty_hand) × GivenOn step shared
+    (slots_in running.slots ≡ slots_on (step_on step)) × HandOn (step_on step) (hand_of hand) × GivenOn step shared
 Given other shared hand running = Unit {0}
 
 abbrev pub GivenBy : Shared → Hold → Running → ℕ → Type 0

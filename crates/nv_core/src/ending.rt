@@ -18,6 +18,7 @@ use crate::turn::Turn;
 use nv_alloc::Hand;
 use nv_base::Fault;
 use nv_calls::Answer;
+use nv_clean::Cleaned;
 
 /// What the call is answered at its last step.
 pub(crate) fn result_of(running: &Running) -> Result<Answer, Fault>
@@ -29,6 +30,18 @@ pub(crate) fn result_of(running: &Running) -> Result<Answer, Fault>
         Ending::Refuses(fault) => Err(fault),
         Ending::Overtaken => Err(Fault::Contended),
         Ending::Drains(draining) => Ok(Answer::Count(draining.released)),
+        Ending::Cleans(cleaned) => Ok(answer_of(cleaned)),
+    }
+}
+
+/// What a cleaner is answered.
+fn answer_of(cleaned: Cleaned) -> Answer
+    ensures { result ≡ Answer.Cleaned cleaned.thorough cleaned.entries cleaned.pages }
+{
+    Answer::Cleaned {
+        thorough: cleaned.thorough,
+        entries: cleaned.entries,
+        pages: cleaned.pages,
     }
 }
 
@@ -94,7 +107,9 @@ pub(crate) fn last(running: &mut Running) -> Turn
 {
     match running.ending {
         Ending::Drains(draining) => drained(draining, running),
-        Ending::Answers | Ending::Refuses(_) | Ending::Overtaken => Turn::Ends(result_of(running)),
+        Ending::Answers | Ending::Refuses(_) | Ending::Overtaken | Ending::Cleans(_) => {
+            Turn::Ends(result_of(running))
+        }
     }
 }
 
@@ -139,7 +154,7 @@ pub(crate) fn end_unlocked(shared: &Shared, hand: &Hand, running: &mut Running) 
     ensures rooms { HasRoomsAfter result shared.now (Hold.Hand hand.now) running.new }
 {
     match running.ending {
-        Ending::Answers | Ending::Refuses(_) | Ending::Drains(_) => {
+        Ending::Answers | Ending::Refuses(_) | Ending::Drains(_) | Ending::Cleans(_) => {
             give_back(shared, hand, running)
         }
         Ending::Overtaken => again(running),

@@ -3,17 +3,17 @@
 ghost use Rattle.std.specs.Prelude.{◌≡◌, ◌<◌, ◌+◌, ℕ, List, None, false, length, true};
 ghost use Rattle.nv_calls.specs.Prepared.{makes};
 ghost use Rattle.nv_machine.specs.Reads.{slots_of};
-ghost use Rattle.nv_machine.specs.Sequence.{begun, beginning, first_step, locking, looking, new_draining, nothing_looked};
+ghost use Rattle.nv_machine.specs.Sequence.{begun, beginning, first_clean, first_step, locking, looking, new_draining, nothing_looked, slots_on};
 ghost use Rattle.nv_base.specs.declared.limits.TheConstants.{DRAIN};
 ghost use Rattle.nv_machine.specs.World as machine;
 ghost use Rattle.nv_core.specs.Rooms.{FitsCall, FitsNext, HasNextRoom, HasRooms, HasStepRoom, IsHandOf, takes};
-ghost use Rattle.nv_core.specs.Shown.{Told, draining_of, next_of, shared_of, shown, slots_in, step_on};
+ghost use Rattle.nv_core.specs.Shown.{Told, draining_of, manner_of, next_of, shared_of, shown, slots_in, step_on};
 ghost use Rattle.nv_calls.specs.Updates.{call_of};
 ghost use Rattle.nv_core.specs.Told.{IsAtStart, IsChangeBy, IsJobOf, IsToldOf, is_change, looking_at, starting};
 
 use crate::hold::Hold;
 use crate::job::{Job, Owed, job_of, locked, look_count};
-use crate::next::{Draining, Ending, MaintenanceStep, Next};
+use crate::next::{Draining, Ending, MaintenanceStep, Manner, Next, ToClean};
 use crate::shared::Shared;
 use crate::slots::Slots;
 use crate::turn::Turn;
@@ -49,8 +49,8 @@ pub(crate) fn locking(place: usize, slots: &Slots) -> Next
     ensures next { next_of result ≡ locking place (slots_in slots.now) }
     ensures before { (job : Job) → is_change job ≡ true → FitsNext result job }
     ensures none { takes result ≡ false }
-    ensures room { (how : Ending) (job : Job) (hand : Hand)
-        → HasNextRoom result how job hand }
+    ensures room { (how : Ending) (job : Job) (shared : Shared) (hand : Hand)
+        → HasNextRoom result how job shared hand }
 {
     if place < slots.len() {
         return Next::Lock(place);
@@ -65,8 +65,8 @@ pub(crate) fn looking(place: usize, update: &Update, slots: &Slots) -> Next
     ensures before { (job : Job) (plan : Plan) → IsChangeBy job plan → plan.update ≡ update.now
         → FitsNext result job }
     ensures none { takes result ≡ false }
-    ensures room { (how : Ending) (job : Job) (hand : Hand)
-        → HasNextRoom result how job hand }
+    ensures room { (how : Ending) (job : Job) (shared : Shared) (hand : Hand)
+        → HasNextRoom result how job shared hand }
 {
     if place < look_count(update) {
         return Next::Look(place);
@@ -97,28 +97,49 @@ fn first_step(inodes: u64, job: &Job, looked: &Looked) -> (Next, Slots)
         (next_of result.0 ≡ first.next) × (slots_in result.1 ≡ first.slots) }
     ensures before { FitsNext result.0 job.now }
     ensures none { takes result.0 ≡ false }
-    ensures room { (how : Ending) (job : Job) (hand : Hand)
-        → HasNextRoom result.0 how job hand }
+    ensures room { (how : Ending) (job : Job) (shared : Shared) (hand : Hand)
+        → HasNextRoom result.0 how job shared hand }
 {
     let none = Slots::none();
     match job {
         Job::Change(Plan { update, .. }, _) => first_of_change(inodes, update, looked),
-        Job::Maintenance(call) => (Next::Maintenance(first_of_maintenance(call)), none),
+        Job::Maintenance(call) => {
+            let (step, slots) = first_of_maintenance(inodes, call);
+            (Next::Maintenance(step), slots)
+        }
         Job::Visit(_) | Job::Given => (Next::Visit, none),
     }
 }
 
-/// The first step of a call on snapshots.
-fn first_of_maintenance(call: &MaintenanceCall) -> MaintenanceStep
-    ensures step { step_on result ≡ first_step call.now }
-    ensures room { (hand : Hand) → HasStepRoom result hand }
+/// The first step of a call on snapshots or of a cleaner, and the slot that it locks, if any.
+fn first_of_maintenance(inodes: u64, call: &MaintenanceCall) -> (MaintenanceStep, Slots)
+    ensures step { step_on result.0 ≡ first_step inodes call.now }
+    ensures slots { slots_in result.1 ≡ slots_on (first_step inodes call.now) }
+    ensures room { (shared : Shared) (hand : Hand) → HasStepRoom result.0 shared hand }
 {
-    match call {
+    let step = match call {
         MaintenanceCall::Snap => MaintenanceStep::Make,
         MaintenanceCall::Drop(snapshot) => MaintenanceStep::Drop(snapshot.number()),
         MaintenanceCall::Show(snapshot) => MaintenanceStep::Pin(snapshot.number()),
         MaintenanceCall::Drain(number) => MaintenanceStep::Pick(new_draining(*number)),
+        MaintenanceCall::Fast(ino) => return first_clean(inodes, Manner::Fast, *ino),
+        MaintenanceCall::Thorough(ino) => return first_clean(inodes, Manner::Thorough, *ino),
+        MaintenanceCall::Auto(ino) => return first_clean(inodes, Manner::Auto, *ino),
+    };
+    (step, Slots::none())
+}
+
+/// A cleaner locks the slot of its number, if there are that many. A number without a slot is judged at once.
+fn first_clean(inodes: u64, manner: Manner, ino: Ino) -> (MaintenanceStep, Slots)
+    ensures step { step_on result.0 ≡ first_clean inodes (manner_of manner) ino }
+    ensures slots { slots_in result.1 ≡ slots_on (first_clean inodes (manner_of manner) ino) }
+    ensures room { (shared : Shared) (hand : Hand) → HasStepRoom result.0 shared hand }
+{
+    if ino.number() < inodes {
+        let log = ToClean { manner, ino };
+        return (MaintenanceStep::LockCleaned(log), Slots::one(ino));
     }
+    (MaintenanceStep::Judge(manner, None), Slots::none())
 }
 
 /// A drain that may release so many records. A number outside 1 to [`limits::DRAIN`] counts as the nearest of these.
@@ -142,8 +163,8 @@ fn first_of_change(inodes: u64, update: &Update, looked: &Looked) -> (Next, Slot
     ensures before { (job : Job) (plan : Plan) → IsChangeBy job plan → plan.update ≡ update.now
         → FitsNext result.0 job }
     ensures none { takes result.0 ≡ false }
-    ensures room { (how : Ending) (job : Job) (hand : Hand)
-        → HasNextRoom result.0 how job hand }
+    ensures room { (how : Ending) (job : Job) (shared : Shared) (hand : Hand)
+        → HasNextRoom result.0 how job shared hand }
 {
     let none = Slots::none();
     match update {

@@ -1,4 +1,4 @@
-//! The steps of calls on snapshots.
+//! The steps of calls on snapshots, and of cleaners.
 
 ghost use Rattle.std.specs.Prelude.{◌≡◌, []};
 ghost use Rattle.nv_machine.specs.Step.{kind_turn};
@@ -10,8 +10,10 @@ ghost use Rattle.nv_core.specs.Told.{IsEither, KeepsJob};
 ghost use Rattle.nv_machine.specs.Locks.{held_at};
 
 use crate::hold::Hold;
+use crate::kinds::clean::{clean, lock_cleaned};
 use crate::kinds::drain::{lock_picked, pick};
 use crate::kinds::drop_snapshot::drop_snapshot;
+use crate::kinds::judge::judge;
 use crate::kinds::make_snapshot::make_snapshot;
 use crate::kinds::release::release;
 use crate::kinds::show::{pin, show, unpin};
@@ -22,7 +24,7 @@ use crate::turn::Turn;
 use nv_alloc::Hand;
 use std::alloc::Global;
 
-/// A step of a call on snapshots.
+/// A step of a call on snapshots, or of a cleaner.
 pub(crate) fn maintain(
     alloc: Global,
     shared: &mut Shared,
@@ -52,6 +54,15 @@ pub(crate) fn maintain(
         Next::Maintenance(MaintenanceStep::Release(draining, picked)) => {
             release(shared, hand, running, draining, picked)
         }
+        Next::Maintenance(MaintenanceStep::LockCleaned(log)) => {
+            lock_cleaned(shared, running, actor, log)
+        }
+        Next::Maintenance(MaintenanceStep::Judge(manner, slot)) => {
+            judge(alloc, shared, hand, running, manner, slot)
+        }
+        Next::Maintenance(
+            MaintenanceStep::Fresh(_) | MaintenanceStep::Unlink(_) | MaintenanceStep::Compact(_),
+        ) => clean(shared, hand, running, actor),
         _ => on_book(alloc, shared, hand, running, actor),
     }
 }

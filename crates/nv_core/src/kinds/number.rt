@@ -50,8 +50,8 @@ fn go_on(inodes: u64, running: &mut Running, number: Option<Ino>) -> Turn
     ensures job { KeepsJob running.old running.new }
     ensures fits { FitsCall running.new }
     ensures none { takes running.new.next ≡ false }
-    ensures room { (how : Ending) (job : Job) (hand : Hand)
-        → HasNextRoom running.new.next how job hand }
+    ensures room { (how : Ending) (job : Job) (shared : Shared) (hand : Hand)
+        → HasNextRoom running.new.next how job shared hand }
     ensures moves { result ≡ Turn.Moves }
 {
     let update = &running.plan().update;

@@ -52,7 +52,7 @@ pub(crate) fn pin(alloc: Global, shared: &mut Shared, running: &mut Running, sna
 /// The next visit, or the end where there is none.
 fn showing_on(snapshot: u64, showing: Showing) -> MaintenanceStep
     ensures step { step_on result ≡ showing_on snapshot (showing_of showing) }
-    ensures room { (hand : Hand) → HasStepRoom result hand }
+    ensures room { (shared : Shared) (hand : Hand) → HasStepRoom result shared hand }
 {
     if showing.is_over() {
         let Showing { seen, .. } = showing;

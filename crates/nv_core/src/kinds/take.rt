@@ -143,7 +143,7 @@ pub(crate) fn take_pages(
 
 /// Takes the lowest blocks of the list at a place, counted from the first one round and round, and
 /// says how many.
-fn take_from(shared: &mut Shared, queue: &mut BlockQueue, wanted: u64, place: u64) -> u64
+pub(crate) fn take_from(shared: &mut Shared, queue: &mut BlockQueue, wanted: u64, place: u64) -> u64
     requires limits { IsWithinLimits shared.old.geometry.numbers }
     requires home { AreHome shared.old }
     requires room { wanted ≤ queue.old.room }

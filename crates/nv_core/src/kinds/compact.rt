@@ -1,0 +1,47 @@
+//! A cleaner moves the entries that stay to fresh log pages.
+
+ghost use Rattle.std.specs.Prelude.{◌≡◌, ◌≢◌, ◌∷◌, ℕ, []};
+ghost use Rattle.nv_machine.specs.Cleaning.{compact_turn};
+ghost use Rattle.nv_core.specs.Cleaning.{CanClean, CanCompact, IsMaintaining};
+ghost use Rattle.nv_core.specs.Frames.{LeavesRest};
+ghost use Rattle.nv_core.specs.Parts.{AreHome};
+ghost use Rattle.nv_core.specs.Rooms.{HasRoomsAfter, IsHandOf};
+ghost use Rattle.nv_core.specs.Shown.{Told, hand_of, shared_of, shown, turn_of};
+ghost use Rattle.nv_core.specs.Told.{KeepsJob};
+ghost use Rattle.nv_machine.specs.Hands.{HasPagesAlone};
+
+use crate::ending::end;
+use crate::hold::Hold;
+use crate::next::{CompactPlan, Ending};
+use crate::running::Running;
+use crate::shared::Shared;
+use crate::turn::Turn;
+use nv_alloc::Hand;
+use nv_clean::thorough_on;
+
+/// Moves the entries that the judge found to stay, and takes the old pages into the hand. The call turns to its last
+/// steps.
+pub(crate) fn compact(
+    shared: &mut Shared,
+    hand: &mut Hand,
+    running: &mut Running,
+    plan: CompactPlan,
+) -> Turn
+    requires home { AreHome shared.old }
+    requires sized { IsHandOf shared.old.geometry.numbers hand.old }
+    requires call { IsMaintaining running.old }
+    requires can { CanClean shared.old plan.ino }
+    requires alone { HasPagesAlone (hand_of hand.old) }
+    requires plan { CanCompact shared.old hand.old plan }
+    ensures turn { (told : Told) → compact_turn plan.ino (shared_of shared.old) (hand_of hand.old)
+        (shown told running.old)
+        ≡ turn_of result (shared_of shared.new) (hand_of hand.new) (shown told running.new) }
+    ensures job { KeepsJob running.old running.new }
+    ensures goes { result ≢ Turn.Waits }
+    ensures rooms { HasRoomsAfter result shared.new (Hold.Hand hand.new) running.new }
+    ensures rest { (actor : ℕ) → LeavesRest actor (plan.ino ∷ []) shared.old shared.new }
+{
+    let CompactPlan { ino, walk } = plan;
+    let cleaned = thorough_on(&mut shared.cells[ino.number() as usize], walk, hand);
+    end(shared, hand, running, Ending::Cleans(cleaned))
+}

@@ -1,0 +1,81 @@
+//! A cleaner takes the log pages that the entries fill which stay.
+
+ghost use Rattle.std.specs.Prelude.{◌≡◌, ◌≢◌, ◌+◌, ◌-◌, ◌<◌, ◌^◌, length, nat_lt};
+ghost use Rattle.nv_base.specs.Limits.{IsWithinLimits};
+ghost use Rattle.nv_machine.specs.Cleaning.{fresh_turn, take_fresh_turn};
+ghost use Rattle.nv_machine.specs.Kinds.{asked_list};
+ghost use Rattle.nv_core.specs.Cleaning.{IsMaintaining, TakesFresh};
+ghost use Rattle.nv_core.specs.Parts.{AreHome, IsOfDevice};
+ghost use Rattle.nv_core.specs.Rooms.{HasRoomsAfter, IsHandOf};
+ghost use Rattle.nv_core.specs.Shown.{Told, hand_of, shared_of, shown, turn_of};
+ghost use Rattle.nv_core.specs.Told.{KeepsJob};
+
+use crate::ending::refuse;
+use crate::hold::Hold;
+use crate::kinds::take::take_from;
+use crate::next::{FreshPages, MaintenanceStep, Next};
+use crate::running::Running;
+use crate::shared::Shared;
+use crate::turn::Turn;
+use nv_alloc::Hand;
+use nv_base::Fault;
+
+/// Takes log pages from one list, its lowest blocks. The next list is asked for those that are still wanted, if there is one.
+pub(crate) fn take_fresh(
+    shared: &mut Shared,
+    hand: &mut Hand,
+    running: &mut Running,
+    actor: u64,
+    fresh: FreshPages,
+) -> Turn
+    requires limits { IsWithinLimits shared.old.geometry.numbers }
+    requires home { AreHome shared.old }
+    requires device { IsOfDevice shared.old.geometry.numbers hand.old }
+    requires sized { IsHandOf shared.old.geometry.numbers hand.old }
+    requires call { IsMaintaining running.old }
+    requires takes { TakesFresh shared.old hand.old fresh }
+    requires small { actor + fresh.asked < 2 ^ 64 - 1 }
+    ensures turn { (told : Told) → let s = shared_of shared.old in
+        take_fresh_turn (asked_list (length s.lists) actor fresh.asked) fresh.plan.ino fresh.asked
+        fresh.left s (hand_of hand.old) (shown told running.old)
+        ≡ turn_of result (shared_of shared.new) (hand_of hand.new) (shown told running.new) }
+    ensures job { KeepsJob running.old running.new }
+    ensures goes { result ≢ Turn.Waits }
+    ensures rooms { HasRoomsAfter result shared.new (Hold.Hand hand.new) running.new }
+    ensures rest { shared.new ≡ record shared.old { lists = shared.new.lists } }
+    ensures count { length shared.new.lists.items ≡ length shared.old.lists.items }
+{
+    let FreshPages { asked, left, plan } = fresh;
+    let left = left - take_from(shared, &mut hand.pages, left, actor + asked);
+    ask_on(shared, hand, running, FreshPages { asked, left, plan })
+}
+
+/// A list was asked. Where no page is wanted any more, the entries move next; else the next list is asked, if there is one.
+fn ask_on(shared: &Shared, hand: &Hand, running: &mut Running, fresh: FreshPages) -> Turn
+    requires home { AreHome shared.now }
+    requires device { IsOfDevice shared.now.geometry.numbers hand.now }
+    requires sized { IsHandOf shared.now.geometry.numbers hand.now }
+    requires call { IsMaintaining running.old }
+    requires takes { TakesFresh shared.now hand.now fresh }
+    requires small { fresh.asked < 2 ^ 64 - 1 }
+    ensures turn { (told : Told) → let s = shared_of shared.now in let h = hand_of hand.now in
+        fresh_turn fresh.left (nat_lt (fresh.asked + 1) (length s.lists)) fresh.plan.ino fresh.asked
+        s h (shown told running.old)
+        ≡ turn_of result s h (shown told running.new) }
+    ensures job { KeepsJob running.old running.new }
+    ensures goes { result ≢ Turn.Waits }
+    ensures rooms { HasRoomsAfter result shared.now (Hold.Hand hand.now) running.new }
+{
+    let FreshPages { asked, left, plan } = fresh;
+    if left == 0 {
+        running.next = Next::Maintenance(MaintenanceStep::Compact(plan));
+        return Turn::Moves;
+    }
+    let asked = asked + 1;
+    if asked < shared.lists.len() as u64 {
+        let fresh = FreshPages { asked, left, plan };
+        running.next = Next::Maintenance(MaintenanceStep::Fresh(fresh));
+        return Turn::Moves;
+    }
+    refuse(shared, hand, running, Fault::NoSpace)
+}

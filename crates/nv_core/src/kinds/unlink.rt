@@ -1,0 +1,46 @@
+//! A cleaner unlinks the log pages that nothing needs.
+
+ghost use Rattle.std.specs.Prelude.{◌≡◌, ◌≢◌, ◌∷◌, ℕ, []};
+ghost use Rattle.nv_machine.specs.Cleaning.{unlink_turn};
+ghost use Rattle.nv_machine.specs.World.{empty_hand};
+ghost use Rattle.nv_core.specs.Cleaning.{CanClean, CanUnlink, IsMaintaining};
+ghost use Rattle.nv_core.specs.Frames.{LeavesRest};
+ghost use Rattle.nv_core.specs.Parts.{AreHome};
+ghost use Rattle.nv_core.specs.Rooms.{HasRoomsAfter, IsHandOf};
+ghost use Rattle.nv_core.specs.Shown.{Told, hand_of, shared_of, shown, turn_of};
+ghost use Rattle.nv_core.specs.Told.{KeepsJob};
+
+use crate::ending::end;
+use crate::hold::Hold;
+use crate::next::{Ending, UnlinkPlan};
+use crate::running::Running;
+use crate::shared::Shared;
+use crate::turn::Turn;
+use nv_alloc::Hand;
+use nv_clean::fast_on;
+
+/// Unlinks the pages that the judge found, also where there is none. The call turns to its last steps.
+pub(crate) fn unlink(
+    shared: &mut Shared,
+    hand: &mut Hand,
+    running: &mut Running,
+    plan: UnlinkPlan,
+) -> Turn
+    requires home { AreHome shared.old }
+    requires sized { IsHandOf shared.old.geometry.numbers hand.old }
+    requires call { IsMaintaining running.old }
+    requires can { CanClean shared.old plan.ino }
+    requires empty { hand_of hand.old ≡ empty_hand }
+    requires plan { CanUnlink shared.old hand.old plan }
+    ensures turn { (told : Told) → unlink_turn plan.ino (shared_of shared.old) (hand_of hand.old)
+        (shown told running.old)
+        ≡ turn_of result (shared_of shared.new) (hand_of hand.new) (shown told running.new) }
+    ensures job { KeepsJob running.old running.new }
+    ensures goes { result ≢ Turn.Waits }
+    ensures rooms { HasRoomsAfter result shared.new (Hold.Hand hand.new) running.new }
+    ensures rest { (actor : ℕ) → LeavesRest actor (plan.ino ∷ []) shared.old shared.new }
+{
+    let UnlinkPlan { ino, walk } = plan;
+    let cleaned = fast_on(&mut shared.cells[ino.number() as usize], walk, hand);
+    end(shared, hand, running, Ending::Cleans(cleaned))
+}
