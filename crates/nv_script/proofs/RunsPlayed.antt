@@ -14,7 +14,7 @@ use Rattle.nv_machine.specs.Format.{formatted}
 use Rattle.nv_machine.specs.Starts.{IsStart}
 use Rattle.nv_machine.specs.Step.{after, step}
 use Rattle.nv_machine.specs.World.{Event, Reply, Start, Started, World}
-use Rattle.nv_machine.proofs.FromScratch.{all_numbers}
+use Rattle.nv_machine.proofs.EveryWorld.{all_numbers}
 use Rattle.nv_machine.proofs.NewStart.{new_start}
 use Rattle.nv_core.specs.Whole.{RunsFrom, Runs}
 use Rattle.nv_core.specs.declared.reports.LogCounts.{LogCounts}

@@ -11,7 +11,7 @@ use Rattle.nv_base.specs.declared.numbers.Handle.{Handle}
 use Rattle.nv_calls.specs.declared.call.Call.{Call}
 use Rattle.nv_calls.specs.declared.call.Call.TheVariants as call
 use Rattle.nv_calls.specs.declared.maintenance_call.MaintenanceCall.{MaintenanceCall}
-use Rattle.nv_calls.specs.declared.maintenance_call.MaintenanceCall.TheVariants as snapshots
+use Rattle.nv_calls.specs.declared.maintenance_call.MaintenanceCall.TheVariants as maintenance
 use Rattle.nv_script.specs.declared.call.CallWord.{CallWord}
 use Rattle.nv_script.specs.declared.call.CallWord.TheVariants as calls
 use Rattle.nv_script.specs.declared.command.Command.{Command}
@@ -90,15 +90,19 @@ row calls.Unlink = entry (codes "unlink") (field.Handle ∷ field.Text ∷ []) (
 row calls.Rmdir = entry (codes "rmdir") (field.Handle ∷ field.Text ∷ []) (λ dir name. call.Rmdir dir name)
 row calls.Rename =
     entry (codes "rename") (field.Handle ∷ field.Text ∷ field.Handle ∷ field.Text ∷ []) (λ from old to new. call.Rename from old to new)
-row calls.Snap = entry (codes "snap") [] (call.Maintenance snapshots.Snap)
-row calls.Drop = entry (codes "drop") (field.Number ∷ []) (λ s. call.Maintenance (snapshots.Drop s))
-row calls.Show = entry (codes "show") (field.Number ∷ []) (λ s. call.Maintenance (snapshots.Show s))
-row calls.Drain = entry (codes "drain") (field.Records ∷ []) (λ most. call.Maintenance (snapshots.Drain most))
+row calls.Snap = entry (codes "snap") [] (call.Maintenance maintenance.Snap)
+row calls.Drop = entry (codes "drop") (field.Number ∷ []) (λ s. call.Maintenance (maintenance.Drop s))
+row calls.Show = entry (codes "show") (field.Number ∷ []) (λ s. call.Maintenance (maintenance.Show s))
+row calls.Drain = entry (codes "drain") (field.Records ∷ []) (λ most. call.Maintenance (maintenance.Drain most))
+row calls.Fast = entry (codes "fast") (field.Number ∷ []) (λ ino. call.Maintenance (maintenance.Fast ino))
+row calls.Thorough = entry (codes "thorough") (field.Number ∷ []) (λ ino. call.Maintenance (maintenance.Thorough ino))
+row calls.Auto = entry (codes "auto") (field.Number ∷ []) (λ ino. call.Maintenance (maintenance.Auto ino))
 
 abbrev pub all_calls : List CallWord
 all_calls =
     calls.Create ∷ calls.Mkdir ∷ calls.Write ∷ calls.Read ∷ calls.Size ∷ calls.Mode ∷ calls.Stat ∷ calls.List
-    ∷ calls.Lookup ∷ calls.Unlink ∷ calls.Rmdir ∷ calls.Rename ∷ calls.Snap ∷ calls.Drop ∷ calls.Show ∷ calls.Drain ∷ []
+    ∷ calls.Lookup ∷ calls.Unlink ∷ calls.Rmdir ∷ calls.Rename ∷ calls.Snap ∷ calls.Drop ∷ calls.Show ∷ calls.Drain
+    ∷ calls.Fast ∷ calls.Thorough ∷ calls.Auto ∷ []
 
 abbrev pub name_in : Row → List ℕ
 name_in (entry name fields make) = name
@@ -131,16 +135,22 @@ reads_or_unbinds calls.Snap = false
 reads_or_unbinds calls.Drop = false
 reads_or_unbinds calls.Show = false
 reads_or_unbinds calls.Drain = false
+reads_or_unbinds calls.Fast = false
+reads_or_unbinds calls.Thorough = false
+reads_or_unbinds calls.Auto = false
 
--- the calls on snapshots
+-- the calls on snapshots, and the cleaners
 abbrev pub is_maintenance : CallWord → Bool
 is_maintenance calls.Snap = true
 is_maintenance calls.Drop = true
 is_maintenance calls.Show = true
 is_maintenance calls.Drain = true
+is_maintenance calls.Fast = true
+is_maintenance calls.Thorough = true
+is_maintenance calls.Auto = true
 is_maintenance other = false
 
--- a call on snapshots that was read
+-- such a call that was read
 abbrev pub maintenance_read : Parsed MaintenanceCall → Parsed Call
 maintenance_read (Ok c) = Ok (call.Maintenance c)
 maintenance_read (Err fault) = Err fault

@@ -1,5 +1,5 @@
 -- The texts of replies and reports.
-use Rattle.std.specs.Prelude.{ℕ, ◌+◌, ◌==◌, if◌then◌else◌, List, [], ◌∷◌, ◌++◌, length, codes, decimal}
+use Rattle.std.specs.Prelude.{ℕ, ◌+◌, ◌==◌, Bool, true, false, if◌then◌else◌, List, [], ◌∷◌, ◌++◌, length, codes, decimal}
 use Rattle.std.specs.List.{flat_map}
 use Rattle.nv_base.specs.Texts.{fault_text}
 use Rattle.nv_base.specs.declared.fault.Fault.{Fault}
@@ -63,6 +63,14 @@ node_line node = line_of (path_text node.path ++ codes " " ++ kind_text node.nod
 abbrev pub tree_lines : List TreeNode → List ℕ
 tree_lines nodes = flat_map node_line nodes ++ line_of (codes "end")
 
+-- the name of a cleaning, and how many entries and pages the log lost
+abbrev pub cleaning_name : Bool → List ℕ
+cleaning_name true = codes "thorough"
+cleaning_name false = codes "fast"
+
+abbrev pub cleaned_text : Bool → (entries pages : ℕ) → List ℕ
+cleaned_text thorough entries pages = (codes " " ++ cleaning_name thorough ++ codes " ") ++ decimal entries ++ codes " " ++ decimal pages
+
 -- what an answer shows behind the word `done`
 abbrev pub answer_text : Answer → List ℕ
 answer_text (answer.Made handle) = codes " " ++ handle_text handle
@@ -74,6 +82,7 @@ answer_text (answer.Stat kind mode size commit) =
 answer_text (answer.Names names) = codes " " ++ decimal (length names) ++ flat_map bound_text names
 answer_text (answer.Snapshot s) = codes " " ++ decimal s
 answer_text (answer.Tree nodes) = codes "\n" ++ flat_map node_line nodes ++ codes "end"
+answer_text (answer.Cleaned thorough entries pages) = cleaned_text thorough entries pages
 
 abbrev pub reply_line : Reply → List ℕ
 reply_line Started = line_of (codes "started")

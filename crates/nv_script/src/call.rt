@@ -6,7 +6,7 @@ ghost use Rattle.nv_script.specs.Grammar.{Reads, all_calls, call_with, fields_in
 
 use crate::fault::LineFault;
 use crate::field::{Field, handle_at, mode_at, number_at, records_at, text_at, word_at};
-use nv_base::{Epoch, ScriptFaultKind};
+use nv_base::{Epoch, Ino, ScriptFaultKind};
 use nv_core::{Call, MaintenanceCall};
 use std::alloc::Global;
 
@@ -29,6 +29,9 @@ pub(crate) enum CallWord {
     Drop,
     Show,
     Drain,
+    Fast,
+    Thorough,
+    Auto,
 }
 
 /// A row of the table of calls: the name, and what the words after it are.
@@ -39,7 +42,7 @@ pub(crate) struct CallRow {
 }
 
 impl CallWord {
-    const ALL: [CallWord; 16] = [
+    const ALL: [CallWord; 19] = [
         CallWord::Create,
         CallWord::Mkdir,
         CallWord::Write,
@@ -56,6 +59,9 @@ impl CallWord {
         CallWord::Drop,
         CallWord::Show,
         CallWord::Drain,
+        CallWord::Fast,
+        CallWord::Thorough,
+        CallWord::Auto,
     ];
 
     /// The table of calls.
@@ -89,6 +95,9 @@ impl CallWord {
             CallWord::Drop => b"drop",
             CallWord::Show => b"show",
             CallWord::Drain => b"drain",
+            CallWord::Fast => b"fast",
+            CallWord::Thorough => b"thorough",
+            CallWord::Auto => b"auto",
         }
     }
 
@@ -107,6 +116,7 @@ impl CallWord {
             CallWord::Rename => &[Field::Handle, Field::Text, Field::Handle, Field::Text],
             CallWord::Snap => &[],
             CallWord::Drop | CallWord::Show => &[Field::Number],
+            CallWord::Fast | CallWord::Thorough | CallWord::Auto => &[Field::Number],
             CallWord::Drain => &[Field::Records],
         }
     }
@@ -166,9 +176,13 @@ impl CallWord {
                 handle: handle_at(words, 3)?,
                 mode: mode_at(words, 4)?,
             }),
-            CallWord::Snap | CallWord::Drop | CallWord::Show | CallWord::Drain => {
-                Ok(Call::Maintenance(self.read_maintenance(words)?))
-            }
+            CallWord::Snap
+            | CallWord::Drop
+            | CallWord::Show
+            | CallWord::Drain
+            | CallWord::Fast
+            | CallWord::Thorough
+            | CallWord::Auto => { Ok(Call::Maintenance(self.read_maintenance(words)?)) }
             _ => self.read_names(alloc, words),
         }
     }
@@ -207,7 +221,7 @@ impl CallWord {
         }
     }
 
-    /// The calls on snapshots.
+    /// The calls on snapshots, and the cleaners.
     fn read_maintenance(self, words: &[&[u8]]) -> Result<MaintenanceCall, ScriptFaultKind>
         requires { is_maintenance self ≡ true }
         ensures { maintenance_read result ≡ call_with self (texts words.now) }
@@ -217,6 +231,9 @@ impl CallWord {
             CallWord::Drop => Ok(MaintenanceCall::Drop(Epoch::new(number_at(words, 3)?))),
             CallWord::Show => Ok(MaintenanceCall::Show(Epoch::new(number_at(words, 3)?))),
             CallWord::Drain => Ok(MaintenanceCall::Drain(records_at(words, 3)?)),
+            CallWord::Fast => Ok(MaintenanceCall::Fast(Ino::new(number_at(words, 3)?))),
+            CallWord::Thorough => Ok(MaintenanceCall::Thorough(Ino::new(number_at(words, 3)?))),
+            CallWord::Auto => Ok(MaintenanceCall::Auto(Ino::new(number_at(words, 3)?))),
             _ => unreachable!(),
         }
     }

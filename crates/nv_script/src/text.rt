@@ -2,7 +2,7 @@
 
 ghost use Rattle.std.specs.Prelude.{◌≡◌, ◌++◌, IfOk, OnOk, codes, decimal, string_bytes};
 ghost use Rattle.nv_base.specs.Texts.{bracketed, fault_text, script_fault_name};
-ghost use Rattle.nv_script.specs.Texts.{answer_text, bound_text, counted_bytes, counts_text, handle_text, kind_text, letter, lists_lines, log_line, names_text, node_line, path_text, refused_line, reply_line, run_text, runs_text, snap_line, snaps_lines, space_line};
+ghost use Rattle.nv_script.specs.Texts.{answer_text, bound_text, cleaned_text, cleaning_name, counted_bytes, counts_text, handle_text, kind_text, letter, lists_lines, log_line, names_text, node_line, path_text, refused_line, reply_line, run_text, runs_text, snap_line, snaps_lines, space_line};
 ghost use Rattle.std.specs.List.{flat_map};
 ghost use Rattle.nv_machine.specs.World.{Done};
 ghost use Rattle.nv_core.specs.Whole.{last_reply};
@@ -127,6 +127,30 @@ fn push_mode(out: &mut Vec<u8>, kind: Kind, mode: Mode) -> Result<(), AllocError
     push_labelled(out, b" ", u64::from(mode.bits()))
 }
 
+/// The name of a cleaning, between spaces.
+fn cleaning(thorough: bool) -> &'static [u8]
+    ensures { result.now ≡ codes " " ++ cleaning_name thorough ++ codes " " }
+{
+    if thorough {
+        return b" thorough ";
+    }
+    b" fast "
+}
+
+/// Adds which cleaning was made, and how many entries and pages the log lost.
+fn push_cleaned(
+    out: &mut Vec<u8>,
+    thorough: bool,
+    entries: u64,
+    pages: u64,
+) -> Result<(), AllocError>
+    ensures { OnOk result (out.new.items
+        ≡ out.old.items ++ cleaned_text thorough entries pages) }
+{
+    push_labelled(out, cleaning(thorough), entries)?;
+    push_labelled(out, b" ", pages)
+}
+
 /// Adds what an answer shows behind the word `done`.
 fn push_answer(out: &mut Vec<u8>, answer: &Answer) -> Result<(), AllocError>
     ensures { OnOk result (out.new.items ≡ out.old.items ++ answer_text answer.now) }
@@ -164,6 +188,11 @@ fn push_answer(out: &mut Vec<u8>, answer: &Answer) -> Result<(), AllocError>
             push_nodes(out, tree.as_slice())?;
             out.extend_from_slice(b"end")
         }
+        Answer::Cleaned {
+            thorough,
+            entries,
+            pages,
+        } => push_cleaned(out, *thorough, *entries as u64, *pages as u64),
     }
 }
 

@@ -30,7 +30,12 @@ directory 0.1 with mode 420 (octal 644), and list all. 'novacore play first.nova
 
 Commands: format, do, start, go, run, tree, stree, snaps, space, lists, log, audit.
 Calls, which follow 'do' or 'start' and the number of an actor: create, mkdir, write, read, size,
-mode, stat, list, lookup, unlink, rmdir, rename; and on snapshots snap, drop, show, drain.
+mode, stat, list, lookup, unlink, rmdir, rename; on snapshots snap, drop, show, drain; and, to clean
+the log of a file or directory, fast, thorough, auto and the number of its inode. 'fast 1' unlinks
+the log pages of which nothing is needed. 'thorough 1' moves what is needed to as few pages as it
+fills, and wants these pages free before it gives any back. 'auto 1' does as thorough where less
+than half would stay, and else as fast. They are answered 'done fast E P' or 'done thorough E P',
+how many entries and pages the log lost, and the tree and all snapshots stay as they are.
 'do' makes a call whole; 'start', 'go' and 'run' take it step by step, between the steps of other
 actors.
 
