@@ -8,6 +8,7 @@
 //! look and its check, and there are two other calls at most.
 
 mod blocks;
+mod lost;
 mod same;
 mod says;
 mod scene;

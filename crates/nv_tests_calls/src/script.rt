@@ -1,5 +1,6 @@
 //! Lines, words and whole scripts with their ends. What scripts write comes from worked examples.
 
+mod cleaners;
 mod ends;
 mod faults;
 mod growths;

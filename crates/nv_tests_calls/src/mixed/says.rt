@@ -1,13 +1,14 @@
-//! The twelve calls on files and directories, each on several nodes of what is prepared, and the four on snapshots.
+//! The twelve calls on files and directories, each on several nodes of what is prepared, the four on snapshots, and the
+//! three cleaners.
 
-use nv_base::{Bytes, Epoch, Mode};
+use nv_base::{Bytes, Epoch, Ino, Mode};
 use nv_core::{Call, MaintenanceCall};
 use nv_scenes::{below, handle};
 use std::alloc::Global;
 use std::test::Fail;
 
-/// A call: the inode of its handle, and then its name, or its numbers and text. A rename has two of both, and a call on
-/// snapshots a number alone.
+/// A call: the inode of its handle, and then its name, or its numbers and text. A rename has two of both, a call on
+/// snapshots a number alone, and a cleaner an inode alone.
 #[derive(Clone, Copy, Debug)]
 pub(super) enum Says {
     Create(u64, &'static [u8]),
@@ -26,10 +27,14 @@ pub(super) enum Says {
     Drop(u64),
     Show(u64),
     Drain(u64),
+    Fast(u64),
+    Thorough(u64),
+    Auto(u64),
 }
 
 use Says::{
-    Create, Drain, List, Lookup, Mkdir, Read, Rename, Rmdir, Show, Size, Snap, Stat, Unlink, Write,
+    Auto, Create, Drain, Fast, List, Lookup, Mkdir, Read, Rename, Rmdir, Show, Size, Snap, Stat,
+    Thorough, Unlink, Write,
 };
 
 /// Files 1, 2 and 5, and directories 3 and 4, of which 3 is empty.
@@ -47,10 +52,13 @@ pub(super) const PREPARED: &[Says] = &[
 /// The last inode that is prepared.
 pub(super) const MADE: u64 = 5;
 
-/// How many rows of calls on files and directories there are, how many of all calls, and how many calls in each.
+/// How many rows of calls on files and directories there are, before which row cleaners stand, how many of all calls,
+/// and how many calls in each.
 pub(super) const KINDS: u64 = 13;
 
-pub(super) const ALL_KINDS: u64 = 17;
+pub(super) const CLEANERS: u64 = 17;
+
+pub(super) const ALL_KINDS: u64 = 20;
 
 const EACH: u64 = 6;
 
@@ -184,7 +192,21 @@ const DRAINS: &[Says] = &[
     Drain(u64::MAX),
 ];
 
-/// The calls, a row for each of the twelve and two for renames, and a row for each call on snapshots.
+/// Behind what is snapped, 6 is gone and is kept by a snapshot, and 7 is none.
+const FASTS: &[Says] = &[Fast(0), Fast(1), Fast(2), Fast(5), Fast(6), Fast(7)];
+
+const THOROUGHS: &[Says] = &[
+    Thorough(0),
+    Thorough(1),
+    Thorough(2),
+    Thorough(5),
+    Thorough(6),
+    Thorough(u64::MAX),
+];
+
+const AUTOS: &[Says] = &[Auto(0), Auto(1), Auto(2), Auto(4), Auto(5), Auto(6)];
+
+/// The calls, a row for each of the twelve and two for renames, and a row for each call on snapshots and each cleaner.
 const CALLS: &[&[Says]] = &[
     CREATES,
     MKDIRS,
@@ -203,12 +225,23 @@ const CALLS: &[&[Says]] = &[
     DROPS,
     SHOWS,
     DRAINS,
+    FASTS,
+    THOROUGHS,
+    AUTOS,
 ];
 
 impl Says {
     /// Whether the call can take a file away.
     pub fn takes_files(&self) -> bool {
         matches!(self, Unlink(..) | Rename(..))
+    }
+
+    /// The inode whose log the call cleans, if it is a cleaner.
+    pub fn cleans(&self) -> Option<Ino> {
+        match *self {
+            Fast(ino) | Thorough(ino) | Auto(ino) => Some(Ino::new(ino)),
+            _ => None,
+        }
     }
 }
 
@@ -254,10 +287,21 @@ pub(super) fn call(alloc: Global, says: &Says) -> Result<Call, Fail> {
             handle: handle(node),
         }),
         List(dir) => Ok(Call::List { dir: handle(dir) }),
-        Snap => Ok(Call::Maintenance(MaintenanceCall::Snap)),
-        Says::Drop(number) => Ok(Call::Maintenance(MaintenanceCall::Drop(Epoch::new(number)))),
-        Show(number) => Ok(Call::Maintenance(MaintenanceCall::Show(Epoch::new(number)))),
-        Drain(most) => Ok(Call::Maintenance(MaintenanceCall::Drain(most))),
+        _ => Ok(Call::Maintenance(maintenance(says).ok_or("a call")?)),
+    }
+}
+
+/// The same for calls on snapshots and cleaners.
+fn maintenance(says: &Says) -> Option<MaintenanceCall> {
+    match *says {
+        Snap => Some(MaintenanceCall::Snap),
+        Says::Drop(number) => Some(MaintenanceCall::Drop(Epoch::new(number))),
+        Show(number) => Some(MaintenanceCall::Show(Epoch::new(number))),
+        Drain(most) => Some(MaintenanceCall::Drain(most)),
+        Fast(ino) => Some(MaintenanceCall::Fast(Ino::new(ino))),
+        Thorough(ino) => Some(MaintenanceCall::Thorough(Ino::new(ino))),
+        Auto(ino) => Some(MaintenanceCall::Auto(Ino::new(ino))),
+        _ => None,
     }
 }
 

@@ -1,17 +1,19 @@
-//! Each of the four calls on snapshots against each of the sixteen calls, and a third call beside them,
-//! in an order by a seed.
+//! Each of the four calls on snapshots and of the three cleaners against each of the nineteen calls, alone and with a
+//! third call beside them, in an order by a seed.
 //!
 //! After every event each living snapshot reads as the tree that stood when it was made, no other is there, and the
-//! audit finds nothing. At the end, when all snapshots are dropped and all deferred records released, plain scans find
-//! each block in one place.
+//! audit finds nothing. A step of a cleaner leaves the tree as it was, and what a cleaner tells at its end is what its
+//! steps took by the reports. At the end, when all snapshots are dropped and all deferred records released, plain scans
+//! find each block in one place.
 
 use super::blocks::check_blocks;
-use super::says::{ALL_KINDS, KINDS, Says, chosen};
+use super::lost::{NOTHING, Sizes, is_told, lost_more, sizes_of};
+use super::says::{ALL_KINDS, CLEANERS, KINDS, Says, chosen};
 use super::scene::{BLOCK, Scene};
 use crate::compare::{push, same};
 use crate::trees::are_alike;
 use Says::{Create, Drain, Mode, Show, Snap, Unlink, Write};
-use nv_base::{Epoch, Fault};
+use nv_base::{Epoch, Fault, Ino};
 use nv_core::{Answer, Reply, Tree, World};
 use nv_scenes::{Row, below};
 use std::alloc::Global;
@@ -24,7 +26,7 @@ const ROW: Row = [56, 2, BLOCK, 2, 10, SNAPS, 3];
 const SNAPS: u64 = 3;
 
 /// Calls behind what is prepared: snapshots 1 and 2 live then and hold what is no longer current, a whole file among
-/// it, and what 3 held besides is deferred.
+/// it, and what 3 held besides is deferred. In four logs there are entries that nothing needs.
 const SNAPPED: &[Says] = &[
     Create(0, b"f"),
     Write(6, 0, b"before"),
@@ -37,10 +39,15 @@ const SNAPPED: &[Says] = &[
     Write(2, 0, b"tu"),
     Mode(1, 3),
     Says::Drop(3),
+    Mode(1, 4),
+    Mode(1, 5),
+    Mode(2, 6),
+    Mode(2, 7),
+    Write(5, 0, b"vwx"),
+    Write(5, 0, b"yz"),
+    Create(0, b"g"),
+    Unlink(0, b"g"),
 ];
-
-/// How often each two kinds are made at once.
-const ROUNDS: u64 = 2;
 
 /// No calls of three actors have so many events.
 const EVENTS: u64 = 2_000;
@@ -54,8 +61,10 @@ struct Snapped {
     scene: Scene,
     /// The tree at the making of each snapshot, as long as that lives.
     noted: Vec<Option<Tree>>,
-    /// The calls that go on.
-    going: Vec<Option<Says>>,
+    /// The calls that go on, each with what its log lost so far if it is a cleaner.
+    going: Vec<Option<(Says, Sizes)>>,
+    /// How many entries cleaners took.
+    taken: u64,
 }
 
 impl Snapped {
@@ -67,6 +76,7 @@ impl Snapped {
             scene,
             noted,
             going,
+            taken: 0,
         };
         for says in SNAPPED {
             snapped.alone(rt, says)?;
@@ -138,7 +148,7 @@ impl Snapped {
         let mut actor = 0u64;
         for says in calls {
             self.scene.start(rt, actor, says)?;
-            push(rt, &mut self.going, Some(*says));
+            push(rt, &mut self.going, Some((*says, NOTHING)));
             actor = actor.saturating_add(1);
         }
         self.finish(rt, seed)
@@ -173,14 +183,52 @@ impl Snapped {
         if place >= self.going.len() {
             return Ok(());
         }
-        let Some(says) = self.going[place] else {
+        let Some((says, lost)) = self.going[place] else {
             return Ok(());
         };
-        if let Some(reply) = self.scene.go(actor) {
-            self.going[place] = None;
-            self.note(rt, &says, &reply)?;
-        }
+        let left = match says.cleans() {
+            Some(ino) => self.cleans(rt, actor, &says, ino, lost)?,
+            None => self.makes(rt, actor, &says)?,
+        };
+        assert!(rt; place < self.going.len());
+        self.going[place] = left;
         self.are_kept(rt)
+    }
+
+    /// A step of a call that is no cleaner, and what goes on of it.
+    fn makes(
+        &mut self,
+        rt: &impl Abort,
+        actor: u64,
+        says: &Says,
+    ) -> Result<Option<(Says, Sizes)>, Fail> {
+        let Some(reply) = self.scene.go(actor) else {
+            return Ok(Some((*says, NOTHING)));
+        };
+        self.note(rt, says, &reply)?;
+        Ok(None)
+    }
+
+    /// A step of a cleaner, which changes no node, and what goes on of it.
+    fn cleans(
+        &mut self,
+        rt: &impl Abort,
+        actor: u64,
+        says: &Says,
+        ino: Ino,
+        lost: Sizes,
+    ) -> Result<Option<(Says, Sizes)>, Fail> {
+        let tree = self.scene.world.tree()?;
+        let before = sizes_of(rt, &self.scene.world, ino);
+        let replied = self.scene.go(actor);
+        let lost = lost_more(lost, before, sizes_of(rt, &self.scene.world, ino));
+        reads_as(rt, &self.scene.world.tree()?, &tree);
+        let Some(reply) = replied else {
+            return Ok(Some((*says, lost)));
+        };
+        is_told(rt, says, &reply, lost);
+        self.taken = self.taken.saturating_add(lost.entries);
+        Ok(None)
     }
 
     /// Drops each snapshot, and releases what is deferred.
@@ -209,34 +257,28 @@ fn is_kept(rt: &impl Abort, world: &World, number: u64, noted: &Option<Tree>) {
     }
 }
 
-/// These calls, all at once.
-fn mix(rt: &impl Abort, alloc: Global, calls: &[Says], seed: &mut u64) -> Result<(), Fail> {
-    let mut snapped = Snapped::prepared(rt, alloc)?;
-    snapped.make_all(rt, calls, seed)?;
-    snapped.release_all(rt)?;
-    check_blocks(rt, &snapped.scene, true, true)
-}
-
-/// A call of these two kinds each, and of any.
-fn mix_two(
-    rt: &impl Abort,
-    alloc: Global,
-    one: u64,
-    other: u64,
-    seed: &mut u64,
-) -> Result<(), Fail> {
-    let any = below(seed, ALL_KINDS);
-    let calls = [chosen(one, seed)?, chosen(other, seed)?, chosen(any, seed)?];
-    mix(rt, alloc, &calls, seed)
-}
-
-/// A call on snapshots of this kind, with each kind.
-fn mix_each(rt: &impl Abort, alloc: Global, one: u64, mut seed: u64) -> Result<(), Fail> {
-    for _round in 0..ROUNDS {
-        for other in 0..ALL_KINDS {
-            mix_two(rt, alloc, one, other, &mut seed)?;
-        }
+/// A call of each of these kinds, all at once: how many entries cleaners took.
+fn mix(rt: &impl Abort, alloc: Global, kinds: &[u64], seed: &mut u64) -> Result<u64, Fail> {
+    let mut calls = Vec::new(alloc);
+    for kind in kinds {
+        calls.push(chosen(*kind, seed)?)?;
     }
+    let mut snapped = Snapped::prepared(rt, alloc)?;
+    snapped.make_all(rt, &calls, seed)?;
+    snapped.release_all(rt)?;
+    check_blocks(rt, &snapped.scene, true, true)?;
+    Ok(snapped.taken)
+}
+
+/// A call of this kind with one of each kind, and with one of any kind beside these two. Some entries are taken.
+fn mix_each(rt: &impl Abort, alloc: Global, one: u64, mut seed: u64) -> Result<(), Fail> {
+    let mut taken = 0u64;
+    for other in 0..ALL_KINDS {
+        taken = taken.saturating_add(mix(rt, alloc, &[one, other], &mut seed)?);
+        let any = below(&mut seed, ALL_KINDS);
+        taken = taken.saturating_add(mix(rt, alloc, &[one, other, any], &mut seed)?);
+    }
+    same(rt, taken > 0, true);
     Ok(())
 }
 
@@ -258,4 +300,19 @@ fn show_and_two_calls(rt: HostRuntime) -> Result<(), Fail> {
 #[test]
 fn drain_and_two_calls(rt: HostRuntime) -> Result<(), Fail> {
     mix_each(&rt, rt.alloc(), KINDS + 3, 64)
+}
+
+#[test]
+fn fast_and_two_calls(rt: HostRuntime) -> Result<(), Fail> {
+    mix_each(&rt, rt.alloc(), CLEANERS, 65)
+}
+
+#[test]
+fn thorough_and_two_calls(rt: HostRuntime) -> Result<(), Fail> {
+    mix_each(&rt, rt.alloc(), CLEANERS + 1, 66)
+}
+
+#[test]
+fn auto_and_two_calls(rt: HostRuntime) -> Result<(), Fail> {
+    mix_each(&rt, rt.alloc(), CLEANERS + 2, 67)
 }

@@ -1,6 +1,7 @@
 //! Worked rows while the runner refuses memory once: a line that is refused is given again, and a call that is refused
 //! on its way is made again by `do`. `tools/refused-growths` refuses each growth of each row in turn.
 
+use super::cleaners::{A_KILLER_IS_CLEANED_AWAY, DEVICE_FULL, FAST_CLEANING_REPEATED};
 use super::snapshots::{A_RECORD_MOVES_DOWN, BORN_AND_DEAD_IN_ONE_EPOCH, SNAPSHOT_REFUSALS};
 use super::worked::{CUT_THEN_GROWN, NAMES, PARTIAL_AT_BOTH_ENDS, Row};
 use crate::compare::same_for;
@@ -158,4 +159,19 @@ fn born_and_dead_in_one_epoch_with_one_refused_growth(rt: HostRuntime) {
 #[test]
 fn snapshot_refusals_with_one_refused_growth(rt: HostRuntime) {
     answers_in_the_end(&rt, SNAPSHOT_REFUSALS, b"do 0 show 2\n");
+}
+
+#[test]
+fn a_killer_is_cleaned_away_with_one_refused_growth(rt: HostRuntime) {
+    answers_in_the_end(&rt, A_KILLER_IS_CLEANED_AWAY, b"");
+}
+
+#[test]
+fn fast_cleaning_repeated_with_one_refused_growth(rt: HostRuntime) {
+    answers_in_the_end(&rt, FAST_CLEANING_REPEATED, b"");
+}
+
+#[test]
+fn a_full_device_with_one_refused_growth(rt: HostRuntime) {
+    answers_in_the_end(&rt, DEVICE_FULL, b"");
 }

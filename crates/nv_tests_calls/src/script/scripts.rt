@@ -1,5 +1,6 @@
 //! Whole scripts, and what they write.
 
+use super::cleaners::OF_CLEANERS;
 use super::pieces::play_in_pieces;
 use super::rows::{FAULTS, FORMAT, SCRIPTS};
 use super::snapshots::OF_SNAPSHOTS;
@@ -55,6 +56,7 @@ fn scripts_write_their_texts(rt: HostRuntime) -> Result<(), Fail> {
     check_all(&rt, &WORKED);
     check_all(&rt, &SCRIPTS);
     check_all(&rt, OF_SNAPSHOTS);
+    check_all(&rt, OF_CLEANERS);
     for (front, letters, end, text) in LONGEST {
         let script = filled(rt.alloc(), front, b'a', *letters, end.as_bytes())?;
         check(&rt, &script, Ok(()), text.as_bytes());
@@ -219,6 +221,7 @@ fn answers_are_one_write_where_no_line_is_waited_for(rt: HostRuntime) {
     are_one_write(&rt, &WORKED);
     are_one_write(&rt, &SCRIPTS);
     are_one_write(&rt, OF_SNAPSHOTS);
+    are_one_write(&rt, OF_CLEANERS);
 }
 
 /// Fronts of texts, how many zeros follow, and their ends.
@@ -275,6 +278,7 @@ fn scripts_come_and_go_byte_by_byte(rt: HostRuntime) {
     come_and_go_byte_by_byte(&rt, &WORKED);
     come_and_go_byte_by_byte(&rt, &SCRIPTS);
     come_and_go_byte_by_byte(&rt, OF_SNAPSHOTS);
+    come_and_go_byte_by_byte(&rt, OF_CLEANERS);
 }
 
 #[test]

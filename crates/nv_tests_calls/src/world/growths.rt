@@ -7,8 +7,8 @@ use super::reports::Reports;
 use super::words::{Want, Words, is_wanted};
 use crate::compare::same_for;
 use Words::{
-    Create, Drain, List, Lookup, Mkdir, Mode, Read, Rename, Rmdir, Show, Size, Snap, Stat, Unlink,
-    Write,
+    Auto, Create, Drain, Fast, List, Lookup, Mkdir, Mode, Read, Rename, Rmdir, Show, Size, Snap,
+    Stat, Thorough, Unlink, Write,
 };
 use nv_base::{Fault, Kind};
 use nv_core::{Reply, World};
@@ -263,6 +263,60 @@ const SNAPSHOTS: &[Row] = &[
     ),
 ];
 
+/// Of a cleaner: a lock, and the judge, which walks the log and makes room for pages. Back goes the unlock.
+const JUDGED: &[Growth] = &[("judge", 3)];
+
+/// Cleaners of the root's log. Behind the judge none takes memory.
+const CLEANERS: &[Row] = &[
+    // the page of the modes 4 to 7 goes
+    (
+        "fast",
+        &[
+            Mode(ROOT, 1),
+            Mode(ROOT, 2),
+            Mode(ROOT, 3),
+            Mode(ROOT, 4),
+            Mode(ROOT, 5),
+            Mode(ROOT, 6),
+            Mode(ROOT, 7),
+            Mode(ROOT, 8),
+        ],
+        Fast(0),
+        Want::Cleaned(false, 4, 1),
+        JUDGED,
+    ),
+    // the first mode goes
+    (
+        "thorough",
+        &[Mode(ROOT, 1), Mode(ROOT, 2)],
+        Thorough(0),
+        Want::Cleaned(true, 1, 0),
+        JUDGED,
+    ),
+    // two of five would stay, and fit one page; and two of two
+    (
+        "auto as thorough",
+        &[Mode(ROOT, 1), Mode(ROOT, 2), Mode(ROOT, 3), Mode(ROOT, 4)],
+        Auto(0),
+        Want::Cleaned(true, 3, 1),
+        JUDGED,
+    ),
+    (
+        "auto as fast",
+        &[Mode(ROOT, 1)],
+        Auto(0),
+        Want::Cleaned(false, 0, 0),
+        JUDGED,
+    ),
+    (
+        "no inode",
+        &[],
+        Thorough(2),
+        Want::Refused(Fault::Stale),
+        &[],
+    ),
+];
+
 /// Whether a call was refused memory.
 fn is_refused(reply: &Reply) -> bool {
     matches!(reply, Reply::Refused(Fault::OutOfMemory(_)))
@@ -335,4 +389,9 @@ fn visits_with_one_refused_growth(rt: HostRuntime) {
 #[test]
 fn calls_on_snapshots_with_one_refused_growth(rt: HostRuntime) {
     make_all(&rt, rt.alloc(), SNAPSHOTS);
+}
+
+#[test]
+fn cleaners_with_one_refused_growth(rt: HostRuntime) {
+    make_all(&rt, rt.alloc(), CLEANERS);
 }

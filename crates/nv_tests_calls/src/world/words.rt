@@ -1,6 +1,6 @@
 //! Calls by their words, and replies that are wanted.
 
-use nv_base::{Bytes, Epoch, Fault, Handle, Kind, Mode};
+use nv_base::{Bytes, Epoch, Fault, Handle, Ino, Kind, Mode};
 use nv_core::{Answer, Call, MaintenanceCall, Reply, TreeNode};
 use nv_entry::BoundName;
 use nv_scenes::handle_of;
@@ -10,7 +10,8 @@ use std::process::Abort;
 /// The inode and the generation of a handle.
 pub(super) type At = (u64, u64);
 
-/// A call: its handle, and then its name, or its numbers and text. A call on snapshots has a number alone.
+/// A call: its handle, and then its name, or its numbers and text. A call on snapshots has a number alone, and a cleaner
+/// that of an inode.
 #[derive(Clone, Copy)]
 pub(super) enum Words {
     Create(At, &'static [u8]),
@@ -29,12 +30,16 @@ pub(super) enum Words {
     Drop(u64),
     Show(u64),
     Drain(u64),
+    Fast(u64),
+    Thorough(u64),
+    Auto(u64),
 }
 
 /// A node of a tree: its last name, which the root has none of, and its bytes.
 pub(super) type Shown = (&'static [u8], &'static [u8]);
 
-/// A reply. A node has its kind, mode, size and last commit, and a name the inode that it leads to, of generation 1.
+/// A reply. A node has its kind, mode, size and last commit, and a name the inode that it leads to, of generation 1. A
+/// cleaner tells whether it was thorough, and how many entries and pages the log lost.
 #[derive(Clone, Copy)]
 pub(super) enum Want {
     Started,
@@ -48,6 +53,7 @@ pub(super) enum Want {
     Names(&'static [(&'static [u8], u64)]),
     Snapshot(u64),
     Tree(&'static [Shown]),
+    Cleaned(bool, usize, usize),
     Refused(Fault),
 }
 
@@ -131,13 +137,16 @@ fn call_on_a_node(rt: &impl Abort, alloc: Global, words: &Words) -> Call {
     }
 }
 
-/// The same for calls on snapshots.
+/// The same for calls on snapshots and cleaners.
 fn maintenance_call_of(rt: &impl Abort, words: &Words) -> MaintenanceCall {
     match *words {
         Words::Snap => MaintenanceCall::Snap,
         Words::Drop(number) => MaintenanceCall::Drop(Epoch::new(number)),
         Words::Show(number) => MaintenanceCall::Show(Epoch::new(number)),
         Words::Drain(most) => MaintenanceCall::Drain(most),
+        Words::Fast(ino) => MaintenanceCall::Fast(Ino::new(ino)),
+        Words::Thorough(ino) => MaintenanceCall::Thorough(Ino::new(ino)),
+        Words::Auto(ino) => MaintenanceCall::Auto(Ino::new(ino)),
         _ => panic!(rt; "a call on names"),
     }
 }
@@ -182,6 +191,14 @@ fn is_answer(answer: &Answer, want: &Want) -> bool {
         (Answer::Names(names), Want::Names(want)) => are_named(names.as_slice(), want),
         (Answer::Snapshot(snapshot), Want::Snapshot(number)) => snapshot.number() == number,
         (Answer::Tree(tree), Want::Tree(want)) => are_shown(tree.as_slice(), want),
+        (
+            Answer::Cleaned {
+                thorough,
+                entries,
+                pages,
+            },
+            Want::Cleaned(is_thorough, lost, saved),
+        ) => *thorough == is_thorough && *entries == lost && *pages == saved,
         (
             Answer::Stat {
                 kind,
