@@ -7,3 +7,4 @@ pub mod RunLemmas
 pub mod FromScratch
 pub mod Lowest
 pub mod Written
+pub mod Counts

@@ -1,10 +1,10 @@
 //! The pages of a log chain on their way home.
 
-ghost use Rattle.std.specs.Prelude.{◌≡◌, [], ◌==◌, length};
+ghost use Rattle.std.specs.Prelude.{◌≡◌, ◌<◌, ◌^◌, [], ◌==◌, length};
 ghost use Rattle.std.specs.VecDeque.Iter.{deque_iter_rest};
 ghost use Rattle.nv_alloc.specs.Giving.{after_giving, kept_of};
 
-use crate::giving::{dismantle, give_home};
+use crate::giving::{dismantle, fit_in_memory, give_home};
 use crate::{Block, FreeList};
 use std::alloc::Global;
 use std::collections::{VecDeque, vec_deque};
@@ -43,6 +43,13 @@ impl ChainPages {
         ensures { result ≡ length self.now }
     {
         self.blocks.len() as u64
+    }
+
+    /// What holds of all pages: they fit in memory. Costs nothing.
+    pub(crate) fn known(&self)
+        ensures { length self.now < 2 ^ 62 }
+    {
+        fit_in_memory(&self.blocks);
     }
 
     pub fn is_empty(&self) -> bool

@@ -1,11 +1,12 @@
 //! Blocks that go home, or are taken apart.
 
-ghost use Rattle.std.specs.Prelude.{◌≡◌, ◌≤◌, [], MatchOption, All, Any};
+ghost use Rattle.std.specs.Prelude.{◌≡◌, ◌<◌, ◌≤◌, ◌^◌, [], MatchOption, All, Any, length};
 ghost use Rattle.std.specs.VecDeque.{deque_capacity};
 ghost use Rattle.nv_alloc.specs.Giving.{after_giving, kept_of};
 
 use crate::{Block, FreeList};
 use std::collections::VecDeque;
+use std::mem::size_of_val;
 
 /// Gives the list the blocks that it takes, one after another, and keeps the others in their order.
 pub(crate) fn give_home(blocks: &mut VecDeque<Block>, list: &mut FreeList)
@@ -23,6 +24,15 @@ pub(crate) fn give_home(blocks: &mut VecDeque<Block>, list: &mut FreeList)
             blocks.push_back_reserved(block);
         }
     }
+}
+
+/// What holds of blocks in memory: each takes four bytes at least, so that they are no more than that. Costs nothing.
+pub(crate) fn fit_in_memory(blocks: &VecDeque<Block>)
+    ensures { length blocks.now.items < 2 ^ 62 }
+{
+    let (front, back) = blocks.as_slices();
+    let _front = size_of_val(front);
+    let _back = size_of_val(back);
 }
 
 /// Takes blocks apart.

@@ -48,6 +48,17 @@ impl Hand {
         self.data.is_empty() && self.pages.is_empty() && self.chain.is_empty() && self.ino.is_none()
     }
 
+    /// How many blocks are held. Costs a few reads.
+    pub fn len(&self) -> u64
+        ensures { result ≡ length (blocks_of self.now) }
+    {
+        // Blocks take memory, so that their number is far below that of a u64.
+        self.data.known();
+        self.pages.known();
+        self.chain.known();
+        self.data.len() + self.pages.len() + self.chain.len()
+    }
+
     /// The inode number that is held.
     pub fn ino(&self) -> Option<Ino>
         ensures { result ≡ self.now.ino }

@@ -1,11 +1,14 @@
 //! Laws of free lists and runs, each the contract of an empty function.
 
-ghost use Rattle.std.specs.Prelude.{◌≡◌, ℕ, ◌+◌, ◌≤◌, ◌&&◌, ◌++◌, ◌∷◌, Bool, List, drop, filter, nat_le, nat_lt, not, take};
+ghost use Rattle.std.specs.Prelude.{◌≡◌, ℕ, ◌+◌, ◌≤◌, ◌&&◌, ◌++◌, ◌∷◌, Bool, List, drop, filter, length, nat_le, nat_lt, not, take};
 ghost use Rattle.nv_alloc.specs.Block.{AreSized, BlockValue, numbers_of, put_block, put_blocks};
 ghost use Rattle.nv_alloc.specs.FreeList.{FreeBlocks, is_home};
 ghost use Rattle.nv_alloc.specs.Giving.{after_giving, kept_of};
+ghost use Rattle.nv_alloc.specs.Hand.{blocks_of};
 ghost use Rattle.nv_alloc.specs.Numbers.{has, times, IsRising, unused};
+ghost use Rattle.nv_alloc.specs.Queue.{after_home};
 ghost use Rattle.nv_alloc.specs.Runs.{IsCutInto, runs_of};
+ghost use Rattle.nv_alloc.specs.declared.hand.Hand.{Hand};
 
 /// A law: a rising list that has exactly the unused numbers of a range is the free list from scratch.
 pub fn rising_list_of_unused_is_from_scratch()
@@ -26,6 +29,19 @@ pub fn no_move_loses_a_number()
         times n (numbers_of (kept_of list queue))
         + times n (numbers_of (after_giving list queue).blocks)
         ≡ times n (numbers_of queue) + times n (numbers_of list.blocks) }
+{}
+
+/// A law: a list and what gives it blocks have together as many blocks as before: a queue, and a hand as
+/// [`crate::Hand::give_home`] leaves it.
+pub fn no_give_loses_a_block()
+    ensures queue { (list : FreeBlocks) (queue : List BlockValue) →
+        length (kept_of list queue) + length (after_giving list queue).blocks
+        ≡ length queue + length list.blocks }
+    ensures hand { (list : FreeBlocks) (old new : Hand) → new.data ≡ after_home list old.data
+        → new.pages ≡ after_home (after_giving list old.data.blocks) old.pages
+        → new.chain ≡ kept_of (after_giving list (old.data.blocks ++ old.pages.blocks)) old.chain
+        → length (blocks_of new) + length (after_giving list (blocks_of old)).blocks
+        ≡ length (blocks_of old) + length list.blocks }
 {}
 
 /// A law: where each number stands once in blocks and list together and the blocks have the list's size, all

@@ -1,6 +1,6 @@
 //! Blocks in the order taken.
 
-ghost use Rattle.std.specs.Prelude.{◌≡◌, ℕ, ◌+◌, ◌-◌, ◌<◌, ◌≤◌, ◌++◌, ◌∷◌, [], ◌==◌, OnOk, length, max, drop, slice_get, slice_index_or, option_to_list};
+ghost use Rattle.std.specs.Prelude.{◌≡◌, ℕ, ◌+◌, ◌-◌, ◌<◌, ◌≤◌, ◌^◌, ◌++◌, ◌∷◌, [], ◌==◌, OnOk, length, max, drop, slice_get, slice_index_or, option_to_list};
 ghost use Rattle.std.specs.VecDeque.Iter.{deque_iter_rest};
 ghost use Rattle.std.specs.Borrow.{sem};
 ghost use Rattle.nv_base.specs.Refusals.{FailsOnlyWhere, KeepsOnErr};
@@ -9,7 +9,7 @@ ghost use Rattle.nv_alloc.specs.Giving.{after_giving};
 ghost use Rattle.nv_alloc.specs.Queue.{after_home};
 ghost use Rattle.nv_base.specs.Memory.{out_of_memory};
 
-use crate::giving::{dismantle, give_home};
+use crate::giving::{dismantle, fit_in_memory, give_home};
 use crate::{Block, FreeList};
 use nv_base::Fault;
 use std::alloc::Global;
@@ -84,6 +84,13 @@ impl BlockQueue {
         ensures { result ≡ length self.now.blocks }
     {
         self.blocks.len() as u64
+    }
+
+    /// What holds of each queue: its blocks fit in memory. Costs nothing.
+    pub(crate) fn known(&self)
+        ensures { length self.now.blocks < 2 ^ 62 }
+    {
+        fit_in_memory(&self.blocks);
     }
 
     pub fn is_empty(&self) -> bool

@@ -4,6 +4,7 @@ pub mod Appends
 pub mod CellLists
 pub mod Changes
 pub mod Apart
+pub mod BlockCounts
 pub mod CellNodes
 pub mod CellPlans
 pub mod Commits
@@ -29,6 +30,7 @@ pub mod NextSound
 pub mod NodesHeld
 pub mod Nothing
 pub mod Passed
+pub mod PlaceSums
 pub mod Places
 pub mod PublishAll
 pub mod Published
@@ -52,6 +54,7 @@ pub mod Tails
 pub mod TextLengths
 pub mod Touched
 pub mod Wanted
+pub mod Versions
 pub mod WholeCall
 pub mod Within
 pub mod fits

@@ -1,5 +1,5 @@
 -- What has to hold before a commit.
-use Rattle.std.specs.Prelude.{◌≡◌, ℕ, ◌<◌, ◌≤◌, ◌^◌, Bool, true, false, List, [], length, map, slice_index_or, sum_by, take, unwrap_or, None}
+use Rattle.std.specs.Prelude.{◌≡◌, ℕ, ◌+◌, ◌<◌, ◌≤◌, ◌^◌, Bool, true, false, List, [], length, map, slice_index_or, sum_by, take, unwrap_or, None}
 use Rattle.std.specs.List.{AllByRecursion, flat_map}
 use Rattle.std.specs.Option.{IsSome, option_map}
 use Rattle.nv_alloc.specs.Block.{numbers_of}
@@ -121,6 +121,15 @@ pub record TakesCommit (stamp : Stamp) (cell : CellValue) : Type 0 where
   pub later : IsLater stamp cell
   pub version : cell.state.version < 2 ^ 62
   pub generation : cell.state.generation < NUMBER
+
+-- number and epoch of a book's next commit
+abbrev pub next_stamp : BookState → Stamp
+next_stamp book = record { commit = book.commit + 1; epoch = book.snaps.epoch }
+
+-- a CPU has a journal, and it is closed
+pub record IsClosed (book : BookState) (cpu : ℕ) : Type 0 where
+  pub inside : cpu < length book.journals
+  pub closed : slice_index_or book.journals cpu [] ≡ []
 
 -- what a commit asks beside a call that is ready: it was entered, its cells take a commit of that number, the book has
 -- room for its records, and a CPU's journal is closed

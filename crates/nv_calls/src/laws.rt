@@ -3,10 +3,11 @@
 ghost use Rattle.std.specs.Prelude.{◌≡◌, ◌+◌, ◌<◌, ◌≤◌, ℕ, Err, List, Option, is_some, length, Bool};
 ghost use Rattle.std.specs.List.{AllByRecursion, sum_by};
 ghost use Rattle.nv_alloc.specs.Block.{BlockValue};
+ghost use Rattle.nv_alloc.specs.Hand.{blocks_of};
 ghost use Rattle.nv_alloc.specs.Queue.{QueueValue};
 ghost use Rattle.nv_alloc.specs.declared.hand.Hand.{Hand};
-ghost use Rattle.nv_book.specs.Book.{BookValue};
-ghost use Rattle.nv_cell.specs.Cell.{CellValue, IsCell, empty_cell};
+ghost use Rattle.nv_book.specs.Book.{BookState, BookValue, after_enter};
+ghost use Rattle.nv_cell.specs.Cell.{CellValue, IsCell, block_total, empty_cell};
 ghost use Rattle.nv_base.specs.declared.fault.Fault.{Fault};
 ghost use Rattle.nv_base.specs.declared.limits.TheConstants.{NUMBER};
 ghost use Rattle.nv_base.specs.declared.numbers.Handle.{Handle};
@@ -16,10 +17,10 @@ ghost use Rattle.nv_entry.specs.Sound.{IsSound};
 ghost use Rattle.nv_entry.specs.declared.node.NodeCopy.{NodeCopy};
 ghost use Rattle.nv_calls.specs.AllCalls.{IsReady, IsToldNothing, blocks_wanted, effect, look_refusal, looked, plan, refusal};
 ghost use Rattle.nv_calls.specs.declared.taken.Taken.{Taken};
-ghost use Rattle.nv_calls.specs.CanCommit.{AllowsCommit, CanCommit, TakesCommit};
-ghost use Rattle.nv_calls.specs.Cells.{AreCells};
-ghost use Rattle.nv_calls.specs.Commit.{begun, stamp_of};
-ghost use Rattle.nv_calls.specs.Committed.{ChangesPlanned, committed, page_count};
+ghost use Rattle.nv_calls.specs.CanCommit.{AllowsCommit, CanCommit, IsClosed, TakesCommit, next_stamp};
+ghost use Rattle.nv_calls.specs.Cells.{AreCells, state_at, value_at};
+ghost use Rattle.nv_calls.specs.Commit.{CommitValue, begun, stamp_of};
+ghost use Rattle.nv_calls.specs.Committed.{ChangesPlanned, IsUnplanned, committed, hand_left, page_count, place_of};
 ghost use Rattle.nv_calls.specs.FillPages.{CanFill, HasOtherBytes, sourced, with_blocks};
 ghost use Rattle.nv_calls.specs.Filled.{AreRead, HavePages};
 ghost use Rattle.nv_calls.specs.Lawful.{IsLawfulPlan};
@@ -149,6 +150,15 @@ pub fn what_is_ready_can_be_committed()
         → CanCommit now book cpu ready }
 {}
 
+/// What is tested of the cells, the book and a CPU's journal before an enter is all that the commit asks behind it.
+pub fn tested_commits_are_allowed()
+    ensures { (cells : List (ℕ × CellValue)) (book : BookState) (room seat cpu : ℕ)
+        (ready : ReadyValue)
+        → AllByRecursion (λ p. TakesCommit (next_stamp book) (value_at cells p.at)) ready.plans
+        → IsClosed book cpu → ready.need ≤ room
+        → AllowsCommit cells (record { state = after_enter seat book; room = room }) cpu ready }
+{}
+
 /// It can be filled, as long as its cells stay the same but for room.
 pub fn what_is_ready_can_be_filled()
     ensures { (cells now : List (ℕ × CellValue)) (hand : Hand) (update : Update)
@@ -257,6 +267,30 @@ pub fn cells_up_to_the_book_take_its_next_commit()
     ensures { (stamp next : Stamp) (before : ℕ) (cell : CellValue) → IsUpTo stamp before cell.state
         → stamp.commit < next.commit → stamp.epoch ≤ next.epoch → stamp.commit + before < NUMBER
         → cell.state.generation < NUMBER → TakesCommit next cell }
+{}
+
+/// A commit leaves its cells and its hand together as many blocks as before.
+pub fn commits_keep_the_number_of_blocks()
+    ensures { (cells now : List (ℕ × CellValue)) (book : BookValue) (cpu : ℕ) (ready : ReadyValue)
+        (living : List ℕ) → CanCommit cells book cpu ready
+        → AllByRecursion (λ c. IsCell c.1.state) cells
+        → ChangesPlanned ready.plans
+        (committed living cells (begun (stamp_of book.state) ready)) cells now
+        → sum_by (λ c. block_total c.1.state) now
+        + length (blocks_of (hand_left living cells (begun (stamp_of book.state) ready)))
+        ≡ sum_by (λ c. block_total c.1.state) cells + length (blocks_of ready.hand) }
+{}
+
+/// A commit raises the version of the cell of each plan by one, and of no other.
+pub fn commits_raise_versions()
+    ensures planned { (cells now : List (ℕ × CellValue)) (living : List ℕ) (commit : CommitValue)
+        → ChangesPlanned commit.plans (committed living cells commit) cells now
+        → (j : ℕ) → j < length commit.plans → (state_at now (place_of commit.plans j)).version
+        ≡ (state_at cells (place_of commit.plans j)).version + 1 }
+    ensures others { (cells now : List (ℕ × CellValue)) (living : List ℕ) (commit : CommitValue)
+        → ChangesPlanned commit.plans (committed living cells commit) cells now
+        → (k : ℕ) → IsUnplanned commit.plans k
+        → (state_at now k).version ≡ (state_at cells k).version }
 {}
 
 /// After a commit over cells the logs of all slots are sound, also that of a slot that was erased.

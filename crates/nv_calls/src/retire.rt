@@ -110,8 +110,8 @@ pub(crate) fn retire_parts<C: Cells>(
 }
 
 /// Erases a cell whose inode is gone and keeps nothing: its chain goes to the hand, and its number unless the slot has
-/// had its last generation.
-pub(crate) fn erase_gone<C: Cells>(cells: &mut C, k: usize, hand: &mut Hand)
+/// had its last generation. Takes no memory; the time of an erasing is linear in the entries.
+pub fn erase_gone<C: Cells>(cells: &mut C, k: usize, hand: &mut Hand)
     requires within { k < length (C.cells cells.old) }
     requires published { (state_at (C.cells cells.old) k).chain.tail
         ≡ length (state_at (C.cells cells.old) k).chain.entries }

@@ -81,7 +81,7 @@ no_slot zero m = refl
 no_slot (suc n) zero = refl
 no_slot (suc n) (suc m) = no_slot n m
 
-length_none : (n : ℕ) → length (replicate {A = Option BlockValue} n None) ≡ n
+pub length_none : (n : ℕ) → length (replicate {A = Option BlockValue} n None) ≡ n
 length_none zero = refl
 length_none (suc n) = ap suc (length_none n)
 

@@ -13,7 +13,7 @@ use Rattle.nv_cell.specs.Marks.{is_there}
 use Rattle.nv_cell.specs.Slots.{by_part, slot_total}
 use Rattle.nv_cell.proofs.Slots.{part_of_slot, slot_is_part}
 
-none_there : (marks : List Mark) (n : ℕ) → not (list_any is_there marks) ≡ true → n < length marks
+pub none_there : (marks : List Mark) (n : ℕ) → not (list_any is_there marks) ≡ true → n < length marks
     → is_there (mark_or_fresh marks n) ≡ false
 none_there [] n h lt = absurd (omega arith)
 none_there (m ∷ marks) n h lt = go n (is_there m) refl h lt (λ k r l. none_there marks k r l) where
@@ -24,7 +24,7 @@ none_there (m ∷ marks) n h lt = go n (is_there m) refl h lt (λ k r l. none_th
   go zero false q k l rec = q
   go (suc n) false q k l rec = rec n k (omega (arith, l))
 
-unmapped : (o : Option BlockValue) → option_map number_of o ≡ None → o ≡ None
+pub unmapped : (o : Option BlockValue) → option_map number_of o ≡ None → o ≡ None
 unmapped None h = refl
 unmapped (Some b) h = cc
 

@@ -10,12 +10,13 @@ use Rattle.nv_log.specs.Chain.{ChainState, IsChain, compacted, gone_of, left_of,
 use Rattle.nv_nindex.specs.NameIndex.{HaveSameBindings}
 use Rattle.nv_cell.specs.declared.cell.InodeCell.TheInside.{Inside}
 use Rattle.nv_cell.specs.declared.mark.Mark.{Mark}
-use Rattle.nv_cell.specs.Cell.{log_of}
+use Rattle.nv_cell.specs.Cell.{held_count, log_of}
 use Rattle.nv_cell.specs.Fields.{AreFields, state_in}
 use Rattle.nv_cell.specs.Numbers.{part_base}
 use Rattle.nv_cell.specs.Removal.{ArePublished, MayGo, log_flags, part_flags, slot_flags}
 use Rattle.nv_cell.specs.Slots.{by_part, slot_total}
 use Rattle.nv_cell.specs.Tallies.{AreTallied, SameCapacity, end_at}
+use Rattle.nv_cell.proofs.Held.{held_left}
 use Rattle.nv_cell.proofs.PageFlags.{pages_left}
 use Rattle.nv_cell.proofs.Publishing.{total_take}
 use Rattle.nv_cell.proofs.Removing.{AreTaken, blocks_left, compact_left, fewer, left_by_part, marks_count, marks_left, names_left, no_slot_gone, none_gone, refs_left}
@@ -99,7 +100,7 @@ pub fields_left : {flags : List Bool} {old new : Inside} {closed : Vec Mark} →
     }
     → AreSized old.block new.chain.state.blocks → length new.chain.state.blocks + new.chain.spare ≤ vec_capacity old.marks.pages
     → AreFields new
-fields_left {old = old} {new = new} inv taken same closed recount pages pages_room =
+fields_left {flags = flags} {old = old} {new = new} inv taken same closed recount pages pages_room =
     let s = old.chain.state in
     let t = new.chain.state in
     let few = fewer taken.left in
@@ -137,6 +138,9 @@ fields_left {old = old} {new = new} inv taken same closed recount pages pages_ro
           r.tallies,
         );
       };
+      held =
+          inv.held
+          ∙ sym (ap held_count slots.0 ∙ held_left (part_flags flags (log_of (state_in old))) (state_in old).blocks (none_gone taken));
       slots = slots.1;
       blocks_room = omega (arith, few.slots, inv.blocks_room, closed.slots_room);
       pages_room = omega (arith, pages_room, r.pages);

@@ -8,7 +8,7 @@ use Rattle.nv_nindex.specs.NameIndex.{binding_of}
 use Rattle.nv_cell.specs.declared.cell.InodeCell.TheInside.{Inside}
 use Rattle.nv_cell.specs.declared.mark.Mark.{Mark}
 use Rattle.nv_cell.specs.declared.marks.Marks.{Marks}
-use Rattle.nv_cell.specs.Cell.{CellState, HasBlocks, HasMarks, log_of}
+use Rattle.nv_cell.specs.Cell.{CellState, HasBlocks, HasMarks, held_count, log_of}
 use Rattle.nv_cell.specs.Fields.{AreFields, state_in}
 use Rattle.nv_cell.specs.Index.{IndexValue, bindings_of}
 use Rattle.nv_cell.specs.Marks.{is_there}
@@ -42,6 +42,7 @@ pub record Grows (old new : Inside) : Type 0 where
   pub chain : new.chain.state ≡ old.chain.state
   pub marks : HaveGrown old.marks new.marks
   pub blocks : HasGrown old.blocks new.blocks
+  pub held : new.held ≡ old.held
   pub index : HasSameParts old.index new.index
   pub numbers : HasGrown old.numbers new.numbers
   pub killed : HasGrown old.killed new.killed
@@ -83,6 +84,7 @@ fields_grown old new h g =
         ends = omega (arith, g.spare.ends, entries);
         tallies = omega (arith, g.spare.tallies, entries);
       };
+      held = g.held ∙ h.held ∙ ap (λ (s : CellState). held_count s.blocks) (sym same);
       slots = ap length g.blocks.items ∙ h.slots ∙ ap (λ (s : ChainState). slot_total s.entries) (sym g.chain);
       blocks_room = rw g.chain g.places;
       pages_room = g.pages;
@@ -114,6 +116,7 @@ fields_kept {old} {new} h same chain marks blocks index numbers killed pages =
       chain = chain;
       marks = marks;
       blocks = blocks;
+      held = ap (λ (c : Inside). c.held) same;
       index = index;
       numbers = numbers;
       killed = killed;

@@ -30,6 +30,7 @@ pub mod PagesNow
 pub mod Opening
 pub mod Appending
 pub mod Erasing
+pub mod Outs
 pub mod ReadAt
 pub mod Stretches
 pub mod PageBlocks
@@ -37,6 +38,7 @@ pub mod RunFlags
 pub mod Droppable
 pub mod Recounting
 pub mod Slots
+pub mod Held
 pub mod PartSlots
 pub mod Sources
 pub mod LastStays

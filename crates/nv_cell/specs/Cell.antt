@@ -1,5 +1,5 @@
 -- What contracts see of a cell, and what holds of each.
-use Rattle.std.specs.Prelude.{◌≡◌, ℕ, ◌+◌, ◌-◌, ◌<◌, ◌≤◌, drop, not, if◌then◌else◌, nat_lt, List, [], ◌∷◌, length, map, Option, Some, None, slice_get, slice_index_or, option_and_then, slice_set, unwrap_or}
+use Rattle.std.specs.Prelude.{◌≡◌, ℕ, ◌+◌, ◌-◌, ◌<◌, ◌≤◌, drop, not, if◌then◌else◌, nat_lt, List, [], ◌∷◌, length, map, Option, Some, None, slice_get, slice_index_or, option_and_then, slice_set, unwrap_or, count_by, is_some}
 use Rattle.std.specs.List.{range_with_len, sum_by}
 use Rattle.std.specs.Option.{option_map}
 use Rattle.nv_alloc.specs.Block.{AreSized, BlockValue, number_of}
@@ -87,6 +87,14 @@ pub record HasBlocks (cell : CellState) : Type 0 where
 pub record HasMarks (cell : CellState) : Type 0 where
   pub len : length cell.marks ≡ part_total (log_of cell)
   pub current : (n : ℕ) → n < part_total (log_of cell) → is_current (mark_at cell.marks n) ≡ not (is_covered cell.block (log_of cell) n)
+
+-- how many places of such a list have a block
+abbrev pub held_count : List (Option BlockValue) → ℕ
+held_count places = count_by is_some places
+
+-- how many blocks a cell has: the pages of its log, and the blocks of its parts
+abbrev pub block_total : CellState → ℕ
+block_total cell = length cell.chain.blocks + held_count cell.blocks
 
 -- what holds of each cell
 pub record IsCell (cell : CellState) : Type 0 where

@@ -4,7 +4,7 @@ use Rattle.nv_alloc.specs.Block.{AreSized}
 use Rattle.nv_entry.specs.Covered.{part_total}
 use Rattle.nv_nindex.specs.NameIndex.{HaveSameBindings}
 use Rattle.nv_cell.specs.declared.cell.InodeCell.TheInside.{Inside}
-use Rattle.nv_cell.specs.Cell.{CellState, CellValue, HasBlocks, HasMarks, log_of}
+use Rattle.nv_cell.specs.Cell.{CellState, CellValue, HasBlocks, HasMarks, held_count, log_of}
 use Rattle.nv_cell.specs.Index.{bindings_of}
 use Rattle.nv_cell.specs.Numbers.{part_base}
 use Rattle.nv_cell.specs.Reading.{IsIndexOf}
@@ -34,8 +34,8 @@ value_in c = record {
   };
 }
 
--- index and names are the scan of the log, tallies and counts those of the marks; and there is room for as much as the
--- fields say
+-- index and names are the scan of the log, tallies and counts those of the marks, and the blocks are counted; and there is
+-- room for as much as the fields say
 pub record AreFields (c : Inside) : Type 0 where
   pub some : 0 < c.block
   pub pages : AreSized c.block c.chain.state.blocks
@@ -48,6 +48,7 @@ pub record AreFields (c : Inside) : Type 0 where
   pub tallied : AreTallied c.marks c.chain.state.ends
   pub spare : HasSpare c.marks (part_total c.chain.state.entries - length c.marks.marks.items + c.parts)
       (length c.chain.state.entries - c.chain.state.tail + c.entries)
+  pub held : c.held ≡ held_count (state_in c).blocks
   pub slots : length c.blocks.items ≡ slot_total c.chain.state.entries
   pub blocks_room : slot_total c.chain.state.entries + c.parts ≤ vec_capacity c.blocks
   pub pages_room : length c.chain.state.blocks + c.chain.spare ≤ vec_capacity c.marks.pages

@@ -11,6 +11,7 @@ ghost use Rattle.nv_cell.specs.Append.{IsWithinFile, MayAppend, after_append, ap
 ghost use Rattle.nv_cell.specs.Room.{AddsPage, IsReadyFor};
 ghost use Rattle.nv_cell.specs.Tallies.{no_counts};
 
+use crate::needs::pages_added;
 use crate::{InodeCell, PageCounts};
 use nv_alloc::{Block, BlockQueue};
 use nv_base::limits::FILE_PAGES;
@@ -75,6 +76,7 @@ impl InodeCell {
         let _size = queue.block_bytes();
         let parts = entry.item.part_count() as usize;
         push_slots(&mut self.blocks, &entry.item, queue);
+        self.held += pages_added(&entry.item);
         self.chain.append(entry);
         count_pages(&mut self.marks.pages, self.chain.ends().len());
         self.entries -= 1;

@@ -37,6 +37,8 @@ pub struct InodeCell {
     // The block of each page part that is not out, also of parts not yet published: each part of an entry has a slot
     // for it but the first, which is no page.
     pub(crate) blocks: Vec<Option<Block>>,
+    // How many of these places have a block.
+    pub(crate) held: usize,
     // For how many more entries, and parts of entries, there is room.
     pub(crate) entries: usize,
     pub(crate) parts: usize,
@@ -77,6 +79,7 @@ impl InodeCell {
             index: CellIndex::new(alloc),
             marks: Marks::new(alloc),
             blocks: Vec::new(alloc),
+            held: 0,
             entries: 0,
             parts: 0,
             numbers: Vec::new(alloc),
@@ -181,7 +184,9 @@ impl InodeCell {
         let found = find_part(&self.chain, &self.marks, part).unwrap();
         let slot = self.marks.slot(found);
         self.marks.set(self.chain.ends(), found, Mark::Out);
-        take_block(&mut self.blocks, slot)
+        let block = take_block(&mut self.blocks, slot);
+        self.held -= usize::from(block.is_some());
+        block
     }
 }
 

@@ -27,6 +27,7 @@ impl InodeCell {
         ensures room { self.new.room ≡ record no_room { killed = self.old.room.killed } }
     {
         clear_slots(&mut self.blocks);
+        self.held = 0;
         self.generation = self.generation.next();
         self.index = CellIndex::new(self.alloc);
         self.marks = Marks::new(self.alloc);
@@ -49,6 +50,7 @@ impl InodeCell {
             index: _,
             marks: _,
             blocks,
+            held: _,
             entries: _,
             parts: _,
             numbers: _,

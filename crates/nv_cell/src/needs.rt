@@ -69,7 +69,7 @@ fn weight_of(index: &CellIndex, block: u64, pages: usize, names: usize, item: &I
 }
 
 /// How many pages an item adds at most.
-fn pages_added(item: &Item) -> usize
+pub fn pages_added(item: &Item) -> usize
     ensures { result ≡ pages_added item.now }
 {
     match item {

@@ -5,7 +5,7 @@ ghost use Rattle.std.specs.Prelude.{◌≡◌, ◌+◌, ◌*◌, ◌<◌, ◌≤
 ghost use Rattle.nv_base.specs.declared.limits.TheConstants.{LEAST_PAGE_ENTRIES, NUMBER, PAGE_ENTRIES};
 ghost use Rattle.nv_entry.specs.Index.{names_of};
 ghost use Rattle.nv_log.specs.Chain.{last_id, pages_for, room_of};
-ghost use Rattle.nv_cell.specs.Cell.{log_of};
+ghost use Rattle.nv_cell.specs.Cell.{block_total, log_of};
 ghost use Rattle.nv_cell.specs.Readers.{counts_of, is_gone, keeps_nothing};
 
 use crate::{InodeCell, PageCounts};
@@ -21,6 +21,14 @@ impl InodeCell {
         ensures spare { result.now.spare ≡ self.now.room.pages }
     {
         &self.chain
+    }
+
+    /// How many blocks the cell has: the pages of its log, and the blocks of its parts that are not out, those past the
+    /// tail too.
+    pub fn blocks(&self) -> u64
+        ensures { result ≡ block_total self.now.state }
+    {
+        self.chain.blocks().len() as u64 + self.held as u64
     }
 
     /// How many bytes a block has.

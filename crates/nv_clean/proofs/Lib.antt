@@ -1,3 +1,4 @@
+pub mod BlockCounts
 mod Counted
 pub mod Cleanings
 pub mod Covering

@@ -9,6 +9,7 @@
 mod cleaned;
 mod cover;
 mod fast;
+pub mod laws;
 mod plans;
 mod release;
 mod thorough;

@@ -8,8 +8,8 @@ ghost use Rattle.nv_cell.specs.Readers.{is_gone};
 ghost use Rattle.nv_cell.specs.declared.mark.Mark.TheVariants.{Kept};
 
 use nv_alloc::Hand;
-use nv_base::Ino;
 use nv_book::Record;
+use nv_calls::{LastCell, erase_gone};
 use nv_cell::InodeCell;
 use nv_entry::PartId;
 
@@ -37,24 +37,9 @@ pub fn release_on(cell: &mut InodeCell, picked: Record, hand: &mut Hand)
     if let Some(block) = cell.release(part) {
         hand.data.put(block);
     }
-    erase_gone(cell, picked.ino, hand);
-}
-
-/// Erases a cell whose inode is gone and keeps nothing: its chain goes to the hand, and its number unless the slot has
-/// had its last generation.
-fn erase_gone(cell: &mut InodeCell, ino: Ino, hand: &mut Hand)
-    requires settled { cell.old.state.chain.tail ≡ length cell.old.state.chain.entries }
-    requires gone { is_gone (log_of cell.old.state) ≡ true → CanTakeGone hand.old cell.old.state }
-    ensures cell { cell.new.state ≡ erased cell.old.state }
-    ensures hand { hand.new ≡ hand_with ino cell.old.state hand.old }
-{
-    if !cell.is_gone() || !cell.keeps_nothing() {
-        return;
-    }
-    let chain = cell.erase();
-    hand.chain.put(chain.into_blocks());
-    if cell.is_withheld() {
-        return;
-    }
-    hand.put_ino(ino);
+    let mut lent = LastCell {
+        ino: picked.ino,
+        cell,
+    };
+    erase_gone(&mut lent, 0, hand);
 }

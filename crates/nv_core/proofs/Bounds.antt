@@ -36,7 +36,7 @@ running_same cpus h (Some running) x y one two =
     ∙ sym (ap (bound_of cpus) q.1)
 
 -- one of some
-one_of : (k : ℕ) (actors : List Actor) → k < length actors → Actor
+pub one_of : (k : ℕ) (actors : List Actor) → k < length actors → Actor
 one_of k [] lt = absurd (omega (arith, lt))
 one_of k (actor ∷ actors) lt = actor
 

@@ -2,6 +2,7 @@ pub mod Actors
 pub mod AddedUp
 pub mod Among
 pub mod Appends
+pub mod AtRest
 pub mod AuditCounts
 pub mod AuditLaw
 pub mod AuditNamed

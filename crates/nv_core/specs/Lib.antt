@@ -1,4 +1,5 @@
 pub mod Appends
+pub mod AtRest
 pub mod Audited
 pub mod Cleaning
 pub mod CommitSteps

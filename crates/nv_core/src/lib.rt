@@ -21,6 +21,7 @@ mod lent_ready;
 mod lent_retire;
 mod lent_take;
 mod next;
+mod parts;
 mod reports;
 mod running;
 pub mod scan_laws;
@@ -46,6 +47,7 @@ pub use nv_base::{
 };
 pub use nv_calls::{Answer, Call, MaintenanceCall};
 pub use nv_entry::{NodeCopy, Path, Tree, TreeNode};
+pub use parts::Parts;
 pub use reports::{Lists, LogCounts, Space};
 pub use sink::{Sink, SinkFault};
 pub use snaps::{SnapCounts, Snaps};

@@ -89,20 +89,30 @@ impl Shared {
     pub(crate) fn dismantle(self) {
         let Shared {
             geometry: _,
-            mut lists,
+            lists,
             pool: _,
-            mut cells,
+            cells,
             owners: _,
             book: _,
             holder: _,
         } = self;
-        while let Some(list) = lists.pop() {
-            list.dismantle();
-        }
-        lists.destroy_empty();
-        while let Some(cell) = cells.pop() {
-            cell.dismantle();
-        }
-        cells.destroy_empty();
+        dismantle_lists(lists);
+        dismantle_cells(cells);
     }
+}
+
+/// Takes all lists apart with their blocks.
+pub(crate) fn dismantle_lists(mut lists: Vec<FreeList>) {
+    while let Some(list) = lists.pop() {
+        list.dismantle();
+    }
+    lists.destroy_empty();
+}
+
+/// Takes all cells apart with their blocks.
+pub(crate) fn dismantle_cells(mut cells: Vec<InodeCell>) {
+    while let Some(cell) = cells.pop() {
+        cell.dismantle();
+    }
+    cells.destroy_empty();
 }

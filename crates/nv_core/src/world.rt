@@ -1,5 +1,6 @@
 //! A world, and how it is let go.
 
+ghost use Rattle.std.specs.Prelude.{◌≡◌};
 ghost use Rattle.nv_core.specs.Worlds.{IsWorld, WorldState};
 
 use crate::hold::Hold;
@@ -32,13 +33,22 @@ impl Model for World {
 impl Drop for World {
     /// Each block that the world owns ends here.
     fn drop(self) {
+        self.into_shared().dismantle();
+    }
+}
+
+impl World {
+    /// What actors share. What each has of its own ends here.
+    pub(crate) fn into_shared(self) -> Shared
+        ensures { result ≡ self.shared }
+    {
         let World {
             alloc: _,
             shared,
             actors,
         } = self;
-        shared.dismantle();
         dismantle(actors);
+        shared
     }
 }
 

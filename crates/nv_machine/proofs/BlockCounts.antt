@@ -22,7 +22,7 @@ use Rattle.nv_machine.specs.Numbers.{free_of, held_in, of_part, stored_in}
 use Rattle.nv_calls.proofs.FillPages.{filled_numbers}
 use Rattle.nv_calls.specs.FillPages.{fresh_pages}
 use Rattle.nv_machine.specs.Reads.{copies, pages_needed, slot_at, written_slots}
-use Rattle.nv_machine.specs.World.{Append, Back, Give, HandState, Next, Number, Publish, Ready, Retire, Running, Shared, Maintenance, TakeBlocks, TakePages, cell_at, list_at, no_cell, no_list, Unlink, Compact, MaintenanceStep}
+use Rattle.nv_machine.specs.World.{Append, Back, Give, HandState, Next, Number, Publish, Ready, Retire, Running, Shared, Maintenance, TakeBlocks, TakePages, cell_at, list_at, no_cell, no_list, Unlink, Compact, MaintenanceStep, with_cell}
 use Rattle.nv_machine.proofs.Occurrences.{cut_times, set_times, three_times}
 use Rattle.nv_machine.proofs.StepWork.{append_work, by_back, by_number, work, maintenance_work}
 use Rattle.nv_machine.proofs.CellChanges.{IsRemoval, Removal, hand_freed, is_removal, is_removed, lent_removal, on_step, removal, removal_on, removed, stored_times, clean_cell, clean_slot, is_clean, is_clean_on, clean_slot_on, clean_cell_on, lent_clean}
@@ -221,18 +221,22 @@ parted_times : (n : ℕ) (stays : List Bool) (bs : List BlockValue)
     → times n (numbers_of (left_of stays bs)) + times n (numbers_of (gone_of stays bs)) ≡ times n (numbers_of bs)
 parted_times n [] bs = omega arith
 parted_times n (b ∷ stays) [] = omega arith
-parted_times n (true ∷ stays) (x ∷ bs) = omega (
-  arith,
-  parted_times n stays bs,
-  times-cons n x.number (numbers_of bs),
-  times-cons n x.number (numbers_of (left_of stays bs)),
-)
-parted_times n (false ∷ stays) (x ∷ bs) = omega (
-  arith,
-  parted_times n stays bs,
-  times-cons n x.number (numbers_of bs),
-  times-cons n x.number (numbers_of (gone_of stays bs)),
-)
+parted_times n (true ∷ stays) (x ∷ bs) =
+    let one = times-cons n x.number in
+    omega (arith, parted_times n stays bs, one (numbers_of bs), one (numbers_of (left_of stays bs)))
+parted_times n (false ∷ stays) (x ∷ bs) =
+    let one = times-cons n x.number in
+    omega (arith, parted_times n stays bs, one (numbers_of bs), one (numbers_of (gone_of stays bs)))
+
+-- a cell and a hand between which log pages move, where the parts keep their blocks
+moved_times : (n ino : ℕ) (new : CellState) (s : Shared) (h after : HandState) → ino < length s.cells
+    → flat_map of_part new.blocks ≡ flat_map of_part (cell_at s ino).blocks
+    → times n (numbers_of new.chain.blocks) + times n (held_in after)
+    ≡ times n (numbers_of (cell_at s ino).chain.blocks) + times n (held_in h) → count n (with_cell ino new s) after ≡ count n s h
+moved_times n ino new s h after inside same moved =
+    let parts = ap (times n) same in
+    let e = set_times stored_in n s.cells ino new no_cell (λ past. absurd (omega (arith, past, inside))) in
+    omega (arith, e, parts, stored_times n (cell_at s ino), stored_times n new, moved)
 
 -- a cleaning moves log pages between the chain and the hand, where the parts keep their blocks
 clean_times : (step : MaintenanceStep) (n actor : ℕ) (s : Shared) (h : HandState) → is_clean_on step ≡ true
@@ -241,50 +245,25 @@ clean_times : (step : MaintenanceStep) (n actor : ℕ) (s : Shared) (h : HandSta
     → count n (maintenance_work step actor s h).shared (maintenance_work step actor s h).hand ≡ count n s h
 clean_times (Unlink ino) n actor s h is inside same =
     let cell = cell_at s ino in
-    let new = unlinked cell in
-    let gone = gone_of (unlinkable_of cell).stays cell.chain.blocks in
-    let parts = ap (times n) same in
-    let e = set_times stored_in n s.cells ino new no_cell (λ past. absurd (omega (arith, past, inside))) in
-    omega (
-      arith,
-      e,
-      parts,
-      stored_times n cell,
-      stored_times n new,
-      parted_times n (unlinkable_of cell).stays cell.chain.blocks,
-      times-blocks n h.pages gone,
-      held_times n h,
-      held_times n (with_unlinked cell h),
-    )
+    let stays = (unlinkable_of cell).stays in
+    let gone = gone_of stays cell.chain.blocks in
+    let after = with_unlinked cell h in
+    moved_times n ino (unlinked cell) s h after inside same
+    (omega (arith, parted_times n stays cell.chain.blocks, times-blocks n h.pages gone, held_times n h, held_times n after))
 clean_times (Compact ino) n actor s h is inside same =
     let cell = cell_at s ino in
-    let new = compacted_cell h cell in
-    let parts = ap (times n) same in
-    let e = set_times stored_in n s.cells ino new no_cell (λ past. absurd (omega (arith, past, inside))) in
-    omega (
-      arith,
-      e,
-      parts,
-      stored_times n cell,
-      stored_times n new,
-      times-blocks n h.chain cell.chain.blocks,
-      held_times n h,
-      held_times n (with_old_chain cell h),
-    )
+    let after = with_old_chain cell h in
+    moved_times n ino (compacted_cell h cell) s h after inside same
+    (omega (arith, times-blocks n h.chain cell.chain.blocks, held_times n h, held_times n after))
 clean_times other n actor s h is inside same = absurd (false≢true is)
 
--- fresh log pages go from a list to the hand
+-- log pages go from a list to the hand
 fresh_times : (n cpu wanted : ℕ) (s : Shared) (h : HandState)
     → count n (less_list cpu wanted s) (with_fresh cpu wanted s h) ≡ count n s h
 fresh_times n cpu wanted s h =
     let taken = take wanted (list_at s cpu).blocks in
-    omega (
-      arith,
-      taken_times n wanted cpu s,
-      taken_more n h.pages taken,
-      held_times n h,
-      held_times n (with_fresh cpu wanted s h),
-    )
+    let after = with_fresh cpu wanted s h in
+    omega (arith, taken_times n wanted cpu s, taken_more n h.pages taken, held_times n h, held_times n after)
 
 pub work_times : (k : Next) (n block actor : ℕ) (s : Shared) (h : HandState) (r : Running) → CanCount actor k s h r
     → count n (work k block actor s h r).shared (work k block actor s h r).hand ≡ count n s h
@@ -295,11 +274,7 @@ work_times (TakeBlocks asked) n block actor s h r can =
     let taken = take r.wanted (list_at s cpu).blocks in
     let after : HandState = record h { blocks = h.blocks ++ taken } in
     omega (arith, taken_times n r.wanted cpu s, taken_more n h.blocks taken, held_times n h, held_times n after)
-work_times (TakePages asked) n block actor s h r can =
-    let cpu = asked_list (length s.lists) actor asked in
-    let taken = take r.wanted (list_at s cpu).blocks in
-    let after : HandState = record h { pages = h.pages ++ taken } in
-    omega (arith, taken_times n r.wanted cpu s, taken_more n h.pages taken, held_times n h, held_times n after)
+work_times (TakePages asked) n block actor s h r can = fresh_times n (asked_list (length s.lists) actor asked) r.wanted s h
 work_times Ready n block actor s h r can =
     let same = ap (times n) (filled_numbers (fresh_pages block (copies s) r.call) h.blocks) in
     omega (arith, same, held_times n h, held_times n (with_bytes block s r h))

@@ -18,7 +18,7 @@ use Rattle.nv_machine.specs.Reads.{written_slots}
 use Rattle.nv_machine.specs.World.{Actor, Give, HandState, Next, Running, Shared, World, actor_at, cell_at, idle, no_list, owner_at}
 use Rattle.nv_machine.proofs.Cleanable.{IsCleanable}
 use Rattle.nv_machine.proofs.CleanedCells.{Cleans, cleaned_numbers, cleaned_parted}
-use Rattle.nv_machine.proofs.CleanedSlots.{clean_sized, cleans_own, cleans_published, stays_at}
+use Rattle.nv_machine.proofs.CleanSteps.{clean_sized, cleans_own, cleans_published, stays_at}
 use Rattle.nv_cell.specs.Retained.{retention_by_marks}
 use Rattle.nv_machine.specs.Numbers.{of_part}
 use Rattle.nv_machine.proofs.BlockCounts.{CanCount, LeavesNone, count}

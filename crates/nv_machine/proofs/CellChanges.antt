@@ -15,7 +15,7 @@ use Rattle.nv_calls.proofs.Next.{Keeps, keeps}
 use Rattle.nv_cell.specs.Cell.{CellState, number_in, published}
 use Rattle.nv_cell.specs.declared.killed.KilledPart.{KilledPart}
 use Rattle.nv_epoch.specs.SnapList.{ids}
-use Rattle.nv_machine.specs.Frame.{lent, lent_on}
+use Rattle.nv_machine.specs.Frame.{lent}
 use Rattle.nv_machine.specs.Hands.{IsParted, unpublished_at}
 use Rattle.nv_machine.specs.Kinds.{entries_for, first_killed, retired_book, retired_cell, with_entries, with_erased, with_pages}
 use Rattle.nv_machine.specs.Numbers.{of_part, stored_in}
@@ -29,7 +29,7 @@ use Rattle.nv_machine.proofs.LogsKept.{cell_set}
 use Rattle.nv_machine.proofs.PartPlaces.{freed_by_sized, freed_sized, retired_parted, settled_parted}
 use Rattle.nv_machine.specs.Cleaning.{compacted_cell, unlinked}
 use Rattle.nv_machine.specs.Locks.{commits_at}
-use Rattle.nv_machine.proofs.PagesLeft.{item_flags, parts_left}
+use Rattle.nv_machine.proofs.PagesLeft.{parts_left}
 use Rattle.nv_clean.specs.Plans.{unlinkable_of, wanted_of}
 use Rattle.nv_log.specs.Chain.{left_of, joined, log, parts_from}
 use Rattle.nv_entry.specs.declared.item.Entry.{Entry}
@@ -198,70 +198,48 @@ abbrev pub clean_cell : Next → Shared → HandState → CellState
 clean_cell (Maintenance step) s h = clean_cell_on step s h
 clean_cell other s h = no_cell
 
--- A CLEANING leaves number of generations, version and sizes of its cell
+-- A CLEANING leaves version and block size of its cell, and of its entries those of some flags. A log that ends at its tail
+-- does so still
 pub record IsCleaning (old new : CellState) : Type 0 where
-  pub generation : new.generation ≡ old.generation
   pub version : new.version ≡ old.version
   pub block : new.block ≡ old.block
-  pub page : new.chain.page ≡ old.chain.page
+  pub flags : List Bool
+  pub entries : new.chain.entries ≡ left_of flags old.chain.entries
+  pub tail : old.chain.tail ≡ length old.chain.entries → new.chain.tail ≡ length new.chain.entries
 
-pub is_cleaning : (k : Next) (s : Shared) (h : HandState) → is_clean k ≡ true
+whole : (cell : CellState) → cell.chain.tail ≡ length cell.chain.entries → log cell.chain ≡ cell.chain.entries
+whole cell last = take_all cell.chain.tail cell.chain.entries (omega (arith, last))
+
+pub is_cleaned : (k : Next) (s : Shared) (h : HandState) → is_clean k ≡ true
     → IsCleaning (cell_at s (clean_slot k)) (clean_cell k s h)
-is_cleaning (Maintenance step) s h is = go step is where
-  go : (step : MaintenanceStep) → is_clean_on step ≡ true → IsCleaning (cell_at s (clean_slot_on step)) (clean_cell_on step s h)
-  go (Unlink ino) is = record { generation = refl; version = refl; block = refl; page = refl }
-  go (Compact ino) is = record { generation = refl; version = refl; block = refl; page = refl }
-  go other is = absurd (false≢true is)
-is_cleaning other s h is = absurd (false≢true is)
-
--- the entries that stay, by flags
-abbrev pub clean_flags_on : MaintenanceStep → Shared → List Bool
-clean_flags_on (Unlink ino) s =
-    let cell = cell_at s ino in item_flags 0 (unlinkable_of cell).stays cell.chain.ends cell.chain.entries
-clean_flags_on (Compact ino) s = (wanted_of (cell_at s ino)).stays
-clean_flags_on other s = []
-
-abbrev pub clean_flags : Next → Shared → List Bool
-clean_flags (Maintenance step) s = clean_flags_on step s
-clean_flags other s = []
-
-pub clean_entries : (k : Next) (s : Shared) (h : HandState) → is_clean k ≡ true
-    → (clean_cell k s h).chain.entries ≡ left_of (clean_flags k s) (cell_at s (clean_slot k)).chain.entries
-clean_entries (Maintenance step) s h is = go step is where
-  go : (step : MaintenanceStep) → is_clean_on step ≡ true
-      → (clean_cell_on step s h).chain.entries ≡ left_of (clean_flags_on step s) (cell_at s (clean_slot_on step)).chain.entries
-  go (Unlink ino) is =
-      let cell = cell_at s ino in parts_left 0 (unlinkable_of cell).stays cell.chain.ends cell.chain.entries
-  go (Compact ino) is = refl
-  go other is = absurd (false≢true is)
-clean_entries other s h is = absurd (false≢true is)
-
--- a log that ends at its tail does so still
-pub clean_tail : (k : Next) (s : Shared) (h : HandState) → is_clean k ≡ true
-    → (cell_at s (clean_slot k)).chain.tail ≡ length (cell_at s (clean_slot k)).chain.entries
-    → (clean_cell k s h).chain.tail ≡ length (clean_cell k s h).chain.entries
-clean_tail (Maintenance step) s h is last = go step is last where
-  whole : (cell : CellState) → cell.chain.tail ≡ length cell.chain.entries → log cell.chain ≡ cell.chain.entries
-  whole cell last = take_all cell.chain.tail cell.chain.entries (omega (arith, last))
-
-  go : (step : MaintenanceStep) → is_clean_on step ≡ true
-      → (cell_at s (clean_slot_on step)).chain.tail ≡ length (cell_at s (clean_slot_on step)).chain.entries
-      → (clean_cell_on step s h).chain.tail ≡ length (clean_cell_on step s h).chain.entries
-  go (Unlink ino) is last =
-      let cell = cell_at s ino in
-      ap (λ (l : List Entry). length (joined (left_of (unlinkable_of cell).stays (parts_from 0 cell.chain.ends l)))) (whole cell last)
-  go (Compact ino) is last =
-      let cell = cell_at s ino in ap (λ (l : List Entry). length (left_of (wanted_of cell).stays l)) (whole cell last)
-  go other is last = absurd (false≢true is)
-clean_tail other s h is last = absurd (false≢true is)
+is_cleaned (Maintenance (Unlink ino)) s h is =
+    let cell = cell_at s ino in
+    let stays = (unlinkable_of cell).stays in
+    let left = parts_left 0 stays cell.chain.ends cell.chain.entries in
+    record {
+      version = refl;
+      block = refl;
+      flags = left.0;
+      entries = left.1;
+      tail = λ last.
+          ap (λ (l : List Entry). length (joined (left_of stays (parts_from 0 cell.chain.ends l)))) (whole cell last);
+    }
+is_cleaned (Maintenance (Compact ino)) s h is =
+    let cell = cell_at s ino in
+    let stays = (wanted_of cell).stays in
+    record {
+      version = refl;
+      block = refl;
+      flags = stays;
+      entries = refl;
+      tail = λ last. ap (λ (l : List Entry). length (left_of stays l)) (whole cell last);
+    }
+is_cleaned other s h is = absurd (false≢true is)
 
 -- its cell is lent
 pub lent_clean : (k : Next) (cpus a : ℕ) (r : Running) → is_clean k ≡ true → (lent k cpus a r).cell ≡ Some (clean_slot k)
-lent_clean (Maintenance step) cpus a r is = go step is where
-  go : (step : MaintenanceStep) → is_clean_on step ≡ true → (lent_on step cpus a).cell ≡ Some (clean_slot_on step)
-  go (Unlink ino) is = refl
-  go (Compact ino) is = refl
-  go other is = absurd (false≢true is)
+lent_clean (Maintenance (Unlink ino)) cpus a r is = refl
+lent_clean (Maintenance (Compact ino)) cpus a r is = refl
 lent_clean other cpus a r is = absurd (false≢true is)
 
 -- no commit, no removal

@@ -41,7 +41,7 @@ use Rattle.nv_machine.proofs.StepWork.{work}
 use Rattle.nv_machine.proofs.WorkKeeps.{turn_keeps}
 use Rattle.nv_machine.proofs.BlockNumbers.{cleans_now}
 use Rattle.nv_machine.proofs.CleanedCells.{cleaned_parts}
-use Rattle.nv_machine.proofs.CleanedSlots.{stays_at}
+use Rattle.nv_machine.proofs.CleanSteps.{stays_at}
 use Rattle.nv_machine.proofs.CellChanges.{appended_at, cells_after, clean_cell, clean_slot, is_clean, is_removal, removal, slots_stay}
 use Rattle.nv_machine.proofs.LocksHeld.{Before, lent_holder}
 use Rattle.nv_machine.proofs.LocksOverEvents.{before}

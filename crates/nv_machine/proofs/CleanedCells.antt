@@ -2,7 +2,7 @@
 use Rattle.std.proofs.Common.{◌≡◌, ◌∙◌, ◌==◌, ℕ, zero, suc, ◌-◌, ◌<◌, ◌≤◌, Bool, true, false, cond, if◌then◌else◌, not, List, [], ◌∷◌, Option, Some, None, ap, arith, inl, inr, length, option_to_list, refl, subst, sym, take_all}
 use Rattle.std.specs.List.{flat_map}
 use Rattle.std.specs.Option.{option_map}
-use Rattle.std.specs.Prelude.{slice_index_or}
+use Rattle.std.specs.Prelude.{slice_index_or, unwrap_or}
 use Rattle.std.proofs.Math.Path.{fun_ext}
 use Rattle.std.proofs.lemmas.Bool.{cases_lt, false≢true}
 use Rattle.std.proofs.lemmas.List.{get_or_past}
@@ -10,7 +10,7 @@ use Rattle.nv_alloc.specs.Block.{AreSized, BlockValue, number_of, numbers_of}
 use Rattle.nv_cell.specs.Cell.{CellState, HasBlocks, HasMarks, IsCell, log_of, mark_or_fresh, page_block}
 use Rattle.nv_cell.specs.Cleaned.{KeepsNodes, KeepsRecords, was_number}
 use Rattle.nv_cell.specs.Marks.{is_current, is_there, mark_at}
-use Rattle.nv_cell.specs.Readers.{is_gone}
+use Rattle.nv_cell.specs.Readers.{is_gone, is_last_word}
 use Rattle.nv_cell.specs.Removal.{KeepsTheLast, left_in, part_flags, source}
 use Rattle.nv_cell.specs.declared.mark.Mark.{Mark}
 use Rattle.nv_cell.specs.declared.mark.Mark.TheVariants.{Current}
@@ -35,7 +35,9 @@ use Rattle.nv_machine.specs.Kept.{HasPages}
 use Rattle.nv_machine.specs.Numbers.{of_part}
 use Rattle.nv_machine.specs.Reads.{bytes_among}
 use Rattle.nv_machine.specs.Settled.{node_by}
+use Rattle.nv_machine.specs.PoolScan.{has_entry}
 use Rattle.nv_machine.specs.Whole.{HasItsParts}
+use Rattle.nv_machine.proofs.PoolCells.{IsLike}
 
 -- ---- small things
 
@@ -59,8 +61,11 @@ commit_of : Option Entry → ℕ
 commit_of None = 0
 commit_of (Some e) = e.id.commit
 
-pub last_step : (x y : Entry) (ys : List Entry) → last_of (x ∷ y ∷ ys) ≡ last_of (y ∷ ys)
+last_step : (x y : Entry) (ys : List Entry) → last_of (x ∷ y ∷ ys) ≡ last_of (y ∷ ys)
 last_step x y ys = let e : length (x ∷ y ∷ ys) - 1 ≡ suc (length (y ∷ ys) - 1) = omega arith in rw e refl
+
+pub gone_step : (x y : Entry) (ys : List Entry) → is_gone (x ∷ y ∷ ys) ≡ is_gone (y ∷ ys)
+gone_step x y ys = ap (λ (o : Option Entry). unwrap_or (option_map (λ (e : Entry). is_last_word e.item) o) false) (last_step x y ys)
 
 last_commit_is : (log : List Entry) → last_commit log ≡ commit_of (last_of log)
 unfolding commit_of
@@ -107,6 +112,13 @@ parts_paged cell within marks blocks = record {
     | inr ge ↦ ap is_there (get_or_past cell.marks n Current ge)
   ]
 
+-- an entry there on both sides, or on none
+both_some : (xs ys : List Entry) → (0 < length xs → 0 < length ys) → (0 < length ys → 0 < length xs) → has_entry ys ≡ has_entry xs
+both_some [] [] some none = refl
+both_some [] (y ∷ ys) some none = absurd (let lt = none (omega arith) in omega (arith, lt))
+both_some (x ∷ xs) [] some none = absurd (let lt = some (omega arith) in omega (arith, lt))
+both_some (x ∷ xs) (y ∷ ys) some none = refl
+
 no_block : (o : Option BlockValue) → option_map number_of o ≡ None → o ≡ None
 no_block None e = refl
 no_block (Some b) e = cc
@@ -119,6 +131,7 @@ pub record Cleans (r : Retention) (flags : List Bool) (old new : CellState) : Ty
   pub version : new.version ≡ old.version
   pub page : new.chain.page ≡ old.chain.page
   pub entries : new.chain.entries ≡ left_of flags old.chain.entries
+  pub left : log_of new ≡ select flags (log_of old)
   pub old_tail : old.chain.tail ≡ length old.chain.entries
   pub tail : new.chain.tail ≡ length new.chain.entries
   pub chain : IsChain new.chain
@@ -137,6 +150,7 @@ taken_cleans {flags} {cell} {chain} taken r is published size reads left page = 
   version = refl;
   page = page;
   entries = taken.left.entries;
+  left = taken.left.log_is;
   old_tail = published;
   tail =
       taken.left.tail
@@ -229,3 +243,7 @@ module _ (r : Retention) (flags : List Bool) (old new : CellState) (c : Cleans r
   -- an inode that is gone and keeps nothing was so before
   pub cleaned_gone : is_gone (log_of new) ≡ is_gone (log_of old)
   cleaned_gone = c.last.gone
+
+  -- it has an inode where it had one, of the same generation
+  pub cleaned_like : IsLike old new
+  cleaned_like = record { inode = both_some (log_of old) (log_of new) cleaned_some cleaned_none; generation = c.generation }

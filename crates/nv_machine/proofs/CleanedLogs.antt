@@ -14,9 +14,8 @@ use Rattle.nv_machine.specs.Reads.{written_slots}
 use Rattle.nv_machine.specs.World.{HandState, Maintenance, Next, Running, Shared, cell_at, owner_at}
 use Rattle.nv_machine.proofs.CellChanges.{clean_cell, clean_slot, is_clean, lent_clean, lent_inside_own}
 use Rattle.nv_machine.proofs.Cleanable.{IsCleanable}
-use Rattle.nv_machine.proofs.CleanedCells.{Cleans, cleaned_gone}
-use Rattle.nv_machine.proofs.CleanedPool.{cleaned_like}
-use Rattle.nv_machine.proofs.CleanedSlots.{cleans_own, stays_at}
+use Rattle.nv_machine.proofs.CleanedCells.{Cleans, cleaned_gone, cleaned_like}
+use Rattle.nv_machine.proofs.CleanSteps.{cleans_own, stays_at}
 use Rattle.nv_machine.proofs.LocksHeld.{Before}
 use Rattle.nv_machine.proofs.PoolCells.{IsLike}
 

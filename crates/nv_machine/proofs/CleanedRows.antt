@@ -1,4 +1,4 @@
--- Worked rows of cleaners: a killer is cleaned away, and whole pages are unlinked.
+-- Worked rows of cleaners: a killer is cleaned away, whole pages are unlinked, and what a deferred record keeps stays.
 use Rattle.std.proofs.Common.{◌≡◌, ◌++◌, ℕ, true, false, List, [], ◌∷◌, Some, None, length, map, refl}
 use Rattle.nv_base.specs.declared.geometry.GeometryNumbers.{GeometryNumbers}
 use Rattle.nv_base.specs.declared.node.Kind.{Kind}
@@ -8,6 +8,7 @@ use Rattle.nv_calls.specs.declared.answer.Answer.TheVariants as answer
 use Rattle.nv_calls.specs.declared.call.Call.TheVariants as call
 use Rattle.nv_calls.specs.declared.maintenance_call.MaintenanceCall.TheVariants as on
 use Rattle.nv_cell.specs.Cell.{log_of}
+use Rattle.nv_cell.specs.Marks.{is_there}
 use Rattle.nv_book.specs.declared.record.Record.{Record}
 use Rattle.nv_entry.specs.Log.{pairs}
 use Rattle.nv_entry.specs.declared.held.Pair.{Pair}
@@ -52,6 +53,10 @@ death_scanned : map (λ (pair : Pair). pair.death) (pairs 4 (log_of (cell_at beh
     ≡ None ∷ None ∷ Some 1 ∷ Some 3 ∷ Some 3 ∷ None ∷ None ∷ []
 death_scanned = refl
 
+-- which of the parts of the entries left are not out: all but the first size, which died in its own epoch
+parts_left : map is_there (cell_at behind.shared 1).marks ≡ true ∷ true ∷ false ∷ true ∷ true ∷ true ∷ true ∷ []
+parts_left = refl
+
 as_it_was : told (line behind (DoCall 0 (call.Maintenance (on.Show 1)))).reply
     ≡ ([], (kind.Dir, (493, []))) ∷ ((97 ∷ []) ∷ [], (kind.File, (420, page 97))) ∷ []
 as_it_was = refl
@@ -82,3 +87,16 @@ pages_go = refl
 
 pages_free : space nine ∷ space (played nine (fast ∷ [])) ∷ [] ≡ (7 ∷ 9 ∷ 0 ∷ 0 ∷ 0 ∷ []) ∷ (10 ∷ 6 ∷ 0 ∷ 0 ∷ 0 ∷ []) ∷ []
 pages_free = refl
+
+-- a thorough cleaning takes seven of the nine entries, and of the eight pages all but one, those without an entry too
+pages_counted : play nine (DoCall 0 (call.Maintenance (on.Thorough 1)) ∷ []) ≡ Done (answer.Cleaned true 7 7) ∷ []
+pages_counted = refl
+
+-- ---- a deferred record: what it alone keeps stays, and goes once a drain has released it
+
+abbrev deferred : World
+deferred = after_lines (made ++ snap ∷ write 98 ∷ DoCall 0 (call.Maintenance (on.Drop 1)) ∷ [])
+
+kept_while_deferred : play deferred (thorough ∷ DoCall 0 (call.Maintenance (on.Drain 4)) ∷ thorough ∷ [])
+    ≡ Done (answer.Cleaned true 0 0) ∷ Done (answer.Count 2) ∷ Done (answer.Cleaned true 1 0) ∷ []
+kept_while_deferred = refl

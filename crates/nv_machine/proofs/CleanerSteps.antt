@@ -59,6 +59,9 @@ pub record IsSame (before after : CleanerWork) : Type 0 where
   pub entries : after.entries ≡ before.entries
   pub pages : after.pages ≡ before.pages
 
+told_as : {a b : Bool} {m n k l : ℕ} → a ≡ b → m ≡ n → k ≡ l → answers.Cleaned a m k ≡ answers.Cleaned b n l
+told_as e f g = cc
+
 -- where there are so many slots and lists
 module _ (manner : Manner) (ino cells lists : ℕ) where
   abbrev pub StandsOn : MaintenanceStep → CleanerWork → Type 0
@@ -107,11 +110,9 @@ module _ (manner : Manner) (ino cells lists : ℕ) where
     judged = same.judges ∙ was.judged;
     passed = was.passed;
     cleans = same.cleans ∙ was.cleans;
-    is = was.is ∙ told_as (by_entries manner (judged_cell ino was.judge)) _ _ _ _ (sym same.entries) (sym same.pages);
+    is = was.is ∙ told_as refl (sym same.entries) (sym same.pages);
     nothing = λ none. let lost = was.nothing none in (same.entries ∙ lost.0, same.pages ∙ lost.1);
-  } where
-    told_as : (thorough : Bool) (m n k l : ℕ) → m ≡ n → k ≡ l → answers.Cleaned thorough m k ≡ answers.Cleaned thorough n l
-    told_as thorough m n k l e f = cc
+  }
   same_end other a b same was = absurd was
 
   -- ---- one step
@@ -303,10 +304,6 @@ module _ (manner : Manner) (ino cells lists : ℕ) where
                   subst (λ (i : ℕ). Judged (Goes judging) (Tells judging) manner i s h r) e
                   (chosen (subst (λ (i : ℕ). has_inode (cell_at s i) ≡ true) (sym e) there)),
             ) where
-              told_none : (thorough : Bool) (m n : ℕ) → thorough ≡ true → m ≡ 0 → n ≡ 0
-                  → answers.Cleaned true 0 0 ≡ answers.Cleaned thorough m n
-              told_none thorough m n b e f = cc
-
               chosen : has_inode (cell_at s ino) ≡ true → Judged (Goes judging) (Tells judging) manner ino s h r
               chosen there = record {
                 fast = λ plain.
@@ -346,7 +343,7 @@ module _ (manner : Manner) (ino cells lists : ℕ) where
                       judged = judged_once (Some ino) 1 (omega arith) bare;
                       passed = and_from _ _ there has;
                       cleans = rw by (rw less bare.cleans);
-                      is = told_none _ _ _ by gone short;
+                      is = told_as (sym by) (sym gone) (sym short);
                       nothing = λ none. (gone, short);
                     }) cpus (omega (arith, bare.made));
               }
@@ -426,11 +423,9 @@ module _ (manner : Manner) (ino cells lists : ℕ) where
               passed = on.passed;
               cleans = rw on.some (ap (λ (l : List Bool). l ++ work.cleans) cleans ∙ ap (λ (l : List Bool). thorough ∷ l) on.cleans
                   ∙ ap (λ (b : Bool). b ∷ []) (sym on.goes_by));
-              is = told_as _ _ _ _ _ _ (sym on.goes_by) (omega (arith, entries, none)) (omega (arith, pages, nothing));
+              is = told_as (sym on.goes_by) (omega (arith, entries, none)) (omega (arith, pages, nothing));
               nothing = λ gone. absurd (false≢true (sym on.some ∙ gone));
-            } where
-              told_as : (a b : Bool) (m n k l : ℕ) → a ≡ b → m ≡ n → k ≡ l → answers.Cleaned a m k ≡ answers.Cleaned b n l
-              told_as a b m n k l e f g = cc
+            }
 
         clean_ends : {g : HandState} → g.ino ≡ None
             → EndsBy (Goes k) (Tells k) r.slots cleaned g r (Cleans (answer_of thorough (cell_at s ino) cell))

@@ -13,7 +13,7 @@ use Rattle.nv_cell.proofs.ValuesNow.{IsLog-take}
 use Rattle.nv_clean.specs.Cleaned.{answer_of}
 use Rattle.nv_clean.specs.Plans.{entries_staying, pages_staying, wanted_of}
 use Rattle.nv_clean.specs.declared.cleaned.Cleaned.{Cleaned}
-use Rattle.nv_clean.proofs.Cleanings.{entries_are, entries_flagged, none_left, pages_are, pages_flagged}
+use Rattle.nv_clean.proofs.Cleanings.{entries_are, none_left, pages_are, pages_flagged}
 use Rattle.nv_entry.specs.Clean.{kept_of, pages_left, select}
 use Rattle.nv_entry.specs.Held.{Retention}
 use Rattle.nv_entry.specs.Laws.{NoneDroppable}
@@ -36,7 +36,7 @@ use Rattle.nv_machine.specs.World.{Back, Cleans, Compact, Event, Give, Go, HandS
 use Rattle.nv_machine.proofs.CellChanges.{lent_inside_own}
 use Rattle.nv_machine.proofs.CleanSteps.{compact_cleans, unlink_cleans}
 use Rattle.nv_machine.proofs.Cleanable.{IsCleanable, cleanable}
-use Rattle.nv_machine.proofs.CleanedCells.{new_log}
+use Rattle.nv_machine.proofs.CleanedCells.{Cleans as CleansCell, new_log}
 use Rattle.nv_machine.proofs.EveryWorld.{all_known}
 use Rattle.nv_machine.proofs.FiledWorlds.{picked_in, same_killed, same_picked}
 use Rattle.nv_machine.proofs.FitsEvents.{IsKnown}
@@ -53,29 +53,22 @@ module _ (cell : CellState) (is : IsCell cell) (last : cell.chain.tail ≡ lengt
   whole : log_of cell ≡ cell.chain.entries
   whole = take_all cell.chain.tail cell.chain.entries (omega (arith, last))
 
-  many : length (entries_staying cell) ≡ length (log_of cell)
-  many = entries_flagged cell is ∙ last ∙ sym (ap (λ (l : List Entry). length l) whole)
-
   module _ (h : HandState) (count : length h.pages ≡ (wanted_of cell).pages) where
     abbrev new : CellState
     new = compacted_cell h cell
 
-    new_entries : log_of new ≡ new.chain.entries
-    new_entries = new_log by (entries_staying cell) cell new (compact_cleans by cell is last marks h count)
-
-    selected : log_of new ≡ select (entries_staying cell) (log_of cell)
-    selected =
-        new_entries ∙ ap (left_of (entries_staying cell)) (sym whole)
-        ∙ left_of-select (entries_staying cell) (log_of cell) many
+    cleans : CleansCell by (entries_staying cell) cell new
+    cleans = compact_cleans by cell is last marks h count
 
     compacted_log : log_of new ≡ kept_of by (log_of cell)
-    compacted_log = selected ∙ ap (λ (flags : List Bool). select flags (log_of cell)) (entries_are cell is by marks)
+    compacted_log = cleans.left ∙ ap (λ (flags : List Bool). select flags (log_of cell)) (entries_are cell is by marks)
 
     compacted_pages : length new.chain.blocks ≡ div_ceil (length (log_of new)) cell.chain.page
-    compacted_pages = count ∙ ap (λ (l : List Entry). div_ceil (length l) cell.chain.page) (sym new_entries)
+    compacted_pages =
+        count ∙ ap (λ (l : List Entry). div_ceil (length l) cell.chain.page) (sym (new_log by (entries_staying cell) cell new cleans))
 
     compacted_none : NoneDroppable by [] (log_of new)
-    compacted_none = subst (NoneDroppable by []) (sym selected) (none_left cell is by marks)
+    compacted_none = subst (NoneDroppable by []) (sym cleans.left) (none_left cell is by marks)
 
   unlinked_pages : log_pages (unlinked cell).chain ≡ pages_left by (log_pages cell.chain)
   unlinked_pages =

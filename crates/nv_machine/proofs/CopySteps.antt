@@ -38,7 +38,7 @@ use Rattle.nv_machine.proofs.LocksHeld.{Before}
 use Rattle.nv_machine.proofs.CellChanges.{cells_after, clean_cell, clean_slot, is_clean, is_removal, lent_inside_own, lent_removal, removal}
 use Rattle.nv_machine.proofs.Cleanable.{IsCleanable}
 use Rattle.nv_machine.proofs.CleanedLogs.{clean_here, cleans_held}
-use Rattle.nv_machine.proofs.CleanedSlots.{stays_at}
+use Rattle.nv_machine.proofs.CleanSteps.{stays_at}
 use Rattle.nv_machine.proofs.EpochCleanings.{cleaned_copy}
 
 -- ---- one cell

@@ -1,25 +1,24 @@
 -- Every step keeps what marks say of every slot.
 use Rattle.nv_book.specs.Book.{after_pick}
 use Rattle.std.proofs.lemmas.Bool.{false≢true}
-use Rattle.nv_reader.specs.Walk as walk
 use Rattle.nv_machine.proofs.StepWays.{IsClearOn}
 use Rattle.nv_machine.proofs.Cleanable.{IsCleanable}
 use Rattle.nv_machine.proofs.CleanedCells.{Cleans}
-use Rattle.nv_machine.proofs.CleanedSlots.{cleans_by, stays_at}
+use Rattle.nv_machine.proofs.CleanSteps.{cleans_by, stays_at}
 use Rattle.nv_machine.proofs.FiledCleans.{clean_marked}
 use Rattle.nv_machine.proofs.KilledByOthers.{none_locked}
 use Rattle.nv_machine.proofs.MarksInUse.{slot_marks}
 use Rattle.nv_cell.specs.Cell.{log_of}
 use Rattle.nv_cell.proofs.ValuesNow.{IsLog-take}
 use Rattle.nv_entry.specs.Log.{IsLog}
-use Rattle.nv_machine.proofs.MaintenanceWalk.{goes_next, is_denied, next_on, picked_next, picked_slots, slots_next, tells, told_on, LeadsTo, EndsWith, is_cleaning}
+use Rattle.nv_machine.proofs.MaintenanceWalk.{goes_next, is_denied, next_on, picked_next, picked_slots, slots_next, tells, told_on, LeadsTo, EndsWith}
 use Rattle.nv_machine.proofs.MaintenanceAlone.{alone_walk}
 use Rattle.std.proofs.lemmas.Option.{none-some}
 use Rattle.nv_machine.specs.Frame.{lent}
 use Rattle.nv_machine.proofs.StepFrames.{work_framed}
 use Rattle.nv_machine.proofs.UnlentSteps.{files_leave}
 use Rattle.nv_machine.proofs.CellChanges.{clean_cell_on, clean_slot_on, is_clean_on, killed_stays, lent_clean, lent_inside_own}
-use Rattle.std.proofs.Common.{◌≡◌, ℕ, ◌+◌, ◌-◌, ◌<◌, ◌≤◌, ◌∙◌, Bool, true, false, List, [], ◌∷◌, Option, Some, None, ap, arith, length, nat_lt, refl, subst, sym, zero, suc}
+use Rattle.std.proofs.Common.{◌≡◌, ℕ, ◌+◌, ◌-◌, ◌<◌, ◌≤◌, ◌∙◌, Bool, true, false, List, [], ◌∷◌, Option, Some, None, ap, arith, length, nat_lt, refl, subst, sym}
 use Rattle.std.specs.Prelude.{Ok, Err}
 use Rattle.nv_alloc.specs.Numbers.{IsRising, has}
 use Rattle.nv_base.specs.declared.fault.Fault.{Fault}
@@ -34,13 +33,12 @@ use Rattle.nv_machine.specs.Locks.{commits_at, commits_by, is_owner}
 use Rattle.nv_machine.specs.PlainRun as plain
 use Rattle.nv_machine.specs.Reads.{is_written, pages_needed, slot_at, written_slots}
 use Rattle.nv_machine.specs.Recorded.{after_deed}
-use Rattle.nv_machine.specs.Maintenance.{copies_at, first_showing, seen_on, show_or_unpin, visited}
 use Rattle.nv_machine.specs.Step.{kind_turn, turned, changed}
-use Rattle.nv_machine.specs.World.{Append, Close, Draining, Drop, Ends, Enter, HandState, Leave, LockPicked, Make, Moves, Next, Open, Pick, Pin, Publish, Release, Retire, Running, Shared, Show, MaintenanceStep, Maintenance, Turn, Unpin, Waits, World, actor_at, cell_at, owner_at, with_cell, Refuses, Showing, Unlock, with_book, Judge, LockCleaned, Fresh, Unlink, Compact, Ending, go_to}
+use Rattle.nv_machine.specs.World.{Append, Close, Draining, Drop, Ends, Enter, HandState, Leave, LockPicked, Make, Moves, Next, Open, Pick, Pin, Publish, Release, Retire, Running, Shared, Show, MaintenanceStep, Maintenance, Turn, Unpin, Waits, World, actor_at, cell_at, owner_at, with_cell, Refuses, Unlock, with_book, Judge, LockCleaned, Fresh, Unlink, Compact, Ending, go_to}
 use Rattle.nv_machine.proofs.FiledBooks.{ids_pinned}
 use Rattle.nv_machine.proofs.FiledCommits.{append_marked, publish_marked, retire_marked}
 use Rattle.nv_machine.proofs.FiledLists.{none_first}
-use Rattle.nv_machine.proofs.FiledPicks.{none_killed, none_on, none_picked, picked_after, picks}
+use Rattle.nv_machine.proofs.FiledPicks.{none_killed, none_on, none_picked, picked_after, picks, none_goes, none_leads}
 use Rattle.nv_machine.proofs.FiledRuns.{IsListable, can_list}
 use Rattle.nv_machine.proofs.FiledSnaps.{drop_marked, make_marked, pick_marked, release_marked}
 use Rattle.nv_machine.proofs.FiledTurns.{CanList, Listed, entered_same, list_after, published_same}
@@ -152,41 +150,23 @@ module _ (g : GeometryNumbers) (w : World) (known : IsListable g w) (rs : List R
     own_picked = own_picks (Maintenance step) next
 
     -- cells and snapshots stay, and what is picked, with any hand
-    kept_with : (u : Shared) (x : HandState) (running : Option Running) → IsQuiet s u → ((ino : ℕ) → killed_by_call running x ino ≡ [])
+    kept : (u : Shared) (x : HandState) (running : Option Running) → IsQuiet s u → ((ino : ℕ) → killed_by_call running x ino ≡ [])
         → picked_by_call running ≡ picked_at (Maintenance step) → AreMarked (changed u x running a w) rs
-    kept_with u x running left none same =
+    kept u x running left none same =
         quiet_marked w a rs u x running left (λ ino. none ino ∙ own_none ino) (same ∙ sym own_picked) m
-
-    -- with the same
-    kept : (u : Shared) (running : Option Running) → IsQuiet s u → ((ino : ℕ) → killed_by_call running h ino ≡ [])
-        → picked_by_call running ≡ picked_at (Maintenance step) → AreMarked (changed u h running a w) rs
-    kept u running left none same = kept_with u h running left none same
 
     tails : s.holder ≡ None → (ino : ℕ) → (cell_at s ino).chain.tail ≡ length (cell_at s ino).chain.entries
     tails free ino =
         known.numbers.tails ino (λ b. none_unpublished (actor_at w b).running ino
         (sym (known.locks.each b).holder ∙ ap (is_owner b) free))
 
-  none_shown : (left : ℕ) (visits : List walk.Visit) (snapshot : ℕ) (showing : Showing)
-      → picked_at (Maintenance (show_or_unpin left visits snapshot showing)) ≡ []
-  none_shown zero visits snapshot showing = refl
-  none_shown (suc left) [] snapshot showing = refl
-  none_shown (suc left) (visit ∷ visits) snapshot showing = refl
-
-  -- a cleaner has picked none
-  none_led : (step : MaintenanceStep) → is_cleaning step ≡ true → picked_at (Maintenance step) ≡ []
-  none_led (Fresh ino asked wanted) on = refl
-  none_led (Unlink ino) on = refl
-  none_led (Compact ino) on = refl
-  none_led other on = absurd (false≢true on)
-
   refused_marked : (step : MaintenanceStep) → r.next ≡ Maintenance step → (fault : Fault) → is_denied step ≡ true
       → AfterStep step (Ends (Err fault) s h)
-  refused_marked Make next fault on = kept Make next s None (same_quiet s) (λ ino. refl) refl
-  refused_marked (Drop snapshot) next fault on = kept (Drop snapshot) next s None (same_quiet s) (λ ino. refl) refl
-  refused_marked (Pin snapshot) next fault on = kept (Pin snapshot) next s None (same_quiet s) (λ ino. refl) refl
-  refused_marked (Pick draining) next fault on = kept (Pick draining) next s None (same_quiet s) (λ ino. refl) refl
-  refused_marked (Judge manner slot) next fault on = kept (Judge manner slot) next s None (same_quiet s) (λ ino. refl) refl
+  refused_marked Make next fault on = kept Make next s h None (same_quiet s) (λ ino. refl) refl
+  refused_marked (Drop snapshot) next fault on = kept (Drop snapshot) next s h None (same_quiet s) (λ ino. refl) refl
+  refused_marked (Pin snapshot) next fault on = kept (Pin snapshot) next s h None (same_quiet s) (λ ino. refl) refl
+  refused_marked (Pick draining) next fault on = kept (Pick draining) next s h None (same_quiet s) (λ ino. refl) refl
+  refused_marked (Judge manner slot) next fault on = kept (Judge manner slot) next s h None (same_quiet s) (λ ino. refl) refl
   refused_marked other next fault on = absurd (false≢true on)
 
   -- behind its work, where another step of these comes next
@@ -194,13 +174,11 @@ module _ (g : GeometryNumbers) (w : World) (known : IsListable g w) (rs : List R
       → AfterStep step (Moves (maintenance_work step a s h).shared (maintenance_work step a s h).hand
       (record r { slots = slots_next step s r; next = Maintenance (next_on step s) }))
   goes_marked (Pin snapshot) next on clear =
-      let first = first_showing s in
-      kept (Pin snapshot) next _ _
+      kept (Pin snapshot) next _ h _
       (record { cells = λ i. refl; living = ids_pinned s.book.snaps.living snapshot (λ pins. pins + 1); epoch = refl })
-      (λ ino. refl) (none_shown first.left first.visits snapshot first)
+      (λ ino. refl) (none_goes (Pin snapshot) s refl on)
   goes_marked (Show snapshot showing) next on clear =
-      let seen = seen_on (copies_at s snapshot (visited showing.visits)) showing in
-      kept (Show snapshot showing) next s _ (same_quiet s) (λ ino. refl) (none_shown seen.left seen.visits snapshot seen)
+      kept (Show snapshot showing) next s h _ (same_quiet s) (λ ino. refl) (none_goes (Show snapshot showing) s refl on)
   goes_marked (Pick draining) next on clear = go s.book.deferred refl clear.1 where
     go : (deferred : List Record) → s.book.deferred ≡ deferred → 0 < length deferred
         → AfterStep (Pick draining) (Moves (with_book (after_pick s.book) s) h
@@ -210,25 +188,27 @@ module _ (g : GeometryNumbers) (w : World) (known : IsListable g w) (rs : List R
         pick_marked w a rs known.locks clear.0 known.order.logs l m h _ (own_none (Pick draining) next) d ds e there
         (own_picked (Pick draining) next) refl
   goes_marked (LockPicked draining picked) next on clear =
-      kept (LockPicked draining picked) next _ _ (record { cells = λ i. refl; living = refl; epoch = refl }) (λ ino. refl) refl
+      kept (LockPicked draining picked) next _ h _ (record { cells = λ i. refl; living = refl; epoch = refl }) (λ ino. refl) refl
   goes_marked (LockCleaned manner ino) next on clear =
-      kept (LockCleaned manner ino) next _ _ (record { cells = λ i. refl; living = refl; epoch = refl }) (λ i. refl) refl
+      kept (LockCleaned manner ino) next _ h _ (record { cells = λ i. refl; living = refl; epoch = refl }) (λ i. refl) refl
   goes_marked other next on clear = absurd (false≢true on)
 
   -- a judge and a taking leave cells and book
   leads_marked : (step : MaintenanceStep) → r.next ≡ Maintenance step → (after : MaintenanceStep) → LeadsTo step after
       → AfterStep step (Moves (maintenance_work step a s h).shared (maintenance_work step a s h).hand (go_to (Maintenance after) r))
   leads_marked (Judge manner slot) next after leads =
-      kept (Judge manner slot) next s (Some (go_to (Maintenance after) r)) (same_quiet s) (λ ino. refl) (none_led after leads.to)
+      kept (Judge manner slot) next s h (Some (go_to (Maintenance after) r)) (same_quiet s) (λ ino. refl)
+      (none_leads (Judge manner slot) after leads)
   leads_marked (Fresh ino asked wanted) next after leads =
-      kept_with (Fresh ino asked wanted) next _ _ (Some (go_to (Maintenance after) r))
-      (record { cells = λ i. refl; living = refl; epoch = refl }) (λ i. refl) (none_led after leads.to)
+      kept (Fresh ino asked wanted) next _ _ (Some (go_to (Maintenance after) r))
+      (record { cells = λ i. refl; living = refl; epoch = refl }) (λ i. refl)
+      (none_leads (Fresh ino asked wanted) after leads)
   leads_marked other next after leads = absurd (false≢true leads.from)
 
   -- where a judge refuses its call, with a slot locked
   unlocks_marked : (step : MaintenanceStep) → r.next ≡ Maintenance step → (fault : Fault) → is_denied step ≡ true
       → 0 < length (slots_on step) → AfterStep step (Moves s h (record r { ending = Refuses fault; next = Unlock 0 }))
-  unlocks_marked (Judge manner slot) next fault on some = kept (Judge manner slot) next s _ (same_quiet s) (λ ino. refl) refl
+  unlocks_marked (Judge manner slot) next fault on some = kept (Judge manner slot) next s h _ (same_quiet s) (λ ino. refl) refl
   unlocks_marked Make next fault on some = absurd (omega (arith, some))
   unlocks_marked (Drop snapshot) next fault on some = absurd (omega (arith, some))
   unlocks_marked (Pin snapshot) next fault on some = absurd (omega (arith, some))
@@ -244,7 +224,7 @@ module _ (g : GeometryNumbers) (w : World) (known : IsListable g w) (rs : List R
       drop_marked w a rs known.locks clear.0 known.order.logs l m h None (own_none (Drop snapshot) next) snapshot
       (sym (own_picked (Drop snapshot) next))
   told_marked (Unpin snapshot seen) next on clear =
-      kept (Unpin snapshot seen) next _ None
+      kept (Unpin snapshot seen) next _ h None
       (record { cells = λ i. refl; living = ids_pinned s.book.snaps.living snapshot (λ pins. pins - 1); epoch = refl })
       (λ ino. refl) refl
   told_marked other next on clear = absurd (false≢true on)
@@ -286,9 +266,9 @@ module _ (g : GeometryNumbers) (w : World) (known : IsListable g w) (rs : List R
       let step = Release d picked in
       let low = lent_inside (Maintenance step) a s r (before_it (Maintenance step) next) picked.ino refl in
       release_marked w a rs picked _ _ there (own_none step next) (own_picked step next) refl low (known.order.logs picked.ino).ordered m
-  over_marked (Judge manner slot) ready next e is = kept (Judge manner slot) next s _ (same_quiet s) (λ ino. refl) refl
+  over_marked (Judge manner slot) ready next e is = kept (Judge manner slot) next s h _ (same_quiet s) (λ ino. refl) refl
   over_marked (Fresh ino asked wanted) ready next e is =
-      kept_with (Fresh ino asked wanted) next _ _ _ (record { cells = λ i. refl; living = refl; epoch = refl }) (λ i. refl) refl
+      kept (Fresh ino asked wanted) next _ _ _ (record { cells = λ i. refl; living = refl; epoch = refl }) (λ i. refl) refl
   over_marked (Unlink ino) ready next e is =
       cleaned (Unlink ino) ready next refl (maintenance_work (Unlink ino) a s h).hand (record r { ending = e; next = Unlock 0 })
       (λ i. refl) refl
@@ -303,7 +283,7 @@ module _ (g : GeometryNumbers) (w : World) (known : IsListable g w) (rs : List R
   none_marked (Pick d) next draining on empty =
       subst (AreMarked (turned (Ends (Ok (answers.Count draining.released)) s h) a w).world)
       (sym (none_first living rs (sym l.list.deferred_is ∙ empty)))
-      (kept (Pick d) next s None (same_quiet s) (λ ino. refl) refl)
+      (kept (Pick d) next s h None (same_quiet s) (λ ino. refl) refl)
   none_marked other next draining on empty = cc
 
   snapshot_marked : (step : MaintenanceStep) → r.next ≡ Maintenance step → IsCleanable (Maintenance step) block s h r
@@ -318,7 +298,7 @@ module _ (g : GeometryNumbers) (w : World) (known : IsListable g w) (rs : List R
             let q : Running = record r { ending = Refuses out_of_memory; next = Maintenance (Unpin snapshot []) } in
             subst (λ (x : MaintenanceStep). AreMarked (turned (Moves s h q) a w).world (after_deed (plain.Maintains x) living rs))
             (sym on)
-            (kept step next s (Some q) (same_quiet s) (λ ino. refl)
+            (kept step next s h (Some q) (same_quiet s) (λ ino. refl)
             (sym (ap (λ (x : MaintenanceStep). picked_at (Maintenance x)) on)));
         unlocks = unlocks_marked step next;
         leads_on = leads_marked step next;

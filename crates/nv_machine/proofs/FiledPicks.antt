@@ -51,7 +51,7 @@ picks (Maintenance (Pick draining)) = true
 picks (Maintenance (LockPicked draining picked)) = true
 picks other = false
 
-none_goes : (step : MaintenanceStep) (s : Shared) → picks (Maintenance step) ≡ false → goes_next step ≡ true
+pub none_goes : (step : MaintenanceStep) (s : Shared) → picks (Maintenance step) ≡ false → goes_next step ≡ true
     → picked_on (next_on step s) ≡ []
 none_goes (Pin snapshot) s e on = none_showing (first_showing s).left (first_showing s).visits snapshot (first_showing s)
 none_goes (Show snapshot showing) s e on = none_showing _ _ snapshot (seen_on (copies_at s snapshot (visited showing.visits)) showing)
@@ -61,7 +61,7 @@ none_goes (LockCleaned manner ino) s e on = refl
 none_goes other s e on = absurd (false≢true on)
 
 -- a cleaner picks none
-none_leads : (step next : MaintenanceStep) → LeadsTo step next → picked_on next ≡ []
+pub none_leads : (step next : MaintenanceStep) → LeadsTo step next → picked_on next ≡ []
 none_leads step (Fresh ino asked wanted) leads = refl
 none_leads step (Unlink ino) leads = refl
 none_leads step (Compact ino) leads = refl

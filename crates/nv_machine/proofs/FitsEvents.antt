@@ -52,7 +52,7 @@ use Rattle.nv_machine.proofs.LocksHeld.{Before, owner_is}
 use Rattle.nv_machine.proofs.LocksOverEvents.{before}
 use Rattle.nv_machine.proofs.PoolRuns.{ArePooled}
 use Rattle.nv_machine.proofs.Shapes.{Grows}
-use Rattle.nv_machine.proofs.CellChanges.{cells_after, removal, slots_stay, clean_slot, is_cleaning}
+use Rattle.nv_machine.proofs.CellChanges.{cells_after, removal, slots_stay, clean_slot, is_cleaned}
 
 -- ---- blocks have one size
 
@@ -69,7 +69,7 @@ work_sizes k block a s h r b sizes ino lt =
       publishes = λ place is inside low there. sizes (slot_at (written_slots r) place) low;
       removes = λ is low left there.
           let x = removal k s h r in erased_block x.cell ∙ left.keeps.block ∙ sizes x.slot low;
-      cleans = λ is low there. (is_cleaning k s h is).block ∙ sizes (clean_slot k) low;
+      cleans = λ is low there. (is_cleaned k s h is).block ∙ sizes (clean_slot k) low;
     }) ino (let n = slots_stay k block a s h r in omega (arith, lt, n))
 
 -- ---- what is known of a world

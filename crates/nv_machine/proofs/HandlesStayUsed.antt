@@ -27,7 +27,7 @@ use Rattle.nv_machine.proofs.StepWork.{work}
 use Rattle.nv_machine.proofs.WorkKeeps.{turn_keeps}
 use Rattle.nv_machine.proofs.CellChanges.{adds, cells_after, clean_cell, clean_slot, cleans_alone, is_clean, journals_stay, lent_clean, lent_inside_own, no_more, notes, removal}
 use Rattle.nv_machine.proofs.CleanedCells.{cleaned_some}
-use Rattle.nv_machine.proofs.CleanedSlots.{cleans_own, cleans_published}
+use Rattle.nv_machine.proofs.CleanSteps.{cleans_own, cleans_published}
 use Rattle.nv_machine.proofs.LogsKeptRuns.{standing}
 use Rattle.nv_machine.proofs.LogsKeptTurns.{Standing}
 use Rattle.nv_machine.proofs.WrittenSlots.{written_there}

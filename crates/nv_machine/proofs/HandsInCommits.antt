@@ -1,5 +1,4 @@
 -- What the hand of an actor has along a commit, and after every kind of step.
-use Rattle.nv_reader.specs.Walk as walk
 use Rattle.nv_machine.proofs.CellChanges.{hand_freed, killed_on, on_step, removal_on, is_clean_on}
 use Rattle.std.proofs.Common.{Bool, List, None, Option, Some, [], add-one, ap, arith, drop, drop-cons, false, if◌then◌else◌, length, length-append, nat_lt, refl, subst, suc, sym, take, true, zero, ℕ, ◌++◌, ◌+◌, ◌-◌, ◌<◌, ◌^◌, ◌∙◌, ◌∷◌, ◌≡◌, ◌≤◌}
 use Rattle.std.specs.List.{flat_map}
@@ -19,9 +18,9 @@ use Rattle.nv_machine.specs.Hands.{AreGiven, FitsFile, HandAt, HandOf, HasPlanne
 use Rattle.nv_machine.specs.Kinds.{asked_list, blocks_in, blocks_left, entries_for, first_killed, given, retired_cell, with_erased, with_freed, with_given}
 use Rattle.nv_machine.specs.Reads.{slot_at, written_slots}
 use Rattle.nv_machine.specs.Sequence.{appending, closing, opening, publishing, retiring}
-use Rattle.nv_machine.specs.Maintenance.{maintenance_turn, show_or_unpin, first_showing, copies_at, seen_on, visited}
+use Rattle.nv_machine.specs.Maintenance.{maintenance_turn}
 use Rattle.nv_machine.specs.Step.{kind_turn}
-use Rattle.nv_machine.specs.World.{Answers, Append, Back, Check, Close, Drop, Ending, Enter, Give, HandState, Leave, Lock, LockPicked, Look, Make, Next, Number, Open, Pick, Pin, Publish, Ready, Retire, Running, Shared, Show, MaintenanceStep, Maintenance, TakeBlocks, TakePages, Unlock, Unpin, Visit, empty_hand, go_to, list_at, LockCleaned, Fresh, Unlink, Compact, Showing, Draining, Judge}
+use Rattle.nv_machine.specs.World.{Answers, Append, Back, Check, Close, Drop, Ending, Enter, Give, HandState, Leave, Lock, LockPicked, Look, Make, Next, Number, Open, Pick, Pin, Publish, Ready, Retire, Running, Shared, Show, MaintenanceStep, Maintenance, TakeBlocks, TakePages, Unlock, Unpin, Visit, empty_hand, go_to, list_at, LockCleaned, Fresh, Unlink, Compact, Judge}
 use Rattle.nv_machine.proofs.BlockCounts.{given_all}
 use Rattle.nv_machine.proofs.StepWork.{back_work, work, maintenance_work}
 use Rattle.nv_machine.proofs.HandsAfterSteps.{GoesHome, HandGoes, HandTold, OnHand, denied_hand, ends_hand, is_empty, lasts_hand, locking_hand, looking_hand, number_hand, overs_hand, rests_hand}
@@ -32,9 +31,8 @@ use Rattle.nv_machine.proofs.PartPlaces.{entry_blocks}
 use Rattle.nv_machine.proofs.LoopSteps.{by_test, either}
 use Rattle.nv_machine.proofs.StepWays.{is_overtaken, noted, take_sum}
 use Rattle.nv_machine.proofs.StepWalk.{WaysOf, counted, walk_of}
-use Rattle.nv_machine.proofs.MaintenanceWalk.{goes_next, next_on, slots_next, maintenance_walk, tells, ends_apart, picked_next, step_walk_by, LeadsTo}
+use Rattle.nv_machine.proofs.MaintenanceWalk.{goes_next, next_on, slots_next, maintenance_walk, tells, ends_apart, step_walk_by, LeadsTo, goes_plain, is_cleaning}
 use Rattle.nv_machine.proofs.MaintenanceAlone.{denied_empty}
-use Rattle.nv_book.specs.declared.record.Record.{Record}
 use Rattle.nv_machine.specs.Lenders.{takes_fresh}
 
 -- ---- along a commit
@@ -174,27 +172,23 @@ CanGive g other s h = Unit {0}
 
 -- ---- calls on snapshots
 
-module _ (h : HandState) (empty : h ≡ empty_hand) where
-  showing_empty : (left : ℕ) (visits : List walk.Visit) (snapshot : ℕ) (showing : Showing)
-      → HandOn (show_or_unpin left visits snapshot showing) h
-  showing_empty zero visits snapshot showing = empty
-  showing_empty (suc left) [] snapshot showing = empty
-  showing_empty (suc left) (visit ∷ visits) snapshot showing = empty
+not_cleaning : (step : MaintenanceStep) (h : HandState) → h ≡ empty_hand → is_cleaning step ≡ false → HandOn step h
+not_cleaning (Fresh ino asked wanted) h empty plain = absurd (true≢false plain)
+not_cleaning (Compact ino) h empty plain = absurd (true≢false plain)
+not_cleaning other h empty plain = empty
 
-  picked_empty : (deferred : List Record) (draining : Draining) → HandOn (picked_next deferred draining) h
-  picked_empty [] draining = empty
-  picked_empty (picked ∷ deferred) draining = empty
+-- an empty hand has no more than log pages
+pages_empty : (h : HandState) → h ≡ empty_hand → HasPagesAlone h
+pages_empty h empty = empty ∙ sym (ap (λ (x : HandState). record empty_hand { pages = x.pages }) empty)
 
-  -- an empty hand has no more than log pages
-  pages_empty : HasPagesAlone h
-  pages_empty = empty ∙ sym (ap (λ (x : HandState). record empty_hand { pages = x.pages }) empty)
+-- before such a step a hand has no more, so that no part of it is killed; a cleaning kills none
+pub alone_on : (step : MaintenanceStep) (h : HandState) → HandOn step h → HasPagesAlone h
+alone_on (Fresh ino asked wanted) h at = at
+alone_on (Compact ino) h at = at
+alone_on other h at = pages_empty h at
 
--- of such a step no part is killed, and a cleaning kills none
 pub none_in : (step : MaintenanceStep) (h : HandState) → HandOn step h → h.killed ≡ []
-none_in (Fresh ino asked wanted) h at = ap (λ (x : HandState). x.killed) at
-none_in (Compact ino) h at = ap (λ (x : HandState). x.killed) at
-none_in Make h at = ap (λ (x : HandState). x.killed) at
-none_in other h at = ap (λ (x : HandState). x.killed) at
+none_in step h at = ap (λ (x : HandState). x.killed) (alone_on step h at)
 
 clean_killed : (step : MaintenanceStep) (a : ℕ) (s : Shared) (h : HandState) → is_clean_on step ≡ true
     → (maintenance_work step a s h).hand.killed ≡ h.killed
@@ -224,12 +218,9 @@ other_hand g step a granted s h r apart goes hand going = maintenance_walk (Hand
   moves : (k : MaintenanceStep) → goes_next k ≡ true → HandOn k h → (is_going (Maintenance k) ≡ true → r.ending ≡ Answers)
       → HandGoes g (maintenance_work k a s h).shared (maintenance_work k a s h).hand
       (record r { slots = slots_next k s r; next = Maintenance (next_on k s) })
-  moves (Pin snapshot) on empty going =
-      (showing_empty h empty (first_showing s).left (first_showing s).visits snapshot (first_showing s), λ e. going refl)
-  moves (Show snapshot showing) on empty going =
-      let seen = seen_on (copies_at s snapshot (visited showing.visits)) showing in
-      (showing_empty h empty seen.left seen.visits snapshot seen, λ e. going refl)
-  moves (Pick draining) on empty going = (picked_empty h empty s.book.deferred draining, λ e. going refl)
+  moves (Pin snapshot) on empty going = (not_cleaning _ h empty (goes_plain (Pin snapshot) s on), λ e. going refl)
+  moves (Show snapshot showing) on empty going = (not_cleaning _ h empty (goes_plain (Show snapshot showing) s on), λ e. going refl)
+  moves (Pick draining) on empty going = (not_cleaning _ h empty (goes_plain (Pick draining) s on), λ e. going refl)
   moves (LockPicked draining picked) on empty going = (empty, λ e. going refl)
   moves (LockCleaned manner ino) on empty going = (empty, λ e. going refl)
   moves other on empty going = absurd (false≢true on)

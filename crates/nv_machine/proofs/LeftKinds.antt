@@ -1,8 +1,6 @@
 -- What is left of a log of its shape is of its shape, where it tells the kind that the log told: the first entry of a log whose
 -- inode is there stays, since no other tells the kind.
-use Rattle.std.proofs.Common.{◌≡◌, ◌≢◌, ◌∙◌, ℕ, Bool, true, false, List, [], ◌∷◌, Option, Some, None, ap, refl, subst, sym}
-use Rattle.std.specs.Option.{option_map}
-use Rattle.std.specs.Prelude.{unwrap_or}
+use Rattle.std.proofs.Common.{◌≡◌, ◌≢◌, ◌∙◌, ℕ, Bool, true, false, List, [], ◌∷◌, Some, None, ap, refl, subst, sym}
 use Rattle.std.proofs.lemmas.Bool.{true≢false}
 use Rattle.std.proofs.lemmas.Option.{none-some}
 use Rattle.nv_base.specs.declared.node.Kind.{Kind}
@@ -13,7 +11,7 @@ use Rattle.nv_entry.specs.declared.item.Entry.{Entry}
 use Rattle.nv_entry.specs.declared.item.Item.{Item}
 use Rattle.nv_entry.specs.declared.item.Item.TheVariants.{Gone, Init}
 use Rattle.nv_machine.specs.Shapes.{IsLeftShaped}
-use Rattle.nv_machine.proofs.CleanedCells.{last_step}
+use Rattle.nv_machine.proofs.CleanedCells.{gone_step}
 use Rattle.nv_machine.proofs.LeftShapes.{first_kind, first_left, kind_stays, left_last, left_nothing, left_some}
 use Rattle.nv_machine.proofs.Shapes.{kinds_after}
 
@@ -37,10 +35,6 @@ behind_none block kind (e ∷ f ∷ log) h last =
 not_last_word : (item : Item) → is_last_word item ≡ false → item ≢ Gone
 not_last_word item there is = true≢false (sym (ap is_last_word is) ∙ there)
 
-later_there : (e f : Entry) (log : List Entry) → is_gone (e ∷ f ∷ log) ≡ false → is_gone (f ∷ log) ≡ false
-later_there e f log there =
-    sym (ap (λ (o : Option Entry). unwrap_or (option_map (λ (x : Entry). is_last_word x.item) o) false) (last_step e f log)) ∙ there
-
 still_told : (block : ℕ) (kind : Kind) (log : List Entry) → AreLawful block (items_of log) (Some kind) → IsGoneLast (items_of log)
     → is_gone log ≡ false → kinds_after (items_of log) (Some kind) ≡ Some kind
 still_told block kind [] h last there = refl
@@ -48,7 +42,7 @@ still_told block kind (e ∷ []) h last there = kind_stays block e.item kind h.0
 still_told block kind (e ∷ f ∷ log) h last there =
     let same = kind_stays block e.item kind h.0 last.0 in
     ap (kinds_after (items_of (f ∷ log))) same
-    ∙ still_told block kind (f ∷ log) (subst (AreLawful block (items_of (f ∷ log))) same h.1) last.1 (later_there e f log there)
+    ∙ still_told block kind (f ∷ log) (subst (AreLawful block (items_of (f ∷ log))) same h.1) last.1 (sym (gone_step e f log) ∙ there)
 
 first_told : (block : ℕ) (e : Entry) (log : List Entry) → AreLawful block (items_of (e ∷ log)) None → IsGoneLast (items_of (e ∷ log))
     → is_gone (e ∷ log) ≡ false → (kind : Kind) × (kinds_after (items_of (e ∷ log)) None ≡ Some kind)
@@ -58,7 +52,7 @@ first_told block e (f ∷ log) h last there =
       first.0,
       ap (kinds_after (items_of (f ∷ log))) first.1
           ∙ still_told block first.0 (f ∷ log) (subst (AreLawful block (items_of (f ∷ log))) first.1 h.1) last.1
-          (later_there e f log there),
+          (sym (gone_step e f log) ∙ there),
     )
 
 -- ---- what is left

@@ -1,6 +1,6 @@
 -- What is left of a log of its shape, whatever entries are taken out: nothing stands behind a Gone, and behind its first entry
 -- each item is lawful for the kind of the node.
-use Rattle.std.proofs.Common.{◌≡◌, ◌≢◌, ℕ, ◌<◌, ◌≤◌, Bool, true, false, List, [], ◌∷◌, Some, arith, length, refl, subst, sym, None, Option}
+use Rattle.std.proofs.Common.{◌≡◌, ◌≢◌, ℕ, Bool, true, false, List, [], ◌∷◌, Some, refl, subst, sym, None, Option}
 use Rattle.nv_base.specs.declared.node.Kind.{Kind}
 use Rattle.nv_entry.specs.Clean.{select}
 use Rattle.nv_entry.specs.Shape.{AreLawful, IsGoneLast, IsLawful, items_of, kind_after}
@@ -8,41 +8,26 @@ use Rattle.nv_entry.specs.declared.item.Entry.{Entry}
 use Rattle.nv_entry.specs.declared.item.Item.{Item}
 use Rattle.nv_entry.specs.declared.item.Item.TheVariants.{Gone, Init}
 
-few_left : (flags : List Bool) (log : List Entry) → length (select flags log) ≤ length log
-few_left [] log = omega arith
-few_left (b ∷ flags) [] = omega arith
-few_left (true ∷ flags) (e ∷ log) = omega (arith, few_left flags log)
-few_left (false ∷ flags) (e ∷ log) = omega (arith, few_left flags log)
-
 pub none_left : (flags : List Bool) → select {X = Entry} flags [] ≡ []
 none_left [] = refl
 none_left (b ∷ flags) = refl
 
 -- ---- nothing stands behind a Gone
 
-behind : (item : Item) (items : List Item) → (0 < length items → item ≢ Gone) → IsGoneLast items → IsGoneLast (item ∷ items)
-behind item [] none h = tt
-behind item (next ∷ items) none h = (none (omega arith), h)
-
-not_gone : (e : Entry) (log : List Entry) → IsGoneLast (items_of (e ∷ log)) → 0 < length log → e.item ≢ Gone
-not_gone e [] h some = absurd (omega (arith, some))
-not_gone e (f ∷ log) h some = h.0
+behind : (item : Item) (items : List Item) → item ≢ Gone → IsGoneLast items → IsGoneLast (item ∷ items)
+behind item [] not last = tt
+behind item (next ∷ items) not last = (not, last)
 
 later : (e : Entry) (log : List Entry) → IsGoneLast (items_of (e ∷ log)) → IsGoneLast (items_of log)
 later e [] h = tt
 later e (f ∷ log) h = h.1
 
-items_count : (log : List Entry) → length (items_of log) ≡ length log
-items_count [] = refl
-items_count (e ∷ log) = let more = items_count log in omega (arith, more)
-
 pub left_last : (flags : List Bool) (log : List Entry) → IsGoneLast (items_of log) → IsGoneLast (items_of (select flags log))
 left_last [] log h = tt
 left_last (b ∷ flags) [] h = tt
-left_last (true ∷ flags) (e ∷ log) h =
-    behind e.item (items_of (select flags log))
-    (λ some. not_gone e log h (omega (arith, some, items_count (select flags log), few_left flags log)))
-    (left_last flags log (later e log h))
+left_last (true ∷ flags) (e ∷ []) h = subst (λ (l : List Entry). IsGoneLast (items_of (e ∷ l))) (sym (none_left flags)) tt
+left_last (true ∷ flags) (e ∷ f ∷ log) h =
+    behind e.item (items_of (select flags (f ∷ log))) h.0 (left_last flags (f ∷ log) h.1)
 left_last (false ∷ flags) (e ∷ log) h = left_last flags log (later e log h)
 
 -- ---- behind the first entry
@@ -93,21 +78,19 @@ first_left block flags e log h last =
       left_lawful block first.0 flags log (subst (AreLawful block (items_of log)) first.1 h.1) (later e log last),
     )
 
--- what is left is lawful from some kind on
-pub left_some : (block : ℕ) (before : Option Kind) (flags : List Bool) (log : List Entry) → AreLawful block (items_of log) before
-    → IsGoneLast (items_of log) → (kind : Option Kind) × AreLawful block (items_of (select flags log)) kind
-left_some block (Some kind) flags log h last = (Some kind, left_lawful block kind flags log h last)
-left_some block None [] log h last = (None, tt)
-left_some block None (b ∷ flags) [] h last = (None, tt)
-left_some block None (true ∷ flags) (e ∷ log) h last =
-    let rest = first_left block flags e log h last in
-    (None, (h.0, subst (AreLawful block (items_of (select flags log))) (sym rest.1) rest.2))
-left_some block None (false ∷ flags) (e ∷ log) h last =
-    let rest = first_left block flags e log h last in (Some rest.0, rest.2)
-
--- and from nothing on where the first entry stays
+-- what is left is lawful from nothing on where the first entry stays
 pub left_nothing : (block : ℕ) (flags : List Bool) (e : Entry) (log : List Entry) → AreLawful block (items_of (e ∷ log)) None
     → IsGoneLast (items_of (e ∷ log)) → AreLawful block (items_of (select (true ∷ flags) (e ∷ log))) None
 left_nothing block flags e log h last =
     let rest = first_left block flags e log h last in
     (h.0, subst (AreLawful block (items_of (select flags log))) (sym rest.1) rest.2)
+
+-- and from some kind on
+pub left_some : (block : ℕ) (before : Option Kind) (flags : List Bool) (log : List Entry) → AreLawful block (items_of log) before
+    → IsGoneLast (items_of log) → (kind : Option Kind) × AreLawful block (items_of (select flags log)) kind
+left_some block (Some kind) flags log h last = (Some kind, left_lawful block kind flags log h last)
+left_some block None [] log h last = (None, tt)
+left_some block None (b ∷ flags) [] h last = (None, tt)
+left_some block None (true ∷ flags) (e ∷ log) h last = (None, left_nothing block flags e log h last)
+left_some block None (false ∷ flags) (e ∷ log) h last =
+    let rest = first_left block flags e log h last in (Some rest.0, rest.2)

@@ -133,6 +133,7 @@ pub mod StepPhases
 pub mod ListsAsked
 pub mod RefusedCalls
 pub mod RefusedTurns
+pub mod OverOwnSteps
 pub mod OwnSteps
 pub mod HandlesStayUsed
 pub mod NewHandles
@@ -204,11 +205,8 @@ pub mod CleanedCells
 pub mod CleanedLogs
 pub mod CleaningLaw
 pub mod CleanedMarks
-pub mod CleanedSlots
 pub mod EpochCleanings
-pub mod EpochSpans
 pub mod CleanSteps
-pub mod CleanedPool
 pub mod FiledCleans
 pub mod KilledByOthers
 pub mod LeftShapes

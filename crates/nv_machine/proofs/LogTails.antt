@@ -25,7 +25,7 @@ use Rattle.nv_machine.specs.Step.{kind_turn}
 use Rattle.nv_machine.specs.World.{Append, Ends, HandState, Moves, Next, Open, Publish, Retire, Running, Shared, Maintenance, Turn, Waits, cell_at, no_cell, owner_at}
 use Rattle.nv_machine.proofs.Lists.{drop_all, has_drop, has_filter, has_later, has_take, self}
 use Rattle.nv_machine.proofs.LocksHeld.{Before}
-use Rattle.nv_machine.proofs.CellChanges.{cells_after, removal, clean_slot, adds, clean_tail}
+use Rattle.nv_machine.proofs.CellChanges.{cells_after, removal, clean_slot, adds, is_cleaned}
 use Rattle.nv_machine.proofs.WorkKeeps.{AfterTurn, turn_keeps}
 
 -- ---- what is unpublished is held
@@ -165,7 +165,7 @@ kept_tail k block a granted s h r b ino plain none was =
       removes = λ is low left same.
           let x = removal k s h r in
           erased_tail x.cell (subst (λ (c : ChainState). c.tail ≡ length c.entries) (sym left.keeps.chain) (each x.slot same));
-      cleans = λ is low same. clean_tail k s h is (each (clean_slot k) same);
+      cleans = λ is low same. (is_cleaned k s h is).tail (each (clean_slot k) same);
     }) ino refl)) where
       Last : ℕ → CellState → Type 0
       Last n cell = n ≡ ino → IsTailLast cell

@@ -1,4 +1,4 @@
--- A cleaning keeps settled logs, and every settled node, where it leaves the shape of its log.
+-- A cleaning keeps settled logs, and every settled node.
 use Rattle.std.proofs.Common.{List, None, Option, Some, Bool, ap, cond, length, refl, subst, sym, take, ℕ, ◌<◌, ◌==◌, ◌∙◌, ◌≡◌, ◌≢◌}
 use Rattle.std.specs.Prelude.{unwrap_or}
 use Rattle.nv_cell.specs.Cell.{CellState, log_of}
@@ -10,14 +10,14 @@ use Rattle.nv_machine.specs.Kept.{AreLogsKept, HasPages}
 use Rattle.nv_machine.specs.Settled.{settled, settled_tail}
 use Rattle.nv_machine.specs.Shapes.{IsLeftShaped}
 use Rattle.nv_machine.specs.World.{Shared, cell_at, owner_at, with_cell}
+use Rattle.nv_machine.proofs.CleanSteps.{cleaned_shape}
 use Rattle.nv_machine.proofs.CleanedCells.{Cleans, cleaned_node, cleaned_pages, cleaned_sound}
 use Rattle.nv_machine.proofs.LogsKept.{KeptLeft, SameLogs, cell_nodes, cell_set, node_at}
 
 -- of a slot that its actor has locked, and that no journal notes
 module _ (a : ℕ) (s : Shared) (kept : AreLogsKept s) (slot : ℕ) (new : CellState) (inside : slot < length s.cells)
     (own : owner_at s slot ≡ Some a) (tails : (tail : ℕ) → settled_tail s.book.journals slot tail ≡ tail)
-    (r : Retention) (flags : List Bool) (c : Cleans r flags (cell_at s slot) new)
-    (shape : (block : ℕ) → IsLeftShaped block (log_of (cell_at s slot)) → IsLeftShaped block (log_of new)) where
+    (r : Retention) (flags : List Bool) (c : Cleans r flags (cell_at s slot) new) where
   abbrev old : CellState
   old = cell_at s slot
 
@@ -41,7 +41,8 @@ module _ (a : ℕ) (s : Shared) (kept : AreLogsKept s) (slot : ℕ) (new : CellS
       (ap (λ (n : Option PlainNode). cond (generation == old.generation) n None) (cleaned_node r flags old new c))
 
   shapes : (block : ℕ) → IsLeftShaped block (settled s slot) → IsLeftShaped block now
-  shapes block is = subst (IsLeftShaped block) (sym is_log) (shape block (subst (IsLeftShaped block) was_log is))
+  shapes block is =
+      subst (IsLeftShaped block) (sym is_log) (cleaned_shape r flags old new c block (subst (IsLeftShaped block) was_log is))
 
   -- the cell of an actor that commits is another
   others : (b : ℕ) → b ≢ a → (ino : ℕ) → owner_at s ino ≡ Some b → cell_at (with_cell slot new s) ino ≡ cell_at s ino

@@ -6,7 +6,7 @@ use Rattle.std.proofs.lemmas.Bool.{false≢true, true≢false}
 use Rattle.nv_alloc.specs.Block.{BlockValue}
 use Rattle.nv_base.specs.declared.fault.Fault.{Fault}
 use Rattle.nv_calls.specs.AllCalls.{blocks_wanted, early, effect, looked, refusal}
-use Rattle.nv_cell.specs.Cell.{CellState, IsCell, log_of}
+use Rattle.nv_cell.specs.Cell.{CellState}
 use Rattle.nv_machine.specs.Kept.{AreApart, AreLogsKept, HasNothing, IsInFile, IsPlanFor, IsReleaseCovered, Knows}
 use Rattle.nv_alloc.specs.Numbers.{has}
 use Rattle.nv_machine.specs.Hands.{unpublished_at}
@@ -38,18 +38,9 @@ use Rattle.nv_machine.proofs.LogsKeptByReleases.{release_retires, released_left,
 use Rattle.nv_calls.specs.Retiring.{released}
 use Rattle.nv_book.specs.Book.{BookState}
 use Rattle.nv_machine.proofs.MaintenanceTurns.{done_keeps}
-use Rattle.nv_machine.proofs.CellChanges.{lent_inside_own}
+use Rattle.nv_machine.proofs.CellChanges.{clean_cell_on, clean_slot_on, is_clean_on, lent_clean, lent_inside_own}
 use Rattle.nv_machine.proofs.LogsKeptByCleanings.{cleaned_left, cleaned_logs}
-use Rattle.nv_machine.proofs.CleanedCells.{Cleans}
-use Rattle.nv_machine.proofs.CleanSteps.{compact_cleans, compact_shape, unlink_cleans, unlink_shape}
-use Rattle.nv_cell.proofs.MarksKeep.{are_marks}
-use Rattle.nv_entry.specs.Held.{Retention}
-use Rattle.nv_machine.specs.Shapes.{IsLeftShaped}
-use Rattle.nv_machine.specs.Cleaning.{compacted_cell, unlinked}
-use Rattle.nv_clean.specs.Plans.{entries_staying, pages_staying}
-use Rattle.nv_cell.specs.Removal.{log_flags}
-use Rattle.nv_machine.specs.Frame.{lent}
-use Rattle.nv_cell.specs.Retained.{retention_by_marks}
+use Rattle.nv_machine.proofs.CleanSteps.{cleans_own}
 
 pub none_some : (ino : ℕ) → None ≡ Some ino → ⊥
 none_some ino e = true≢false (ap (λ (o : Option ℕ). is_none o) e)
@@ -166,33 +157,25 @@ book_step block a granted step s h r kept same is on =
     (subst (λ (t : Shared). IsLeft a s t (maintenance_work step a s h).hand) (sym is)
     (booked block a s (maintenance_work step a s h).shared.book h kept same))) on
 
--- a cleaning, by its record
-cleaned_kept : (step : MaintenanceStep) (ino : ℕ) (new : CellState) (block a : ℕ)
-    (granted : Bool) (s : Shared) (h : HandState) (r : Running)
-    → Standing (Maintenance step) block a s h r → (lent (Maintenance step) (length s.lists) a r).cell ≡ Some ino
-    → with_cell ino new s ≡ (maintenance_work step a s h).shared → (keeper : Retention) (flags : List Bool)
-    → Cleans keeper flags (cell_at s ino) new
-    → ((size : ℕ) → IsLeftShaped size (log_of (cell_at s ino)) → IsLeftShaped size (log_of new))
+-- a cleaning
+cleaned_kept : (step : MaintenanceStep) (block a : ℕ) (granted : Bool) (s : Shared) (h : HandState) (r : Running)
+    → is_clean_on step ≡ true → Standing (Maintenance step) block a s h r
+    → with_cell (clean_slot_on step) (clean_cell_on step s h) s ≡ (maintenance_work step a s h).shared
     → OnKnows block (a % length s.lists) (maintenance_turn step a granted s h r)
     → OnKept true block a s (maintenance_turn step a granted s h r)
-cleaned_kept step ino new block a granted s h r st is made keeper flags cleans shape on =
-    let here = lent_inside_own (Maintenance step) a s r st.before ino is in
+cleaned_kept step block a granted s h r is st made on =
+    let k = Maintenance step in
+    let ino = clean_slot_on step in
+    let here = lent_inside_own k a s r st.before ino (lent_clean k (length s.lists) a r is) in
     let tails = st.tails ino here.1 st.before.mine.holder in
+    let cleans = cleans_own k block s h r is here.0 (st.published ino here.1 refl) st.ready in
     kept_after block a s (maintenance_turn step a granted s h r)
     (snapshot_keeps (IsLeft a s) step a granted s h r
     (still_left a s s st.kept (same_still s) st.kept.closed, still_nodes s s (same_still s))
     (subst (λ (t : Shared). IsLeft a s t (maintenance_work step a s h).hand) made (
-      cleaned_left a s st.kept ino new here.0 here.1 tails keeper flags cleans shape,
-      cleaned_logs a s st.kept ino new here.0 here.1 tails keeper flags cleans shape,
+      cleaned_left a s st.kept ino _ here.0 here.1 tails _ _ cleans,
+      cleaned_logs a s st.kept ino _ here.0 here.1 tails _ _ cleans,
     ))) on
-
--- its slot has a cell, whose log ends at its tail
-clean_ready : (step : MaintenanceStep) (ino block a : ℕ) (s : Shared) (h : HandState) (r : Running)
-    → Standing (Maintenance step) block a s h r → (lent (Maintenance step) (length s.lists) a r).cell ≡ Some ino
-    → IsCell (cell_at s ino) × IsTailLast (cell_at s ino)
-clean_ready step ino block a s h r st is =
-    let here = lent_inside_own (Maintenance step) a s r st.before ino is in
-    (st.ready.cells ino here.0, st.published ino here.1 refl)
 
 snapshot_kept : (step : MaintenanceStep) (block a : ℕ) (granted : Bool) (s : Shared) (h : HandState) (r : Running)
     → Standing (Maintenance step) block a s h r → OnKnows block (a % length s.lists) (maintenance_turn step a granted s h r)
@@ -207,22 +190,8 @@ snapshot_kept (Judge manner slot) block a granted s h r st on =
     aside_kept (Maintenance (Judge manner slot)) block a granted s h r refl true st.kept on
 snapshot_kept (Fresh ino asked wanted) block a granted s h r st on =
     aside_kept (Maintenance (Fresh ino asked wanted)) block a granted s h r refl true st.kept on
-snapshot_kept (Unlink ino) block a granted s h r st on =
-    let cell = cell_at s ino in
-    let is = clean_ready (Unlink ino) ino block a s h r st refl in
-    let keeper = retention_by_marks cell in
-    let marks = are_marks cell is.0 in
-    cleaned_kept (Unlink ino) ino (unlinked cell) block a granted s h r st refl refl keeper
-    (log_flags (pages_staying cell) cell.chain) (unlink_cleans keeper cell is.0 is.1 marks)
-    (unlink_shape keeper cell is.0 is.1 marks) on
-snapshot_kept (Compact ino) block a granted s h r st on =
-    let cell = cell_at s ino in
-    let is = clean_ready (Compact ino) ino block a s h r st refl in
-    let keeper = retention_by_marks cell in
-    let marks = are_marks cell is.0 in
-    cleaned_kept (Compact ino) ino (compacted_cell h cell) block a granted s h r st refl refl keeper
-    (entries_staying cell) (compact_cleans keeper cell is.0 is.1 marks h st.ready.pages)
-    (compact_shape keeper cell is.0 is.1 marks h st.ready.pages) on
+snapshot_kept (Unlink ino) block a granted s h r st on = cleaned_kept (Unlink ino) block a granted s h r refl st refl on
+snapshot_kept (Compact ino) block a granted s h r st on = cleaned_kept (Compact ino) block a granted s h r refl st refl on
 snapshot_kept (Release draining picked) block a granted s h r st on =
     let here = lent_inside_own (Maintenance (Release draining picked)) a s r st.before picked.ino refl in
     let new = released picked (cell_at s picked.ino) in

@@ -18,11 +18,12 @@ use Rattle.nv_machine.specs.Cleaning.{chosen_turn, compacted_cell, fresh_turn, i
 use Rattle.nv_machine.specs.Kinds.{asked_list}
 use Rattle.nv_machine.specs.PoolScan.{has_inode}
 use Rattle.nv_machine.specs.Sequence.{slots_on}
-use Rattle.nv_machine.specs.Maintenance.{copies_at, drop_tests, drop_turn, first_showing, if_free, is_first, lock_picked_turn, make_tests, make_turn, one_more, picked_turn, pin_turn, seen_on, show_turn, showing_on, shown_by, maintenance_turn, visited}
+use Rattle.nv_machine.specs.Maintenance.{copies_at, drop_tests, drop_turn, first_showing, if_free, is_first, lock_picked_turn, make_tests, make_turn, one_more, picked_turn, pin_turn, seen_on, show_turn, showing_on, shown_by, maintenance_turn, visited, show_or_unpin}
 use Rattle.nv_machine.specs.World.{Cleans, Compact, Draining, Drains, Drop, Ending, Fresh, HandState, Judge, LockCleaned, LockPicked, Make, Manner, Overtaken, Pick, Pin, Refuses, Release, Running, Shared, Show, Showing, MaintenanceStep, Maintenance, Turn, Unlink, Unpin, cell_at, go_to, list_at, owner_at}
 use Rattle.nv_machine.proofs.StepWork.{maintenance_work}
 use Rattle.nv_machine.proofs.StepWays.{After, AfterBy, EndsBy, Going, IsBlockedOn, IsClearOn, IsHeld, Telling, ends_go, is_overtaken}
 use Rattle.nv_machine.proofs.StepWalk.{Denies, grown_goes, refused_goes}
+use Rattle.nv_reader.specs.Walk as walk
 
 -- ---- calls on snapshots
 
@@ -87,6 +88,26 @@ is_cleaning (Fresh ino asked wanted) = true
 is_cleaning (Unlink ino) = true
 is_cleaning (Compact ino) = true
 is_cleaning other = false
+
+-- a step of a call on snapshots goes on to no step of a cleaner behind its judge
+showing_plain : (left : ℕ) (visits : List walk.Visit) (snapshot : ℕ) (showing : Showing)
+    → is_cleaning (show_or_unpin left visits snapshot showing) ≡ false
+showing_plain zero visits snapshot showing = refl
+showing_plain (suc left) [] snapshot showing = refl
+showing_plain (suc left) (visit ∷ visits) snapshot showing = refl
+
+picked_plain : (deferred : List Record) (draining : Draining) → is_cleaning (picked_next deferred draining) ≡ false
+picked_plain [] draining = refl
+picked_plain (picked ∷ deferred) draining = refl
+
+pub goes_plain : (step : MaintenanceStep) (s : Shared) → goes_next step ≡ true → is_cleaning (next_on step s) ≡ false
+goes_plain (Pin snapshot) s on = showing_plain (first_showing s).left (first_showing s).visits snapshot (first_showing s)
+goes_plain (Show snapshot showing) s on =
+    let seen = seen_on (copies_at s snapshot (visited showing.visits)) showing in showing_plain seen.left seen.visits snapshot seen
+goes_plain (Pick draining) s on = picked_plain s.book.deferred draining
+goes_plain (LockPicked draining picked) s on = refl
+goes_plain (LockCleaned manner ino) s on = refl
+goes_plain other s on = absurd (false≢true on)
 
 pub record LeadsTo (step next : MaintenanceStep) : Type 0 where
   pub from : leads step ≡ true

@@ -1,22 +1,20 @@
 -- What comes next behind a step: behind one of a call on files and directories another such step, or the pick of a drain.
-use Rattle.nv_reader.specs.Walk as walk
-use Rattle.std.proofs.Common.{◌≡◌, ℕ, Bool, true, List, [], None, refl, zero, suc, ◌+◌, ◌∷◌, false, sym, ◌∙◌}
+use Rattle.std.proofs.Common.{◌≡◌, ℕ, Bool, true, List, [], None, refl, suc, ◌+◌, false, sym, ◌∙◌}
 use Rattle.std.specs.Prelude.{Result}
 use Rattle.nv_base.specs.declared.fault.Fault.{Fault}
 use Rattle.nv_calls.specs.declared.answer.Answer.{Answer}
 use Rattle.nv_machine.specs.Kinds.{end_turn}
 use Rattle.nv_machine.specs.Sequence.{sequel}
-use Rattle.nv_machine.specs.Maintenance.{maintenance_turn, show_or_unpin, first_showing, seen_on, copies_at, visited}
+use Rattle.nv_machine.specs.Maintenance.{maintenance_turn}
 use Rattle.nv_machine.specs.Step.{ending_at, kind_turn}
-use Rattle.nv_machine.specs.World.{Back, Check, Draining, Ending, Enter, Give, HandState, Leave, Lock, Look, Next, Pick, Ready, Running, Shared, Show, Showing, MaintenanceStep, Maintenance, TakeBlocks, TakePages, Turn, Unlock, Unpin, Visit, Judge, Fresh, Unlink, Compact, LockPicked, LockCleaned, Pin, cell_at, go_to}
+use Rattle.nv_machine.specs.World.{Back, Check, Draining, Ending, Enter, Give, HandState, Leave, Lock, Look, Next, Pick, Ready, Running, Shared, Show, Showing, MaintenanceStep, Maintenance, TakeBlocks, TakePages, Turn, Unlock, Unpin, Visit, Judge, Fresh, Unlink, Compact, cell_at, go_to}
 use Rattle.nv_machine.proofs.LoopSteps.{goes_on, is_on_files, sequel_on}
 use Rattle.nv_machine.proofs.StepWays.{After, Closes, EndsBy, Going, IsClear, IsClearOn, Takes, Telling, any_ends, end_goes, is_last, is_taker, is_taking, noted, by_last, by_taking}
 use Rattle.nv_machine.proofs.StepWalk.{WaysOf, Works, last_walk, walk, walk_of}
-use Rattle.nv_machine.proofs.MaintenanceWalk.{goes_next, next_on, maintenance_walk, LeadsTo, is_cleaning, leads, fresh_yet, step_walk_by, picked_next}
+use Rattle.nv_machine.proofs.MaintenanceWalk.{goes_next, next_on, maintenance_walk, LeadsTo, is_cleaning, leads, fresh_yet, step_walk_by, goes_plain}
 use Rattle.nv_clean.specs.Plans.{wanted_of}
 use Rattle.nv_machine.proofs.StepWork.{maintenance_work}
-use Rattle.nv_book.specs.declared.record.Record.{Record}
-use Rattle.std.proofs.lemmas.Bool.{true≢false, false≢true}
+use Rattle.std.proofs.lemmas.Bool.{true≢false}
 
 pub last_on : (k : Next) → is_last k ≡ true → is_on_files k ≡ true
 last_on = by_last (λ (k : Next). is_on_files k ≡ true) (λ place. refl) (λ cpu. refl) refl
@@ -128,26 +126,6 @@ QuietWays X (Maintenance (Fresh ino asked wanted)) block a s h r =
     → X (Maintenance (Fresh ino (asked + 1) (suc n))) d.shared d.hand (go_to (Maintenance (Fresh ino (asked + 1) (suc n))) r))
 QuietWays X (Maintenance step) block a s h r = Unit {0}
 QuietWays X other block a s h r = Works (KnowsNext X) other block a s h r
-
--- a step of a call on snapshots goes on to no step of a cleaner behind its judge
-showing_plain : (left : ℕ) (visits : List walk.Visit) (snapshot : ℕ) (showing : Showing)
-    → is_cleaning (show_or_unpin left visits snapshot showing) ≡ false
-showing_plain zero visits snapshot showing = refl
-showing_plain (suc left) [] snapshot showing = refl
-showing_plain (suc left) (visit ∷ visits) snapshot showing = refl
-
-picked_plain : (deferred : List Record) (draining : Draining) → is_cleaning (picked_next deferred draining) ≡ false
-picked_plain [] draining = refl
-picked_plain (picked ∷ deferred) draining = refl
-
-goes_plain : (step : MaintenanceStep) (s : Shared) → goes_next step ≡ true → is_cleaning (next_on step s) ≡ false
-goes_plain (Pin snapshot) s on = showing_plain (first_showing s).left (first_showing s).visits snapshot (first_showing s)
-goes_plain (Show snapshot showing) s on =
-    let seen = seen_on (copies_at s snapshot (visited showing.visits)) showing in showing_plain seen.left seen.visits snapshot seen
-goes_plain (Pick draining) s on = picked_plain s.book.deferred draining
-goes_plain (LockPicked draining picked) s on = refl
-goes_plain (LockCleaned manner ino) s on = refl
-goes_plain other s on = absurd (false≢true on)
 
 module _ (X : Known) (quiet : IsQuiet X) where
   pub quiet_closes : {s : Shared} {h : HandState} {r : Running} {e : Ending} → Closes (KnowsNext X) Untold s h r e

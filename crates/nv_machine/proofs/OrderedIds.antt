@@ -16,7 +16,7 @@ use Rattle.nv_machine.specs.Reads.{is_written, pages_needed, slot_at, written_sl
 use Rattle.nv_machine.specs.Sequence.{publishing, retiring}
 use Rattle.nv_machine.specs.Step.{kind_turn}
 use Rattle.nv_machine.specs.World.{Append, Close, Ends, Enter, HandState, Leave, Make, Moves, Next, Open, Publish, Retire, Running, Shared, MaintenanceStep, Maintenance, Turn, Waits, cell_at, go_to, no_cell, with_book, with_cell}
-use Rattle.nv_machine.proofs.CellChanges.{cells_after, commit_stays, enters, epoch_stays, holder_stays, makes, removal, clean_cell, clean_slot, is_clean, clean_entries, clean_flags}
+use Rattle.nv_machine.proofs.CellChanges.{cells_after, commit_stays, enters, epoch_stays, holder_stays, makes, removal, clean_cell, clean_slot, is_clean, is_cleaned}
 use Rattle.nv_machine.proofs.StepWork.{work, maintenance_work}
 use Rattle.nv_machine.proofs.WorkKeeps.{AfterTurn, snapshot_works, turn_keeps}
 use Rattle.nv_machine.proofs.Lists.{drop_apart, has_drop, rising_filter, self}
@@ -94,8 +94,9 @@ clean_order : (k : Next) (s : Shared) (h : HandState) → is_clean k ≡ true
     → IsBefore (s.book.commit + 1) s.book.snaps.epoch (cell_at s (clean_slot k)).chain.entries
     → IsBefore (s.book.commit + 1) s.book.snaps.epoch (clean_cell k s h).chain.entries
 clean_order k s h is was =
-    subst (IsBefore (s.book.commit + 1) s.book.snaps.epoch) (sym (clean_entries k s h is))
-    (left_in_order (s.book.commit + 1) s.book.snaps.epoch (clean_flags k s) (cell_at s (clean_slot k)).chain.entries was)
+    let c = is_cleaned k s h is in
+    subst (IsBefore (s.book.commit + 1) s.book.snaps.epoch) (sym c.entries)
+    (left_in_order (s.book.commit + 1) s.book.snaps.epoch c.flags (cell_at s (clean_slot k)).chain.entries was)
 
 -- a kind that keeps number and epoch leaves logs in order
 kept_order : (k : Next) (block a : ℕ) (s : Shared) (h : HandState) (r : Running) → enters k ≡ false → makes k ≡ false → Before a s k r

@@ -1,8 +1,8 @@
 -- A call that is refused was refused by one of its steps, whatever events come.
-use Rattle.std.proofs.Common.{◌≡◌, ◌∙◌, ℕ, ◌<◌, ◌==◌, ◌++◌, Bool, true, false, cond, List, [], ◌∷◌, Option, Some, None, ap, get_or-set_same, length, nat_lt, refl, subst, sym}
+use Rattle.std.proofs.Common.{◌≡◌, ◌∙◌, ℕ, ◌<◌, ◌++◌, Bool, true, false, List, [], ◌∷◌, Some, ap, length, nat_lt, refl, subst, sym}
 use Rattle.std.specs.Prelude.{Err, Ok, Result}
 use Rattle.std.specs.List.{AllByRecursion}
-use Rattle.std.proofs.lemmas.Bool.{false≢true, lt-ltb, ltb-true}
+use Rattle.std.proofs.lemmas.Bool.{false≢true, lt-ltb}
 use Rattle.nv_base.specs.declared.fault.Fault.{Fault}
 use Rattle.nv_base.specs.declared.geometry.GeometryNumbers.{GeometryNumbers}
 use Rattle.nv_book.specs.declared.record.Record.{Record}
@@ -10,21 +10,20 @@ use Rattle.nv_calls.specs.Plain.{node_in}
 use Rattle.nv_calls.specs.declared.answer.Answer.{Answer}
 use Rattle.nv_calls.specs.declared.call.Call.{Call}
 use Rattle.nv_machine.specs.Causes.{EndsFor, IsCause, IsRoundless, MayBeOvertaken, RefusesFor}
-use Rattle.nv_machine.specs.OwnSteps.{HasCauseBy, IsCaused, IsLeft, LeavesButPins, MetItsCause, OwnStep, SameButPins, fault_in, fault_of, fault_told, none_if_started, own_steps, refused_by, refused_for, steps_in, with_step}
-use Rattle.nv_machine.specs.PlainRun.{actor_of}
+use Rattle.nv_machine.specs.OwnSteps.{HasCauseBy, IsCaused, IsLeft, LeavesButPins, MetItsCause, OwnStep, SameButPins, fault_in, fault_of, fault_told, own_steps, refused_by, refused_for, with_step}
 use Rattle.nv_machine.specs.Sequence.{Beginning, Numbers, beginning, begun}
 use Rattle.nv_machine.specs.Settled.{settled_nodes}
 use Rattle.nv_machine.specs.Starts.{IsStart}
-use Rattle.nv_machine.specs.Step.{Step, after, kind_turn, start_step, step, turned}
-use Rattle.nv_machine.specs.World.{Actor, Answers, Draining, Drains, Ending, Ends, Event, Go, Moves, Next, Overtaken, Refused, Refuses, Reply, Running, Shared, Start, Turn, Unlock, Waits, World, actor_at, idle, Cleans}
+use Rattle.nv_machine.specs.Step.{Step, after, kind_turn, step, turned}
+use Rattle.nv_machine.specs.World.{Answers, Draining, Drains, Ending, Ends, Event, Go, Moves, Next, Overtaken, Refused, Refuses, Reply, Running, Shared, Turn, Unlock, Waits, World, actor_at, Cleans, HandState}
 use Rattle.nv_machine.proofs.DecidedRefusals.{plainly_caused}
-use Rattle.nv_machine.proofs.Lists.{self}
-use Rattle.nv_machine.proofs.OverEvents.{OwnAfter, event_of, own_goes, runs_inside, turn_at}
+use Rattle.nv_machine.proofs.OverEvents.{runs_inside, turn_at}
 use Rattle.nv_machine.proofs.RefusalCauses.{contended}
 use Rattle.nv_machine.proofs.RefusedTurns.{ClosingGoes, ClosingTold, DrainGoes, DrainTells, DrainingGoes, Goes, OpenGoes, OvertakenGoes, OverGoes, OverTold, Tells, closing_kind, drain_kind, is_closing, is_open, is_unlock, open_kind, over_kind, CleanGoes, CleanedGoes, clean_kind}
 use Rattle.nv_machine.proofs.SingleEvents.{go_is_turn}
 use Rattle.nv_machine.proofs.StepWays.{After, is_last}
 use Rattle.nv_clean.specs.declared.cleaned.Cleaned.{Cleaned}
+use Rattle.nv_machine.proofs.OverOwnSteps.{HasAfter, KeepsSteps, one_more, running_has, step_at}
 
 -- ---- what holds before each step, of what its call was refused for and of what its steps have left
 
@@ -209,82 +208,37 @@ module _ (w : World) (known : HasCauses w) (actor : ℕ) (granted : Bool) (r : R
 
 -- ---- one event
 
-abbrev HasMet : Option Running → List OwnStep → Type 0
-HasMet None steps = Unit {0}
-HasMet (Some r) steps = IsMet r steps
+abbrev Met : Running → HandState → List OwnStep → Type 0
+Met r h steps = IsMet r steps
 
 begun_met : (b : Beginning) (s : Shared) (c : Call) → IsMet (begun b s c) []
 begun_met Numbers s c = record { stands = (refl, λ o. tt); caused = tt }
 begun_met other s c = record { stands = (refl, λ o. tt); caused = tt }
 
 module _ (w : World) (known : HasCauses w) (actor : ℕ) where
-  abbrev Then : List OwnStep → Actor → Type 0
-  Then steps x = HasMet x.running steps
-
-  after_met : (r : Running) (steps : List OwnStep) (t : Turn) → (actor_at w actor).running ≡ Some r
+  after_met : (r : Running) (h : HandState) (steps : List OwnStep) (t : Turn)
       → AfterStep r.ending r.next (refused_for steps) (AllByRecursion IsLeft steps) t → AllByRecursion IsCaused steps
-      → OwnAfter (actor_at w actor) (Then steps) t
-  after_met r steps (Moves s h q) is on caused = record { stands = on; caused = caused }
-  after_met r steps Waits is on caused =
-      subst (λ (o : Option Running). HasMet o steps) (sym is) (record { stands = on; caused = caused })
-  after_met r steps (Ends x s h) is on caused = tt
+      → HasAfter Met r h steps t
+  after_met r h steps (Moves s g q) on caused = record { stands = on; caused = caused }
+  after_met r h steps Waits on caused = record { stands = on; caused = caused }
+  after_met r h steps (Ends x s g) on caused = tt
 
-  own_met : (granted : Bool) (before : List OwnStep) → HasMet (actor_at w actor).running before
-      → HasMet (actor_at (step w (Go actor granted)).world actor).running (with_step (actor_at w actor).running w actor granted before)
-  own_met granted before had =
-      own_goes (Then (with_step (actor_at w actor).running w actor granted before)) w actor granted (λ none. rw none tt)
-      (λ r there is. subst (λ (o : Option Running). OwnAfter (actor_at w actor) (Then (with_step o w actor granted before))
-      (turn_at w actor granted r)) (sym is) (go r is (subst (λ (o : Option Running). HasMet o before) is had)))
-    where
-      go : (r : Running) → (actor_at w actor).running ≡ Some r → IsMet r before
-          → OwnAfter (actor_at w actor) (Then (with_step (Some r) w actor granted before)) (turn_at w actor granted r)
-      go r is met =
-          after_met r (with_step (Some r) w actor granted before) (turn_at w actor granted r) is
-          (all_stands w known actor granted r is before met) (all_caused w known actor granted r is before met)
-
-  started_met : (b : Bool) (running : Option Running) (c : Call) (before : List OwnStep) → nat_lt actor (length w.actors) ≡ b
-      → (actor_at w actor).running ≡ running → HasMet running before
-      → HasMet (actor_at (start_step b running actor c w).world actor).running
-      (none_if_started (start_step b running actor c w).reply before)
-  started_met false running c before there is had = rw is had
-  started_met true (Some r) c before there is had = rw is had
-  started_met true None c before there is had =
-      subst (Then [])
-      (sym (get_or-set_same w.actors actor (record { hand = (actor_at w actor).hand; running = Some (begun (beginning c) w.shared c) })
-      idle (ltb-true actor (length w.actors) there))) (begun_met (beginning c) w.shared c)
-
-  apart_met : (before : List OwnStep) → HasMet (actor_at w actor).running before → (e : Event) → (actor_of e == actor) ≡ false
-      → HasMet (actor_at w actor).running (steps_in actor w e before)
-  apart_met before had (Start other c) apart = rw apart had
-  apart_met before had (Go other granted) apart = rw apart had
-
-  event_met : (e : Event) (before : List OwnStep) → HasMet (actor_at w actor).running before
-      → HasMet (actor_at (step w e).world actor).running (steps_in actor w e before)
-  event_met e before had = event_of w actor (λ (e : Event) (x : Actor). HasMet x.running (steps_in actor w e before))
-      (apart_met before had)
-      (λ granted. rw (self actor) (own_met granted before had))
-      (λ c. rw (self actor) (started_met (nat_lt actor (length w.actors)) (actor_at w actor).running c before refl refl had)) e
+  keeps_met : KeepsSteps Met actor w
+  keeps_met = record {
+    begins = λ c none. begun_met (beginning c) w.shared c;
+    turns = λ granted r before is met.
+        after_met r (actor_at w actor).hand (step_at w actor granted r ∷ before) (turn_at w actor granted r)
+        (all_stands w known actor granted r is before met) (all_caused w known actor granted r is before met);
+  }
 
 -- ---- all events
 
-events_met : (events : List Event) (w : World) (actor : ℕ) (before : List OwnStep) → ((some : List Event) → HasCauses (after w some))
-    → HasMet (actor_at w actor).running before → HasMet (actor_at (after w events) actor).running (own_steps actor w events before)
-events_met [] w actor before known had = had
-events_met (e ∷ events) w actor before known had =
-    events_met events (step w e).world actor (steps_in actor w e before) (λ some. known (e ∷ some)) (event_met w (known []) actor e before had)
-
--- one more event
-pub steps_more : (events : List Event) (w : World) (actor : ℕ) (e : Event) (before : List OwnStep)
-    → own_steps actor w (events ++ e ∷ []) before ≡ steps_in actor (after w events) e (own_steps actor w events before)
-steps_more [] w actor e before = refl
-steps_more (f ∷ events) w actor e before = steps_more events (step w f).world actor e (steps_in actor w f before)
-
 -- the fault that a reply tells
-abbrev fault_replied : Fault → Reply → Fault
+abbrev pub fault_replied : Fault → Reply → Fault
 fault_replied other (Refused fault) = fault
 fault_replied other reply = other
 
-abbrev is_refusal : Reply → Bool
+abbrev pub is_refusal : Reply → Bool
 is_refusal (Refused fault) = true
 is_refusal other = false
 
@@ -299,9 +253,9 @@ module _ (g : GeometryNumbers) (start : World) (records : List Record) (events :
   has_causes : (some : List Event) → HasCauses (after start some)
   has_causes some = λ other granted r is going. plainly_caused g start records some other granted r is_start is going
 
-  all_met_before : HasMet (actor_at w actor).running before
-  all_met_before = events_met events start actor [] has_causes
-      (subst (λ (x : Actor). HasMet x.running []) (sym (is_start.idle_all actor)) tt)
+  met_before : (r : Running) → (actor_at w actor).running ≡ Some r → IsMet r before
+  met_before r = running_has Met actor events start r (λ past. keeps_met (after start past) (has_causes past) actor)
+      (is_start.idle_all actor)
 
   refused_turn : (t : Turn) (e : Ending) (k : Next) (steps : List OwnStep) (fault : Fault)
       → AfterStep e k (refused_for steps) (AllByRecursion IsLeft steps) t → AllByRecursion IsCaused steps
@@ -319,13 +273,11 @@ module _ (g : GeometryNumbers) (start : World) (records : List Record) (events :
       → (step w (Go actor granted)).reply ≡ Refused fault
       → MetItsCause fault (own_steps actor start (events ++ Go actor granted ∷ []) [])
   met_cause granted r fault is told =
-      let met : IsMet r before = subst (λ (o : Option Running). HasMet o before) is all_met_before in
+      let met = met_before r is in
       let turn_is = go_is_turn (nat_lt actor (length w.actors)) (actor_at w actor).running w actor granted r
       (lt-ltb actor (length w.actors) (runs_inside w actor r is)) is in
       subst (MetItsCause fault)
-      (sym (steps_more events start actor (Go actor granted) []
-      ∙ ap (λ (b : Bool). cond b (with_step (actor_at w actor).running w actor granted before) before) (self actor)
-      ∙ ap (λ (o : Option Running). with_step o w actor granted before) is))
+      (sym (one_more events start actor granted r is))
       (refused_turn (turn_at w actor granted r) r.ending r.next (with_step (Some r) w actor granted before) fault
       (all_stands w (has_causes events) actor granted r is before met)
       (all_caused w (has_causes events) actor granted r is before met)

@@ -27,7 +27,7 @@ use Rattle.nv_machine.proofs.Lists.{has_filter, has_later, self}
 use Rattle.nv_machine.proofs.LocksHeld.{lent_cell, owner_is}
 use Rattle.nv_machine.proofs.LocksOverEvents.{before}
 use Rattle.nv_machine.proofs.Cleanable.{IsCleanable, cleanable}
-use Rattle.nv_machine.proofs.CleanedPool.{cleaned_like}
+use Rattle.nv_machine.proofs.CleanedCells.{cleaned_like}
 use Rattle.nv_machine.proofs.BlockNumbers.{cleans_now, part_times}
 use Rattle.nv_machine.proofs.PoolKnown.{HaveInodes, OnSeen, Sees, SeesOf, begun_by}
 use Rattle.nv_machine.proofs.PoolSlots.{inos_of}

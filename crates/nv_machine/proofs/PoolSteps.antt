@@ -9,7 +9,7 @@ use Rattle.nv_base.specs.declared.geometry.GeometryNumbers.{GeometryNumbers}
 use Rattle.nv_cell.specs.Cell.{published}
 use Rattle.nv_machine.specs.Reads.{if_number, is_written, slot_at, written_slots}
 use Rattle.nv_machine.specs.Step.{kind_turn}
-use Rattle.nv_machine.specs.World.{Append, Check, Close, Ends, Enter, HandState, Lock, Look, Moves, Next, Number, Open, Publish, Ready, Retire, Running, Shared, TakeBlocks, TakePages, Turn, Waits, cell_at, with_cell, MaintenanceStep, Maintenance, Fresh, Compact, Make, Judge}
+use Rattle.nv_machine.specs.World.{Append, Check, Close, Ends, Enter, HandState, Lock, Look, Moves, Next, Number, Open, Publish, Ready, Retire, Running, Shared, TakeBlocks, TakePages, Turn, Waits, cell_at, with_cell, MaintenanceStep, Maintenance, Fresh, Judge}
 use Rattle.nv_machine.proofs.StepWork.{work}
 use Rattle.nv_machine.proofs.WorkKeeps.{AfterTurn, turn_keeps}
 use Rattle.nv_machine.proofs.Lists.{has_filter, has_take, rising_filter, self, take_apart}
@@ -24,7 +24,7 @@ use Rattle.nv_machine.proofs.StepWays.{noted}
 use Rattle.nv_machine.proofs.WrittenSlots.{written_there}
 use Rattle.nv_machine.specs.Frame.{lent}
 use Rattle.nv_machine.proofs.CellChanges.{clean_cell, clean_cell_on, clean_slot, clean_slot_on, is_clean, is_clean_on, lent_clean, lent_inside_own, lent_removal, removal_on}
-use Rattle.nv_machine.specs.Hands.{HandOn}
+use Rattle.nv_machine.proofs.HandsInCommits.{alone_on}
 
 -- ---- what the call knows
 
@@ -218,18 +218,12 @@ close_tally g block a s h r st n = ap (tally n s) (go h.ino refl) where
 
 -- ---- every kind
 
-none_numbered : (step : MaintenanceStep) (h : HandState) → HandOn step h → h.ino ≡ None
-none_numbered (Fresh ino asked wanted) h at = ap (λ (x : HandState). x.ino) at
-none_numbered (Compact ino) h at = ap (λ (x : HandState). x.ino) at
-none_numbered Make h at = ap (λ (x : HandState). x.ino) at
-none_numbered other h at = ap (λ (x : HandState). x.ino) at
-
 can_tally : (g : GeometryNumbers) (step : MaintenanceStep) (a : ℕ) (s : Shared) (h : HandState) (r : Running)
     → Standing g (Maintenance step) a s h r
     → (is_clean_on step ≡ true → IsLike (cell_at s (clean_slot_on step)) (clean_cell_on step s h))
     → CanTally (Maintenance step) s h r
 can_tally g step a s h r st like = (
-  λ is. (inside (removal_on step s h).slot (lent_removal k (length s.lists) a s h r is), λ q. none_numbered step h st.hand),
+  λ is. (inside (removal_on step s h).slot (lent_removal k (length s.lists) a s h r is), λ q. ap (λ (x : HandState). x.ino) (alone_on step h st.hand)),
   λ is. (inside (clean_slot_on step) (lent_clean k (length s.lists) a r is), like is),
 ) where
   k : Next

@@ -25,11 +25,9 @@ use Rattle.nv_machine.proofs.UnsettledTurns.{point_settles}
 use Rattle.nv_machine.proofs.LogsKeptRuns.{shapes_stay}
 use Rattle.nv_machine.proofs.LogsKept.{no_shape}
 use Rattle.nv_machine.proofs.Shapes.{Grows, kinds_after, shape_more}
-use Rattle.nv_machine.proofs.CleanedCells.{last_step}
+use Rattle.nv_machine.proofs.CleanedCells.{gone_step}
 use Rattle.nv_cell.specs.Readers.{is_gone, is_last_word}
 use Rattle.nv_base.specs.declared.node.Kind.{Kind}
-use Rattle.std.specs.Option.{option_map}
-use Rattle.std.specs.Prelude.{unwrap_or}
 use Rattle.std.proofs.lemmas.Bool.{false≢true}
 use Rattle.std.proofs.lemmas.Option.{none-some}
 use Rattle.nv_entry.specs.declared.item.Item.TheVariants.{Gone}
@@ -48,8 +46,7 @@ gone_none (e ∷ []) before is = go e.item is where
   go Gone is = refl
   go other is = absurd (false≢true is)
 gone_none (e ∷ f ∷ log) before is =
-    gone_none (f ∷ log) (kind_after e.item before)
-    (sym (ap (λ (o : Option Entry). unwrap_or (option_map (λ (x : Entry). is_last_word x.item) o) false) (last_step e f log)) ∙ is)
+    gone_none (f ∷ log) (kind_after e.item before) (sym (gone_step e f log) ∙ is)
 
 there_still : (log : List Entry) (kind : Kind) → kinds_after (items_of log) None ≡ Some kind → is_gone log ≡ false
 there_still log kind is = go (is_gone log) refl where

@@ -143,6 +143,15 @@ pub entries_within : (commit epoch place : ℕ) (items : List Item) → AllByRec
 entries_within commit epoch place [] h = tt
 entries_within commit epoch place (item ∷ items) h = (h.0, entries_within commit epoch (place + 1) items h.1)
 
+-- a cell is set and a hand left, where both are sound
+set_sound : (g : GeometryNumbers) (ino : ℕ) (new : CellState) (s : Shared) (h after : HandState) → IsSound g s h
+    → IsParted g.block new → AllSized g.block after → IsSound g (with_cell ino new s) after
+set_sound g ino new s h after sound parted all = record {
+  lists = record { cpus = sound.lists.cpus; each = sound.lists.each };
+  cells = with_parted g ino new s sound.cells parted;
+  sized = in_all g.block after all;
+}
+
 append_sound : (g : GeometryNumbers) (place pages : ℕ) (s : Shared) (h : HandState) (r : Running) → place < length (written_slots r)
     → HasPlanned h r (drop place (written_slots r)) → IsSound g s h
     → IsSound g (append_work (slot_at (written_slots r) place) pages s h r).shared
@@ -156,16 +165,11 @@ append_sound g place pages s h r inside planned sound =
     let parted = entries_parted g.block entries h.blocks more
     (entries_within r.commit r.epoch (place_in r.plan ino) (items_for r.plan ino) (planned.within ino))
     (slot_first place h r inside planned) all.blocks paged in
-    let hand = (append_work ino pages s h r).hand in
-    record {
-      lists = record { cpus = sound.lists.cpus; each = sound.lists.each };
-      cells = with_parted g ino (with_entries entries h.blocks more) s sound.cells parted;
-      sized = in_all g.block hand (record {
-        blocks = left_sized g.block entries h.blocks all.blocks;
-        pages = sized_later g.block pages h.pages all.pages;
-        chain = all.chain;
-      });
-    }
+    set_sound g ino (with_entries entries h.blocks more) s h (append_work ino pages s h r).hand sound parted (record {
+      blocks = left_sized g.block entries h.blocks all.blocks;
+      pages = sized_later g.block pages h.pages all.pages;
+      chain = all.chain;
+    })
 
 -- ---- retire
 
@@ -206,7 +210,7 @@ same_sound : (g : GeometryNumbers) (s : Shared) (h : HandState) → IsSound g s 
 same_sound g s h sound numbers ino =
     record { lists = record { cpus = sound.lists.cpus; each = sound.lists.each }; cells = sound.cells; sized = sound.sized }
 
--- fresh log pages are of the right size
+-- log pages of a list are of the right size
 fresh_sound : (g : GeometryNumbers) (cpu wanted : ℕ) (s : Shared) (h : HandState) → IsSound g s h
     → IsSound g (less_list cpu wanted s) (with_fresh cpu wanted s h)
 fresh_sound g cpu wanted s h sound =
@@ -230,27 +234,19 @@ clean_sound g (Unlink ino) a s h is sound parted =
     let all = all_sized g.block h sound.sized in
     let stays = (unlinkable_of cell).stays in
     let gone = all_gone (λ (b : BlockValue). length b.bytes ≡ g.block) stays cell.chain.blocks (sound.cells ino).pages in
-    record {
-      lists = record { cpus = sound.lists.cpus; each = sound.lists.each };
-      cells = with_parted g ino (unlinked cell) s sound.cells parted;
-      sized = in_all g.block (with_unlinked cell h) (record {
-        blocks = all.blocks;
-        pages = sized_both g.block h.pages (gone_of stays cell.chain.blocks) all.pages gone;
-        chain = all.chain;
-      });
-    }
+    set_sound g ino (unlinked cell) s h (with_unlinked cell h) sound parted (record {
+      blocks = all.blocks;
+      pages = sized_both g.block h.pages (gone_of stays cell.chain.blocks) all.pages gone;
+      chain = all.chain;
+    })
 clean_sound g (Compact ino) a s h is sound parted =
     let cell = cell_at s ino in
     let all = all_sized g.block h sound.sized in
-    record {
-      lists = record { cpus = sound.lists.cpus; each = sound.lists.each };
-      cells = with_parted g ino (compacted_cell h cell) s sound.cells parted;
-      sized = in_all g.block (with_old_chain cell h) (record {
-        blocks = all.blocks;
-        pages = tt;
-        chain = sized_both g.block h.chain cell.chain.blocks all.chain (sound.cells ino).pages;
-      });
-    }
+    set_sound g ino (compacted_cell h cell) s h (with_old_chain cell h) sound parted (record {
+      blocks = all.blocks;
+      pages = tt;
+      chain = sized_both g.block h.chain cell.chain.blocks all.chain (sound.cells ino).pages;
+    })
 clean_sound g other a s h is sound parted = absurd (false≢true is)
 
 pub work_sound : (g : GeometryNumbers) (k : Next) (a : ℕ) (s : Shared) (h : HandState) (r : Running) → Before a s k r → HandAt g k h r
@@ -271,18 +267,7 @@ work_sound g (TakeBlocks asked) a s h r b at sound cleans =
         chain = all.chain;
       });
     }
-work_sound g (TakePages asked) a s h r b at sound cleans =
-    let cpu = asked_list (length s.lists) a asked in
-    let all = all_sized g.block h sound.sized in
-    record {
-      lists = less_sound g cpu r.wanted s sound.lists;
-      cells = sound.cells;
-      sized = in_all g.block (work (TakePages asked) g.block a s h r).hand (record {
-        blocks = all.blocks;
-        pages = sized_both g.block h.pages (take r.wanted (list_at s cpu).blocks) all.pages (list_sized g cpu r.wanted s sound.lists);
-        chain = all.chain;
-      });
-    }
+work_sound g (TakePages asked) a s h r b at sound cleans = fresh_sound g (asked_list (length s.lists) a asked) r.wanted s h sound
 work_sound g Ready a s h r b at sound cleans =
     let all = all_sized g.block h sound.sized in
     record {

@@ -1,21 +1,19 @@
 -- Which steps go on to which: those before a check, and the last ones, to their like; those of a commit to no taking,
 -- nor past both; and a check to a taking's first list.
-use Rattle.nv_reader.specs.Walk as walk
-use Rattle.std.proofs.Common.{Bool, List, None, Option, Some, false, refl, suc, sym, true, zero, ℕ, not, ◌+◌, ◌==◌, ◌||◌, ◌∙◌, ◌≡◌, ap, [], ◌∷◌}
+use Rattle.std.proofs.Common.{Bool, List, None, Option, Some, false, refl, suc, sym, true, zero, ℕ, not, ◌+◌, ◌==◌, ◌||◌, ◌∙◌, ◌≡◌, ap}
 use Rattle.std.proofs.lemmas.Bool.{false≢true, true≢false}
 use Rattle.nv_base.specs.Memory.{out_of_memory}
 use Rattle.nv_machine.specs.Kinds.{check_turn, end_turn, grown, wants_blocks, wants_pages, wants_room}
 use Rattle.nv_machine.specs.Reads.{pages_wanted, plan_by}
 use Rattle.nv_machine.specs.Sequence.{sequel}
-use Rattle.nv_machine.specs.Maintenance.{maintenance_turn, first_showing, seen_on, copies_at, visited, show_or_unpin}
+use Rattle.nv_machine.specs.Maintenance.{maintenance_turn}
 use Rattle.nv_machine.specs.Step.{ending_at, kind_turn, with_made}
 use Rattle.nv_machine.specs.Takings.{asks_list}
-use Rattle.nv_machine.specs.World.{Back, Check, Ending, Ends, Give, HandState, Leave, Lock, Look, Moves, Next, Number, Ready, Refuses, Running, Shared, Maintenance, TakeBlocks, TakePages, Turn, Unlock, Visit, Waits, Fresh, Judge, LockCleaned, LockPicked, Pin, Pick, Show, Showing, Draining, MaintenanceStep}
+use Rattle.nv_machine.specs.World.{Back, Check, Ending, Ends, Give, HandState, Leave, Lock, Look, Moves, Next, Number, Ready, Refuses, Running, Shared, Maintenance, TakeBlocks, TakePages, Turn, Unlock, Visit, Waits, Fresh, Judge, MaintenanceStep}
 use Rattle.nv_machine.proofs.NextSteps.{IsNext, end_next, kind_next, step_next}
 use Rattle.nv_machine.proofs.LoopSteps.{Sequel, goes_on, locking_any, looking_any, sequel_any}
 use Rattle.nv_machine.proofs.StepWays.{by_last, is_last, is_taker, noted, EndsBy, any_ends}
-use Rattle.nv_machine.proofs.MaintenanceWalk.{leads, goes_next, next_on, picked_next, step_walk_by}
-use Rattle.nv_book.specs.declared.record.Record.{Record}
+use Rattle.nv_machine.proofs.MaintenanceWalk.{leads, step_walk_by, goes_plain, is_cleaning}
 
 abbrev pub IsFirst : Next → Type 0
 IsFirst (TakeBlocks asked) = (asked == 0) ≡ true
@@ -126,30 +124,14 @@ no_taker (TakeBlocks asked) e on = false≢true e
 no_taker (TakePages asked) e on = false≢true e
 no_taker other e on = false≢true on
 
-plain_showing : (left : ℕ) (visits : List walk.Visit) (snapshot : ℕ) (showing : Showing)
-    → IsPlain (Maintenance (show_or_unpin left visits snapshot showing))
-plain_showing zero visits snapshot showing = tt
-plain_showing (suc left) [] snapshot showing = tt
-plain_showing (suc left) (visit ∷ visits) snapshot showing = tt
-
-plain_picked : (deferred : List Record) (draining : Draining) → IsPlain (Maintenance (picked_next deferred draining))
-plain_picked [] draining = tt
-plain_picked (picked ∷ deferred) draining = tt
-
--- a step of a call on snapshots goes on to no taking
-plain_goes : (step : MaintenanceStep) (s : Shared) → goes_next step ≡ true → IsPlain (Maintenance (next_on step s))
-plain_goes (Pin snapshot) s on = plain_showing (first_showing s).left (first_showing s).visits snapshot (first_showing s)
-plain_goes (Show snapshot showing) s on =
-    let seen = seen_on (copies_at s snapshot (visited showing.visits)) showing in plain_showing seen.left seen.visits snapshot seen
-plain_goes (Pick draining) s on = plain_picked s.book.deferred draining
-plain_goes (LockPicked draining picked) s on = tt
-plain_goes (LockCleaned manner ino) s on = tt
-plain_goes other s on = absurd (false≢true on)
+not_cleaning : (step : MaintenanceStep) → is_cleaning step ≡ false → IsPlain (Maintenance step)
+not_cleaning (Fresh ino asked wanted) plain = absurd (true≢false plain)
+not_cleaning other plain = tt
 
 pub plain : (k : Next) (block actor : ℕ) (granted : Bool) (s : Shared) (h : HandState) (r : Running) → leads_to_plain k ≡ true
     → OnPlain (kind_turn k block actor granted s h r)
 plain (Maintenance step) block actor granted s h r e =
-    step_next IsPlain last_plain tt (λ draining. tt) step actor granted s h r (λ on clear. plain_goes step s on)
+    step_next IsPlain last_plain tt (λ draining. tt) step actor granted s h r (λ on clear. not_cleaning _ (goes_plain step s on))
     (λ snapshot showing on. tt)
     (λ next is. absurd (true≢false (sym e ∙ ap not is.from)))
 plain other block actor granted s h r e =

@@ -14,12 +14,12 @@ use Rattle.nv_entry.specs.declared.item.Entry.{Entry}
 use Rattle.nv_journal.specs.declared.old_tail.OldTail.{OldTail}
 use Rattle.nv_log.specs.Chain.{ChainState}
 use Rattle.nv_machine.specs.Step.{kind_turn}
-use Rattle.nv_machine.proofs.CellChanges.{adds, cells_after, holder_stays, journals_stay, lent_inside_own, locks, no_more, notes, removal, clean_cell, clean_entries, clean_flags, clean_slot, clean_tail, is_clean}
+use Rattle.nv_machine.proofs.CellChanges.{adds, cells_after, holder_stays, journals_stay, lent_inside_own, locks, no_more, notes, removal, clean_cell, clean_slot, is_clean, is_cleaned}
 use Rattle.nv_machine.proofs.StepWork.{work}
 use Rattle.nv_machine.proofs.StepFrames.{work_framed}
 use Rattle.nv_machine.proofs.WorkKeeps.{AfterTurn, turn_keeps}
 use Rattle.nv_machine.proofs.LocksHeld.{Before, locks_kept}
-use Rattle.nv_machine.proofs.PagesLeft.{few_left}
+use Rattle.nv_log.proofs.Flags.{length-left_of}
 use Rattle.nv_journal.specs.Journal.{tail_noted}
 
 -- the cells of others, and their settled logs
@@ -177,10 +177,11 @@ module _ (k : Next) (block a : ℕ) (s : Shared) (h : HandState) (r : Running) (
   cleaned_whole is was =
       let old = (cell_at s (clean_slot k)).chain.entries in
       let new = (clean_cell k s h).chain.entries in
-      let few = ap (λ (l : List Entry). length l) (clean_entries k s h is) in (
-        sym (still_all s.book.journals (clean_slot k) _ _ old new was.entries was.tail (clean_tail k s h is was.tail)
-            (omega (arith, few, few_left (clean_flags k s) old))),
-        clean_tail k s h is was.tail,
+      let c = is_cleaned k s h is in
+      let few = ap (λ (l : List Entry). length l) c.entries in (
+        sym (still_all s.book.journals (clean_slot k) _ _ old new was.entries was.tail (c.tail was.tail)
+            (omega (arith, few, length-left_of c.flags old))),
+        c.tail was.tail,
       )
 
   whole : (ino : ℕ) → IsAllSettled s ino → IsWhole s ino (cell_at t ino)

@@ -27,7 +27,7 @@ use Rattle.nv_machine.proofs.Lists.{drop_apart, has_drop, has_filter, has_later,
 use Rattle.nv_machine.proofs.LocksHeld.{Before, locks_kept}
 use Rattle.nv_machine.proofs.LogsKept.{cell_set}
 use Rattle.nv_machine.proofs.WrittenSlots.{written_there}
-use Rattle.nv_machine.proofs.CellChanges.{cells_after, commit_stays, enters, removal, clean_slot, is_cleaning}
+use Rattle.nv_machine.proofs.CellChanges.{cells_after, commit_stays, enters, removal, clean_slot, is_cleaned}
 
 -- ---- cells
 
@@ -194,7 +194,7 @@ module _ (block a : ℕ) (s : Shared) (h : HandState) (r : Running) (are : AreVe
               let same : x.cell.version ≤ s.book.commit =
               subst (λ (n : ℕ). n ≤ s.book.commit) (sym left.keeps.version) (are.cells x.slot) in
               by_erased (λ (c : CellState). c.version ≤ s.book.commit) x.cell same same;
-          cleans = λ is low. subst (λ (n : ℕ). n ≤ s.book.commit) (sym (is_cleaning k s h is).version) (are.cells (clean_slot k));
+          cleans = λ is low. subst (λ (n : ℕ). n ≤ s.book.commit) (sym (is_cleaned k s h is).version) (are.cells (clean_slot k));
         })
 
   abbrev After : Turn → Type 0

@@ -3,6 +3,7 @@
 mod audits;
 mod growths;
 mod handed;
+mod parts;
 mod playing;
 mod reports;
 mod snapshots;

@@ -3,7 +3,7 @@
 use crate::compare::{push, refused_memory, same};
 use crate::trees::are_alike;
 use nv_base::{Epoch, Ino};
-use nv_core::{Lists, LogCounts, Snaps, Space, Tree, World};
+use nv_core::{Lists, LogCounts, Parts, Snaps, Space, Tree, World};
 use std::alloc::Global;
 use std::process::Abort;
 
@@ -63,6 +63,26 @@ impl Reports {
             true,
         );
         self.have_those_snapshots(rt, before);
+    }
+
+    /// Asserts that parts have what the world reported.
+    pub fn are_of(&self, rt: &impl Abort, parts: &Parts) {
+        same(rt, parts.cells.len(), self.logs.len());
+        let mut chain: u64 = 0;
+        for (cell, log) in parts.cells.as_slice().iter().zip(&self.logs) {
+            same(rt, cell.tail(), log.entries);
+            chain = chain.saturating_add(cell.log().blocks().len() as u64);
+        }
+        same(rt, chain, self.space.chain);
+        same(rt, parts.lists.len(), self.lists.len());
+        let mut free: u64 = 0;
+        for list in parts.lists.as_slice() {
+            free = free.saturating_add(list.len());
+        }
+        same(rt, free, self.space.free);
+        same(rt, parts.book.deferred_blocks(), self.space.pending);
+        same(rt, parts.book.epoch(), self.snaps.epoch);
+        same(rt, parts.book.commit(), self.snaps.commit);
     }
 
     fn have_those_snapshots(&self, rt: &impl Abort, before: &Reports) {

@@ -22,6 +22,7 @@ invariant_of-self c =
       ends = inv.ends;
       tallied = inv.tallied;
       spare = inv.spare;
+      held = inv.held;
       slots = inv.slots;
       blocks_room = inv.blocks_room;
       pages_room =

@@ -14,6 +14,7 @@ use Rattle.nv_cell.specs.Fields.{state_in, value_in}
 use Rattle.nv_cell.specs.Index.{bindings_of}
 use Rattle.nv_cell.specs.Room.{IsReadyFor}
 use Rattle.nv_cell.proofs.Appending.{blocks_append, log_stays, sized_front}
+use Rattle.nv_cell.proofs.Held.{held_more, held_within}
 use Rattle.nv_cell.proofs.Numbers.{total_append}
 use Rattle.nv_cell.proofs.Opening.{counts_for, counts_grow}
 use Rattle.nv_cell.proofs.Publishing.{total_take}
@@ -81,6 +82,9 @@ invariant_of-self c =
         ends = omega (arith, inv.spare.ends, more, within, entries);
         tallies = omega (arith, inv.spare.tallies, more, within, entries);
       };
+      held =
+          held_more es c.self.inside.blocks.items c.push_slots.new.slots.items e bs inv.held c.pages_added.ensures
+          c.requires.blocks spread.0;
       slots = spread.1;
       blocks_room = omega (
         arith,
@@ -116,3 +120,21 @@ returns-clause-state c =
     let spread = slots_append i.chain.state.entries i.blocks.items c.push_slots.new.slots.items e bs
     c.self.invariant.slots c.requires.next.within c.requires.blocks c.push_slots.ensures.slots in
     rw (← c.self.view_is, c.append.ensures.state, spread.0) refl
+
+pub overflow_add-self : goal.overflow_add-self
+overflow_add-self c =
+    let i = c.self.inside in
+    let inv = c.self.invariant in
+    let es = i.chain.state.entries in
+    let e : Entry = c.args.entry in
+    let bs = blocks_for e.item c.args.queue.now.blocks in
+    let slots = c.push_slots.new.slots in
+    let spread = slots_append es i.blocks.items slots.items e bs inv.slots c.requires.next.within c.requires.blocks
+    c.push_slots.ensures.slots in
+    omega (
+      arith,
+      held_more es i.blocks.items slots.items e bs inv.held c.pages_added.ensures c.requires.blocks spread.0,
+      held_within (es ++ e ∷ []) slots.items spread.1,
+      slots.ok,
+      slots.small,
+    )

@@ -111,6 +111,7 @@ invariant_of-self c =
           c.take_effect-self-inside.ensures.tallied.tallies.len,
         );
       };
+      held = inv.held;
       slots = inv.slots;
       blocks_room = inv.blocks_room;
       pages_room = omega (arith, inv.pages_room, r.pages, c.publish_to.ensures.spare);

@@ -48,6 +48,7 @@ invariant_of-self-2 c =
       chain = c.grow_log.ensures.chain;
       marks = g;
       blocks = c.grow_log.ensures.blocks;
+      held = refl;
       index = c.reserve.ensures.same;
       numbers = c.grow_lists.ensures.numbers;
       killed = c.grow_lists.ensures.killed;

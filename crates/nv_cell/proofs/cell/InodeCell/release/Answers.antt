@@ -1,7 +1,8 @@
-use Rattle.std.proofs.Common.{None, refl, ap, ◌∙◌, slice_index_or}
+use Rattle.std.proofs.Common.{None, arith, refl, ap, ◌∙◌, slice_index_or}
 use Rattle.nv_cell.specs.declared.mark.Mark.TheVariants.{Out}
 use Rattle.nv_cell.specs.Fields.{state_in}
 use Rattle.nv_cell.specs.Slots.{by_part}
+use Rattle.nv_cell.proofs.Held.{held_out, told_out}
 use Rattle.nv_cell.proofs.PartSlots.{few_found, parts_begin, slot_found}
 use Rattle.nv_cell.proofs.Remarked.{fields_out, is_found}
 use Rattle.nv_cell.proofs.Remarking.{is_idle}
@@ -23,8 +24,8 @@ slot-slot-requires c =
     let found = is_found i idle c.unwrap-found.ensures c.find_part.ensures in
     record { few = few_found i c.self.invariant c.unwrap-found.result found.entry }
 
-pub take_block-requires : goal.take_block-requires
-take_block-requires c =
+pub take_block-block-requires : goal.take_block-block-requires
+take_block-block-requires c =
     let i = c.self.inside in
     let idle = is_idle (state_in i) c.args.part (rw (← c.self.view_is) at c.requires) in
     let found = is_found i idle c.unwrap-found.ensures c.find_part.ensures in
@@ -38,7 +39,9 @@ invariant_of-self c =
     let found = is_found i idle c.unwrap-found.ensures c.find_part.ensures in
     let at = slot_found i c.self.invariant c.unwrap-found.result found.entry found.stands c.slot-slot.result c.slot-slot.ensures in
     fields_out Out c.self.invariant found refl refl c.ends.ensures.value c.set.ensures refl at
-    c.take_block.ensures.slots c.take_block.ensures.capacity
+    c.take_block-block.ensures.slots c.take_block-block.ensures.capacity
+    (let out = told_out (c.take_block-block.ensures.block ∙ at.reads) c.is_some.ensures c.from.ensures in
+    omega (arith, out, c.self.invariant.held, held_out (state_in i).blocks c.unwrap-found.result.number))
 
 pub returns : goal.returns
 returns c =
@@ -47,9 +50,18 @@ returns c =
     let idle = is_idle s c.args.part (rw (← c.self.view_is) at c.requires) in
     let found = is_found i idle c.unwrap-found.ensures c.find_part.ensures in
     let at = slot_found i c.self.invariant c.unwrap-found.result found.entry found.stands c.slot-slot.result c.slot-slot.ensures in
-    let blocks = ap (by_part s.chain.entries) c.take_block.ensures.slots ∙ at.leaves in
+    let blocks = ap (by_part s.chain.entries) c.take_block-block.ensures.slots ∙ at.leaves in
     rw (← c.self.view_is) (record {
-      block = c.take_block.ensures.block ∙ at.reads ∙ ap (λ k. slice_index_or s.blocks k None) found.number;
+      block = c.take_block-block.ensures.block ∙ at.reads ∙ ap (λ k. slice_index_or s.blocks k None) found.number;
       state = rw (c.set.ensures.marks, blocks, found.number) refl;
       room = refl;
     })
+
+pub overflow_sub-self : goal.overflow_sub-self
+overflow_sub-self c =
+    let i = c.self.inside in
+    let idle = is_idle (state_in i) c.args.part (rw (← c.self.view_is) at c.requires) in
+    let found = is_found i idle c.unwrap-found.ensures c.find_part.ensures in
+    let at = slot_found i c.self.invariant c.unwrap-found.result found.entry found.stands c.slot-slot.result c.slot-slot.ensures in
+    let out = told_out (c.take_block-block.ensures.block ∙ at.reads) c.is_some.ensures c.from.ensures in
+    omega (arith, out, c.self.invariant.held, held_out (state_in i).blocks c.unwrap-found.result.number)

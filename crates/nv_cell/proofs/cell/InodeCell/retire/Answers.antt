@@ -19,7 +19,7 @@ pub invariant_of-self : goal.invariant_of-self
 invariant_of-self c =
     let idle = is_killed (state_in c.self.inside) c.args.part (rw (← c.self.view_is) at c.requires) in
     let found = is_found c.self.inside idle c.unwrap-found.ensures c.find_part.ensures in
-    fields_kept Kept c.self.invariant found refl refl c.ends.ensures.value c.set.ensures refl refl
+    fields_kept Kept c.self.invariant found refl refl c.ends.ensures.value c.set.ensures refl refl refl
 
 pub returns-clause-state : goal.returns-clause-state
 returns-clause-state c =

@@ -1,7 +1,6 @@
 use Rattle.std.proofs.Common.{◌∙◌, ap, subst, sym, List}
 use Rattle.std.specs.List.{flat_map}
 use Rattle.nv_audit.specs.declared.pending.InHands.{InHands}
-use Rattle.nv_machine.specs.World as machine
 use Rattle.nv_core.specs.Audited.{blocks_by, parts_by}
 use Rattle.nv_core.specs.Worlds.{Shows, WorldState}
 use Rattle.nv_core.specs.declared.world.Actor.{Actor}
