@@ -3,6 +3,7 @@ pub mod AppendAll
 pub mod Appends
 pub mod CellLists
 pub mod Changes
+pub mod CheckEnds
 pub mod Apart
 pub mod BlockCounts
 pub mod CellNodes
@@ -23,7 +24,9 @@ pub mod Fitting
 pub mod Items
 pub mod Keeps
 pub mod Lawful
+pub mod SomeSlots
 pub mod LogPages
+pub mod RefusedLooks
 pub mod Next
 pub mod NextBytes
 pub mod NextSound
@@ -47,6 +50,7 @@ pub mod Retires
 pub mod Rules
 pub mod RunLists
 pub mod Same
+pub mod SlotLists
 pub mod Standing
 pub mod LentSlots
 pub mod Stretches
@@ -55,6 +59,7 @@ pub mod TextLengths
 pub mod Touched
 pub mod Wanted
 pub mod Versions
+pub mod Visits
 pub mod WholeCall
 pub mod Within
 pub mod fits

@@ -1,14 +1,55 @@
 -- How the check of a call ends: a refusal of the plain world, then want of a number for a new inode, and else its plan.
-use Rattle.std.specs.Prelude.{◌≡◌, ℕ, ◌&&◌, Bool, false, is_some, not, Option, Err}
+use Rattle.std.specs.Prelude.{◌≡◌, ℕ, ◌&&◌, ◌||◌, Bool, true, false, is_some, not, Option, None, Some, Ok, Err}
 use Rattle.nv_base.specs.declared.fault.Fault.TheVariants as fault
 use Rattle.nv_base.specs.declared.numbers.Handle.{Handle}
 use Rattle.nv_entry.specs.declared.node.NodeCopy.{NodeCopy}
+use Rattle.nv_calls.specs.declared.check_end.CheckEnd.{CheckEnd}
+use Rattle.nv_calls.specs.declared.check_end.CheckEnd.TheVariants as ends
+use Rattle.nv_calls.specs.declared.looked.Looked.{Looked}
 use Rattle.nv_calls.specs.declared.plan.Plan.{Plan}
 use Rattle.nv_calls.specs.declared.update.Update.{Update}
-use Rattle.nv_calls.specs.AllCalls.{early, refusal}
+use Rattle.nv_calls.specs.AllCalls.{early, is_nothing, late, looked, refusal}
+use Rattle.nv_calls.specs.Plain.{same_handle}
 use Rattle.nv_calls.specs.Prepared.{makes}
 use Rattle.nv_calls.specs.Refusals.{Check, and_then, passes, refuse_if}
 use Rattle.nv_calls.specs.Updates.{IsPlanOf, blank_call}
+
+-- ---- the order of its tests
+
+abbrev pub same_found : Option Handle → Option Handle → Bool
+same_found None None = true
+same_found None (Some other) = false
+same_found (Some handle) None = false
+same_found (Some handle) (Some other) = same_handle handle other
+
+-- the names are bound as the looks found them
+abbrev pub same_looked : Looked → Looked → Bool
+same_looked now before = same_found now.first before.first && same_found now.second before.second
+
+-- how a check ends a call, if it does: by the tests before the names are compared with what the looks found; by a name
+-- that was bound anew; by the other tests; for want of a number; or since there is nothing to commit
+abbrev pub check_ends : Check → Bool → Check → Bool → Bool → Option CheckEnd
+check_ends (Err fault) same tests numbered nothing = Some (ends.Refuses fault)
+check_ends (Ok passed) false tests numbered nothing = Some ends.Overtaken
+check_ends (Ok passed) true (Err fault) numbered nothing = Some (ends.Refuses fault)
+check_ends (Ok passed) true (Ok all) false nothing = Some (ends.Refuses fault.NoInode)
+check_ends (Ok passed) true (Ok all) true true = Some ends.Answers
+check_ends (Ok passed) true (Ok all) true false = None
+
+-- how the check over these nodes ends a call, where this is what its looks found
+abbrev pub ends_over : ℕ → (Handle → Option NodeCopy) → Looked → Bool → Update → Option CheckEnd
+ends_over block nodes before numbered u =
+    check_ends (early nodes (blank_call u)) (same_looked (looked nodes (blank_call u)) before) (late block nodes before (blank_call u))
+    (numbered || not (makes u)) (is_nothing (blank_call u))
+
+-- the refusal that this is, where a call that is overtaken may not look again
+abbrev pub refusal_by : Option CheckEnd → Check
+refusal_by None = passes
+refusal_by (Some (ends.Refuses fault)) = Err fault
+refusal_by (Some ends.Overtaken) = Err fault.Contended
+refusal_by (Some ends.Answers) = passes
+
+-- ---- the plan of a call that passes them
 
 -- a call that makes an inode, with no number for it
 abbrev pub lacks_number : Option ℕ → Update → Bool

@@ -9,6 +9,7 @@ pub mod Filled
 pub mod Filling
 pub mod Lawful
 pub mod Locked
+pub mod Looks
 pub mod Next
 pub mod Nodes
 pub mod Plain
@@ -25,6 +26,7 @@ pub mod Retired
 pub mod Retiring
 pub mod Rules
 pub mod SlotCells
+pub mod SlotList
 pub mod Slots
 pub mod Steps
 pub mod Updates

@@ -1,5 +1,5 @@
 -- The handles that a call locks, and that it reads no others.
-use Rattle.std.specs.Prelude.{◌≡◌, ℕ, ◌<◌, ◌⊎◌, List, [], ◌∷◌, ◌++◌, length, Option, Some, None, Contains}
+use Rattle.std.specs.Prelude.{◌≡◌, ℕ, ◌<◌, ◌⊎◌, ◌==◌, if◌then◌else◌, nat_lt, List, [], ◌∷◌, ◌++◌, length, map, Option, Some, None, Contains}
 use Rattle.std.specs.List.{AllByRecursion}
 use Rattle.nv_base.specs.declared.numbers.Handle.{Handle}
 use Rattle.nv_entry.specs.declared.node.NodeCopy.{NodeCopy}
@@ -70,3 +70,23 @@ pub record KeepsToIts (nodes : Handle → Option NodeCopy) (c : Call) (taken : T
   pub handles : AllByRecursion (λ (p : Planned). Contains (locks (looked nodes c) taken.made c) p.handle) plan
   pub blocks : (plan_blocks plan ≡ blocks_of taken.runs) ⊎ (plan_blocks plan ≡ [])
   pub several : 1 < length plan → plan_blocks plan ≡ []
+
+-- ---- slots
+
+-- numbers in rising order, each once
+abbrev pub with_slot : ℕ → List ℕ → List ℕ
+with_slot n [] = n ∷ []
+with_slot n (m ∷ slots) = if n == m then m ∷ slots else if nat_lt n m then n ∷ m ∷ slots else m ∷ with_slot n slots
+
+-- the slots of these inode numbers, of which there are so many; a number out of range has none
+abbrev pub slots_in : ℕ → List ℕ → List ℕ
+slots_in inodes [] = []
+slots_in inodes (ino ∷ rest) = if nat_lt ino inodes then with_slot ino (slots_in inodes rest) else slots_in inodes rest
+
+abbrev pub if_number : Option ℕ → List ℕ
+if_number None = []
+if_number (Some ino) = ino ∷ []
+
+-- the slots that a call locks, of so many: those of its handles, of what its looks found, and of the number in its hand
+abbrev pub slots_among : ℕ → Option ℕ → Looked → Call → List ℕ
+slots_among inodes number looked c = slots_in inodes (if_number number ++ map (λ (h : Handle). h.ino) (handles looked c))

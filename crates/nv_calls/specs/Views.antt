@@ -1,5 +1,6 @@
 -- The node that a cell holds, and which calls only read.
-use Rattle.std.specs.Prelude.{ℕ, Bool, true, false, List, Option, Result, Ok, Err}
+use Rattle.std.specs.Prelude.{◌≡◌, ◌⊎◌, ℕ, Bool, true, false, List, Option, Result, Ok, Err}
+use Rattle.nv_base.specs.Memory.{out_of_memory}
 use Rattle.nv_base.specs.declared.fault.Fault.{Fault}
 use Rattle.nv_base.specs.declared.numbers.Handle.{Handle}
 use Rattle.nv_entry.specs.declared.node.NodeCopy.{NodeCopy}
@@ -49,3 +50,21 @@ is_list other = false
 abbrev pub is_read : Call → Bool
 is_read (call.Read file offset count) = true
 is_read other = false
+
+-- a call that reads one node and changes none
+abbrev pub is_visit : Call → Bool
+is_visit (call.Read file offset count) = true
+is_visit (call.Stat handle) = true
+is_visit (call.List dir) = true
+is_visit (call.Lookup dir name) = true
+is_visit other = false
+
+-- of these a stat and a look-up take no memory
+abbrev pub visit_grows : Call → Bool
+visit_grows (call.Stat handle) = false
+visit_grows (call.Lookup dir name) = false
+visit_grows other = true
+
+-- the fault of a check that refuses; or where it passes, memory was wanted in vain
+abbrev pub IsVisitRefusal : Check → Bool → Fault → Type 0
+IsVisitRefusal check grows fault = (check ≡ Err fault) ⊎ ((check ≡ passes) × (fault ≡ out_of_memory) × (grows ≡ true))

@@ -7,31 +7,43 @@ ghost use Rattle.nv_base.specs.declared.limits.TheConstants.{BLOCK_BYTES};
 ghost use Rattle.nv_calls.specs.AllCalls.{looked};
 ghost use Rattle.nv_calls.specs.Cells.{AreCells};
 ghost use Rattle.nv_calls.specs.Nodes.{block_in, has_page_in, nodes_in};
-ghost use Rattle.nv_calls.specs.Checked.{IsCheckedPlan, check_refusal, lacks_number, overtaken_refusal};
+ghost use Rattle.nv_calls.specs.Checked.{IsCheckedPlan, check_refusal, ends_over, overtaken_refusal, refusal_by};
 ghost use Rattle.nv_calls.specs.Updates.{blank_call};
 
-use crate::looked::is_as_looked;
-use crate::planning::plan_of;
-use crate::refusal::check_early;
-use crate::{Cells, HeldNodes, Looked, Plan, Update};
+use crate::check_end::{CheckEnd, ends_at_check};
+use crate::planning::with_blocks;
+use crate::{Cells, HeldNodes, Looked, Nodes, Plan, Update};
 use nv_base::{Fault, Ino};
 
 /// The bytes of a block, which are the same for all cells.
 pub(crate) fn block_in<C: Cells>(cells: &C) -> u64
-    requires { 0 < length (C.cells cells.now) }
+    requires { length (C.cells cells.now) ≤ 4 }
     ensures value { result ≡ block_in (C.cells cells.now) }
     ensures some { 0 < result }
 {
+    if cells.count() == 0 {
+        return 1;
+    }
     cells.cell(0).block_bytes()
 }
 
-/// Whether a call that makes an inode has no number for it.
-fn lacks_number(number: Option<Ino>, update: &Update) -> bool
-    ensures { result ≡ lacks_number number update.now }
+/// Why the check of a call refuses it over its nodes, if it does. One that is overtaken is `Contended`.
+fn test<N: Nodes>(
+    block: u64,
+    nodes: &N,
+    before: &Looked,
+    has_number: bool,
+    update: &Update,
+) -> Result<(), Fault>
+    requires some_bytes { 0 < block }
+    requires few_bytes { block ≤ BLOCK_BYTES }
+    ensures { result ≡ refusal_by
+        (ends_over block (N.nodes_of nodes.now) before.now has_number update.now) }
 {
-    match update {
-        Update::Create { .. } | Update::Mkdir { .. } => number.is_none(),
-        _ => false,
+    match ends_at_check(block, nodes, before, update, has_number) {
+        Some(CheckEnd::Refuses(fault)) => Err(fault),
+        Some(CheckEnd::Overtaken) => Err(Fault::Contended),
+        Some(CheckEnd::Answers) | None => Ok(()),
     }
 }
 
@@ -64,16 +76,9 @@ pub fn check_on<C: Cells>(
         → IsRefusedBy result Stale }
 {
     let nodes = HeldNodes::new(cells);
-    check_early(&nodes, &update)?;
-    if !is_as_looked(&nodes, before, &update) {
-        return Err(Fault::Contended);
+    let block = block_in(cells);
+    match test(block, &nodes, before, number.is_some(), &update) {
+        Ok(()) => Ok(with_blocks(block, &nodes, update)),
+        Err(fault) => Err(fault),
     }
-    if cells.count() == 0 {
-        return Err(Fault::Stale);
-    }
-    let plan = plan_of(block_in(cells), &nodes, update)?;
-    if lacks_number(number, &plan.update) {
-        return Err(Fault::NoInode);
-    }
-    Ok(plan)
 }

@@ -1,7 +1,8 @@
 //! What calls look up before they lock.
 
-ghost use Rattle.std.specs.Prelude.{◌≡◌, ◌↔◌, IsTrue};
+ghost use Rattle.std.specs.Prelude.{◌≡◌};
 ghost use Rattle.nv_calls.specs.AllCalls.{looked};
+ghost use Rattle.nv_calls.specs.Checked.{same_found, same_looked};
 ghost use Rattle.nv_calls.specs.Refusals.{found, look};
 ghost use Rattle.nv_calls.specs.Updates.{blank_call};
 
@@ -59,14 +60,15 @@ pub fn look_all<N: Nodes>(nodes: &N, call: &Update) -> Looked
 
 /// Whether the names of a call still lead to what its looks found.
 pub fn is_as_looked<N: Nodes>(nodes: &N, before: &Looked, call: &Update) -> bool
-    ensures { IsTrue result ↔ (looked (N.nodes_of nodes.now) (blank_call call.now) ≡ before.now) }
+    ensures { result
+        ≡ same_looked (looked (N.nodes_of nodes.now) (blank_call call.now)) before.now }
 {
     let now = look_all(nodes, call);
     is_same(now.first, before.first) && is_same(now.second, before.second)
 }
 
 fn is_same(one: Option<Handle>, other: Option<Handle>) -> bool
-    ensures { IsTrue result ↔ (one ≡ other) }
+    ensures { result ≡ same_found one other }
 {
     match (one, other) {
         (None, None) => true,

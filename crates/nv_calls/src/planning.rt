@@ -73,9 +73,19 @@ pub fn plan_of<N: Nodes>(block: u64, nodes: &N, update: Update) -> Result<Plan, 
         (λ fault. refusal block (N.nodes_of nodes.now) (blank_call update) ≡ Err fault) }
 {
     check(block, nodes, &update)?;
+    Ok(with_blocks(block, nodes, update))
+}
+
+/// The plan of a call that passes its check.
+pub(crate) fn with_blocks<N: Nodes>(block: u64, nodes: &N, update: Update) -> Plan
+    requires some_bytes { 0 < block }
+    requires few_bytes { block ≤ BLOCK_BYTES }
+    requires passed { refusal block (N.nodes_of nodes.now) (blank_call update) ≡ passes }
+    ensures { IsPlanOf block (N.nodes_of nodes.now) (N.has_page nodes.now) update result }
+{
     let present = ends_in_page(block, nodes, &update);
     let blocks = blocks_wanted(block, nodes, present, &update);
-    Ok(Plan { update, blocks })
+    Plan { update, blocks }
 }
 
 /// The items that a call appends, inode by inode, with what it has taken.

@@ -7,7 +7,7 @@ ghost use Rattle.nv_cell.specs.Pages.{AreBytesOf};
 ghost use Rattle.nv_calls.specs.Nodes.{IsOwnView, IsView, alone, cell_of, copies_by, nodes_by, view_refusal};
 ghost use Rattle.nv_calls.specs.Refusals.{kind_of, look, lookup};
 ghost use Rattle.nv_calls.specs.calls.Lookup.{lookup_refusal};
-ghost use Rattle.nv_calls.specs.Views.{check_of, copy_of, is_list, is_lookup, is_read, is_stat, node_of, stat_of};
+ghost use Rattle.nv_calls.specs.Views.{IsVisitRefusal, check_of, copy_of, is_list, is_lookup, is_read, is_stat, is_visit, node_of, stat_of, visit_grows};
 
 use crate::wants::{want_directory, want_file, want_lawful};
 use crate::{Answer, Call};
@@ -226,4 +226,20 @@ pub fn read_on(ino: Ino, cell: &InodeCell, call: Call) -> Result<View, Fault>
         found: Answer::Bytes(bytes),
         version,
     })
+}
+
+/// What a call that only reads finds in the cell of an inode, as the function of its kind gives it.
+pub fn view_on(ino: Ino, cell: &InodeCell, call: Call) -> Result<View, Fault>
+    requires { is_visit call ≡ true }
+    ensures { (bytes : ℕ → List ℕ) → AreBytesOf cell.now.state bytes
+        → MatchResult result (IsView bytes ino cell.now call)
+        (IsVisitRefusal (view_refusal bytes ino cell.now call) (visit_grows call)) }
+{
+    match &call {
+        Call::Read { .. } => read_on(ino, cell, call),
+        Call::Stat { .. } => stat_on(ino, cell, call),
+        Call::List { .. } => list_on(ino, cell, call),
+        Call::Lookup { .. } => lookup_on(ino, cell, call),
+        _ => unreachable!(),
+    }
 }

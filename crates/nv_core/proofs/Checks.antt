@@ -2,10 +2,11 @@
 use Rattle.std.proofs.Common.{◌≡◌, ℕ, ◌*◌, ◌/◌, ◌%◌, ◌<◌, ◌≤◌, ◌==◌, ◌&&◌, ◌||◌, ◌∙◌, not, nat_lt, Bool, true, false, cond, List, [], ◌∷◌, length, Option, Some, None, arith, refl, ap, ap₂, sym, subst}
 use Rattle.std.specs.Prelude.{Ok, Err, is_some}
 use Rattle.std.proofs.Math.Nat.{mul-le-mul_right}
-use Rattle.std.proofs.lemmas.Bool.{eqb-true, eq-eqb, ltb-false}
+use Rattle.std.proofs.lemmas.Bool.{eq-eqb, ltb-false}
 use Rattle.std.proofs.lemmas.Nat.{div-add-mod'}
 use Rattle.nv_base.specs.declared.fault.Fault.TheVariants as fault
 use Rattle.nv_base.specs.declared.numbers.Handle.{Handle}
+use Rattle.nv_calls.proofs.CheckEnds.{looked_is}
 use Rattle.nv_calls.proofs.Nothing.{told_nothing}
 use Rattle.nv_calls.proofs.Passed.{file_passed, if_passed}
 use Rattle.nv_calls.proofs.TextLengths.{same_plan}
@@ -31,55 +32,13 @@ use Rattle.nv_entry.specs.declared.node.NodeCopy.{NodeCopy}
 use Rattle.nv_machine.specs.Kinds.{check_ending}
 use Rattle.nv_machine.specs.Reads.{copies, has_last_page, nodes}
 use Rattle.nv_machine.specs.Sequence.{beginning, directories, nothing_looked}
-use Rattle.nv_machine.specs.Step.{is_numbered, same_found, same_looked}
+use Rattle.nv_machine.specs.Step.{is_numbered, same_looked}
 use Rattle.nv_machine.specs.World.{Overtaken}
 use Rattle.nv_core.proofs.Nodes.{lent_call_same, nodes_agree, page_same}
 use Rattle.nv_core.proofs.Plans.{looks_same}
 use Rattle.nv_core.specs.Nodes.{CanRead, check_ends, ends_over, wanted_over}
 use Rattle.nv_core.specs.Shown.{shared_of}
 use Rattle.nv_core.specs.declared.shared.Shared.{Shared}
-
--- ---- what the looks found
-
-handle_self : (h : Handle) → same_handle h h ≡ true
-handle_self h = rw (eq-eqb h.ino h.ino refl) (eq-eqb h.generation h.generation refl)
-
-found_self : (o : Option Handle) → same_found o o ≡ true
-found_self None = refl
-found_self (Some h) = handle_self h
-
-looked_self : (l : Looked) → same_looked l l ≡ true
-looked_self l = rw (found_self l.first) (found_self l.second)
-
-both : (a b : Bool) → (a && b) ≡ true → (a ≡ true) × (b ≡ true)
-both true b h = (refl, h)
-both false b h = cc
-
-handle_is : (a b : Handle) → same_handle a b ≡ true → a ≡ b
-handle_is a b h =
-    let parts = both (a.ino == b.ino) (a.generation == b.generation) h in
-    ap₂ (λ (ino generation : ℕ). let made : Handle = record { ino = ino; generation = generation } in made)
-    (eqb-true a.ino b.ino parts.0) (eqb-true a.generation b.generation parts.1)
-
-found_is : (a b : Option Handle) → same_found a b ≡ true → a ≡ b
-found_is None None h = refl
-found_is None (Some b) h = cc
-found_is (Some a) None h = cc
-found_is (Some a) (Some b) h = ap Some (handle_is a b h)
-
-looked_is : (a b : Looked) → same_looked a b ≡ true → a ≡ b
-looked_is a b h =
-    let parts = both (same_found a.first b.first) (same_found a.second b.second) h in
-    ap₂ (λ (first second : Option Handle). let made : Looked = record { first = first; second = second } in made)
-    (found_is a.first b.first parts.0) (found_is a.second b.second parts.1)
-
--- a test that tells whether two are the same
-pub same_told : (b : Bool) (now before : Looked) → (b ≡ true → now ≡ before) → (now ≡ before → b ≡ true) → b ≡ same_looked now before
-same_told true now before is back = sym (ap (same_looked now) (sym (is refl)) ∙ looked_self now)
-same_told false now before is back = go (same_looked now before) refl where
-  go : (t : Bool) → same_looked now before ≡ t → false ≡ t
-  go false q = refl
-  go true q = back (looked_is now before q)
 
 -- ---- what an update tells of its call
 

@@ -37,7 +37,6 @@ pub mod Kept
 pub mod LastTurns
 pub mod LawsHold
 pub mod LivingLogs
-pub mod Locked
 pub mod Looks
 pub mod Nodes
 pub mod Maintains
@@ -68,7 +67,6 @@ pub mod SettledLogs
 pub mod SettledPages
 pub mod ShownCalls
 pub mod Sinks
-pub mod SlotLists
 pub mod SnapRest
 pub mod SnapTests
 pub mod SpaceLaw

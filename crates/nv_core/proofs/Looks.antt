@@ -1,57 +1,102 @@
--- A look at a name by the cell of its directory alone.
-use Rattle.std.proofs.Common.{◌≡◌, ℕ, ◌+◌, ◌∙◌, Bool, true, false, not, List, [], Option, Some, None, ap, refl, sym}
-use Rattle.std.specs.Prelude.{Result, Err, option_map}
-use Rattle.std.specs.Prelude.{is_some}
-use Rattle.nv_base.specs.Names.{is_lawful_name}
+-- A look at the names of a call.
+use Rattle.std.proofs.Common.{◌≡◌, ℕ, zero, suc, ◌+◌, ◌<◌, ◌∙◌, if◌then◌else◌, Bool, true, false, List, [], ◌∷◌, length, Option, Some, None, ap, arith, refl, subst, sym}
+use Rattle.std.specs.Prelude.{MatchOption, Result, Err, is_some, option_map}
 use Rattle.nv_base.specs.declared.fault.Fault.{Fault}
-use Rattle.nv_base.specs.declared.fault.Fault.TheVariants as faults
-use Rattle.nv_base.specs.declared.node.Kind.{Kind}
-use Rattle.nv_base.specs.declared.node.Kind.TheVariants.{File, Dir}
 use Rattle.nv_base.specs.declared.numbers.Handle.{Handle}
-use Rattle.nv_calls.specs.Nodes.{alone, copies_by}
-use Rattle.nv_calls.specs.Plain.{PlainNode}
-use Rattle.nv_calls.specs.Refusals.{and_find, kind_of, look, lookup, passes, refuse_if, want_bound, want_directory}
-use Rattle.nv_calls.specs.calls.Lookup.{lookup_refusal}
-use Rattle.nv_cell.specs.Cell.{CellValue}
-use Rattle.nv_entry.specs.declared.node.NodeCopy.{NodeCopy}
+use Rattle.nv_calls.proofs.CheckEnds.{handle_is}
+use Rattle.nv_calls.proofs.RefusedLooks.{HasPlace, IsLook, IsLookOf}
+use Rattle.nv_calls.specs.AllCalls.{look_refusal, looked}
+use Rattle.nv_calls.specs.Looks.{directories, handle_at, in_slot, look_tests, seen_at}
+use Rattle.nv_calls.specs.Nodes.{copies_by}
+use Rattle.nv_calls.specs.Plain.{PlainNode, same_handle}
+use Rattle.nv_calls.specs.Refusals.{Check, passes}
 use Rattle.nv_calls.specs.Updates.{call_of}
-use Rattle.nv_calls.specs.Refusals.{Check}
 use Rattle.nv_calls.specs.declared.call.Call.{Call}
+use Rattle.nv_calls.specs.declared.call.Call.TheVariants as call
 use Rattle.nv_calls.specs.declared.looked.Looked.{Looked}
 use Rattle.nv_calls.specs.declared.plan.Plan.{Plan}
+use Rattle.nv_calls.specs.declared.update.Update.{Update}
+use Rattle.nv_calls.specs.declared.update.Update.TheVariants as update
+use Rattle.nv_cell.specs.Cell.{CellValue}
+use Rattle.nv_entry.specs.declared.node.NodeCopy.{NodeCopy}
 use Rattle.nv_machine.specs.Kinds.{end_turn, look_turn}
 use Rattle.nv_machine.specs.Reads.{bytes_among, copies, slots_of}
 use Rattle.nv_machine.specs.World as machine
-use Rattle.nv_core.specs.Told.{IsChangeBy, IsJobOf, looking_at}
+use Rattle.nv_machine.specs.World.{HandState, Next, Running, Shared, cell_at, no_cell}
+use Rattle.nv_core.proofs.Visits.{no_node, node_here}
+use Rattle.nv_core.specs.Told.{IsChangeBy, IsJobOf, IsLookAt, looking_at}
 use Rattle.nv_core.specs.declared.job.Job.{Job}
 use Rattle.nv_core.specs.declared.job.Job.TheVariants as job
 use Rattle.nv_core.specs.declared.job.Owed.{Owed}
-use Rattle.nv_machine.specs.World.{HandState, Next, Running, Shared, cell_at, no_cell}
-use Rattle.nv_core.proofs.Visits.{no_node, node_here}
 
--- a look by the node of the directory
-abbrev look_at : Option PlainNode → Handle → List ℕ → Result (Option Handle) Fault
-look_at node dir name = look (λ (h : Handle). option_map (λ (p : PlainNode). p.node) node) dir name
+-- ---- a look by the cell of its slot alone
 
-pub look_here : (s : Shared) (dir : Handle) (name : List ℕ) (cell : CellValue) → cell_at s dir.ino ≡ cell.state
-    → look (copies_by (bytes_among cell.state.blocks) (alone dir.ino cell)) dir name ≡ look (copies s) dir name
-look_here s dir name cell same = ap (λ (n : Option PlainNode). look_at n dir name) (node_here s dir cell same)
+-- bytes of blocks by a cell, if there is one
+abbrev bytes_in : Option CellValue → ℕ → List ℕ
+bytes_in None = λ number. []
+bytes_in (Some cell) = bytes_among cell.state.blocks
 
-pub no_look : (s : Shared) (dir : Handle) (name : List ℕ) → cell_at s dir.ino ≡ no_cell → Err faults.Stale ≡ look (copies s) dir name
-no_look s dir name same = sym (ap (λ (n : Option PlainNode). look_at n dir name) (no_node s dir same))
+-- its cell, where there is such a slot
+abbrev IsCellOf : {A : Type 0} → Shared → ℕ → (A → CellValue) → Option A → Type 0
+IsCellOf s ino value cell = MatchOption cell (cell_at s ino ≡ no_cell) (λ c. cell_at s ino ≡ (value c).state)
 
--- a name that is looked up in vain is refused alike
-pub look_refused : (nodes : Handle → Option NodeCopy) (dir : Handle) (name : List ℕ) (fault : Fault) → look nodes dir name ≡ Err fault
-    → lookup_refusal nodes dir name ≡ Err fault
-look_refused nodes dir name fault = go (kind_of (nodes dir)) (is_lawful_name name) (lookup nodes dir name)
-  where
-    go : (kind : Option Kind) (b : Bool) (to : Option Handle)
-        → and_find (want_directory kind (refuse_if (not b) faults.BadName passes)) to ≡ Err fault
-        → want_directory kind (refuse_if (not b) faults.BadName (want_bound to (λ h. passes))) ≡ Err fault
-    go None b to is = cc
-    go (Some File) b to is = cc
-    go (Some Dir) false to is = cc
-    go (Some Dir) true to is = cc
+node_alone : {A : Type 0} (s : Shared) (dir : Handle) (value : A → CellValue) (cell : Option A) → IsCellOf s dir.ino value cell
+    → copies_by (bytes_in (option_map value cell)) (in_slot dir.ino (option_map value cell)) dir ≡ copies s dir
+node_alone s dir value None none = sym (ap (option_map (λ (p : PlainNode). p.node)) (no_node s dir none))
+node_alone s dir value (Some c) is = ap (option_map (λ (p : PlainNode). p.node)) (node_here s dir (value c) is)
+
+-- what a look comes to
+abbrev outcome : (Handle → Option NodeCopy) → Call → List Handle → ℕ → Looked → Check × Looked
+outcome n c dirs place before = (look_tests place (look_refusal n c), seen_at dirs place (looked n c) before)
+
+alike_two : (n m : Handle → Option NodeCopy) (from : Handle) (old : List ℕ) (to : Handle) (new : List ℕ) (place : ℕ) (before : Looked)
+    (same : Bool) → (same ≡ true → from ≡ to) → let dirs = if same then from ∷ [] else from ∷ to ∷ [] in
+    place < length dirs → n (handle_at dirs place) ≡ m (handle_at dirs place)
+    → outcome n (call.Rename from old to new) dirs place before ≡ outcome m (call.Rename from old to new) dirs place before
+alike_two n m from old to new zero before true is few e =
+    subst (λ (other : Handle). outcome n (call.Rename from old other new) (from ∷ []) 0 before
+    ≡ outcome m (call.Rename from old other new) (from ∷ []) 0 before) (is refl)
+    (ap (λ (x : Option NodeCopy). outcome (λ (h : Handle). x) (call.Rename from old from new) (from ∷ []) 0 before) e)
+alike_two n m from old to new (suc place) before true is few e = absurd (omega (arith, few))
+alike_two n m from old to new zero before false is few e =
+    ap (λ (x : Option NodeCopy). outcome (λ (h : Handle). x) (call.Rename from old to new) (from ∷ to ∷ []) 0 before) e
+alike_two n m from old to new (suc zero) before false is few e =
+    ap (λ (x : Option NodeCopy). outcome (λ (h : Handle). x) (call.Rename from old to new) (from ∷ to ∷ []) 1 before) e
+alike_two n m from old to new (suc (suc place)) before false is few e = absurd (omega (arith, few))
+
+-- it comes to the same over nodes that are alike under its directory
+alike : (n m : Handle → Option NodeCopy) (u : Update) (text : List ℕ) (place : ℕ) (before : Looked) → HasPlace place u
+    → n (handle_at (directories (call_of u text)) place) ≡ m (handle_at (directories (call_of u text)) place)
+    → outcome n (call_of u text) (directories (call_of u text)) place before
+    ≡ outcome m (call_of u text) (directories (call_of u text)) place before
+alike n m (update.Unlink dir name) text zero before few e =
+    ap (λ (x : Option NodeCopy). outcome (λ (h : Handle). x) (call.Unlink dir name) (dir ∷ []) 0 before) e
+alike n m (update.Unlink dir name) text (suc place) before few e = absurd (omega (arith, few))
+alike n m (update.Rmdir dir name) text zero before few e =
+    ap (λ (x : Option NodeCopy). outcome (λ (h : Handle). x) (call.Rmdir dir name) (dir ∷ []) 0 before) e
+alike n m (update.Rmdir dir name) text (suc place) before few e = absurd (omega (arith, few))
+alike n m (update.Rename from old to new) text place before few e =
+    alike_two n m from old to new place before (same_handle from to) (handle_is from to) few e
+alike n m other text place before few e = absurd (omega (arith, few))
+
+-- by the cell of the directory's slot it comes to what it comes to over all nodes
+pub look_alone : {A : Type 0} (s : Shared) (u : Update) (text : List ℕ) (place : ℕ) (before : Looked) (dir : Handle)
+    (value : A → CellValue) (cell : Option A) (result : Result Looked Fault) → HasPlace place u
+    → dir ≡ handle_at (directories (call_of u text)) place → IsCellOf s dir.ino value cell
+    → ((bytes : ℕ → List ℕ) → IsLookOf (copies_by bytes (in_slot dir.ino (option_map value cell))) u text place before result)
+    → IsLookOf (copies s) u text place before result
+look_alone s u text place before dir value cell result few is there look =
+    let n = copies_by (bytes_in (option_map value cell)) (in_slot dir.ino (option_map value cell)) in
+    subst (λ (x : Check × Looked). IsLook x.0 x.1 result)
+    (alike n (copies s) u text place before few
+    (subst (λ (h : Handle). n h ≡ copies s h) is (node_alone s dir value cell there)))
+    (look (bytes_in (option_map value cell)))
+
+pub place_of : (j : Job) (plan : Plan) (place : ℕ) → IsChangeBy j plan → IsLookAt place j → HasPlace place plan.update
+place_of (job.Change p text) plan place by at = subst (λ (x : Plan). HasPlace place x.update) by at
+place_of (job.Visit visit) plan place by at = elim by [ ]
+place_of (job.Maintenance on) plan place by at = elim by [ ]
+place_of job.Given plan place by at = elim by [ ]
 
 -- ---- the machine's turn of a look
 
@@ -71,12 +116,12 @@ pub look_moves : (s : Shared) (h : HandState) (r : Running) (owner : Option ℕ)
     (slots : List ℕ) (next : Next) → owner ≡ None → tests ≡ passes → found ≡ seen → slots ≡ slots_of s None found r.call
     → next ≡ looking_at (place + 1) slots r.call
     → look_turn owner tests seen place s h r ≡ machine.Moves s h (record r { looked = found; slots = slots; next = next })
-look_moves s h r owner tests seen found place slots next free pass same at then =
+look_moves s h r owner tests seen found place slots next free pass same at goes =
     ap (λ (o : Option ℕ). look_turn o tests seen place s h r) free
     ∙ ap (λ (t : Check). look_turn None t seen place s h r) pass
     ∙ ap (λ (l : Looked). look_turn None passes l place s h r) (sym same)
     ∙ ap (λ (xs : List ℕ). machine.Moves s h (record r { looked = found; slots = xs; next = looking_at (place + 1) xs r.call })) (sym at)
-    ∙ ap (λ (n : Next). machine.Moves s h (record r { looked = found; slots = slots; next = n })) (sym then)
+    ∙ ap (λ (n : Next). machine.Moves s h (record r { looked = found; slots = slots; next = n })) (sym goes)
 
 pub look_ends : (s : Shared) (h : HandState) (r : Running) (owner : Option ℕ) (tests : Check) (seen : Looked) (place : ℕ) (fault : Fault)
     → owner ≡ None → tests ≡ Err fault → look_turn owner tests seen place s h r ≡ end_turn [] (machine.Refuses fault) s h r

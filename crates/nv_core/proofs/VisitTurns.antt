@@ -1,7 +1,6 @@
 -- The machine's turn of a visit, by what it found.
-use Rattle.std.proofs.Common.{◌≡◌, ℕ, ◌||◌, ◌∙◌, Bool, true, not, List, [], Option, None, ap, subst, sym, inl, inr}
-use Rattle.std.specs.Prelude.{IfOk, MatchResult, Result, Ok, Err}
-use Rattle.nv_base.specs.Refusals.{FailsAsChecked}
+use Rattle.std.proofs.Common.{◌≡◌, ℕ, ◌||◌, ◌∙◌, Bool, not, List, [], Option, None, ap, subst, sym, inl, inr}
+use Rattle.std.specs.Prelude.{Result, Ok, Err}
 use Rattle.nv_base.specs.declared.fault.Fault.{Fault}
 use Rattle.nv_base.specs.Memory.{out_of_memory}
 use Rattle.nv_base.specs.declared.numbers.Handle.{Handle}
@@ -18,7 +17,7 @@ use Rattle.nv_machine.specs.World as machine
 use Rattle.nv_machine.specs.World.{Running, Shared, empty_hand, owner_at}
 use Rattle.nv_core.proofs.Homes.{no_home}
 use Rattle.nv_core.specs.Told.{IsEither}
-use Rattle.nv_core.specs.Visits.{IsFoundBy, IsRefusedBy}
+use Rattle.nv_core.specs.Visits.{IsFoundBy}
 
 pub refuses : (s : Shared) (r : Running) (fault : Fault) → r.slots ≡ []
     → refuse fault s empty_hand r ≡ machine.Ends (Err fault) s empty_hand
@@ -47,10 +46,3 @@ visit_turns s block r c visit result same free none found =
     (machine.Ends result s empty_hand)) (sym same)
     (visit_ends s r (owner_at s (handle_at (handles nothing_looked visit) 0).ino) (refusal block (copies s) visit)
     (λ made. answer (nodes s) made visit) (visit_grows visit) result free none found)
-
--- what was read is a view, or refused as the check says
-pub view_match : {V : Type 0} (result : Result V Fault) (P : V → Type 0) (check : Check) (grows : Bool) → IfOk result P
-    → FailsAsChecked check result → grows ≡ true → MatchResult result P (IsRefusedBy check grows)
-view_match (Ok view) P check grows ok err is = ok
-view_match (Err fault) P check grows ok (inl refused) is = inl refused
-view_match (Err fault) P check grows ok (inr want) is = inr (want.0, want.1, is)

@@ -10,6 +10,7 @@ use Rattle.nv_calls.specs.Locked.{handles}
 use Rattle.nv_calls.specs.Nodes.{alone, copies_by, nodes_by, view_refusal}
 use Rattle.nv_calls.specs.Plain.{PlainNode, node_in}
 use Rattle.nv_calls.specs.Refusals.{Check}
+use Rattle.nv_calls.specs.Views.{is_visit}
 use Rattle.nv_calls.specs.declared.answer.Answer.{Answer}
 use Rattle.nv_calls.specs.declared.call.Call.{Call}
 use Rattle.nv_calls.specs.declared.call.Call.TheVariants as call
@@ -40,6 +41,13 @@ no_node s handle same =
     go false = refl
 
 -- ---- the machine's turn of a visit
+
+pub reads_one : (c : Call) → IsVisit c → is_visit c ≡ true
+reads_one (call.Read file offset count) is = refl
+reads_one (call.Stat handle) is = refl
+reads_one (call.List dir) is = refl
+reads_one (call.Lookup dir name) is = refl
+reads_one other is = cc
 
 -- one whose slot is not there is stale
 pub visit_none : (s : Shared) (block : ℕ) (c : Call) → IsVisit c → cell_at s (handle_at (handles nothing_looked c) 0).ino ≡ no_cell

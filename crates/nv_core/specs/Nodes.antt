@@ -1,21 +1,21 @@
 -- What a call reads over the cells of its slots.
-use Rattle.std.specs.Prelude.{◌≡◌, ℕ, ◌<◌, ◌||◌, Bool, true, false, not, List, length, Option, Some, None, Ok, Err}
+use Rattle.std.specs.Prelude.{◌≡◌, ℕ, ◌<◌, Bool, true, List, length, Option, option_map}
 use Rattle.std.specs.List.{AllByRecursion}
 use Rattle.nv_alloc.specs.Numbers.{has}
 use Rattle.nv_base.specs.declared.numbers.Handle.{Handle}
-use Rattle.nv_base.specs.declared.fault.Fault.TheVariants.{NoInode}
 use Rattle.nv_entry.specs.declared.node.NodeCopy.{NodeCopy}
-use Rattle.nv_calls.specs.AllCalls.{blocks_wanted, early, ends_in_page, is_nothing, late, looked}
+use Rattle.nv_calls.specs.AllCalls.{blocks_wanted, ends_in_page}
+use Rattle.nv_calls.specs.Checked as checked
 use Rattle.nv_calls.specs.Nodes.{HasBytes, has_page_in, nodes_in}
-use Rattle.nv_calls.specs.Prepared.{makes}
 use Rattle.nv_calls.specs.Refusals.{Check}
 use Rattle.nv_calls.specs.Updates.{blank_call}
+use Rattle.nv_calls.specs.declared.check_end.CheckEnd.{CheckEnd}
+use Rattle.nv_calls.specs.declared.check_end.CheckEnd.TheVariants as ends
 use Rattle.nv_calls.specs.declared.looked.Looked.{Looked}
 use Rattle.nv_calls.specs.declared.update.Update.{Update}
 use Rattle.nv_calls.specs.SlotCells.{lent_cells}
 use Rattle.nv_cell.specs.Cell.{CellState, CellValue}
 use Rattle.nv_machine.specs.Reads.{bytes_among}
-use Rattle.nv_machine.specs.Step.{same_looked}
 use Rattle.nv_machine.specs.World.{Answers, Ending, Overtaken, Refuses}
 use Rattle.nv_core.specs.declared.shared.Shared.{Shared}
 use Rattle.nv_core.specs.Parts.{AreSlots}
@@ -40,20 +40,18 @@ pub record CanRead (shared : Shared) (slots : List ℕ) (list : List Handle) : T
 
 -- ---- the check
 
+abbrev pub ended_by : CheckEnd → Ending
+ended_by (ends.Refuses fault) = Refuses fault
+ended_by ends.Overtaken = Overtaken
+ended_by ends.Answers = Answers
+
 -- how a check ends a call, by whether it commits nothing
 abbrev pub check_ends : Check → Bool → Check → Bool → Bool → Option Ending
-check_ends (Err fault) same tests numbered nothing = Some (Refuses fault)
-check_ends (Ok passed) false tests numbered nothing = Some Overtaken
-check_ends (Ok passed) true (Err fault) numbered nothing = Some (Refuses fault)
-check_ends (Ok passed) true (Ok all) false nothing = Some (Refuses NoInode)
-check_ends (Ok passed) true (Ok all) true true = Some Answers
-check_ends (Ok passed) true (Ok all) true false = None
+check_ends early same late numbered nothing = option_map ended_by (checked.check_ends early same late numbered nothing)
 
 -- how the check over these nodes ends a call
 abbrev pub ends_over : ℕ → (Handle → Option NodeCopy) → Looked → Bool → Update → Option Ending
-ends_over block n before numbered u =
-    check_ends (early n (blank_call u)) (same_looked (looked n (blank_call u)) before) (late block n before (blank_call u))
-    (numbered || not (makes u)) (is_nothing (blank_call u))
+ends_over block n before numbered u = option_map ended_by (checked.ends_over block n before numbered u)
 
 -- how many data blocks a call takes over these cells
 abbrev pub wanted_over : ℕ → List (ℕ × CellValue) → Update → ℕ

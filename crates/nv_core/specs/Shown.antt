@@ -1,4 +1,5 @@
 -- What the parts of a world are in the machine of steps, whatever room they have.
+pub use Rattle.nv_calls.specs.SlotList.{slots_in}
 use Rattle.std.specs.Prelude.{ℕ, ◌==◌, ◌||◌, Bool, is_none, List, [], drop, map, take, Option, Some, None}
 use Rattle.nv_alloc.specs.declared.hand.Hand.{Hand}
 use Rattle.nv_base.specs.declared.numbers.Handle.{Handle}
@@ -32,7 +33,6 @@ use Rattle.nv_core.specs.declared.next.MaintenanceStep.TheVariants as on
 use Rattle.nv_core.specs.declared.running.Running.{Running}
 use Rattle.nv_core.specs.declared.shared.Shared.{Shared}
 use Rattle.nv_core.specs.declared.showing.Showing.{Showing}
-use Rattle.nv_core.specs.declared.slots.Slots.{Slots}
 use Rattle.nv_core.specs.declared.turn.Turn.{Turn}
 use Rattle.nv_core.specs.declared.turn.Turn.TheVariants as turn
 
@@ -148,10 +148,6 @@ ending_of (ending.Refuses fault) = machine.Refuses fault
 ending_of ending.Overtaken = machine.Overtaken
 ending_of (ending.Drains draining) = machine.Drains (draining_of draining)
 ending_of (ending.Cleans cleaned) = machine.Cleans cleaned
-
--- the numbers of the slots, by rising number
-abbrev pub slots_in : Slots → List ℕ
-slots_in slots = take slots.count slots.inos
 
 -- a running call before that step
 abbrev pub shown_at : machine.Next → Told → Running → machine.Running

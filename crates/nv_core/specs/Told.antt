@@ -1,5 +1,5 @@
 -- How the machine's running call goes with the code's, of which parts are used up on the way.
-use Rattle.std.specs.Prelude.{◌≡◌, ℕ, ◌+◌, ◌<◌, ◌≤◌, ◌⊎◌, if◌then◌else◌, nat_lt, Bool, true, false, List, [], ◌∷◌, filter, length, map, Option, Some, None}
+use Rattle.std.specs.Prelude.{◌≡◌, ℕ, ◌+◌, ◌<◌, ◌≤◌, ◌⊎◌, if◌then◌else◌, nat_lt, Bool, true, false, List, [], filter, length, map, None}
 use Rattle.nv_base.specs.declared.numbers.Handle.{Handle}
 use Rattle.nv_book.specs.Book.{BookState}
 use Rattle.nv_calls.specs.AllCalls.{answer}
@@ -14,7 +14,7 @@ use Rattle.nv_calls.specs.Prepared.{makes}
 use Rattle.nv_calls.specs.declared.plan.Plan.{Plan}
 use Rattle.nv_calls.specs.declared.plan.Planned.{Planned}
 use Rattle.nv_calls.specs.declared.update.Update.{Update}
-use Rattle.nv_machine.specs.Reads.{is_written, plan_by, slot_at, with_slot}
+use Rattle.nv_machine.specs.Reads.{is_written, plan_by, slot_at}
 use Rattle.nv_machine.specs.Sequence.{Visits, beginning, directories, locking}
 use Rattle.nv_machine.specs.World as machine
 use Rattle.nv_machine.specs.World.{HandState, Look, Next, Shared, Turn}
@@ -78,25 +78,11 @@ IsPlaceOf slots commit told =
 abbrev pub IsEither : (Bool → Turn) → Turn → Type 0
 IsEither by result = (by true ≡ result) ⊎ (by false ≡ result)
 
--- ---- numbers and handles
-
-abbrev pub if_some : Option ℕ → List ℕ → List ℕ
-if_some None rest = rest
-if_some (Some n) rest = n ∷ rest
-
--- those of some that are there
-abbrev pub all_some : List (Option ℕ) → List ℕ
-all_some [] = []
-all_some (n ∷ rest) = if_some n (all_some rest)
+-- ---- visits
 
 -- a call that reads one node and changes none
 abbrev pub IsVisit : Call → Type 0
 IsVisit c = beginning c ≡ Visits
-
--- a slot more, where there is such a slot
-abbrev pub with_some : ℕ → Option ℕ → List ℕ → List ℕ
-with_some inodes None slots = slots
-with_some inodes (Some ino) slots = if nat_lt ino inodes then with_slot ino slots else slots
 
 -- ---- what a job is
 

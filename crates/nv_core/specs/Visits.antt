@@ -1,22 +1,18 @@
 -- What a visit comes to, and whose blocks its cell has.
-use Rattle.std.specs.Prelude.{◌≡◌, ◌⊎◌, ℕ, Bool, true, Result, Ok, Err}
+use Rattle.std.specs.Prelude.{◌≡◌, ℕ, Bool, Result, Ok, Err}
 use Rattle.nv_base.specs.declared.fault.Fault.{Fault}
-use Rattle.nv_base.specs.Memory.{out_of_memory}
 use Rattle.nv_base.specs.declared.numbers.Handle.{Handle}
 use Rattle.nv_calls.specs.Refusals.{Check, passes}
+use Rattle.nv_calls.specs.Views.{IsVisitRefusal}
 use Rattle.nv_calls.specs.declared.answer.Answer.{Answer}
 use Rattle.nv_cell.specs.Pages.{AreBytesOf}
 use Rattle.nv_machine.specs.Reads.{bytes_among}
 use Rattle.nv_machine.specs.World.{Shared, cell_at}
 
--- the fault of a check that refuses; or where it passes, memory was wanted in vain
-abbrev pub IsRefusedBy : Check → Bool → Fault → Type 0
-IsRefusedBy check grows fault = (check ≡ Err fault) ⊎ ((check ≡ passes) × (fault ≡ out_of_memory) × (grows ≡ true))
-
 -- an answer where the check passes, its fault where it doesn't; one that grows may want memory in vain
 abbrev pub IsFoundBy : Check → (Handle → Answer) → Bool → Result Answer Fault → Type 0
 IsFoundBy check answer grows (Ok found) = (check ≡ passes) × ((made : Handle) → found ≡ answer made)
-IsFoundBy check answer grows (Err fault) = IsRefusedBy check grows fault
+IsFoundBy check answer grows (Err fault) = IsVisitRefusal check grows fault
 
 -- each block of a slot's cell is the only one of its number there
 abbrev pub HasOwnBytes : Shared → ℕ → Type 0

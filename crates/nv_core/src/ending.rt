@@ -13,11 +13,10 @@ use crate::hold::Hold;
 use crate::next::{Draining, Ending, MaintenanceStep, Next};
 use crate::running::Running;
 use crate::shared::Shared;
-use crate::slots::Slots;
 use crate::turn::Turn;
 use nv_alloc::Hand;
 use nv_base::Fault;
-use nv_calls::Answer;
+use nv_calls::{Answer, Slots};
 use nv_clean::Cleaned;
 
 /// What the call is answered at its last step.

@@ -1,19 +1,14 @@
 //! What a call is to do.
 
-ghost use Rattle.std.specs.Prelude.{◌≡◌, ◌++◌, ◌<◌, ◌∷◌, List, ℕ, None, [], false, length, map, true};
-ghost use Rattle.std.specs.Option.{option_map};
-ghost use Rattle.nv_base.specs.declared.numbers.Handle.{Handle};
+ghost use Rattle.std.specs.Prelude.{◌≡◌, true};
 ghost use Rattle.nv_calls.specs.Locked.{handles};
-ghost use Rattle.nv_calls.specs.Prepared.{makes};
-ghost use Rattle.nv_calls.specs.Updates.{blank_call, call_of};
-ghost use Rattle.nv_machine.specs.Reads.{if_number};
-ghost use Rattle.nv_machine.specs.Sequence.{directories, nothing_looked};
+ghost use Rattle.nv_machine.specs.Sequence.{nothing_looked};
 ghost use Rattle.nv_machine.specs.Step.{handle_at};
 ghost use Rattle.nv_core.specs.Shown.{answered};
-ghost use Rattle.nv_core.specs.Told.{IsAtStart, IsJobOf, IsVisit, all_some, is_change};
+ghost use Rattle.nv_core.specs.Told.{IsAtStart, IsJobOf, IsVisit, is_change};
 
-use nv_base::{Bytes, Handle, Ino};
-use nv_calls::{Answer, Call, Looked, MaintenanceCall, Plan, Update};
+use nv_base::{Bytes, Handle};
+use nv_calls::{Answer, Call, MaintenanceCall, Plan, Update};
 use std::alloc::Global;
 
 /// What a call is to do.
@@ -85,72 +80,6 @@ fn job_of_write(file: Handle, offset: u64, text: Bytes) -> (Job, Owed)
     };
     let plan = Plan { update, blocks: 0 };
     (Job::Change(plan, text), Owed::Count(count))
-}
-
-/// The numbers of the inodes that a call locks: that of a new inode, those of its handles, and of what its looks found.
-pub(crate) fn locked(
-    number: Option<Ino>,
-    update: &Update,
-    looked: &Looked,
-) -> (Option<Ino>, Option<Ino>, Option<Ino>, Option<Ino>)
-    requires { makes update.now ≡ false → number ≡ None }
-    ensures { (text : List ℕ) → all_some (result.0 ∷ result.1 ∷ result.2 ∷ result.3 ∷ [])
-        ≡ if_number number ++ map (λ h. h.ino) (handles looked.now (call_of update.now text)) }
-{
-    let first = ino_of(looked.first);
-    match update {
-        Update::Create { dir, .. } | Update::Mkdir { dir, .. } => {
-            (number, Some(dir.ino), None, None)
-        }
-        Update::Write { file, .. } | Update::Size { file, .. } => {
-            (Some(file.ino), None, None, None)
-        }
-        Update::Mode { handle, .. } => (Some(handle.ino), None, None, None),
-        Update::Unlink { dir, .. } | Update::Rmdir { dir, .. } => {
-            (Some(dir.ino), first, None, None)
-        }
-        Update::Rename { from, to, .. } => {
-            (Some(from.ino), Some(to.ino), first, ino_of(looked.second))
-        }
-    }
-}
-
-fn ino_of(handle: Option<Handle>) -> Option<Ino>
-    ensures { result ≡ option_map (λ h. h.ino) handle }
-{
-    match handle {
-        Some(handle) => Some(handle.ino),
-        None => None,
-    }
-}
-
-/// In how many directories a call looks names up.
-pub(crate) fn look_count(update: &Update) -> usize
-    ensures { (text : List ℕ) → result ≡ length (directories (call_of update.now text)) }
-{
-    match update {
-        Update::Unlink { .. } | Update::Rmdir { .. } => 1,
-        Update::Rename { from, to, .. } => if from.ino == to.ino
-            && from.generation == to.generation
-        {
-            1
-        } else {
-            2
-        },
-        _ => 0,
-    }
-}
-
-/// The directory of a look.
-pub(crate) fn directory(update: &Update, place: usize) -> Handle
-    requires { place < length (directories (blank_call update.now)) }
-    ensures { (text : List ℕ) → result ≡ handle_at (directories (call_of update.now text)) place }
-{
-    match update {
-        Update::Unlink { dir, .. } | Update::Rmdir { dir, .. } => *dir,
-        Update::Rename { from, to, .. } => if place == 0 { *from } else { *to },
-        _ => unreachable!(),
-    }
 }
 
 /// The handle of the node that a visit reads.

@@ -16,9 +16,8 @@ ghost use Rattle.nv_machine.specs.Reads.{slot_at};
 ghost use Rattle.nv_core.specs.Parts.{HaveSlots};
 ghost use Rattle.nv_core.specs.Shown.{slots_in};
 
-use crate::slots::Slots;
 use nv_book::Book;
-use nv_calls::{Commit, SlotCells, append_on, publish_on};
+use nv_calls::{Commit, SlotCells, Slots, append_on, publish_on};
 use nv_cell::InodeCell;
 
 /// Appends the entries of the next inode.

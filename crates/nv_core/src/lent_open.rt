@@ -9,9 +9,8 @@ ghost use Rattle.nv_calls.specs.SlotCells.{lent_cells, other_cells};
 ghost use Rattle.nv_core.specs.Parts.{HaveSlots};
 ghost use Rattle.nv_core.specs.Shown.{slots_in};
 
-use crate::slots::Slots;
 use nv_book::Book;
-use nv_calls::{Commit, SlotCells, open_on};
+use nv_calls::{Commit, SlotCells, Slots, open_on};
 use nv_cell::InodeCell;
 
 /// Opens the journal of a CPU with the tails of all inodes that get entries.

@@ -10,10 +10,9 @@ ghost use Rattle.nv_core.specs.Readied.{IsFilledBy};
 ghost use Rattle.nv_core.specs.Shown.{slots_in};
 
 use crate::fill::Text;
-use crate::slots::Slots;
 use nv_alloc::Hand;
 use nv_base::Fault;
-use nv_calls::{Cells, Plan, Ready, SlotCells, fill, ready_on};
+use nv_calls::{Cells, Plan, Ready, SlotCells, Slots, fill, ready_on};
 use nv_cell::InodeCell;
 use std::alloc::Global;
 

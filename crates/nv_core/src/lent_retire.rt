@@ -12,9 +12,8 @@ ghost use Rattle.nv_core.specs.Parts.{HaveSlots};
 ghost use Rattle.nv_core.specs.Shown.{slots_in};
 ghost use Rattle.std.specs.Prelude.{None};
 
-use crate::slots::Slots;
 use nv_book::Book;
-use nv_calls::{Commit, SlotCells, retire_on};
+use nv_calls::{Commit, SlotCells, Slots, retire_on};
 use nv_cell::InodeCell;
 
 /// Retires what was killed of the next inode.

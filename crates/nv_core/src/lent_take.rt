@@ -8,9 +8,8 @@ ghost use Rattle.nv_calls.specs.declared.log_pages.TheConstants.{MORE_PAGES};
 ghost use Rattle.nv_core.specs.Parts.{HaveSlots};
 ghost use Rattle.nv_core.specs.Shown.{slots_in};
 
-use crate::slots::Slots;
 use nv_alloc::Hand;
-use nv_calls::{Plan, SlotCells, pages_wanted};
+use nv_calls::{Plan, SlotCells, Slots, pages_wanted};
 use nv_cell::InodeCell;
 
 /// How many log pages a call wants, with the data blocks in the hand.

@@ -28,7 +28,6 @@ pub mod scan_laws;
 mod shared;
 mod showing;
 mod sink;
-mod slots;
 mod snaps;
 mod step;
 mod tree;

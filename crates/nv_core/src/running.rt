@@ -1,8 +1,6 @@
 //! A call that runs.
 
 ghost use Rattle.std.specs.Prelude.{◌≡◌, ◌<◌, ◌+◌, ℕ, List, None, false, length, true};
-ghost use Rattle.nv_calls.specs.Prepared.{makes};
-ghost use Rattle.nv_machine.specs.Reads.{slots_of};
 ghost use Rattle.nv_machine.specs.Sequence.{begun, beginning, first_clean, first_step, locking, looking, new_draining, nothing_looked, slots_on};
 ghost use Rattle.nv_base.specs.declared.limits.TheConstants.{DRAIN};
 ghost use Rattle.nv_machine.specs.World as machine;
@@ -12,14 +10,13 @@ ghost use Rattle.nv_calls.specs.Updates.{call_of};
 ghost use Rattle.nv_core.specs.Told.{IsAtStart, IsChangeBy, IsJobOf, IsToldOf, is_change, looking_at, starting};
 
 use crate::hold::Hold;
-use crate::job::{Job, Owed, job_of, locked, look_count};
+use crate::job::{Job, Owed, job_of};
 use crate::next::{Draining, Ending, MaintenanceStep, Manner, Next, ToClean};
 use crate::shared::Shared;
-use crate::slots::Slots;
 use crate::turn::Turn;
 use nv_alloc::Hand;
 use nv_base::{Gen, Handle, Ino, limits};
-use nv_calls::{Call, Looked, MaintenanceCall, Plan, Update};
+use nv_calls::{Call, Looked, MaintenanceCall, Plan, Slots, Update, look_count, slots_of};
 use std::alloc::Global;
 
 /// How many more rounds of looks a call may make after its first.
@@ -72,20 +69,6 @@ pub(crate) fn looking(place: usize, update: &Update, slots: &Slots) -> Next
         return Next::Look(place);
     }
     locking(0, slots)
-}
-
-/// The slots that a call locks, of so many.
-pub(crate) fn slots_of(inodes: u64, number: Option<Ino>, update: &Update, looked: &Looked) -> Slots
-    requires { makes update.now ≡ false → number ≡ None }
-    ensures { (s : machine.Shared) (text : List ℕ) → length s.cells ≡ inodes
-        → slots_in result ≡ slots_of s number looked.now (call_of update.now text) }
-{
-    let (first, second, third, fourth) = locked(number, update, looked);
-    Slots::none()
-        .with(inodes, fourth)
-        .with(inodes, third)
-        .with(inodes, second)
-        .with(inodes, first)
 }
 
 /// The first step of a call, and the slots that it locks as far as they are known.

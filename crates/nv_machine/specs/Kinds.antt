@@ -1,4 +1,5 @@
 -- The steps, one function a kind. What decides a step is an argument.
+pub use Rattle.nv_calls.specs.Looks.{look_tests, seen_at}
 use Rattle.std.specs.Prelude.{ℕ, zero, suc, ◌+◌, ◌-◌, ◌%◌, ◌||◌, Bool, true, false, if◌then◌else◌, nat_lt, not, List, [], ◌∷◌, ◌++◌, drop, length, map, take, Option, Some, None, Result, Ok, Err}
 use Rattle.nv_calls.specs.declared.looked.Looked.{Looked}
 use Rattle.nv_alloc.specs.Block.{BlockValue}
@@ -7,7 +8,6 @@ use Rattle.nv_alloc.specs.Numbers.{put_by}
 use Rattle.nv_base.specs.declared.fault.Fault.{Fault}
 use Rattle.nv_base.specs.declared.fault.Fault.TheVariants.{CommitLimit, Contended, NoInode, NoSpace}
 use Rattle.nv_base.specs.Memory.{out_of_memory}
-use Rattle.nv_base.specs.declared.numbers.Handle.{Handle}
 use Rattle.nv_book.specs.Book.{BookState, after_enter, with_journal}
 use Rattle.nv_calls.specs.AllCalls.{answer}
 use Rattle.nv_calls.specs.Plain.{Change}
@@ -100,17 +100,6 @@ number_turn (ino ∷ numbers) s h r =
     go_on Number (with_numbers numbers s) (record h { ino = Some ino }) (record r { slots = slots_of s (Some ino) r.looked r.call })
 
 -- ---- look: what the names of one directory are bound to
-
--- one directory's look finds both names; of two, each its own
-abbrev pub seen_at : List Handle → ℕ → Looked → Looked → Looked
-seen_at (dir ∷ other ∷ rest) zero now before = record { first = now.first; second = None }
-seen_at (dir ∷ other ∷ rest) (suc place) now before = record { first = before.first; second = now.second }
-seen_at directories place now before = now
-
--- the first name may be refused at its look; what is wrong with the second is told at the check
-abbrev pub look_tests : ℕ → Tests → Tests
-look_tests zero tests = tests
-look_tests (suc place) tests = Ok tt
 
 abbrev pub look_turn : Option ℕ → Tests → Looked → ℕ → Shared → HandState → Running → Turn
 look_turn (Some other) tests found place s h r = Waits

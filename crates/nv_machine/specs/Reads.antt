@@ -1,7 +1,8 @@
 -- What a call reads: nodes by the cells that hold them, the slots that it locks, its plan, and how much it takes.
-use Rattle.std.specs.Prelude.{ℕ, ◌+◌, ◌/◌, ◌==◌, ◌++◌, if◌then◌else◌, Bool, false, is_some, nat_lt, List, [], ◌∷◌, filter, length, map, Option, Some, None, slice_index_or}
+pub use Rattle.nv_calls.specs.Locked.{if_number, slots_in, with_slot}
+use Rattle.std.specs.Prelude.{ℕ, ◌+◌, ◌/◌, ◌==◌, if◌then◌else◌, Bool, false, is_some, nat_lt, List, [], ◌∷◌, filter, length, Option, Some, None, slice_index_or}
 use Rattle.std.specs.List.{list_any, sum_by}
-use Rattle.nv_calls.specs.Locked.{handles}
+use Rattle.nv_calls.specs.Locked.{slots_among}
 use Rattle.nv_calls.specs.declared.looked.Looked.{Looked}
 use Rattle.nv_alloc.specs.Block.{BlockValue, numbers_of}
 use Rattle.nv_alloc.specs.FreeList.{FreeBlocks, is_home}
@@ -41,23 +42,9 @@ copies s = node_in (nodes s)
 
 -- ---- slots
 
--- numbers in rising order, each once
-abbrev pub with_slot : ℕ → List ℕ → List ℕ
-with_slot n [] = n ∷ []
-with_slot n (m ∷ slots) = if n == m then m ∷ slots else if nat_lt n m then n ∷ m ∷ slots else m ∷ with_slot n slots
-
--- the slots of these inode numbers, of which there are so many; a number out of range has none
-abbrev pub slots_in : ℕ → List ℕ → List ℕ
-slots_in inodes [] = []
-slots_in inodes (ino ∷ rest) = if nat_lt ino inodes then with_slot ino (slots_in inodes rest) else slots_in inodes rest
-
-abbrev pub if_number : Option ℕ → List ℕ
-if_number None = []
-if_number (Some ino) = ino ∷ []
-
 -- the slots that a call locks: those of its handles, of what its looks found, and of the number in its hand
 abbrev pub slots_of : Shared → Option ℕ → Looked → Call → List ℕ
-slots_of s number looked c = slots_in (length s.cells) (if_number number ++ map (λ (h : Handle). h.ino) (handles looked c))
+slots_of s number looked c = slots_among (length s.cells) number looked c
 
 -- whether a plan has entries for a slot
 abbrev pub is_written : List Planned → ℕ → Bool

@@ -1,9 +1,7 @@
 -- The order of a call's steps.
+pub use Rattle.nv_calls.specs.Looks.{directories, nothing_looked}
 use Rattle.std.specs.Prelude.{ℕ, ◌+◌, ◌-◌, if◌then◌else◌, max, min, nat_lt, List, [], ◌∷◌, length, None, option_to_list}
-use Rattle.nv_calls.specs.declared.looked.Looked.{Looked}
 use Rattle.nv_base.specs.declared.limits.TheConstants.{DRAIN}
-use Rattle.nv_base.specs.declared.numbers.Handle.{Handle}
-use Rattle.nv_calls.specs.Plain.{same_handle}
 use Rattle.nv_calls.specs.declared.call.Call.{Call}
 use Rattle.nv_calls.specs.declared.call.Call.TheVariants as call
 use Rattle.nv_calls.specs.declared.maintenance_call.MaintenanceCall.{MaintenanceCall}
@@ -37,16 +35,6 @@ beginning (call.Unlink dir name) = Looks
 beginning (call.Rmdir dir name) = Looks
 beginning (call.Rename from old to new) = Looks
 beginning (call.Maintenance what) = Maintains what
-
--- the directories in which a call looks its names up, one look for each
-abbrev pub directories : Call → List Handle
-directories (call.Unlink dir name) = dir ∷ []
-directories (call.Rmdir dir name) = dir ∷ []
-directories (call.Rename from old to new) = if same_handle from to then from ∷ [] else from ∷ to ∷ []
-directories other = []
-
-abbrev pub nothing_looked : Looked
-nothing_looked = record { first = None; second = None }
 
 -- ---- loops: the step for a place, or what comes behind the last one
 

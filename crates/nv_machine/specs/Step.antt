@@ -1,17 +1,16 @@
 -- The step of an actor's call, and events.
-use Rattle.std.specs.Prelude.{ℕ, ◌%◌, ◌&&◌, ◌||◌, Bool, true, false, is_some, not, nat_le, nat_lt, List, [], ◌∷◌, length, Option, Some, None, Result, Ok, Err, slice_index_or, slice_set}
+pub use Rattle.nv_calls.specs.Looks.{handle_at}
+pub use Rattle.nv_calls.specs.Checked.{same_found, same_looked}
+pub use Rattle.nv_calls.specs.Views.{visit_grows}
+use Rattle.std.specs.Prelude.{ℕ, ◌%◌, ◌||◌, Bool, true, false, is_some, not, nat_le, nat_lt, List, [], ◌∷◌, length, Option, Some, None, Result, Ok, Err, slice_set}
 use Rattle.nv_calls.specs.Locked.{handles}
-use Rattle.nv_calls.specs.declared.looked.Looked.{Looked}
 use Rattle.nv_base.specs.declared.fault.Fault.{Fault}
 use Rattle.nv_base.specs.declared.fault.Fault.TheVariants.{ActorBusy, ActorIdle, NoActor}
 use Rattle.nv_base.specs.declared.limits.TheConstants.{NUMBER}
 use Rattle.nv_base.specs.declared.numbers.Handle.{Handle}
 use Rattle.nv_calls.specs.AllCalls.{answer, blocks_wanted, early, effect, look_refusal, looked, refusal}
-use Rattle.nv_calls.specs.Plain.{same_handle}
 use Rattle.nv_calls.specs.declared.answer.Answer.{Answer}
 use Rattle.nv_calls.specs.declared.call.Call.{Call}
-use Rattle.nv_calls.specs.declared.call.Call.TheVariants as call
-use Rattle.nv_entry.specs.Tree.{root}
 use Rattle.nv_machine.specs.Kinds.{append_turn, asked_list, back_turn, check_ending, check_turn, close_turn, enter_turn, first_killed, give_turn, leave_turn, lock_turn, look_tests, look_turn, number_turn, open_turn, publish_turn, ready_turn, retire_turn, seen_at, take_blocks_turn, take_pages_turn, unlock_turn, visit_turn, wants_room}
 use Rattle.nv_machine.specs.Reads.{copies, has_last_page, nodes, pages_needed, pages_wanted, plan_by, slot_at, written_slots}
 use Rattle.nv_machine.specs.Sequence.{Beginning, Looks, Locks, Numbers, Maintains, Visits, beginning, begun, directories, nothing_looked}
@@ -20,10 +19,6 @@ use Rattle.nv_machine.specs.World.{Append, Back, Check, Close, Done, Ending, End
 
 -- ---- what decides
 
--- the directory of a look, and the node that a visit reads
-abbrev pub handle_at : List Handle → ℕ → Handle
-handle_at list place = slice_index_or list place root
-
 -- the call has the number that it needs: a new inode's is in the hand
 abbrev pub is_numbered : Beginning → Option ℕ → Bool
 is_numbered Numbers number = is_some number
@@ -31,16 +26,6 @@ is_numbered Looks number = true
 is_numbered Locks number = true
 is_numbered Visits number = true
 is_numbered (Maintains what) number = true
-
-abbrev pub same_found : Option Handle → Option Handle → Bool
-same_found None None = true
-same_found None (Some other) = false
-same_found (Some handle) None = false
-same_found (Some handle) (Some other) = same_handle handle other
-
--- the names are bound as the looks found them
-abbrev pub same_looked : Looked → Looked → Bool
-same_looked now before = same_found now.first before.first && same_found now.second before.second
 
 -- a new inode's handle: the number in the hand, with its slot's generation
 abbrev pub made_in : Shared → Option ℕ → Handle → Handle
@@ -61,12 +46,6 @@ abbrev pub check_grows : ℕ → Shared → HandState → Running → Bool
 check_grows block s h r =
     wants_room (blocks_wanted block (copies s) (has_last_page block s r.call) r.call)
     (pages_wanted s r.slots (plan_by block s h (with_made s h r)))
-
--- of the visits a stat and a look-up take no memory
-abbrev pub visit_grows : Call → Bool
-visit_grows (call.Stat handle) = false
-visit_grows (call.Lookup dir name) = false
-visit_grows other = true
 
 -- ---- THE STEP
 

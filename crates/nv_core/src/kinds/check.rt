@@ -7,15 +7,13 @@ ghost use Rattle.nv_base.specs.Limits.{IsWithinLimits};
 ghost use Rattle.nv_base.specs.Refusals.{FailsOnly};
 ghost use Rattle.nv_base.specs.Memory.{out_of_memory};
 ghost use Rattle.nv_base.specs.declared.limits.TheConstants.{BLOCK_BYTES};
-ghost use Rattle.nv_calls.specs.AllCalls.{blocks_wanted, looked};
+ghost use Rattle.nv_calls.specs.AllCalls.{blocks_wanted};
 ghost use Rattle.nv_calls.specs.Nodes.{nodes_in};
-ghost use Rattle.nv_calls.specs.Prepared.{makes};
 ghost use Rattle.nv_calls.specs.SlotCells.{lent_cells};
-ghost use Rattle.nv_calls.specs.Updates.{blank_call};
 ghost use Rattle.nv_calls.specs.declared.log_pages.TheConstants.{MORE_PAGES};
 ghost use Rattle.nv_machine.specs.Kinds.{check_turn, wants_blocks};
 ghost use Rattle.nv_machine.specs.Reads.{copies, has_last_page};
-ghost use Rattle.nv_machine.specs.Step.{ending_at, made_in, same_looked, with_made};
+ghost use Rattle.nv_machine.specs.Step.{ending_at, made_in, with_made};
 ghost use Rattle.nv_core.specs.Nodes.{ends_over, wanted_over};
 ghost use Rattle.nv_core.specs.Parts.{AreHome, AreSlots, HaveSlots, IsOfDevice};
 ghost use Rattle.nv_core.specs.Rooms.{FitsCall, HasRoomsAfter, IsHandOf, WantsBlocks, pages_to_take};
@@ -29,13 +27,12 @@ use crate::kinds::take::{pages_by, want_pages};
 use crate::next::{Ending, Next};
 use crate::running::Running;
 use crate::shared::Shared;
-use crate::slots::Slots;
 use crate::turn::Turn;
 use nv_alloc::Hand;
 use nv_base::Fault;
 use nv_calls::{
-    HeldNodes, Looked, MORE_PAGES, Nodes, SlotCells, Update, blocks_wanted, check_early,
-    check_late, ends_in_page, is_as_looked, is_nothing,
+    CheckEnd, HeldNodes, Looked, MORE_PAGES, Nodes, SlotCells, Slots, Update, blocks_wanted,
+    ends_at_check, ends_in_page,
 };
 use nv_cell::InodeCell;
 
@@ -143,37 +140,11 @@ fn ending_over<N: Nodes>(
     ensures { option_map ending_of result
         ≡ ends_over block (N.nodes_of nodes.now) before.now has_number update.now }
 {
-    if let Err(fault) = check_early(nodes, update) {
-        return Some(Ending::Refuses(fault));
+    match ends_at_check(block, nodes, before, update, has_number)? {
+        CheckEnd::Refuses(fault) => Some(Ending::Refuses(fault)),
+        CheckEnd::Overtaken => Some(Ending::Overtaken),
+        CheckEnd::Answers => Some(Ending::Answers),
     }
-    if !is_same(nodes, before, update) {
-        return Some(Ending::Overtaken);
-    }
-    if let Err(fault) = check_late(block, nodes, before, update) {
-        return Some(Ending::Refuses(fault));
-    }
-    if !has_number && makes_inode(update) {
-        return Some(Ending::Refuses(Fault::NoInode));
-    }
-    if is_nothing(update) {
-        Some(Ending::Answers)
-    } else {
-        None
-    }
-}
-
-/// Whether the names of a call still lead to what its looks found.
-fn is_same<N: Nodes>(nodes: &N, before: &Looked, update: &Update) -> bool
-    ensures { result
-        ≡ same_looked (looked (N.nodes_of nodes.now) (blank_call update.now)) before.now }
-{
-    is_as_looked(nodes, before, update)
-}
-
-fn makes_inode(update: &Update) -> bool
-    ensures { result ≡ makes update.now }
-{
-    matches!(update, Update::Create { .. } | Update::Mkdir { .. })
 }
 
 /// How many data blocks the call takes.

@@ -11,11 +11,10 @@ use crate::hold::Hold;
 use crate::next::{Draining, MaintenanceStep, Next};
 use crate::running::Running;
 use crate::shared::Shared;
-use crate::slots::Slots;
 use crate::turn::Turn;
 use nv_alloc::Hand;
 use nv_book::Record;
-use nv_calls::Answer;
+use nv_calls::{Answer, Slots};
 
 /// Picks the first deferred record. Where there is none, this is the call's last step. The first pick of a call makes
 /// room for a block before.

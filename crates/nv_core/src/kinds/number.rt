@@ -11,11 +11,12 @@ ghost use Rattle.nv_core.specs.declared.job.Job.{Job};
 ghost use Rattle.nv_core.specs.declared.next.Ending.{Ending};
 
 use crate::hold::Hold;
-use crate::running::{Running, locking, slots_of};
+use crate::running::{Running, locking};
 use crate::shared::Shared;
 use crate::turn::Turn;
 use nv_alloc::Hand;
 use nv_base::Ino;
+use nv_calls::slots_of;
 
 /// Takes the lowest free number into the hand. That there is none is told at the check.
 pub(crate) fn number(shared: &mut Shared, hand: &mut Hand, running: &mut Running) -> Turn

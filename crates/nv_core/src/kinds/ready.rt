@@ -22,11 +22,10 @@ use crate::lent_ready::ready_in;
 use crate::next::Next;
 use crate::running::Running;
 use crate::shared::Shared;
-use crate::slots::Slots;
 use crate::turn::Turn;
 use nv_alloc::Hand;
 use nv_base::Fault;
-use nv_calls::{Plan, Ready};
+use nv_calls::{Plan, Ready, Slots};
 use std::alloc::Global;
 use std::mem;
 

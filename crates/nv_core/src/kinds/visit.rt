@@ -1,9 +1,9 @@
 //! The step of a call that reads.
 
-ghost use Rattle.std.specs.Prelude.{◌≡◌, ◌≢◌, ◌||◌, ℕ, List, [], MatchResult, not};
+ghost use Rattle.std.specs.Prelude.{◌≡◌, ◌≢◌, ◌||◌, ℕ, List, [], not};
 ghost use Rattle.nv_calls.specs.AllCalls.{answer, refusal};
 ghost use Rattle.nv_calls.specs.Locked.{handles};
-ghost use Rattle.nv_calls.specs.Nodes.{IsView, alone, nodes_by, view_refusal};
+ghost use Rattle.nv_calls.specs.Nodes.{alone, nodes_by, view_refusal};
 ghost use Rattle.nv_cell.specs.Pages.{AreBytesOf};
 ghost use Rattle.nv_machine.specs.Kinds.{visit_turn};
 ghost use Rattle.nv_machine.specs.Reads.{copies, nodes};
@@ -12,7 +12,7 @@ ghost use Rattle.nv_machine.specs.Step.{handle_at, visit_grows};
 ghost use Rattle.nv_machine.specs.World.{empty_hand, owner_at};
 ghost use Rattle.nv_core.specs.Rooms.{HasRooms, HasRoomsAfter};
 ghost use Rattle.nv_core.specs.Shown.{Told, shared_of, shown, slots_in, turn_of};
-ghost use Rattle.nv_core.specs.Visits.{HasOwnBytes, IsFoundBy, IsRefusedBy};
+ghost use Rattle.nv_core.specs.Visits.{HasOwnBytes, IsFoundBy};
 ghost use Rattle.nv_core.specs.Told.{IsEither, IsToldOf, IsVisit, IsVisitOf};
 
 use crate::hold::Hold;
@@ -22,7 +22,7 @@ use crate::shared::Shared;
 use crate::turn::Turn;
 use nv_alloc::Hand;
 use nv_base::{Fault, Ino};
-use nv_calls::{Answer, Call, View, list_on, lookup_on, read_on, stat_on};
+use nv_calls::{Answer, Call, view_on};
 use nv_cell::InodeCell;
 use std::mem;
 
@@ -78,23 +78,8 @@ fn answer(ino: Ino, cell: &InodeCell, call: Call) -> Result<Answer, Fault>
         → IsFoundBy (view_refusal bytes ino cell.now call)
         (λ made. answer (nodes_by bytes (alone ino cell.now)) made call) (visit_grows call) result }
 {
-    match view_of(ino, cell, call) {
+    match view_on(ino, cell, call) {
         Ok(view) => Ok(view.into_found()),
         Err(fault) => Err(fault),
-    }
-}
-
-fn view_of(ino: Ino, cell: &InodeCell, call: Call) -> Result<View, Fault>
-    requires { IsVisit call }
-    ensures { (bytes : ℕ → List ℕ) → AreBytesOf cell.now.state bytes
-        → MatchResult result (IsView bytes ino cell.now call)
-        (IsRefusedBy (view_refusal bytes ino cell.now call) (visit_grows call)) }
-{
-    match &call {
-        Call::Read { .. } => read_on(ino, cell, call),
-        Call::Stat { .. } => stat_on(ino, cell, call),
-        Call::List { .. } => list_on(ino, cell, call),
-        Call::Lookup { .. } => lookup_on(ino, cell, call),
-        _ => unreachable!(),
     }
 }

@@ -1,0 +1,152 @@
+-- How the tests of a check end a call.
+use Rattle.std.proofs.Common.{◌≡◌, ℕ, ◌&&◌, ◌||◌, ◌==◌, ◌∙◌, Bool, true, false, not, List, [], ◌∷◌, length, Option, Some, None, refl, ap, ap₂, sym}
+use Rattle.std.specs.Prelude.{is_some, Ok, Err}
+use Rattle.std.proofs.lemmas.Bool.{eqb-true, eq-eqb}
+use Rattle.nv_base.specs.Refusals.{IsRefusedBy}
+use Rattle.nv_base.specs.declared.fault.Fault.{Fault}
+use Rattle.nv_base.specs.declared.fault.Fault.TheVariants as fault
+use Rattle.nv_base.specs.declared.numbers.Handle.{Handle}
+use Rattle.nv_cell.specs.Cell.{CellValue}
+use Rattle.nv_entry.specs.declared.node.NodeCopy.{NodeCopy}
+use Rattle.nv_calls.specs.AllCalls.{early, is_nothing, late, looked, refusal}
+use Rattle.nv_calls.specs.Checked.{check_ends, check_refusal, ends_over, lacks_number, overtaken_refusal, refusal_by, same_found, same_looked}
+use Rattle.nv_calls.specs.Nodes.{nodes_in}
+use Rattle.nv_calls.specs.Plain.{same_handle}
+use Rattle.nv_calls.specs.Prepared.{makes}
+use Rattle.nv_calls.specs.Refusals.{Check, and_then, passes, refuse_if}
+use Rattle.nv_calls.specs.Updates.{blank_call}
+use Rattle.nv_calls.specs.declared.call.Call.{Call}
+use Rattle.nv_calls.specs.declared.looked.Looked.{Looked}
+use Rattle.nv_calls.specs.declared.update.Update.{Update}
+use Rattle.nv_calls.specs.declared.update.Update.TheVariants as update
+
+-- ---- what the looks found
+
+handle_self : (h : Handle) → same_handle h h ≡ true
+handle_self h = rw (eq-eqb h.ino h.ino refl) (eq-eqb h.generation h.generation refl)
+
+found_self : (o : Option Handle) → same_found o o ≡ true
+found_self None = refl
+found_self (Some h) = handle_self h
+
+looked_self : (l : Looked) → same_looked l l ≡ true
+looked_self l = rw (found_self l.first) (found_self l.second)
+
+both : (a b : Bool) → (a && b) ≡ true → (a ≡ true) × (b ≡ true)
+both true b h = (refl, h)
+both false b h = cc
+
+pub handle_is : (a b : Handle) → same_handle a b ≡ true → a ≡ b
+handle_is a b h =
+    let parts = both (a.ino == b.ino) (a.generation == b.generation) h in
+    ap₂ (λ (ino generation : ℕ). let made : Handle = record { ino = ino; generation = generation } in made)
+    (eqb-true a.ino b.ino parts.0) (eqb-true a.generation b.generation parts.1)
+
+found_is : (a b : Option Handle) → same_found a b ≡ true → a ≡ b
+found_is None None h = refl
+found_is None (Some b) h = cc
+found_is (Some a) None h = cc
+found_is (Some a) (Some b) h = ap Some (handle_is a b h)
+
+pub looked_is : (a b : Looked) → same_looked a b ≡ true → a ≡ b
+looked_is a b h =
+    let parts = both (same_found a.first b.first) (same_found a.second b.second) h in
+    ap₂ (λ (first second : Option Handle). let made : Looked = record { first = first; second = second } in made)
+    (found_is a.first b.first parts.0) (found_is a.second b.second parts.1)
+
+-- names that lead elsewhere are not those of the looks
+anew : (now before : Looked) → (now ≡ before → ⊥) → same_looked now before ≡ false
+anew now before other = go (same_looked now before) refl where
+  go : (t : Bool) → same_looked now before ≡ t → t ≡ false
+  go false q = refl
+  go true q = absurd (other (looked_is now before q))
+
+-- ---- by the tests alone
+
+-- one of all refuses, where the names are as they were
+refuses : (e l : Check) (numbered nothing : Bool) → refusal_by (check_ends e true l numbered nothing)
+    ≡ and_then (and_then e l) (refuse_if (not numbered) fault.NoInode passes)
+refuses (Err f) l numbered nothing = refl
+refuses (Ok passed) (Err f) numbered nothing = refl
+refuses (Ok passed) (Ok all) false nothing = refl
+refuses (Ok passed) (Ok all) true true = refl
+refuses (Ok passed) (Ok all) true false = refl
+
+-- or one of the early ones, where a name was bound anew
+refuses_anew : (e l : Check) (numbered nothing : Bool) → refusal_by (check_ends e false l numbered nothing)
+    ≡ and_then e (Err fault.Contended)
+refuses_anew (Err f) l numbered nothing = refl
+refuses_anew (Ok passed) l numbered nothing = refl
+
+-- or none does
+passed_by : (e l : Check) (same numbered nothing : Bool) → refusal_by (check_ends e same l numbered nothing) ≡ passes
+    → (same ≡ true) × ((and_then e l ≡ passes) × (numbered ≡ true))
+passed_by (Err f) l same numbered nothing h = cc
+passed_by (Ok passed) l false numbered nothing h = cc
+passed_by (Ok passed) (Err f) true numbered nothing h = cc
+passed_by (Ok passed) (Ok all) true false nothing h = cc
+passed_by (Ok passed) (Ok all) true true nothing h = (refl, (refl, refl))
+
+-- ---- over nodes
+
+numbered_by : (has makes : Bool) → not (has || not makes) ≡ (makes && not has)
+numbered_by true true = refl
+numbered_by true false = refl
+numbered_by false true = refl
+numbered_by false false = refl
+
+module _ (block : ℕ) (n : Handle → Option NodeCopy) (before : Looked) (number : Option ℕ) (u : Update) where
+  abbrev c : Call
+  c = blank_call u
+
+  abbrev numbered : Bool
+  numbered = is_some number || not (makes u)
+
+  abbrev refused : Check
+  refused = refusal_by (ends_over block n before (is_some number) u)
+
+  pub told : looked n c ≡ before → refused ≡ check_refusal block n number u
+  told same =
+      ap (λ (b : Bool). refusal_by (check_ends (early n c) b (late block n before c) numbered (is_nothing c)))
+      (ap (λ (l : Looked). same_looked l before) same ∙ looked_self before)
+      ∙ refuses (early n c) (late block n before c) numbered (is_nothing c)
+      ∙ ap₂ (λ (l : Looked) (lacks : Bool). and_then (and_then (early n c) (late block n l c)) (refuse_if lacks fault.NoInode passes))
+      (sym same) (numbered_by (is_some number) (makes u))
+
+  pub overtaken : (looked n c ≡ before → ⊥) → refused ≡ overtaken_refusal n u
+  overtaken other =
+      ap (λ (b : Bool). refusal_by (check_ends (early n c) b (late block n before c) numbered (is_nothing c))) (anew (looked n c) before other)
+      ∙ refuses_anew (early n c) (late block n before c) numbered (is_nothing c)
+
+  -- a call that passes
+  pub record Passes : Type 0 where
+    pub same : looked n c ≡ before
+    pub passed : refusal block n c ≡ passes
+    pub numbered : lacks_number number u ≡ false
+
+  pub passes_all : refused ≡ passes → Passes
+  passes_all h =
+      let is = passed_by (early n c) (late block n before c) (same_looked (looked n c) before) numbered (is_nothing c) h in
+      let same : looked n c ≡ before = looked_is (looked n c) before is.0 in
+      record {
+        same = same;
+        passed = ap (λ (l : Looked). and_then (early n c) (late block n l c)) same ∙ is.1.0;
+        numbered = sym (numbered_by (is_some number) (makes u)) ∙ ap not is.1.1;
+      }
+
+-- with no cells a handle leads nowhere
+pub stale_by : (block : ℕ) (cells : List (ℕ × CellValue)) (number : Option ℕ) (u : Update) → length cells ≡ 0
+    → check_refusal block (nodes_in cells) number u ≡ Err fault.Stale
+stale_by block (cell ∷ cells) number u none = cc
+stale_by block [] number (update.Create dir name mode) none = refl
+stale_by block [] number (update.Mkdir dir name mode) none = refl
+stale_by block [] number (update.Write file offset count) none = refl
+stale_by block [] number (update.Size file size) none = refl
+stale_by block [] number (update.Mode handle mode) none = refl
+stale_by block [] number (update.Unlink dir name) none = refl
+stale_by block [] number (update.Rmdir dir name) none = refl
+stale_by block [] number (update.Rename from old to new) none = refl
+
+-- two refusals by one fault, whatever an answer would be
+pub refused_so : {T : Type 0} {f g : Fault} → (let check : Check = Err f in check) ≡ Err g → IsRefusedBy {T = T} (Err f) g
+refused_so same = cc

@@ -1,0 +1,22 @@
+-- The list of slots that a call locks, as it is made.
+use Rattle.std.specs.Prelude.{ℕ, if◌then◌else◌, nat_lt, List, [], ◌∷◌, Option, Some, None, take}
+use Rattle.nv_calls.specs.Locked.{with_slot}
+use Rattle.nv_calls.specs.declared.slots.Slots.{Slots}
+
+-- its numbers
+abbrev pub slots_in : Slots → List ℕ
+slots_in slots = take slots.count slots.inos
+
+-- a slot more, where there is such a slot
+abbrev pub with_some : ℕ → Option ℕ → List ℕ → List ℕ
+with_some inodes None slots = slots
+with_some inodes (Some ino) slots = if nat_lt ino inodes then with_slot ino slots else slots
+
+-- numbers that may be there: those that are
+abbrev pub if_some : Option ℕ → List ℕ → List ℕ
+if_some None rest = rest
+if_some (Some n) rest = n ∷ rest
+
+abbrev pub all_some : List (Option ℕ) → List ℕ
+all_some [] = []
+all_some (n ∷ rest) = if_some n (all_some rest)
