@@ -11,8 +11,8 @@ abbrev pub blocks_of : Hand → List BlockValue
 blocks_of hand = hand.data.blocks ++ hand.pages.blocks ++ hand.chain
 
 -- the first CPU that is home of one of these numbers; none where no number is of the device
-abbrev pub IsLowestHome : ℕ → ℕ → List ℕ → Option ℕ → Type 0
-IsLowestHome blocks cpus numbers None = AllByRecursion (λ n. blocks ≤ n) numbers
-IsLowestHome blocks cpus numbers (Some cpu) =
+abbrev pub IsFirstHomeCpu : ℕ → ℕ → List ℕ → Option ℕ → Type 0
+IsFirstHomeCpu blocks cpus numbers None = AllByRecursion (λ n. blocks ≤ n) numbers
+IsFirstHomeCpu blocks cpus numbers (Some cpu) =
     (cpu < cpus) × ((n : ℕ) × (has numbers n ≡ true) × IsHome blocks cpus cpu n)
     × AllByRecursion (λ n. home_start blocks cpus cpu ≤ n) numbers

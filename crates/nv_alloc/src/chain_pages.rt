@@ -4,7 +4,7 @@ ghost use Rattle.std.specs.Prelude.{◌≡◌, ◌<◌, ◌^◌, [], ◌==◌, l
 ghost use Rattle.std.specs.VecDeque.Iter.{deque_iter_rest};
 ghost use Rattle.nv_alloc.specs.Giving.{after_giving, kept_of};
 
-use crate::giving::{dismantle, fit_in_memory, give_home};
+use crate::giving::{dismantle, fit_in_memory, give_blocks};
 use crate::{Block, FreeList};
 use std::alloc::Global;
 use std::collections::{VecDeque, vec_deque};
@@ -46,7 +46,7 @@ impl ChainPages {
     }
 
     /// What holds of all pages: they fit in memory. Costs nothing.
-    pub(crate) fn known(&self)
+    pub(crate) fn use_invariant(&self)
         ensures { length self.now < 2 ^ 62 }
     {
         fit_in_memory(&self.blocks);
@@ -81,11 +81,11 @@ impl ChainPages {
     }
 
     /// Gives the list the pages that it takes, one after another, and keeps the others in their order.
-    pub fn give_home(&mut self, list: &mut FreeList)
+    pub fn give_blocks(&mut self, list: &mut FreeList)
         ensures kept { self.new ≡ kept_of list.old self.old }
         ensures given { list.new ≡ after_giving list.old self.old }
     {
-        give_home(&mut self.blocks, list);
+        give_blocks(&mut self.blocks, list);
     }
 
     /// Takes all pages apart: for the owner of a whole device that is let go.

@@ -9,7 +9,7 @@ use std::collections::VecDeque;
 use std::mem::size_of_val;
 
 /// Gives the list the blocks that it takes, one after another, and keeps the others in their order.
-pub(crate) fn give_home(blocks: &mut VecDeque<Block>, list: &mut FreeList)
+pub(crate) fn give_blocks(blocks: &mut VecDeque<Block>, list: &mut FreeList)
     ensures kept { blocks.new.items ≡ kept_of list.old blocks.old.items }
     ensures given { list.new ≡ after_giving list.old blocks.old.items }
     ensures capacity { deque_capacity blocks.new ≡ deque_capacity blocks.old }

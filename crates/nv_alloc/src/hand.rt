@@ -22,7 +22,7 @@ pub struct Hand {
 }
 
 impl Hand {
-    ghost use Rattle.nv_alloc.specs.Hand.{IsLowestHome, blocks_of};
+    ghost use Rattle.nv_alloc.specs.Hand.{IsFirstHomeCpu, blocks_of};
 
     /// An empty hand, for blocks of a geometry's device.
     pub fn new(alloc: Global, geometry: &Geometry) -> Hand
@@ -53,9 +53,9 @@ impl Hand {
         ensures { result ≡ length (blocks_of self.now) }
     {
         // Blocks take memory, so that their number is far below that of a u64.
-        self.data.known();
-        self.pages.known();
-        self.chain.known();
+        self.data.use_invariant();
+        self.pages.use_invariant();
+        self.chain.use_invariant();
         self.data.len() + self.pages.len() + self.chain.len()
     }
 
@@ -83,8 +83,8 @@ impl Hand {
     }
 
     /// The first CPU that is home of a block held, by the numbers of the CPUs. Costs the number of blocks held.
-    pub fn lowest_home(&self, geometry: &Geometry) -> Option<u64>
-        ensures { IsLowestHome geometry.now.numbers.blocks geometry.now.numbers.cpus
+    pub fn first_home_cpu(&self, geometry: &Geometry) -> Option<u64>
+        ensures { IsFirstHomeCpu geometry.now.numbers.blocks geometry.now.numbers.cpus
             (numbers_of (blocks_of self.now)) result }
     {
         let lowest = self.lowest_number()?;
@@ -104,7 +104,7 @@ impl Hand {
     }
 
     /// Gives the list the blocks that it takes, data blocks first and pages of a chain last, and keeps the others.
-    pub fn give_home(&mut self, list: &mut FreeList)
+    pub fn give_blocks(&mut self, list: &mut FreeList)
         ensures data { self.new.data ≡ after_home list.old self.old.data }
         ensures pages { self.new.pages
             ≡ after_home (after_giving list.old self.old.data.blocks) self.old.pages }
@@ -114,9 +114,9 @@ impl Hand {
         ensures given { list.new ≡ after_giving list.old (blocks_of self.old) }
         ensures ino { self.new.ino ≡ self.old.ino }
     {
-        self.data.give_home(list);
-        self.pages.give_home(list);
-        self.chain.give_home(list);
+        self.data.give_blocks(list);
+        self.pages.give_blocks(list);
+        self.chain.give_blocks(list);
     }
 
     /// Takes the hand apart with all that it holds: for the owner of a whole device that is let go.

@@ -18,7 +18,7 @@ pub fn rising_list_of_unused_is_from_scratch()
 {}
 
 /// A law: when blocks move between a list and a queue, as [`crate::FreeList::take`], [`crate::FreeList::give`]
-/// and the calls `give_home` move them, each number stands as often in both together as before.
+/// and the calls `give_blocks` move them, each number stands as often in both together as before.
 pub fn no_move_loses_a_number()
     ensures taken { (n k : ℕ) (queue list : List BlockValue) →
         times n (numbers_of (queue ++ take k list)) + times n (numbers_of (drop k list))
@@ -32,7 +32,7 @@ pub fn no_move_loses_a_number()
 {}
 
 /// A law: a list and what gives it blocks have together as many blocks as before: a queue, and a hand as
-/// [`crate::Hand::give_home`] leaves it.
+/// [`crate::Hand::give_blocks`] leaves it.
 pub fn no_give_loses_a_block()
     ensures queue { (list : FreeBlocks) (queue : List BlockValue) →
         length (kept_of list queue) + length (after_giving list queue).blocks

@@ -9,7 +9,7 @@ ghost use Rattle.nv_alloc.specs.Giving.{after_giving};
 ghost use Rattle.nv_alloc.specs.Queue.{after_home};
 ghost use Rattle.nv_base.specs.Memory.{out_of_memory};
 
-use crate::giving::{dismantle, fit_in_memory, give_home};
+use crate::giving::{dismantle, fit_in_memory, give_blocks};
 use crate::{Block, FreeList};
 use nv_base::Fault;
 use std::alloc::Global;
@@ -87,7 +87,7 @@ impl BlockQueue {
     }
 
     /// What holds of each queue: its blocks fit in memory. Costs nothing.
-    pub(crate) fn known(&self)
+    pub(crate) fn use_invariant(&self)
         ensures { length self.now.blocks < 2 ^ 62 }
     {
         fit_in_memory(&self.blocks);
@@ -151,11 +151,11 @@ impl BlockQueue {
     }
 
     /// Gives the list the blocks that it takes, one after another, and keeps the others in their order.
-    pub fn give_home(&mut self, list: &mut FreeList)
+    pub fn give_blocks(&mut self, list: &mut FreeList)
         ensures kept { self.new ≡ after_home list.old self.old }
         ensures given { list.new ≡ after_giving list.old self.old.blocks }
     {
-        give_home(&mut self.blocks, list);
+        give_blocks(&mut self.blocks, list);
     }
 
     /// Takes the queue apart with all its blocks: for the owner of a whole device that is let go.

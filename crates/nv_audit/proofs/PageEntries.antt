@@ -6,7 +6,7 @@ use Rattle.nv_log.proofs.Parts.{part_is}
 use Rattle.nv_entry.specs.Counts.{live_of}
 use Rattle.nv_entry.specs.Held.{Retention}
 use Rattle.nv_cell.specs.Cell.{CellState, IsCell, log_of}
-use Rattle.nv_cell.specs.declared.tally.PageCounts.{PageCounts}
+use Rattle.nv_cell.specs.declared.tally.LogPageCounts.{LogPageCounts}
 use Rattle.nv_cell.proofs.Scanned.{live_scanned, valid_scanned}
 use Rattle.nv_audit.specs.Counts.{AreCounted}
 use Rattle.nv_cell.specs.Retained.{AreMarksOf, published_on}
@@ -28,4 +28,4 @@ pub counted : (r : Retention) (cell : CellState) → IsCell cell → AreMarksOf 
 counted r cell is are page lt =
     let live = live_scanned cell is page lt
     ∙ ap (λ (b : ℕ). live_of b (published_on cell page) (drop (start_of cell.chain page) (log_of cell))) (sym are.block) in
-    ap₂ (λ (a b : ℕ). let counts : PageCounts = record { live = a; valid = b } in counts) live (valid_scanned r cell is are page lt)
+    ap₂ (λ (a b : ℕ). let counts : LogPageCounts = record { live = a; valid = b } in counts) live (valid_scanned r cell is are page lt)

@@ -6,10 +6,10 @@ use Rattle.nv_log.specs.Chain.{start_of}
 use Rattle.nv_cell.specs.Cell.{CellState, log_of}
 use Rattle.nv_cell.specs.Readers.{counts_of}
 use Rattle.nv_cell.specs.Retained.{published_on}
-use Rattle.nv_cell.specs.declared.tally.PageCounts.{PageCounts}
+use Rattle.nv_cell.specs.declared.tally.LogPageCounts.{LogPageCounts}
 
 -- the counts of a page from scratch: of its published entries, in the log from its first one on
-abbrev pub scanned_counts : Retention → CellState → ℕ → PageCounts
+abbrev pub scanned_counts : Retention → CellState → ℕ → LogPageCounts
 scanned_counts r cell page = record {
   live = live_of r.block (published_on cell page) (drop (start_of cell.chain page) (log_of cell));
   valid = valid_of r (published_on cell page) (drop (start_of cell.chain page) (log_of cell));

@@ -4,7 +4,7 @@ ghost use Rattle.std.specs.Prelude.{◌≡◌, ◌↔◌, ◌<◌, IsTrue, lengt
 ghost use Rattle.nv_entry.specs.Held.{retention_of};
 ghost use Rattle.nv_audit.specs.Counts.{AreCounted, scanned_counts};
 
-use nv_cell::{InodeCell, PageCounts};
+use nv_cell::{InodeCell, LogPageCounts};
 use nv_entry::{Retention, live, valid};
 
 /// Whether the counts of each page are those that its entries have from scratch: how many of them have a
@@ -25,18 +25,18 @@ pub fn are_counted(retention: &Retention<'_>, cell: &InodeCell) -> bool
 }
 
 /// The counts of a page with entries, from scratch.
-fn scanned_counts(retention: &Retention<'_>, cell: &InodeCell, page: usize) -> PageCounts
+fn scanned_counts(retention: &Retention<'_>, cell: &InodeCell, page: usize) -> LogPageCounts
     requires { page < length cell.now.state.chain.ends }
     ensures { result ≡ scanned_counts (retention_of retention.now) cell.now.state page }
 {
     // A cell's log is a chain.
-    cell.known();
+    cell.use_invariant();
     let chain = cell.log();
     let log = chain.log();
     let start = chain.page_start(page).min(log.len());
     let count = chain.page_end(page).min(log.len()) - start;
     let from = &log[start..];
-    PageCounts {
+    LogPageCounts {
         live: live(retention.block, from, count),
         valid: valid(retention, from, count),
     }

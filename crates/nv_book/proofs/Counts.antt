@@ -7,7 +7,7 @@ use Rattle.nv_entry.specs.declared.part.Part.{Part}
 use Rattle.nv_entry.specs.declared.part.Part.TheVariants.{Kind, Mode, Size, Bound, Page}
 use Rattle.nv_book.specs.declared.manifest.Manifest.{Manifest}
 use Rattle.nv_book.specs.declared.record.Record.{Record}
-use Rattle.nv_book.specs.declared.run.Run.{Run}
+use Rattle.nv_book.specs.declared.run.RecordRun.{RecordRun}
 use Rattle.nv_book.specs.Manifests.{held_of, record_count, runs_of, total}
 use Rattle.nv_book.specs.Records.{block_count, goes_on_in, is_born_by, is_held_by, is_page, let_go, moved_down, run_count_of}
 use Rattle.nv_book.specs.Runs.{pages_of, part_on, record_on, records_of, run_records, series}
@@ -73,7 +73,7 @@ module _ (p : Record → Bool) (together : (r : Record) → p (record_on 1 r) �
       ∙ ap (λ b. cond (p r) (cond b (n + 1) 0) 0) (same-kind r.part)) in
       one-more n r (filter p (series n (record_on 1 r))) (p r) (is_page r.part) refl h
 
-  pub of-runs : (rs : List Run) → sum_by pages_of (filter (λ (run : Run). p run.first) rs) ≡ block_count (filter p (records_of rs))
+  pub of-runs : (rs : List RecordRun) → sum_by pages_of (filter (λ (run : RecordRun). p run.first) rs) ≡ block_count (filter p (records_of rs))
   unfolding records_of
   of-runs [] = refl
   of-runs (r ∷ rs) =
@@ -83,9 +83,9 @@ module _ (p : Record → Bool) (together : (r : Record) → p (record_on 1 r) �
       ∙ sum_by-append (λ (u : Record). cond (is_page u.part) 1 0) (filter p (run_records r)) (filter p (records_of rs)) in
       let k = of-series r.more r.first in
       let h = of-runs rs in
-      go (p r.first) (filter (λ (run : Run). p run.first) rs) ∙ omega (arith, e, k, h)
+      go (p r.first) (filter (λ (run : RecordRun). p run.first) rs) ∙ omega (arith, e, k, h)
     where
-      go : (a : Bool) (rest : List Run) →
+      go : (a : Bool) (rest : List RecordRun) →
           sum_by pages_of (cond a (r ∷ rest) rest) ≡ cond a (cond (is_page r.first.part) (r.more + 1) 0) 0 + sum_by pages_of rest
       go true rest = sum_by-cons pages_of r rest
       go false rest = omega arith

@@ -6,7 +6,7 @@ use Rattle.nv_base.specs.declared.numbers.EntryId.{EntryId}
 use Rattle.nv_entry.specs.declared.part.Part.{Part}
 use Rattle.nv_entry.specs.declared.part.Part.TheVariants.{Kind, Mode, Size, Bound, Page}
 use Rattle.nv_book.specs.declared.record.Record.{Record}
-use Rattle.nv_book.specs.declared.run.Run.{Run}
+use Rattle.nv_book.specs.declared.run.RecordRun.{RecordRun}
 use Rattle.nv_book.specs.Records.{goes_on, goes_on_in, is_next_page, is_same_entry, run_count_of, is_born_by}
 use Rattle.nv_book.specs.Runs.{IsRun, AreLeft, AreRuns, records_left, PageRun, put, joins, joins_in, joined, part_on, record_on, series, records_of, run_records, last_of, rest_of}
 
@@ -81,10 +81,10 @@ series-append (suc m) n a b h =
     let f : record_on m (record_on 1 a) ≡ record_on (suc m) a = record-on-on m 1 a ∙ ap (λ k. record_on k a) (omega arith) in
     rw e (ap (λ rs. a ∷ rs) (series-append m n (record_on 1 a) b (subst (λ u. goes_on u b ≡ true) (sym f) h)))
 
-pub joined-records : (r s : Run) → joins r s ≡ true → run_records (joined r s) ≡ run_records r ++ run_records s
+pub joined-records : (r s : RecordRun) → joins r s ≡ true → run_records (joined r s) ≡ run_records r ++ run_records s
 joined-records r s h = series-append r.more s.more r.first s.first h
 
-pub put-records : (rs : List Run) (s : Run) → records_of (put rs s) ≡ records_of rs ++ run_records s
+pub put-records : (rs : List RecordRun) (s : RecordRun) → records_of (put rs s) ≡ records_of rs ++ run_records s
 unfolding put records_of
 put-records [] s = append-nil (run_records s)
 put-records (r ∷ []) s = go (joins r s) refl where
@@ -107,7 +107,7 @@ joined-part m n Mode b k h = cc
 joined-part m n Size b k h = cc
 joined-part m n Bound b k h = cc
 
-pub joined-run : (r s : Run) → IsRun s → joins r s ≡ true → IsRun (joined r s)
+pub joined-run : (r s : RecordRun) → IsRun s → joins r s ≡ true → IsRun (joined r s)
 joined-run r s k h = record {
   pages = joined-part r.more s.more r.first.part s.first.part k.pages
       (and-right (r.first.death == s.first.death) _
@@ -115,7 +115,7 @@ joined-run r s k h = record {
       (and-right (is_same_entry r.first.entry s.first.entry) _ (and-right (r.first.ino == s.first.ino) _ h))));
 }
 
-put-first : (r q s : Run) (rs : List Run) → joins_in r (put (q ∷ rs) s) ≡ joins r q
+put-first : (r q s : RecordRun) (rs : List RecordRun) → joins_in r (put (q ∷ rs) s) ≡ joins r q
 unfolding put
 put-first r q s [] = go (joins q s) where
   go : (b : Bool) → joins_in r (cond b (joined q s ∷ []) (q ∷ s ∷ [])) ≡ joins r q
@@ -123,7 +123,7 @@ put-first r q s [] = go (joins q s) where
   go false = refl
 put-first r q s (t ∷ ts) = refl
 
-pub put-runs : (rs : List Run) (s : Run) → AreRuns rs → IsRun s → AreRuns (put rs s)
+pub put-runs : (rs : List RecordRun) (s : RecordRun) → AreRuns rs → IsRun s → AreRuns (put rs s)
 unfolding put AreRuns
 put-runs [] s h k = (k, refl, tt)
 put-runs (r ∷ []) s h k = go (joins r s) refl where
@@ -166,11 +166,11 @@ not-filter-series older (suc n) r =
     go true e = e
     go false e = ap (λ us. r ∷ us) e
 
-pub filter-run : (older : Option ℕ) (r : Run) →
+pub filter-run : (older : Option ℕ) (r : RecordRun) →
     filter (λ t. is_born_by older t) (run_records r) ≡ cond (is_born_by older r.first) (run_records r) []
 filter-run older r = filter-series older r.more r.first
 
-pub not-filter-run : (older : Option ℕ) (r : Run) →
+pub not-filter-run : (older : Option ℕ) (r : RecordRun) →
     filter (λ t. not (is_born_by older t)) (run_records r) ≡ cond (is_born_by older r.first) [] (run_records r)
 not-filter-run older r = not-filter-series older r.more r.first
 
@@ -188,11 +188,11 @@ cut-series zero r h = absurd (omega (arith, h))
 cut-series (suc n) r h = let e : suc n - 1 ≡ n = omega arith in rw e refl
 
 -- a run without its first record
-pub cut-first : (r : Run) (rs : List Run) → 0 < r.more → records_of (r ∷ rs) ≡ r.first ∷ records_of (rest_of r ∷ rs)
+pub cut-first : (r : RecordRun) (rs : List RecordRun) → 0 < r.more → records_of (r ∷ rs) ≡ r.first ∷ records_of (rest_of r ∷ rs)
 unfolding records_of
 cut-first r rs h = ap (λ us. us ++ records_of rs) (cut-series r.more r.first h)
 
-single-first : (r : Run) (rs : List Run) → r.more ≤ 0 → records_of (r ∷ rs) ≡ r.first ∷ records_of rs
+single-first : (r : RecordRun) (rs : List RecordRun) → r.more ≤ 0 → records_of (r ∷ rs) ≡ r.first ∷ records_of rs
 unfolding records_of series
 single-first r rs h = let e : r.more ≡ 0 = omega (arith, h) in ap (λ n. series n r.first ++ records_of rs) e
 
@@ -204,45 +204,45 @@ part-cut n Size h k = absurd (omega (arith, h, k))
 part-cut n Bound h k = absurd (omega (arith, h, k))
 
 -- a run and its rest, before other runs
-pub rest-none : (r : Run) (rs : List Run) → r.more ≤ 0 → run_records r ++ records_of rs ≡ r.first ∷ records_of rs
+pub rest-none : (r : RecordRun) (rs : List RecordRun) → r.more ≤ 0 → run_records r ++ records_of rs ≡ r.first ∷ records_of rs
 unfolding records_of
 rest-none r rs h = single-first r rs h
 
-pub rest-some : (r : Run) (rs : List Run) → 0 < r.more → run_records r ++ records_of rs ≡ r.first ∷ run_records (rest_of r) ++ records_of rs
+pub rest-some : (r : RecordRun) (rs : List RecordRun) → 0 < r.more → run_records r ++ records_of rs ≡ r.first ∷ run_records (rest_of r) ++ records_of rs
 unfolding records_of
 rest-some r rs h = cut-first r rs h
 
-pub rest-run : (r : Run) → IsRun r → 0 < r.more → IsRun (rest_of r)
+pub rest-run : (r : RecordRun) → IsRun r → 0 < r.more → IsRun (rest_of r)
 rest-run r h k = record { pages = part-cut r.more r.first.part h.pages k }
 
 -- the first of the runs is begun, where none was before
-pub begin-run : (begun : Option Run) (runs rest : List Run) (run : Run) → begun ≡ None → AreLeft begun runs → runs ≡ run ∷ rest →
+pub begin-run : (begun : Option RecordRun) (runs rest : List RecordRun) (run : RecordRun) → begun ≡ None → AreLeft begun runs → runs ≡ run ∷ rest →
     IsRun run × AreRuns rest × (records_left begun runs ≡ run_records run ++ records_of rest)
 unfolding AreRuns records_of
 begin-run begun runs rest run none left steps =
     let h : AreRuns (run ∷ rest) = subst AreRuns steps (subst (λ b. AreLeft b runs) none left) in
     (h.0, h.2, ap (λ b. records_left b runs) none ∙ ap records_of steps)
 
-pub none-left : (begun : Option Run) (runs : List Run) → begun ≡ None → runs ≡ [] → records_left begun runs ≡ []
+pub none-left : (begun : Option RecordRun) (runs : List RecordRun) → begun ≡ None → runs ≡ [] → records_left begun runs ≡ []
 unfolding records_of
 none-left begun runs none empty = ap (λ b. records_left b runs) none ∙ ap records_of empty
 
-last-cut : (r : Run) → 0 < r.more → last_of (rest_of r) ≡ last_of r
+last-cut : (r : RecordRun) → 0 < r.more → last_of (rest_of r) ≡ last_of r
 last-cut r k = record-on-on (r.more - 1) 1 r.first ∙ ap (λ n. record_on n r.first) (omega (arith, k))
 
-pub cut-runs : (r : Run) (rs : List Run) → 0 < r.more → AreRuns (r ∷ rs) → AreRuns (rest_of r ∷ rs)
+pub cut-runs : (r : RecordRun) (rs : List RecordRun) → 0 < r.more → AreRuns (r ∷ rs) → AreRuns (rest_of r ∷ rs)
 unfolding AreRuns
 cut-runs r [] k h = (record { pages = part-cut r.more r.first.part h.0.pages k }, refl, tt)
 cut-runs r (q ∷ rs) k h =
     (record { pages = part-cut r.more r.first.part h.0.pages k }, ap (λ t. goes_on t q.first) (last-cut r k) ∙ h.1, h.2)
 
-pub cut-list : (rs : List Run) (x : Run) → 0 < length rs → x ≡ get_or rs 0 x → AreRuns rs → 0 < x.more →
+pub cut-list : (rs : List RecordRun) (x : RecordRun) → 0 < length rs → x ≡ get_or rs 0 x → AreRuns rs → 0 < x.more →
     (records_of rs ≡ x.first ∷ records_of (set rs 0 (rest_of x))) × AreRuns (set rs 0 (rest_of x))
 cut-list [] x n e h k = absurd (omega (arith, n))
 cut-list (r ∷ rs) x n e h k =
     (ap (λ u. records_of (u ∷ rs)) (sym e) ∙ cut-first x rs k, cut-runs x rs k (subst (λ u. AreRuns (u ∷ rs)) (sym e) h))
 
-pub drop-list : (rs : List Run) (x : Run) → 0 < length rs → x ≡ get_or rs 0 x → AreRuns rs → x.more ≤ 0 →
+pub drop-list : (rs : List RecordRun) (x : RecordRun) → 0 < length rs → x ≡ get_or rs 0 x → AreRuns rs → x.more ≤ 0 →
     (records_of rs ≡ x.first ∷ records_of (drop 1 (set rs 0 x))) × AreRuns (drop 1 (set rs 0 x))
 unfolding AreRuns
 drop-list [] x n e h k = absurd (omega (arith, n))
@@ -289,12 +289,12 @@ count-series (suc n) r rest h e =
     count-series n (record_on 1 r) rest (part-next n r.part h) (subst (λ u. goes_on_in u rest ≡ false) (sym g) e) in
     rw f (omega (arith, k))
 
-ends-in : (r : Run) (rs : List Run) → joins_in r rs ≡ false → goes_on_in (last_of r) (records_of rs) ≡ false
+ends-in : (r : RecordRun) (rs : List RecordRun) → joins_in r rs ≡ false → goes_on_in (last_of r) (records_of rs) ≡ false
 unfolding records_of
 ends-in r [] h = refl
 ends-in r (q ∷ rs) h = first-of (last_of r) q.more q.first (records_of rs) ∙ h
 
-pub count-runs : (rs : List Run) → AreRuns rs → run_count_of (records_of rs) ≡ length rs
+pub count-runs : (rs : List RecordRun) → AreRuns rs → run_count_of (records_of rs) ≡ length rs
 unfolding records_of AreRuns
 count-runs [] h = refl
 count-runs (r ∷ rs) h =

@@ -2,18 +2,18 @@
 use Rattle.std.proofs.Common.{◌≡◌, ℕ, ◌+◌, ◌≤◌, true, false, not, List, [], ◌∷◌, ◌++◌, length, filter, Option, cond, arith, refl, ap, sym, ◌∙◌, append_assoc}
 use Rattle.std.proofs.lemmas.List.{append-nil}
 use Rattle.nv_book.specs.declared.record.Record.{Record}
-use Rattle.nv_book.specs.declared.run.Run.{Run}
+use Rattle.nv_book.specs.declared.run.RecordRun.{RecordRun}
 use Rattle.nv_book.specs.Records.{is_born_by}
 use Rattle.nv_book.specs.Runs.{IsRun, AreRuns, put, run_records, records_of}
 use Rattle.nv_book.proofs.Series.{put-records, put-runs, filter-run, not-filter-run, filter-append}
 
-abbrev pub born : Option ℕ → List Run → List Record
+abbrev pub born : Option ℕ → List RecordRun → List Record
 born older rs = filter (λ r. is_born_by older r) (records_of rs)
 
-abbrev pub others : Option ℕ → List Run → List Record
+abbrev pub others : Option ℕ → List RecordRun → List Record
 others older rs = filter (λ r. not (is_born_by older r)) (records_of rs)
 
-pub record IsMoving (older : Option ℕ) (from₀ kept₀ deferred₀ from kept deferred : List Run) : Type 0 where
+pub record IsMoving (older : Option ℕ) (from₀ kept₀ deferred₀ from kept deferred : List RecordRun) : Type 0 where
   pub from_runs : AreRuns from
   pub kept_runs : AreRuns kept
   pub deferred_runs : AreRuns deferred
@@ -21,12 +21,12 @@ pub record IsMoving (older : Option ℕ) (from₀ kept₀ deferred₀ from kept 
   pub deferred_records : records_of deferred ++ others older from ≡ records_of deferred₀ ++ others older from₀
   pub room : length from + length kept + length deferred ≤ length from₀ + length kept₀ + length deferred₀
 
-pub begins : (older : Option ℕ) (from kept deferred : List Run) → AreRuns from → AreRuns kept → AreRuns deferred →
+pub begins : (older : Option ℕ) (from kept deferred : List RecordRun) → AreRuns from → AreRuns kept → AreRuns deferred →
     IsMoving older from kept deferred from kept deferred
 begins older from kept deferred f k d =
     record { from_runs = f; kept_runs = k; deferred_runs = d; kept_records = refl; deferred_records = refl; room = omega arith }
 
-module _ (older : Option ℕ) (from₀ kept₀ deferred₀ from kept deferred : List Run) (r : Run)
+module _ (older : Option ℕ) (from₀ kept₀ deferred₀ from kept deferred : List RecordRun) (r : RecordRun)
     (m : IsMoving older from₀ kept₀ deferred₀ (r ∷ from) kept deferred) (run : IsRun r) (rest : AreRuns from) where
   born-rest : born older (r ∷ from) ≡ cond (is_born_by older r.first) (run_records r) [] ++ born older from
   unfolding records_of
@@ -74,7 +74,7 @@ module _ (older : Option ℕ) (from₀ kept₀ deferred₀ from kept deferred : 
         room = omega (arith, room, room₀);
       }
 
-pub done : (older : Option ℕ) (from₀ kept₀ deferred₀ from kept deferred : List Run) →
+pub done : (older : Option ℕ) (from₀ kept₀ deferred₀ from kept deferred : List RecordRun) →
     IsMoving older from₀ kept₀ deferred₀ from kept deferred → length from ≡ 0 →
     (records_of kept ≡ records_of kept₀ ++ born older from₀) × (records_of deferred ≡ records_of deferred₀ ++ others older from₀)
 unfolding records_of

@@ -3,7 +3,7 @@ use Rattle.std.specs.Prelude.{◌≡◌, ℕ, zero, suc, ◌+◌, ◌-◌, ◌<�
 use Rattle.nv_entry.specs.declared.part.Part.{Part}
 use Rattle.nv_entry.specs.declared.part.Part.TheVariants.{Kind, Mode, Size, Bound, Page}
 use Rattle.nv_book.specs.declared.record.Record.{Record}
-use Rattle.nv_book.specs.declared.run.Run.{Run}
+use Rattle.nv_book.specs.declared.run.RecordRun.{RecordRun}
 use Rattle.nv_book.specs.Records.{goes_on, is_page}
 
 -- the part so many pages on
@@ -30,65 +30,65 @@ PageRun more Mode = more ≡ 0
 PageRun more Size = more ≡ 0
 PageRun more Bound = more ≡ 0
 
-pub record IsRun (r : Run) : Type 0 where
+pub record IsRun (r : RecordRun) : Type 0 where
   pub pages : PageRun r.more r.first.part
 
-abbrev pub run_records : Run → List Record
+abbrev pub run_records : RecordRun → List Record
 run_records r = series r.more r.first
 
-abbrev pub last_of : Run → Record
+abbrev pub last_of : RecordRun → Record
 last_of r = record_on r.more r.first
 
 -- the records of the runs, in order
-unfoldable pub records_of : List Run → List Record
+unfoldable pub records_of : List RecordRun → List Record
 records_of [] = []
 records_of (r ∷ rs) = run_records r ++ records_of rs
 
 -- the records of a run that was begun, if there is one, and of the runs after it
-abbrev pub records_left : Option Run → List Run → List Record
+abbrev pub records_left : Option RecordRun → List RecordRun → List Record
 records_left None runs = records_of runs
 records_left (Some run) runs = run_records run ++ records_of runs
 
-abbrev pub joins : Run → Run → Bool
+abbrev pub joins : RecordRun → RecordRun → Bool
 joins r s = goes_on (last_of r) s.first
 
-abbrev pub joined : Run → Run → Run
+abbrev pub joined : RecordRun → RecordRun → RecordRun
 joined r s = record { first = r.first; more = r.more + (1 + s.more) }
 
-abbrev pub joins_in : Run → List Run → Bool
+abbrev pub joins_in : RecordRun → List RecordRun → Bool
 joins_in r [] = false
 joins_in r (s ∷ rs) = joins r s
 
 -- runs, of which no two neighbours are one
-unfoldable pub AreRuns : List Run → Type 0
+unfoldable pub AreRuns : List RecordRun → Type 0
 AreRuns [] = Unit {0}
 AreRuns (r ∷ rs) = IsRun r × (joins_in r rs ≡ false) × AreRuns rs
 
 -- the same of runs that follow one that was begun, if there is one
-abbrev pub AreLeft : Option Run → List Run → Type 0
+abbrev pub AreLeft : Option RecordRun → List RecordRun → Type 0
 AreLeft None runs = AreRuns runs
 AreLeft (Some run) runs = IsRun run × AreRuns runs
 
 -- a run put to the end of others, as one with the last of them if it goes on there
-unfoldable pub put : List Run → Run → List Run
+unfoldable pub put : List RecordRun → RecordRun → List RecordRun
 put [] s = s ∷ []
 put (r ∷ []) s = if joins r s then joined r s ∷ [] else r ∷ s ∷ []
 put (r ∷ q ∷ rs) s = r ∷ put (q ∷ rs) s
 
 -- the run goes on where the last of the others ends
-unfoldable pub joins_last : List Run → Run → Bool
+unfoldable pub joins_last : List RecordRun → RecordRun → Bool
 joins_last [] s = false
 joins_last (r ∷ []) s = joins r s
 joins_last (r ∷ q ∷ rs) s = joins_last (q ∷ rs) s
 
 -- a run without its first record
-abbrev pub rest_of : Run → Run
+abbrev pub rest_of : RecordRun → RecordRun
 rest_of r = record { first = record_on 1 r.first; more = r.more - 1 }
 
 -- how many blocks a run has
-abbrev pub pages_of : Run → ℕ
+abbrev pub pages_of : RecordRun → ℕ
 pages_of r = if is_page r.first.part then r.more + 1 else 0
 
 -- how many blocks the runs have whose first record passes the test
-abbrev pub pages_where : (Record → Bool) → List Run → ℕ
-pages_where passes runs = sum_by pages_of (filter (λ (run : Run). passes run.first) runs)
+abbrev pub pages_where : (Record → Bool) → List RecordRun → ℕ
+pages_where passes runs = sum_by pages_of (filter (λ (run : RecordRun). passes run.first) runs)

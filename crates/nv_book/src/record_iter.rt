@@ -5,7 +5,7 @@ ghost use Rattle.std.specs.Iterator.{YieldsFirst, item_count};
 ghost use Rattle.nv_book.specs.Runs.{AreRuns, records_of};
 
 use crate::Record;
-use crate::run::Run;
+use crate::run::RecordRun;
 use std::collections::linked_list::Iter;
 use std::marker::Model;
 
@@ -13,8 +13,8 @@ use std::marker::Model;
 #[derive(Drop)]
 pub struct RecordIter<'a> {
     // What is left of a run whose first record was given.
-    begun: Option<Run>,
-    runs: Iter<'a, Run>,
+    begun: Option<RecordRun>,
+    runs: Iter<'a, RecordRun>,
 }
 
 impl<'a> Model for RecordIter<'a> {
@@ -30,7 +30,7 @@ impl<'a> Model for RecordIter<'a> {
 }
 
 impl<'a> RecordIter<'a> {
-    pub(crate) fn new(runs: Iter<'a, Run>) -> RecordIter<'a>
+    pub(crate) fn new(runs: Iter<'a, RecordRun>) -> RecordIter<'a>
         requires { AreRuns runs }
         ensures { result ≡ records_of runs.entry }
     {

@@ -5,7 +5,7 @@ ghost use Rattle.nv_book.specs.Records.{let_go, moved_down};
 ghost use Rattle.nv_book.specs.Records.{block_count, is_held_by, run_count_of};
 
 use crate::record_iter::RecordIter;
-use crate::run::Run;
+use crate::run::RecordRun;
 use crate::spare_nodes::SpareNodes;
 use crate::{Record, runs};
 use nv_base::Epoch;
@@ -16,7 +16,7 @@ use std::marker::Model;
 /// A list of records. Neighbours that go on are stored as one run.
 #[derive(Debug, Drop)]
 pub struct Records {
-    runs: LinkedList<Run>,
+    runs: LinkedList<RecordRun>,
 }
 
 impl Model for Records {
@@ -58,7 +58,7 @@ impl Records {
         ensures room { spare.new + run_count_of self.new ≡ spare.old + run_count_of self.old }
         ensures one { spare.old ≤ spare.new + 1 }
     {
-        let run = Run {
+        let run = RecordRun {
             first: last,
             more: 0,
         };

@@ -2,19 +2,19 @@
 
 ghost use Rattle.std.specs.Prelude.{◌≡◌, ◌<◌, List, ◌∷◌, ◌++◌};
 ghost use Rattle.nv_book.specs.Runs.{IsRun, AreLeft, AreRuns, last_of, joins, pages_of, records_left, records_of, rest_of, run_records};
-ghost use Rattle.nv_book.specs.declared.run.Run.{Run};
+ghost use Rattle.nv_book.specs.declared.run.RecordRun.{RecordRun};
 
 use crate::Record;
 use nv_entry::Part;
 
 /// A record, and how many more follow it, each of the next page.
 #[derive(Clone, Copy, Debug)]
-pub struct Run {
+pub struct RecordRun {
     pub first: Record,
     pub more: u32,
 }
 
-impl Run {
+impl RecordRun {
     /// The last record of the run.
     fn last(&self) -> Record
         requires { IsRun self.now }
@@ -28,7 +28,7 @@ impl Run {
     }
 
     /// Whether the run `next` goes on where this one ends.
-    pub fn joins(&self, next: &Run) -> bool
+    pub fn joins(&self, next: &RecordRun) -> bool
         requires { IsRun self.now }
         ensures { result ≡ joins self.now next.now }
     {
@@ -48,11 +48,11 @@ impl Run {
     }
 
     /// The run without its first record, if more follow it.
-    pub fn rest(self) -> Option<Run>
+    pub fn rest(self) -> Option<RecordRun>
         requires { IsRun self }
-        ensures records { (runs : List Run) →
+        ensures records { (runs : List RecordRun) →
             run_records self ++ records_of runs ≡ self.first ∷ records_left result runs }
-        ensures left { (runs : List Run) → AreRuns runs → AreLeft result runs }
+        ensures left { (runs : List RecordRun) → AreRuns runs → AreLeft result runs }
     {
         if self.more == 0 {
             return None;

@@ -5,13 +5,13 @@ ghost use Rattle.nv_book.specs.Records.{is_born_by, is_held_by};
 ghost use Rattle.nv_book.specs.Runs.{IsRun, AreRuns, joins_last, pages_where, put, records_of};
 
 use crate::Record;
-use crate::run::Run;
+use crate::run::RecordRun;
 use nv_base::Epoch;
 use std::collections::LinkedList;
 use std::mem;
 
 /// Makes the run one with the last of the list, if it goes on there.
-fn join_last(list: &mut LinkedList<Run>, run: &Run) -> bool
+fn join_last(list: &mut LinkedList<RecordRun>, run: &RecordRun) -> bool
     requires runs { AreRuns list.old }
     requires run { IsRun run.now }
     ensures joins { result ≡ joins_last list.old run.now }
@@ -28,7 +28,7 @@ fn join_last(list: &mut LinkedList<Run>, run: &Run) -> bool
 }
 
 /// Takes the last node of the spare ones.
-fn take_node(spare: &mut LinkedList<Run>) -> LinkedList<Run>
+fn take_node(spare: &mut LinkedList<RecordRun>) -> LinkedList<RecordRun>
     requires { 0 < length spare.old }
     ensures one { length result ≡ 1 }
     ensures rest { length spare.old ≡ length spare.new + 1 }
@@ -41,7 +41,7 @@ fn take_node(spare: &mut LinkedList<Run>) -> LinkedList<Run>
 }
 
 /// Writes a run into a node.
-fn fill(node: &mut LinkedList<Run>, run: Run)
+fn fill(node: &mut LinkedList<RecordRun>, run: RecordRun)
     requires { length node.old ≡ 1 }
     ensures { node.new ≡ run ∷ [] }
 {
@@ -53,7 +53,7 @@ fn fill(node: &mut LinkedList<Run>, run: Run)
 
 /// Puts a run to the end of a list, in a spare node where it isn't one with the last.
 #[tactic(auto, using(crate::proofs::Putting::put_laws))]
-pub fn add(list: &mut LinkedList<Run>, spare: &mut LinkedList<Run>, run: Run)
+pub fn add(list: &mut LinkedList<RecordRun>, spare: &mut LinkedList<RecordRun>, run: RecordRun)
     requires runs { AreRuns list.old }
     requires run { IsRun run }
     requires spare { 0 < length spare.old }
@@ -74,7 +74,7 @@ pub fn add(list: &mut LinkedList<Run>, spare: &mut LinkedList<Run>, run: Run)
 }
 
 /// Takes the first run out of a list, with its node.
-pub fn take_first(list: &mut LinkedList<Run>) -> (Run, LinkedList<Run>)
+pub fn take_first(list: &mut LinkedList<RecordRun>) -> (RecordRun, LinkedList<RecordRun>)
     requires runs { AreRuns list.old }
     requires some { 0 < length list.old }
     ensures rest { list.old ≡ result.0 ∷ list.new }
@@ -95,7 +95,7 @@ pub fn take_first(list: &mut LinkedList<Run>) -> (Run, LinkedList<Run>)
 
 /// Puts a run that has a node of its own to the end of a list.
 #[tactic(auto, using(crate::proofs::Putting::put_laws))]
-pub fn put_node(list: &mut LinkedList<Run>, run: Run, mut node: LinkedList<Run>)
+pub fn put_node(list: &mut LinkedList<RecordRun>, run: RecordRun, mut node: LinkedList<RecordRun>)
     requires runs { AreRuns list.old }
     requires run { IsRun run }
     requires node { node ≡ run ∷ [] }
@@ -113,7 +113,7 @@ pub fn put_node(list: &mut LinkedList<Run>, run: Run, mut node: LinkedList<Run>)
 }
 
 /// Takes the first record out of a list. A run of several keeps its node.
-pub fn pick(list: &mut LinkedList<Run>) -> Option<Record>
+pub fn pick(list: &mut LinkedList<RecordRun>) -> Option<Record>
     requires { AreRuns list.old }
     ensures first { result ≡ slice_get (records_of list.old) 0 }
     ensures rest { records_of list.new ≡ drop 1 (records_of list.old) }
@@ -133,10 +133,10 @@ pub fn pick(list: &mut LinkedList<Run>) -> Option<Record>
 /// Moves the runs of a list in order: those born by the snapshot `older` to the end of `kept`, all others to the
 /// end of `deferred`.
 pub fn split_by_birth(
-    mut from: LinkedList<Run>,
+    mut from: LinkedList<RecordRun>,
     older: &Option<Epoch>,
-    kept: &mut LinkedList<Run>,
-    deferred: &mut LinkedList<Run>,
+    kept: &mut LinkedList<RecordRun>,
+    deferred: &mut LinkedList<RecordRun>,
 )
     requires from { AreRuns from }
     requires kept { AreRuns kept.old }
@@ -162,7 +162,7 @@ pub fn split_by_birth(
 }
 
 /// How many blocks the runs have that the snapshot `s` holds.
-pub fn held(list: &LinkedList<Run>, s: Epoch) -> u64
+pub fn held(list: &LinkedList<RecordRun>, s: Epoch) -> u64
     requires { pages_where (is_held_by s) list.now < 2 ^ 64 }
     ensures { result ≡ pages_where (is_held_by s) list.now }
 {
@@ -171,7 +171,7 @@ pub fn held(list: &LinkedList<Run>, s: Epoch) -> u64
 }
 
 /// How many blocks the runs have that were not born by the snapshot `older`.
-pub fn blocks_not_born_by(list: &LinkedList<Run>, older: &Option<Epoch>) -> u64
+pub fn blocks_not_born_by(list: &LinkedList<RecordRun>, older: &Option<Epoch>) -> u64
     requires { pages_where (λ r. not (is_born_by older.now r)) list.now < 2 ^ 64 }
     ensures { result ≡ pages_where (λ r. not (is_born_by older.now r)) list.now }
 {

@@ -4,7 +4,7 @@ ghost use Rattle.std.specs.Prelude.{◌≡◌, ◌<◌, ◌≤◌, max, IfErr, I
 ghost use Rattle.nv_base.specs.Memory.{out_of_memory};
 
 use crate::Record;
-use crate::run::Run;
+use crate::run::RecordRun;
 use nv_base::{CommitNo, EntryId, Epoch, Fault, Ino};
 use nv_entry::Part;
 use std::alloc::Global;
@@ -14,7 +14,7 @@ use std::marker::Model;
 /// Spare nodes. Contracts see how many.
 #[derive(Debug, Drop)]
 pub struct SpareNodes {
-    pub(crate) nodes: LinkedList<Run>,
+    pub(crate) nodes: LinkedList<RecordRun>,
 }
 
 impl Model for SpareNodes {
@@ -26,8 +26,8 @@ impl Model for SpareNodes {
 }
 
 /// What stands in a spare node.
-fn blank() -> Run {
-    Run {
+fn blank() -> RecordRun {
+    RecordRun {
         first: Record {
             ino: Ino::new(0),
             entry: EntryId {

@@ -12,15 +12,15 @@ use Rattle.nv_entry.specs.declared.node.NodeCopy.{NodeCopy}
 use Rattle.nv_entry.specs.Index.{bound_to}
 use Rattle.nv_entry.specs.Tree.{names_of_node}
 use Rattle.nv_calls.specs.AllCalls.{IsReady, plan, refusal}
-use Rattle.nv_calls.specs.declared.taken.Taken.{Taken}
+use Rattle.nv_calls.specs.declared.allocation.Allocation.{Allocation}
 use Rattle.nv_calls.specs.declared.call.Call.{Call}
 use Rattle.nv_calls.specs.declared.call.Call.TheVariants as call
-use Rattle.nv_calls.specs.declared.plan.Planned.{Planned}
+use Rattle.nv_calls.specs.declared.plan.InodePlan.{InodePlan}
 use Rattle.nv_calls.specs.Locked.{made_by}
 use Rattle.nv_calls.specs.Plain.{node_in, same_handle}
 use Rattle.nv_calls.specs.Plan.{AreFewApart}
 use Rattle.nv_calls.specs.Refusals.{Check, and_find, found, found_by, is_directory, kind_of, passes, refuse_if, want_bound, want_directory, want_lawful}
-use Rattle.nv_calls.specs.Slots.{Slot, node_under}
+use Rattle.nv_calls.specs.Slots.{InodeSlot, node_under}
 use Rattle.nv_calls.specs.calls.Lookup.{lookup_refusal}
 use Rattle.nv_calls.specs.calls.Rename.{bound_plan, move_plan, moved_refusal, own_place, pass_if, replaced_plan, replaced_refusal}
 use Rattle.nv_calls.specs.calls.Rmdir.{rmdir_late}
@@ -33,13 +33,13 @@ use Rattle.nv_calls.proofs.Standing.{free_apart, one_handle}
 few_none : AreFewApart []
 few_none = record { apart = tt; few = omega arith }
 
-few_one : (p : Planned) → AreFewApart (p ∷ [])
+few_one : (p : InodePlan) → AreFewApart (p ∷ [])
 few_one p = record { apart = (tt, tt); few = omega arith }
 
-few_two : (p q : Planned) → q.handle.ino ≢ p.handle.ino → AreFewApart (p ∷ q ∷ [])
+few_two : (p q : InodePlan) → q.handle.ino ≢ p.handle.ino → AreFewApart (p ∷ q ∷ [])
 few_two p q apart = record { apart = ((apart, tt), (tt, tt)); few = omega arith }
 
-few_three : (p q r : Planned) → q.handle.ino ≢ p.handle.ino → r.handle.ino ≢ p.handle.ino → r.handle.ino ≢ q.handle.ino
+few_three : (p q r : InodePlan) → q.handle.ino ≢ p.handle.ino → r.handle.ino ≢ p.handle.ino → r.handle.ino ≢ q.handle.ino
     → AreFewApart (p ∷ q ∷ r ∷ [])
 few_three p q r a b c = record { apart = ((a, (b, tt)), ((c, tt), (tt, tt))); few = omega arith }
 
@@ -70,7 +70,7 @@ second_false : (a b : Bool) → (a || b) ≡ false → b ≡ false
 second_false true b h = cc
 second_false false b h = h
 
-module _ (block : ℕ) (nodes : Handle → Option NodeCopy) (taken : Taken)
+module _ (block : ℕ) (nodes : Handle → Option NodeCopy) (taken : Allocation)
     (one_handle : (a b : Handle) → IsThere (nodes a) → IsThere (nodes b) → a.ino ≡ b.ino → a ≡ b) where
   -- a file and a directory are different inodes
   kinds_apart : (file dir : Handle) → HasKind File (nodes file) → HasKind Dir (nodes dir) → file.ino ≢ dir.ino
@@ -180,7 +180,7 @@ module _ (block : ℕ) (nodes : Handle → Option NodeCopy) (taken : Taken)
       let names = names_passed block nodes from old to new h in
       bound_apart from old to new names.0 names.1 (own_place from old to new) (found nodes from old) (found nodes to new) refl names.4
 
-pub few_apart : (bytes : ℕ → List ℕ) (block : ℕ) (slots : ℕ → Slot) (taken : Taken) (c : Call)
+pub few_apart : (bytes : ℕ → List ℕ) (block : ℕ) (slots : ℕ → InodeSlot) (taken : Allocation) (c : Call)
     → refusal block (node_in (node_under bytes block slots)) c ≡ passes
     → IsReady bytes block slots (node_in (node_under bytes block slots)) taken c
     → AreFewApart (plan block (node_in (node_under bytes block slots)) taken c)

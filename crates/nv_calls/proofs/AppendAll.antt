@@ -18,7 +18,7 @@ use Rattle.nv_calls.specs.Cells.{OnlyAt, state_at, value_at, with_value}
 use Rattle.nv_calls.specs.Commit.{CommitValue, after_append, to_append}
 use Rattle.nv_calls.specs.Committed.{block_count, entry_count, grown, hand_before, page_count, place_before, place_of}
 use Rattle.nv_calls.specs.PlanByPlan.{AppendsTo}
-use Rattle.nv_calls.specs.Ready.{ArePlaced, CellPlanValue, no_plan, plan_at}
+use Rattle.nv_calls.specs.Ready.{ArePlaced, CellCommitValue, no_plan, plan_at}
 use Rattle.nv_calls.specs.Steps.{CanAppendPlan, hand_after, numbers_in, with_plan, without_front}
 use Rattle.nv_calls.proofs.Appends.{front, map-drop, map-take, none_front}
 use Rattle.nv_calls.proofs.CellLists.{only_value, other-only, value_given}
@@ -65,16 +65,16 @@ hand_more cells start j lt =
     ∙ ap (λ (n : ℕ). without_front n start.hand.pages) (sym pages))
 
 -- the numbers of the blocks of the first plans' pages
-counted : (plans : List CellPlanValue) → length (numbers_of_all plans) ≡ sum_by block_count plans
-counted plans = length-flat_map (λ (p : CellPlanValue). numbers_in p.items) plans
+counted : (plans : List CellCommitValue) → length (numbers_of_all plans) ≡ sum_by block_count plans
+counted plans = length-flat_map (λ (p : CellCommitValue). numbers_in p.items) plans
 
 -- the blocks of a plan's pages are behind those of the plans before it
-own_blocks : (j : ℕ) (plans : List CellPlanValue) (blocks : List BlockValue) → j < length plans
+own_blocks : (j : ℕ) (plans : List CellCommitValue) (blocks : List BlockValue) → j < length plans
     → numbers_of (take (length (numbers_of_all plans)) blocks) ≡ numbers_of_all plans
     → numbers_of (take (block_count (plan_at plans j)) (drop (sum_by block_count (take j plans)) blocks)) ≡ numbers_in
     (plan_at plans j).items
 own_blocks j plans blocks lt h =
-    let f : CellPlanValue → List ℕ = λ p. numbers_in p.items in
+    let f : CellCommitValue → List ℕ = λ p. numbers_in p.items in
     let xs : List ℕ = numbers_of_all (take j plans) in
     let ys : List ℕ = numbers_in (plan_at plans j).items in
     let zs : List ℕ = numbers_of_all (drop (suc j) plans) in
@@ -95,7 +95,7 @@ own_blocks j plans blocks lt h =
 
 module _ (j : ℕ) (cells : List (ℕ × CellValue)) (start : CommitValue) (now : List (ℕ × CellValue)) (commit : CommitValue)
     (placed : ArePlaced cells start.plans) (lt : j < length start.plans) (way : AppendsTo j cells start now commit) where
-  abbrev plan : CellPlanValue
+  abbrev plan : CellCommitValue
   plan = plan_at start.plans j
 
   appended_is : commit.appended ≡ j
@@ -105,7 +105,7 @@ module _ (j : ℕ) (cells : List (ℕ × CellValue)) (start : CommitValue) (now 
   turn_is = ap (plan_at commit.plans) appended_is ∙ way.plans.rest j (omega arith)
 
   pub at_is : (to_append commit).at ≡ plan.at
-  at_is = ap (λ (p : CellPlanValue). p.at) turn_is
+  at_is = ap (λ (p : CellCommitValue). p.at) turn_is
 
   pub value_is_still : value_at now plan.at ≡ value_at cells plan.at
   value_is_still = way.changed.waiting j (omega arith) lt
@@ -114,7 +114,7 @@ module _ (j : ℕ) (cells : List (ℕ × CellValue)) (start : CommitValue) (now 
   becomes : with_plan commit.stamp commit.place (to_append commit).items commit.hand (value_at now (to_append commit).at)
       ≡ grown cells start j
   becomes =
-      ap (λ (p : CellPlanValue). with_plan commit.stamp commit.place p.items commit.hand (value_at now p.at)) turn_is
+      ap (λ (p : CellCommitValue). with_plan commit.stamp commit.place p.items commit.hand (value_at now p.at)) turn_is
       ∙ ap (λ (v : CellValue). with_plan commit.stamp commit.place plan.items commit.hand v) value_is_still
       ∙ ap (λ (c : CommitValue). with_plan c.stamp c.place plan.items c.hand (value_at cells plan.at)) way.is
 
@@ -135,12 +135,12 @@ module _ (j : ℕ) (cells : List (ℕ × CellValue)) (start : CommitValue) (now 
       ap (λ (k : ℕ). (state_at now k).chain) at_is ∙ ap (λ (v : CellValue). v.state.chain) value_is_still in
       let hand : later.hand ≡ hand_before cells start (j + 1) =
       ap (λ (c : CommitValue). c.hand) is
-      ∙ ap₂ (λ (p : CellPlanValue) (ch : ChainState). hand_after p.items ch commit.hand) turn_is chain
+      ∙ ap₂ (λ (p : CellCommitValue) (ch : ChainState). hand_after p.items ch commit.hand) turn_is chain
       ∙ ap (λ (c : CommitValue). hand_after plan.items (state_at cells plan.at).chain c.hand) way.is
       ∙ hand_more cells start j lt in
       let place : later.place ≡ place_before start.plans (j + 1) =
       ap (λ (c : CommitValue). c.place) is
-      ∙ ap₂ (λ (c : CommitValue) (p : CellPlanValue). c.place + length p.items) way.is turn_is
+      ∙ ap₂ (λ (c : CommitValue) (p : CellCommitValue). c.place + length p.items) way.is turn_is
       ∙ sym (sum_by_more entry_count start.plans j no_plan lt) in
       let count : later.appended ≡ j + 1 = ap (λ (c : CommitValue). c.appended) is ∙ ap (λ (n : ℕ). n + 1) appended_is in
       let rest : later ≡ record start { plans = later.plans; hand = later.hand; place = later.place; appended = later.appended } =
@@ -206,6 +206,6 @@ module _ (j : ℕ) (cells : List (ℕ × CellValue)) (start : CommitValue) (now 
         };
         places = omega (arith, can.few, entries);
       } in
-      let P : CommitValue → CellPlanValue → CellValue → Type 0 = λ c p v. CanAppendPlan c.stamp c.place p.items c.hand v in
-      subst (λ (p : CellPlanValue). P commit p (value_at now p.at)) (sym turn_is)
+      let P : CommitValue → CellCommitValue → CellValue → Type 0 = λ c p v. CanAppendPlan c.stamp c.place p.items c.hand v in
+      subst (λ (p : CellCommitValue). P commit p (value_at now p.at)) (sym turn_is)
       (subst (P commit plan) (sym value_is_still) (subst (λ (c : CommitValue). P c plan (value_at cells plan.at)) (sym way.is) own))

@@ -28,7 +28,7 @@ use Rattle.nv_calls.specs.CanCommit.{CanCommit, goes, numbers_of_all}
 use Rattle.nv_calls.specs.Cells.{no_cell, state_at, value_at}
 use Rattle.nv_calls.specs.Commit.{CommitValue, begun, stamp_of}
 use Rattle.nv_calls.specs.Committed.{ChangesPlanned, Killing, block_count, committed, grown, hand_after_killings, hand_before, hand_left, killing, page_count, place_before, place_of}
-use Rattle.nv_calls.specs.Ready.{CellPlanValue, ReadyValue, no_plan, plan_at}
+use Rattle.nv_calls.specs.Ready.{CellCommitValue, ReadyValue, no_plan, plan_at}
 use Rattle.nv_calls.specs.Retiring.{erased, freed, freed_by, freed_one, hand_with, is_erased, keeper_of, number_back, retired, retired_one, settled, with_back}
 use Rattle.nv_calls.specs.Steps.{numbers_in, pages_from, stamped_entries, with_entries, with_entry, with_pages, with_plan}
 use Rattle.nv_calls.specs.declared.stamp.Stamp.{Stamp}
@@ -217,7 +217,7 @@ module _ (cells : List (ℕ × CellValue)) (book : BookValue) (cpu : ℕ) (ready
   abbrev start : CommitValue
   start = begun (stamp_of book.state) ready
 
-  abbrev plans : List CellPlanValue
+  abbrev plans : List CellCommitValue
   plans = ready.plans
 
   abbrev before : ℕ → CellState
@@ -237,7 +237,7 @@ module _ (cells : List (ℕ × CellValue)) (book : BookValue) (cpu : ℕ) (ready
       let m = length (numbers_of_all plans) in
       omega (
         arith,
-        length-flat_map (λ (p : CellPlanValue). numbers_in p.items) plans,
+        length-flat_map (λ (p : CellCommitValue). numbers_in p.items) plans,
         length-map (take m ready.hand.«data».blocks) number_of,
         ap length can.append.blocks,
         length-take m ready.hand.«data».blocks,

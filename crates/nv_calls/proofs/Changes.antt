@@ -7,11 +7,11 @@ use Rattle.nv_cell.specs.Cell.{CellState, CellValue}
 use Rattle.nv_calls.specs.Cells.{OnlyAt, state_at, value_at}
 use Rattle.nv_calls.specs.Committed.{ChangesPlanned, place_of}
 use Rattle.nv_calls.specs.PlanByPlan.{ArePlansFrom, IsChangedTo}
-use Rattle.nv_calls.specs.Ready.{ArePlaced, CellPlanValue, no_plan, plan_at}
+use Rattle.nv_calls.specs.Ready.{ArePlaced, CellCommitValue, no_plan, plan_at}
 use Rattle.nv_calls.proofs.CellLists.{ino-only, length-only, other-only}
 
 -- two plans are of two cells
-pub apart : (cells : List (ℕ × CellValue)) (plans : List CellPlanValue) → ArePlaced cells plans → (i j : ℕ) → i < length plans
+pub apart : (cells : List (ℕ × CellValue)) (plans : List CellCommitValue) → ArePlaced cells plans → (i j : ℕ) → i < length plans
     → j < length plans
     → (i ≡ j → ⊥) → place_of plans i ≡ place_of plans j → ⊥
 apart cells plans placed i j li lj differ same = go (nat_lt i j) refl where
@@ -23,20 +23,20 @@ apart cells plans placed i j li lj differ same = go (nat_lt i j) refl where
       omega (arith, less, same)
 
 -- there are no more plans than cells
-at_least : (cells : List (ℕ × CellValue)) (plans : List CellPlanValue) → ArePlaced cells plans → (j : ℕ) → j < length plans
+at_least : (cells : List (ℕ × CellValue)) (plans : List CellCommitValue) → ArePlaced cells plans → (j : ℕ) → j < length plans
     → j ≤ place_of plans j
 at_least cells plans placed zero lt = omega arith
 at_least cells plans placed (suc j) lt =
     let step : j < suc j = omega arith in
     omega (arith, at_least cells plans placed j (omega (arith, lt)), placed.rising j (suc j) no_plan step lt)
 
-pub few_plans : (cells : List (ℕ × CellValue)) (plans : List CellPlanValue) → ArePlaced cells plans → length plans ≤ length cells
+pub few_plans : (cells : List (ℕ × CellValue)) (plans : List CellCommitValue) → ArePlaced cells plans → length plans ≤ length cells
 few_plans cells [] placed = omega arith
 few_plans cells (p ∷ plans) placed =
     let last : length plans < length (p ∷ plans) = omega arith in
     omega (arith, at_least cells (p ∷ plans) placed (length plans) last, placed.within (length plans) last)
 
-pub none_changed : (plans : List CellPlanValue) (becomes : ℕ → CellState) (cells : List (ℕ × CellValue))
+pub none_changed : (plans : List CellCommitValue) (becomes : ℕ → CellState) (cells : List (ℕ × CellValue))
     → IsChangedTo 0 plans becomes cells cells
 none_changed plans becomes cells = record {
   count = refl;
@@ -46,7 +46,7 @@ none_changed plans becomes cells = record {
   others = λ k un. refl;
 }
 
-pub one_more : (j : ℕ) (plans : List CellPlanValue) (becomes : ℕ → CellState) (old now new : List (ℕ × CellValue)) → ArePlaced old plans
+pub one_more : (j : ℕ) (plans : List CellCommitValue) (becomes : ℕ → CellState) (old now new : List (ℕ × CellValue)) → ArePlaced old plans
     → j < length plans → IsChangedTo j plans becomes old now → OnlyAt (place_of plans j) now new
     → state_at new (place_of plans j) ≡ becomes j → IsChangedTo (j + 1) plans becomes old new
 one_more j plans becomes old now new placed lt way only state =
@@ -62,7 +62,7 @@ one_more j plans becomes old now new placed lt way only state =
       others = λ k un. other-only now new at k only (λ e. un j lt (sym e)) ∙ way.others k un;
     }
 
-pub all_changed : (j : ℕ) (plans : List CellPlanValue) (becomes : ℕ → CellState) (old now : List (ℕ × CellValue)) → length plans ≤ j
+pub all_changed : (j : ℕ) (plans : List CellCommitValue) (becomes : ℕ → CellState) (old now : List (ℕ × CellValue)) → length plans ≤ j
     → IsChangedTo j plans becomes old now → ChangesPlanned plans becomes old now
 all_changed j plans becomes old now all way = record {
   count = way.count;
@@ -73,17 +73,17 @@ all_changed j plans becomes old now all way = record {
 
 -- ---- plans whose turn is over change, and stay plans of their cells
 
-pub plans_none : (plans : List CellPlanValue) → ArePlansFrom 0 plans plans
+pub plans_none : (plans : List CellCommitValue) → ArePlansFrom 0 plans plans
 plans_none plans = record { same = record { count = refl; places = λ i. refl }; rest = λ i le. refl }
 
-pub plan_other : (now new : List CellPlanValue) (j i : ℕ) (p : CellPlanValue) → new ≡ slice_set now j p → (i ≡ j → ⊥)
+pub plan_other : (now new : List CellCommitValue) (j i : ℕ) (p : CellCommitValue) → new ≡ slice_set now j p → (i ≡ j → ⊥)
     → plan_at new i ≡ plan_at now i
-plan_other now new j i p is differ = ap (λ (ps : List CellPlanValue). plan_at ps i) is ∙ get_or-set_other now j i p no_plan differ
+plan_other now new j i p is differ = ap (λ (ps : List CellCommitValue). plan_at ps i) is ∙ get_or-set_other now j i p no_plan differ
 
-pub plan_own : (now new : List CellPlanValue) (j : ℕ) (p : CellPlanValue) → new ≡ slice_set now j p → j < length now → plan_at new j ≡ p
-plan_own now new j p is lt = ap (λ (ps : List CellPlanValue). plan_at ps j) is ∙ get_or-set_same now j p no_plan lt
+pub plan_own : (now new : List CellCommitValue) (j : ℕ) (p : CellCommitValue) → new ≡ slice_set now j p → j < length now → plan_at new j ≡ p
+plan_own now new j p is lt = ap (λ (ps : List CellCommitValue). plan_at ps j) is ∙ get_or-set_same now j p no_plan lt
 
-pub plans_more : (j : ℕ) (old now new : List CellPlanValue) (p : CellPlanValue) → j < length old → ArePlansFrom j old now
+pub plans_more : (j : ℕ) (old now new : List CellCommitValue) (p : CellCommitValue) → j < length old → ArePlansFrom j old now
     → new ≡ slice_set now j p
     → p.at ≡ place_of now j → ArePlansFrom (j + 1) old new
 plans_more j old now new p lt way is at =
@@ -101,6 +101,6 @@ plans_more j old now new p lt way is at =
           → place_of new i ≡ place_of old i
       go i true q other own =
           let e : i ≡ j = eqb-true i j q in
-          subst (λ (k : ℕ). place_of new k ≡ place_of old k) (sym e) (ap (λ (x : CellPlanValue). x.at) own ∙ at ∙ way.same.places j)
+          subst (λ (k : ℕ). place_of new k ≡ place_of old k) (sym e) (ap (λ (x : CellCommitValue). x.at) own ∙ at ∙ way.same.places j)
       go i false q other own =
-          ap (λ (x : CellPlanValue). x.at) (other i (eqb-false i j q)) ∙ way.same.places i
+          ap (λ (x : CellCommitValue). x.at) (other i (eqb-false i j q)) ∙ way.same.places i

@@ -16,7 +16,7 @@ use Rattle.nv_calls.specs.Prepared.{makes}
 use Rattle.nv_calls.specs.Refusals.{Check, and_then, passes, refuse_if}
 use Rattle.nv_calls.specs.Updates.{blank_call}
 use Rattle.nv_calls.specs.declared.call.Call.{Call}
-use Rattle.nv_calls.specs.declared.looked.Looked.{Looked}
+use Rattle.nv_calls.specs.declared.looked.LookupResult.{LookupResult}
 use Rattle.nv_calls.specs.declared.update.Update.{Update}
 use Rattle.nv_calls.specs.declared.update.Update.TheVariants as update
 
@@ -29,7 +29,7 @@ found_self : (o : Option Handle) → same_found o o ≡ true
 found_self None = refl
 found_self (Some h) = handle_self h
 
-looked_self : (l : Looked) → same_looked l l ≡ true
+looked_self : (l : LookupResult) → same_looked l l ≡ true
 looked_self l = rw (found_self l.first) (found_self l.second)
 
 both : (a b : Bool) → (a && b) ≡ true → (a ≡ true) × (b ≡ true)
@@ -48,14 +48,14 @@ found_is None (Some b) h = cc
 found_is (Some a) None h = cc
 found_is (Some a) (Some b) h = ap Some (handle_is a b h)
 
-pub looked_is : (a b : Looked) → same_looked a b ≡ true → a ≡ b
+pub looked_is : (a b : LookupResult) → same_looked a b ≡ true → a ≡ b
 looked_is a b h =
     let parts = both (same_found a.first b.first) (same_found a.second b.second) h in
-    ap₂ (λ (first second : Option Handle). let made : Looked = record { first = first; second = second } in made)
+    ap₂ (λ (first second : Option Handle). let made : LookupResult = record { first = first; second = second } in made)
     (found_is a.first b.first parts.0) (found_is a.second b.second parts.1)
 
 -- names that lead elsewhere are not those of the looks
-anew : (now before : Looked) → (now ≡ before → ⊥) → same_looked now before ≡ false
+anew : (now before : LookupResult) → (now ≡ before → ⊥) → same_looked now before ≡ false
 anew now before other = go (same_looked now before) refl where
   go : (t : Bool) → same_looked now before ≡ t → t ≡ false
   go false q = refl
@@ -95,7 +95,7 @@ numbered_by true false = refl
 numbered_by false true = refl
 numbered_by false false = refl
 
-module _ (block : ℕ) (n : Handle → Option NodeCopy) (before : Looked) (number : Option ℕ) (u : Update) where
+module _ (block : ℕ) (n : Handle → Option NodeCopy) (before : LookupResult) (number : Option ℕ) (u : Update) where
   abbrev c : Call
   c = blank_call u
 
@@ -108,9 +108,9 @@ module _ (block : ℕ) (n : Handle → Option NodeCopy) (before : Looked) (numbe
   pub told : looked n c ≡ before → refused ≡ check_refusal block n number u
   told same =
       ap (λ (b : Bool). refusal_by (check_ends (early n c) b (late block n before c) numbered (is_nothing c)))
-      (ap (λ (l : Looked). same_looked l before) same ∙ looked_self before)
+      (ap (λ (l : LookupResult). same_looked l before) same ∙ looked_self before)
       ∙ refuses (early n c) (late block n before c) numbered (is_nothing c)
-      ∙ ap₂ (λ (l : Looked) (lacks : Bool). and_then (and_then (early n c) (late block n l c)) (refuse_if lacks fault.NoInode passes))
+      ∙ ap₂ (λ (l : LookupResult) (lacks : Bool). and_then (and_then (early n c) (late block n l c)) (refuse_if lacks fault.NoInode passes))
       (sym same) (numbered_by (is_some number) (makes u))
 
   pub overtaken : (looked n c ≡ before → ⊥) → refused ≡ overtaken_refusal n u
@@ -130,7 +130,7 @@ module _ (block : ℕ) (n : Handle → Option NodeCopy) (before : Looked) (numbe
       let same : looked n c ≡ before = looked_is (looked n c) before is.0 in
       record {
         same = same;
-        passed = ap (λ (l : Looked). and_then (early n c) (late block n l c)) same ∙ is.1.0;
+        passed = ap (λ (l : LookupResult). and_then (early n c) (late block n l c)) same ∙ is.1.0;
         numbered = sym (numbered_by (is_some number) (makes u)) ∙ ap not is.1.1;
       }
 

@@ -13,9 +13,9 @@ use Rattle.nv_entry.specs.Node.{node_now}
 use Rattle.nv_entry.specs.Sound.{Gives, IsSound, MakesAll}
 use Rattle.nv_entry.proofs.SoundLogs.{several_give}
 use Rattle.nv_calls.specs.Plain.{Change, PlainNode, node_in, nodes_after, same_handle, stamped}
-use Rattle.nv_calls.specs.declared.plan.Planned.{Planned}
+use Rattle.nv_calls.specs.declared.plan.InodePlan.{InodePlan}
 use Rattle.nv_calls.specs.Plan.{AllFit, Fits}
-use Rattle.nv_calls.specs.Slots.{Commits, IsPlan, IsPlanned, Slot, entries_of, items_for, last_commit, node_under, place_in}
+use Rattle.nv_calls.specs.Slots.{Commits, IsPlan, IsPlanned, InodeSlot, entries_of, items_for, last_commit, node_under, place_in}
 
 -- ---- the entries of a commit
 
@@ -63,7 +63,7 @@ pub node-stamped : (commit : ℕ) (node : Option NodeCopy)
 node-stamped commit None = refl
 node-stamped commit (Some n) = refl
 
-module _ (bytes : ℕ → List ℕ) (block : ℕ) (slots : ℕ → Slot) where
+module _ (bytes : ℕ → List ℕ) (block : ℕ) (slots : ℕ → InodeSlot) where
   abbrev nodes : Handle → Option PlainNode
   nodes = node_under bytes block slots
 
@@ -82,7 +82,7 @@ module _ (bytes : ℕ → List ℕ) (block : ℕ) (slots : ℕ → Slot) where
     log_with handle items = log_of handle ++ entries_of commit epoch (place handle.ino) items
 
     -- the log of a planned inode
-    planned_gives : (p : Planned) (c : Change) → IsPlanned slots p → Fits bytes block (node_in nodes) p c
+    planned_gives : (p : InodePlan) (c : Change) → IsPlanned slots p → Fits bytes block (node_in nodes) p c
         → Gives bytes block (log_with p.handle p.items) (c.becomes (node_in nodes p.handle))
     planned_gives p c is fits =
         several_give bytes block (log_of p.handle) (entries_of commit epoch (place p.handle.ino) p.items)
@@ -96,7 +96,7 @@ module _ (bytes : ℕ → List ℕ) (block : ℕ) (slots : ℕ → Slot) where
 
     -- ---- each log
 
-    pub log_sound : (plan : List Planned) (effect : List Change) → AllByRecursion (IsPlanned slots) plan
+    pub log_sound : (plan : List InodePlan) (effect : List Change) → AllByRecursion (IsPlanned slots) plan
         → AllFit bytes block (node_in nodes) plan effect
         → (ino : ℕ) → IsSound bytes block ((slots ino).log ++ entries_of commit epoch (place ino) (items_for plan ino))
     log_sound [] [] all fit ino = subst (IsSound bytes block) (sym (append-nil (slots ino).log)) (sound ino)
@@ -115,7 +115,7 @@ module _ (bytes : ℕ → List ℕ) (block : ℕ) (slots : ℕ → Slot) where
     -- ---- each handle
 
     -- a handle that is not its slot's has no node, and nothing is planned for it
-    stale_stays : (plan : List Planned) (effect : List Change) (handle : Handle) → AllByRecursion (IsPlanned slots) plan
+    stale_stays : (plan : List InodePlan) (effect : List Change) (handle : Handle) → AllByRecursion (IsPlanned slots) plan
         → AllFit bytes block (node_in nodes) plan effect → (handle.generation == (slots handle.ino).generation) ≡ false
         → nodes handle ≡ None → nodes_after commit effect nodes handle ≡ None
     stale_stays [] [] handle all fit q none = none
@@ -138,7 +138,7 @@ module _ (bytes : ℕ → List ℕ) (block : ℕ) (slots : ℕ → Slot) where
     abbrev node_with : Handle → List Item → Option PlainNode
     node_with handle items = stamped (last_commit (log_with handle items)) (node_now bytes block (log_with handle items))
 
-    own_after : (plan : List Planned) (effect : List Change) (handle : Handle) → AllByRecursion (IsPlanned slots) plan
+    own_after : (plan : List InodePlan) (effect : List Change) (handle : Handle) → AllByRecursion (IsPlanned slots) plan
         → AllFit bytes block (node_in nodes) plan effect → handle.generation ≡ (slots handle.ino).generation
         → node_with handle (items_for plan handle.ino) ≡ nodes_after commit effect nodes handle
     own_after [] [] handle all fit own =
@@ -169,13 +169,13 @@ module _ (bytes : ℕ → List ℕ) (block : ℕ) (slots : ℕ → Slot) where
               rw (eq-eqb p.handle.generation handle.generation g) (here (handle-same p.handle handle i g))
 
     -- the slots after the commit
-    abbrev slots_with : List Planned → ℕ → Slot
+    abbrev slots_with : List InodePlan → ℕ → InodeSlot
     slots_with plan ino = record {
       generation = (slots ino).generation;
       log = (slots ino).log ++ entries_of commit epoch (place ino) (items_for plan ino);
     }
 
-    pub node_after : (plan : List Planned) (effect : List Change) → IsPlan bytes block slots plan effect → (handle : Handle)
+    pub node_after : (plan : List InodePlan) (effect : List Change) → IsPlan bytes block slots plan effect → (handle : Handle)
         → node_under bytes block (slots_with plan) handle ≡ nodes_after commit effect nodes handle
     node_after plan effect is handle = go (handle.generation == (slots handle.ino).generation) refl where
       go : (b : Bool) → (handle.generation == (slots handle.ino).generation) ≡ b
@@ -183,7 +183,7 @@ module _ (bytes : ℕ → List ℕ) (block : ℕ) (slots : ℕ → Slot) where
       go true q = own_after plan effect handle is.all is.fit (eqb-true handle.generation (slots handle.ino).generation q)
       go false q = sym (stale_stays plan effect handle is.all is.fit q (rw q refl))
 
-  pub commits : (commit epoch : ℕ) → 0 < block → ((ino : ℕ) → IsSound bytes block (slots ino).log) → (plan : List Planned)
+  pub commits : (commit epoch : ℕ) → 0 < block → ((ino : ℕ) → IsSound bytes block (slots ino).log) → (plan : List InodePlan)
       (effect : List Change) → IsPlan bytes block slots plan effect → Commits bytes block commit epoch slots plan effect
   commits commit epoch some sound plan effect is = record {
     nodes = node_after commit epoch (place_in plan) some sound plan effect is;

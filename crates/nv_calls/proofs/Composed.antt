@@ -23,7 +23,7 @@ use Rattle.nv_calls.specs.CanCommit.{CanBePublished, CanCommit, CanRetireAll, Ki
 use Rattle.nv_calls.specs.Cells.{AreCells, ino_at, no_cell, state_at, value_at}
 use Rattle.nv_calls.specs.Commit.{CommitValue, ReceiptValue, begun, receipt_of, stamp_of}
 use Rattle.nv_calls.specs.Committed.{ChangesPlanned, HaveAppendRoom, HaveSamePlaces, Killing, committed, grown, hand_after_killings, hand_before, journaled, killed_count, killing, manifests_after, noted_killing, place_before, place_of, receipt_by, room_left, settled_cell, settled_room}
-use Rattle.nv_calls.specs.Ready.{ArePlaced, CellPlanValue, ReadyValue, kills_of, need_of, no_plan, old_tail, old_tails, plan_at}
+use Rattle.nv_calls.specs.Ready.{ArePlaced, CellCommitValue, ReadyValue, kills_of, need_of, no_plan, old_tail, old_tails, plan_at}
 use Rattle.nv_calls.specs.Retiring.{hand_retired, is_erased, killed_by, part_in, retired, room_erased, with_records}
 use Rattle.nv_calls.specs.Steps.{stamped_entries}
 use Rattle.nv_calls.proofs.Grown.{IsGrown, is_grown}
@@ -42,27 +42,27 @@ cells_stay old new count numbers are = record {
       omega (arith, first, second, are.rising i j no_cell lt oj);
 }
 
-pub places_stay : (cells now : List (ℕ × CellValue)) (old new : List CellPlanValue) → length now ≡ length cells → HaveSamePlaces old new
+pub places_stay : (cells now : List (ℕ × CellValue)) (old new : List CellCommitValue) → length now ≡ length cells → HaveSamePlaces old new
     → ArePlaced cells old → ArePlaced now new
 places_stay cells now old new count same placed = record {
   within = λ j lt. omega (arith, same.places j, placed.within j (omega (arith, lt, same.count)), count);
   rising = λ i j d lt lj.
       let oj : j < length old = omega (arith, lj, same.count) in
       let first : (get_or new i d).at ≡ place_of old i =
-      ap (λ (p : CellPlanValue). p.at) (get_or_default new i d no_plan (omega (arith, lt, lj))) ∙ same.places i in
-      let second : (get_or new j d).at ≡ place_of old j = ap (λ (p : CellPlanValue). p.at) (get_or_default new j d no_plan lj)
+      ap (λ (p : CellCommitValue). p.at) (get_or_default new i d no_plan (omega (arith, lt, lj))) ∙ same.places i in
+      let second : (get_or new j d).at ≡ place_of old j = ap (λ (p : CellCommitValue). p.at) (get_or_default new j d no_plan lj)
       ∙ same.places j in
       omega (arith, first, second, placed.rising i j no_plan lt oj);
 }
 
-pub places_again : (old mid new : List CellPlanValue) → HaveSamePlaces old mid → HaveSamePlaces mid new → HaveSamePlaces old new
+pub places_again : (old mid new : List CellCommitValue) → HaveSamePlaces old mid → HaveSamePlaces mid new → HaveSamePlaces old new
 places_again old mid new first second = record {
   count = second.count ∙ first.count;
   places = λ j. second.places j ∙ first.places j;
 }
 
 -- changes by plans of the same cells are changes by these
-pub changes_by : (old new : List CellPlanValue) (becomes : ℕ → CellState) (cells now : List (ℕ × CellValue)) → HaveSamePlaces old new
+pub changes_by : (old new : List CellCommitValue) (becomes : ℕ → CellState) (cells now : List (ℕ × CellValue)) → HaveSamePlaces old new
     → ChangesPlanned new becomes cells now → ChangesPlanned old becomes cells now
 changes_by old new becomes cells now same changes = record {
   count = changes.count;
@@ -73,7 +73,7 @@ changes_by old new becomes cells now same changes = record {
 
 -- ---- sums, term by term
 
-pub sums : (f g : CellPlanValue → ℕ) (xs ys : List CellPlanValue) → length xs ≡ length ys
+pub sums : (f g : CellCommitValue → ℕ) (xs ys : List CellCommitValue) → length xs ≡ length ys
     → ((j : ℕ) → j < length ys → f (plan_at xs j) ≤ g (plan_at ys j)) → sum_by f xs ≤ sum_by g ys
 sums f g [] [] len le = omega arith
 sums f g [] (y ∷ ys) len le = absurd (omega (arith, len))

@@ -22,11 +22,11 @@ use Rattle.nv_calls.specs.Cells.{ino_at, state_at}
 use Rattle.nv_calls.specs.Commit.{CommitValue, begun, stamp_of}
 use Rattle.nv_calls.specs.Committed.{IsUnplanned, committed, killing, place_of}
 use Rattle.nv_calls.specs.Plain.{Change, PlainNode, nodes_after, stamped}
-use Rattle.nv_calls.specs.declared.plan.Planned.{Planned}
+use Rattle.nv_calls.specs.declared.plan.InodePlan.{InodePlan}
 use Rattle.nv_calls.specs.PublishedSlots.{IsCommitted, IsOfNone, PublishAlike, PublishesPlans, planned_in, slots_after}
-use Rattle.nv_calls.specs.Ready.{CellPlanValue, ReadyValue}
+use Rattle.nv_calls.specs.Ready.{CellCommitValue, ReadyValue}
 use Rattle.nv_calls.specs.Retiring.{is_erased, retired}
-use Rattle.nv_calls.specs.Slots.{IsPlan, Slot, entries_of, last_commit, node_under}
+use Rattle.nv_calls.specs.Slots.{IsPlan, InodeSlot, entries_of, last_commit, node_under}
 use Rattle.nv_calls.specs.Views.{slot_of}
 use Rattle.nv_calls.proofs.Commits.{commits}
 use Rattle.nv_calls.proofs.Grown.{last_step}
@@ -57,11 +57,11 @@ gone_node bytes block log h = ap (λ (s : Setting). node_of_kind (value_of s) by
 
 -- ---- the node under a handle, by its slot
 
-abbrev node_by : (ℕ → List ℕ) → ℕ → Slot → Handle → Option PlainNode
+abbrev node_by : (ℕ → List ℕ) → ℕ → InodeSlot → Handle → Option PlainNode
 node_by bytes block slot handle =
     cond (handle.generation == slot.generation) (stamped (last_commit slot.log) (node_now bytes block slot.log)) None
 
-none_by : (bytes : ℕ → List ℕ) (block : ℕ) (slot : Slot) (handle : Handle) → node_now bytes block slot.log ≡ None
+none_by : (bytes : ℕ → List ℕ) (block : ℕ) (slot : InodeSlot) (handle : Handle) → node_now bytes block slot.log ≡ None
     → node_by bytes block slot handle ≡ None
 none_by bytes block slot handle none =
     ap (λ (n : Option NodeCopy). cond (handle.generation == slot.generation) (stamped (last_commit slot.log) n) None) none
@@ -88,7 +88,7 @@ has_number (c ∷ cells) number = go (c.0 == number) refl (has_number cells numb
       inl (suc found.0, more, found.2)
   go false q (inr none) = inr (behind none (eqb-false c.0 number q))
 
-pub has_plan : (plans : List CellPlanValue) (k : ℕ)
+pub has_plan : (plans : List CellCommitValue) (k : ℕ)
     → ((j : ℕ) × (j < length plans) × (place_of plans j ≡ k)) ⊎ IsUnplanned plans k
 has_plan [] k = inr (λ j lt same. absurd (omega (arith, lt)))
 has_plan (p ∷ plans) k = go (p.at == k) refl (has_plan plans k) where
@@ -115,14 +115,14 @@ pick true one other q = refl
 pick false one other q = cc
 
 module _ (bytes : ℕ → List ℕ) (block : ℕ) (living : List ℕ) (cells : List (ℕ × CellValue)) (book : BookValue) (cpu : ℕ) (ready : ReadyValue)
-    (slots : ℕ → Slot) (now : List (ℕ × CellValue)) (later : ℕ → Slot) (is : IsCommitted living cells book cpu ready slots now later) where
+    (slots : ℕ → InodeSlot) (now : List (ℕ × CellValue)) (later : ℕ → InodeSlot) (is : IsCommitted living cells book cpu ready slots now later) where
   abbrev start : CommitValue
   start = begun (stamp_of book.state) ready
 
   published_slots : PublishesPlans cells start slots
   published_slots = publishes cells book cpu ready slots is.can is.before
 
-  abbrev node_of_slot : Slot → Handle → Option PlainNode
+  abbrev node_of_slot : InodeSlot → Handle → Option PlainNode
   node_of_slot slot handle = node_by bytes block slot handle
 
   abbrev after : ℕ → CellState
@@ -138,7 +138,7 @@ module _ (bytes : ℕ → List ℕ) (block : ℕ) (living : List ℕ) (cells : L
   planned_node j lt handle = go (is_erased (after j)) refl where
     go : (b : Bool) → is_erased (after j) ≡ b → node_of_slot (slot_of (committed living cells start j)) handle
         ≡ node_of_slot (slots_after cells start slots (ino_at cells (place_of ready.plans j))) handle
-    go false q = ap (λ (s : Slot). node_of_slot s handle) (published_slots.kept living j lt q)
+    go false q = ap (λ (s : InodeSlot). node_of_slot s handle) (published_slots.kept living j lt q)
     go true q =
         let gone : is_gone (log_of (after j)) ≡ true = gone_erased (is_gone (log_of (after j))) (keeps_nothing (after j)) q in
         let cell : is_gone (log_of (killing cells start j).cell) ≡ true =
@@ -151,7 +151,7 @@ module _ (bytes : ℕ → List ℕ) (block : ℕ) (living : List ℕ) (cells : L
         (gone_node bytes block (log_of (killing cells start j).cell) cell) in
         ap (λ (c : CellState). node_of_slot (slot_of c) handle) (pick (is_erased (after j)) (emptied (after j)) (after j) q)
         ∙ none_by bytes block (slot_of (emptied (after j))) handle refl
-        ∙ sym none ∙ ap (λ (s : Slot). node_of_slot s handle) made
+        ∙ sym none ∙ ap (λ (s : InodeSlot). node_of_slot s handle) made
 
   -- any slot
   same_node : (handle : Handle) → node_of_slot (later handle.ino) handle ≡ node_of_slot (slots_after cells start slots handle.ino) handle
@@ -163,13 +163,13 @@ module _ (bytes : ℕ → List ℕ) (block : ℕ) (living : List ℕ) (cells : L
     lent k lt own (inl found) is_now =
         let j : ℕ = found.0 in
         let state : state_at now k ≡ committed living cells start j = ap (state_at now) (sym found.2) ∙ is.changes.planned j found.1 in
-        ap (λ (s : Slot). node_of_slot s handle) is_now ∙ ap (λ (c : CellState). node_of_slot (slot_of c) handle) state
+        ap (λ (s : InodeSlot). node_of_slot s handle) is_now ∙ ap (λ (c : CellState). node_of_slot (slot_of c) handle) state
         ∙ planned_node j found.1 handle
         ∙ ap (λ (i : ℕ). node_of_slot (slots_after cells start slots i) handle) (ap (ino_at cells) found.2 ∙ own)
     lent k lt own (inr none) is_now =
         let state : state_at now k ≡ state_at cells k = ap (λ (v : CellValue). v.state) (is.changes.others k none) in
-        ap (λ (s : Slot). node_of_slot s handle) is_now ∙ ap (λ (c : CellState). node_of_slot (slot_of c) handle) state
-        ∙ ap (λ (s : Slot). node_of_slot s handle) (published_slots.others k lt none)
+        ap (λ (s : InodeSlot). node_of_slot s handle) is_now ∙ ap (λ (c : CellState). node_of_slot (slot_of c) handle) state
+        ∙ ap (λ (s : InodeSlot). node_of_slot s handle) (published_slots.others k lt none)
         ∙ ap (λ (i : ℕ). node_of_slot (slots_after cells start slots i) handle) own
 
     go : (((k : ℕ) × (k < length cells) × (ino_at cells k ≡ handle.ino)) ⊎ IsOfNone cells handle.ino)
@@ -180,15 +180,15 @@ module _ (bytes : ℕ → List ℕ) (block : ℕ) (living : List ℕ) (cells : L
         let within : k < length now = omega (arith, found.1, is.changes.count) in
         lent k found.1 found.2 (has_plan ready.plans k) (ap later number ∙ is.after k within)
     go (inr none) =
-        ap (λ (s : Slot). node_of_slot s handle) (is.others handle.ino none)
-        ∙ sym (ap (λ (s : Slot). node_of_slot s handle) (published_slots.beyond handle.ino none))
+        ap (λ (s : InodeSlot). node_of_slot s handle) (is.others handle.ino none)
+        ∙ sym (ap (λ (s : InodeSlot). node_of_slot s handle) (published_slots.beyond handle.ino none))
 
-  pub has_effect : (plan : List Planned) (effect : List Change) → 0 < block → ((ino : ℕ) → IsSound bytes block (slots ino).log)
+  pub has_effect : (plan : List InodePlan) (effect : List Change) → 0 < block → ((ino : ℕ) → IsSound bytes block (slots ino).log)
       → PublishAlike (planned_in cells ready.plans) plan → IsPlan bytes block slots plan effect
       → (handle : Handle) → node_under bytes block later handle ≡ nodes_after book.state.commit effect (node_under bytes block slots) handle
   has_effect plan effect some sound alike fits handle =
       same_node handle
-      ∙ ap₂ (λ (place : ℕ) (items : List Item). let slot : Slot = record {
+      ∙ ap₂ (λ (place : ℕ) (items : List Item). let slot : InodeSlot = record {
         generation = (slots handle.ino).generation;
         log = (slots handle.ino).log ++ entries_of book.state.commit book.state.snaps.epoch place items;
       } in node_of_slot slot handle)

@@ -24,16 +24,16 @@ use Rattle.nv_calls.specs.Slots.{items_for}
 use Rattle.nv_calls.specs.Updates.{blank_call}
 use Rattle.nv_calls.specs.calls.Rename.{bound_plan, move_plan, own_place, replaced_plan}
 use Rattle.nv_calls.specs.calls.Unlink.{leave_plan}
-use Rattle.nv_calls.specs.declared.plan.Planned.{Planned}
-use Rattle.nv_calls.specs.declared.taken.Taken.{Taken}
+use Rattle.nv_calls.specs.declared.plan.InodePlan.{InodePlan}
+use Rattle.nv_calls.specs.declared.allocation.Allocation.{Allocation}
 use Rattle.nv_calls.specs.declared.update.Update.{Update}
 use Rattle.nv_calls.specs.declared.update.Update.TheVariants as update
 use Rattle.nv_calls.proofs.FillRuns.{count_is, count_within, length-write}
 use Rattle.nv_calls.proofs.LogPages.{numbers_small}
 
 -- how many pages the items of a plan need at most, each in a log of its own
-abbrev most_sum : List Planned → ℕ
-most_sum plan = sum_by (λ (p : Planned). length p.items + 7) plan
+abbrev most_sum : List InodePlan → ℕ
+most_sum plan = sum_by (λ (p : InodePlan). length p.items + 7) plan
 
 -- ---- over cells of different numbers
 
@@ -74,7 +74,7 @@ once_for ino n (c ∷ cells) rises = go (ino == c.0) refl (once_for ino n cells 
       omega (arith, rest, here, sum_by-cons (only_for ino n) c cells)
 
 -- how many pages a plan needs at most for a cell
-abbrev pub most_for : List Planned → ℕ × CellValue → ℕ
+abbrev pub most_for : List InodePlan → ℕ × CellValue → ℕ
 most_for [] c = 0
 most_for (p ∷ plan) c = only_for p.handle.ino (length p.items + 7) c + most_for plan c
 
@@ -82,7 +82,7 @@ none_for : (cells : List (ℕ × CellValue)) → sum_by (most_for []) cells ≡ 
 none_for [] = refl
 none_for (c ∷ cells) = omega (arith, none_for cells, sum_by-cons (most_for []) c cells)
 
-first_for : (p : Planned) (plan : List Planned) (cells : List (ℕ × CellValue))
+first_for : (p : InodePlan) (plan : List InodePlan) (cells : List (ℕ × CellValue))
     → sum_by (most_for (p ∷ plan)) cells ≡ sum_by (only_for p.handle.ino (length p.items + 7)) cells + sum_by (most_for plan) cells
 first_for p plan [] = refl
 first_for p plan (c ∷ cells) =
@@ -94,7 +94,7 @@ first_for p plan (c ∷ cells) =
       sum_by-cons (most_for (p ∷ plan)) c cells,
     )
 
-each_once : (plan : List Planned) (cells : List (ℕ × CellValue)) → Rising cells → sum_by (most_for plan) cells ≤ most_sum plan
+each_once : (plan : List InodePlan) (cells : List (ℕ × CellValue)) → Rising cells → sum_by (most_for plan) cells ≤ most_sum plan
 each_once [] cells rises = omega (arith, none_for cells)
 each_once (p ∷ plan) cells rises =
     omega (
@@ -102,11 +102,11 @@ each_once (p ∷ plan) cells rises =
       first_for p plan cells,
       once_for p.handle.ino (length p.items + 7) cells rises,
       each_once plan cells rises,
-      sum_by-cons (λ (q : Planned). length q.items + 7) p plan,
+      sum_by-cons (λ (q : InodePlan). length q.items + 7) p plan,
     )
 
 -- what a plan needs for a cell, where its log takes at most seven pages more than entries
-items_within : (plan : List Planned) (c : ℕ × CellValue)
+items_within : (plan : List InodePlan) (c : ℕ × CellValue)
     → (items_for plan c.0 ≡ []) ⊎ (length (items_for plan c.0) + 7 ≤ most_for plan c)
 items_within [] c = inl refl
 items_within (p ∷ plan) c = go (p.handle.ino == c.0) (items_within plan c) where
@@ -117,7 +117,7 @@ items_within (p ∷ plan) c = go (p.handle.ino == c.0) (items_within plan c) whe
   go false (inl none) = inl none
   go false (inr le) = inr (omega (arith, le))
 
-pub needed_within : (plan : List Planned) (c : ℕ × CellValue) → pages_needed plan c ≤ length (items_for plan c.0) + 7
+pub needed_within : (plan : List InodePlan) (c : ℕ × CellValue) → pages_needed plan c ≤ length (items_for plan c.0) + 7
     → pages_needed plan c ≤ most_for plan c
 needed_within plan c few =
     elim (items_within plan c) [
@@ -154,7 +154,7 @@ renamed_few true n from old to new moved other = omega arith
 renamed_few false n from old to new moved other = bound_few n from old to new moved other
 
 -- one for each run, and at most so many more
-items_few : (block : ℕ) (nodes : Handle → Option NodeCopy) (taken : Taken) (u : Update)
+items_few : (block : ℕ) (nodes : Handle → Option NodeCopy) (taken : Allocation) (u : Update)
     → most_sum (plan block nodes taken (blank_call u)) ≤ length taken.runs + 24
 items_few block nodes taken (update.Create dir name mode) =
     let all : most_sum (plan block nodes taken (blank_call (update.Create dir name mode))) ≡ 16 = refl in omega (arith, all)

@@ -2,7 +2,7 @@
 use Rattle.std.proofs.Common.{◌≡◌, ℕ, zero, suc, ◌+◌, ◌<◌, ◌≤◌, ◌^◌, ◌==◌, Bool, true, false, cond, nat_lt, List, [], ◌∷◌, ◌++◌, length, replicate, ◌/◌, Option, Some, None, arith, refl, ap, sym, ◌∙◌}
 use Rattle.std.specs.List.{AllByRecursion, flat_map}
 use Rattle.std.proofs.lemmas.Bool.{eqb-true, lt-ltb}
-use Rattle.nv_entry.specs.declared.item.Run.{Run}
+use Rattle.nv_entry.specs.declared.item.BlockRun.{BlockRun}
 use Rattle.nv_entry.specs.declared.item.Item.{Item}
 use Rattle.nv_entry.specs.Sound.{write_items}
 use Rattle.std.proofs.lemmas.List.{length-append}
@@ -14,7 +14,7 @@ use Rattle.nv_calls.specs.AllCalls.{plan}
 use Rattle.nv_calls.specs.Refusals.{bytes_of}
 use Rattle.nv_calls.specs.Slots.{items_for}
 use Rattle.nv_calls.specs.Updates.{blank_call}
-use Rattle.nv_calls.specs.declared.taken.Taken.{Taken}
+use Rattle.nv_calls.specs.declared.allocation.Allocation.{Allocation}
 use Rattle.nv_calls.specs.declared.update.Update.TheVariants as update
 use Rattle.nv_calls.specs.PagesWanted.{goes_on}
 use Rattle.nv_calls.specs.Plan.{run_if, runs_of, stretches, with_number}
@@ -76,7 +76,7 @@ runs_count : (tail : List (ℕ × ℕ)) → AllByRecursion (λ (t : ℕ × ℕ).
     → length (flat_map (λ (run : ℕ × ℕ). run_if run.0 run.1 (nat_lt (run.0 + run.1) (2 ^ 64)) refl) tail) ≡ length tail
 runs_count [] all = refl
 runs_count (t ∷ tail) all = go (nat_lt (t.0 + t.1) (2 ^ 64)) refl (runs_count tail all.1) where
-  rest : List Run
+  rest : List BlockRun
   rest = flat_map (λ (run : ℕ × ℕ). run_if run.0 run.1 (nat_lt (run.0 + run.1) (2 ^ 64)) refl) tail
 
   go : (b : Bool) (is : nat_lt (t.0 + t.1) (2 ^ 64) ≡ b) → length rest ≡ length tail
@@ -97,11 +97,11 @@ count_within next (n ∷ numbers) = go (goes_on next n) (count_within (Some (n +
   go false h = omega (arith, h)
 
 -- an item for each run
-pub length-write : (first : ℕ) (runs : List Run) (size : ℕ) → length (write_items first runs size) ≡ length runs
+pub length-write : (first : ℕ) (runs : List BlockRun) (size : ℕ) → length (write_items first runs size) ≡ length runs
 length-write first [] size = refl
 length-write first (run ∷ runs) size = ap suc (length-write (first + run.len) runs size)
 
-module _ (block : ℕ) (nodes : Handle → Option NodeCopy) (taken : Taken) (n : ℕ) (is : length taken.runs ≡ n) where
+module _ (block : ℕ) (nodes : Handle → Option NodeCopy) (taken : Allocation) (n : ℕ) (is : length taken.runs ≡ n) where
   pub write_count : (file : Handle) (offset count ino : ℕ) → (count == 0) ≡ false → (file.ino == ino) ≡ true
       → n ≡ length (items_for (plan block nodes taken (blank_call (update.Write file offset count))) ino)
   write_count file offset zero ino some same = cc

@@ -9,43 +9,43 @@ use Rattle.nv_base.specs.declared.numbers.Handle.{Handle}
 use Rattle.nv_entry.specs.Bytes.{page_of, pages_touched, written}
 use Rattle.nv_entry.specs.Node.{block_now}
 use Rattle.nv_entry.specs.Sound.{HaveText, blocks_of}
-use Rattle.nv_entry.specs.declared.item.Run.{Run}
+use Rattle.nv_entry.specs.declared.item.BlockRun.{BlockRun}
 use Rattle.nv_entry.specs.declared.node.NodeCopy.{NodeCopy}
 use Rattle.nv_calls.specs.AllCalls.{IsReady}
 use Rattle.nv_calls.specs.FillPages.{filled, fresh_pages}
 use Rattle.nv_calls.specs.Filled.{AreFilled, AreRead}
 use Rattle.nv_calls.specs.Plan.{AreMaximal}
 use Rattle.nv_calls.specs.Refusals.{bytes_of}
-use Rattle.nv_calls.specs.Slots.{IsFree, Slot}
+use Rattle.nv_calls.specs.Slots.{IsFree, InodeSlot}
 use Rattle.nv_calls.specs.calls.Size.{HaveCut, IsCutPage, cuts_page}
 use Rattle.nv_calls.specs.declared.call.Call.{Call}
 use Rattle.nv_calls.specs.declared.call.Call.TheVariants as call
-use Rattle.nv_calls.specs.declared.taken.Taken.{Taken}
+use Rattle.nv_calls.specs.declared.allocation.Allocation.{Allocation}
 use Rattle.nv_calls.proofs.FillPages.{length_filled}
 
 -- ---- runs of few blocks
 
-some_blocks : (run : Run) (runs : List Run) → AreMaximal (run ∷ runs) → 0 < run.len
+some_blocks : (run : BlockRun) (runs : List BlockRun) → AreMaximal (run ∷ runs) → 0 < run.len
 some_blocks run [] h = h
 some_blocks run (next ∷ runs) h = h.0
 
-long_runs : (run : Run) (runs : List Run) → length (blocks_of (run ∷ runs)) ≡ run.len + length (blocks_of runs)
+long_runs : (run : BlockRun) (runs : List BlockRun) → length (blocks_of (run ∷ runs)) ≡ run.len + length (blocks_of runs)
 long_runs run runs =
     length-append (range_with_len run.start run.len) (blocks_of runs)
     ∙ ap (λ (n : ℕ). n + length (blocks_of runs)) (length-range_with_len run.start run.len)
 
-no_runs : (runs : List Run) → AreMaximal runs → blocks_of runs ≡ [] → runs ≡ []
+no_runs : (runs : List BlockRun) → AreMaximal runs → blocks_of runs ≡ [] → runs ≡ []
 no_runs [] h is = refl
 no_runs (run ∷ runs) h is = absurd (omega (arith, some_blocks run runs h, long_runs run runs, ap (λ (xs : List ℕ). length xs) is))
 
 -- the run of one block
-record IsOneRun (runs : List Run) (number : ℕ) : Type 0 where
-  one : Run
+record IsOneRun (runs : List BlockRun) (number : ℕ) : Type 0 where
+  one : BlockRun
   is : runs ≡ one ∷ []
   len : one.len ≡ 1
   start : one.start ≡ number
 
-one_run : (runs : List Run) (number : ℕ) → AreMaximal runs → blocks_of runs ≡ number ∷ [] → IsOneRun runs number
+one_run : (runs : List BlockRun) (number : ℕ) → AreMaximal runs → blocks_of runs ≡ number ∷ [] → IsOneRun runs number
 one_run [] number h is = cc
 one_run (run ∷ []) number h is =
     let len : run.len ≡ 1 = omega (arith, long_runs run [], ap (λ (xs : List ℕ). length xs) is) in
@@ -74,13 +74,13 @@ filled_at bytes (page ∷ pages) (b ∷ bs) (suc place) lt same all =
     filled_at bytes pages bs place (omega (arith, lt)) (omega (arith, same)) all.1
 
 -- a new inode has a free slot, and it is told whether the page that a size ends in is present
-abbrev pub IsTold : ℕ → (ℕ → Slot) → Taken → Call → Type 0
+abbrev pub IsTold : ℕ → (ℕ → InodeSlot) → Allocation → Call → Type 0
 IsTold block slots taken (call.Create dir name mode) = IsFree slots taken.made
 IsTold block slots taken (call.Mkdir dir name mode) = IsFree slots taken.made
 IsTold block slots taken (call.Size file size) = taken.present ≡ is_some (block_now block (slots file.ino).log (size / block))
 IsTold block slots taken other = Unit {0}
 
-module _ (bytes : ℕ → List ℕ) (block : ℕ) (slots : ℕ → Slot) (nodes : Handle → Option NodeCopy) (taken : Taken) (fresh : List BlockValue)
+module _ (bytes : ℕ → List ℕ) (block : ℕ) (slots : ℕ → InodeSlot) (nodes : Handle → Option NodeCopy) (taken : Allocation) (fresh : List BlockValue)
     (read : AreRead bytes fresh) (maximal : AreMaximal taken.runs) (whole : blocks_of taken.runs ≡ numbers_of fresh) where
   abbrev Filled : Call → Type 0
   Filled c = AreFilled block nodes taken.present c fresh
@@ -130,14 +130,14 @@ module _ (bytes : ℕ → List ℕ) (block : ℕ) (slots : ℕ → Slot) (nodes 
           let many : length fresh ≡ 1 = ap (λ (bs : List BlockValue). length bs) is in
           let at = ap bytes r.start ∙ ap (λ (l : List BlockValue). bytes (slice_index_or (numbers_of l) 0 0)) (sym is)
           ∙ page_read (call.Size file size) f 0 (omega (arith, many)) many in (
-            ap (λ (runs : List Run). length runs) r.is,
+            ap (λ (runs : List BlockRun). length runs) r.is,
             subst (AllByRecursion (IsCutPage bytes block size (bytes_of (nodes file)))) (sym r.is) ((r.len, at), tt),
           )
 
       none : fresh ≡ [] → HasCut block size (nodes file) false
       none is =
           let empty : taken.runs ≡ [] = no_runs taken.runs maximal (whole ∙ ap numbers_of is) in (
-            ap (λ (runs : List Run). length runs) empty,
+            ap (λ (runs : List BlockRun). length runs) empty,
             subst (AllByRecursion (IsCutPage bytes block size (bytes_of (nodes file)))) (sym empty) tt,
           )
 

@@ -25,12 +25,12 @@ use Rattle.nv_calls.specs.Prepared.{CanReady, HasNumberFor, HaveNoLessRoom, IsRe
 use Rattle.nv_calls.specs.PublishedSlots.{AreOfSlots}
 use Rattle.nv_calls.specs.Ready.{ReadyValue}
 use Rattle.nv_calls.specs.Refusals.{passes}
-use Rattle.nv_calls.specs.Slots.{IsFree, IsPlan, IsPlanned, Slot, last_commit, node_under}
+use Rattle.nv_calls.specs.Slots.{IsFree, IsPlan, IsPlanned, InodeSlot, last_commit, node_under}
 use Rattle.nv_calls.specs.Updates.{blank_call, text_len}
 use Rattle.nv_calls.specs.Views.{slot_of}
 use Rattle.nv_calls.specs.declared.call.Call.{Call}
-use Rattle.nv_calls.specs.declared.plan.Planned.{Planned}
-use Rattle.nv_calls.specs.declared.taken.Taken.{Taken}
+use Rattle.nv_calls.specs.declared.plan.InodePlan.{InodePlan}
+use Rattle.nv_calls.specs.declared.allocation.Allocation.{Allocation}
 use Rattle.nv_calls.specs.declared.update.Update.{Update}
 use Rattle.nv_calls.specs.declared.update.Update.TheVariants as update
 use Rattle.nv_calls.proofs.FillPages.{filled_numbers}
@@ -46,25 +46,25 @@ use Rattle.nv_calls.proofs.fits.All.{call_fits}
 
 -- ---- other slots that are the same for what is planned
 
-abbrev IsSame : (ℕ → Slot) → (ℕ → Slot) → ℕ → Type 0
+abbrev IsSame : (ℕ → InodeSlot) → (ℕ → InodeSlot) → ℕ → Type 0
 IsSame one other ino = other ino ≡ one ino
 
-module _ (bytes : ℕ → List ℕ) (block : ℕ) (one other : ℕ → Slot) where
+module _ (bytes : ℕ → List ℕ) (block : ℕ) (one other : ℕ → InodeSlot) where
   node_same : (handle : Handle) → IsSame one other handle.ino
       → node_in (node_under bytes block one) handle ≡ node_in (node_under bytes block other) handle
   node_same handle same =
-      ap (λ (s : Slot). option_map (λ (p : PlainNode). p.node)
+      ap (λ (s : InodeSlot). option_map (λ (p : PlainNode). p.node)
       (cond (handle.generation == s.generation) (stamped (last_commit s.log) (node_now bytes block s.log)) None)) (sym same)
 
-  planned_same : (plan : List Planned) → AllByRecursion (λ (p : Planned). IsSame one other p.handle.ino) plan
+  planned_same : (plan : List InodePlan) → AllByRecursion (λ (p : InodePlan). IsSame one other p.handle.ino) plan
       → AllByRecursion (IsPlanned one) plan → AllByRecursion (IsPlanned other) plan
   planned_same [] same all = tt
   planned_same (p ∷ plan) same all = (
-    record { some = all.0.some; own = all.0.own ∙ ap (λ (s : Slot). s.generation) (sym same.0) },
+    record { some = all.0.some; own = all.0.own ∙ ap (λ (s : InodeSlot). s.generation) (sym same.0) },
     planned_same plan same.1 all.1,
   )
 
-  fit_same : (plan : List Planned) (effect : List Change) → AllByRecursion (λ (p : Planned). IsSame one other p.handle.ino) plan
+  fit_same : (plan : List InodePlan) (effect : List Change) → AllByRecursion (λ (p : InodePlan). IsSame one other p.handle.ino) plan
       → AllFit bytes block (node_in (node_under bytes block one)) plan effect
       → AllFit bytes block (node_in (node_under bytes block other)) plan effect
   fit_same [] [] same fit = tt
@@ -79,7 +79,7 @@ module _ (bytes : ℕ → List ℕ) (block : ℕ) (one other : ℕ → Slot) whe
     fit_same plan effect same.1 fit.1,
   )
 
-  plan_same : (plan : List Planned) (effect : List Change) → AllByRecursion (λ (p : Planned). IsSame one other p.handle.ino) plan
+  plan_same : (plan : List InodePlan) (effect : List Change) → AllByRecursion (λ (p : InodePlan). IsSame one other p.handle.ino) plan
       → IsPlan bytes block one plan effect → IsPlan bytes block other plan effect
   plan_same plan effect same is = record { all = planned_same plan same is.all; fit = fit_same plan effect same is.fit }
 
@@ -101,7 +101,7 @@ pub slots_as : (old new : List (ℕ × CellValue)) → HaveNoLessRoom old new �
 slots_as old new more =
     fun_ext (λ (ino : ℕ). by_state (cell_of new ino) ∙ ap slot_in (found_same old new ino more) ∙ sym (by_state (cell_of old ino)))
   where
-    slot_in : Option CellState → Slot
+    slot_in : Option CellState → InodeSlot
     slot_in None = record { generation = 0; log = [] }
     slot_in (Some s) = slot_of s
 
@@ -116,27 +116,27 @@ module _ (bytes : ℕ → List ℕ) (cells now : List (ℕ × CellValue)) (hand 
   abbrev block : ℕ
   block = block_in cells
 
-  abbrev slots : ℕ → Slot
+  abbrev slots : ℕ → InodeSlot
   slots = slots_by cells
 
   abbrev nodes : Handle → Option NodeCopy
   nodes = nodes_in cells
 
-  abbrev taken : Taken
+  abbrev taken : Allocation
   taken = taken_by cells hand u
 
   abbrev c : Call
   c = sourced byte_at u
 
   sound : (ino : ℕ) → IsSound bytes block (slots ino).log
-  sound = subst (λ (s : ℕ → Slot). (ino : ℕ) → IsSound bytes block (s ino).log) (slots_as cells now more) sounds
+  sound = subst (λ (s : ℕ → InodeSlot). (ino : ℕ) → IsSound bytes block (s ino).log) (slots_as cells now more) sounds
 
   under_is : plain_nodes now ≡ node_under bytes block (slots_by now)
   under_is = fun_ext (λ (handle : Handle). nodes_are bytes block now handle have)
 
   nodes_is : node_in (node_under bytes block slots) ≡ nodes
   nodes_is =
-      ap (λ (s : ℕ → Slot). node_in (node_under bytes block s)) (sym (slots_as cells now more))
+      ap (λ (s : ℕ → InodeSlot). node_in (node_under bytes block s)) (sym (slots_as cells now more))
       ∙ ap (λ (n : Handle → Option PlainNode). node_in n) (sym under_is)
       ∙ same_nodes cells now more
 
@@ -163,7 +163,7 @@ module _ (bytes : ℕ → List ℕ) (cells now : List (ℕ × CellValue)) (hand 
     held =
         ap (λ (has_page : Handle → ℕ → Bool). has_page file page) (sym (same_pages cells now more))
         ∙ pages_are bytes block now file page have
-        ∙ ap (λ (s : ℕ → Slot). is_some (block_now block (s file.ino).log page)) (slots_as cells now more)
+        ∙ ap (λ (s : ℕ → InodeSlot). is_some (block_now block (s file.ino).log page)) (slots_as cells now more)
 
     past : 65536 ≤ page → (found : Option ℕ) → block_now block (slots file.ino).log page ≡ found → false ≡ is_some found
     past far None q = refl
@@ -217,14 +217,14 @@ module _ (bytes : ℕ → List ℕ) (cells now : List (ℕ × CellValue)) (hand 
   -- in the slots of the cells
   fits_own : IsPlan bytes block slots (planned_by cells hand u) (effect nodes taken.made c)
   fits_own =
-      subst (λ (p : List Planned). IsPlan bytes block slots p (effect nodes taken.made c)) planned_is
+      subst (λ (p : List InodePlan). IsPlan bytes block slots p (effect nodes taken.made c)) planned_is
       (subst (λ (n : Handle → Option NodeCopy). IsPlan bytes block slots (plan block n taken c) (effect n taken.made c)) nodes_is
       (call_fits bytes block slots taken is.some_bytes sound c
       (subst (λ (n : Handle → Option NodeCopy). refusal block n c ≡ passes) (sym nodes_is) passed)
       (subst (λ (n : Handle → Option NodeCopy). IsReady bytes block slots n taken c) (sym nodes_is) made_ready)))
 
   -- and in any that these are of
-  module _ (all_slots : ℕ → Slot) (are : AreOfSlots now all_slots) where
+  module _ (all_slots : ℕ → InodeSlot) (are : AreOfSlots now all_slots) where
     lent_same : (ino : ℕ) (cell : CellValue) → cell_of cells ino ≡ Some cell → IsSame slots all_slots ino
     lent_same ino cell found =
         let p = cell_place cells ino cell found in
@@ -233,7 +233,7 @@ module _ (bytes : ℕ → List ℕ) (cells now : List (ℕ × CellValue)) (hand 
         ∙ ap slot_of (more.states p.0 ∙ ap (λ (v : CellValue). v.state) p.3)
         ∙ sym (ap slot_by found)
 
-    all_same : AllByRecursion (λ (p : Planned). IsSame slots all_slots p.handle.ino) (planned_by cells hand u)
+    all_same : AllByRecursion (λ (p : InodePlan). IsSame slots all_slots p.handle.ino) (planned_by cells hand u)
     all_same =
         all_held block nodes taken (λ (handle : Handle). IsSame slots all_slots handle.ino)
         (λ handle there. let h = has_cell cells handle there in lent_same handle.ino h.cell h.is) (blank_call u) can.passed

@@ -8,7 +8,7 @@ use Rattle.nv_base.specs.declared.node.Kind.TheVariants.{File, Dir}
 use Rattle.nv_base.specs.declared.numbers.Handle.{Handle}
 use Rattle.nv_entry.specs.declared.item.Item.{Item}
 use Rattle.nv_entry.specs.declared.item.Item.TheVariants.{SetSize}
-use Rattle.nv_entry.specs.declared.item.Run.{Run}
+use Rattle.nv_entry.specs.declared.item.BlockRun.{BlockRun}
 use Rattle.nv_entry.specs.declared.node.NodeCopy.{NodeCopy}
 use Rattle.nv_entry.specs.Bytes.{written}
 use Rattle.nv_entry.specs.Sound.{blocks_of, write_items}
@@ -26,8 +26,8 @@ use Rattle.nv_calls.specs.calls.Unlink.{leave_plan}
 use Rattle.nv_calls.specs.calls.Write.{text_refusal}
 use Rattle.nv_calls.specs.declared.call.Call.{Call}
 use Rattle.nv_calls.specs.declared.call.Call.TheVariants as call
-use Rattle.nv_calls.specs.declared.plan.Planned.{Planned}
-use Rattle.nv_calls.specs.declared.taken.Taken.{Taken}
+use Rattle.nv_calls.specs.declared.plan.InodePlan.{InodePlan}
+use Rattle.nv_calls.specs.declared.allocation.Allocation.{Allocation}
 use Rattle.nv_calls.proofs.Keeps.{cut_blocks-are, write_blocks-are}
 use Rattle.nv_calls.proofs.Lawful.{count-cons, few_runs, have_blocks, one_item_a_run, writes_bind_none}
 use Rattle.nv_calls.proofs.Passed.{file_passed}
@@ -43,10 +43,10 @@ pub record AreFit (blocks : List ℕ) (items : List Item) : Type 0 where
 pub none_fit : (blocks : List ℕ) → AreFit blocks []
 none_fit blocks = record { one = tt; few = omega arith; within = tt; numbers = inr refl }
 
-abbrev pub AllFit : List ℕ → List Planned → Type 0
-AllFit blocks plan = AllByRecursion (λ (p : Planned). AreFit blocks p.items) plan
+abbrev pub AllFit : List ℕ → List InodePlan → Type 0
+AllFit blocks plan = AllByRecursion (λ (p : InodePlan). AreFit blocks p.items) plan
 
-writes_within : (first size : ℕ) (runs : List Run) (tail : List Item) → AllByRecursion IsWithinFile tail
+writes_within : (first size : ℕ) (runs : List BlockRun) (tail : List Item) → AllByRecursion IsWithinFile tail
     → first + length (blocks_of runs) ≤ 65536 → AllByRecursion IsWithinFile (write_items first runs size ++ tail)
 writes_within first size [] tail last fits = last
 writes_within first size (run ∷ runs) tail last fits = (
@@ -76,7 +76,7 @@ few_wanted block nodes present (call.Unlink dir name) h = omega arith
 few_wanted block nodes present (call.Rmdir dir name) h = omega arith
 few_wanted block nodes present (call.Rename from old to new) h = omega arith
 
-module _ (block : ℕ) (nodes : Handle → Option NodeCopy) (taken : Taken) (some : 0 < block) (maximal : AreMaximal taken.runs) where
+module _ (block : ℕ) (nodes : Handle → Option NodeCopy) (taken : Allocation) (some : 0 < block) (maximal : AreMaximal taken.runs) where
   abbrev blocks : List ℕ
   blocks = blocks_of taken.runs
 
@@ -145,7 +145,7 @@ module _ (block : ℕ) (nodes : Handle → Option NodeCopy) (taken : Taken) (som
   replaced_fits (Some to) = (one_item _ tt refl, tt)
 
   module _ (from : Handle) (old : List ℕ) (to : Handle) (new : List ℕ) where
-    move_fits : (same : Bool) (moved : Handle) (rest : List Planned) → (same && same_name old new) ≡ false → AllFit blocks rest
+    move_fits : (same : Bool) (moved : Handle) (rest : List InodePlan) → (same && same_name old new) ≡ false → AllFit blocks rest
         → AllFit blocks (move_plan same from old to new moved rest)
     move_fits true moved rest differ all = (
       record { one = ((rw differ refl, tt), (tt, tt)); few = omega arith; within = (tt, (tt, tt)); numbers = inr refl },

@@ -5,16 +5,16 @@ use Rattle.std.specs.List.{AllByRecursion, flat_map, range_with_len}
 use Rattle.std.proofs.lemmas.List.{append-nil}
 use Rattle.nv_base.specs.declared.numbers.Handle.{Handle}
 use Rattle.nv_entry.specs.declared.item.Item.TheVariants.{SetSize}
-use Rattle.nv_entry.specs.declared.item.Run.{Run}
+use Rattle.nv_entry.specs.declared.item.BlockRun.{BlockRun}
 use Rattle.nv_entry.specs.declared.node.NodeCopy.{NodeCopy}
 use Rattle.nv_entry.specs.Sound.{blocks_of, write_items}
 use Rattle.nv_calls.specs.AllCalls.{looked, plan}
-use Rattle.nv_calls.specs.declared.taken.Taken.{Taken}
+use Rattle.nv_calls.specs.declared.allocation.Allocation.{Allocation}
 use Rattle.nv_calls.specs.declared.call.Call.{Call}
 use Rattle.nv_calls.specs.declared.call.Call.TheVariants as call
 use Rattle.nv_calls.specs.Locked.{KeepsToIts, if_any, locks}
 use Rattle.nv_calls.specs.Plain.{same_handle}
-use Rattle.nv_calls.specs.declared.plan.Planned.{Planned}
+use Rattle.nv_calls.specs.declared.plan.InodePlan.{InodePlan}
 use Rattle.nv_entry.specs.Blocks.{item_blocks}
 use Rattle.nv_calls.specs.Plan.{plan_blocks}
 use Rattle.nv_calls.specs.Refusals.{found}
@@ -35,26 +35,26 @@ on_right (x ∷ xs) ys y c = behind x y (xs ++ ys) (on_right xs ys y c)
 
 -- ---- blocks
 
-pub write_blocks-are : (first : ℕ) (runs : List Run) (size : ℕ) → flat_map item_blocks (write_items first runs size) ≡ blocks_of runs
+pub write_blocks-are : (first : ℕ) (runs : List BlockRun) (size : ℕ) → flat_map item_blocks (write_items first runs size) ≡ blocks_of runs
 write_blocks-are first [] size = refl
 write_blocks-are first (run ∷ runs) size =
     ap (λ (xs : List ℕ). range_with_len run.start run.len ++ xs) (write_blocks-are (first + run.len) runs size)
 
-pub cut_blocks-are : (first : ℕ) (runs : List Run) (size : ℕ)
+pub cut_blocks-are : (first : ℕ) (runs : List BlockRun) (size : ℕ)
     → flat_map item_blocks (write_items first runs size ++ SetSize size ∷ []) ≡ blocks_of runs
 cut_blocks-are first [] size = refl
 cut_blocks-are first (run ∷ runs) size =
     ap (λ (xs : List ℕ). range_with_len run.start run.len ++ xs) (cut_blocks-are (first + run.len) runs size)
 
-module _ (block : ℕ) (nodes : Handle → Option NodeCopy) (taken : Taken) where
-  abbrev Keeps : Call → List Planned → Type 0
+module _ (block : ℕ) (nodes : Handle → Option NodeCopy) (taken : Allocation) where
+  abbrev Keeps : Call → List InodePlan → Type 0
   Keeps c plan = KeepsToIts nodes c taken plan
 
   nothing : (c : Call) → Keeps c []
   nothing c = record { handles = tt; blocks = inr refl; several = λ lt. refl }
 
-  abbrev Among : List Handle → List Planned → Type 0
-  Among list plan = AllByRecursion (λ (p : Planned). Contains list p.handle) plan
+  abbrev Among : List Handle → List InodePlan → Type 0
+  Among list plan = AllByRecursion (λ (p : InodePlan). Contains list p.handle) plan
 
   -- ---- each call
 
@@ -92,13 +92,13 @@ module _ (block : ℕ) (nodes : Handle → Option NodeCopy) (taken : Taken) wher
     abbrev both : Option Handle → Option Handle → List Handle
     both first second = from ∷ to ∷ if_any first ++ if_any second
 
-    move_among : (same : Bool) (moved : Handle) (list : List Handle) (rest : List Planned) → Contains list from → Contains list to
+    move_among : (same : Bool) (moved : Handle) (list : List Handle) (rest : List InodePlan) → Contains list from → Contains list to
         → Among list rest
         → Among list (move_plan same from old to new moved rest)
     move_among true moved list rest f t all = (f, all)
     move_among false moved list rest f t all = (f, (t, all))
 
-    move_none : (same : Bool) (moved : Handle) (rest : List Planned) → plan_blocks rest ≡ []
+    move_none : (same : Bool) (moved : Handle) (rest : List InodePlan) → plan_blocks rest ≡ []
         → plan_blocks (move_plan same from old to new moved rest) ≡ []
     move_none true moved rest h = h
     move_none false moved rest h = h
@@ -120,7 +120,7 @@ module _ (block : ℕ) (nodes : Handle → Option NodeCopy) (taken : Taken) wher
     bound_none false (Some moved) second = move_none (same_handle from to) moved (replaced_plan second) (replaced_none second)
 
   -- a plan without blocks
-  no_blocks : (c : Call) (plan : List Planned) → Among (locks (looked nodes c) taken.made c) plan → plan_blocks plan ≡ [] → Keeps c plan
+  no_blocks : (c : Call) (plan : List InodePlan) → Among (locks (looked nodes c) taken.made c) plan → plan_blocks plan ≡ [] → Keeps c plan
   no_blocks c plan all none = record { handles = all; blocks = inr none; several = λ lt. none }
 
   pub keeps_to_its : (c : Call) → Keeps c (plan block nodes taken c)

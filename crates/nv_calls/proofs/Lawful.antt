@@ -12,23 +12,23 @@ use Rattle.nv_base.specs.declared.node.Kind.TheVariants.{File, Dir}
 use Rattle.nv_base.specs.declared.numbers.Handle.{Handle}
 use Rattle.nv_entry.specs.declared.item.Item.{Item}
 use Rattle.nv_entry.specs.declared.item.Item.TheVariants.{Init, Write, SetSize, SetMode, Bind, Unbind, Gone}
-use Rattle.nv_entry.specs.declared.item.Run.{Run}
+use Rattle.nv_entry.specs.declared.item.BlockRun.{BlockRun}
 use Rattle.nv_entry.specs.declared.node.NodeCopy.{NodeCopy}
 use Rattle.nv_entry.specs.Bytes.{written}
 use Rattle.nv_entry.specs.Sound.{IsSound, blocks_of, write_items}
 use Rattle.nv_entry.proofs.PageBytes.{length-written}
 use Rattle.nv_cell.specs.Effects.{BindOne, LeavesName}
 use Rattle.nv_calls.specs.AllCalls.{IsReady, plan, refusal}
-use Rattle.nv_calls.specs.declared.taken.Taken.{Taken}
+use Rattle.nv_calls.specs.declared.allocation.Allocation.{Allocation}
 use Rattle.nv_entry.specs.Shape.{AreLawful}
 use Rattle.nv_calls.specs.Lawful.{IsLawfulFor, IsLawfulPlan}
 use Rattle.nv_calls.specs.declared.call.Call.{Call}
 use Rattle.nv_calls.specs.declared.call.Call.TheVariants as call
-use Rattle.nv_calls.specs.declared.plan.Planned.{Planned}
+use Rattle.nv_calls.specs.declared.plan.InodePlan.{InodePlan}
 use Rattle.nv_calls.specs.Plain.{node_in, same_handle}
 use Rattle.nv_calls.specs.Plan.{AreMaximal, planned}
 use Rattle.nv_calls.specs.Refusals.{Check, bytes_of, found, kind_of, passes, refuse_if, want_bound}
-use Rattle.nv_calls.specs.Slots.{IsFree, Slot, node_under}
+use Rattle.nv_calls.specs.Slots.{IsFree, InodeSlot, node_under}
 use Rattle.nv_calls.specs.calls.Create.{begin_plan, create_refusal}
 use Rattle.nv_calls.specs.calls.Lookup.{lookup_refusal}
 use Rattle.nv_calls.specs.calls.Rename.{bound_plan, move_plan, moved_refusal, own_place, pass_if, replaced_plan, replaced_refusal}
@@ -42,21 +42,21 @@ use Rattle.nv_calls.proofs.Within.{count_passed, cut_within, touched_within}
 -- ---- items of writes
 
 -- each run has a block
-abbrev pub HaveBlocks : List Run → Type 0
-HaveBlocks runs = AllByRecursion (λ (run : Run). 0 < run.len) runs
+abbrev pub HaveBlocks : List BlockRun → Type 0
+HaveBlocks runs = AllByRecursion (λ (run : BlockRun). 0 < run.len) runs
 
-pub have_blocks : (runs : List Run) → AreMaximal runs → HaveBlocks runs
+pub have_blocks : (runs : List BlockRun) → AreMaximal runs → HaveBlocks runs
 have_blocks [] h = tt
 have_blocks (run ∷ []) h = (h, tt)
 have_blocks (run ∷ next ∷ runs) h = (h.0, have_blocks (next ∷ runs) h.2)
 
-pub count-cons : (run : Run) (runs : List Run) → length (blocks_of (run ∷ runs)) ≡ run.len + length (blocks_of runs)
+pub count-cons : (run : BlockRun) (runs : List BlockRun) → length (blocks_of (run ∷ runs)) ≡ run.len + length (blocks_of runs)
 count-cons run runs =
     length-append (range_with_len run.start run.len) (blocks_of runs)
     ∙ ap (λ (n : ℕ). n + length (blocks_of runs)) (length-range_with_len run.start run.len)
 
 module _ (block size : ℕ) (few : size ≤ 65536 * block) (tail : List Item) (last : AreLawful block tail (Some File)) where
-  writes_lawful : (first : ℕ) (runs : List Run) → HaveBlocks runs → first + length (blocks_of runs) ≤ 65536
+  writes_lawful : (first : ℕ) (runs : List BlockRun) → HaveBlocks runs → first + length (blocks_of runs) ≤ 65536
       → AreLawful block (write_items first runs size ++ tail) (Some File)
   writes_lawful first [] some fits = last
   writes_lawful first (run ∷ runs) some fits = (
@@ -65,21 +65,21 @@ module _ (block size : ℕ) (few : size ≤ 65536 * block) (tail : List Item) (l
   )
 
 -- as many items as runs, and no more runs than blocks
-pub one_item_a_run : (first size : ℕ) (runs : List Run) → length (write_items first runs size) ≡ length runs
+pub one_item_a_run : (first size : ℕ) (runs : List BlockRun) → length (write_items first runs size) ≡ length runs
 one_item_a_run first size [] = refl
 one_item_a_run first size (run ∷ runs) = omega (arith, one_item_a_run (first + run.len) size runs)
 
-pub few_runs : (runs : List Run) → HaveBlocks runs → length runs ≤ length (blocks_of runs)
+pub few_runs : (runs : List BlockRun) → HaveBlocks runs → length runs ≤ length (blocks_of runs)
 few_runs [] some = omega arith
 few_runs (run ∷ runs) some = omega (arith, count-cons run runs, few_runs runs some.1, some.0)
 
 -- writes and a size bind no name
-leave_all : (item : Item) (first size : ℕ) (runs : List Run) (tail : List Item) → AllByRecursion (LeavesName item) tail
+leave_all : (item : Item) (first size : ℕ) (runs : List BlockRun) (tail : List Item) → AllByRecursion (LeavesName item) tail
     → AllByRecursion (LeavesName item) (write_items first runs size ++ tail)
 leave_all item first size [] tail last = last
 leave_all item first size (run ∷ runs) tail last = (tt, leave_all item (first + run.len) size runs tail last)
 
-pub writes_bind_none : (first size : ℕ) (runs : List Run) (tail : List Item) → ((item : Item) → AllByRecursion (LeavesName item) tail)
+pub writes_bind_none : (first size : ℕ) (runs : List BlockRun) (tail : List Item) → ((item : Item) → AllByRecursion (LeavesName item) tail)
     → BindOne tail → BindOne (write_items first runs size ++ tail)
 writes_bind_none first size [] tail each last = last
 writes_bind_none first size (run ∷ runs) tail each last = (
@@ -95,15 +95,15 @@ kind_there kind found h = ap kind_of h.is ∙ ap Some h.kind_is
 some_kind : (found : Option NodeCopy) (h : IsThere found) → kind_of found ≡ Some h.node.kind
 some_kind found h = ap kind_of h.is
 
-module _ (bytes : ℕ → List ℕ) (block : ℕ) (slots : ℕ → Slot) (some : 0 < block) (taken : Taken)
+module _ (bytes : ℕ → List ℕ) (block : ℕ) (slots : ℕ → InodeSlot) (some : 0 < block) (taken : Allocation)
     (sound : (ino : ℕ) → IsSound bytes block (slots ino).log) where
   abbrev nodes : Handle → Option NodeCopy
   nodes = node_in (node_under bytes block slots)
 
-  abbrev IsGood : Planned → Type 0
+  abbrev IsGood : InodePlan → Type 0
   IsGood p = IsLawfulFor block nodes p
 
-  abbrev AllGood : List Planned → Type 0
+  abbrev AllGood : List InodePlan → Type 0
   AllGood plan = IsLawfulPlan block nodes plan
 
   -- items that are lawful for a kind, for a node of that kind
@@ -219,7 +219,7 @@ module _ (bytes : ℕ → List ℕ) (block : ℕ) (slots : ℕ → Slot) (some :
           most true h = omega arith
           most false h = omega arith
 
-    lawful : (runs : List Run) → AllByRecursion (IsCutPage bytes block size before) runs
+    lawful : (runs : List BlockRun) → AllByRecursion (IsCutPage bytes block size before) runs
         → length runs ≡ cond (cuts_page block size taken.present before) 1 0
         → AreLawful block (write_items (size / block) runs size ++ SetSize size ∷ []) (Some File)
     lawful [] filled count = (few, tt)
@@ -248,7 +248,7 @@ module _ (bytes : ℕ → List ℕ) (block : ℕ) (slots : ℕ → Slot) (some :
     other_name true q h = h
     other_name false q h = cc
 
-    moves_good : (same : Bool) (moved : Handle) (rest : List Planned) → same_handle from to ≡ same → own_place from old to new ≡ false
+    moves_good : (same : Bool) (moved : Handle) (rest : List InodePlan) → same_handle from to ≡ same → own_place from old to new ≡ false
         → AllGood rest → AllGood (move_plan same from old to new moved rest)
     moves_good true moved rest is differ all = (move_good from old new moved f o n (other_name (same_handle from to) is differ), all)
     moves_good false moved rest is differ all = (unbind_good from old f o, (bind_good to new moved t n, all))

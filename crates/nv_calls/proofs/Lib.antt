@@ -7,7 +7,7 @@ pub mod CheckEnds
 pub mod Apart
 pub mod BlockCounts
 pub mod CellNodes
-pub mod CellPlans
+pub mod CellCommits
 pub mod Commits
 pub mod Composed
 pub mod Effective

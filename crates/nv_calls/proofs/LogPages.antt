@@ -18,11 +18,11 @@ use Rattle.nv_calls.specs.Committed.{page_count}
 use Rattle.nv_calls.specs.Nodes.{block_in, nodes_in}
 use Rattle.nv_calls.specs.PagesWanted.{goes_on, pages_needed, pages_wanted}
 use Rattle.nv_calls.specs.Prepared.{CanReady, HasNumberFor, HaveNoLessRoom, IsReadyBy, cell_plans, handle_in, if_items, makes, no_handle, planned_by, plans_by, taken_by}
-use Rattle.nv_calls.specs.Ready.{CellPlanValue, ReadyValue}
+use Rattle.nv_calls.specs.Ready.{CellCommitValue, ReadyValue}
 use Rattle.nv_calls.specs.Refusals.{bytes_of, passes}
 use Rattle.nv_calls.specs.Slots.{items_for}
 use Rattle.nv_calls.specs.Updates.{blank_call}
-use Rattle.nv_calls.specs.declared.plan.Planned.{Planned}
+use Rattle.nv_calls.specs.declared.plan.InodePlan.{InodePlan}
 use Rattle.nv_calls.specs.declared.update.Update.{Update}
 use Rattle.nv_calls.specs.declared.update.Update.TheVariants as update
 use Rattle.nv_calls.specs.calls.Size.{cuts_page}
@@ -34,12 +34,12 @@ use Rattle.nv_calls.proofs.Within.{count_passed}
 -- ---- the pages that a commit counts
 
 -- the plans of cells, the first of which has a place among all
-counted : (plan : List Planned) (all : List (ℕ × CellValue)) (at : ℕ) (cells : List (ℕ × CellValue))
+counted : (plan : List InodePlan) (all : List (ℕ × CellValue)) (at : ℕ) (cells : List (ℕ × CellValue))
     → ((k : ℕ) → k < length cells → state_at all (at + k) ≡ state_at cells k)
     → sum_by (page_count all) (cell_plans plan at cells) ≡ sum_by (pages_needed plan) cells
 counted plan all at [] same = refl
 counted plan all at (c ∷ cells) same = go (items_for plan c.0) refl (counted plan all (at + 1) cells later) where
-  rest : List CellPlanValue
+  rest : List CellCommitValue
   rest = cell_plans plan (at + 1) cells
 
   later : (k : ℕ) → k < length cells → state_at all (at + 1 + k) ≡ state_at cells k
@@ -56,17 +56,17 @@ counted plan all at (c ∷ cells) same = go (items_for plan c.0) refl (counted p
       let none : pages_needed plan c ≡ 0 = ap (λ (xs : List Item). pages_for c.1.state.chain (length xs)) q in
       omega (arith, more, none, sum_by-cons (pages_needed plan) c cells)
   go (item ∷ items) q more =
-      let p : CellPlanValue = record { at = at; items = item ∷ items; killed = [] } in
+      let p : CellCommitValue = record { at = at; items = item ∷ items; killed = [] } in
       let own : page_count all p ≡ pages_needed plan c =
       ap (λ (s : CellState). pages_for s.chain (length (item ∷ items))) here
       ∙ sym (ap (λ (xs : List Item). pages_for c.1.state.chain (length xs)) q) in
       omega (arith, more, own, sum_by-cons (page_count all) p rest, sum_by-cons (pages_needed plan) c cells)
 
 -- what a plan needs is what its items, cell by cell, are counted to need
-pub pages_by_plans : (cells now : List (ℕ × CellValue)) (hand : Hand) (u : Update) (plans : List CellPlanValue) → HaveNoLessRoom cells now
+pub pages_by_plans : (cells now : List (ℕ × CellValue)) (hand : Hand) (u : Update) (plans : List CellCommitValue) → HaveNoLessRoom cells now
     → plans ≡ plans_by cells hand u → sum_by (page_count now) plans ≡ pages_wanted cells (planned_by cells hand u)
 pages_by_plans cells now hand u plans more are =
-    ap (λ (ps : List CellPlanValue). sum_by (page_count now) ps) are
+    ap (λ (ps : List CellCommitValue). sum_by (page_count now) ps) are
     ∙ counted (planned_by cells hand u) now 0 cells (λ k lt.
     let place : 0 + k ≡ k = omega arith in
     ap (state_at now) place ∙ more.states k)

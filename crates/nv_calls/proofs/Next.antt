@@ -16,13 +16,13 @@ use Rattle.nv_calls.specs.Commit.{CommitValue, begun, stamp_of}
 use Rattle.nv_calls.specs.Committed.{ChangesPlanned, IsUnplanned, committed, grown, killing, place_before, place_of}
 use Rattle.nv_calls.specs.Next.{AreUpTo, IsUpTo}
 use Rattle.nv_calls.specs.Prepared.{IsStill}
-use Rattle.nv_calls.specs.Ready.{CellPlanValue, ReadyValue, no_plan, plan_at}
+use Rattle.nv_calls.specs.Ready.{CellCommitValue, ReadyValue, no_plan, plan_at}
 use Rattle.nv_calls.specs.Retiring.{erased, is_erased, keeper_of, retired, retired_one, settled}
 use Rattle.nv_calls.specs.Slots.{entries_of}
 use Rattle.nv_calls.specs.Steps.{stamped_entries}
 use Rattle.nv_calls.specs.declared.stamp.Stamp.{Stamp}
 use Rattle.nv_cell.specs.Cell.{number_in}
-use Rattle.nv_calls.proofs.CellPlans.{all_at, all_by}
+use Rattle.nv_calls.proofs.CellCommits.{all_at, all_by}
 use Rattle.nv_calls.proofs.Composed.{cells_stay, own_grown}
 use Rattle.nv_calls.proofs.Effective.{has_plan}
 use Rattle.nv_calls.proofs.Grown.{IsGrown, entry_count_is, last_behind, last_step}
@@ -204,13 +204,13 @@ module _ (cells : List (ℕ × CellValue)) (book : BookValue) (cpu : ℕ) (ready
         (λ k lt none. at k lt))
 
     pub all_up_to : (before : Stamp) (counts : ℕ → ℕ) → before.commit < book.state.commit → before.epoch ≤ book.state.snaps.epoch
-        → AllByRecursion (λ (p : CellPlanValue). TakesCommit (stamp_of book.state) (value_at cells p.at)) ready.plans
+        → AllByRecursion (λ (p : CellCommitValue). TakesCommit (stamp_of book.state) (value_at cells p.at)) ready.plans
         → AreUpTo before counts cells → AreUpTo (stamp_of book.state) counts now
     all_up_to before counts next rises takes up =
         by_place (λ ino cell. IsUpTo (stamp_of book.state) (counts ino) cell)
         (λ j lt.
         up_to_after before counts next rises j lt (counts (ino_at cells (place_of ready.plans j)))
-        (all_at (λ (p : CellPlanValue). TakesCommit (stamp_of book.state) (value_at cells p.at)) ready.plans no_plan j takes lt)
+        (all_at (λ (p : CellCommitValue). TakesCommit (stamp_of book.state) (value_at cells p.at)) ready.plans no_plan j takes lt)
         (up (place_of ready.plans j) (can.placed.within j lt)))
         (λ k lt none. later_still before counts next rises (counts (ino_at cells k)) (state_at cells k) (up k lt))
 

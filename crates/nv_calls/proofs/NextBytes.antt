@@ -21,7 +21,7 @@ use Rattle.nv_calls.specs.Nodes.{HasBytes, HaveBytes}
 use Rattle.nv_calls.specs.Ready.{ReadyValue, plan_at}
 use Rattle.nv_calls.specs.Retiring.{keeper_of, retired, retired_one, settled}
 use Rattle.nv_calls.specs.Steps.{stamped_entries, with_entries, with_entry}
-use Rattle.nv_calls.proofs.CellPlans.{all_at, all_by}
+use Rattle.nv_calls.proofs.CellCommits.{all_at, all_by}
 use Rattle.nv_calls.proofs.Composed.{own_grown}
 use Rattle.nv_calls.proofs.Next.{by_erased, by_place, keeps}
 

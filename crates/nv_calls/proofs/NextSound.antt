@@ -12,21 +12,21 @@ use Rattle.nv_calls.specs.Plain.{Change}
 use Rattle.nv_calls.specs.PublishedSlots.{IsCommitted, IsOfNone, PublishAlike, PublishesPlans, planned_in, slots_after}
 use Rattle.nv_calls.specs.Ready.{ReadyValue}
 use Rattle.nv_calls.specs.Retiring.{is_erased, retired}
-use Rattle.nv_calls.specs.Slots.{IsPlan, Slot, entries_of}
+use Rattle.nv_calls.specs.Slots.{IsPlan, InodeSlot, entries_of}
 use Rattle.nv_calls.specs.Views.{slot_of}
-use Rattle.nv_calls.specs.declared.plan.Planned.{Planned}
+use Rattle.nv_calls.specs.declared.plan.InodePlan.{InodePlan}
 use Rattle.nv_calls.proofs.Commits.{commits}
 use Rattle.nv_calls.proofs.Effective.{has_number, has_plan, pick}
 use Rattle.nv_calls.proofs.Published.{publishes}
 
 module _ (bytes : ℕ → List ℕ) (block : ℕ) (living : List ℕ) (cells : List (ℕ × CellValue)) (book : BookValue) (cpu : ℕ) (ready : ReadyValue)
-    (slots : ℕ → Slot) (now : List (ℕ × CellValue)) (later : ℕ → Slot) (plan : List Planned) (effect : List Change) (some : 0 < block)
+    (slots : ℕ → InodeSlot) (now : List (ℕ × CellValue)) (later : ℕ → InodeSlot) (plan : List InodePlan) (effect : List Change) (some : 0 < block)
     (sound : (ino : ℕ) → IsSound bytes block (slots ino).log) (is : IsCommitted living cells book cpu ready slots now later)
     (alike : PublishAlike (planned_in cells ready.plans) plan) (fits : IsPlan bytes block slots plan effect) where
   abbrev start : CommitValue
   start = begun (stamp_of book.state) ready
 
-  abbrev IsSoundSlot : Slot → Type 0
+  abbrev IsSoundSlot : InodeSlot → Type 0
   IsSoundSlot slot = IsSound bytes block slot.log
 
   published_slots : PublishesPlans cells start slots

@@ -21,7 +21,7 @@ use Rattle.nv_cell.proofs.PageBlocks.{file_is}
 use Rattle.nv_calls.specs.Nodes.{HasBytes, HaveBytes, cell_has_page, cell_of, has_page_in, own_node, plain_nodes, slot_by, slots_by, with_bytes}
 use Rattle.nv_calls.specs.Plain.{PlainNode, node_in, stamped}
 use Rattle.nv_calls.specs.Refusals.{bytes_of, kind_of, passes, want_file}
-use Rattle.nv_calls.specs.Slots.{Slot, last_commit, node_under}
+use Rattle.nv_calls.specs.Slots.{InodeSlot, last_commit, node_under}
 use Rattle.nv_calls.specs.Views.{copy_of, node_of}
 
 -- ---- the size of a file
@@ -137,7 +137,7 @@ nodes_are bytes block cells handle all = go (cell_of cells handle.ino) refl wher
   none true = refl
   none false = refl
 
-  under : Slot → Option PlainNode
+  under : InodeSlot → Option PlainNode
   under slot = cond (handle.generation == slot.generation) (stamped (last_commit slot.log) (node_now bytes block slot.log)) None
 
   go : (o : Option CellValue) → cell_of cells handle.ino ≡ o

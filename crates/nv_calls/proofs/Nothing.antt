@@ -5,7 +5,7 @@ use Rattle.nv_entry.specs.declared.node.NodeCopy.{NodeCopy}
 use Rattle.nv_calls.specs.AllCalls.{IsToldNothing, effect, is_nothing, plan, refusal}
 use Rattle.nv_calls.specs.declared.call.Call.{Call}
 use Rattle.nv_calls.specs.declared.call.Call.TheVariants as call
-use Rattle.nv_calls.specs.declared.taken.Taken.{Taken}
+use Rattle.nv_calls.specs.declared.allocation.Allocation.{Allocation}
 use Rattle.nv_calls.specs.Plain.{same_handle}
 use Rattle.nv_calls.specs.Refusals.{Check, found, passes, want_bound}
 use Rattle.nv_calls.specs.calls.Lookup.{lookup_refusal}
@@ -13,7 +13,7 @@ use Rattle.nv_calls.specs.calls.Rename.{bound_effect, bound_plan, move_effect, m
 use Rattle.nv_calls.specs.calls.Unlink.{leave_effect, leave_plan}
 use Rattle.nv_calls.proofs.Passed.{both_passed}
 
-module _ (block : ℕ) (nodes : Handle → Option NodeCopy) (taken : Taken) where
+module _ (block : ℕ) (nodes : Handle → Option NodeCopy) (taken : Allocation) where
   abbrev IsTold : Call → Type 0
   IsTold c = IsToldNothing block nodes taken c
 

@@ -13,7 +13,7 @@ use Rattle.nv_calls.specs.AllCalls.{looked, refusal}
 use Rattle.nv_calls.specs.declared.call.Call.TheVariants as call
 use Rattle.nv_calls.specs.Plain.{PlainNode, node_in, same_handle}
 use Rattle.nv_calls.specs.Refusals.{Check, and_then, is_directory, kind_of, passes, refuse_if, want_directory, want_file, want_lawful, want_node}
-use Rattle.nv_calls.specs.Slots.{Slot, node_under}
+use Rattle.nv_calls.specs.Slots.{InodeSlot, node_under}
 use Rattle.nv_calls.specs.calls.Lookup.{lookup_refusal}
 use Rattle.nv_calls.specs.calls.Rename.{moved_refusal, pass_if, rename_early, rename_late, replaced_refusal}
 
@@ -75,7 +75,7 @@ look_passed nodes dir name passed =
     let d = directory_passed (nodes dir) _ passed in (d.0, (lawful_passed name _ d.1).0)
 
 -- a handle with a node is that of its slot
-pub own_handle : (bytes : ℕ → List ℕ) (block : ℕ) (slots : ℕ → Slot) (handle : Handle)
+pub own_handle : (bytes : ℕ → List ℕ) (block : ℕ) (slots : ℕ → InodeSlot) (handle : Handle)
     → IsThere (node_in (node_under bytes block slots) handle) → handle.generation ≡ (slots handle.ino).generation
 own_handle bytes block slots handle there = go (handle.generation == (slots handle.ino).generation) _ refl there.is where
   go : (b : Bool) (there_now : Option PlainNode) → (handle.generation == (slots handle.ino).generation) ≡ b

@@ -6,20 +6,20 @@ use Rattle.std.proofs.lemmas.List.Sums.{sum_by-cons}
 use Rattle.nv_entry.specs.declared.item.Entry.{Entry}
 use Rattle.nv_entry.specs.declared.item.Item.{Item}
 use Rattle.nv_entry.specs.Log.{IsLog, MayFollow}
-use Rattle.nv_calls.specs.declared.plan.Planned.{Planned}
+use Rattle.nv_calls.specs.declared.plan.InodePlan.{InodePlan}
 use Rattle.nv_calls.specs.Plan.{AreApart}
 use Rattle.nv_calls.specs.Slots.{ArePlaced, entries_of, items_for, place_in}
 
 -- ---- slot by slot
 
 -- the items of one inode that stand before a slot
-abbrev before : ℕ → Planned → ℕ
+abbrev before : ℕ → InodePlan → ℕ
 before ino p = cond (nat_lt p.handle.ino ino) (length p.items) 0
 
-place-cons : (p : Planned) (plan : List Planned) (ino : ℕ) → place_in (p ∷ plan) ino ≡ before ino p + place_in plan ino
+place-cons : (p : InodePlan) (plan : List InodePlan) (ino : ℕ) → place_in (p ∷ plan) ino ≡ before ino p + place_in plan ino
 place-cons p plan ino = sum_by-cons (before ino) p plan
 
-place-first : (plan : List Planned) → place_in plan 0 ≡ 0
+place-first : (plan : List InodePlan) → place_in plan 0 ≡ 0
 place-first [] = refl
 place-first (p ∷ plan) = omega (arith, place-cons p plan 0, place-first plan, none (nat_lt p.handle.ino 0) refl) where
   none : (b : Bool) → nat_lt p.handle.ino 0 ≡ b → cond b (length p.items) 0 ≡ 0
@@ -27,14 +27,14 @@ place-first (p ∷ plan) = omega (arith, place-cons p plan 0, place-first plan, 
   none false q = refl
 
 -- a slot of none of them has no items
-pub none_for : (plan : List Planned) (ino : ℕ) → AllByRecursion (λ (p : Planned). p.handle.ino ≢ ino) plan → length (items_for plan ino) ≡ 0
+pub none_for : (plan : List InodePlan) (ino : ℕ) → AllByRecursion (λ (p : InodePlan). p.handle.ino ≢ ino) plan → length (items_for plan ino) ≡ 0
 none_for [] ino all = refl
 none_for (p ∷ plan) ino all = go (p.handle.ino == ino) refl (none_for plan ino all.1) where
   go : (b : Bool) → (p.handle.ino == ino) ≡ b → length (items_for plan ino) ≡ 0 → length (cond b p.items (items_for plan ino)) ≡ 0
   go true q rest = absurd (all.0 (eqb-true p.handle.ino ino q))
   go false q rest = rest
 
-before-next : (p : Planned) (ino : ℕ) → p.handle.ino ≢ ino → before (ino + 1) p ≡ before ino p
+before-next : (p : InodePlan) (ino : ℕ) → p.handle.ino ≢ ino → before (ino + 1) p ≡ before ino p
 before-next p ino apart = go (nat_lt p.handle.ino ino) (nat_lt p.handle.ino (ino + 1)) refl refl where
   go : (a b : Bool) → nat_lt p.handle.ino ino ≡ a → nat_lt p.handle.ino (ino + 1) ≡ b
       → cond b (length p.items) 0 ≡ cond a (length p.items) 0
@@ -43,7 +43,7 @@ before-next p ino apart = go (nat_lt p.handle.ino ino) (nat_lt p.handle.ino (ino
   go true false q r = absurd (omega (arith, ltb-true p.handle.ino ino q, ltb-false p.handle.ino (ino + 1) r))
   go false true q r = absurd (apart (omega (arith, ltb-false p.handle.ino ino q, ltb-true p.handle.ino (ino + 1) r)))
 
-before-own : (p : Planned) (ino : ℕ) → p.handle.ino ≡ ino → (before (ino + 1) p ≡ length p.items) × (before ino p ≡ 0)
+before-own : (p : InodePlan) (ino : ℕ) → p.handle.ino ≡ ino → (before (ino + 1) p ≡ length p.items) × (before ino p ≡ 0)
 before-own p ino own = (after (nat_lt p.handle.ino (ino + 1)) refl, at (nat_lt p.handle.ino ino) refl) where
   after : (b : Bool) → nat_lt p.handle.ino (ino + 1) ≡ b → cond b (length p.items) 0 ≡ length p.items
   after true q = refl
@@ -53,15 +53,15 @@ before-own p ino own = (after (nat_lt p.handle.ino (ino + 1)) refl, at (nat_lt p
   at true q = absurd (omega (arith, ltb-true p.handle.ino ino q))
   at false q = refl
 
-place-next : (plan : List Planned) (ino : ℕ) → AreApart plan → place_in plan (ino + 1) ≡ place_in plan ino + length (items_for plan ino)
+place-next : (plan : List InodePlan) (ino : ℕ) → AreApart plan → place_in plan (ino + 1) ≡ place_in plan ino + length (items_for plan ino)
 place-next [] ino apart = omega arith
 place-next (p ∷ plan) ino apart = go (p.handle.ino == ino) refl (place-next plan ino apart.1) where
   whole : (place_in (p ∷ plan) (ino + 1) ≡ before (ino + 1) p + place_in plan (ino + 1))
       × (place_in (p ∷ plan) ino ≡ before ino p + place_in plan ino)
   whole = (place-cons p plan (ino + 1), place-cons p plan ino)
 
-  others : p.handle.ino ≡ ino → (list : List Planned) → AllByRecursion (λ (other : Planned). other.handle.ino ≢ p.handle.ino) list
-      → AllByRecursion (λ (other : Planned). other.handle.ino ≢ ino) list
+  others : p.handle.ino ≡ ino → (list : List InodePlan) → AllByRecursion (λ (other : InodePlan). other.handle.ino ≢ p.handle.ino) list
+      → AllByRecursion (λ (other : InodePlan). other.handle.ino ≢ ino) list
   others own [] all = tt
   others own (q ∷ list) all = (λ e. all.0 (e ∙ sym own), others own list all.1)
 
@@ -72,7 +72,7 @@ place-next (p ∷ plan) ino apart = go (p.handle.ino == ino) refl (place-next pl
       omega (arith, whole, rest, before-own p ino own, none_for plan ino (others own plan apart.0))
   go false q rest = omega (arith, whole, rest, before-next p ino (eqb-false p.handle.ino ino q))
 
-pub placed : (plan : List Planned) → AreApart plan → ArePlaced plan
+pub placed : (plan : List InodePlan) → AreApart plan → ArePlaced plan
 placed plan apart = record { first = place-first plan; next = λ ino. place-next plan ino apart }
 
 -- ---- ids

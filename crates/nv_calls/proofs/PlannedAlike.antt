@@ -16,14 +16,14 @@ use Rattle.nv_calls.specs.Nodes.{block_in, cell_of, nodes_in, slot_by, slots_by}
 use Rattle.nv_calls.specs.Plan.{AreApart, AreFewApart}
 use Rattle.nv_calls.specs.Prepared.{CanReady, HasNumberFor, cell_plans, handle_in, if_items, made_by, makes, no_handle, planned_by, plans_by, taken_by}
 use Rattle.nv_calls.specs.PublishedSlots.{PublishAlike, planned_in}
-use Rattle.nv_calls.specs.Ready.{ArePlaced, CellPlanValue, no_plan, plan_at}
-use Rattle.nv_calls.specs.Slots.{Slot, items_for, place_in}
+use Rattle.nv_calls.specs.Ready.{ArePlaced, CellCommitValue, no_plan, plan_at}
+use Rattle.nv_calls.specs.Slots.{InodeSlot, items_for, place_in}
 use Rattle.nv_calls.specs.Updates.{blank_call}
-use Rattle.nv_calls.specs.declared.plan.Planned.{Planned}
+use Rattle.nv_calls.specs.declared.plan.InodePlan.{InodePlan}
 use Rattle.nv_calls.specs.declared.update.Update.{Update}
 use Rattle.nv_calls.specs.declared.update.Update.TheVariants as update
 use Rattle.nv_calls.proofs.Apart.{all_apart}
-use Rattle.nv_calls.proofs.CellPlans.{all_at, all_by, if_some}
+use Rattle.nv_calls.proofs.CellCommits.{all_at, all_by, if_some}
 use Rattle.nv_calls.proofs.Passed.{IsThere}
 use Rattle.nv_calls.proofs.Places.{placed}
 use Rattle.nv_calls.proofs.PlannedHeld.{IsHeld, all_held, empty_apart, held_by, held_there, one_handle_in}
@@ -54,8 +54,8 @@ new_by cells (Some ino) has = go (cell_of cells ino) refl has.lent where
       record {
         cell = c;
         is = q;
-        own = ap (λ (s : Slot). s.generation) slot;
-        empty = sym (ap (λ (s : Slot). s.log) slot) ∙ has.empty;
+        own = ap (λ (s : InodeSlot). s.generation) slot;
+        empty = sym (ap (λ (s : InodeSlot). s.log) slot) ∙ has.empty;
       }
 
 pub made_new : (cells : List (ℕ × CellValue)) (number : Option ℕ) (u : Update) → HasNumberFor cells (makes u) number
@@ -71,20 +71,20 @@ made_new cells number (update.Rename from old to new) has = tt
 
 -- ---- the places of cells with items
 
-pub place_found : (plan : List Planned) (at : ℕ) (cells : List (ℕ × CellValue)) (k : ℕ) → k < length cells
+pub place_found : (plan : List InodePlan) (at : ℕ) (cells : List (ℕ × CellValue)) (k : ℕ) → k < length cells
     → 0 < length (items_for plan (ino_at cells k))
     → (j : ℕ) × (j < length (cell_plans plan at cells)) × (place_of (cell_plans plan at cells) j ≡ at + k)
 place_found plan at [] k lt some = absurd (omega (arith, lt))
 place_found plan at (c ∷ cells) zero lt some =
-    let rest : List CellPlanValue = cell_plans plan (at + 1) cells in
+    let rest : List CellCommitValue = cell_plans plan (at + 1) cells in
     let here : at ≡ at + zero = omega arith in
-    subst (λ (ps : List CellPlanValue). (j : ℕ) × (j < length ps) × (place_of ps j ≡ at + zero))
+    subst (λ (ps : List CellCommitValue). (j : ℕ) × (j < length ps) × (place_of ps j ≡ at + zero))
     (sym (if_some at (items_for plan c.0) rest some))
     (0, omega arith, here)
 place_found plan at (c ∷ cells) (suc k) lt some =
     go (items_for plan c.0) (place_found plan (at + 1) cells k (omega (arith, lt)) some)
   where
-    rest : List CellPlanValue
+    rest : List CellCommitValue
     rest = cell_plans plan (at + 1) cells
 
     more : at + 1 + k ≡ at + suc k
@@ -95,23 +95,23 @@ place_found plan at (c ∷ cells) (suc k) lt some =
     go [] r = (r.0, r.1, r.2 ∙ more)
     go (item ∷ items) r = (suc r.0, omega (arith, r.1), r.2 ∙ more)
 
-pub plans_have_items : (plan : List Planned) (at : ℕ) (cells : List (ℕ × CellValue))
-    → AllByRecursion (λ (p : CellPlanValue). 0 < length p.items) (cell_plans plan at cells)
+pub plans_have_items : (plan : List InodePlan) (at : ℕ) (cells : List (ℕ × CellValue))
+    → AllByRecursion (λ (p : CellCommitValue). 0 < length p.items) (cell_plans plan at cells)
 plans_have_items plan at [] = tt
 plans_have_items plan at (c ∷ cells) = go (items_for plan c.0) (plans_have_items plan (at + 1) cells) where
-  go : (items : List Item) → AllByRecursion (λ (p : CellPlanValue). 0 < length p.items) (cell_plans plan (at + 1) cells)
-      → AllByRecursion (λ (p : CellPlanValue). 0 < length p.items) (if_items at items (cell_plans plan (at + 1) cells))
+  go : (items : List Item) → AllByRecursion (λ (p : CellCommitValue). 0 < length p.items) (cell_plans plan (at + 1) cells)
+      → AllByRecursion (λ (p : CellCommitValue). 0 < length p.items) (if_items at items (cell_plans plan (at + 1) cells))
   go [] rest = rest
   go (item ∷ items) rest = (omega arith, rest)
 
-pub items_are : (plan : List Planned) (cells : List (ℕ × CellValue)) (j : ℕ) → j < length (cell_plans plan 0 cells)
+pub items_are : (plan : List InodePlan) (cells : List (ℕ × CellValue)) (j : ℕ) → j < length (cell_plans plan 0 cells)
     → (plan_at (cell_plans plan 0 cells) j).items ≡ items_for plan (ino_at cells (place_of (cell_plans plan 0 cells) j))
 items_are plan cells j lt =
-    all_at (λ (p : CellPlanValue). p.items ≡ items_for plan (ino_at cells p.at)) (cell_plans plan 0 cells) no_plan j
+    all_at (λ (p : CellCommitValue). p.items ≡ items_for plan (ino_at cells p.at)) (cell_plans plan 0 cells) no_plan j
     (plans_all (λ (n : ℕ) (items : List Item). items ≡ items_for plan (ino_at cells n)) plan cells (λ k small. refl)) lt
 
 -- an inode with items has a cell
-held_for : (cells : List (ℕ × CellValue)) (plan : List Planned) (ino : ℕ) → AllByRecursion (λ (p : Planned). IsHeld cells p.handle) plan
+held_for : (cells : List (ℕ × CellValue)) (plan : List InodePlan) (ino : ℕ) → AllByRecursion (λ (p : InodePlan). IsHeld cells p.handle) plan
     → 0 < length (items_for plan ino) → (k : ℕ) × (k < length cells) × (ino_at cells k ≡ ino)
 held_for cells [] ino all some = absurd (omega (arith, some))
 held_for cells (p ∷ plan) ino all some = go (p.handle.ino == ino) refl some (held_for cells plan ino all.1) where
@@ -123,7 +123,7 @@ held_for cells (p ∷ plan) ino all some = go (p.handle.ino == ino) refl some (h
 
 -- ---- alike
 
-same_places : (a b : List Planned) → AreApart a → AreApart b → ((ino : ℕ) → items_for a ino ≡ items_for b ino) → (ino : ℕ)
+same_places : (a b : List InodePlan) → AreApart a → AreApart b → ((ino : ℕ) → items_for a ino ≡ items_for b ino) → (ino : ℕ)
     → place_in a ino ≡ place_in b ino
 same_places a b x y items zero = (placed a x).first ∙ sym (placed b y).first
 same_places a b x y items (suc n) =
@@ -138,7 +138,7 @@ same_places a b x y items (suc n) =
       ap (λ (xs : List Item). length xs) (items n),
     )
 
-tail_placed : (cells : List (ℕ × CellValue)) (p : CellPlanValue) (plans : List CellPlanValue) → ArePlaced cells (p ∷ plans)
+tail_placed : (cells : List (ℕ × CellValue)) (p : CellCommitValue) (plans : List CellCommitValue) → ArePlaced cells (p ∷ plans)
     → ArePlaced cells plans
 tail_placed cells p plans placed = record {
   within = λ j lt. let more : suc j < length (p ∷ plans) = omega (arith, lt) in placed.within (suc j) more;
@@ -148,18 +148,18 @@ tail_placed cells p plans placed = record {
       placed.rising (suc i) (suc j) d less more;
 }
 
-other_numbers : (cells : List (ℕ × CellValue)) (ino : ℕ) (plans : List CellPlanValue)
-    → AllByRecursion (λ (p : CellPlanValue). ino_at cells p.at ≢ ino) plans
-    → AllByRecursion (λ (p : Planned). p.handle.ino ≢ ino) (planned_in cells plans)
+other_numbers : (cells : List (ℕ × CellValue)) (ino : ℕ) (plans : List CellCommitValue)
+    → AllByRecursion (λ (p : CellCommitValue). ino_at cells p.at ≢ ino) plans
+    → AllByRecursion (λ (p : InodePlan). p.handle.ino ≢ ino) (planned_in cells plans)
 other_numbers cells ino [] all = tt
 other_numbers cells ino (p ∷ plans) all = (all.0, other_numbers cells ino plans all.1)
 
-planned_apart : (cells : List (ℕ × CellValue)) (plans : List CellPlanValue) → AreCells cells → ArePlaced cells plans
+planned_apart : (cells : List (ℕ × CellValue)) (plans : List CellCommitValue) → AreCells cells → ArePlaced cells plans
     → AreApart (planned_in cells plans)
 planned_apart cells [] are placed = tt
 planned_apart cells (p ∷ plans) are placed = (
   other_numbers cells (ino_at cells p.at) plans
-      (all_by (λ (q : CellPlanValue). ino_at cells q.at ≢ ino_at cells p.at) plans no_plan (λ j lt same.
+      (all_by (λ (q : CellCommitValue). ino_at cells q.at ≢ ino_at cells p.at) plans no_plan (λ j lt same.
       let less : 0 < suc j = omega arith in
       let more : suc j < length (p ∷ plans) = omega (arith, lt) in
       omega (arith, same, ino_rises cells (p ∷ plans) are placed 0 (suc j) less more))),
@@ -167,13 +167,13 @@ planned_apart cells (p ∷ plans) are placed = (
 )
 
 module _ (cells : List (ℕ × CellValue)) (hand : Hand) (u : Update) (can : CanReady cells hand u) where
-  abbrev by_call : List Planned
+  abbrev by_call : List InodePlan
   by_call = planned_by cells hand u
 
-  abbrev by_cell : List CellPlanValue
+  abbrev by_cell : List CellCommitValue
   by_cell = plans_by cells hand u
 
-  pub held : AllByRecursion (λ (p : Planned). IsHeld cells p.handle) by_call
+  pub held : AllByRecursion (λ (p : InodePlan). IsHeld cells p.handle) by_call
   held =
       all_held (block_in cells) (nodes_in cells) (taken_by cells hand u) (IsHeld cells) (held_there cells) (blank_call u) can.passed
       (all_map (IsNew cells) (IsHeld cells) (λ made new. held_by cells made new.cell new.is new.own) _
@@ -202,7 +202,7 @@ module _ (cells : List (ℕ × CellValue)) (hand : Hand) (u : Update) (can : Can
     go : (items : List Item) → items_for by_call ino ≡ items → items_for (planned_in cells by_cell) ino ≡ items_for by_call ino
     go [] q =
         items_none cells by_cell ino (λ i li same.
-        let some = all_at (λ (p : CellPlanValue). 0 < length p.items) by_cell no_plan i (plans_have_items by_call 0 cells) li in
+        let some = all_at (λ (p : CellCommitValue). 0 < length p.items) by_cell no_plan i (plans_have_items by_call 0 cells) li in
         let none : (plan_at by_cell i).items ≡ [] = items_are by_call cells i li ∙ ap (items_for by_call) same ∙ q in
         omega (arith, some, ap (λ (xs : List Item). length xs) none)) ∙ sym q
     go (item ∷ items) q =

@@ -20,14 +20,14 @@ use Rattle.nv_calls.specs.Committed.{place_of}
 use Rattle.nv_calls.specs.Nodes.{block_in, nodes_in}
 use Rattle.nv_calls.specs.Plan.{AreApart, plan_blocks}
 use Rattle.nv_calls.specs.Prepared.{CanReady, HasNumberFor, HaveNoLessRoom, IsReadyBy, IsStill, handle_in, makes, planned_by, plans_by, taken_by}
-use Rattle.nv_calls.specs.Ready.{ArePlaced, CellPlanValue, ReadyValue, no_plan, plan_at}
+use Rattle.nv_calls.specs.Ready.{ArePlaced, CellCommitValue, ReadyValue, no_plan, plan_at}
 use Rattle.nv_calls.specs.Slots.{items_for}
 use Rattle.nv_calls.specs.Steps.{HaveBlocks, numbers_in}
 use Rattle.nv_calls.specs.Updates.{blank_call}
-use Rattle.nv_calls.specs.declared.plan.Planned.{Planned}
+use Rattle.nv_calls.specs.declared.plan.InodePlan.{InodePlan}
 use Rattle.nv_calls.specs.declared.update.Update.{Update}
 use Rattle.nv_calls.specs.declared.update.Update.TheVariants as update
-use Rattle.nv_calls.proofs.CellPlans.{all_at}
+use Rattle.nv_calls.proofs.CellCommits.{all_at}
 use Rattle.nv_calls.proofs.Composed.{cells_stay, places_stay}
 use Rattle.nv_calls.proofs.Keeps.{keeps_to_its}
 use Rattle.nv_calls.proofs.PlannedAlike.{few_apart_by, found_for, items_are, placed_by, plans_have_items}
@@ -42,19 +42,19 @@ nil_left [] ys h = (refl, h)
 nil_left (x ∷ xs) ys h = cc
 
 -- a plan that uses no blocks uses none in any of its inodes
-none_used : (plan : List Planned) → plan_blocks plan ≡ [] → AllByRecursion (λ (p : Planned). numbers_in p.items ≡ []) plan
+none_used : (plan : List InodePlan) → plan_blocks plan ≡ [] → AllByRecursion (λ (p : InodePlan). numbers_in p.items ≡ []) plan
 none_used [] h = tt
 none_used (p ∷ plan) h = let both = nil_left (numbers_in p.items) (plan_blocks plan) h in (both.0, none_used plan both.1)
 
-none_in_all : (plans : List CellPlanValue) → AllByRecursion (λ (p : CellPlanValue). numbers_in p.items ≡ []) plans
+none_in_all : (plans : List CellCommitValue) → AllByRecursion (λ (p : CellCommitValue). numbers_in p.items ≡ []) plans
     → numbers_of_all plans ≡ []
 none_in_all [] all = refl
 none_in_all (p ∷ plans) all = ap (λ (xs : List ℕ). xs ++ numbers_of_all plans) all.0 ∙ none_in_all plans all.1
 
 -- the front blocks of a queue are those of all plans, where no more than one plan uses any
-joined : (plans : List CellPlanValue) (block : ℕ) (queue : QueueValue)
-    → (length plans ≤ 1) ⊎ AllByRecursion (λ (p : CellPlanValue). numbers_in p.items ≡ []) plans
-    → AllByRecursion (λ (p : CellPlanValue). HaveBlocks p.items block queue) plans
+joined : (plans : List CellCommitValue) (block : ℕ) (queue : QueueValue)
+    → (length plans ≤ 1) ⊎ AllByRecursion (λ (p : CellCommitValue). numbers_in p.items ≡ []) plans
+    → AllByRecursion (λ (p : CellCommitValue). HaveBlocks p.items block queue) plans
     → numbers_of (take (length (numbers_of_all plans)) queue.blocks) ≡ numbers_of_all plans
 joined [] block queue few have = refl
 joined (p ∷ []) block queue few have =
@@ -79,10 +79,10 @@ made_some cells true number h = refl
 made_some cells false number h = cc
 
 module _ (cells : List (ℕ × CellValue)) (hand : Hand) (u : Update) (can : CanReady cells hand u) where
-  abbrev by_call : List Planned
+  abbrev by_call : List InodePlan
   by_call = planned_by cells hand u
 
-  abbrev by_cell : List CellPlanValue
+  abbrev by_cell : List CellCommitValue
   by_cell = plans_by cells hand u
 
   placed_cells : ArePlaced cells by_cell
@@ -103,7 +103,7 @@ module _ (cells : List (ℕ × CellValue)) (hand : Hand) (u : Update) (can : Can
 
   -- ---- an inode that is made
 
-  two_plans : (p q : Planned) (rest : List Planned) → by_call ≡ p ∷ q ∷ rest → 0 < length p.items → 0 < length q.items → 2 ≤ length by_cell
+  two_plans : (p q : InodePlan) (rest : List InodePlan) → by_call ≡ p ∷ q ∷ rest → 0 < length p.items → 0 < length q.items → 2 ≤ length by_cell
   two_plans p q rest is some_p some_q = go (nat_lt 1 (length by_cell)) refl where
     apart : q.handle.ino ≢ p.handle.ino
     apart = (subst AreApart is (few_apart_by cells hand u can).apart).0.0
@@ -121,12 +121,12 @@ module _ (cells : List (ℕ × CellValue)) (hand : Hand) (u : Update) (can : Can
     at_p : (j : ℕ) × (j < length by_cell) × (ino j ≡ p.handle.ino)
     at_p =
         found_for cells hand u can p.handle.ino
-        (omega (arith, some_p, ap (λ (xs : List Planned). length (items_for xs p.handle.ino)) is, ap (λ (xs : List Item). length xs) own_p))
+        (omega (arith, some_p, ap (λ (xs : List InodePlan). length (items_for xs p.handle.ino)) is, ap (λ (xs : List Item). length xs) own_p))
 
     at_q : (j : ℕ) × (j < length by_cell) × (ino j ≡ q.handle.ino)
     at_q =
         found_for cells hand u can q.handle.ino
-        (omega (arith, some_q, ap (λ (xs : List Planned). length (items_for xs q.handle.ino)) is, ap (λ (xs : List Item). length xs) own_q))
+        (omega (arith, some_q, ap (λ (xs : List InodePlan). length (items_for xs q.handle.ino)) is, ap (λ (xs : List Item). length xs) own_q))
 
     go : (b : Bool) → nat_lt 1 (length by_cell) ≡ b → 2 ≤ length by_cell
     go true e = omega (arith, ltb-true 1 (length by_cell) e)
@@ -136,21 +136,21 @@ module _ (cells : List (ℕ × CellValue)) (hand : Hand) (u : Update) (can : Can
 
   -- ---- blocks
 
-  no_numbers : AllByRecursion (λ (p : Planned). numbers_in p.items ≡ []) by_call
-      → AllByRecursion (λ (p : CellPlanValue). numbers_in p.items ≡ []) by_cell
+  no_numbers : AllByRecursion (λ (p : InodePlan). numbers_in p.items ≡ []) by_call
+      → AllByRecursion (λ (p : CellCommitValue). numbers_in p.items ≡ []) by_cell
   no_numbers none =
       plans_all (λ (n : ℕ) (items : List Item). numbers_in items ≡ []) by_call cells
       (λ k lt. items_all (λ (items : List Item). numbers_in items ≡ []) by_call (ino_at cells k) refl none)
 
   some_items : (j : ℕ) → j < length by_cell → 0 < length (items_for by_call (ino j))
   some_items j lt =
-      let some = all_at (λ (p : CellPlanValue). 0 < length p.items) by_cell no_plan j (plans_have_items by_call 0 cells) lt in
+      let some = all_at (λ (p : CellCommitValue). 0 < length p.items) by_cell no_plan j (plans_have_items by_call 0 cells) lt in
       omega (arith, some, ap (λ (xs : List Item). length xs) (items_are by_call cells j lt))
 
-  only_one : (p : Planned) → by_call ≡ p ∷ [] → length by_cell ≤ 1
+  only_one : (p : InodePlan) → by_call ≡ p ∷ [] → length by_cell ≤ 1
   only_one p is = go (nat_lt 1 (length by_cell)) refl where
     own : (j : ℕ) → j < length by_cell → ino j ≡ p.handle.ino
-    own j lt = by (p.handle.ino == ino j) refl (subst (λ (xs : List Planned). 0 < length (items_for xs (ino j))) is (some_items j lt)) where
+    own j lt = by (p.handle.ino == ino j) refl (subst (λ (xs : List InodePlan). 0 < length (items_for xs (ino j))) is (some_items j lt)) where
       by : (b : Bool) → (p.handle.ino == ino j) ≡ b → 0 < length (cond b p.items []) → ino j ≡ p.handle.ino
       by true q h = sym (eqb-true p.handle.ino (ino j) q)
       by false q h = absurd (omega (arith, h))
@@ -163,17 +163,17 @@ module _ (cells : List (ℕ × CellValue)) (hand : Hand) (u : Update) (can : Can
         absurd (omega (arith, rises 0 1 less second, own 0 first, own 1 second))
     go false q = ltb-false 1 (length by_cell) q
 
-  few_use_blocks : (length by_cell ≤ 1) ⊎ AllByRecursion (λ (p : CellPlanValue). numbers_in p.items ≡ []) by_cell
+  few_use_blocks : (length by_cell ≤ 1) ⊎ AllByRecursion (λ (p : CellCommitValue). numbers_in p.items ≡ []) by_cell
   few_use_blocks = go by_call refl where
-    go : (plan : List Planned) → by_call ≡ plan
-        → (length by_cell ≤ 1) ⊎ AllByRecursion (λ (p : CellPlanValue). numbers_in p.items ≡ []) by_cell
+    go : (plan : List InodePlan) → by_call ≡ plan
+        → (length by_cell ≤ 1) ⊎ AllByRecursion (λ (p : CellCommitValue). numbers_in p.items ≡ []) by_cell
     go [] q =
         let none : plan_blocks by_call ≡ [] = ap plan_blocks q in
         inr (no_numbers (none_used by_call none))
     go (p ∷ []) q = inl (only_one p q)
     go (p ∷ r ∷ plan) q =
         let keeps = keeps_to_its (block_in cells) (nodes_in cells) (taken_by cells hand u) (blank_call u) in
-        inr (no_numbers (none_used by_call (keeps.several (omega (arith, ap (λ (xs : List Planned). length xs) q)))))
+        inr (no_numbers (none_used by_call (keeps.several (omega (arith, ap (λ (xs : List InodePlan). length xs) q)))))
 
   -- ---- an inode that goes
 
@@ -203,7 +203,7 @@ pair_planned cells hand (update.Rename from old to new) can h = cc
 module _ (cells now : List (ℕ × CellValue)) (hand : Hand) (u : Update) (book : BookValue) (cpu : ℕ) (ready : ReadyValue)
     (can : CanReady cells hand u) (more : HaveNoLessRoom cells now) (is : IsReadyBy cells hand u now ready)
     (allows : AllowsCommit now book cpu ready) where
-  abbrev plans : List CellPlanValue
+  abbrev plans : List CellCommitValue
   plans = ready.plans
 
   abbrev cell_of_plan : ℕ → CellValue
@@ -225,14 +225,14 @@ module _ (cells now : List (ℕ × CellValue)) (hand : Hand) (u : Update) (book 
       (all_at (λ (c : ℕ × CellValue). IsStill (block_in cells) c.1.state) cells no_cell (place_of plans j) can.still within)
 
   takes : (j : ℕ) → j < length plans → TakesCommit (stamp_of book.state) (cell_of_plan j)
-  takes j lt = all_at (λ (p : CellPlanValue). TakesCommit (stamp_of book.state) (value_at now p.at)) plans no_plan j allows.take lt
+  takes j lt = all_at (λ (p : CellCommitValue). TakesCommit (stamp_of book.state) (value_at now p.at)) plans no_plan j allows.take lt
 
   have : (j : ℕ) → j < length plans → HaveBlocks (plan_at plans j).items (block_in cells) ready.hand.«data»
-  have j lt = all_at (λ (p : CellPlanValue). HaveBlocks p.items (block_in cells) ready.hand.«data») plans no_plan j is.blocks lt
+  have j lt = all_at (λ (p : CellCommitValue). HaveBlocks p.items (block_in cells) ready.hand.«data») plans no_plan j is.blocks lt
 
   each : (j : ℕ) → j < length plans → CanTakeItems (stamp_of book.state) ready.hand (plan_at plans j).items (cell_of_plan j)
   each j lt = record {
-    ready = all_at (λ (p : CellPlanValue). IsReadyToAppend p.items (value_at now p.at)) plans no_plan j is.cells_ready lt;
+    ready = all_at (λ (p : CellCommitValue). IsReadyToAppend p.items (value_at now p.at)) plans no_plan j is.cells_ready lt;
     later = (takes j lt).later;
     within = (have j lt).within;
     block_size = (have j lt).size ∙ sym (still j lt).size;
@@ -241,8 +241,8 @@ module _ (cells now : List (ℕ × CellValue)) (hand : Hand) (u : Update) (book 
 
   settled : (j : ℕ) → j < length plans → IsSettledFor (plan_at plans j).items (cell_of_plan j).state
   settled j lt = record {
-    some = all_at (λ (p : CellPlanValue). 0 < length p.items) plans no_plan j
-        (subst (AllByRecursion (λ (p : CellPlanValue). 0 < length p.items)) same_plans
+    some = all_at (λ (p : CellCommitValue). 0 < length p.items) plans no_plan j
+        (subst (AllByRecursion (λ (p : CellCommitValue). 0 < length p.items)) same_plans
         (plans_have_items (planned_by cells hand u) 0 cells)) lt;
     settled = (still j lt).settled;
     version = (takes j lt).version;
@@ -254,7 +254,7 @@ module _ (cells now : List (ℕ × CellValue)) (hand : Hand) (u : Update) (book 
     number = ap (λ (h : Hand). h.ino) is.hand_same.same ∙ number_is cells (makes u) hand.ino can.number
         ∙ ap (option_map (λ (h : Handle). h.ino)) (sym is.made);
     linked = λ some.
-        subst (λ (ps : List CellPlanValue). 2 ≤ length ps) same_plans
+        subst (λ (ps : List CellCommitValue). 2 ≤ length ps) same_plans
         (pair_planned cells hand u can (made_some cells (makes u) hand.ino (subst IsSome is.made some)));
   }
 
@@ -266,8 +266,8 @@ module _ (cells now : List (ℕ × CellValue)) (hand : Hand) (u : Update) (book 
     append = record {
       each = each;
       blocks = joined plans (block_in cells) ready.hand.«data»
-          (subst (λ (ps : List CellPlanValue). (length ps ≤ 1) ⊎ AllByRecursion
-          (λ (p : CellPlanValue). numbers_in p.items ≡ []) ps) same_plans
+          (subst (λ (ps : List CellCommitValue). (length ps ≤ 1) ⊎ AllByRecursion
+          (λ (p : CellCommitValue). numbers_in p.items ≡ []) ps) same_plans
           (few_use_blocks cells hand u can)) is.blocks;
       pages = is.pages;
       few = is.few;
@@ -277,7 +277,7 @@ module _ (cells now : List (ℕ × CellValue)) (hand : Hand) (u : Update) (book 
     freed = omega (arith, is.need, is.room);
     chain = is.chain;
     number = has_number;
-    one_goes = subst (λ (ps : List CellPlanValue). (i j : ℕ) → i < length ps → j < length ps → goes (plan_at ps i).items ≡ true
+    one_goes = subst (λ (ps : List CellCommitValue). (i j : ℕ) → i < length ps → j < length ps → goes (plan_at ps i).items ≡ true
         → goes (plan_at ps j).items ≡ true → i ≡ j)
         same_plans (one_gone cells hand u can);
     cpu_is = allows.cpu_is;

@@ -7,7 +7,7 @@ use Rattle.std.proofs.lemmas.Bool.{eqb-true}
 use Rattle.nv_base.specs.declared.numbers.Handle.{Handle}
 use Rattle.nv_entry.specs.declared.item.Item.{Item}
 use Rattle.nv_entry.specs.declared.item.Item.TheVariants.{Bind, SetSize, Unbind}
-use Rattle.nv_entry.specs.declared.item.Run.{Run}
+use Rattle.nv_entry.specs.declared.item.BlockRun.{BlockRun}
 use Rattle.nv_entry.specs.declared.node.NodeCopy.{NodeCopy}
 use Rattle.nv_entry.specs.Sound.{write_items}
 use Rattle.nv_cell.specs.Readers.{is_last_word}
@@ -18,16 +18,16 @@ use Rattle.nv_calls.specs.Refusals.{found}
 use Rattle.nv_calls.specs.Slots.{items_for}
 use Rattle.nv_calls.specs.declared.call.Call.{Call}
 use Rattle.nv_calls.specs.declared.call.Call.TheVariants as call
-use Rattle.nv_calls.specs.declared.plan.Planned.{Planned}
-use Rattle.nv_calls.specs.declared.taken.Taken.{Taken}
+use Rattle.nv_calls.specs.declared.plan.InodePlan.{InodePlan}
+use Rattle.nv_calls.specs.declared.allocation.Allocation.{Allocation}
 use Rattle.nv_calls.specs.calls.Rename.{bound_plan, move_plan, own_place, replaced_plan}
 use Rattle.nv_calls.specs.calls.Unlink.{leave_plan}
 use Rattle.nv_calls.proofs.Grown.{last_behind, last_step}
 
 -- the number of the only inode of a plan that goes
-pub record OneGoes (plan : List Planned) : Type 0 where
+pub record OneGoes (plan : List InodePlan) : Type 0 where
   pub ino : ℕ
-  pub only : AllByRecursion (λ (p : Planned). goes p.items ≡ true → p.handle.ino ≡ ino) plan
+  pub only : AllByRecursion (λ (p : InodePlan). goes p.items ≡ true → p.handle.ino ≡ ino) plan
 
 abbrev says : Option Item → Bool
 says last = unwrap_or (option_map is_last_word last) false
@@ -35,7 +35,7 @@ says last = unwrap_or (option_map is_last_word last) false
 goes_step : (x y : Item) (ys : List Item) → goes (x ∷ y ∷ ys) ≡ goes (y ∷ ys)
 goes_step x y ys = ap says (last_step x y ys)
 
-writes_stay : (first : ℕ) (runs : List Run) (size : ℕ) → goes (write_items first runs size) ≡ true → ⊥
+writes_stay : (first : ℕ) (runs : List BlockRun) (size : ℕ) → goes (write_items first runs size) ≡ true → ⊥
 writes_stay first [] size h = cc
 writes_stay first (run ∷ []) size h = cc
 writes_stay first (run ∷ next ∷ runs) size h =
@@ -58,7 +58,7 @@ replaced_goes : (other : Option Handle) → OneGoes (replaced_plan other)
 replaced_goes None = none_go
 replaced_goes (Some to) = record { ino = to.ino; only = (λ h. refl, tt) }
 
-move_goes : (same : Bool) (from : Handle) (old : List ℕ) (to : Handle) (new : List ℕ) (moved : Handle) (rest : List Planned)
+move_goes : (same : Bool) (from : Handle) (old : List ℕ) (to : Handle) (new : List ℕ) (moved : Handle) (rest : List InodePlan)
     → OneGoes rest → OneGoes (move_plan same from old to new moved rest)
 move_goes true from old to new moved rest one = record {
   ino = one.ino;
@@ -73,7 +73,7 @@ bound_goes false from old to new None other = none_go
 bound_goes false from old to new (Some moved) other =
     move_goes (same_handle from to) from old to new moved (replaced_plan other) (replaced_goes other)
 
-pub one_goes : (block : ℕ) (nodes : Handle → Option NodeCopy) (taken : Taken) (c : Call) → OneGoes (plan block nodes taken c)
+pub one_goes : (block : ℕ) (nodes : Handle → Option NodeCopy) (taken : Allocation) (c : Call) → OneGoes (plan block nodes taken c)
 one_goes block nodes taken (call.Create dir name mode) = record { ino = 0; only = (λ h. cc, (λ h. cc, tt)) }
 one_goes block nodes taken (call.Mkdir dir name mode) = record { ino = 0; only = (λ h. cc, (λ h. cc, tt)) }
 one_goes block nodes taken (call.Write file offset []) = none_go
@@ -95,7 +95,7 @@ one_goes block nodes taken (call.Rename from old to new) =
     bound_goes (own_place from old to new) from old to new (found nodes from old) (found nodes to new)
 
 -- an inode whose items make it go is that one
-pub goes_for : (plan : List Planned) (n ino : ℕ) → AllByRecursion (λ (p : Planned). goes p.items ≡ true → p.handle.ino ≡ n) plan
+pub goes_for : (plan : List InodePlan) (n ino : ℕ) → AllByRecursion (λ (p : InodePlan). goes p.items ≡ true → p.handle.ino ≡ n) plan
     → goes (items_for plan ino) ≡ true → ino ≡ n
 goes_for [] n ino all h = cc
 goes_for (p ∷ plan) n ino all h = go (p.handle.ino == ino) refl h (goes_for plan n ino all.1) where

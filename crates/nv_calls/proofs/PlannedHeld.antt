@@ -20,8 +20,8 @@ use Rattle.nv_calls.specs.Refusals.{Check, found, kind_of, passes, want_bound}
 use Rattle.nv_calls.specs.Slots.{last_commit}
 use Rattle.nv_calls.specs.declared.call.Call.{Call}
 use Rattle.nv_calls.specs.declared.call.Call.TheVariants as call
-use Rattle.nv_calls.specs.declared.plan.Planned.{Planned}
-use Rattle.nv_calls.specs.declared.taken.Taken.{Taken}
+use Rattle.nv_calls.specs.declared.plan.InodePlan.{InodePlan}
+use Rattle.nv_calls.specs.declared.allocation.Allocation.{Allocation}
 use Rattle.nv_calls.specs.calls.Lookup.{lookup_refusal}
 use Rattle.nv_calls.specs.calls.Rename.{bound_plan, move_plan, moved_refusal, own_place, pass_if, replaced_plan, replaced_refusal}
 use Rattle.nv_calls.specs.calls.Unlink.{leave_plan}
@@ -117,10 +117,10 @@ held_there cells handle t = let f = has_cell cells handle t in held_by cells han
 
 -- ---- what is planned is of nodes that are there, and of the one made
 
-module _ (block : ℕ) (nodes : Handle → Option NodeCopy) (taken : Taken) (Holds : Handle → Type 0)
+module _ (block : ℕ) (nodes : Handle → Option NodeCopy) (taken : Allocation) (Holds : Handle → Type 0)
     (there_holds : (handle : Handle) → IsThere (nodes handle) → Holds handle) where
-  abbrev All : List Planned → Type 0
-  All plan = AllByRecursion (λ (p : Planned). Holds p.handle) plan
+  abbrev All : List InodePlan → Type 0
+  All plan = AllByRecursion (λ (p : InodePlan). Holds p.handle) plan
 
   directory : (dir : Handle) → HasKind Dir (nodes dir) → Holds dir
   directory dir d = there_holds dir (there Dir (nodes dir) d)
@@ -135,7 +135,7 @@ module _ (block : ℕ) (nodes : Handle → Option NodeCopy) (taken : Taken) (Hol
     replaced_all moved None h = tt
     replaced_all moved (Some other) h = (there_holds other (node_passed (nodes other) _ h).0, tt)
 
-    moves_all : (same : Bool) (moved : Handle) (rest : List Planned) → All rest → All (move_plan same from old to new moved rest)
+    moves_all : (same : Bool) (moved : Handle) (rest : List InodePlan) → All rest → All (move_plan same from old to new moved rest)
     moves_all true moved rest all = (f, all)
     moves_all false moved rest all = (f, (t, all))
 

@@ -15,12 +15,12 @@ use Rattle.nv_calls.specs.Cells.{ino_at, no_cell, state_at}
 use Rattle.nv_calls.specs.Nodes.{block_in, nodes_in}
 use Rattle.nv_calls.specs.Plan.{AreMaximal, runs_of}
 use Rattle.nv_calls.specs.Prepared.{AreReady, CanReady, HasLogPages, HasNoLessRoom, HaveNoLessRoom, HoldsTheSame, IsReadyBy, IsStill, made_by, planned_by, plans_by, taken_by}
-use Rattle.nv_calls.specs.Ready.{CellPlanValue, ReadyValue, need_of}
+use Rattle.nv_calls.specs.Ready.{CellCommitValue, ReadyValue, need_of}
 use Rattle.nv_calls.specs.Slots.{items_for}
 use Rattle.nv_calls.specs.Steps.{HaveBlocks}
 use Rattle.nv_calls.specs.Updates.{blank_call}
 use Rattle.nv_calls.specs.declared.update.Update.{Update}
-use Rattle.nv_calls.proofs.CellPlans.{all_at}
+use Rattle.nv_calls.proofs.CellCommits.{all_at}
 use Rattle.nv_calls.proofs.LogPages.{pages_by_plans}
 use Rattle.nv_calls.proofs.Fitting.{AreFit, none_fit, plan_fits}
 use Rattle.nv_calls.proofs.PlansByCell.{fit_have, few_entries, items_all, plans_all}
@@ -43,15 +43,15 @@ module _ (cells : List (ℕ × CellValue)) (hand : Hand) (u : Update) (can : Can
       (none_fit (blocks_of (taken_by cells hand u).runs))
       (plan_fits (block_in cells) (nodes_in cells) (taken_by cells hand u) some_bytes maximal (blank_call u) can.passed wanted))
 
-  pub planned_one : AllByRecursion (λ (p : CellPlanValue). BindOne p.items) (plans_by cells hand u)
+  pub planned_one : AllByRecursion (λ (p : CellCommitValue). BindOne p.items) (plans_by cells hand u)
   planned_one = plans_all (λ (n : ℕ) (items : List Item). BindOne items) (planned_by cells hand u) cells
       (λ k lt. (items_fit (ino_at cells k)).one)
 
-  pub planned_few : sum_by (λ (p : CellPlanValue). length p.items) (plans_by cells hand u) < 2 ^ 32
+  pub planned_few : sum_by (λ (p : CellCommitValue). length p.items) (plans_by cells hand u) < 2 ^ 32
   planned_few = few_entries (planned_by cells hand u) cells can.lent.few (λ ino. (items_fit ino).few)
 
   pub planned_blocks : (now : QueueValue) → now.size ≡ hand.«data».size → now.blocks ≡ hand.«data».blocks
-      → AllByRecursion (λ (p : CellPlanValue). HaveBlocks p.items (block_in cells) now) (plans_by cells hand u)
+      → AllByRecursion (λ (p : CellCommitValue). HaveBlocks p.items (block_in cells) now) (plans_by cells hand u)
   planned_blocks now size blocks =
       plans_all (λ (n : ℕ) (items : List Item). HaveBlocks items (block_in cells) now) (planned_by cells hand u) cells
       (λ k lt. fit_have (items_for (planned_by cells hand u) (ino_at cells k)) (block_in cells) now (size ∙ can.size)
@@ -68,7 +68,7 @@ holds_the_same old new more = record {
 }
 
 -- what is put together is ready, where its parts are
-pub ready_is : (cells now : List (ℕ × CellValue)) (hand : Hand) (u : Update) (made : Option Handle) (plans : List CellPlanValue)
+pub ready_is : (cells now : List (ℕ × CellValue)) (hand : Hand) (u : Update) (made : Option Handle) (plans : List CellCommitValue)
     (left : Hand)
     (need : ℕ) (ready : ReadyValue) → ready.update ≡ u → ready.made ≡ made → ready.plans ≡ plans → ready.hand ≡ left → ready.need ≡ need
     → made ≡ made_by cells hand.ino u
@@ -79,8 +79,8 @@ pub ready_is : (cells now : List (ℕ × CellValue)) (hand : Hand) (u : Update) 
     → AreReady now plans
     → need ≡ need_of now plans
     → need ≤ left.«data».room
-    → AllByRecursion (λ (p : CellPlanValue). HaveBlocks p.items (block_in cells) left.«data») plans
-    → sum_by (λ (p : CellPlanValue). length p.items) plans < 2 ^ 32
+    → AllByRecursion (λ (p : CellCommitValue). HaveBlocks p.items (block_in cells) left.«data») plans
+    → sum_by (λ (p : CellCommitValue). length p.items) plans < 2 ^ 32
     → HasLogPages cells hand u
     → HaveNoLessRoom cells now
     → IsReadyBy cells hand u now ready
@@ -99,9 +99,9 @@ ready_is cells now hand u made plans left need ready eu em ep eh en made_is runs
       cells_ready = subst (AreReady now) p are;
       need = en ∙ need_is ∙ ap (need_of now) p;
       room = subst (λ (x : Hand). ready.need ≤ x.«data».room) h (omega (arith, en, room));
-      blocks = subst (λ (x : Hand). AllByRecursion (λ (q : CellPlanValue). HaveBlocks q.items (block_in cells) x.«data») ready.plans) h
-          (subst (AllByRecursion (λ (q : CellPlanValue). HaveBlocks q.items (block_in cells) left.«data»)) p blocks);
-      few = subst (λ (ps : List CellPlanValue). sum_by (λ (q : CellPlanValue). length q.items) ps < 2 ^ 32) p few;
+      blocks = subst (λ (x : Hand). AllByRecursion (λ (q : CellCommitValue). HaveBlocks q.items (block_in cells) x.«data») ready.plans) h
+          (subst (AllByRecursion (λ (q : CellCommitValue). HaveBlocks q.items (block_in cells) left.«data»)) p blocks);
+      few = subst (λ (ps : List CellCommitValue). sum_by (λ (q : CellCommitValue). length q.items) ps < 2 ^ 32) p few;
       page_size = ap (λ (x : Hand). x.pages.size) (eh ∙ more.same) ∙ has.size;
       pages = omega (
         arith,

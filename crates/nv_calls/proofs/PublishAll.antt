@@ -14,7 +14,7 @@ use Rattle.nv_calls.specs.Cells.{OnlyAt, ino_at, state_at, value_at}
 use Rattle.nv_calls.specs.Commit.{CommitValue, HasJournal, NotesNext, after_publish, to_publish}
 use Rattle.nv_calls.specs.Committed.{place_of}
 use Rattle.nv_calls.specs.PlanByPlan.{PublishesTo, cell_of, published_of}
-use Rattle.nv_calls.specs.Ready.{ArePlaced, CellPlanValue, no_plan, old_tail, old_tails, plan_at}
+use Rattle.nv_calls.specs.Ready.{ArePlaced, CellCommitValue, no_plan, old_tail, old_tails, plan_at}
 use Rattle.nv_calls.specs.Retiring.{killed_by, part_in}
 use Rattle.nv_calls.proofs.CellLists.{other-only}
 use Rattle.nv_calls.proofs.Changes.{apart, none_changed, one_more, plan_other, plan_own, plans_more, plans_none}
@@ -31,7 +31,7 @@ begins cells start none = record {
 
 module _ (j : ℕ) (cells : List (ℕ × CellValue)) (start : CommitValue) (now : List (ℕ × CellValue)) (commit : CommitValue)
     (placed : ArePlaced cells start.plans) (lt : j < length start.plans) (way : PublishesTo j cells start now commit) where
-  abbrev plan : CellPlanValue
+  abbrev plan : CellCommitValue
   plan = plan_at start.plans j
 
   published_is : commit.published ≡ j
@@ -41,7 +41,7 @@ module _ (j : ℕ) (cells : List (ℕ × CellValue)) (start : CommitValue) (now 
   turn_is = ap (plan_at commit.plans) published_is ∙ way.plans.rest j (omega arith)
 
   pub at_is : (to_publish commit).at ≡ plan.at
-  at_is = ap (λ (p : CellPlanValue). p.at) turn_is
+  at_is = ap (λ (p : CellCommitValue). p.at) turn_is
 
   pub within_now : (to_publish commit).at < length now
   within_now = omega (arith, at_is, placed.within j lt, way.changed.count)
@@ -65,7 +65,7 @@ module _ (j : ℕ) (cells : List (ℕ × CellValue)) (start : CommitValue) (now 
         journal = subst (λ (c : CommitValue). HasJournal book c) (sym way.is) (has many);
         tail = ap (λ (c : CommitValue). slice_get c.noted c.published) way.is ∙ ap (λ (ts : List OldTail). slice_get ts j) (noted many)
             ∙ slice_get-map (old_tail cells) start.plans j
-            ∙ ap (λ (p : Option CellPlanValue). option_map (old_tail cells) p) (slice_get-get_or start.plans j no_plan lt)
+            ∙ ap (λ (p : Option CellCommitValue). option_map (old_tail cells) p) (slice_get-get_or start.plans j no_plan lt)
             ∙ ap (λ (t : OldTail). Some t) tail;
       }
 
@@ -81,7 +81,7 @@ module _ (j : ℕ) (cells : List (ℕ × CellValue)) (start : CommitValue) (now 
       let cell : state_at now (to_publish commit).at ≡ cell_of cells start j = ap (λ (v : CellValue). v.state) value_is in
       let own_state : state_at new plan.at ≡ published_of cells start j = ap (state_at new) (sym at_is) ∙ state ∙ ap published cell in
       let changed : OnlyAt plan.at now new = subst (λ (k : ℕ). OnlyAt k now new) at_is only in
-      let p : CellPlanValue = record (to_publish commit) { killed = killed_by (state_at now (to_publish commit).at) } in
+      let p : CellCommitValue = record (to_publish commit) { killed = killed_by (state_at now (to_publish commit).at) } in
       let plans : later.plans ≡ slice_set commit.plans j p =
       ap (λ (c : CommitValue). c.plans) is ∙ ap (λ (n : ℕ). slice_set commit.plans n p) published_is in
       let inside : j < length commit.plans = omega (arith, lt, way.plans.same.count) in
@@ -105,9 +105,9 @@ module _ (j : ℕ) (cells : List (ℕ × CellValue)) (start : CommitValue) (now 
             (subst (λ (v : CellValue). KeepsAppendRoom v.room (value_at new plan.at).room) value_is
             (subst (λ (k : ℕ). KeepsAppendRoom (value_at now (to_publish commit).at).room (value_at new k).room) at_is room));
         killed = below_more (λ i. (plan_at later.plans i).killed ≡ killed_by (cell_of cells start i)) j
-            (λ i li. ap (λ (q : CellPlanValue). q.killed) (plan_other commit.plans later.plans j i p plans (λ e. omega (arith, li, e)))
+            (λ i li. ap (λ (q : CellCommitValue). q.killed) (plan_other commit.plans later.plans j i p plans (λ e. omega (arith, li, e)))
             ∙ way.killed i li)
-            (ap (λ (q : CellPlanValue). q.killed) (plan_own commit.plans later.plans j p plans inside) ∙ ap killed_by cell);
+            (ap (λ (q : CellCommitValue). q.killed) (plan_own commit.plans later.plans j p plans inside) ∙ ap killed_by cell);
         told = below_more (λ i. KillsAsTold (cell_of cells start i)) j way.told
             (subst KillsAsTold cell (record {
               few = few;

@@ -9,23 +9,23 @@ use Rattle.nv_entry.specs.declared.item.Entry.{Entry}
 use Rattle.nv_entry.specs.declared.item.Item.{Item}
 use Rattle.nv_log.specs.Chain.{log}
 use Rattle.nv_book.specs.Book.{BookValue}
-use Rattle.nv_calls.specs.declared.plan.Planned.{Planned}
+use Rattle.nv_calls.specs.declared.plan.InodePlan.{InodePlan}
 use Rattle.nv_calls.specs.CanCommit.{CanCommit}
 use Rattle.nv_calls.specs.Cells.{AreCells, ino_at, no_cell, state_at}
 use Rattle.nv_calls.specs.Commit.{CommitValue, begun, stamp_of}
 use Rattle.nv_calls.specs.Committed.{entry_count, grown, killing, place_before, place_of}
 use Rattle.nv_calls.specs.Plan.{planned}
 use Rattle.nv_calls.specs.PublishedSlots.{AreOfSlots, PublishesPlans, handle_at, planned_in, slots_after}
-use Rattle.nv_calls.specs.Ready.{ArePlaced, CellPlanValue, ReadyValue, no_plan, plan_at}
+use Rattle.nv_calls.specs.Ready.{ArePlaced, CellCommitValue, ReadyValue, no_plan, plan_at}
 use Rattle.nv_calls.specs.Retiring.{is_erased, retired}
-use Rattle.nv_calls.specs.Slots.{Slot, entries_of, items_for, place_in}
+use Rattle.nv_calls.specs.Slots.{InodeSlot, entries_of, items_for, place_in}
 use Rattle.nv_calls.specs.Views.{slot_of}
 use Rattle.nv_calls.proofs.Composed.{own_grown, sums}
 use Rattle.nv_calls.proofs.Retires.{chain_stays, generation_stays}
 
 -- ---- sums over plans
 
-none_sum : (f : CellPlanValue → ℕ) (xs : List CellPlanValue) → ((i : ℕ) → i < length xs → f (plan_at xs i) ≡ 0) → sum_by f xs ≡ 0
+none_sum : (f : CellCommitValue → ℕ) (xs : List CellCommitValue) → ((i : ℕ) → i < length xs → f (plan_at xs i) ≡ 0) → sum_by f xs ≡ 0
 none_sum f [] none = refl
 none_sum f (x ∷ xs) none =
     let first : 0 < length (x ∷ xs) = omega arith in
@@ -36,7 +36,7 @@ none_sum f (x ∷ xs) none =
       none_sum f xs (λ i lt. let more : suc i < length (x ∷ xs) = omega (arith, lt) in none (suc i) more),
     )
 
-mapped_sum : (f : Planned → ℕ) (g : CellPlanValue → Planned) (xs : List CellPlanValue) → sum_by f (map g xs) ≡ sum_by (λ x. f (g x)) xs
+mapped_sum : (f : InodePlan → ℕ) (g : CellCommitValue → InodePlan) (xs : List CellCommitValue) → sum_by f (map g xs) ≡ sum_by (λ x. f (g x)) xs
 mapped_sum f g [] = refl
 mapped_sum f g (x ∷ xs) =
     sum_by-cons f (g x) (map g xs) ∙ ap (λ (n : ℕ). f (g x) + n) (mapped_sum f g xs) ∙ sym (sum_by-cons (λ y. f (g y)) x xs)
@@ -62,8 +62,8 @@ ge-is a b le = go (nat_lt a b) refl where
   go true q = absurd (omega (arith, ltb-true a b q, le))
   go false q = refl
 
-module _ (cells : List (ℕ × CellValue)) (plans : List CellPlanValue) (are : AreCells cells) (placed : ArePlaced cells plans) where
-  abbrev plan : CellPlanValue → Planned
+module _ (cells : List (ℕ × CellValue)) (plans : List CellCommitValue) (are : AreCells cells) (placed : ArePlaced cells plans) where
+  abbrev plan : CellCommitValue → InodePlan
   plan p = planned (handle_at cells p.at) p.items
 
   abbrev ino : ℕ → ℕ
@@ -86,21 +86,21 @@ module _ (cells : List (ℕ × CellValue)) (plans : List CellPlanValue) (are : A
 
   pub place_is : (j : ℕ) → j < length plans → place_in (planned_in cells plans) (ino j) ≡ place_before plans j
   place_is j lj =
-      let before : Planned → ℕ = λ p. cond (nat_lt p.handle.ino (ino j)) (length p.items) 0 in
-      let weigh : CellPlanValue → ℕ = λ p. before (plan p) in
+      let before : InodePlan → ℕ = λ p. cond (nat_lt p.handle.ino (ino j)) (length p.items) 0 in
+      let weigh : CellCommitValue → ℕ = λ p. before (plan p) in
       let all : place_in (planned_in cells plans) (ino j) ≡ sum_by weigh plans = mapped_sum before plan plans in
       let low : (i : ℕ) → i < length (take j plans) → weigh (plan_at (take j plans) i) ≡ entry_count (plan_at (take j plans) i) =
       λ i li.
       let ij : i < j = omega (arith, li, length-take j plans) in
       let e : plan_at (take j plans) i ≡ plan_at plans i = get_or-take j plans i no_plan ij in
-      subst (λ (p : CellPlanValue). weigh p ≡ entry_count p) (sym e)
+      subst (λ (p : CellCommitValue). weigh p ≡ entry_count p) (sym e)
       (counted (nat_lt (ino i) (ino j)) (entry_count (plan_at plans i)) (lt-is (ino i) (ino j) (ino_rises i j ij lj)))
       in
       let high : (i : ℕ) → i < length (drop j plans) → weigh (plan_at (drop j plans) i) ≡ 0 =
       λ i li.
       let within : j + i < length plans = omega (arith, li, length-drop j plans, lj) in
       let e : plan_at (drop j plans) i ≡ plan_at plans (j + i) = get_or-drop j plans i no_plan in
-      subst (λ (p : CellPlanValue). weigh p ≡ 0) (sym e)
+      subst (λ (p : CellCommitValue). weigh p ≡ 0) (sym e)
       (left_out (nat_lt (ino (j + i)) (ino j)) (entry_count (plan_at plans (j + i))) (ge-is (ino (j + i)) (ino j) (behind i within)))
       in
       let front_up : sum_by weigh (take j plans) ≤ place_before plans j =
@@ -117,7 +117,7 @@ module _ (cells : List (ℕ × CellValue)) (plans : List CellPlanValue) (are : A
 
 -- ---- the items of a plan
 
-pub items_none : (cells : List (ℕ × CellValue)) (plans : List CellPlanValue) (number : ℕ)
+pub items_none : (cells : List (ℕ × CellValue)) (plans : List CellCommitValue) (number : ℕ)
     → ((i : ℕ) → i < length plans → ino_at cells (place_of plans i) ≡ number → ⊥) → items_for (planned_in cells plans) number ≡ []
 items_none cells [] number none = refl
 items_none cells (p ∷ plans) number none =
@@ -128,7 +128,7 @@ items_none cells (p ∷ plans) number none =
       go true q rest = let first : 0 < length (p ∷ plans) = omega arith in absurd (none 0 first (eqb-true (ino_at cells p.at) number q))
       go false q rest = rest
 
-pub items_at : (cells : List (ℕ × CellValue)) (plans : List CellPlanValue) (number j : ℕ) → j < length plans
+pub items_at : (cells : List (ℕ × CellValue)) (plans : List CellCommitValue) (number j : ℕ) → j < length plans
     → ((i : ℕ) → i < j → ino_at cells (place_of plans i) ≡ number → ⊥) → ino_at cells (place_of plans j) ≡ number
     → items_for (planned_in cells plans) number ≡ (plan_at plans j).items
 items_at cells [] number j lt before own = absurd (omega (arith, lt))
@@ -145,15 +145,15 @@ items_at cells (p ∷ plans) number (suc j) lt before own =
 -- ---- slots
 
 slot_is : (generation other : ℕ) (a b : List Entry) → generation ≡ other → a ≡ b
-    → (let s : Slot = record { generation = generation; log = a } in s) ≡ (let s : Slot = record { generation = other; log = b } in s)
-slot_is generation other a b g l = ap₂ (λ (n : ℕ) (es : List Entry). let s : Slot = record { generation = n; log = es } in s) g l
+    → (let s : InodeSlot = record { generation = generation; log = a } in s) ≡ (let s : InodeSlot = record { generation = other; log = b } in s)
+slot_is generation other a b g l = ap₂ (λ (n : ℕ) (es : List Entry). let s : InodeSlot = record { generation = n; log = es } in s) g l
 
 -- a cell that is not erased keeps its slot when its parts are retired
 not_erased : (b : Bool) (cell other : CellState) → b ≡ false → cond b other cell ≡ cell
 not_erased true cell other q = cc
 not_erased false cell other q = refl
 
-module _ (cells : List (ℕ × CellValue)) (book : BookValue) (cpu : ℕ) (ready : ReadyValue) (slots : ℕ → Slot)
+module _ (cells : List (ℕ × CellValue)) (book : BookValue) (cpu : ℕ) (ready : ReadyValue) (slots : ℕ → InodeSlot)
     (can : CanCommit cells book cpu ready) (of : AreOfSlots cells slots) where
   abbrev start : CommitValue
   start = begun (stamp_of book.state) ready
@@ -161,7 +161,7 @@ module _ (cells : List (ℕ × CellValue)) (book : BookValue) (cpu : ℕ) (ready
   abbrev at : ℕ → ℕ
   at j = place_of start.plans j
 
-  abbrev made : List Planned
+  abbrev made : List InodePlan
   made = planned_in cells start.plans
 
   -- a slot for which nothing is planned stays
@@ -185,10 +185,10 @@ module _ (cells : List (ℕ × CellValue)) (book : BookValue) (cpu : ℕ) (ready
       (plan_at start.plans j).items in
       let log : log_of (published (grown cells start j).state)
       ≡ (slots ino).log ++ entries_of start.stamp.commit start.stamp.epoch (place_in made ino) (items_for made ino) =
-      g.after ∙ ap (λ (s : Slot). s.log ++ entries) (sym own)
+      g.after ∙ ap (λ (s : InodeSlot). s.log ++ entries) (sym own)
       ∙ ap₂ (λ (n : ℕ) (xs : List Item). (slots ino).log ++ entries_of start.stamp.commit start.stamp.epoch n xs) (sym place) (sym items) in
       slot_is (grown cells start j).state.generation (slots ino).generation _ _ (g.grows.generation
-      ∙ ap (λ (s : Slot). s.generation) (sym own)) log
+      ∙ ap (λ (s : InodeSlot). s.generation) (sym own)) log
 
   pub publishes : PublishesPlans cells start slots
   publishes = record {

@@ -17,11 +17,11 @@ use Rattle.nv_calls.specs.FillPages.{CanFill, HasOtherBytes, with_blocks}
 use Rattle.nv_calls.specs.Nodes.{block_in, cell_has_page, cell_of, has_page_in, nodes_in, own_node, plain_nodes}
 use Rattle.nv_calls.specs.Plain.{PlainNode, node_in}
 use Rattle.nv_calls.specs.Prepared.{CanReady, HaveNoLessRoom, IsReadyBy, IsStill}
-use Rattle.nv_calls.specs.Ready.{CellPlanValue, ReadyValue}
+use Rattle.nv_calls.specs.Ready.{CellCommitValue, ReadyValue}
 use Rattle.nv_calls.specs.Steps.{HaveBlocks, numbers_in}
 use Rattle.nv_calls.specs.Updates.{blank_call}
 use Rattle.nv_calls.specs.declared.update.Update.{Update}
-use Rattle.nv_calls.proofs.CellPlans.{all_at, all_by}
+use Rattle.nv_calls.proofs.CellCommits.{all_at, all_by}
 use Rattle.nv_calls.proofs.PlannedAlike.{all_map}
 
 -- ---- cells with more room hold the same nodes
@@ -116,8 +116,8 @@ module _ (cells now : List (ℕ × CellValue)) (hand : Hand) (u : Update) (ready
     cells_ready = is.cells_ready;
     need = is.need;
     room = omega (arith, is.room, other.room);
-    blocks = all_map (λ (p : CellPlanValue). HaveBlocks p.items (block_in cells) ready.hand.«data»)
-        (λ (p : CellPlanValue). HaveBlocks p.items (block_in cells) blocks) (λ p have. still_have p.items have) ready.plans is.blocks;
+    blocks = all_map (λ (p : CellCommitValue). HaveBlocks p.items (block_in cells) ready.hand.«data»)
+        (λ (p : CellCommitValue). HaveBlocks p.items (block_in cells) blocks) (λ p have. still_have p.items have) ready.plans is.blocks;
     few = is.few;
     page_size = is.page_size;
     pages = is.pages;

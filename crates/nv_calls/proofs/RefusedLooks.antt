@@ -13,7 +13,7 @@ use Rattle.nv_calls.specs.Plain.{same_handle}
 use Rattle.nv_calls.specs.Refusals.{Check, and_find, found, kind_of, look, lookup, passes, refuse_if, want_bound, want_directory}
 use Rattle.nv_calls.specs.calls.Lookup.{lookup_refusal}
 use Rattle.nv_calls.specs.Updates.{blank_call, call_of}
-use Rattle.nv_calls.specs.declared.looked.Looked.{Looked}
+use Rattle.nv_calls.specs.declared.looked.LookupResult.{LookupResult}
 use Rattle.nv_calls.specs.declared.update.Update.{Update}
 use Rattle.nv_calls.specs.declared.update.Update.TheVariants as update
 use Rattle.nv_entry.specs.declared.node.NodeCopy.{NodeCopy}
@@ -34,11 +34,11 @@ look_refused nodes dir name fault = go (kind_of (nodes dir)) (is_lawful_name nam
 -- ---- what a look of a call comes to
 
 -- it is told by these tests, and by what it found
-abbrev pub IsLook : Check → Looked → Result Looked Fault → Type 0
+abbrev pub IsLook : Check → LookupResult → Result LookupResult Fault → Type 0
 IsLook tests found result = MatchResult result (λ l. (tests ≡ passes) × (l ≡ found)) (λ fault. tests ≡ Err fault)
 
 -- a call that looks up one name
-pub look_one : (tests : Check) (first : Option Handle) (dir : Handle) (place : ℕ) (before : Looked) (result : Result Looked Fault)
+pub look_one : (tests : Check) (first : Option Handle) (dir : Handle) (place : ℕ) (before : LookupResult) (result : Result LookupResult Fault)
     → place < 1 → IsFirstLook tests first None result
     → IsLook (look_tests place tests) (seen_at (dir ∷ []) place (record { first = first; second = None }) before) result
 look_one tests first dir zero before (Ok found) few is = is
@@ -46,31 +46,31 @@ look_one tests first dir zero before (Err fault) few is = is
 look_one tests first dir (suc place) before result few is = absurd (omega (arith, few))
 
 -- the first look of a call with two names
-pub look_two : (tests : Check) (first second found : Option Handle) (from to : Handle) (same : Bool) (place : ℕ) (before : Looked)
-    (result : Result Looked Fault) → place < 1 → found ≡ (if same then second else None) → IsFirstLook tests first found result
+pub look_two : (tests : Check) (first second found : Option Handle) (from to : Handle) (same : Bool) (place : ℕ) (before : LookupResult)
+    (result : Result LookupResult Fault) → place < 1 → found ≡ (if same then second else None) → IsFirstLook tests first found result
     → IsLook (look_tests place tests)
     (seen_at (if same then from ∷ [] else from ∷ to ∷ []) place (record { first = first; second = second }) before) result
 look_two tests first second found from to true zero before (Ok l) few beside is =
-    (is.0, is.1 ∙ ap (λ (o : Option Handle). let made : Looked = record { first = first; second = o } in made) beside)
+    (is.0, is.1 ∙ ap (λ (o : Option Handle). let made : LookupResult = record { first = first; second = o } in made) beside)
 look_two tests first second found from to false zero before (Ok l) few beside is =
-    (is.0, is.1 ∙ ap (λ (o : Option Handle). let made : Looked = record { first = first; second = o } in made) beside)
+    (is.0, is.1 ∙ ap (λ (o : Option Handle). let made : LookupResult = record { first = first; second = o } in made) beside)
 look_two tests first second found from to true zero before (Err fault) few beside is = is
 look_two tests first second found from to false zero before (Err fault) few beside is = is
 look_two tests first second found from to same (suc place) before result few beside is = absurd (omega (arith, few))
 
 -- and the second
-pub look_later : (tests : Check) (now before : Looked) (from to : Handle) (same : Bool) (place : ℕ) (found : Option Handle) → 0 < place
+pub look_later : (tests : Check) (now before : LookupResult) (from to : Handle) (same : Bool) (place : ℕ) (found : Option Handle) → 0 < place
     → place < length (if same then from ∷ [] else from ∷ to ∷ []) → found ≡ now.second
     → (look_tests place tests ≡ passes)
-    × ((let made : Looked = record { first = before.first; second = found } in made)
+    × ((let made : LookupResult = record { first = before.first; second = found } in made)
     ≡ seen_at (if same then from ∷ [] else from ∷ to ∷ []) place now before)
 look_later tests now before from to same zero found some few is = absurd (omega (arith, some))
 look_later tests now before from to true (suc place) found some few is = absurd (omega (arith, few))
 look_later tests now before from to false (suc place) found some few is =
-    (refl, ap (λ (o : Option Handle). let made : Looked = record { first = before.first; second = o } in made) is)
+    (refl, ap (λ (o : Option Handle). let made : LookupResult = record { first = before.first; second = o } in made) is)
 
 -- what it comes to over these nodes
-abbrev pub IsLookOf : (Handle → Option NodeCopy) → Update → List ℕ → ℕ → Looked → Result Looked Fault → Type 0
+abbrev pub IsLookOf : (Handle → Option NodeCopy) → Update → List ℕ → ℕ → LookupResult → Result LookupResult Fault → Type 0
 IsLookOf n u text place before result =
     let c = call_of u text in
     IsLook (look_tests place (look_refusal n c)) (seen_at (directories c) place (looked n c) before) result
@@ -79,7 +79,7 @@ IsLookOf n u text place before result =
 abbrev pub HasPlace : ℕ → Update → Type 0
 HasPlace place u = place < length (directories (blank_call u))
 
-module _ (n : Handle → Option NodeCopy) (u : Update) (text : List ℕ) (place : ℕ) (before : Looked) (result : Result Looked Fault) where
+module _ (n : Handle → Option NodeCopy) (u : Update) (text : List ℕ) (place : ℕ) (before : LookupResult) (result : Result LookupResult Fault) where
   pub look_removal : (dir : Handle) (name : List ℕ) → (u ≡ update.Unlink dir name) ⊎ (u ≡ update.Rmdir dir name) → HasPlace place u
       → IsFirstLook (lookup_refusal n dir name) (found n dir name) None result → IsLookOf n u text place before result
   look_removal dir name (inl is) few first =
@@ -97,7 +97,7 @@ module _ (n : Handle → Option NodeCopy) (u : Update) (text : List ℕ) (place 
       (look_two (lookup_refusal n from old) (found n from old) (found n to new) second from to (same_handle from to) place before result
       few beside first)
 
-pub look_second : (n : Handle → Option NodeCopy) (u : Update) (text : List ℕ) (place : ℕ) (before : Looked) (from : Handle) (old : List ℕ)
+pub look_second : (n : Handle → Option NodeCopy) (u : Update) (text : List ℕ) (place : ℕ) (before : LookupResult) (from : Handle) (old : List ℕ)
     (to : Handle) (new : List ℕ) (second : Option Handle) → u ≡ update.Rename from old to new → 0 < place → HasPlace place u
     → second ≡ found n to new → IsLookOf n u text place before (Ok (record { first = before.first; second = second }))
 look_second n u text place before from old to new second is some few found_is =

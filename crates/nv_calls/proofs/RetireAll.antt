@@ -17,7 +17,7 @@ use Rattle.nv_calls.specs.Cells.{OnlyAt, ino_at, state_at, value_at}
 use Rattle.nv_calls.specs.Commit.{CommitValue, after_retire, to_retire}
 use Rattle.nv_calls.specs.Committed.{Killing, hand_after_killings, killed_count, manifests_after, noted_killing, place_of}
 use Rattle.nv_calls.specs.PlanByPlan.{IsFree, NoneGone, RetiresTo, cell_of, room_of, settled_of}
-use Rattle.nv_calls.specs.Ready.{ArePlaced, CellPlanValue, no_plan, plan_at}
+use Rattle.nv_calls.specs.Ready.{ArePlaced, CellCommitValue, no_plan, plan_at}
 use Rattle.nv_calls.specs.Retired.{CanRetire}
 use Rattle.nv_calls.specs.Retiring.{erased, freed_by, hand_retired, hand_with, number_back, retired, room_erased, with_back, with_records}
 use Rattle.nv_calls.proofs.CellLists.{other-only}
@@ -83,7 +83,7 @@ module _ (j : ℕ) (cells : List (ℕ × CellValue)) (start : CommitValue) (shel
     (commit : CommitValue)
     (book : BookValue) (placed : ArePlaced cells start.plans) (lt : j < length start.plans)
     (way : RetiresTo j cells start shelf now commit book) where
-  abbrev plan : CellPlanValue
+  abbrev plan : CellCommitValue
   plan = plan_at start.plans j
 
   abbrev living : List ℕ
@@ -99,7 +99,7 @@ module _ (j : ℕ) (cells : List (ℕ × CellValue)) (start : CommitValue) (shel
   turn_is = ap (plan_at commit.plans) retired_is ∙ way.plans.rest j (omega arith)
 
   pub at_is : (to_retire commit).at ≡ plan.at
-  at_is = ap (λ (p : CellPlanValue). p.at) turn_is
+  at_is = ap (λ (p : CellCommitValue). p.at) turn_is
 
   pub within_now : (to_retire commit).at < length now
   within_now = omega (arith, at_is, placed.within j lt, way.changed.count)
@@ -114,7 +114,7 @@ module _ (j : ℕ) (cells : List (ℕ × CellValue)) (start : CommitValue) (shel
   ino_is = ap (ino_at now) at_is ∙ way.changed.numbers plan.at
 
   killed_is : (to_retire commit).killed ≡ plan.killed
-  killed_is = ap (λ (p : CellPlanValue). p.killed) turn_is
+  killed_is = ap (λ (p : CellCommitValue). p.killed) turn_is
 
   count_is : length (to_retire commit).killed ≡ killed_count plan
   count_is = ap length killed_is
@@ -190,7 +190,7 @@ module _ (j : ℕ) (cells : List (ℕ × CellValue)) (start : CommitValue) (shel
       lives ino_is
       ∙ ap₂ (λ (e : ℕ) (ks : List KilledPart). leave living noted.ino e ks (value_at now (to_retire commit).at)) epoch_is killed_is
       ∙ ap (leave living noted.ino start.stamp.epoch plan.killed) value_is in
-      let p : CellPlanValue = record (to_retire commit) { killed = [] } in
+      let p : CellCommitValue = record (to_retire commit) { killed = [] } in
       let plans : later.plans ≡ slice_set commit.plans j p =
       ap (λ (c : CommitValue). c.plans) is ∙ ap (λ (n : ℕ). slice_set commit.plans n p) retired_is in
       let count : later.retired ≡ j + 1 = ap (λ (c : CommitValue). c.retired) is ∙ ap (λ (n : ℕ). n + 1) retired_is in

@@ -6,7 +6,7 @@ use Rattle.std.proofs.lemmas.List.{append-nil, length-append}
 use Rattle.std.proofs.lemmas.List.FromFn.{length-range_with_len}
 use Rattle.nv_entry.specs.declared.item.Item.{Item}
 use Rattle.nv_entry.specs.declared.item.Item.TheVariants.{Write}
-use Rattle.nv_entry.specs.declared.item.Run.{Run}
+use Rattle.nv_entry.specs.declared.item.BlockRun.{BlockRun}
 use Rattle.nv_entry.specs.Sound.{blocks_of, write_items}
 use Rattle.nv_calls.specs.Plan.{AreMaximal}
 
@@ -18,18 +18,18 @@ range-more a n = rw add-one (go a n) where
   go a zero = ap (λ x. x ∷ []) (sym (add-zero a))
   go a (suc n) = ap (λ xs. a ∷ xs) (go (a + 1) n ∙ ap (λ x. range_with_len (a + 1) n ++ x ∷ []) (omega arith))
 
-blocks_of-push : (runs : List Run) (run : Run) → blocks_of (runs ++ run ∷ []) ≡ blocks_of runs ++ range_with_len run.start run.len
+blocks_of-push : (runs : List BlockRun) (run : BlockRun) → blocks_of (runs ++ run ∷ []) ≡ blocks_of runs ++ range_with_len run.start run.len
 blocks_of-push runs run =
-    flat_map-append (λ (r : Run). range_with_len r.start r.len) runs (run ∷ [])
+    flat_map-append (λ (r : BlockRun). range_with_len r.start r.len) runs (run ∷ [])
     ∙ ap (λ xs. blocks_of runs ++ xs) (append-nil (range_with_len run.start run.len))
 
-pub count-push : (runs : List Run) (run : Run) → length (blocks_of (runs ++ run ∷ [])) ≡ length (blocks_of runs) + run.len
+pub count-push : (runs : List BlockRun) (run : BlockRun) → length (blocks_of (runs ++ run ∷ [])) ≡ length (blocks_of runs) + run.len
 count-push runs run =
     ap length (blocks_of-push runs run) ∙ length-append (blocks_of runs) (range_with_len run.start run.len)
     ∙ ap (λ (n : ℕ). length (blocks_of runs) + n) (length-range_with_len run.start run.len)
 
 -- a block behind a run
-pub blocks_of-join : (runs : List Run) (last more : Run) (block : ℕ) → last.start + last.len ≡ block → more.start ≡ last.start
+pub blocks_of-join : (runs : List BlockRun) (last more : BlockRun) (block : ℕ) → last.start + last.len ≡ block → more.start ≡ last.start
     → more.len ≡ last.len + 1
     → blocks_of (runs ++ more ∷ []) ≡ blocks_of (runs ++ last ∷ []) ++ block ∷ []
 blocks_of-join runs last more block e s n =
@@ -40,19 +40,19 @@ blocks_of-join runs last more block e s n =
     ∙ ap (λ xs. xs ++ block ∷ []) (sym (blocks_of-push runs last))
 
 -- a block that begins a run
-pub blocks_of-one : (runs : List Run) (one : Run) (block : ℕ) → one.start ≡ block → one.len ≡ 1
+pub blocks_of-one : (runs : List BlockRun) (one : BlockRun) (block : ℕ) → one.start ≡ block → one.len ≡ 1
     → blocks_of (runs ++ one ∷ []) ≡ blocks_of runs ++ block ∷ []
 blocks_of-one runs one block s n = blocks_of-push runs one ∙ ap₂ (λ (a b : ℕ). blocks_of runs ++ range_with_len a b) s n
 
 -- ---- maximal runs
 
-pub maximal-longer : (runs : List Run) (last more : Run) → AreMaximal (runs ++ last ∷ []) → more.start ≡ last.start → 0 < more.len
+pub maximal-longer : (runs : List BlockRun) (last more : BlockRun) → AreMaximal (runs ++ last ∷ []) → more.start ≡ last.start → 0 < more.len
     → AreMaximal (runs ++ more ∷ [])
 maximal-longer [] last more h s some = some
 maximal-longer (run ∷ []) last more h s some = (h.0, (λ e. h.1 (e ∙ s)), some)
 maximal-longer (run ∷ next ∷ runs) last more h s some = (h.0, h.1, maximal-longer (next ∷ runs) last more h.2 s some)
 
-pub maximal-more : (runs : List Run) (last one : Run) → AreMaximal (runs ++ last ∷ []) → (last.start + last.len ≡ one.start → ⊥)
+pub maximal-more : (runs : List BlockRun) (last one : BlockRun) → AreMaximal (runs ++ last ∷ []) → (last.start + last.len ≡ one.start → ⊥)
     → 0 < one.len
     → AreMaximal ((runs ++ last ∷ []) ++ one ∷ [])
 maximal-more [] last one h apart some = (h, apart, some)
@@ -61,7 +61,7 @@ maximal-more (run ∷ next ∷ runs) last one h apart some = (h.0, h.1, maximal-
 
 -- ---- items of one more run
 
-pub count-take : (runs : List Run) (n : ℕ) → length (blocks_of (take n runs)) ≤ length (blocks_of runs)
+pub count-take : (runs : List BlockRun) (n : ℕ) → length (blocks_of (take n runs)) ≤ length (blocks_of runs)
 count-take [] zero = omega arith
 count-take [] (suc n) = omega arith
 count-take (run ∷ runs) zero = omega arith
@@ -73,7 +73,7 @@ count-take (run ∷ runs) (suc n) =
       length-append (range_with_len run.start run.len) (blocks_of (take n runs)),
     )
 
-pub write_items-push : (first size : ℕ) (runs : List Run) (run : Run)
+pub write_items-push : (first size : ℕ) (runs : List BlockRun) (run : BlockRun)
     → write_items first (runs ++ run ∷ []) size ≡ write_items first runs size ++ Write (first + length (blocks_of runs)) run size ∷ []
 write_items-push first size [] run = ap (λ (n : ℕ). let item : Item = Write n run size in item ∷ []) (omega arith)
 write_items-push first size (r ∷ runs) run =

@@ -6,10 +6,10 @@ use Rattle.nv_base.specs.declared.node.Kind.{Kind}
 use Rattle.nv_base.specs.declared.numbers.Handle.{Handle}
 use Rattle.nv_entry.specs.declared.node.NodeCopy.{NodeCopy}
 use Rattle.nv_calls.specs.AllCalls.{looked, plan}
-use Rattle.nv_calls.specs.declared.taken.Taken.{Taken}
+use Rattle.nv_calls.specs.declared.allocation.Allocation.{Allocation}
 use Rattle.nv_calls.specs.declared.call.Call.{Call}
 use Rattle.nv_calls.specs.declared.call.Call.TheVariants as call
-use Rattle.nv_calls.specs.declared.looked.Looked.{Looked}
+use Rattle.nv_calls.specs.declared.looked.LookupResult.{LookupResult}
 use Rattle.nv_calls.specs.Locked.{Agree, SameCall, handles, if_any}
 use Rattle.nv_calls.specs.Plain.{PlainNode, node_in, same_handle}
 use Rattle.nv_calls.specs.Refusals.{Check, and_then, found, is_directory, kind_of, passes, refuse_if, want_bound, want_directory, want_file, want_lawful, want_node}
@@ -58,7 +58,7 @@ module _ (nodes other : Handle → Option NodeCopy) where
         tests : Option Kind → Check → Check
         tests kind next = want_node kind (refuse_if (is_directory kind && not (same_handle from to)) fault.MoveDirectory next)
 
-  late_same : (from : Handle) (old : List ℕ) (to : Handle) (new : List ℕ) (l : Looked) → Same (if_any l.first ++ if_any l.second)
+  late_same : (from : Handle) (old : List ℕ) (to : Handle) (new : List ℕ) (l : LookupResult) → Same (if_any l.first ++ if_any l.second)
       → rename_late other from old to new l ≡ rename_late nodes from old to new l
   late_same from old to new l h =
       bound_same l.first (λ moved. pass_if (own_place from old to new) (moved_refusal nodes from to l.second moved))
@@ -83,12 +83,12 @@ module _ (nodes other : Handle → Option NodeCopy) where
     empty : Option NodeCopy → Check
     empty node = want_directory (kind_of node) (refuse_if (nat_lt 0 (length (names_of_node node))) fault.NotEmpty passes)
 
-  write_same : (block : ℕ) (taken : Taken) (file : Handle) (offset : ℕ) (text : List ℕ) → other file ≡ nodes file
+  write_same : (block : ℕ) (taken : Allocation) (file : Handle) (offset : ℕ) (text : List ℕ) → other file ≡ nodes file
       → plan block other taken (call.Write file offset text) ≡ plan block nodes taken (call.Write file offset text)
   write_same block taken file offset [] e = refl
   write_same block taken file offset (byte ∷ rest) e = rw e refl
 
-module _ (block : ℕ) (plain others : Handle → Option PlainNode) (taken : Taken) where
+module _ (block : ℕ) (plain others : Handle → Option PlainNode) (taken : Allocation) where
   abbrev n : Handle → Option NodeCopy
   n = node_in plain
 
@@ -105,10 +105,10 @@ module _ (block : ℕ) (plain others : Handle → Option PlainNode) (taken : Tak
   abbrev SameIn : Call → Type 0
   SameIn c = SameCall block plain others taken c
 
-  abbrev one_name : Option Handle → Looked
+  abbrev one_name : Option Handle → LookupResult
   one_name first = record { first = first; second = None }
 
-  abbrev two_names : Option Handle → Option Handle → Looked
+  abbrev two_names : Option Handle → Option Handle → LookupResult
   two_names first second = record { first = first; second = second }
 
   pub call_same : (c : Call) → Agree plain others (handles (looked n c) c) → SameIn c
@@ -174,7 +174,7 @@ module _ (block : ℕ) (plain others : Handle → Option PlainNode) (taken : Tak
         effect = ap (rename_effect from old to new) both;
         plan = ap (rename_plan from old to new) both;
         answer = refl;
-        handles = ap (λ (l : Looked). handles l c) both;
+        handles = ap (λ (l : LookupResult). handles l c) both;
         wanted = refl;
       }
   -- any other call looks no name up before it locks, and its one handle tells what it reads

@@ -7,11 +7,11 @@ use Rattle.nv_entry.specs.Node.{node_now}
 use Rattle.nv_entry.specs.Sound.{IsSound, Stands, Tied}
 use Rattle.nv_entry.specs.Stored.{stored}
 use Rattle.nv_calls.specs.Plain.{node_in}
-use Rattle.nv_calls.specs.Slots.{IsFree, Slot, node_under}
+use Rattle.nv_calls.specs.Slots.{IsFree, InodeSlot, node_under}
 use Rattle.nv_calls.proofs.Commits.{handle-same, own_node}
 use Rattle.nv_calls.proofs.Passed.{IsThere, own_handle}
 
-module _ (bytes : ℕ → List ℕ) (block : ℕ) (slots : ℕ → Slot) where
+module _ (bytes : ℕ → List ℕ) (block : ℕ) (slots : ℕ → InodeSlot) where
   abbrev nodes : Handle → Option NodeCopy
   nodes = node_in (node_under bytes block slots)
 

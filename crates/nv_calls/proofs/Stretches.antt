@@ -3,11 +3,11 @@ use Rattle.std.proofs.Common.{◌≡◌, ℕ, zero, suc, ◌+◌, ◌<◌, ◌^�
 use Rattle.std.specs.List.{flat_map, range_with_len}
 use Rattle.std.proofs.Math.Bridge.{le_prop}
 use Rattle.std.proofs.lemmas.Bool.{eqb-true, lt-ltb, ltb-true}
-use Rattle.nv_entry.specs.declared.item.Run.{Run}
+use Rattle.nv_entry.specs.declared.item.BlockRun.{BlockRun}
 use Rattle.nv_entry.specs.Sound.{blocks_of}
 use Rattle.nv_calls.specs.Plan.{AreMaximal, run_if, runs_of, stretches, with_number}
 
-abbrev stretch : Run → ℕ × ℕ
+abbrev stretch : BlockRun → ℕ × ℕ
 stretch run = (run.start, run.len)
 
 -- no stretch begins at a number
@@ -43,29 +43,29 @@ some_stretch : (start len : ℕ) (rest : List ℕ) (tail : List (ℕ × ℕ)) �
 some_stretch start zero rest tail some is apart = absurd (omega (arith, some))
 some_stretch start (suc n) rest tail some is apart = one_stretch start n rest tail is apart
 
-stretches_are : (runs : List Run) → AreMaximal runs → stretches (blocks_of runs) ≡ map stretch runs
+stretches_are : (runs : List BlockRun) → AreMaximal runs → stretches (blocks_of runs) ≡ map stretch runs
 stretches_are [] h = refl
 stretches_are (run ∷ []) h = some_stretch run.start run.len [] [] h refl tt
 stretches_are (run ∷ next ∷ runs) h =
     some_stretch run.start run.len (blocks_of (next ∷ runs)) (map stretch (next ∷ runs)) h.0 (stretches_are (next ∷ runs) h.2) h.1
 
 -- a run is that of its stretch
-run_is : (run : Run) (fits : Bool) (is : nat_lt (run.start + run.len) (2 ^ 64) ≡ fits) → run_if run.start run.len fits is ≡ run ∷ []
+run_is : (run : BlockRun) (fits : Bool) (is : nat_lt (run.start + run.len) (2 ^ 64) ≡ fits) → run_if run.start run.len fits is ≡ run ∷ []
 run_is run true is =
     let same : IsProp (run.start + run.len < 2 ^ 64) = le_prop in
-    ap (λ (p : run.start + run.len < 2 ^ 64). let r : Run = record { start = run.start; len = run.len; in_range = p } in r ∷ [])
+    ap (λ (p : run.start + run.len < 2 ^ 64). let r : BlockRun = record { start = run.start; len = run.len; in_range = p } in r ∷ [])
     (same (ltb-true (run.start + run.len) (2 ^ 64) is) run.in_range)
 run_is run false is = let fits : nat_lt (run.start + run.len) (2 ^ 64) ≡ true = lt-ltb (run.start + run.len) (2 ^ 64) run.in_range in cc
 
-runs_are : (runs : List Run)
+runs_are : (runs : List BlockRun)
     → flat_map (λ (run : ℕ × ℕ). run_if run.0 run.1 (nat_lt (run.0 + run.1) (2 ^ 64)) refl) (map stretch runs) ≡ runs
 runs_are [] = refl
 runs_are (run ∷ runs) =
-    ap (λ (xs : List Run). xs ++ flat_map (λ (r : ℕ × ℕ). run_if r.0 r.1 (nat_lt (r.0 + r.1) (2 ^ 64)) refl) (map stretch runs))
+    ap (λ (xs : List BlockRun). xs ++ flat_map (λ (r : ℕ × ℕ). run_if r.0 r.1 (nat_lt (r.0 + r.1) (2 ^ 64)) refl) (map stretch runs))
     (run_is run (nat_lt (run.start + run.len) (2 ^ 64)) refl)
-    ∙ ap (λ (xs : List Run). run ∷ xs) (runs_are runs)
+    ∙ ap (λ (xs : List BlockRun). run ∷ xs) (runs_are runs)
 
-pub maximal_are : (runs : List Run) (numbers : List ℕ) → AreMaximal runs → blocks_of runs ≡ numbers → runs ≡ runs_of numbers
+pub maximal_are : (runs : List BlockRun) (numbers : List ℕ) → AreMaximal runs → blocks_of runs ≡ numbers → runs ≡ runs_of numbers
 maximal_are runs numbers maximal is =
     sym (runs_are runs)
     ∙ ap (λ (xs : List (ℕ × ℕ)). flat_map (λ (run : ℕ × ℕ). run_if run.0 run.1 (nat_lt (run.0 + run.1) (2 ^ 64)) refl) xs)

@@ -10,16 +10,16 @@ use Rattle.nv_journal.specs.Journal.{AreDistinct}
 use Rattle.nv_journal.specs.declared.old_tail.OldTail.{OldTail}
 use Rattle.nv_calls.specs.Cells.{no_cell}
 use Rattle.nv_calls.specs.Commit.{CommitValue, HasJournal, after_open}
-use Rattle.nv_calls.specs.Ready.{ArePlaced, CellPlanValue, no_plan, old_tail, old_tails}
+use Rattle.nv_calls.specs.Ready.{ArePlaced, CellCommitValue, no_plan, old_tail, old_tails}
 
-pub tails_differ : (cells : List (ℕ × CellValue)) (plans : List CellPlanValue) → AllPairs (λ a b. a.0 < b.0) cells → ArePlaced cells plans
+pub tails_differ : (cells : List (ℕ × CellValue)) (plans : List CellCommitValue) → AllPairs (λ a b. a.0 < b.0) cells → ArePlaced cells plans
     → AreDistinct (old_tails cells plans)
 tails_differ cells [] rising placed i j d lt within e = absurd (omega (arith, within))
 tails_differ cells (p ∷ plans) rising placed i j d lt within e =
-    let all : List CellPlanValue = p ∷ plans in
+    let all : List CellCommitValue = p ∷ plans in
     let low : j < length all = omega (arith, within, length-map all (old_tail cells)) in
-    let a : CellPlanValue = get_or all i no_plan in
-    let b : CellPlanValue = get_or all j no_plan in
+    let a : CellCommitValue = get_or all i no_plan in
+    let b : CellCommitValue = get_or all j no_plan in
     let ta : get_or (old_tails cells all) i d ≡ old_tail cells a = get_or-map (old_tail cells) all i no_plan d (omega (arith, lt, low)) in
     let tb : get_or (old_tails cells all) j d ≡ old_tail cells b = get_or-map (old_tail cells) all j no_plan d low in
     let apart : a.at < b.at = placed.rising i j no_plan lt low in

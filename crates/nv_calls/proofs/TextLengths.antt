@@ -2,13 +2,13 @@
 use Rattle.std.proofs.Common.{◌≡◌, ℕ, zero, suc, ◌+◌, ◌/◌, ◌<◌, max, Bool, List, [], ◌∷◌, length, replicate, Option, arith, refl, ap, sym, ◌∙◌}
 use Rattle.std.proofs.lemmas.List.{length-replicate}
 use Rattle.nv_base.specs.declared.numbers.Handle.{Handle}
-use Rattle.nv_entry.specs.declared.item.Run.{Run}
+use Rattle.nv_entry.specs.declared.item.BlockRun.{BlockRun}
 use Rattle.nv_entry.specs.declared.node.NodeCopy.{NodeCopy}
 use Rattle.nv_entry.specs.Bytes.{pages_touched, written}
 use Rattle.nv_entry.specs.Sound.{write_items}
 use Rattle.nv_entry.proofs.PageBytes.{length-written}
-use Rattle.nv_calls.specs.declared.plan.Planned.{Planned}
-use Rattle.nv_calls.specs.declared.taken.Taken.{Taken}
+use Rattle.nv_calls.specs.declared.plan.InodePlan.{InodePlan}
+use Rattle.nv_calls.specs.declared.allocation.Allocation.{Allocation}
 use Rattle.nv_calls.specs.declared.update.Update.{Update}
 use Rattle.nv_calls.specs.declared.update.Update.TheVariants as update
 use Rattle.nv_calls.specs.AllCalls.{is_empty}
@@ -35,14 +35,14 @@ blocks_by block offset [] (y ∷ b) h = absurd (omega (arith, h))
 blocks_by block offset (x ∷ a) [] h = absurd (omega (arith, h))
 blocks_by block offset (x ∷ a) (y ∷ b) h = rw h refl
 
-plan_by : (block : ℕ) (nodes : Handle → Option NodeCopy) (file : Handle) (offset : ℕ) (runs : List Run) (a b : List ℕ)
+plan_by : (block : ℕ) (nodes : Handle → Option NodeCopy) (file : Handle) (offset : ℕ) (runs : List BlockRun) (a b : List ℕ)
     → length a ≡ length b → write_plan block nodes file offset a runs ≡ write_plan block nodes file offset b runs
 plan_by block nodes file offset runs [] [] h = refl
 plan_by block nodes file offset runs [] (y ∷ b) h = absurd (omega (arith, h))
 plan_by block nodes file offset runs (x ∷ a) [] h = absurd (omega (arith, h))
 plan_by block nodes file offset runs (x ∷ a) (y ∷ b) h =
     let old = bytes_of (nodes file) in
-    ap (λ (size : ℕ). let p : Planned = planned file (write_items (offset / block) runs size) in p ∷ [])
+    ap (λ (size : ℕ). let p : InodePlan = planned file (write_items (offset / block) runs size) in p ∷ [])
     (length-written offset (x ∷ a) old ∙ ap (λ (n : ℕ). max (length old) (offset + n)) h ∙ sym (length-written offset (y ∷ b) old))
 
 -- ---- a text of zeros
@@ -55,15 +55,15 @@ pub blank_blocks : (block offset count : ℕ) → 0 < count → write_blocks blo
 blank_blocks block offset zero some = absurd (omega (arith, some))
 blank_blocks block offset (suc n) some = ap (λ (k : ℕ). pages_touched block offset k) (length-replicate (suc n) 0)
 
-pub blank_plan : (block : ℕ) (nodes : Handle → Option NodeCopy) (file : Handle) (offset count : ℕ) (runs : List Run) (size : ℕ) → 0 < count
+pub blank_plan : (block : ℕ) (nodes : Handle → Option NodeCopy) (file : Handle) (offset count : ℕ) (runs : List BlockRun) (size : ℕ) → 0 < count
     → size ≡ length (written offset (replicate count 0) (bytes_of (nodes file)))
     → write_plan block nodes file offset (replicate count 0) runs ≡ planned file (write_items (offset / block) runs size) ∷ []
 blank_plan block nodes file offset zero runs size some h = absurd (omega (arith, some))
 blank_plan block nodes file offset (suc n) runs size some h =
-    ap (λ (k : ℕ). let p : Planned = planned file (write_items (offset / block) runs k) in p ∷ []) (sym h)
+    ap (λ (k : ℕ). let p : InodePlan = planned file (write_items (offset / block) runs k) in p ∷ []) (sym h)
 
 -- a call with any text is checked and planned as the one with as many zeros
-pub same_plan : (block : ℕ) (nodes : Handle → Option NodeCopy) (has_page : Handle → ℕ → Bool) (taken : Taken) (u : Update) (text : List ℕ)
+pub same_plan : (block : ℕ) (nodes : Handle → Option NodeCopy) (has_page : Handle → ℕ → Bool) (taken : Allocation) (u : Update) (text : List ℕ)
     → length text ≡ text_len u → SamePlan block nodes has_page taken (blank_call u) (call_of u text)
 same_plan block nodes has_page taken (update.Write file offset count) text h =
     let e : length text ≡ length (replicate count 0) = h ∙ sym (length-replicate count 0) in

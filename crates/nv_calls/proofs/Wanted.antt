@@ -4,22 +4,22 @@ use Rattle.std.specs.List.{AllByRecursion, range_with_len}
 use Rattle.std.proofs.lemmas.List.{append-nil, length-append}
 use Rattle.std.proofs.lemmas.List.FromFn.{length-range_with_len}
 use Rattle.nv_base.specs.declared.numbers.Handle.{Handle}
-use Rattle.nv_entry.specs.declared.item.Run.{Run}
+use Rattle.nv_entry.specs.declared.item.BlockRun.{BlockRun}
 use Rattle.nv_entry.specs.declared.node.NodeCopy.{NodeCopy}
 use Rattle.nv_entry.specs.Sound.{blocks_of}
 use Rattle.nv_calls.specs.AllCalls.{IsReady, blocks_wanted, plan}
-use Rattle.nv_calls.specs.declared.taken.Taken.{Taken}
+use Rattle.nv_calls.specs.declared.allocation.Allocation.{Allocation}
 use Rattle.nv_calls.specs.declared.call.Call.{Call}
 use Rattle.nv_calls.specs.declared.call.Call.TheVariants as call
 use Rattle.nv_calls.specs.Plan.{plan_blocks}
 use Rattle.nv_calls.specs.Refusals.{found}
-use Rattle.nv_calls.specs.Slots.{Slot}
+use Rattle.nv_calls.specs.Slots.{InodeSlot}
 use Rattle.nv_calls.specs.calls.Rename.{own_place}
 use Rattle.nv_calls.specs.calls.Size.{IsCutPage}
 use Rattle.nv_calls.proofs.Keeps.{bound_none, cut_blocks-are, leave_none, write_blocks-are}
 
 -- runs of one block each
-single_runs : (bytes : ℕ → List ℕ) (block size : ℕ) (before : List ℕ) (runs : List Run)
+single_runs : (bytes : ℕ → List ℕ) (block size : ℕ) (before : List ℕ) (runs : List BlockRun)
     → AllByRecursion (IsCutPage bytes block size before) runs
     → length (blocks_of runs) ≡ length runs
 single_runs bytes block size before [] all = refl
@@ -28,7 +28,7 @@ single_runs bytes block size before (run ∷ runs) all =
     let long = length-append (range_with_len run.start run.len) (blocks_of runs) in
     omega (arith, rest, long, length-range_with_len run.start run.len, all.0.0)
 
-pub blocks_used : (bytes : ℕ → List ℕ) (block : ℕ) (slots : ℕ → Slot) (nodes : Handle → Option NodeCopy) (taken : Taken) (c : Call)
+pub blocks_used : (bytes : ℕ → List ℕ) (block : ℕ) (slots : ℕ → InodeSlot) (nodes : Handle → Option NodeCopy) (taken : Allocation) (c : Call)
     → IsReady bytes block slots nodes taken c → length (plan_blocks (plan block nodes taken c)) ≡ blocks_wanted block nodes taken.present c
 blocks_used bytes block slots nodes taken (call.Write file offset []) ready = refl
 blocks_used bytes block slots nodes taken (call.Write file offset (byte ∷ rest)) ready =

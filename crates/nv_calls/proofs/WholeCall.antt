@@ -11,11 +11,11 @@ use Rattle.nv_calls.specs.Plain.{PlainNode, nodes_after}
 use Rattle.nv_calls.specs.Plan.{planned}
 use Rattle.nv_calls.specs.Prepared.{HaveNoLessRoom, planned_by, plans_by}
 use Rattle.nv_calls.specs.PublishedSlots.{AreOfSlots, IsCommitted, IsOfNone, PublishAlike, handle_at, planned_in}
-use Rattle.nv_calls.specs.Ready.{CellPlanValue}
-use Rattle.nv_calls.specs.Slots.{IsPlan, Slot, node_under}
+use Rattle.nv_calls.specs.Ready.{CellCommitValue}
+use Rattle.nv_calls.specs.Slots.{IsPlan, InodeSlot, node_under}
 use Rattle.nv_calls.specs.WholeCall.{HaveSoundLogs, IsWholeCall, WholeCall, effect_of, filled_of}
-use Rattle.nv_calls.specs.declared.plan.Planned.{Planned}
-use Rattle.nv_calls.proofs.CellPlans.{all_at, all_by}
+use Rattle.nv_calls.specs.declared.plan.InodePlan.{InodePlan}
+use Rattle.nv_calls.proofs.CellCommits.{all_at, all_by}
 use Rattle.nv_calls.proofs.Effective.{has_effect}
 use Rattle.nv_calls.proofs.FilledFits.{fits_all, slots_as}
 use Rattle.nv_calls.proofs.Next.{cells_after}
@@ -77,14 +77,14 @@ module _ (bytes : ℕ → List ℕ) (call : WholeCall) (is : IsWholeCall bytes c
   abbrev block : ℕ
   block = block_in call.before
 
-  abbrev slots : ℕ → Slot
+  abbrev slots : ℕ → InodeSlot
   slots = slots_by call.now
 
   have : HaveBytes bytes block call.now
   have = bytes_stay bytes block call.before call.now is.room sound.blocks
 
   logs : (ino : ℕ) → IsSound bytes block (slots ino).log
-  logs = subst (λ (s : ℕ → Slot). (ino : ℕ) → IsSound bytes block (s ino).log) (sym (slots_as call.before call.now is.room)) sound.logs
+  logs = subst (λ (s : ℕ → InodeSlot). (ino : ℕ) → IsSound bytes block (s ino).log) (sym (slots_as call.before call.now is.room)) sound.logs
 
   own : AreOfSlots call.now slots
   own = of_own_slots call.now is.can_commit.cells_are
@@ -102,12 +102,12 @@ module _ (bytes : ℕ → List ℕ) (call : WholeCall) (is : IsWholeCall bytes c
 
   plans_are : planned_in call.before (plans_by call.before call.hand call.update) ≡ planned_in call.now call.ready.plans
   plans_are =
-      ap₂ (λ (at : ℕ → Handle) (plans : List CellPlanValue). map (λ (p : CellPlanValue). planned (at p.at) p.items) plans)
+      ap₂ (λ (at : ℕ → Handle) (plans : List CellCommitValue). map (λ (p : CellCommitValue). planned (at p.at) p.items) plans)
       (sym (handles_stay call.before call.now is.room)) (sym is.ready.plans)
 
   alike : PublishAlike (planned_in call.now call.ready.plans) (planned_by call.before call.hand call.update)
   alike =
-      subst (λ (plan : List Planned). PublishAlike plan (planned_by call.before call.hand call.update)) plans_are
+      subst (λ (plan : List InodePlan). PublishAlike plan (planned_by call.before call.hand call.update)) plans_are
       (publish_alike call.before call.hand call.update is.can_ready)
 
   -- cells that the commit does not have are none of those after it

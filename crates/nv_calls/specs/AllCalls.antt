@@ -10,13 +10,13 @@ use Rattle.nv_calls.specs.declared.answer.Answer.{Answer}
 use Rattle.nv_calls.specs.declared.answer.Answer.TheVariants as answers
 use Rattle.nv_calls.specs.declared.call.Call.{Call}
 use Rattle.nv_calls.specs.declared.call.Call.TheVariants as call
-use Rattle.nv_calls.specs.declared.looked.Looked.{Looked}
-use Rattle.nv_calls.specs.declared.plan.Planned.{Planned}
-use Rattle.nv_calls.specs.declared.taken.Taken.{Taken}
+use Rattle.nv_calls.specs.declared.looked.LookupResult.{LookupResult}
+use Rattle.nv_calls.specs.declared.plan.InodePlan.{InodePlan}
+use Rattle.nv_calls.specs.declared.allocation.Allocation.{Allocation}
 use Rattle.nv_calls.specs.Plain.{Change, PlainNode, node_in}
 use Rattle.nv_calls.specs.Plan.{AreMaximal}
 use Rattle.nv_calls.specs.Refusals.{Check, and_then, bytes_of, found, lookup, passes}
-use Rattle.nv_calls.specs.Slots.{IsFree, Slot}
+use Rattle.nv_calls.specs.Slots.{IsFree, InodeSlot}
 use Rattle.nv_calls.specs.calls.Create.{create_effect, create_plan, create_refusal}
 use Rattle.nv_calls.specs.calls.List.{list_answer, list_refusal}
 use Rattle.nv_calls.specs.calls.Lookup.{lookup_answer, lookup_refusal}
@@ -33,7 +33,7 @@ use Rattle.nv_calls.specs.calls.Write.{write_blocks, write_effect, write_plan, w
 -- ---- looks
 
 -- what the names of a call lead to, where it looks them up before it locks
-abbrev pub looked : (Handle → Option NodeCopy) → Call → Looked
+abbrev pub looked : (Handle → Option NodeCopy) → Call → LookupResult
 looked nodes (call.Unlink dir name) = record { first = found nodes dir name; second = None }
 looked nodes (call.Rmdir dir name) = record { first = found nodes dir name; second = None }
 looked nodes (call.Rename from old to new) = record { first = found nodes from old; second = found nodes to new }
@@ -56,7 +56,7 @@ early nodes (call.Rename from old to new) = rename_early nodes from old to new
 early nodes other = passes
 
 -- and those behind it, by what the names lead to
-abbrev pub late : ℕ → (Handle → Option NodeCopy) → Looked → Call → Check
+abbrev pub late : ℕ → (Handle → Option NodeCopy) → LookupResult → Call → Check
 late block nodes looked (call.Create dir name mode) = create_refusal nodes dir name
 late block nodes looked (call.Mkdir dir name mode) = mkdir_refusal nodes dir name
 late block nodes looked (call.Write file offset text) = write_refusal block nodes file offset text
@@ -129,7 +129,7 @@ blocks_wanted block nodes present (call.Size file size) = size_blocks block node
 blocks_wanted block nodes present other = 0
 
 -- the items that a call appends, inode by inode
-abbrev pub plan : ℕ → (Handle → Option NodeCopy) → Taken → Call → List Planned
+abbrev pub plan : ℕ → (Handle → Option NodeCopy) → Allocation → Call → List InodePlan
 plan block nodes taken (call.Create dir name mode) = create_plan dir name mode taken.made
 plan block nodes taken (call.Mkdir dir name mode) = mkdir_plan dir name mode taken.made
 plan block nodes taken (call.Write file offset text) = write_plan block nodes file offset text taken.runs
@@ -141,25 +141,25 @@ plan block nodes taken (call.Rename from old to new) = rename_plan from old to n
 plan block nodes taken other = []
 
 -- a call that commits nothing has no effect and no plan, and any other has both
-pub record IsToldNothing (block : ℕ) (nodes : Handle → Option NodeCopy) (taken : Taken) (c : Call) : Type 0 where
+pub record IsToldNothing (block : ℕ) (nodes : Handle → Option NodeCopy) (taken : Allocation) (c : Call) : Type 0 where
   pub no_effect : is_nothing c ≡ true → effect nodes taken.made c ≡ []
   pub no_plan : is_nothing c ≡ true → plan block nodes taken c ≡ []
   pub some_effect : is_nothing c ≡ false → 0 < length (effect nodes taken.made c)
   pub some_plan : is_nothing c ≡ false → 0 < length (plan block nodes taken c)
 
 -- maximal runs of blocks, which have the pages that a text touches after the write
-pub record HasPages (bytes : ℕ → List ℕ) (block : ℕ) (taken : Taken) (offset : ℕ) (text before : List ℕ) : Type 0 where
+pub record HasPages (bytes : ℕ → List ℕ) (block : ℕ) (taken : Allocation) (offset : ℕ) (text before : List ℕ) : Type 0 where
   pub maximal : AreMaximal taken.runs
   pub filled : 0 < length text → HaveText bytes block offset text before (blocks_of taken.runs)
 
 -- it is told whether the page that a size ends in is present, and where that page is cut, there is a block with it
-pub record HasCutPage (bytes : ℕ → List ℕ) (block : ℕ) (slots : ℕ → Slot) (taken : Taken) (file : Handle) (size : ℕ)
+pub record HasCutPage (bytes : ℕ → List ℕ) (block : ℕ) (slots : ℕ → InodeSlot) (taken : Allocation) (file : Handle) (size : ℕ)
     (before : List ℕ) : Type 0 where
   pub present : taken.present ≡ is_some (block_now block (slots file.ino).log (size / block))
   pub cut : HaveCut bytes block size taken.present before taken.runs
 
 -- what was taken is what the call needs, and the fresh blocks are filled
-abbrev pub IsReady : (ℕ → List ℕ) → ℕ → (ℕ → Slot) → (Handle → Option NodeCopy) → Taken → Call → Type 0
+abbrev pub IsReady : (ℕ → List ℕ) → ℕ → (ℕ → InodeSlot) → (Handle → Option NodeCopy) → Allocation → Call → Type 0
 IsReady bytes block slots nodes taken (call.Create dir name mode) = IsFree slots taken.made
 IsReady bytes block slots nodes taken (call.Mkdir dir name mode) = IsFree slots taken.made
 IsReady bytes block slots nodes taken (call.Write file offset text) = HasPages bytes block taken offset text (bytes_of (nodes file))

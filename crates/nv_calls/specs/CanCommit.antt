@@ -20,7 +20,7 @@ use Rattle.nv_calls.specs.declared.stamp.Stamp.{Stamp}
 use Rattle.nv_calls.specs.Cells.{AreCells, value_at, state_at}
 use Rattle.nv_calls.specs.Commit.{CommitValue, begun, stamp_of}
 use Rattle.nv_calls.specs.Committed.{entry_count, killed_count, page_count, place_of}
-use Rattle.nv_calls.specs.Ready.{ArePlaced, CellPlanValue, ReadyValue, need_of, plan_at}
+use Rattle.nv_calls.specs.Ready.{ArePlaced, CellCommitValue, ReadyValue, need_of, plan_at}
 use Rattle.nv_calls.specs.Retiring.{killed_by, part_in}
 use Rattle.nv_calls.specs.Steps.{IsLater, numbers_in}
 
@@ -33,8 +33,8 @@ pub record CanTakeItems (stamp : Stamp) (hand : Hand) (items : List Item) (cell 
   pub page_size : hand.pages.size ≡ cell.state.block
 
 -- the numbers of the blocks of all items' pages
-abbrev pub numbers_of_all : List CellPlanValue → List ℕ
-numbers_of_all plans = flat_map (λ (p : CellPlanValue). numbers_in p.items) plans
+abbrev pub numbers_of_all : List CellCommitValue → List ℕ
+numbers_of_all plans = flat_map (λ (p : CellCommitValue). numbers_in p.items) plans
 
 -- all items of a commit can be appended: each cell can take its own, and the hand has the pages that the logs need, and
 -- in front the blocks of the items' pages
@@ -57,7 +57,7 @@ pub record KillsAsTold (cell : CellState) : Type 0 where
   pub marked : AreKilled (map part_in (killed_by cell)) (published cell)
 
 -- what a plan notes as killed can be retired in its cell, with the blocks that this sets free going to a hand
-pub record CanBeRetired (hand : Hand) (plan : CellPlanValue) (cell : CellState) : Type 0 where
+pub record CanBeRetired (hand : Hand) (plan : CellCommitValue) (cell : CellState) : Type 0 where
   pub marked : AreKilled (map part_in plan.killed) cell
   pub size : hand.data.size ≡ cell.block
   pub published : cell.chain.tail ≡ length cell.chain.entries

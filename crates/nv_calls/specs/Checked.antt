@@ -5,7 +5,7 @@ use Rattle.nv_base.specs.declared.numbers.Handle.{Handle}
 use Rattle.nv_entry.specs.declared.node.NodeCopy.{NodeCopy}
 use Rattle.nv_calls.specs.declared.check_end.CheckEnd.{CheckEnd}
 use Rattle.nv_calls.specs.declared.check_end.CheckEnd.TheVariants as ends
-use Rattle.nv_calls.specs.declared.looked.Looked.{Looked}
+use Rattle.nv_calls.specs.declared.looked.LookupResult.{LookupResult}
 use Rattle.nv_calls.specs.declared.plan.Plan.{Plan}
 use Rattle.nv_calls.specs.declared.update.Update.{Update}
 use Rattle.nv_calls.specs.AllCalls.{early, is_nothing, late, looked, refusal}
@@ -23,7 +23,7 @@ same_found (Some handle) None = false
 same_found (Some handle) (Some other) = same_handle handle other
 
 -- the names are bound as the looks found them
-abbrev pub same_looked : Looked → Looked → Bool
+abbrev pub same_looked : LookupResult → LookupResult → Bool
 same_looked now before = same_found now.first before.first && same_found now.second before.second
 
 -- how a check ends a call, if it does: by the tests before the names are compared with what the looks found; by a name
@@ -37,7 +37,7 @@ check_ends (Ok passed) true (Ok all) true true = Some ends.Answers
 check_ends (Ok passed) true (Ok all) true false = None
 
 -- how the check over these nodes ends a call, where this is what its looks found
-abbrev pub ends_over : ℕ → (Handle → Option NodeCopy) → Looked → Bool → Update → Option CheckEnd
+abbrev pub ends_over : ℕ → (Handle → Option NodeCopy) → LookupResult → Bool → Update → Option CheckEnd
 ends_over block nodes before numbered u =
     check_ends (early nodes (blank_call u)) (same_looked (looked nodes (blank_call u)) before) (late block nodes before (blank_call u))
     (numbered || not (makes u)) (is_nothing (blank_call u))

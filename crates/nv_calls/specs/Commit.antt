@@ -10,7 +10,7 @@ use Rattle.nv_cell.specs.Cell.{CellState, CellValue}
 use Rattle.nv_cell.specs.declared.killed.KilledPart.{KilledPart}
 use Rattle.nv_calls.specs.declared.stamp.Stamp.{Stamp}
 use Rattle.nv_calls.specs.declared.update.Update.{Update}
-use Rattle.nv_calls.specs.Ready.{CellPlanValue, ReadyValue, old_tail, plan_at}
+use Rattle.nv_calls.specs.Ready.{CellCommitValue, ReadyValue, old_tail, plan_at}
 use Rattle.nv_calls.specs.Retiring.{hand_retired}
 use Rattle.nv_calls.specs.Steps.{hand_after}
 
@@ -20,7 +20,7 @@ use Rattle.nv_calls.specs.Steps.{hand_after}
 pub record CommitValue : Type 0 where
   pub update : Update
   pub made : Option Handle
-  pub plans : List CellPlanValue
+  pub plans : List CellCommitValue
   pub hand : Hand
   pub stamp : Stamp
   pub place : ℕ
@@ -51,13 +51,13 @@ begun stamp ready = record {
 }
 
 -- the plan whose turn it is to be appended, to be published, and to have its killed parts retired
-abbrev pub to_append : CommitValue → CellPlanValue
+abbrev pub to_append : CommitValue → CellCommitValue
 to_append commit = plan_at commit.plans commit.appended
 
-abbrev pub to_publish : CommitValue → CellPlanValue
+abbrev pub to_publish : CommitValue → CellCommitValue
 to_publish commit = plan_at commit.plans commit.published
 
-abbrev pub to_retire : CommitValue → CellPlanValue
+abbrev pub to_retire : CommitValue → CellCommitValue
 to_retire commit = plan_at commit.plans commit.retired
 
 -- once the items of a plan are appended to a log with that chain

@@ -9,43 +9,43 @@ use Rattle.nv_journal.specs.declared.old_tail.OldTail.{OldTail}
 use Rattle.nv_log.specs.Chain.{pages_for}
 use Rattle.nv_calls.specs.Cells.{ino_at, state_at, value_at}
 use Rattle.nv_calls.specs.Commit.{CommitValue, ReceiptValue, receipt_of}
-use Rattle.nv_calls.specs.Ready.{CellPlanValue, old_tails, plan_at}
+use Rattle.nv_calls.specs.Ready.{CellCommitValue, old_tails, plan_at}
 use Rattle.nv_calls.specs.Retiring.{erased, hand_retired, killed_by, retired, room_erased, with_records}
 use Rattle.nv_calls.specs.Steps.{numbers_in, with_plan, without_front}
 
 -- the place of the j-th plan's cell; and a place that no plan is for
-abbrev pub place_of : List CellPlanValue → ℕ → ℕ
+abbrev pub place_of : List CellCommitValue → ℕ → ℕ
 place_of plans j = (plan_at plans j).at
 
-abbrev pub IsUnplanned : List CellPlanValue → ℕ → Type 0
+abbrev pub IsUnplanned : List CellCommitValue → ℕ → Type 0
 IsUnplanned plans k = (j : ℕ) → j < length plans → place_of plans j ≡ k → ⊥
 
 -- the planned cells have new states, and nothing else of the cells changes
-pub record ChangesPlanned (plans : List CellPlanValue) (becomes : ℕ → CellState) (old new : List (ℕ × CellValue)) : Type 0 where
+pub record ChangesPlanned (plans : List CellCommitValue) (becomes : ℕ → CellState) (old new : List (ℕ × CellValue)) : Type 0 where
   pub count : length new ≡ length old
   pub numbers : (k : ℕ) → ino_at new k ≡ ino_at old k
   pub planned : (j : ℕ) → j < length plans → state_at new (place_of plans j) ≡ becomes j
   pub others : (k : ℕ) → IsUnplanned plans k → value_at new k ≡ value_at old k
 
 -- plans of the same cells
-pub record HaveSamePlaces (old new : List CellPlanValue) : Type 0 where
+pub record HaveSamePlaces (old new : List CellCommitValue) : Type 0 where
   pub count : length new ≡ length old
   pub places : (j : ℕ) → place_of new j ≡ place_of old j
 
 -- ---- appending
 
 -- how many entries a plan has, how many blocks for the pages of its items, and how many pages its log needs
-abbrev pub entry_count : CellPlanValue → ℕ
+abbrev pub entry_count : CellCommitValue → ℕ
 entry_count plan = length plan.items
 
-abbrev pub block_count : CellPlanValue → ℕ
+abbrev pub block_count : CellCommitValue → ℕ
 block_count plan = length (numbers_in plan.items)
 
-abbrev pub page_count : List (ℕ × CellValue) → CellPlanValue → ℕ
+abbrev pub page_count : List (ℕ × CellValue) → CellCommitValue → ℕ
 page_count cells plan = pages_for (state_at cells plan.at).chain (length plan.items)
 
 -- where the entries of the j-th plan begin among those of the commit, and what the plans before it leave in the hand
-abbrev pub place_before : List CellPlanValue → ℕ → ℕ
+abbrev pub place_before : List CellCommitValue → ℕ → ℕ
 place_before plans j = sum_by entry_count (take j plans)
 
 abbrev pub hand_before : List (ℕ × CellValue) → CommitValue → ℕ → Hand
@@ -63,11 +63,11 @@ grown cells commit j =
 -- ---- publishing
 
 -- what the journal notes: the old tails of all planned cells, where they are two or more
-abbrev pub journaled : List (ℕ × CellValue) → List CellPlanValue → List OldTail
+abbrev pub journaled : List (ℕ × CellValue) → List CellCommitValue → List OldTail
 journaled cells plans = if nat_lt 1 (length plans) then old_tails cells plans else []
 
 -- the planned cells have so much room to append
-abbrev pub HaveAppendRoom : List CellPlanValue → (ℕ → CellRoom) → List (ℕ × CellValue) → Type 0
+abbrev pub HaveAppendRoom : List CellCommitValue → (ℕ → CellRoom) → List (ℕ × CellValue) → Type 0
 HaveAppendRoom plans room cells = (j : ℕ) → j < length plans → KeepsAppendRoom (room j) (value_at cells (place_of plans j)).room
 
 -- ---- retiring
@@ -79,7 +79,7 @@ pub record Killing : Type 0 where
   pub cell : CellState
 
 -- how many parts a plan notes as killed, and what it notes
-abbrev pub killed_count : CellPlanValue → ℕ
+abbrev pub killed_count : CellCommitValue → ℕ
 killed_count plan = length plan.killed
 
 abbrev pub noted_killing : List (ℕ × CellValue) → CommitValue → ℕ → Killing

@@ -6,9 +6,9 @@ use Rattle.nv_entry.specs.declared.node.NodeCopy.{NodeCopy}
 use Rattle.nv_entry.specs.Sound.{blocks_of}
 use Rattle.nv_calls.specs.declared.call.Call.{Call}
 use Rattle.nv_calls.specs.declared.call.Call.TheVariants as call
-use Rattle.nv_calls.specs.declared.looked.Looked.{Looked}
-use Rattle.nv_calls.specs.declared.plan.Planned.{Planned}
-use Rattle.nv_calls.specs.declared.taken.Taken.{Taken}
+use Rattle.nv_calls.specs.declared.looked.LookupResult.{LookupResult}
+use Rattle.nv_calls.specs.declared.plan.InodePlan.{InodePlan}
+use Rattle.nv_calls.specs.declared.allocation.Allocation.{Allocation}
 use Rattle.nv_calls.specs.AllCalls.{answer, blocks_wanted, early, effect, looked, plan, refusal}
 use Rattle.nv_calls.specs.Plain.{PlainNode, node_in}
 use Rattle.nv_calls.specs.Plan.{plan_blocks}
@@ -24,7 +24,7 @@ made_by made (call.Mkdir dir name mode) = made ∷ []
 made_by made other = []
 
 -- the handles that a call reads: those that it names, and what its looks found
-abbrev pub handles : Looked → Call → List Handle
+abbrev pub handles : LookupResult → Call → List Handle
 handles looked (call.Create dir name mode) = dir ∷ []
 handles looked (call.Mkdir dir name mode) = dir ∷ []
 handles looked (call.Write file offset text) = file ∷ []
@@ -40,7 +40,7 @@ handles looked (call.Rmdir dir name) = dir ∷ if_any looked.first
 handles looked (call.Rename from old to new) = from ∷ to ∷ if_any looked.first ++ if_any looked.second
 
 -- the handles that a call locks
-abbrev pub locks : Looked → Handle → Call → List Handle
+abbrev pub locks : LookupResult → Handle → Call → List Handle
 locks looked made c = made_by made c ++ handles looked c
 
 -- the handle in which a call looks its first name up
@@ -55,7 +55,7 @@ abbrev pub Agree : {A : Type 0} → (Handle → A) → (Handle → A) → List H
 Agree nodes other list = AllByRecursion (λ (handle : Handle). other handle ≡ nodes handle) list
 
 -- a call is the same in both
-pub record SameCall (block : ℕ) (nodes other : Handle → Option PlainNode) (taken : Taken) (c : Call) : Type 0 where
+pub record SameCall (block : ℕ) (nodes other : Handle → Option PlainNode) (taken : Allocation) (c : Call) : Type 0 where
   pub found : looked (node_in other) c ≡ looked (node_in nodes) c
   pub early : early (node_in other) c ≡ early (node_in nodes) c
   pub refusal : refusal block (node_in other) c ≡ refusal block (node_in nodes) c
@@ -66,8 +66,8 @@ pub record SameCall (block : ℕ) (nodes other : Handle → Option PlainNode) (t
   pub wanted : blocks_wanted block (node_in other) taken.present c ≡ blocks_wanted block (node_in nodes) taken.present c
 
 -- a plan is of handles that the call locks, and uses the blocks taken alone; none where it is of several inodes
-pub record KeepsToIts (nodes : Handle → Option NodeCopy) (c : Call) (taken : Taken) (plan : List Planned) : Type 0 where
-  pub handles : AllByRecursion (λ (p : Planned). Contains (locks (looked nodes c) taken.made c) p.handle) plan
+pub record KeepsToIts (nodes : Handle → Option NodeCopy) (c : Call) (taken : Allocation) (plan : List InodePlan) : Type 0 where
+  pub handles : AllByRecursion (λ (p : InodePlan). Contains (locks (looked nodes c) taken.made c) p.handle) plan
   pub blocks : (plan_blocks plan ≡ blocks_of taken.runs) ⊎ (plan_blocks plan ≡ [])
   pub several : 1 < length plan → plan_blocks plan ≡ []
 
@@ -88,5 +88,5 @@ if_number None = []
 if_number (Some ino) = ino ∷ []
 
 -- the slots that a call locks, of so many: those of its handles, of what its looks found, and of the number in its hand
-abbrev pub slots_among : ℕ → Option ℕ → Looked → Call → List ℕ
+abbrev pub slots_among : ℕ → Option ℕ → LookupResult → Call → List ℕ
 slots_among inodes number looked c = slots_in inodes (if_number number ++ map (λ (h : Handle). h.ino) (handles looked c))

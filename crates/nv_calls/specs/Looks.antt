@@ -9,7 +9,7 @@ use Rattle.nv_calls.specs.Plain.{same_handle}
 use Rattle.nv_calls.specs.Refusals.{Check, passes}
 use Rattle.nv_calls.specs.declared.call.Call.{Call}
 use Rattle.nv_calls.specs.declared.call.Call.TheVariants as call
-use Rattle.nv_calls.specs.declared.looked.Looked.{Looked}
+use Rattle.nv_calls.specs.declared.looked.LookupResult.{LookupResult}
 
 -- the directories in which a call looks its names up, one look for each
 abbrev pub directories : Call → List Handle
@@ -22,11 +22,11 @@ directories other = []
 abbrev pub handle_at : List Handle → ℕ → Handle
 handle_at list place = slice_index_or list place root
 
-abbrev pub nothing_looked : Looked
+abbrev pub nothing_looked : LookupResult
 nothing_looked = record { first = None; second = None }
 
 -- one directory's look finds both names; of two, each its own
-abbrev pub seen_at : List Handle → ℕ → Looked → Looked → Looked
+abbrev pub seen_at : List Handle → ℕ → LookupResult → LookupResult → LookupResult
 seen_at (dir ∷ other ∷ rest) zero now before = record { first = now.first; second = None }
 seen_at (dir ∷ other ∷ rest) (suc place) now before = record { first = before.first; second = now.second }
 seen_at directories place now before = now
@@ -42,6 +42,6 @@ in_slot ino None = []
 in_slot ino (Some cell) = alone ino cell
 
 -- the outcome of a look for a first name, beside what was found of the second
-abbrev pub IsFirstLook : Check → Option Handle → Option Handle → Result Looked Fault → Type 0
+abbrev pub IsFirstLook : Check → Option Handle → Option Handle → Result LookupResult Fault → Type 0
 IsFirstLook tests first second (Ok found) = (tests ≡ passes) × (found ≡ record { first = first; second = second })
 IsFirstLook tests first second (Err fault) = tests ≡ Err fault

@@ -12,7 +12,7 @@ use Rattle.nv_calls.specs.AllCalls.{answer, refusal}
 use Rattle.nv_calls.specs.Cells.{state_at}
 use Rattle.nv_calls.specs.Plain.{PlainNode, node_in}
 use Rattle.nv_calls.specs.Refusals.{Check, passes}
-use Rattle.nv_calls.specs.Slots.{Slot}
+use Rattle.nv_calls.specs.Slots.{InodeSlot}
 use Rattle.nv_calls.specs.Views.{node_of, slot_of}
 
 -- the bytes of a block, which are the same for all cells of a call
@@ -79,11 +79,11 @@ IsOwnView ino cell c view = IsViewOver (plain_nodes (alone ino cell)) cell.state
 -- ---- the cells as slots
 
 -- a slot that no cell has is empty, of no generation
-abbrev pub slot_by : Option CellValue → Slot
+abbrev pub slot_by : Option CellValue → InodeSlot
 slot_by None = record { generation = 0; log = [] }
 slot_by (Some c) = slot_of c.state
 
-abbrev pub slots_by : List (ℕ × CellValue) → ℕ → Slot
+abbrev pub slots_by : List (ℕ × CellValue) → ℕ → InodeSlot
 slots_by cells ino = slot_by (cell_of cells ino)
 
 -- a cell has blocks of that size, with these bytes

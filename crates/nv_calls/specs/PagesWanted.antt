@@ -4,13 +4,13 @@ use Rattle.std.specs.List.{sum_by}
 use Rattle.nv_log.specs.Chain.{pages_for}
 use Rattle.nv_cell.specs.Cell.{CellValue}
 use Rattle.nv_calls.specs.Slots.{items_for}
-use Rattle.nv_calls.specs.declared.plan.Planned.{Planned}
+use Rattle.nv_calls.specs.declared.plan.InodePlan.{InodePlan}
 
 -- how many pages the items that a plan has for a cell need, beyond those that its log has
-abbrev pub pages_needed : List Planned → ℕ × CellValue → ℕ
+abbrev pub pages_needed : List InodePlan → ℕ × CellValue → ℕ
 pages_needed plan c = pages_for c.1.state.chain (length (items_for plan c.0))
 
-abbrev pub pages_wanted : List (ℕ × CellValue) → List Planned → ℕ
+abbrev pub pages_wanted : List (ℕ × CellValue) → List InodePlan → ℕ
 pages_wanted cells plan = sum_by (pages_needed plan) cells
 
 -- ---- runs

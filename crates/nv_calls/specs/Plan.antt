@@ -5,23 +5,23 @@ use Rattle.std.proofs.lemmas.Bool.{ltb-true}
 use Rattle.std.specs.List.{AllByRecursion, flat_map}
 use Rattle.nv_base.specs.declared.numbers.Handle.{Handle}
 use Rattle.nv_entry.specs.declared.item.Item.{Item}
-use Rattle.nv_entry.specs.declared.item.Run.{Run}
+use Rattle.nv_entry.specs.declared.item.BlockRun.{BlockRun}
 use Rattle.nv_entry.specs.declared.node.NodeCopy.{NodeCopy}
 use Rattle.nv_entry.specs.Blocks.{item_blocks}
 use Rattle.nv_entry.specs.Sound.{MakesAll}
 use Rattle.nv_calls.specs.Plain.{Change}
-use Rattle.nv_calls.specs.declared.plan.Planned.{Planned}
+use Rattle.nv_calls.specs.declared.plan.InodePlan.{InodePlan}
 
-abbrev pub planned : Handle → List Item → Planned
+abbrev pub planned : Handle → List Item → InodePlan
 planned handle items = record { handle = handle; items = items }
 
 -- the items of one inode make of its node what a change makes of it
-pub record Fits (bytes : ℕ → List ℕ) (block : ℕ) (nodes : Handle → Option NodeCopy) (p : Planned) (c : Change) : Type 0 where
+pub record Fits (bytes : ℕ → List ℕ) (block : ℕ) (nodes : Handle → Option NodeCopy) (p : InodePlan) (c : Change) : Type 0 where
   pub same : p.handle ≡ c.handle
   pub makes : MakesAll bytes block p.items (nodes p.handle) (c.becomes (nodes p.handle))
 
 -- a plan does what an effect says, inode by inode
-abbrev pub AllFit : (ℕ → List ℕ) → ℕ → (Handle → Option NodeCopy) → List Planned → List Change → Type 0
+abbrev pub AllFit : (ℕ → List ℕ) → ℕ → (Handle → Option NodeCopy) → List InodePlan → List Change → Type 0
 AllFit bytes block nodes [] [] = Unit {0}
 AllFit bytes block nodes (p ∷ plan) (c ∷ effect) = Fits bytes block nodes p c × AllFit bytes block nodes plan effect
 AllFit bytes block nodes [] (c ∷ effect) = ⊥
@@ -30,20 +30,20 @@ AllFit bytes block nodes (p ∷ plan) [] = ⊥
 -- ---- inodes
 
 -- no two of them are of one inode
-abbrev pub AreApart : List Planned → Type 0
+abbrev pub AreApart : List InodePlan → Type 0
 AreApart [] = Unit {0}
-AreApart (p ∷ plan) = AllByRecursion (λ (other : Planned). other.handle.ino ≢ p.handle.ino) plan × AreApart plan
+AreApart (p ∷ plan) = AllByRecursion (λ (other : InodePlan). other.handle.ino ≢ p.handle.ino) plan × AreApart plan
 
 -- a plan is of different inodes, of no more than three
-pub record AreFewApart (plan : List Planned) : Type 0 where
+pub record AreFewApart (plan : List InodePlan) : Type 0 where
   pub apart : AreApart plan
   pub few : length plan ≤ 3
 
 -- ---- blocks
 
 -- the data blocks that planned items put pages in, in order
-abbrev pub plan_blocks : List Planned → List ℕ
-plan_blocks plan = flat_map (λ (p : Planned). flat_map item_blocks p.items) plan
+abbrev pub plan_blocks : List InodePlan → List ℕ
+plan_blocks plan = flat_map (λ (p : InodePlan). flat_map item_blocks p.items) plan
 
 -- consecutive numbers, each stretch by its first and how many they are
 abbrev pub with_number : ℕ → List (ℕ × ℕ) → List (ℕ × ℕ)
@@ -55,16 +55,16 @@ stretches [] = []
 stretches (n ∷ numbers) = with_number n (stretches numbers)
 
 -- a run of blocks, whose numbers are below 2 ^ 64
-abbrev pub run_if : (start len : ℕ) (fits : Bool) → nat_lt (start + len) (2 ^ 64) ≡ fits → List Run
+abbrev pub run_if : (start len : ℕ) (fits : Bool) → nat_lt (start + len) (2 ^ 64) ≡ fits → List BlockRun
 run_if start len true is = record { start = start; len = len; in_range = ltb-true (start + len) (2 ^ 64) is } ∷ []
 run_if start len false is = []
 
 -- blocks in the order in which they were taken, as maximal runs
-abbrev pub runs_of : List ℕ → List Run
+abbrev pub runs_of : List ℕ → List BlockRun
 runs_of numbers = flat_map (λ (run : ℕ × ℕ). run_if run.0 run.1 (nat_lt (run.0 + run.1) (2 ^ 64)) refl) (stretches numbers)
 
 -- each run has a block, and none goes on where the one before it ends
-abbrev pub AreMaximal : List Run → Type 0
+abbrev pub AreMaximal : List BlockRun → Type 0
 AreMaximal [] = Unit {0}
 AreMaximal (run ∷ []) = 0 < run.len
 AreMaximal (run ∷ next ∷ runs) = (0 < run.len) × (run.start + run.len ≡ next.start → ⊥) × AreMaximal (next ∷ runs)

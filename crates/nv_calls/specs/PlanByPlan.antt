@@ -11,13 +11,13 @@ use Rattle.nv_calls.specs.CanCommit.{KillsAsTold}
 use Rattle.nv_calls.specs.Cells.{ino_at, state_at, value_at}
 use Rattle.nv_calls.specs.Commit.{CommitValue}
 use Rattle.nv_calls.specs.Committed.{HaveSamePlaces, IsUnplanned, grown, hand_after_killings, hand_before, killed_count, manifests_after, noted_killing, place_before, place_of, settled_cell, settled_room}
-use Rattle.nv_calls.specs.Ready.{CellPlanValue, plan_at}
+use Rattle.nv_calls.specs.Ready.{CellCommitValue, plan_at}
 use Rattle.nv_calls.specs.Retiring.{killed_by}
 
 -- ---- cells and plans
 
 -- the first planned cells have new states, and the others wait
-pub record IsChangedTo (j : ℕ) (plans : List CellPlanValue) (becomes : ℕ → CellState) (old now : List (ℕ × CellValue)) : Type 0 where
+pub record IsChangedTo (j : ℕ) (plans : List CellCommitValue) (becomes : ℕ → CellState) (old now : List (ℕ × CellValue)) : Type 0 where
   pub count : length now ≡ length old
   pub numbers : (k : ℕ) → ino_at now k ≡ ino_at old k
   pub done : (i : ℕ) → i < j → state_at now (place_of plans i) ≡ becomes i
@@ -25,14 +25,14 @@ pub record IsChangedTo (j : ℕ) (plans : List CellPlanValue) (becomes : ℕ →
   pub others : (k : ℕ) → IsUnplanned plans k → value_at now k ≡ value_at old k
 
 -- plans whose turn is over change, and stay plans of their cells
-pub record ArePlansFrom (j : ℕ) (old now : List CellPlanValue) : Type 0 where
+pub record ArePlansFrom (j : ℕ) (old now : List CellCommitValue) : Type 0 where
   pub same : HaveSamePlaces old now
   pub rest : (i : ℕ) → j ≤ i → plan_at now i ≡ plan_at old i
 
 -- ---- appending
 
 -- the commit once the items of the first plans are appended
-abbrev pub so_far : List (ℕ × CellValue) → CommitValue → ℕ → List CellPlanValue → CommitValue
+abbrev pub so_far : List (ℕ × CellValue) → CommitValue → ℕ → List CellCommitValue → CommitValue
 so_far cells start j plans = record start {
   plans = plans;
   hand = hand_before cells start j;

@@ -16,13 +16,13 @@ use Rattle.nv_calls.specs.Committed.{page_count}
 use Rattle.nv_calls.specs.Nodes.{block_in, cell_of, has_page_in, nodes_in, slots_by}
 use Rattle.nv_calls.specs.PagesWanted.{pages_wanted}
 use Rattle.nv_calls.specs.Plan.{AreMaximal, runs_of}
-use Rattle.nv_calls.specs.Ready.{CellPlanValue, ReadyValue, need_of}
+use Rattle.nv_calls.specs.Ready.{CellCommitValue, ReadyValue, need_of}
 use Rattle.nv_calls.specs.Refusals.{passes}
 use Rattle.nv_calls.specs.Slots.{items_for}
 use Rattle.nv_calls.specs.Steps.{HaveBlocks}
 use Rattle.nv_calls.specs.Updates.{blank_call}
-use Rattle.nv_calls.specs.declared.plan.Planned.{Planned}
-use Rattle.nv_calls.specs.declared.taken.Taken.{Taken}
+use Rattle.nv_calls.specs.declared.plan.InodePlan.{InodePlan}
+use Rattle.nv_calls.specs.declared.allocation.Allocation.{Allocation}
 use Rattle.nv_calls.specs.declared.update.Update.{Update}
 use Rattle.nv_calls.specs.declared.update.Update.TheVariants as update
 
@@ -45,7 +45,7 @@ made_by cells number u = if makes u then option_map (handle_in cells) number els
 abbrev pub no_handle : Handle
 no_handle = record { ino = 0; generation = 0 }
 
-abbrev pub taken_by : List (ℕ × CellValue) → Hand → Update → Taken
+abbrev pub taken_by : List (ℕ × CellValue) → Hand → Update → Allocation
 taken_by cells hand u = record {
   made = unwrap_or (made_by cells hand.ino u) no_handle;
   runs = runs_of (numbers_of hand.data.blocks);
@@ -53,21 +53,21 @@ taken_by cells hand u = record {
 }
 
 -- the items of a call, inode by inode
-abbrev pub planned_by : List (ℕ × CellValue) → Hand → Update → List Planned
+abbrev pub planned_by : List (ℕ × CellValue) → Hand → Update → List InodePlan
 planned_by cells hand u = plan (block_in cells) (nodes_in cells) (taken_by cells hand u) (blank_call u)
 
 -- ---- cell by cell
 
-abbrev pub if_items : ℕ → List Item → List CellPlanValue → List CellPlanValue
+abbrev pub if_items : ℕ → List Item → List CellCommitValue → List CellCommitValue
 if_items at [] plans = plans
 if_items at (item ∷ items) plans = record { at = at; items = item ∷ items; killed = [] } ∷ plans
 
 -- for each cell whose inode gets entries, these, where the first cell has a place
-abbrev pub cell_plans : List Planned → ℕ → List (ℕ × CellValue) → List CellPlanValue
+abbrev pub cell_plans : List InodePlan → ℕ → List (ℕ × CellValue) → List CellCommitValue
 cell_plans plan at [] = []
 cell_plans plan at (c ∷ cells) = if_items at (items_for plan c.0) (cell_plans plan (at + 1) cells)
 
-abbrev pub plans_by : List (ℕ × CellValue) → Hand → Update → List CellPlanValue
+abbrev pub plans_by : List (ℕ × CellValue) → Hand → Update → List CellCommitValue
 plans_by cells hand u = cell_plans (planned_by cells hand u) 0 cells
 
 -- ---- room
@@ -92,7 +92,7 @@ pub record HoldsTheSame (old new : Hand) : Type 0 where
   pub room : old.data.room ≤ new.data.room
 
 -- the planned cells are ready for their items
-abbrev pub AreReady : List (ℕ × CellValue) → List CellPlanValue → Type 0
+abbrev pub AreReady : List (ℕ × CellValue) → List CellCommitValue → Type 0
 AreReady cells plans = AllByRecursion (λ p. IsReadyToAppend p.items (value_at cells p.at)) plans
 
 -- ---- a call that is ready

@@ -4,11 +4,11 @@ use Rattle.nv_cell.specs.Cell.{CellValue, published}
 use Rattle.nv_calls.specs.CanCommit.{KillsAsTold}
 use Rattle.nv_calls.specs.Cells.{state_at, value_at}
 use Rattle.nv_calls.specs.Committed.{ChangesPlanned, HaveAppendRoom, HaveSamePlaces, place_of}
-use Rattle.nv_calls.specs.Ready.{CellPlanValue, plan_at}
+use Rattle.nv_calls.specs.Ready.{CellCommitValue, plan_at}
 use Rattle.nv_calls.specs.Retiring.{killed_by}
 
 -- the entries of all plans are published, and the plans then note what that killed
-pub record PublishesAll (plans noted : List CellPlanValue) (old new : List (ℕ × CellValue)) : Type 0 where
+pub record PublishesAll (plans noted : List CellCommitValue) (old new : List (ℕ × CellValue)) : Type 0 where
   pub cells : ChangesPlanned plans (λ j. published (state_at old (place_of plans j))) old new
   pub room : HaveAppendRoom plans (λ j. (value_at old (place_of plans j)).room) new
   pub killed : (j : ℕ) → j < length plans → (plan_at noted j).killed ≡ killed_by (state_at old (place_of plans j))

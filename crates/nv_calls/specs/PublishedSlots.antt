@@ -3,19 +3,19 @@ use Rattle.std.specs.Prelude.{◌≡◌, ℕ, ◌<◌, false, List, length, map}
 use Rattle.nv_base.specs.declared.numbers.Handle.{Handle}
 use Rattle.nv_cell.specs.Cell.{CellValue, published}
 use Rattle.nv_book.specs.Book.{BookValue}
-use Rattle.nv_calls.specs.declared.plan.Planned.{Planned}
+use Rattle.nv_calls.specs.declared.plan.InodePlan.{InodePlan}
 use Rattle.nv_calls.specs.CanCommit.{CanCommit}
 use Rattle.nv_calls.specs.Cells.{ino_at, state_at}
 use Rattle.nv_calls.specs.Commit.{CommitValue, begun, stamp_of}
 use Rattle.nv_calls.specs.Committed.{ChangesPlanned, IsUnplanned, committed, grown, killing, place_of}
 use Rattle.nv_calls.specs.Plan.{planned}
-use Rattle.nv_calls.specs.Ready.{CellPlanValue, ReadyValue}
+use Rattle.nv_calls.specs.Ready.{CellCommitValue, ReadyValue}
 use Rattle.nv_calls.specs.Retiring.{is_erased, retired}
-use Rattle.nv_calls.specs.Slots.{Slot, items_for, place_in, published as published_slots}
+use Rattle.nv_calls.specs.Slots.{InodeSlot, items_for, place_in, published as published_slots}
 use Rattle.nv_calls.specs.Views.{slot_of}
 
 -- the cells are those of these slots
-abbrev pub AreOfSlots : List (ℕ × CellValue) → (ℕ → Slot) → Type 0
+abbrev pub AreOfSlots : List (ℕ × CellValue) → (ℕ → InodeSlot) → Type 0
 AreOfSlots cells slots = (k : ℕ) → k < length cells → slots (ino_at cells k) ≡ slot_of (state_at cells k)
 
 -- no cell has that number
@@ -26,21 +26,21 @@ IsOfNone cells ino = (k : ℕ) → k < length cells → ino_at cells k ≡ ino �
 abbrev pub handle_at : List (ℕ × CellValue) → ℕ → Handle
 handle_at cells k = record { ino = ino_at cells k; generation = (state_at cells k).generation }
 
-abbrev pub planned_in : List (ℕ × CellValue) → List CellPlanValue → List Planned
-planned_in cells plans = map (λ (p : CellPlanValue). planned (handle_at cells p.at) p.items) plans
+abbrev pub planned_in : List (ℕ × CellValue) → List CellCommitValue → List InodePlan
+planned_in cells plans = map (λ (p : CellCommitValue). planned (handle_at cells p.at) p.items) plans
 
 -- two plans that publish alike: the same items for each inode, at the same place of the commit
-pub record PublishAlike (one other : List Planned) : Type 0 where
+pub record PublishAlike (one other : List InodePlan) : Type 0 where
   pub items : (ino : ℕ) → items_for one ino ≡ items_for other ino
   pub places : (ino : ℕ) → place_in one ino ≡ place_in other ino
 
 -- the slots once the commit is published
-abbrev pub slots_after : List (ℕ × CellValue) → CommitValue → (ℕ → Slot) → ℕ → Slot
+abbrev pub slots_after : List (ℕ × CellValue) → CommitValue → (ℕ → InodeSlot) → ℕ → InodeSlot
 slots_after cells commit slots = published_slots commit.stamp.commit commit.stamp.epoch (planned_in cells commit.plans) slots
 
 -- a commit publishes the items of its plans: the cells are then those of the slots that the commit makes, up to the
 -- erasing of an inode of which nothing is kept
-pub record PublishesPlans (cells : List (ℕ × CellValue)) (commit : CommitValue) (slots : ℕ → Slot) : Type 0 where
+pub record PublishesPlans (cells : List (ℕ × CellValue)) (commit : CommitValue) (slots : ℕ → InodeSlot) : Type 0 where
   pub planned : (j : ℕ) → j < length commit.plans
       → slot_of (published (grown cells commit j).state) ≡ slots_after cells commit slots (ino_at cells (place_of commit.plans j))
   pub others : (k : ℕ) → k < length cells → IsUnplanned commit.plans k
@@ -52,7 +52,7 @@ pub record PublishesPlans (cells : List (ℕ × CellValue)) (commit : CommitValu
 
 -- a commit of what was ready took the cells of some slots to those of others, and touched no other slot
 pub record IsCommitted (living : List ℕ) (cells : List (ℕ × CellValue)) (book : BookValue) (cpu : ℕ) (ready : ReadyValue)
-    (slots : ℕ → Slot) (now : List (ℕ × CellValue)) (later : ℕ → Slot) : Type 0 where
+    (slots : ℕ → InodeSlot) (now : List (ℕ × CellValue)) (later : ℕ → InodeSlot) : Type 0 where
   pub can : CanCommit cells book cpu ready
   pub before : AreOfSlots cells slots
   pub changes : ChangesPlanned ready.plans (committed living cells (begun (stamp_of book.state) ready)) cells now

@@ -12,7 +12,7 @@ use Rattle.nv_calls.specs.declared.update.Update.{Update}
 use Rattle.nv_calls.specs.Cells.{ino_at, state_at}
 
 -- for one of the call's cells, by its place: the items to append to its log, and the parts that their publish killed
-pub record CellPlanValue : Type 0 where
+pub record CellCommitValue : Type 0 where
   pub at : ℕ
   pub items : List Item
   pub killed : List KilledPart
@@ -22,36 +22,36 @@ pub record CellPlanValue : Type 0 where
 pub record ReadyValue : Type 0 where
   pub update : Update
   pub made : Option Handle
-  pub plans : List CellPlanValue
+  pub plans : List CellCommitValue
   pub hand : Hand
   pub need : ℕ
 
-abbrev pub no_plan : CellPlanValue
+abbrev pub no_plan : CellCommitValue
 no_plan = record { at = 0; items = []; killed = [] }
 
-abbrev pub plan_at : List CellPlanValue → ℕ → CellPlanValue
+abbrev pub plan_at : List CellCommitValue → ℕ → CellCommitValue
 plan_at plans j = slice_index_or plans j no_plan
 
 -- the plans are of cells of the call, by rising place
-pub record ArePlaced (cells : List (ℕ × CellValue)) (plans : List CellPlanValue) : Type 0 where
+pub record ArePlaced (cells : List (ℕ × CellValue)) (plans : List CellCommitValue) : Type 0 where
   pub within : (j : ℕ) → j < length plans → (plan_at plans j).at < length cells
   pub rising : AllPairs (λ a b. a.at < b.at) plans
 
 -- ---- what the journal notes
 
 -- the inode of a plan, with the tail of its log
-abbrev pub old_tail : List (ℕ × CellValue) → CellPlanValue → OldTail
+abbrev pub old_tail : List (ℕ × CellValue) → CellCommitValue → OldTail
 old_tail cells plan = record { ino = ino_at cells plan.at; tail = (state_at cells plan.at).chain.tail }
 
-abbrev pub old_tails : List (ℕ × CellValue) → List CellPlanValue → List OldTail
+abbrev pub old_tails : List (ℕ × CellValue) → List CellCommitValue → List OldTail
 old_tails cells plans = map (old_tail cells) plans
 
 -- ---- what the commit may kill
 
 -- how many parts the entries of a plan kill at most
-abbrev pub kills_of : List (ℕ × CellValue) → CellPlanValue → ℕ
+abbrev pub kills_of : List (ℕ × CellValue) → CellCommitValue → ℕ
 kills_of cells plan = weights_in (state_at cells plan.at).block (log_of (state_at cells plan.at)) plan.items
 
 -- for how many records a commit needs room in the book
-abbrev pub need_of : List (ℕ × CellValue) → List CellPlanValue → ℕ
+abbrev pub need_of : List (ℕ × CellValue) → List CellCommitValue → ℕ
 need_of cells plans = sum_by (kills_of cells) plans

@@ -1,10 +1,10 @@
 -- The list of slots that a call locks, as it is made.
 use Rattle.std.specs.Prelude.{ℕ, if◌then◌else◌, nat_lt, List, [], ◌∷◌, Option, Some, None, take}
 use Rattle.nv_calls.specs.Locked.{with_slot}
-use Rattle.nv_calls.specs.declared.slots.Slots.{Slots}
+use Rattle.nv_calls.specs.declared.slots.LockedSlots.{LockedSlots}
 
 -- its numbers
-abbrev pub slots_in : Slots → List ℕ
+abbrev pub slots_in : LockedSlots → List ℕ
 slots_in slots = take slots.count slots.inos
 
 -- a slot more, where there is such a slot

@@ -8,11 +8,11 @@ use Rattle.nv_entry.specs.Log.{IsLog, up_to}
 use Rattle.nv_entry.specs.Node.{node_now}
 use Rattle.nv_entry.specs.Sound.{IsSound}
 use Rattle.nv_calls.specs.Plain.{Change, PlainNode, node_in, nodes_after, stamped}
-use Rattle.nv_calls.specs.declared.plan.Planned.{Planned}
+use Rattle.nv_calls.specs.declared.plan.InodePlan.{InodePlan}
 use Rattle.nv_calls.specs.Plan.{AllFit}
 
 -- a slot: its generation, and the log of its inode, empty where it has none
-pub record Slot : Type 0 where
+pub record InodeSlot : Type 0 where
   pub generation : ℕ
   pub log : List Entry
 
@@ -23,14 +23,14 @@ last_commit (e ∷ []) = e.id.commit
 last_commit (e ∷ f ∷ later) = last_commit (f ∷ later)
 
 -- the plain node under a handle: that of its slot, where the generation is the slot's
-abbrev pub node_under : (ℕ → List ℕ) → ℕ → (ℕ → Slot) → Handle → Option PlainNode
+abbrev pub node_under : (ℕ → List ℕ) → ℕ → (ℕ → InodeSlot) → Handle → Option PlainNode
 node_under bytes block slots handle =
     if handle.generation == (slots handle.ino).generation
     then stamped (last_commit (slots handle.ino).log) (node_now bytes block (slots handle.ino).log)
     else None
 
 -- a slot without an inode, and the handle that its next one has
-pub record IsFree (slots : ℕ → Slot) (made : Handle) : Type 0 where
+pub record IsFree (slots : ℕ → InodeSlot) (made : Handle) : Type 0 where
   pub empty : (slots made.ino).log ≡ []
   pub own : made.generation ≡ (slots made.ino).generation
 
@@ -43,33 +43,33 @@ entries_of commit epoch place (item ∷ items) =
     record { id = record { commit = commit; place = place }; epoch = epoch; item = item } ∷ entries_of commit epoch (place + 1) items
 
 -- the items that a plan has for a slot
-abbrev pub items_for : List Planned → ℕ → List Item
+abbrev pub items_for : List InodePlan → ℕ → List Item
 items_for [] ino = []
 items_for (p ∷ plan) ino = if p.handle.ino == ino then p.items else items_for plan ino
 
 -- where the entries of a slot begin in a commit, whose entries go by rising inode number: behind those of lower numbers
-abbrev pub place_in : List Planned → ℕ → ℕ
-place_in plan ino = sum_by (λ (p : Planned). if nat_lt p.handle.ino ino then length p.items else 0) plan
+abbrev pub place_in : List InodePlan → ℕ → ℕ
+place_in plan ino = sum_by (λ (p : InodePlan). if nat_lt p.handle.ino ino then length p.items else 0) plan
 
 -- the places of a plan's entries, slot by slot, are the numbers from 0 on
-pub record ArePlaced (plan : List Planned) : Type 0 where
+pub record ArePlaced (plan : List InodePlan) : Type 0 where
   pub first : place_in plan 0 ≡ 0
   pub next : (ino : ℕ) → place_in plan (ino + 1) ≡ place_in plan ino + length (items_for plan ino)
 
 -- the slots after a commit
-abbrev pub published : ℕ → ℕ → List Planned → (ℕ → Slot) → ℕ → Slot
+abbrev pub published : ℕ → ℕ → List InodePlan → (ℕ → InodeSlot) → ℕ → InodeSlot
 published commit epoch plan slots ino = record {
   generation = (slots ino).generation;
   log = (slots ino).log ++ entries_of commit epoch (place_in plan ino) (items_for plan ino);
 }
 
 -- there are items, and the handle is that of its slot
-pub record IsPlanned (slots : ℕ → Slot) (p : Planned) : Type 0 where
+pub record IsPlanned (slots : ℕ → InodeSlot) (p : InodePlan) : Type 0 where
   pub some : 0 < length p.items
   pub own : p.handle.generation ≡ (slots p.handle.ino).generation
 
 -- what a commit needs of a plan that is to have an effect
-pub record IsPlan (bytes : ℕ → List ℕ) (block : ℕ) (slots : ℕ → Slot) (plan : List Planned) (effect : List Change) : Type 0 where
+pub record IsPlan (bytes : ℕ → List ℕ) (block : ℕ) (slots : ℕ → InodeSlot) (plan : List InodePlan) (effect : List Change) : Type 0 where
   pub all : AllByRecursion (IsPlanned slots) plan
   pub fit : AllFit bytes block (node_in (node_under bytes block slots)) plan effect
 
@@ -79,7 +79,7 @@ pub record IsBefore (commit epoch : ℕ) (log : List Entry) : Type 0 where
   pub earlier : AllByRecursion (λ (e : Entry). (e.id.commit < commit) × (e.epoch ≤ epoch)) log
 
 -- a commit does to the nodes what its effect says, leaves each log sound, and changes none at an earlier epoch
-pub record Commits (bytes : ℕ → List ℕ) (block commit epoch : ℕ) (slots : ℕ → Slot) (plan : List Planned) (effect : List Change)
+pub record Commits (bytes : ℕ → List ℕ) (block commit epoch : ℕ) (slots : ℕ → InodeSlot) (plan : List InodePlan) (effect : List Change)
     : Type 0 where
   pub nodes : (handle : Handle) → node_under bytes block (published commit epoch plan slots) handle
       ≡ nodes_after commit effect (node_under bytes block slots) handle

@@ -5,7 +5,7 @@ use Rattle.nv_entry.specs.declared.node.NodeCopy.{NodeCopy}
 use Rattle.nv_calls.specs.declared.call.Call.{Call}
 use Rattle.nv_calls.specs.declared.call.Call.TheVariants as call
 use Rattle.nv_calls.specs.declared.plan.Plan.{Plan}
-use Rattle.nv_calls.specs.declared.taken.Taken.{Taken}
+use Rattle.nv_calls.specs.declared.allocation.Allocation.{Allocation}
 use Rattle.nv_calls.specs.declared.update.Update.{Update}
 use Rattle.nv_calls.specs.declared.update.Update.TheVariants as update
 use Rattle.nv_calls.specs.AllCalls.{blocks_wanted, ends_in_page, is_nothing, look_refusal, looked, plan, refusal}
@@ -39,7 +39,7 @@ pub record IsPlanOf (block : ℕ) (nodes : Handle → Option NodeCopy) (has_page
   pub blocks : p.blocks ≡ blocks_wanted block nodes (ends_in_page has_page block (blank_call u)) (blank_call u)
 
 -- two calls that look up the same, are refused alike, and plan alike
-pub record SamePlan (block : ℕ) (nodes : Handle → Option NodeCopy) (has_page : Handle → ℕ → Bool) (taken : Taken) (one other : Call)
+pub record SamePlan (block : ℕ) (nodes : Handle → Option NodeCopy) (has_page : Handle → ℕ → Bool) (taken : Allocation) (one other : Call)
     : Type 0 where
   pub found : looked nodes other ≡ looked nodes one
   pub look_refusal : look_refusal nodes other ≡ look_refusal nodes one

@@ -10,9 +10,9 @@ use Rattle.nv_calls.specs.declared.call.Call.{Call}
 use Rattle.nv_calls.specs.declared.call.Call.TheVariants as call
 use Rattle.nv_calls.specs.Plain.{PlainNode, node_in}
 use Rattle.nv_calls.specs.Refusals.{Check, passes}
-use Rattle.nv_calls.specs.Slots.{Slot, node_under}
+use Rattle.nv_calls.specs.Slots.{InodeSlot, node_under}
 
-abbrev pub slot_of : CellState → Slot
+abbrev pub slot_of : CellState → InodeSlot
 slot_of cell = record { generation = cell.generation; log = log_of cell }
 
 -- the plain node under a handle of the cell's slot, where `bytes` gives those of a block

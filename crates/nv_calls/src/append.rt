@@ -37,14 +37,14 @@ fn add_pages<C: Cells>(cells: &mut C, k: usize, count: usize, pages: &mut BlockQ
             unreachable!()
         };
         // The log is one, so that a page gives as much room as it holds.
-        cells.cell(k).known();
+        cells.cell(k).use_invariant();
         cells.add_page(k, block);
     }
 }
 
 /// Appends entries with these items to the log of a cell, from a place in their commit on, with the blocks of their
 /// pages from the front of a queue. The pages that are there take them.
-fn append_items<C: Cells>(
+fn append_to_pages<C: Cells>(
     cells: &mut C,
     k: usize,
     stamp: &Stamp,
@@ -75,7 +75,7 @@ fn append_items<C: Cells>(
             unreachable!()
         };
         // The log is one, so that the entry comes next in it.
-        cells.cell(k).known();
+        cells.cell(k).use_invariant();
         cells.append(k, entry_of(stamp, next, item), blocks);
         next += 1;
     }
@@ -93,7 +93,7 @@ fn entry_of(stamp: &Stamp, place: u32, item: Item) -> Entry
 
 /// Appends entries with these items to the log of a cell, from a place in their commit on, with pages of the log and
 /// the blocks of their pages from a hand.
-pub(crate) fn append_plan<C: Cells>(
+pub(crate) fn append_entries<C: Cells>(
     cells: &mut C,
     k: usize,
     stamp: &Stamp,
@@ -115,7 +115,7 @@ pub(crate) fn append_plan<C: Cells>(
     let count = cells.cell(k).pages_for(items.len());
     add_pages(cells, k, count, &mut hand.pages);
     // The log is one, so that its pages take the entries.
-    cells.cell(k).known();
+    cells.cell(k).use_invariant();
     let mut left = VecDeque::from_vec(items);
-    append_items(cells, k, stamp, place, &mut left, &mut hand.data);
+    append_to_pages(cells, k, stamp, place, &mut left, &mut hand.data);
 }

@@ -8,7 +8,7 @@ ghost use Rattle.nv_calls.specs.Prepared.{makes};
 use crate::looked::is_as_looked;
 use crate::planning::is_nothing;
 use crate::refusal::{check_early, check_late};
-use crate::{Looked, Nodes, Update};
+use crate::{LookupResult, Nodes, Update};
 use nv_base::Fault;
 
 /// How a check ends a call: it is refused, or it looks again, since a name leads elsewhere than its look found, or it
@@ -29,7 +29,7 @@ pub enum CheckEnd {
 pub fn ends_at_check<N: Nodes>(
     block: u64,
     nodes: &N,
-    before: &Looked,
+    before: &LookupResult,
     update: &Update,
     has_number: bool,
 ) -> Option<CheckEnd>

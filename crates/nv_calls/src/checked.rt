@@ -12,7 +12,7 @@ ghost use Rattle.nv_calls.specs.Updates.{blank_call};
 
 use crate::check_end::{CheckEnd, ends_at_check};
 use crate::planning::with_blocks;
-use crate::{Cells, HeldNodes, Looked, Nodes, Plan, Update};
+use crate::{Cells, HeldNodes, LookupResult, Nodes, Plan, Update};
 use nv_base::{Fault, Ino};
 
 /// The bytes of a block, which are the same for all cells.
@@ -31,7 +31,7 @@ pub(crate) fn block_in<C: Cells>(cells: &C) -> u64
 fn test<N: Nodes>(
     block: u64,
     nodes: &N,
-    before: &Looked,
+    before: &LookupResult,
     has_number: bool,
     update: &Update,
 ) -> Result<(), Fault>
@@ -58,7 +58,7 @@ fn test<N: Nodes>(
 /// Costs a few look-ups of handles and names, however large the nodes are. Takes no memory.
 pub fn check_on<C: Cells>(
     cells: &C,
-    before: &Looked,
+    before: &LookupResult,
     number: Option<Ino>,
     update: Update,
 ) -> Result<Plan, Fault>

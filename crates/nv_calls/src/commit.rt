@@ -4,7 +4,7 @@ ghost use Rattle.std.specs.Prelude.{◌≡◌, ◌<◌, ◌⊎◌, [], None, len
 ghost use Rattle.nv_calls.specs.Commit.{begun, stamp_of};
 ghost use Rattle.nv_calls.specs.Ready.{plan_at};
 
-use crate::{CellPlan, Ready, Stamp, Update};
+use crate::{CellCommit, Ready, Stamp, Update};
 use nv_alloc::Hand;
 use nv_base::Handle;
 use nv_book::Book;
@@ -23,7 +23,7 @@ pub struct Commit {
     pub(crate) update: Update,
     pub(crate) made: Option<Handle>,
     // By rising place of the cells.
-    pub(crate) plans: Vec<CellPlan>,
+    pub(crate) plans: Vec<CellCommit>,
     pub(crate) hand: Hand,
     pub(crate) stamp: Stamp,
     // How many entries are appended.

@@ -86,7 +86,7 @@ impl<C: Cells> Nodes for HeldNodes<'_, C> {
             return 0;
         };
         // Each block that the cell has is of the size that it says.
-        cell.known();
+        cell.use_invariant();
         if has_node(cell, file) { cell.size() } else { 0 }
     }
 

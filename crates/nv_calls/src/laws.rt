@@ -16,7 +16,7 @@ ghost use Rattle.nv_entry.specs.Node.{block_now};
 ghost use Rattle.nv_entry.specs.Sound.{IsSound};
 ghost use Rattle.nv_entry.specs.declared.node.NodeCopy.{NodeCopy};
 ghost use Rattle.nv_calls.specs.AllCalls.{IsReady, IsToldNothing, blocks_wanted, effect, look_refusal, looked, plan, refusal};
-ghost use Rattle.nv_calls.specs.declared.taken.Taken.{Taken};
+ghost use Rattle.nv_calls.specs.declared.allocation.Allocation.{Allocation};
 ghost use Rattle.nv_calls.specs.CanCommit.{AllowsCommit, CanCommit, IsClosed, TakesCommit, next_stamp};
 ghost use Rattle.nv_calls.specs.Cells.{AreCells, state_at, value_at};
 ghost use Rattle.nv_calls.specs.Commit.{CommitValue, begun, stamp_of};
@@ -34,18 +34,18 @@ ghost use Rattle.nv_calls.specs.Prepared.{CanReady, HaveNoLessRoom, IsReadyBy, I
 ghost use Rattle.nv_calls.specs.PublishedSlots.{AreOfSlots, IsCommitted, PublishAlike, PublishesPlans, planned_in};
 ghost use Rattle.nv_calls.specs.Ready.{ReadyValue};
 ghost use Rattle.nv_calls.specs.Refusals.{passes};
-ghost use Rattle.nv_calls.specs.Slots.{ArePlaced, Commits, IsBefore, IsPlan, Slot, node_under, published};
+ghost use Rattle.nv_calls.specs.Slots.{ArePlaced, Commits, IsBefore, IsPlan, InodeSlot, node_under, published};
 ghost use Rattle.nv_calls.specs.Updates.{SamePlan, blank_call, call_of, text_len};
 ghost use Rattle.nv_calls.specs.WholeCall.{HaveSoundLogs, IsWholeCall, WholeCall, effect_of};
 ghost use Rattle.nv_calls.specs.declared.call.Call.{Call};
-ghost use Rattle.nv_calls.specs.declared.plan.Planned.{Planned};
+ghost use Rattle.nv_calls.specs.declared.plan.InodePlan.{InodePlan};
 ghost use Rattle.nv_calls.specs.declared.stamp.Stamp.{Stamp};
 ghost use Rattle.nv_calls.specs.declared.update.Update.{Update};
 
 /// A commit of a plan that fits an effect has that effect on the nodes, leaves each log sound, and changes
 /// none at an earlier epoch.
 pub fn a_commit()
-    ensures { (bytes : ℕ → List ℕ) (block commit epoch : ℕ) (slots : ℕ → Slot) (plan : List Planned)
+    ensures { (bytes : ℕ → List ℕ) (block commit epoch : ℕ) (slots : ℕ → InodeSlot) (plan : List InodePlan)
         (effect : List Change) → 0 < block
         → ((ino : ℕ) → IsSound bytes block (slots ino).log)
         → IsPlan bytes block slots plan effect
@@ -54,19 +54,19 @@ pub fn a_commit()
 
 /// Where inodes get entries by rising number, the places of a commit's entries are the numbers from 0 on.
 pub fn places_count_entries()
-    ensures { (plan : List Planned) → AreApart plan → ArePlaced plan }
+    ensures { (plan : List InodePlan) → AreApart plan → ArePlaced plan }
 {}
 
 /// After a commit ids rise along each log and epochs never fall, as before it.
 pub fn ids_rise_along_each_log()
-    ensures { (commit epoch : ℕ) (slots : ℕ → Slot) (plan : List Planned)
+    ensures { (commit epoch : ℕ) (slots : ℕ → InodeSlot) (plan : List InodePlan)
         → ((ino : ℕ) → IsBefore commit epoch (slots ino).log)
         → (ino : ℕ) → IsLog (published commit epoch plan slots ino).log }
 {}
 
 /// A call that is not refused has a plan that fits its effect, where what was taken is what it needs.
 pub fn plans_fit_effects()
-    ensures { (bytes : ℕ → List ℕ) (block : ℕ) (slots : ℕ → Slot) (taken : Taken) (call : Call)
+    ensures { (bytes : ℕ → List ℕ) (block : ℕ) (slots : ℕ → InodeSlot) (taken : Allocation) (call : Call)
         → 0 < block
         → ((ino : ℕ) → IsSound bytes block (slots ino).log)
         → refusal block (node_in (node_under bytes block slots)) call ≡ passes
@@ -78,7 +78,7 @@ pub fn plans_fit_effects()
 
 /// Its items can be taken by the logs that they are for.
 pub fn plans_are_lawful()
-    ensures { (bytes : ℕ → List ℕ) (block : ℕ) (slots : ℕ → Slot) (taken : Taken) (call : Call)
+    ensures { (bytes : ℕ → List ℕ) (block : ℕ) (slots : ℕ → InodeSlot) (taken : Allocation) (call : Call)
         → 0 < block
         → ((ino : ℕ) → IsSound bytes block (slots ino).log)
         → refusal block (node_in (node_under bytes block slots)) call ≡ passes
@@ -89,7 +89,7 @@ pub fn plans_are_lawful()
 
 /// It is of different inodes, of no more than three.
 pub fn plans_are_of_few_inodes()
-    ensures { (bytes : ℕ → List ℕ) (block : ℕ) (slots : ℕ → Slot) (taken : Taken) (call : Call)
+    ensures { (bytes : ℕ → List ℕ) (block : ℕ) (slots : ℕ → InodeSlot) (taken : Allocation) (call : Call)
         → 0 < block → refusal block (node_in (node_under bytes block slots)) call ≡ passes
         → IsReady bytes block slots (node_in (node_under bytes block slots)) taken call
         → AreFewApart (plan block (node_in (node_under bytes block slots)) taken call) }
@@ -97,14 +97,14 @@ pub fn plans_are_of_few_inodes()
 
 /// It is told of a call whether it commits nothing.
 pub fn calls_of_nothing_are_told()
-    ensures { (block : ℕ) (nodes : Handle → Option NodeCopy) (taken : Taken) (call : Call)
+    ensures { (block : ℕ) (nodes : Handle → Option NodeCopy) (taken : Allocation) (call : Call)
         → refusal block nodes call ≡ passes → IsToldNothing block nodes taken call }
 {}
 
 /// A call looks up the same, is refused alike, plans alike, has the same effect and is answered alike
 /// wherever the nodes that it locks are the same.
 pub fn calls_read_what_they_lock()
-    ensures { (block : ℕ) (nodes other : Handle → Option PlainNode) (taken : Taken) (call : Call)
+    ensures { (block : ℕ) (nodes other : Handle → Option PlainNode) (taken : Allocation) (call : Call)
         → Agree nodes other (handles (looked (node_in nodes) call) call)
         → SameCall block nodes other taken call }
 {}
@@ -119,14 +119,14 @@ pub fn checks_refuse_what_looks_refuse()
 /// A call's plan is of handles that it locks, and uses the blocks that were taken and no others; none where
 /// it is of several inodes.
 pub fn plans_keep_to_their_calls()
-    ensures { (block : ℕ) (nodes : Handle → Option NodeCopy) (taken : Taken) (call : Call)
+    ensures { (block : ℕ) (nodes : Handle → Option NodeCopy) (taken : Allocation) (call : Call)
         → KeepsToIts nodes call taken (plan block nodes taken call) }
 {}
 
 /// Where what was taken is what a call needs, its plan uses as many blocks as the call wants.
 pub fn plans_use_the_blocks_wanted()
-    ensures { (bytes : ℕ → List ℕ) (block : ℕ) (slots : ℕ → Slot) (nodes : Handle → Option NodeCopy)
-        (taken : Taken) (call : Call) → IsReady bytes block slots nodes taken call
+    ensures { (bytes : ℕ → List ℕ) (block : ℕ) (slots : ℕ → InodeSlot) (nodes : Handle → Option NodeCopy)
+        (taken : Allocation) (call : Call) → IsReady bytes block slots nodes taken call
         → length (plan_blocks (plan block nodes taken call))
         ≡ blocks_wanted block nodes taken.present call }
 {}
@@ -179,7 +179,7 @@ pub fn what_is_filled_stays_ready()
 pub fn filled_plans_fit()
     ensures { (bytes : ℕ → List ℕ) (cells now : List (ℕ × CellValue)) (hand : Hand)
         (update : Update) (ready : ReadyValue) (byte_at : ℕ → ℕ) (blocks : List BlockValue)
-        (slots : ℕ → Slot)
+        (slots : ℕ → InodeSlot)
         → CanReady cells hand update → HaveNoLessRoom cells now
         → IsReadyBy cells hand update now ready
         → HaveBytes bytes (block_in cells) now
@@ -201,7 +201,7 @@ pub fn pages_counted_are_those_wanted()
 /// the commit makes, up to the erasing of an inode of which nothing is kept.
 pub fn commits_publish_their_plans()
     ensures { (cells : List (ℕ × CellValue)) (book : BookValue) (cpu : ℕ) (ready : ReadyValue)
-        (slots : ℕ → Slot) → CanCommit cells book cpu ready → AreOfSlots cells slots
+        (slots : ℕ → InodeSlot) → CanCommit cells book cpu ready → AreOfSlots cells slots
         → PublishesPlans cells (begun (stamp_of book.state) ready) slots }
 {}
 
@@ -216,7 +216,7 @@ pub fn cells_publish_what_is_planned()
 /// A call looks up, is checked and planned with any text as with a text of as many zeros.
 pub fn a_write_is_planned_by_its_length()
     ensures { (block : ℕ) (nodes : Handle → Option NodeCopy) (has_page : Handle → ℕ → Bool)
-        (taken : Taken) (update : Update) (text : List ℕ) → length text ≡ text_len update
+        (taken : Allocation) (update : Update) (text : List ℕ) → length text ≡ text_len update
         → SamePlan block nodes has_page taken (blank_call update) (call_of update text) }
 {}
 
@@ -224,8 +224,8 @@ pub fn a_write_is_planned_by_its_length()
 /// those of the effect, also where an inode was erased.
 pub fn commits_have_their_effect()
     ensures { (bytes : ℕ → List ℕ) (block : ℕ) (living : List ℕ) (cells : List (ℕ × CellValue))
-        (book : BookValue) (cpu : ℕ) (ready : ReadyValue) (slots : ℕ → Slot)
-        (now : List (ℕ × CellValue)) (later : ℕ → Slot) (plan : List Planned)
+        (book : BookValue) (cpu : ℕ) (ready : ReadyValue) (slots : ℕ → InodeSlot)
+        (now : List (ℕ × CellValue)) (later : ℕ → InodeSlot) (plan : List InodePlan)
         (effect : List Change) → 0 < block
         → ((ino : ℕ) → IsSound bytes block (slots ino).log)
         → IsCommitted living cells book cpu ready slots now later
@@ -296,8 +296,8 @@ pub fn commits_raise_versions()
 /// After a commit over cells the logs of all slots are sound, also that of a slot that was erased.
 pub fn commits_leave_sound_logs()
     ensures { (bytes : ℕ → List ℕ) (block : ℕ) (living : List ℕ) (cells : List (ℕ × CellValue))
-        (book : BookValue) (cpu : ℕ) (ready : ReadyValue) (slots : ℕ → Slot)
-        (now : List (ℕ × CellValue)) (later : ℕ → Slot) (plan : List Planned)
+        (book : BookValue) (cpu : ℕ) (ready : ReadyValue) (slots : ℕ → InodeSlot)
+        (now : List (ℕ × CellValue)) (later : ℕ → InodeSlot) (plan : List InodePlan)
         (effect : List Change) → 0 < block
         → ((ino : ℕ) → IsSound bytes block (slots ino).log)
         → IsCommitted living cells book cpu ready slots now later

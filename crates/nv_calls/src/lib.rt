@@ -6,6 +6,7 @@
 //! fits an effect has that effect, and another that each call's plan fits its own.
 #![tactic(auto)]
 
+mod allocation;
 mod answer;
 mod append;
 mod call;
@@ -44,12 +45,12 @@ mod slots;
 mod source;
 mod stamp;
 mod steps;
-mod taken;
 mod update;
 mod view;
 mod wants;
 mod whole;
 
+pub use allocation::Allocation;
 pub use answer::Answer;
 pub use call::Call;
 pub use cells::Cells;
@@ -61,26 +62,25 @@ pub use held_nodes::HeldNodes;
 pub use lent::{LastCell, LentCell};
 pub use locks::slots_of;
 pub use log_pages::{MORE_PAGES, pages_wanted};
-pub use looked::{Looked, found, is_as_looked, look, look_all};
+pub use looked::{LookupResult, found, is_as_looked, look, look_all};
 pub use looks::{directory, look_at, look_count};
 pub use maintenance_call::MaintenanceCall;
 pub use next_commit::{is_closed, takes_commit};
 pub use nodes::Nodes;
-pub use plan::{Plan, Planned, PlannedItems, place_in};
+pub use plan::{InodePlan, InodePlans, Plan, place_in};
 pub use planning::{blocks_wanted, ends_in_page, is_nothing, plan_items, plan_of};
 pub use prepare::ready_on;
 pub use progress::CommitStep;
-pub use ready::{CellPlan, Ready};
+pub use ready::{CellCommit, Ready};
 pub use receipt::Receipt;
 pub use refusal::{check, check_early, check_late, check_look};
 pub use retire::erase_gone;
 pub use runs::runs_of;
 pub use slot_cells::SlotCells;
-pub use slots::Slots;
+pub use slots::LockedSlots;
 pub use source::{Source, SourceFault};
 pub use stamp::Stamp;
 pub use steps::{append_on, close_on, open_on, publish_on, retire_on};
-pub use taken::Taken;
 pub use update::Update;
 pub use view::{View, list_on, look_on, lookup_on, read_on, stat_on, view_on};
 pub use whole::commit_on;

@@ -7,18 +7,23 @@ ghost use Rattle.nv_calls.specs.Prepared.{makes};
 ghost use Rattle.nv_calls.specs.SlotList.{all_some, slots_in};
 ghost use Rattle.nv_calls.specs.Updates.{call_of};
 
-use crate::{Looked, Slots, Update};
+use crate::{LockedSlots, LookupResult, Update};
 use nv_base::{Handle, Ino};
 
 /// The slots that a call locks, of so many: those of the number that it has for a new inode, of its handles, and of what
 /// its looks found. A number out of range has no slot.
-pub fn slots_of(inodes: u64, number: Option<Ino>, update: &Update, looked: &Looked) -> Slots
+pub fn slots_of(
+    inodes: u64,
+    number: Option<Ino>,
+    update: &Update,
+    looked: &LookupResult,
+) -> LockedSlots
     requires { makes update.now ≡ false → number ≡ None }
     ensures { (text : List ℕ) → slots_in result
         ≡ slots_among inodes number looked.now (call_of update.now text) }
 {
     let (first, second, third, fourth) = locked(number, update, looked);
-    Slots::none()
+    LockedSlots::none()
         .with(inodes, fourth)
         .with(inodes, third)
         .with(inodes, second)
@@ -29,7 +34,7 @@ pub fn slots_of(inodes: u64, number: Option<Ino>, update: &Update, looked: &Look
 fn locked(
     number: Option<Ino>,
     update: &Update,
-    looked: &Looked,
+    looked: &LookupResult,
 ) -> (Option<Ino>, Option<Ino>, Option<Ino>, Option<Ino>)
     requires { makes update.now ≡ false → number ≡ None }
     ensures { (text : List ℕ) → all_some (result.0 ∷ result.1 ∷ result.2 ∷ result.3 ∷ [])

@@ -4,7 +4,7 @@ ghost use Rattle.std.specs.Prelude.{◌≡◌, ◌+◌, ◌<◌, ◌≤◌, ◌^
 ghost use Rattle.std.specs.List.{AllByRecursion};
 ghost use Rattle.nv_alloc.specs.Block.{numbers_of};
 ghost use Rattle.nv_calls.specs.declared.log_pages.TheConstants.{MORE_PAGES};
-ghost use Rattle.nv_calls.specs.declared.taken.Taken.{Taken};
+ghost use Rattle.nv_calls.specs.declared.allocation.Allocation.{Allocation};
 ghost use Rattle.nv_calls.specs.AllCalls.{plan};
 ghost use Rattle.nv_calls.specs.PagesWanted.{goes_on, pages_wanted};
 ghost use Rattle.nv_calls.specs.Plan.{runs_of};
@@ -15,7 +15,7 @@ ghost use Rattle.nv_calls.specs.calls.Rename.{bound_plan};
 
 use crate::calls::rename;
 use crate::looked::{found, look_all};
-use crate::{Cells, HeldNodes, Looked, Nodes, Plan, Update};
+use crate::{Cells, HeldNodes, LookupResult, Nodes, Plan, Update};
 use nv_alloc::{BlockQueue, Hand};
 use nv_base::{Handle, Ino};
 
@@ -26,7 +26,7 @@ pub const MORE_PAGES: u64 = 24;
 /// How many items a call appends to the log of an inode, where its blocks are so many runs.
 fn item_count<N: Nodes>(nodes: &N, made: Ino, runs: usize, update: &Update, ino: Ino) -> usize
     requires { runs < 2 ^ 63 }
-    ensures count { (block : ℕ) (taken : Taken) → taken.made.ino ≡ made → length taken.runs ≡ runs
+    ensures count { (block : ℕ) (taken : Allocation) → taken.made.ino ≡ made → length taken.runs ≡ runs
         → result ≡ length
         (items_for (plan block (N.nodes_of nodes.now) taken (blank_call update.now)) ino) }
     ensures few { result ≤ runs + 2 }
@@ -58,7 +58,7 @@ fn item_count<N: Nodes>(nodes: &N, made: Ino, runs: usize, update: &Update, ino:
 }
 
 /// How many of them for a rename, which commits nothing onto its own place.
-fn rename_count(own: bool, from: &Handle, to: &Handle, looked: &Looked, ino: Ino) -> usize
+fn rename_count(own: bool, from: &Handle, to: &Handle, looked: &LookupResult, ino: Ino) -> usize
     ensures count { result ≡ (if own then 0
         else length
         (items_for (bound_plan from.now [] to.now [] looked.now.first looked.now.second) ino)) }

@@ -13,7 +13,7 @@ use nv_base::{Fault, Handle};
 /// What the names of a call lead to, the first and the second, as its looks found it: none where a name is
 /// not bound or the look was refused.
 #[derive(Clone, Copy, Debug, PartialEq, Eq)]
-pub struct Looked {
+pub struct LookupResult {
     pub first: Option<Handle>,
     pub second: Option<Handle>,
 }
@@ -39,19 +39,19 @@ pub fn found<N: Nodes>(nodes: &N, dir: &Handle, name: &[u8]) -> Option<Handle>
 }
 
 /// What the names of a call lead to now.
-pub fn look_all<N: Nodes>(nodes: &N, call: &Update) -> Looked
+pub fn look_all<N: Nodes>(nodes: &N, call: &Update) -> LookupResult
     ensures { result ≡ looked (N.nodes_of nodes.now) (blank_call call.now) }
 {
     match call {
-        Update::Unlink { dir, name } | Update::Rmdir { dir, name } => Looked {
+        Update::Unlink { dir, name } | Update::Rmdir { dir, name } => LookupResult {
             first: found(nodes, dir, name.as_slice()),
             second: None,
         },
-        Update::Rename { from, old, to, new } => Looked {
+        Update::Rename { from, old, to, new } => LookupResult {
             first: found(nodes, from, old.as_slice()),
             second: found(nodes, to, new.as_slice()),
         },
-        _ => Looked {
+        _ => LookupResult {
             first: None,
             second: None,
         },
@@ -59,7 +59,7 @@ pub fn look_all<N: Nodes>(nodes: &N, call: &Update) -> Looked
 }
 
 /// Whether the names of a call still lead to what its looks found.
-pub fn is_as_looked<N: Nodes>(nodes: &N, before: &Looked, call: &Update) -> bool
+pub fn is_as_looked<N: Nodes>(nodes: &N, before: &LookupResult, call: &Update) -> bool
     ensures { result
         ≡ same_looked (looked (N.nodes_of nodes.now) (blank_call call.now)) before.now }
 {

@@ -10,7 +10,7 @@ ghost use Rattle.nv_calls.specs.Refusals.{found, look, passes};
 ghost use Rattle.nv_calls.specs.Updates.{blank_call, call_of};
 ghost use Rattle.nv_calls.specs.calls.Lookup.{lookup_refusal};
 
-use crate::{Looked, Update, look_on};
+use crate::{LookupResult, Update, look_on};
 use nv_base::{Fault, Handle, Ino};
 use nv_cell::InodeCell;
 
@@ -45,8 +45,8 @@ pub fn look_at(
     cell: Option<&InodeCell>,
     update: &Update,
     place: usize,
-    before: &Looked,
-) -> Result<Looked, Fault>
+    before: &LookupResult,
+) -> Result<LookupResult, Fault>
     requires { place < length (directories (blank_call update.now)) }
     ensures { (bytes : ℕ → List ℕ) (text : List ℕ) → let c = call_of update.now text in
         let nodes = copies_by bytes (in_slot ino (option_map (λ cell. cell.now) cell.entry)) in
@@ -61,7 +61,7 @@ pub fn look_at(
         }
         Update::Rename { from, old, to, new } => {
             if place > 0 {
-                return Ok(Looked {
+                return Ok(LookupResult {
                     first: before.first,
                     second: found_by(ino, cell, to, new.as_slice()),
                 });
@@ -80,14 +80,14 @@ fn look_first(
     dir: &Handle,
     name: &[u8],
     second: Option<Handle>,
-) -> Result<Looked, Fault>
+) -> Result<LookupResult, Fault>
     ensures { (bytes : ℕ → List ℕ)
         → let nodes = copies_by bytes (in_slot ino (option_map (λ cell. cell.now) cell.entry)) in
         IsFirstLook (lookup_refusal nodes dir.now name.now) (found nodes dir.now name.now) second
         result }
 {
     match look_up(ino, cell, dir, name) {
-        Ok(Some(to)) => Ok(Looked {
+        Ok(Some(to)) => Ok(LookupResult {
             first: Some(to),
             second,
         }),

@@ -30,13 +30,13 @@ impl Plan {
 
 /// What a call appends to the log of one inode.
 #[derive(Debug, Drop)]
-pub struct Planned {
+pub struct InodePlan {
     pub handle: Handle,
     pub items: Items<Item>,
 }
 
 /// Where the entries of an inode begin among those of a commit, which go by rising inode number.
-pub fn place_in(plan: &[Planned], ino: Ino) -> u32
+pub fn place_in(plan: &[InodePlan], ino: Ino) -> u32
     requires { place_in plan.now ino < 2 ^ 32 }
     ensures { result ≡ place_in plan.now ino }
 {
@@ -50,15 +50,15 @@ pub fn place_in(plan: &[Planned], ino: Ino) -> u32
 }
 
 /// What a call appends, inode by inode.
-pub type PlannedItems = Items<Planned>;
+pub type InodePlans = Items<InodePlan>;
 
-impl Planned {
+impl InodePlan {
     /// One item for the log of an inode.
-    pub fn one(alloc: Global, handle: Handle, item: Item) -> Result<Planned, AllocError>
+    pub fn one(alloc: Global, handle: Handle, item: Item) -> Result<InodePlan, AllocError>
         ensures { IfOk result (λ p. p ≡ planned handle (item ∷ [])) }
     {
         let items = list_of_one(alloc, item)?;
-        Ok(Planned { handle, items })
+        Ok(InodePlan { handle, items })
     }
 
     /// Two items for the log of an inode.
@@ -67,11 +67,11 @@ impl Planned {
         handle: Handle,
         first: Item,
         second: Item,
-    ) -> Result<Planned, AllocError>
+    ) -> Result<InodePlan, AllocError>
         ensures { IfOk result (λ p. p ≡ planned handle (first ∷ second ∷ [])) }
     {
         let items = list_of_two(alloc, first, second)?;
-        Ok(Planned { handle, items })
+        Ok(InodePlan { handle, items })
     }
 }
 

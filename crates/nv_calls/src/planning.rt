@@ -12,7 +12,7 @@ ghost use Rattle.nv_calls.specs.Updates.{IsPlanOf, blank_call};
 use crate::calls::{create, mkdir, mode, rename, size, unlink, write};
 use crate::looked::{found, look_all};
 use crate::refusal::check;
-use crate::{Nodes, Plan, PlannedItems, Taken, Update};
+use crate::{Allocation, InodePlans, Nodes, Plan, Update};
 use nv_base::limits::FILE_PAGES;
 use nv_base::{Fault, Handle};
 use std::alloc::Global;
@@ -93,9 +93,9 @@ pub fn plan_items<N: Nodes>(
     alloc: Global,
     block: u64,
     nodes: &N,
-    taken: &Taken,
+    taken: &Allocation,
     call: &Update,
-) -> Result<PlannedItems, Fault>
+) -> Result<InodePlans, Fault>
     requires some_bytes { 0 < block }
     requires few_bytes { block ≤ BLOCK_BYTES }
     requires passed { refusal block (N.nodes_of nodes.now) (blank_call call.now) ≡ passes }

@@ -19,7 +19,7 @@ ghost use Rattle.nv_calls.specs.Steps.{HaveBlocks};
 use crate::checked::block_in;
 use crate::planning::{ends_in_page, plan_items};
 use crate::runs::runs_of;
-use crate::{CellPlan, Cells, HeldNodes, Plan, Planned, Ready, Taken, Update};
+use crate::{Allocation, CellCommit, Cells, HeldNodes, InodePlan, Plan, Ready, Update};
 use nv_alloc::{BlockQueue, Hand};
 use nv_base::{BlockNo, Fault, Gen, Handle, Ino, Items, NoMemory};
 use nv_entry::Item;
@@ -56,7 +56,7 @@ fn planned_by<C: Cells>(
     update: &Update,
     made: &Option<Handle>,
     hand: &Hand,
-) -> Result<Vec<Planned>, Fault>
+) -> Result<Vec<InodePlan>, Fault>
     requires can { CanReady (C.cells cells.now) hand.now update.now }
     requires made { made.now ≡ made_by (C.cells cells.now) hand.now.ino update.now }
     ensures ok { IfOk result (λ planned. planned.items
@@ -70,7 +70,7 @@ fn planned_by<C: Cells>(
     let numbers = numbers_of(alloc, &hand.data)?;
     let runs = Items::from_vec(runs_of(alloc, &numbers)?);
     let present = ends_in_page(block, &nodes, update);
-    let taken = Taken {
+    let taken = Allocation {
         made: or_none(made),
         runs,
         present,
@@ -93,14 +93,14 @@ fn or_none(made: &Option<Handle>) -> Handle
 }
 
 /// Takes out what is planned for an inode.
-fn take_items(alloc: Global, planned: &mut Vec<Planned>, ino: Ino) -> Vec<Item>
+fn take_items(alloc: Global, planned: &mut Vec<InodePlan>, ino: Ino) -> Vec<Item>
     ensures items { result.items ≡ items_for planned.old.items ino }
     ensures others { (other : ℕ) → (other ≡ ino → ⊥)
         → items_for planned.new.items other ≡ items_for planned.old.items other }
 {
     for i in 0..planned.len() {
         if planned[i].handle.ino == ino {
-            let Planned { handle: _, items } = planned.remove(i);
+            let InodePlan { handle: _, items } = planned.remove(i);
             return items.into_vec();
         }
     }
@@ -111,8 +111,8 @@ fn take_items(alloc: Global, planned: &mut Vec<Planned>, ino: Ino) -> Vec<Item>
 fn cell_plans<C: Cells>(
     alloc: Global,
     cells: &C,
-    planned: Vec<Planned>,
-) -> Result<Vec<CellPlan>, AllocError>
+    planned: Vec<InodePlan>,
+) -> Result<Vec<CellCommit>, AllocError>
     requires { AreCells (C.cells cells.now) }
     ensures { IfOk result (λ plans. plans.items
         ≡ cell_plans planned.items 0 (C.cells cells.now)) }
@@ -122,14 +122,14 @@ fn cell_plans<C: Cells>(
     for at in 0..cells.count() {
         let items = take_items(alloc, &mut left, cells.ino(at));
         if !items.is_empty() {
-            plans.push(CellPlan::new(alloc, at, items))?;
+            plans.push(CellCommit::new(alloc, at, items))?;
         }
     }
     Ok(plans)
 }
 
 /// Makes the growths of the planned cells.
-fn ready_cells<C: Cells>(cells: &mut C, plans: &[CellPlan]) -> Result<(), Fault>
+fn ready_cells<C: Cells>(cells: &mut C, plans: &[CellCommit]) -> Result<(), Fault>
     requires placed { ArePlaced (C.cells cells.old) plans.now }
     requires settled { AllByRecursion (λ p. let chain = (state_at (C.cells cells.old) p.at).chain in
         chain.tail ≡ length chain.entries) plans.now }
@@ -148,7 +148,7 @@ fn ready_cells<C: Cells>(cells: &mut C, plans: &[CellPlan]) -> Result<(), Fault>
 
 /// How many parts the publishes of the plans kill at most. `OutOfMemory` where no number is as large, and only there:
 /// no memory holds as many blocks.
-fn need_of<C: Cells>(cells: &C, plans: &[CellPlan]) -> Result<u64, Fault>
+fn need_of<C: Cells>(cells: &C, plans: &[CellCommit]) -> Result<u64, Fault>
     requires { AllByRecursion (λ p. p.at < length (C.cells cells.now)) plans.now }
     ensures ok { IfOk result (λ need. need ≡ need_of (C.cells cells.now) plans.now) }
     ensures err { FailsOnly out_of_memory result }
@@ -173,7 +173,7 @@ fn prepare<C: Cells>(
     update: &Update,
     made: &Option<Handle>,
     hand: &mut Hand,
-) -> Result<(Vec<CellPlan>, u64), Fault>
+) -> Result<(Vec<CellCommit>, u64), Fault>
     requires can { CanReady (C.cells cells.old) hand.old update.now }
     requires made { made.now ≡ made_by (C.cells cells.old) hand.old.ino update.now }
     ensures some_bytes { 0 < block_in (C.cells cells.old) }

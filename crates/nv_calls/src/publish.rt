@@ -12,7 +12,7 @@ ghost use Rattle.nv_calls.specs.Cells.{AreCells, OnlyAt, state_at, value_at};
 ghost use Rattle.nv_calls.specs.Ready.{ArePlaced, old_tails};
 ghost use Rattle.nv_calls.specs.Retiring.{killed_by, part_in};
 
-use crate::{CellPlan, Cells};
+use crate::{CellCommit, Cells};
 use nv_book::Book;
 use nv_cell::KilledPart;
 use nv_journal::OldTail;
@@ -49,7 +49,7 @@ pub(crate) fn publish_cell<C: Cells>(cells: &mut C, k: usize) -> Vec<KilledPart>
 }
 
 /// The tails of the cells that get entries, as they are before these are published.
-fn tails_of<C: Cells>(alloc: Global, cells: &C, plans: &[CellPlan]) -> SmallVec<OldTail, 4>
+fn tails_of<C: Cells>(alloc: Global, cells: &C, plans: &[CellCommit]) -> SmallVec<OldTail, 4>
     requires placed { ArePlaced (C.cells cells.now) plans.now }
     requires few { length plans.now ≤ 4 }
     ensures { result.items ≡ old_tails (C.cells cells.now) plans.now }
@@ -69,7 +69,7 @@ pub(crate) fn open_journal<C: Cells>(
     alloc: Global,
     book: &mut Book,
     cells: &C,
-    plans: &[CellPlan],
+    plans: &[CellCommit],
     cpu: u64,
 ) -> SmallVec<OldTail, 4>
     requires cells { AreCells (C.cells cells.now) }

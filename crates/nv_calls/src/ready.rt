@@ -15,17 +15,17 @@ use std::marker::Model;
 
 /// What a call appends to the log of one of its cells, and the parts that the publish of it killed.
 #[derive(Debug, Drop)]
-pub struct CellPlan {
+pub struct CellCommit {
     // The place of the cell among the call's cells.
     pub(crate) at: usize,
     pub(crate) items: Vec<Item>,
     pub(crate) killed: Vec<KilledPart>,
 }
 
-impl Model for CellPlan {
-    ghost use Rattle.nv_calls.specs.Ready.{CellPlanValue};
+impl Model for CellCommit {
+    ghost use Rattle.nv_calls.specs.Ready.{CellCommitValue};
 
-    ghost Value = { CellPlanValue };
+    ghost Value = { CellCommitValue };
 
     ghost view = { λ p. record { at = p.at; items = p.items.items; killed = p.killed.items } };
 }
@@ -37,7 +37,7 @@ pub struct Ready {
     pub(crate) update: Update,
     pub(crate) made: Option<Handle>,
     // By rising place of the cells.
-    pub(crate) plans: Vec<CellPlan>,
+    pub(crate) plans: Vec<CellCommit>,
     pub(crate) hand: Hand,
     pub(crate) need: u64,
 }
@@ -56,12 +56,12 @@ impl Model for Ready {
     } };
 }
 
-impl CellPlan {
-    pub(crate) fn new(alloc: Global, at: usize, items: Vec<Item>) -> CellPlan
+impl CellCommit {
+    pub(crate) fn new(alloc: Global, at: usize, items: Vec<Item>) -> CellCommit
         ensures { result ≡ record { at = at; items = items.items; killed = [] } }
     {
         let killed = Vec::new(alloc);
-        CellPlan { at, items, killed }
+        CellCommit { at, items, killed }
     }
 }
 
@@ -70,7 +70,7 @@ impl Ready {
         alloc: Global,
         update: Update,
         made: Option<Handle>,
-        plans: Vec<CellPlan>,
+        plans: Vec<CellCommit>,
         hand: Hand,
         need: u64,
     ) -> Ready

@@ -7,7 +7,7 @@ ghost use Rattle.nv_calls.specs.Updates.{blank_call};
 
 use crate::calls::{create, lookup, mkdir, mode, rename, rmdir, size, unlink, write};
 use crate::looked::look_all;
-use crate::{Looked, Nodes, Update};
+use crate::{LookupResult, Nodes, Update};
 use nv_base::Fault;
 
 /// Why a call is refused at a look, before it locks: the tests of its first name.
@@ -42,7 +42,7 @@ pub fn check_early<N: Nodes>(nodes: &N, call: &Update) -> Result<(), Fault>
 pub fn check_late<N: Nodes>(
     block: u64,
     nodes: &N,
-    looked: &Looked,
+    looked: &LookupResult,
     call: &Update,
 ) -> Result<(), Fault>
     requires some_bytes { 0 < block }

@@ -66,7 +66,7 @@ fn retire_part<C: Cells>(
         Retired::Kept => cells.retire(k, part),
         Retired::Free => {
             // Each block that the cell has is of the size that it says.
-            cells.cell(k).known();
+            cells.cell(k).use_invariant();
             if let Some(block) = cells.release(k, part) {
                 free.put(block);
             }

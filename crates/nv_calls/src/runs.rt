@@ -6,11 +6,11 @@ ghost use Rattle.nv_entry.specs.Sound.{blocks_of, write_items};
 ghost use Rattle.nv_calls.specs.Plan.{AreMaximal, runs_of};
 
 use nv_base::BlockNo;
-use nv_entry::{Item, Run};
+use nv_entry::{BlockRun, Item};
 use std::alloc::{AllocError, Global};
 
 /// Blocks in the order in which they were taken, as maximal runs of consecutive numbers.
-pub fn runs_of(alloc: Global, blocks: &[BlockNo]) -> Result<Vec<Run>, AllocError>
+pub fn runs_of(alloc: Global, blocks: &[BlockNo]) -> Result<Vec<BlockRun>, AllocError>
     requires few { length blocks.now ≤ BLOCKS }
     requires small { (k : ℕ) → k < length blocks.now → slice_index_or blocks.now k 0 < 2 ^ 32 }
     ensures runs { IfOk result (λ runs. runs.items ≡ runs_of blocks.now) }
@@ -25,7 +25,7 @@ pub fn runs_of(alloc: Global, blocks: &[BlockNo]) -> Result<Vec<Run>, AllocError
 }
 
 /// One more block goes to the last run where it comes next, and else begins a run.
-fn add_block(runs: &mut Vec<Run>, block: BlockNo) -> Result<(), AllocError>
+fn add_block(runs: &mut Vec<BlockRun>, block: BlockNo) -> Result<(), AllocError>
     requires small { block < 2 ^ 32 }
     requires few { length (blocks_of runs.old.items) < BLOCKS }
     requires maximal { AreMaximal runs.old.items }
@@ -40,7 +40,7 @@ fn add_block(runs: &mut Vec<Run>, block: BlockNo) -> Result<(), AllocError>
     if last.start.number() + u64::from(last.len) == block.number() {
         let start = last.start;
         let len = last.len + 1;
-        runs.push(Run { start, len })?;
+        runs.push(BlockRun { start, len })?;
         return Ok(());
     }
     runs.push(last)?;
@@ -48,12 +48,12 @@ fn add_block(runs: &mut Vec<Run>, block: BlockNo) -> Result<(), AllocError>
     Ok(())
 }
 
-fn run_of_one(block: BlockNo) -> Run
+fn run_of_one(block: BlockNo) -> BlockRun
     requires { block < 2 ^ 32 }
     ensures start { result.start ≡ block }
     ensures len { result.len ≡ 1 }
 {
-    Run {
+    BlockRun {
         start: block,
         len: 1,
     }
@@ -63,7 +63,7 @@ fn run_of_one(block: BlockNo) -> Run
 pub(crate) fn write_items(
     alloc: Global,
     first: u32,
-    runs: &[Run],
+    runs: &[BlockRun],
     size: u64,
 ) -> Result<Vec<Item>, AllocError>
     requires { first + length (blocks_of runs.now) ≤ FILE_PAGES }

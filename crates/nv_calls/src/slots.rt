@@ -10,30 +10,30 @@ const PLACES: usize = 4;
 
 /// At most four inode numbers, rising and each once.
 #[derive(Clone, Copy, Debug)]
-pub struct Slots {
+pub struct LockedSlots {
     inos: [Ino; PLACES],
     count: usize,
     ghost few: { count ≤ 4 },
     ghost rising: { AllPairs (λ a b. a < b) (take count inos) },
 }
 
-impl Slots {
+impl LockedSlots {
     ghost use Rattle.nv_calls.specs.SlotList.{slots_in, with_some};
 
-    pub fn none() -> Slots
+    pub fn none() -> LockedSlots
         ensures { slots_in result ≡ [] }
     {
-        Slots {
+        LockedSlots {
             inos: [Ino::new(0); PLACES],
             count: 0,
         }
     }
 
     /// The slot of this number alone.
-    pub fn one(ino: Ino) -> Slots
+    pub fn one(ino: Ino) -> LockedSlots
         ensures { slots_in result ≡ ino ∷ [] }
     {
-        Slots {
+        LockedSlots {
             inos: [ino; PLACES],
             count: 1,
         }
@@ -62,7 +62,7 @@ impl Slots {
     }
 
     /// The slot of a number too, where there is one and it has a slot.
-    pub fn with(self, inodes: u64, ino: Option<Ino>) -> Slots
+    pub fn with(self, inodes: u64, ino: Option<Ino>) -> LockedSlots
         requires { length (slots_in self) < 4 }
         ensures { slots_in result ≡ with_some inodes ino (slots_in self) }
     {
@@ -77,7 +77,7 @@ impl Slots {
     }
 
     /// A slot more, in its place.
-    fn with_slot(self, ino: Ino) -> Slots
+    fn with_slot(self, ino: Ino) -> LockedSlots
         requires { length (slots_in self) < 4 }
         ensures { slots_in result ≡ with_slot ino (slots_in self) }
     {
@@ -92,7 +92,7 @@ impl Slots {
     }
 
     /// The same where it is new, and its place is known.
-    fn with_new(self, place: usize, ino: Ino) -> Slots
+    fn with_new(self, place: usize, ino: Ino) -> LockedSlots
         requires few { length (slots_in self) < 4 }
         requires within { place ≤ length (slots_in self) }
         requires before { (k : ℕ) → k < place → slice_index_or (slots_in self) k 0 < ino }
@@ -104,7 +104,7 @@ impl Slots {
         inos.copy_within(place..self.count, place + 1);
         inos[place] = ino;
         let count = self.count + 1;
-        Slots { inos, count }
+        LockedSlots { inos, count }
     }
 
     /// How many numbers are lower.

@@ -18,7 +18,7 @@ ghost use Rattle.nv_calls.specs.Retired.{CanRetire};
 ghost use Rattle.nv_calls.specs.Retiring.{erased, killed_by, part_in, retired, room_erased, with_records};
 ghost use Rattle.nv_calls.specs.Steps.{CanAppendPlan, with_plan};
 
-use crate::append::append_plan;
+use crate::append::append_entries;
 use crate::publish::{open_journal, publish_cell};
 use crate::retire::{erase_gone, retire_parts};
 use crate::{Cells, Commit};
@@ -46,7 +46,7 @@ pub fn append_on<C: Cells>(cells: &mut C, commit: &mut Commit)
     let k = commit.place_of(j);
     let items = commit.take_items(j);
     let count = items.len() as u32;
-    append_plan(
+    append_entries(
         cells,
         k,
         &commit.stamp,

@@ -10,7 +10,7 @@ use Rattle.nv_alloc.specs.Block.{AreSized, BlockValue, number_of, numbers_of}
 use Rattle.nv_base.specs.Names.{same_name}
 use Rattle.nv_base.specs.declared.limits.TheConstants.{FILE_PAGES}
 use Rattle.nv_entry.specs.declared.item.Entry.{Entry}
-use Rattle.nv_entry.specs.declared.item.Run.{Run}
+use Rattle.nv_entry.specs.declared.item.BlockRun.{BlockRun}
 use Rattle.nv_entry.specs.declared.item.Item.{Item}
 use Rattle.nv_entry.specs.declared.item.Item.TheVariants.{Init, Write, SetSize, SetMode, Bind, Unbind, Gone}
 use Rattle.nv_entry.specs.declared.key.Datum.TheVariants as datum
@@ -106,27 +106,27 @@ bare block item m h = rw (no_slot (length (parts_of item)) m) (go (nat_lt m (len
   go true key = sym (no_block block item key h)
   go false key = refl
 
-all_pages : (first : ℕ) (run : Run) → first + run.len ≤ FILE_PAGES → min run.len (FILE_PAGES - first) ≡ run.len
+all_pages : (first : ℕ) (run : BlockRun) → first + run.len ≤ FILE_PAGES → min run.len (FILE_PAGES - first) ≡ run.len
 all_pages first run h = omega (arith, h)
 
-pub length_parts : (first size : ℕ) (run : Run) → first + run.len ≤ FILE_PAGES → length (parts_of (Write first run size)) ≡ suc run.len
+pub length_parts : (first size : ℕ) (run : BlockRun) → first + run.len ≤ FILE_PAGES → length (parts_of (Write first run size)) ≡ suc run.len
 length_parts first size run h =
     ap suc (length-map-range_with_len part.Page first (min run.len (FILE_PAGES - first)) ∙ all_pages first run h)
 
-page_at : (first size k : ℕ) (run : Run) → first + run.len ≤ FILE_PAGES → k < run.len
+page_at : (first size k : ℕ) (run : BlockRun) → first + run.len ≤ FILE_PAGES → k < run.len
     → slice_index_or (parts_of (Write first run size)) (suc k) part.Kind ≡ part.Page (first + k)
 page_at first size k run h lt =
     get_or-map-range_with_len part.Page first (min run.len (FILE_PAGES - first)) k (first + k) part.Kind
     (omega (arith, all_pages first run h, lt)) refl
 
-in_file : (first k : ℕ) (run : Run) → first + run.len ≤ FILE_PAGES → k < run.len → in_run first run (first + k) ≡ true
+in_file : (first k : ℕ) (run : BlockRun) → first + run.len ≤ FILE_PAGES → k < run.len → in_run first run (first + k) ≡ true
 in_file first k run h lt =
     let a : nat_le first (first + k) ≡ true = le-leb first (first + k) (omega arith) in
     let b : nat_lt (first + k) (first + run.len) ≡ true = lt-ltb (first + k) (first + run.len) (omega (arith, lt)) in
     let d : nat_lt (first + k) FILE_PAGES ≡ true = lt-ltb (first + k) FILE_PAGES (omega (arith, lt, h)) in
     rw (a, b, d) refl
 
-written : (block first size k : ℕ) (run : Run) (bs : List BlockValue) → first + run.len ≤ FILE_PAGES
+written : (block first size k : ℕ) (run : BlockRun) (bs : List BlockValue) → first + run.len ≤ FILE_PAGES
     → numbers_of bs ≡ range_with_len run.start run.len → k < run.len
     → option_map number_of (slice_index_or (map Some bs) k None) ≡ own_block block (Write first run size) (suc k)
 written block first size k run bs within nums lt =

@@ -12,7 +12,7 @@ use Rattle.nv_entry.specs.declared.held.Pair.{Pair}
 use Rattle.nv_entry.specs.declared.item.Entry.{Entry}
 use Rattle.nv_entry.specs.declared.item.Item.{Item}
 use Rattle.nv_entry.specs.declared.item.Item.TheVariants.{Init, Write, SetSize, SetMode, Bind, Unbind, Gone}
-use Rattle.nv_entry.specs.declared.item.Run.{Run}
+use Rattle.nv_entry.specs.declared.item.BlockRun.{BlockRun}
 use Rattle.nv_entry.specs.declared.part.Part.{Part}
 use Rattle.nv_entry.specs.declared.part.Part.TheVariants as part
 use Rattle.nv_entry.specs.declared.part.PartId.{PartId}
@@ -28,7 +28,7 @@ use Rattle.nv_cell.proofs.Publishes.{named}
 
 -- ---- the place of a part among those of an item
 
-page_there : (first : ℕ) (run : Run) (size n : ℕ) (p : Part) → slice_get (map part.Page (run_pages first run)) n ≡ Some p
+page_there : (first : ℕ) (run : BlockRun) (size n : ℕ) (p : Part) → slice_get (map part.Page (run_pages first run)) n ≡ Some p
     → place_of (Write first run size) p ≡ Some (suc n)
 page_there first run size n p h =
     let lt : suc n < length (part.Size ∷ map part.Page (run_pages first run)) =
@@ -59,7 +59,7 @@ place_there (Bind name to) (suc n) p h = cc
 place_there (Unbind name) n p h = cc
 place_there Gone n p h = cc
 
-page_reads : (first : ℕ) (run : Run) (size page n : ℕ) → place_of (Write first run size) (part.Page page) ≡ Some n
+page_reads : (first : ℕ) (run : BlockRun) (size page n : ℕ) → place_of (Write first run size) (part.Page page) ≡ Some n
     → slice_get (parts_of (Write first run size)) n ≡ Some (part.Page page)
 page_reads first run size page n h = go (in_run first run page) refl h where
   go : (b : Bool) → in_run first run page ≡ b → cond b (Some (page - first + 1)) None ≡ Some n

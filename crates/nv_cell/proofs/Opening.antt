@@ -8,7 +8,7 @@ use Rattle.std.proofs.lemmas.List.{take_all}
 use Rattle.nv_log.specs.Chain.{AreEnds, ChainState, IsChain, appended, open_of, start_in}
 use Rattle.nv_log.proofs.Parts.{ends_last}
 use Rattle.nv_entry.specs.declared.item.Entry.{Entry}
-use Rattle.nv_cell.specs.declared.tally.PageCounts.{PageCounts}
+use Rattle.nv_cell.specs.declared.tally.LogPageCounts.{LogPageCounts}
 use Rattle.nv_cell.specs.declared.tally.Tally.{Tally}
 use Rattle.nv_cell.specs.Tallies.{AreCounts, AreRuns, count_in, counts_at, end_at, is_live, is_valid, no_counts, start_at}
 use Rattle.nv_cell.proofs.Publishes.{chain_runs}
@@ -46,7 +46,7 @@ count_past test (x ∷ xs) (suc from) to h =
 -- ---- the last end rises
 
 -- one of the two counts of each page, where the last page ends elsewhere past all
-raised : (f : PageCounts → ℕ) (test : Tally → Bool) (pages : List PageCounts) (tallies : List Tally) (front : List ℕ) (old new : ℕ)
+raised : (f : LogPageCounts → ℕ) (test : Tally → Bool) (pages : List LogPageCounts) (tallies : List Tally) (front : List ℕ) (old new : ℕ)
     → length tallies ≤ old → length tallies ≤ new
     → ((k : ℕ) → k < length (front ++ old ∷ [])
     → f (counts_at pages k) ≡ count_in test tallies (start_at (front ++ old ∷ []) k) (end_at (front ++ old ∷ []) k))
@@ -69,7 +69,7 @@ raised f test pages tallies front old new low lower h k lt =
           was ∙ rw (start, a, b) (count_long test tallies (start_at (front ++ new ∷ []) k) old new low lower)
     ]
 
-pub counts_raised : (pages : List PageCounts) (tallies : List Tally) (front : List ℕ) (old new : ℕ) → length tallies ≤ old
+pub counts_raised : (pages : List LogPageCounts) (tallies : List Tally) (front : List ℕ) (old new : ℕ) → length tallies ≤ old
     → length tallies ≤ new
     → AreCounts pages (front ++ old ∷ []) tallies → AreRuns (front ++ new ∷ []) new → AreCounts pages (front ++ new ∷ []) tallies
 counts_raised pages tallies front old new low lower h runs = record {
@@ -81,13 +81,13 @@ counts_raised pages tallies front old new low lower h runs = record {
 
 -- ---- one more page opens
 
-counts_old : (pages : List PageCounts) (k : ℕ) → k < length pages → counts_at (pages ++ no_counts ∷ []) k ≡ counts_at pages k
+counts_old : (pages : List LogPageCounts) (k : ℕ) → k < length pages → counts_at (pages ++ no_counts ∷ []) k ≡ counts_at pages k
 counts_old pages k lt = grind (arith, common_steps)
 
-counts_new : (pages : List PageCounts) → counts_at (pages ++ no_counts ∷ []) (length pages) ≡ no_counts
+counts_new : (pages : List LogPageCounts) → counts_at (pages ++ no_counts ∷ []) (length pages) ≡ no_counts
 counts_new pages = grind (arith, common_steps)
 
-opened : (f : PageCounts → ℕ) (test : Tally → Bool) (pages : List PageCounts) (tallies : List Tally) (ends : List ℕ) (new : ℕ)
+opened : (f : LogPageCounts → ℕ) (test : Tally → Bool) (pages : List LogPageCounts) (tallies : List Tally) (ends : List ℕ) (new : ℕ)
     → f no_counts ≡ 0 → length pages ≡ length ends → length tallies ≤ start_at (ends ++ new ∷ []) (length ends)
     → ((k : ℕ) → k < length ends → f (counts_at pages k) ≡ count_in test tallies (start_at ends k) (end_at ends k))
     → (k : ℕ) → k < length (ends ++ new ∷ [])
@@ -104,7 +104,7 @@ opened f test pages tallies ends new none len past h k lt =
           ∙ sym (count_past test tallies (start_at (ends ++ new ∷ []) k) (end_at (ends ++ new ∷ []) k) (rw at past))
     ]
 
-pub counts_opened : (pages : List PageCounts) (tallies : List Tally) (ends : List ℕ) (new : ℕ)
+pub counts_opened : (pages : List LogPageCounts) (tallies : List Tally) (ends : List ℕ) (new : ℕ)
     → length tallies ≤ start_at (ends ++ new ∷ []) (length ends) → length tallies ≤ new
     → AreCounts pages ends tallies → AreRuns (ends ++ new ∷ []) new → AreCounts (pages ++ no_counts ∷ []) (ends ++ new ∷ []) tallies
 counts_opened pages tallies ends new past low h runs = record {
@@ -117,7 +117,7 @@ counts_opened pages tallies ends new past low h runs = record {
 -- ---- one more entry
 
 -- the counts, with those of one more page if there is one
-abbrev pub counts_for : List PageCounts → List ℕ → List PageCounts
+abbrev pub counts_for : List LogPageCounts → List ℕ → List LogPageCounts
 counts_for pages ends = cond (nat_lt (length pages) (length ends)) (pages ++ no_counts ∷ []) pages
 
 front_last : (ends : List ℕ) → 0 < length ends → take (length ends - 1) ends ++ slice_index_or ends (length ends - 1) 0 ∷ [] ≡ ends
@@ -144,10 +144,10 @@ take_none (e ∷ ends) le = absurd (omega arith)
 abbrev ends_with : ℕ → List ℕ → List ℕ
 ends_with new ends = ends ++ new ∷ []
 
-abbrev Grown : List PageCounts → List Tally → List ℕ → Type 0
+abbrev Grown : List LogPageCounts → List Tally → List ℕ → Type 0
 Grown pages tallies ends = AreCounts (counts_for pages ends) ends tallies
 
-rises : (pages : List PageCounts) (tallies : List Tally) (ends : List ℕ) (len : ℕ) → 0 < length ends
+rises : (pages : List LogPageCounts) (tallies : List Tally) (ends : List ℕ) (len : ℕ) → 0 < length ends
     → get_or ends (length ends - 1) 0 ≡ len → length tallies ≤ len
     → AreCounts pages ends tallies → AreRuns (ends_with (len + 1) (take (length ends - 1) ends)) (len + 1)
     → Grown pages tallies (ends_with (len + 1) (take (length ends - 1) ends))
@@ -161,7 +161,7 @@ rises pages tallies ends len some last low h runs =
     le-ltb (length pages) (length (front ++ (len + 1) ∷ [])) (omega (arith, size, h.len)) in
     rw no (counts_raised pages tallies front len (len + 1) low (omega arith) before runs)
 
-opens : (pages : List PageCounts) (tallies : List Tally) (ends : List ℕ) (len : ℕ)
+opens : (pages : List LogPageCounts) (tallies : List Tally) (ends : List ℕ) (len : ℕ)
     → (0 < length ends → get_or ends (length ends - 1) 0 ≡ len) → (length ends ≡ 0 → len ≡ 0) → length tallies ≤ len
     → AreCounts pages ends tallies → AreRuns (ends_with (len + 1) ends) (len + 1) → Grown pages tallies (ends_with (len + 1) ends)
 opens pages tallies ends len last none low h runs =
@@ -174,7 +174,7 @@ no_ends : (most : ℕ) (ends : List ℕ) (len : ℕ) → AreEnds most 0 ends len
 no_ends most [] len h q = sym h
 no_ends most (e ∷ ends) len h q = absurd (omega (arith, q))
 
-pub counts_grow : (chain : ChainState) (e : Entry) (pages : List PageCounts) (tallies : List Tally) → IsChain chain
+pub counts_grow : (chain : ChainState) (e : Entry) (pages : List LogPageCounts) (tallies : List Tally) → IsChain chain
     → IsChain (appended e chain) → length tallies ≤ length chain.entries
     → AreCounts pages chain.ends tallies → AreCounts (counts_for pages (appended e chain).ends) (appended e chain).ends tallies
 counts_grow chain e pages tallies is next low h = go (nat_lt (len - start_in chain.ends len (length chain.ends - 1)) chain.page) refl where

@@ -10,7 +10,7 @@ use Rattle.nv_entry.specs.Covered.{part_count, part_total}
 use Rattle.nv_log.specs.Chain.{ChainState, IsChain, log, parts_from}
 use Rattle.nv_log.proofs.Parts.{length-parts, part_is}
 use Rattle.nv_cell.specs.declared.mark.Mark.{Mark}
-use Rattle.nv_cell.specs.declared.tally.PageCounts.{PageCounts}
+use Rattle.nv_cell.specs.declared.tally.LogPageCounts.{LogPageCounts}
 use Rattle.nv_cell.specs.declared.tally.Tally.{Tally}
 use Rattle.nv_cell.specs.Marks.{is_current, is_there}
 use Rattle.nv_cell.specs.Numbers.{part_base}
@@ -142,7 +142,7 @@ page_count test pass chain tallies marks k is len same lt =
     (λ i low. same i (omega (arith, low, len)))
     ∙ ap (count_by (list_any test)) (sym (rw (start, begun) at part))
 
-pub counts_are : (chain : ChainState) (pages : List PageCounts) (tallies : List Tally) (ends : List ℕ) (marks : List Mark) (k : ℕ)
+pub counts_are : (chain : ChainState) (pages : List LogPageCounts) (tallies : List Tally) (ends : List ℕ) (marks : List Mark) (k : ℕ)
     → IsChain chain → AreTallies tallies ends marks → AreCounts pages chain.ends tallies → length ends ≡ chain.tail
     → ((j : ℕ) → j < chain.tail → end_at ends j ≡ part_base chain.entries (j + 1)) → k < length chain.ends
     → counts_at pages k ≡ record {

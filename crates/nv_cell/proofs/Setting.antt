@@ -4,7 +4,7 @@ use Rattle.std.specs.Prelude.{count_by}
 use Rattle.std.proofs.lemmas.Bool.{lt-ltb}
 use Rattle.nv_cell.specs.declared.mark.Mark.{Mark}
 use Rattle.nv_cell.specs.declared.mark.Mark.TheVariants.{Current, Out}
-use Rattle.nv_cell.specs.declared.tally.PageCounts.{PageCounts}
+use Rattle.nv_cell.specs.declared.tally.LogPageCounts.{LogPageCounts}
 use Rattle.nv_cell.specs.declared.tally.Tally.{Tally}
 use Rattle.nv_cell.specs.Marks.{bit, is_current, is_there, mark_at}
 use Rattle.nv_cell.specs.Tallies.{AreRuns, AreTallied, AreTallies, IsInRun, counts_at, first_slot, no_counts, is_valid, moved, no_tally, recounted, tally_at, with_entry}
@@ -78,7 +78,7 @@ reads m {n} {i} {ends} {was} {old} h there same at was_at old_at =
     }
 
 -- a part gets another mark, and its entry's tally and its page's counts go along
-pub set_tallied : {m : Marks} {page_ends : List ℕ} {n i k : ℕ} {was : Mark} {old t : Tally} {before c : PageCounts}
+pub set_tallied : {m : Marks} {page_ends : List ℕ} {n i k : ℕ} {was : Mark} {old t : Tally} {before c : LogPageCounts}
     (mark : Mark) (there : ℕ)
     → AreTallied m page_ends
     → IsRead m n i was old → is_there (mark_at m.marks.items n) ≡ true → IsInRun page_ends i k
@@ -107,7 +107,7 @@ count_append test [] ys = omega arith
 count_append test (x ∷ xs) ys = omega (arith, count_cons test x (xs ++ ys), count_cons test x xs, count_append test xs ys)
 
 -- one more entry, with parts that are all current
-pub add_tallied : (m : Marks) (page_ends : List ℕ) (k parts : ℕ) (t : Tally) (before c : PageCounts) (marks : Vec Mark) (ends : Vec ℕ)
+pub add_tallied : (m : Marks) (page_ends : List ℕ) (k parts : ℕ) (t : Tally) (before c : LogPageCounts) (marks : Vec Mark) (ends : Vec ℕ)
     (tallies : Vec Tally) → AreTallied m page_ends
     → IsInRun page_ends (length m.tallies.items) k → AreRuns page_ends (length m.tallies.items + 1)
     → t.current ≡ parts → t.there ≡ parts → t.slots_end ≡ first_slot m.tallies.items (length m.tallies.items) + (parts - 1)

@@ -4,7 +4,7 @@ use Rattle.std.proofs.lemmas.Grind.{common_steps}
 use Rattle.nv_cell.specs.declared.mark.Mark.{Mark}
 use Rattle.nv_cell.specs.declared.mark.Mark.TheVariants.{Current, Out}
 use Rattle.nv_cell.specs.declared.tally.Tally.{Tally}
-use Rattle.nv_cell.specs.declared.tally.PageCounts.{PageCounts}
+use Rattle.nv_cell.specs.declared.tally.LogPageCounts.{LogPageCounts}
 use Rattle.nv_cell.specs.Marks.{is_current, is_there, bit, mark_at}
 use Rattle.nv_cell.specs.Tallies.{AreRuns, AreTallies, AreCounts, start_at, end_at, count_in, is_live, is_valid, moved, recounted, tally_at, no_tally, counts_at, no_counts, first_slot, IsInRun}
 use Rattle.std.specs.Prelude.{count_by}
@@ -27,13 +27,13 @@ counted test d xs ends k i c fails q lt s e =
 pub few : {X : Type 0} (test : X → Bool) (xs : List X) (from to c : ℕ) → c ≡ count_in test xs from to → c ≤ length xs
 few test xs from to c q = let b = both test (λ x. false) (λ x h. refl) xs from to in omega (arith, b, q)
 
-counts_set : (pages : List PageCounts) (k j : ℕ) (c : PageCounts) → k < length pages
+counts_set : (pages : List LogPageCounts) (k j : ℕ) (c : LogPageCounts) → k < length pages
     → counts_at (slice_set pages k c) j ≡ cond (k == j) c (counts_at pages j)
 counts_set pages k j c lt = grind (arith, common_steps)
 
 -- one of the two counts of each page, after one entry's tally has changed
-new_count : (f : PageCounts → ℕ) (test : Tally → Bool) (tallies : List Tally) (pages : List PageCounts) (ends : List ℕ) (i k : ℕ)
-    (t : Tally) (c : PageCounts) → AreRuns ends (length tallies) → length pages ≡ length ends
+new_count : (f : LogPageCounts → ℕ) (test : Tally → Bool) (tallies : List Tally) (pages : List LogPageCounts) (ends : List ℕ) (i k : ℕ)
+    (t : Tally) (c : LogPageCounts) → AreRuns ends (length tallies) → length pages ≡ length ends
     → k < length ends → start_at ends k ≤ i → i < end_at ends k → i < length tallies → test no_tally ≡ false
     → ((j : ℕ) → j < length ends → f (counts_at pages j) ≡ count_in test tallies (start_at ends j) (end_at ends j))
     → f c ≡ f (counts_at pages k) - bit (test (tally_at tallies i)) + bit (test t)
@@ -49,11 +49,11 @@ new_count f test tallies pages ends i k t c runs len lk s e li fails old is =
     ))
     (λ j. ap f (counts_set pages k j c (omega arith)) ∙ pick (k == j) (counts_at pages j)
     ∙ rw (← bit_cond (test (tally_at tallies i)), ← bit_cond (test t), is) refl) where
-      pick : (b : Bool) (d : PageCounts) → f (cond b c d) ≡ cond b (f c) (f d)
+      pick : (b : Bool) (d : LogPageCounts) → f (cond b c d) ≡ cond b (f c) (f d)
       pick true d = refl
       pick false d = refl
 
-pub new_counts : (tallies : List Tally) (ends : List ℕ) (pages : List PageCounts) (i k : ℕ) (t : Tally) → AreCounts pages ends tallies
+pub new_counts : (tallies : List Tally) (ends : List ℕ) (pages : List LogPageCounts) (i k : ℕ) (t : Tally) → AreCounts pages ends tallies
     → k < length ends → start_at ends k ≤ i → i < end_at ends k → i < length tallies
     → AreCounts (slice_set pages k (recounted (counts_at pages k) (tally_at tallies i) t)) ends (slice_set tallies i t)
 new_counts tallies ends pages i k t h lk s e li =
@@ -242,8 +242,8 @@ push_count test (y ∷ ys) x (suc from) to =
     rw z (rw s at (push_count test ys x from (to - 1)))
 
 -- one of the two counts of each page, after one more entry
-push_counts : (f : PageCounts → ℕ) (test : Tally → Bool) (tallies : List Tally) (t : Tally) (pages : List PageCounts) (ends : List ℕ)
-    (k : ℕ) (c : PageCounts) → AreRuns ends (length tallies) → length pages ≡ length ends
+push_counts : (f : LogPageCounts → ℕ) (test : Tally → Bool) (tallies : List Tally) (t : Tally) (pages : List LogPageCounts) (ends : List ℕ)
+    (k : ℕ) (c : LogPageCounts) → AreRuns ends (length tallies) → length pages ≡ length ends
     → k < length ends → start_at ends k ≤ length tallies → length tallies < end_at ends k
     → ((j : ℕ) → j < length ends → f (counts_at pages j) ≡ count_in test tallies (start_at ends j) (end_at ends j))
     → f c ≡ f (counts_at pages k) + bit (test t)
@@ -417,7 +417,7 @@ add_tallies tallies t ends marks count h current_is there_is slots_is = record {
     | inr g ↦ rw (at_end j lj g) (omega (arith, end_new ends (length marks + count), size))
   ]
 
-pub add_counts : (tallies : List Tally) (ends : List ℕ) (pages : List PageCounts) (k : ℕ) (t : Tally) (c : PageCounts)
+pub add_counts : (tallies : List Tally) (ends : List ℕ) (pages : List LogPageCounts) (k : ℕ) (t : Tally) (c : LogPageCounts)
     → AreCounts pages ends tallies → k < length ends → start_at ends k ≤ length tallies → length tallies < end_at ends k
     → AreRuns ends (length tallies + 1)
     → c.live ≡ (counts_at pages k).live + bit (is_live t) → c.valid ≡ (counts_at pages k).valid + bit (is_valid t)
@@ -430,11 +430,11 @@ add_counts tallies ends pages k t c h lk s e runs live valid = record {
 }
 
 -- what a page's counts count is there
-pub record CountsPage (c : PageCounts) (t : Tally) : Type 0 where
+pub record CountsPage (c : LogPageCounts) (t : Tally) : Type 0 where
   pub live : bit (is_live t) ≤ c.live
   pub valid : bit (is_valid t) ≤ c.valid
 
-pub counts_page : {tallies : List Tally} {ends : List ℕ} {pages : List PageCounts} {i k : ℕ} {c : PageCounts} → AreCounts pages ends tallies
+pub counts_page : {tallies : List Tally} {ends : List ℕ} {pages : List LogPageCounts} {i k : ℕ} {c : LogPageCounts} → AreCounts pages ends tallies
     → IsInRun ends i k → i < length tallies → c ≡ slice_index_or pages k c
     → CountsPage c (tally_at tallies i)
 counts_page {tallies} {ends} {pages} {i} {k} {c} h at lt is =
@@ -445,7 +445,7 @@ counts_page {tallies} {ends} {pages} {i} {k} {c} h at lt is =
       valid = rw b (counted is_valid no_tally tallies ends k i (counts_at pages k).valid refl (h.valid k at.within) lt at.start at.end);
     }
 
-pub few_live : (tallies : List Tally) (ends : List ℕ) (pages : List PageCounts) (k : ℕ) (c : PageCounts) → AreCounts pages ends tallies
+pub few_live : (tallies : List Tally) (ends : List ℕ) (pages : List LogPageCounts) (k : ℕ) (c : LogPageCounts) → AreCounts pages ends tallies
     → k < length ends → c ≡ slice_index_or pages k c
     → (c.live ≤ length tallies) × (c.valid ≤ length tallies)
 few_live tallies ends pages k c h lk is =

@@ -8,7 +8,7 @@ use Rattle.nv_entry.specs.declared.item.Item.TheVariants.{Gone}
 use Rattle.nv_entry.specs.Covered.{part_count}
 use Rattle.nv_log.specs.Chain.{last_of, parts_from}
 use Rattle.nv_cell.specs.declared.mark.Mark.{Mark}
-use Rattle.nv_cell.specs.declared.tally.PageCounts.{PageCounts}
+use Rattle.nv_cell.specs.declared.tally.LogPageCounts.{LogPageCounts}
 use Rattle.nv_cell.specs.Cell.{CellState, log_of}
 use Rattle.nv_cell.specs.Marks.{is_current, is_killed, is_there}
 
@@ -26,7 +26,7 @@ abbrev pub marks_of_page : CellState → ℕ → List (List Mark)
 marks_of_page cell page = slice_index_or (parts_from 0 cell.chain.ends (marks_by_entry (log_of cell) cell.marks)) page []
 
 -- how many published entries of a page have a current part, and how many one that is not out
-abbrev pub counts_of : CellState → ℕ → PageCounts
+abbrev pub counts_of : CellState → ℕ → LogPageCounts
 counts_of cell page = record {
   live = count_by (list_any is_current) (marks_of_page cell page);
   valid = count_by (list_any is_there) (marks_of_page cell page);

@@ -3,7 +3,7 @@ use Rattle.std.specs.Prelude.{◌≡◌, ℕ, ◌+◌, ◌-◌, ◌<◌, ◌≤�
 use Rattle.std.specs.List.{list_any}
 use Rattle.nv_cell.specs.declared.mark.Mark.{Mark}
 use Rattle.nv_cell.specs.declared.marks.Marks.{Marks}
-use Rattle.nv_cell.specs.declared.tally.PageCounts.{PageCounts}
+use Rattle.nv_cell.specs.declared.tally.LogPageCounts.{LogPageCounts}
 use Rattle.nv_cell.specs.declared.tally.Tally.{Tally}
 use Rattle.nv_cell.specs.Marks.{bit, is_current, is_there}
 pub use Rattle.nv_cell.specs.Runs.{start_at, end_at, AreRuns, IsInRun}
@@ -20,10 +20,10 @@ is_live t = nat_lt 0 t.current
 abbrev pub is_valid : Tally → Bool
 is_valid t = nat_lt 0 t.there
 
-abbrev pub no_counts : PageCounts
+abbrev pub no_counts : LogPageCounts
 no_counts = record { live = 0; valid = 0 }
 
-abbrev pub counts_at : List PageCounts → ℕ → PageCounts
+abbrev pub counts_at : List LogPageCounts → ℕ → LogPageCounts
 counts_at pages k = slice_index_or pages k no_counts
 
 -- a tally after one part has gone from one mark to another
@@ -34,14 +34,14 @@ moved t was mark = record t {
 }
 
 -- the counts of a page after one entry has gone from one tally to another
-abbrev pub recounted : PageCounts → Tally → Tally → PageCounts
+abbrev pub recounted : LogPageCounts → Tally → Tally → LogPageCounts
 recounted c was now = record {
   live = c.live - bit (is_live was) + bit (is_live now);
   valid = c.valid - bit (is_valid was) + bit (is_valid now);
 }
 
 -- the counts of a page with one more entry
-abbrev pub with_entry : PageCounts → Tally → PageCounts
+abbrev pub with_entry : LogPageCounts → Tally → LogPageCounts
 with_entry c t = record { live = c.live + bit (is_live t); valid = c.valid + bit (is_valid t) }
 
 -- how many of the items from `from` up to `to` pass a test
@@ -63,7 +63,7 @@ pub record AreTallies (tallies : List Tally) (ends : List ℕ) (marks : List Mar
   pub slots : (i : ℕ) → i < length ends → (tally_at tallies i).slots_end ≡ first_slot tallies i + (end_at ends i - start_at ends i - 1)
 
 -- each page's counts are those of its entries
-pub record AreCounts (pages : List PageCounts) (ends : List ℕ) (tallies : List Tally) : Type 0 where
+pub record AreCounts (pages : List LogPageCounts) (ends : List ℕ) (tallies : List Tally) : Type 0 where
   pub runs : AreRuns ends (length tallies)
   pub len : length pages ≡ length ends
   pub live : (k : ℕ) → k < length ends → (counts_at pages k).live ≡ count_in is_live tallies (start_at ends k) (end_at ends k)

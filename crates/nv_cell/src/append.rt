@@ -12,7 +12,7 @@ ghost use Rattle.nv_cell.specs.Room.{AddsPage, IsReadyFor};
 ghost use Rattle.nv_cell.specs.Tallies.{no_counts};
 
 use crate::needs::pages_added;
-use crate::{InodeCell, PageCounts};
+use crate::{InodeCell, LogPageCounts};
 use nv_alloc::{Block, BlockQueue};
 use nv_base::limits::FILE_PAGES;
 use nv_entry::{Entry, Item};
@@ -144,13 +144,13 @@ fn push_slots(slots: &mut Vec<Option<Block>>, item: &Item, queue: &mut BlockQueu
 }
 
 /// Opens the counts of one more page where the chain has one more with entries.
-fn count_pages(pages: &mut Vec<PageCounts>, count: usize)
+fn count_pages(pages: &mut Vec<LogPageCounts>, count: usize)
     requires { vec_len pages.old < count → vec_len pages.old < vec_capacity pages.old }
     ensures pages { pages.new.items ≡ (if nat_lt (length pages.old.items) count
         then pages.old.items ++ no_counts ∷ [] else pages.old.items) }
     ensures capacity { vec_capacity pages.new ≡ vec_capacity pages.old }
 {
     if pages.len() < count {
-        pages.push_reserved(PageCounts { live: 0, valid: 0 });
+        pages.push_reserved(LogPageCounts { live: 0, valid: 0 });
     }
 }

@@ -96,7 +96,7 @@ impl InodeCell {
     }
 
     /// What holds of each cell: its log is one, and its marks and blocks are those of its parts. Costs nothing.
-    pub fn known(&self)
+    pub fn use_invariant(&self)
         ensures { IsCell self.now.state }
     {
         let _ends = self.chain.ends();

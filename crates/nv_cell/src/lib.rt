@@ -42,5 +42,5 @@ pub(crate) use number::NumberedPart;
 pub(crate) use part_ends::PartEnds;
 pub use stat::Stat;
 pub(crate) use stays::Stays;
-pub use tally::PageCounts;
+pub use tally::LogPageCounts;
 pub(crate) use tally::Tally;

@@ -10,7 +10,7 @@ ghost use Rattle.nv_cell.specs.Tallies.{AreCounts, AreRuns, AreTallied, HasSpare
 ghost use Rattle.nv_cell.specs.declared.mark.Mark.TheVariants as mark;
 
 use crate::grow::{LEAST_ENTRIES, LEAST_PARTS, grow};
-use crate::{Mark, NumberedPart, PageCounts, PartEnds, Tally};
+use crate::{LogPageCounts, Mark, NumberedPart, PartEnds, Tally};
 use nv_alloc::Block;
 use nv_base::Fault;
 use nv_log::Chain;
@@ -24,7 +24,7 @@ pub struct Marks {
     pub(crate) marks: Vec<Mark>,
     pub(crate) ends: PartEnds,
     pub(crate) tallies: Vec<Tally>,
-    pub(crate) pages: Vec<PageCounts>,
+    pub(crate) pages: Vec<LogPageCounts>,
     /// How many parts are not out.
     pub(crate) there: usize,
 }

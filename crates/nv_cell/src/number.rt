@@ -11,7 +11,7 @@ ghost use Rattle.nv_cell.specs.Tallies.{start_at};
 
 use crate::Marks;
 use nv_base::limits::FILE_PAGES;
-use nv_entry::{Item, Part, PartId, Run};
+use nv_entry::{BlockRun, Item, Part, PartId};
 use nv_log::Chain;
 
 /// A part by its number among all parts of a log, and where its entry is to be looked for first: at the place in the
@@ -23,7 +23,7 @@ pub struct NumberedPart {
 }
 
 /// The place of a page among the parts of a Write.
-fn place_in_run(first: u32, run: &Run, page: u32) -> Option<u32>
+fn place_in_run(first: u32, run: &BlockRun, page: u32) -> Option<u32>
     ensures { result ≡ (if in_run first run.now page then Some (page - first + 1) else None) }
 {
     if page >= first && page - first < run.len && page < FILE_PAGES {

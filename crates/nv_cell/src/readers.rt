@@ -8,7 +8,7 @@ ghost use Rattle.nv_log.specs.Chain.{last_id, pages_for, room_of};
 ghost use Rattle.nv_cell.specs.Cell.{block_total, log_of};
 ghost use Rattle.nv_cell.specs.Readers.{counts_of, is_gone, keeps_nothing};
 
-use crate::{InodeCell, PageCounts};
+use crate::{InodeCell, LogPageCounts};
 use nv_base::EntryId;
 use nv_base::limits::NUMBER;
 use nv_entry::Item;
@@ -123,11 +123,11 @@ impl InodeCell {
 
     /// How many of a page's published entries have a current part, and how many one that is not out.
     /// No entry is one of a page that is not there.
-    pub fn counts(&self, page: usize) -> PageCounts
+    pub fn counts(&self, page: usize) -> LogPageCounts
         ensures { result ≡ counts_of self.now.state page }
     {
         if page >= self.chain.ends().len() {
-            return PageCounts { live: 0, valid: 0 };
+            return LogPageCounts { live: 0, valid: 0 };
         }
         self.marks.pages[page]
     }

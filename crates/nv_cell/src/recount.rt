@@ -8,7 +8,7 @@ ghost use Rattle.nv_cell.specs.Marks.{is_current, is_there};
 ghost use Rattle.nv_cell.specs.Numbers.{part_base};
 ghost use Rattle.nv_cell.specs.Tallies.{AreCounts, AreRuns, AreTallied, AreTallies, SameCapacity, count_in, end_at, is_live, is_valid};
 
-use crate::{Mark, Marks, PageCounts, PartEnds, Tally};
+use crate::{LogPageCounts, Mark, Marks, PartEnds, Tally};
 use nv_log::Chain;
 
 /// The tally of an entry with these marks, whose slots end at `slots_end`.
@@ -43,11 +43,11 @@ fn tally_in(marks: &[Mark], start: usize, end: usize, slots_end: usize) -> Tally
 }
 
 /// How many entries with these tallies are live, and how many are valid.
-fn counts_of(tallies: &[Tally]) -> PageCounts
+fn counts_of(tallies: &[Tally]) -> LogPageCounts
     ensures live { result.live ≡ count_by is_live tallies.now }
     ensures valid { result.valid ≡ count_by is_valid tallies.now }
 {
-    PageCounts {
+    LogPageCounts {
         live: tallies.iter().filter(|tally| tally.is_live()).count(),
         valid: tallies.iter().filter(|tally| tally.is_valid()).count(),
     }
@@ -81,7 +81,7 @@ fn retally(ends: &mut PartEnds, tallies: &mut Vec<Tally>, marks: &[Mark], chain:
 }
 
 /// Counts the entries of each page by their tallies.
-fn recount_pages(pages: &mut Vec<PageCounts>, page_ends: &[usize], tallies: &[Tally])
+fn recount_pages(pages: &mut Vec<LogPageCounts>, page_ends: &[usize], tallies: &[Tally])
     requires runs { AreRuns page_ends.now (length tallies.now) }
     requires room { length page_ends.now ≤ vec_capacity pages.old }
     ensures counts { AreCounts pages.new.items page_ends.now tallies.now }

@@ -17,7 +17,7 @@ pub struct Tally {
 
 /// How many entries of a page have a current part, and how many have one that is current, killed or kept.
 #[derive(Clone, Copy, Debug, PartialEq, Eq)]
-pub struct PageCounts {
+pub struct LogPageCounts {
     pub live: usize,
     pub valid: usize,
 }
@@ -55,28 +55,28 @@ impl Tally {
     }
 }
 
-impl PageCounts {
+impl LogPageCounts {
     /// The counts with one more entry.
-    pub(crate) fn with_entry(self, tally: Tally) -> PageCounts
+    pub(crate) fn with_entry(self, tally: Tally) -> LogPageCounts
         requires live { self.live + 1 < 2 ^ 64 }
         requires valid { self.valid + 1 < 2 ^ 64 }
         ensures { result ≡ with_entry self tally }
     {
-        PageCounts {
+        LogPageCounts {
             live: more(self.live, tally.is_live()),
             valid: more(self.valid, tally.is_valid()),
         }
     }
 
     /// The counts after an entry of the page has gone from one tally to another that has no more parts.
-    pub(crate) fn recounted(self, was: Tally, now: Tally) -> PageCounts
+    pub(crate) fn recounted(self, was: Tally, now: Tally) -> LogPageCounts
         requires live { bit (is_live was) ≤ self.live }
         requires valid { bit (is_valid was) ≤ self.valid }
         requires no_more_live { is_live now ≡ true → is_live was ≡ true }
         requires no_more_valid { is_valid now ≡ true → is_valid was ≡ true }
         ensures { result ≡ recounted self was now }
     {
-        PageCounts {
+        LogPageCounts {
             live: less(self.live, was.is_live(), now.is_live()),
             valid: less(self.valid, was.is_valid(), now.is_valid()),
         }

@@ -14,12 +14,12 @@ use Rattle.nv_alloc.specs.Numbers.{has}
 use Rattle.nv_calls.specs.Cells.{OnlyAt, ino_at, no_cell, value_at, with_value}
 use Rattle.nv_calls.specs.Commit.{CommitValue, after_append, begun, to_append}
 use Rattle.nv_calls.specs.Progress.{is_open}
-use Rattle.nv_calls.specs.Ready.{CellPlanValue, ReadyValue, no_plan, plan_at}
+use Rattle.nv_calls.specs.Ready.{CellCommitValue, ReadyValue, no_plan, plan_at}
 use Rattle.nv_calls.specs.SlotCells.{cell_in, lent_cells}
 use Rattle.nv_calls.specs.Slots.{ArePlaced, entries_of, items_for, place_in}
 use Rattle.nv_calls.specs.Steps as code
 use Rattle.nv_calls.specs.Steps.{numbers_in, pages_from, stamped_entries, with_plan}
-use Rattle.nv_calls.specs.declared.plan.Planned.{Planned}
+use Rattle.nv_calls.specs.declared.plan.InodePlan.{InodePlan}
 use Rattle.nv_calls.specs.declared.stamp.Stamp.{Stamp}
 use Rattle.nv_cell.specs.Cell.{CellState, CellValue}
 use Rattle.nv_cell.specs.declared.killed.KilledPart.{KilledPart}
@@ -33,8 +33,8 @@ use Rattle.nv_machine.specs.Sequence.{appending}
 use Rattle.nv_machine.specs.World as machine
 use Rattle.nv_machine.specs.World.{cell_at, go_to, with_cell}
 use Rattle.nv_core.specs.Appends.{IsPlanOf}
-use Rattle.nv_core.specs.Shown.{Told, commit_next, hand_in, hand_with, killed_in, shared_of, shown_commit, slots_in}
-use Rattle.nv_core.specs.Told.{ArePlansOf, IsCommitOf, IsOnItsWay, IsPlaceOf, IsReadyOf}
+use Rattle.nv_core.specs.Shown.{GhostCall, commit_next, hand_in, hand_with, killed_in, shared_of, shown_commit, slots_in}
+use Rattle.nv_core.specs.GhostCalls.{ArePlansOf, IsCommitOf, IsOnItsWay, IsPlaceOf, IsReadyOf}
 use Rattle.nv_core.specs.declared.running.Running.{Running}
 use Rattle.nv_core.specs.declared.shared.Shared.{Shared}
 use Rattle.nv_core.proofs.Publishes.{state_there, states_set}
@@ -88,21 +88,21 @@ lent_only slots old new k value lt is =
 
 -- ---- the commit
 
-none_first : (plans : List CellPlanValue) → map (λ (p : CellPlanValue). p.killed) (drop 0 (take 0 plans)) ≡ []
+none_first : (plans : List CellCommitValue) → map (λ (p : CellCommitValue). p.killed) (drop 0 (take 0 plans)) ≡ []
 none_first [] = refl
 none_first (p ∷ plans) = refl
 
 -- before the first publish nothing is killed
 pub none_killed : (c : CommitValue) → c.published ≡ 0 → c.retired ≡ 0 → killed_in c ≡ []
 none_killed c published retired =
-    ap (λ (n : ℕ). map (λ (p : CellPlanValue). p.killed) (drop c.retired (take n c.plans))) published
-    ∙ ap (λ (n : ℕ). map (λ (p : CellPlanValue). p.killed) (drop n (take 0 c.plans))) retired
+    ap (λ (n : ℕ). map (λ (p : CellCommitValue). p.killed) (drop c.retired (take n c.plans))) published
+    ∙ ap (λ (n : ℕ). map (λ (p : CellCommitValue). p.killed) (drop n (take 0 c.plans))) retired
     ∙ none_first c.plans
 
 -- the plans of which one has no items any more are at the same places
-pub ats_stay : (slots : List ℕ) (plans : List CellPlanValue) (j : ℕ)
-    → map (λ (p : CellPlanValue). slot_at slots p.at) (slice_set plans j (record (plan_at plans j) { items = [] }))
-    ≡ map (λ (p : CellPlanValue). slot_at slots p.at) plans
+pub ats_stay : (slots : List ℕ) (plans : List CellCommitValue) (j : ℕ)
+    → map (λ (p : CellCommitValue). slot_at slots p.at) (slice_set plans j (record (plan_at plans j) { items = [] }))
+    ≡ map (λ (p : CellCommitValue). slot_at slots p.at) plans
 ats_stay slots [] j = refl
 ats_stay slots (p ∷ plans) zero = refl
 ats_stay slots (p ∷ plans) (suc j) = ap (λ (rest : List ℕ). slot_at slots p.at ∷ rest) (ats_stay slots plans j)
@@ -114,7 +114,7 @@ closed_yet c way lt = go (is_open c) refl where
   go true q = let full = (way.opened q).1 in absurd (omega (arith, full, lt))
   go false q = refl
 
-pub append_told : (slots : List ℕ) (old new : CommitValue) (cell : CellState) (told : Told)
+pub append_told : (slots : List ℕ) (old new : CommitValue) (cell : CellState) (told : GhostCall)
     → new ≡ after_append cell.chain old → IsCommitOf slots old told → IsCommitOf slots new told
 append_told slots old new cell told commit is =
     let many : length (slice_set old.plans old.appended (record (to_append old) { items = [] })) ≡ length old.plans =
@@ -132,7 +132,7 @@ append_told slots old new cell told commit is =
         → (plan_at (slice_set old.plans old.appended (record (to_append old) { items = [] })) j).items
         ≡ items_for told.plan (slot_at slots (plan_at (slice_set old.plans old.appended (record (to_append old) { items = [] })) j).at)
     later j from lt =
-        subst (λ (p : CellPlanValue). p.items ≡ items_for told.plan (slot_at slots p.at))
+        subst (λ (p : CellCommitValue). p.items ≡ items_for told.plan (slot_at slots p.at))
         (sym (get_or-set_other old.plans old.appended j (record (to_append old) { items = [] }) no_plan
         (λ same. absurd (omega (arith, from, same)))))
         (is.plans.items j (omega (arith, from)) lt)
@@ -155,7 +155,7 @@ append_way old new cell way lt commit =
     })
 
 -- the machine's append to the cell to which the commit appends
-pub appends : (shared : Shared) (running : Running) (old new : CommitValue) (cells : List CellValue) (told : Told) (i : ℕ)
+pub appends : (shared : Shared) (running : Running) (old new : CommitValue) (cells : List CellValue) (told : GhostCall) (i : ℕ)
     → IsCommitOf (slots_in running.slots) old told → IsPlaceOf (slots_in running.slots) old told → IsOnItsWay old
     → old.appended < length old.plans → i ≡ slot_at (slots_in running.slots) (to_append old).at → i < length shared.cells.items
     → cells ≡ slice_set shared.cells.items i (cell_in cells i)
@@ -175,7 +175,7 @@ appends shared running old new cells told i is placed way lt place there only va
     let its = (to_append old).items in
     let cell = (cell_in shared.cells.items i).state in
     let after = after_append cell.chain old in
-    let f : CellPlanValue → ℕ = λ plan. slot_at slots plan.at in
+    let f : CellCommitValue → ℕ = λ plan. slot_at slots plan.at in
     let at : slot_at w a ≡ i =
     ap (λ (xs : List ℕ). slot_at xs a) is.plans.written ∙ get_or-map f old.plans a no_plan 0 lt ∙ sym place in
     let items : items_for told.plan i ≡ its =
@@ -231,7 +231,7 @@ appends shared running old new cells told i is placed way lt place there only va
 -- ---- places
 
 -- where none of some numbers has entries, the place stays
-stays : (plan : List Planned) → ArePlaced plan → (from n : ℕ) → ((x : ℕ) → from ≤ x → x < from + n → is_written plan x ≡ false)
+stays : (plan : List InodePlan) → ArePlaced plan → (from n : ℕ) → ((x : ℕ) → from ≤ x → x < from + n → is_written plan x ≡ false)
     → place_in plan (from + n) ≡ place_in plan from
 stays plan placed from zero none = ap (place_in plan) (let e : from + 0 ≡ from = omega arith in e)
 stays plan placed from (suc n) none =
@@ -241,11 +241,11 @@ stays plan placed from (suc n) none =
     let now : place_in plan (from + n + 1) ≡ place_in plan (from + n) + length (items_for plan (from + n)) = placed.next (from + n) in
     ap (place_in plan) here ∙ (let e : place_in plan (from + n + 1) ≡ place_in plan (from + n) = omega (arith, now, few) in e) ∙ before
   where
-    unwritten : (plan : List Planned) (x : ℕ) → is_written plan x ≡ false → length (items_for plan x) ≡ 0
+    unwritten : (plan : List InodePlan) (x : ℕ) → is_written plan x ≡ false → length (items_for plan x) ≡ 0
     unwritten plan x is = let least = ltb-false 0 (length (items_for plan x)) is in omega (arith, least)
 
 -- between two of these slots, or below the first, no other is among them
-between : (slots : List ℕ) (plan : List Planned) → AllPairs (λ (a b : ℕ). a < b) slots → IsPlanOf slots plan → (x : ℕ)
+between : (slots : List ℕ) (plan : List InodePlan) → AllPairs (λ (a b : ℕ). a < b) slots → IsPlanOf slots plan → (x : ℕ)
     → ((j : ℕ) → j < length (filter (is_written plan) slots) → slot_at (filter (is_written plan) slots) j ≢ x) → is_written plan x ≡ false
 between slots plan rises is x apart = go (is_written plan x) refl where
   w : List ℕ
@@ -262,7 +262,7 @@ between slots plan rises is x apart = go (is_written plan x) refl where
       absurd (found (Any-from_list_any (λ m. m == x) w (kept ∙ is.within x q)))
 
 -- the first of them has place 0
-pub place_first : (slots : List ℕ) (plan : List Planned) → AllPairs (λ (a b : ℕ). a < b) slots → IsPlanOf slots plan
+pub place_first : (slots : List ℕ) (plan : List InodePlan) → AllPairs (λ (a b : ℕ). a < b) slots → IsPlanOf slots plan
     → 0 < length (filter (is_written plan) slots) → place_in plan (slot_at (filter (is_written plan) slots) 0) ≡ 0
 place_first slots plan rises is some =
     ap (place_in plan) (let e : slot_at w 0 ≡ 0 + slot_at w 0 = omega arith in e)
@@ -282,7 +282,7 @@ place_first slots plan rises is some =
         (arith, more, same, less)
 
 -- and each further one the place behind the entries of the one before
-pub place_next : (slots : List ℕ) (plan : List Planned) → AllPairs (λ (a b : ℕ). a < b) slots → IsPlanOf slots plan
+pub place_next : (slots : List ℕ) (plan : List InodePlan) → AllPairs (λ (a b : ℕ). a < b) slots → IsPlanOf slots plan
     → (k : ℕ) → suc k < length (filter (is_written plan) slots)
     → place_in plan (slot_at (filter (is_written plan) slots) (suc k))
     ≡ place_in plan (slot_at (filter (is_written plan) slots) k) + length (items_for plan (slot_at (filter (is_written plan) slots) k))
@@ -319,18 +319,18 @@ place_next slots plan rises is k lt =
             omega (arith, here, same, high)
 
 -- the slot of a plan is that of the written ones
-written_at : (slots : List ℕ) (plan : List Planned) (from : ℕ) (plans : List CellPlanValue) → ArePlansOf slots plan from plans → (j : ℕ)
+written_at : (slots : List ℕ) (plan : List InodePlan) (from : ℕ) (plans : List CellCommitValue) → ArePlansOf slots plan from plans → (j : ℕ)
     → j < length plans → slot_at (filter (is_written plan) slots) j ≡ slot_at slots (plan_at plans j).at
 written_at slots plan from plans are j lt =
-    ap (λ (xs : List ℕ). slot_at xs j) are.written ∙ get_or-map (λ (p : CellPlanValue). slot_at slots p.at) plans j no_plan 0 lt
+    ap (λ (xs : List ℕ). slot_at xs j) are.written ∙ get_or-map (λ (p : CellCommitValue). slot_at slots p.at) plans j no_plan 0 lt
 
-pub append_place : (slots : List ℕ) (old new : CommitValue) (chain : ChainState) (told : Told) → AllPairs (λ (a b : ℕ). a < b) slots
+pub append_place : (slots : List ℕ) (old new : CommitValue) (chain : ChainState) (told : GhostCall) → AllPairs (λ (a b : ℕ). a < b) slots
     → new ≡ after_append chain old → old.appended < length old.plans → IsCommitOf slots old told → IsPlaceOf slots old told
     → IsPlanOf slots told.plan → IsPlaceOf slots new told
 append_place slots old new chain told rises commit lt is placed plans =
     subst (λ (c : CommitValue). IsPlaceOf slots c told) (sym commit) (λ less. next (omega (arith, less, many)))
   where
-    later : List CellPlanValue
+    later : List CellCommitValue
     later = slice_set old.plans old.appended (record (to_append old) { items = [] })
 
     many : length later ≡ length old.plans
@@ -346,21 +346,21 @@ append_place slots old new chain told rises commit lt is placed plans =
         let there : slot_at w (suc a) ≡ slot_at slots (plan_at old.plans (suc a)).at =
         written_at slots told.plan a old.plans is.plans (suc a) less in
         let size : length w ≡ length old.plans =
-        ap (λ (xs : List ℕ). length xs) is.plans.written ∙ length-map old.plans (λ (p : CellPlanValue). slot_at slots p.at) in
+        ap (λ (xs : List ℕ). length xs) is.plans.written ∙ length-map old.plans (λ (p : CellCommitValue). slot_at slots p.at) in
         let same : plan_at later (suc a) ≡ plan_at old.plans (suc a) =
         get_or-set_other old.plans a (suc a) (record (to_append old) { items = [] }) no_plan (λ e. absurd (omega (arith, e))) in
         ap (λ (n : ℕ). n + length (to_append old).items) (placed lt)
         ∙ ap (λ (xs : List Item). place_in told.plan (slot_at slots (to_append old).at) + length xs) (is.plans.items a (omega arith) lt)
         ∙ ap (λ (x : ℕ). place_in told.plan x + length (items_for told.plan x)) (sym here)
         ∙ sym (place_next slots told.plan rises plans a (omega (arith, less, size)))
-        ∙ ap (place_in told.plan) (there ∙ ap (λ (p : CellPlanValue). slot_at slots p.at) (sym same)
+        ∙ ap (place_in told.plan) (there ∙ ap (λ (p : CellCommitValue). slot_at slots p.at) (sym same)
         ∙ ap (λ (n : ℕ). slot_at slots (plan_at later n).at) (sym one))
 
-pub begin_place : (slots : List ℕ) (ready : ReadyValue) (stamp : Stamp) (told : Told) → AllPairs (λ (a b : ℕ). a < b) slots
+pub begin_place : (slots : List ℕ) (ready : ReadyValue) (stamp : Stamp) (told : GhostCall) → AllPairs (λ (a b : ℕ). a < b) slots
     → IsReadyOf slots ready told → IsPlanOf slots told.plan → IsPlaceOf slots (begun stamp ready) told
 begin_place slots ready stamp told rises is plans some =
     let w = filter (is_written told.plan) slots in
     let size : length w ≡ length ready.plans =
-    ap (λ (xs : List ℕ). length xs) is.written ∙ length-map ready.plans (λ (p : CellPlanValue). slot_at slots p.at) in
+    ap (λ (xs : List ℕ). length xs) is.written ∙ length-map ready.plans (λ (p : CellCommitValue). slot_at slots p.at) in
     sym (place_first slots told.plan rises plans (omega (arith, some, size)))
     ∙ ap (place_in told.plan) (written_at slots told.plan 0 ready.plans is 0 some)

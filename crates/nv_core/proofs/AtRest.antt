@@ -18,14 +18,14 @@ use Rattle.nv_core.proofs.WorldSteps.{shows_none, shows_some}
 use Rattle.nv_core.specs.AtRest.{IsBusy, at_rest, has_call, parts_of}
 use Rattle.nv_core.specs.Shown.{shared_of}
 use Rattle.nv_core.specs.Worlds.{IsWorld, Shows, ShowsRunning, WorldState}
-use Rattle.nv_core.specs.declared.hold.Hold.{Hold}
+use Rattle.nv_core.specs.declared.reservation.Reservation.{Reservation}
 use Rattle.nv_core.specs.declared.running.Running.{Running}
 use Rattle.nv_core.specs.declared.world.Actor.{Actor}
 
 -- ---- calls
 
 -- an actor with a call shows one with a call
-shows_call : (h : Hold) (o : Option Running) (x : Option machine.Running) → ShowsRunning h o x
+shows_call : (h : Reservation) (o : Option Running) (x : Option machine.Running) → ShowsRunning h o x
     → is_some o ≡ true → is_some x ≡ true
 shows_call h None x shows some = absurd (false≢true some)
 shows_call h (Some running) x shows some = ap is_some (shows_some h running x shows).1
@@ -37,7 +37,7 @@ busy w m shows some = found (Any-from_list_any has_call w.actors some) where
   found at =
       let shown = (shows.each at.0 at.1 at.2).running in
       let own = slice_index_or w.actors at.0 at.1 in
-      (at.0, shows_call own.hold own.running (actor_at m at.0).running shown (ap has_call at.3 ∙ at.4))
+      (at.0, shows_call own.reserved own.running (actor_at m at.0).running shown (ap has_call at.3 ∙ at.4))
 
 -- no actor has a call
 abbrev HasNone : machine.World → Type 0
@@ -69,8 +69,8 @@ module _ (w : WorldState) (none : list_any has_call w.actors ≡ false) where
         there : (d : Actor) → actor < length w.actors → (actor_at m actor).running ≡ None
         there d lt =
             let own = slice_index_or w.actors actor d in
-            shows_none own.hold (actor_at m actor).running
-            (subst (λ (o : Option Running). ShowsRunning own.hold o (actor_at m actor).running) (none_at actor d lt)
+            shows_none own.reserved (actor_at m actor).running
+            (subst (λ (o : Option Running). ShowsRunning own.reserved o (actor_at m actor).running) (none_at actor d lt)
             (shows.each actor d lt).running)
 
   -- two worlds that it shows have one hand of each actor, which is empty where it is in one

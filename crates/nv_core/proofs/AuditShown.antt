@@ -17,7 +17,7 @@ use Rattle.nv_audit.specs.declared.pending.InHands.{InHands}
 use Rattle.nv_alloc.specs.FreeList.{FreeBlocks}
 use Rattle.nv_calls.specs.Commit.{CommitValue}
 use Rattle.nv_calls.specs.Progress.{is_open, opens, step_of}
-use Rattle.nv_calls.specs.Ready.{CellPlanValue}
+use Rattle.nv_calls.specs.Ready.{CellCommitValue}
 use Rattle.nv_calls.specs.declared.progress.CommitStep.{CommitStep}
 use Rattle.nv_calls.specs.declared.progress.CommitStep.TheVariants as step
 use Rattle.nv_cell.specs.Cell.{CellValue}
@@ -29,10 +29,10 @@ use Rattle.nv_machine.specs.World as machine
 use Rattle.nv_core.specs.Audited.{HasPlans, blocks_by, device_of, killed_by_plan, killed_by_plans, parts_by, parts_by_actor, parts_by_call, parts_with, picked_by, slot_parts}
 use Rattle.nv_core.specs.Rooms.{HasActorRooms}
 use Rattle.nv_core.specs.Shown.{commit_next, held_by, killed_in, machine_step, next_of, shared_of, slots_in}
-use Rattle.nv_core.specs.Told.{IsOnItsWay}
+use Rattle.nv_core.specs.GhostCalls.{IsOnItsWay}
 use Rattle.nv_core.specs.Worlds.{IsWorld, Shows, ShowsRunning, WorldState}
-use Rattle.nv_core.specs.declared.hold.Hold.{Hold}
-use Rattle.nv_core.specs.declared.hold.Hold.TheVariants as hold
+use Rattle.nv_core.specs.declared.reservation.Reservation.{Reservation}
+use Rattle.nv_core.specs.declared.reservation.Reservation.TheVariants as reserved
 use Rattle.nv_core.specs.declared.next.Next.{Next}
 use Rattle.nv_core.specs.declared.next.Next.TheVariants as next
 use Rattle.nv_core.specs.declared.next.MaintenanceStep.TheVariants as on
@@ -83,13 +83,13 @@ alike_all {X} {Y} {Z} f h e (x ∷ xs) (y ∷ ys) len same =
 -- ---- the parts of a commit
 
 module _ (slots : List ℕ) where
-  abbrev slot_of : CellPlanValue → ℕ
+  abbrev slot_of : CellCommitValue → ℕ
   slot_of p = slot_at slots p.at
 
-  abbrev killed_of : CellPlanValue → List KilledPart
+  abbrev killed_of : CellCommitValue → List KilledPart
   killed_of p = p.killed
 
-  aligned : (ps : List CellPlanValue) → slot_parts (map slot_of ps) (map killed_of ps) ≡ flat_map (killed_by_plan slots) ps
+  aligned : (ps : List CellCommitValue) → slot_parts (map slot_of ps) (map killed_of ps) ≡ flat_map (killed_by_plan slots) ps
   aligned [] = refl
   aligned (p ∷ ps) = ap (λ (rest : List InodePart). killed_by_plan slots p ++ rest) (aligned ps)
 
@@ -97,7 +97,7 @@ module _ (slots : List ℕ) where
     abbrev many : ℕ
     many = length c.plans
 
-    abbrev left : List CellPlanValue
+    abbrev left : List CellCommitValue
     left = drop c.retired (take c.published c.plans)
 
     abbrev Parts : CommitStep → Type 0
@@ -119,7 +119,7 @@ module _ (slots : List ℕ) where
       go : (b : Bool) → nat_lt c.retired many ≡ b → Parts (if b then step.Retire else step.Leave)
       go true e =
           some_left (drop c.retired (map slot_of c.plans))
-          (drop_mapped slot_of c.retired c.plans ∙ ap (λ (ps : List CellPlanValue). map slot_of (drop c.retired ps)) (sym (whole le)))
+          (drop_mapped slot_of c.retired c.plans ∙ ap (λ (ps : List CellCommitValue). map slot_of (drop c.retired ps)) (sym (whole le)))
       go false e =
           none_left (ap (drop c.retired) (whole le) ∙ drop_whole c.retired c.plans (ltb-false c.retired many e))
 
@@ -179,43 +179,43 @@ append_none : (xs ys : List InodePart) → ys ≡ [] → xs ++ ys ≡ xs
 append_none [] ys e = e
 append_none (x ∷ xs) ys e = ap (λ (rest : List InodePart). x ∷ rest) (append_none xs ys e)
 
-parts_shown : (shared : Shared) (h : Hold) (running : Option Running) (hand : machine.HandState) (r : Option machine.Running)
+parts_shown : (shared : Shared) (h : Reservation) (running : Option Running) (hand : machine.HandState) (r : Option machine.Running)
     → held_by h ≡ hand → ShowsRunning h running r → HasActorRooms shared h running → parts_with h running ≡ parts_by_call r hand
-parts_shown shared (hold.Hand mine) None hand None e shows rooms = refl
-parts_shown shared (hold.Ready ready) None hand None e shows rooms = absurd rooms
-parts_shown shared (hold.Commit commit) None hand None e shows rooms = absurd rooms
+parts_shown shared (reserved.Hand mine) None hand None e shows rooms = refl
+parts_shown shared (reserved.Ready ready) None hand None e shows rooms = absurd rooms
+parts_shown shared (reserved.Commit commit) None hand None e shows rooms = absurd rooms
 parts_shown shared h None hand (Some r) e shows rooms = absurd shows
 parts_shown shared h (Some running) hand None e shows rooms = absurd shows
-parts_shown shared (hold.Hand mine) (Some running) hand (Some r) e shows rooms =
+parts_shown shared (reserved.Hand mine) (Some running) hand (Some r) e shows rooms =
     let next_is : next_of running.next ≡ r.next = ap (λ (q : machine.Running). q.next) shows.shown in
     let killed : hand.killed ≡ [] = sym (ap (λ (x : machine.HandState). x.killed) e) in
     picks running.next ∙ ap (λ (k : machine.Next). map inode_part (picked_at k)) next_is
     ∙ sym (append_none (map inode_part (picked_at r.next)) (slot_parts (killed_slots r.next (written_slots r)) hand.killed)
     (ap (slot_parts (killed_slots r.next (written_slots r))) killed ∙ no_slot_parts (killed_slots r.next (written_slots r))))
-parts_shown shared (hold.Ready ready) (Some running) hand (Some r) e shows rooms =
+parts_shown shared (reserved.Ready ready) (Some running) hand (Some r) e shows rooms =
     let next_is : machine.Enter ≡ r.next = ap (λ (q : machine.Running). q.next) shows.shown in
     ap (λ (k : machine.Next). map inode_part (picked_at k) ++ slot_parts (killed_slots k (written_slots r)) hand.killed) next_is
-parts_shown shared (hold.Commit commit) (Some running) hand (Some r) e shows rooms =
+parts_shown shared (reserved.Commit commit) (Some running) hand (Some r) e shows rooms =
     let slots = slots_in running.slots in
     let next_is : commit_next commit ≡ r.next = ap (λ (q : machine.Running). q.next) shows.shown in
     let slots_are : slots ≡ r.slots = ap (λ (q : machine.Running). q.slots) shows.shown in
     let killed : killed_in commit ≡ hand.killed = ap (λ (x : machine.HandState). x.killed) e in
-    let written : map (λ (p : CellPlanValue). slot_at slots p.at) commit.plans ≡ written_slots r =
+    let written : map (λ (p : CellCommitValue). slot_at slots p.at) commit.plans ≡ written_slots r =
     sym shows.plan.plans.written ∙ ap (filter (is_written r.plan)) slots_are in
     commit_parts slots commit rooms.3.way
     ∙ ap (λ (k : machine.Next). map inode_part (picked_at k)
-    ++ slot_parts (killed_slots k (map (λ (p : CellPlanValue). slot_at slots p.at) commit.plans)) (killed_in commit)) next_is
+    ++ slot_parts (killed_slots k (map (λ (p : CellCommitValue). slot_at slots p.at) commit.plans)) (killed_in commit)) next_is
     ∙ ap (λ (ws : List ℕ). map inode_part (picked_at r.next) ++ slot_parts (killed_slots r.next ws) (killed_in commit)) written
     ∙ ap (λ (ks : List (List KilledPart)). map inode_part (picked_at r.next) ++ slot_parts (killed_slots r.next (written_slots r)) ks)
     killed
 
 -- ---- a world
 
-plans_of : (shared : Shared) (h : Hold) (running : Option Running) → HasActorRooms shared h running → HasPlans h
-plans_of shared (hold.Hand mine) running rooms = tt
-plans_of shared (hold.Ready ready) running rooms = tt
-plans_of shared (hold.Commit commit) None rooms = absurd rooms
-plans_of shared (hold.Commit commit) (Some running) rooms = rooms.3.way.published
+plans_of : (shared : Shared) (h : Reservation) (running : Option Running) → HasActorRooms shared h running → HasPlans h
+plans_of shared (reserved.Hand mine) running rooms = tt
+plans_of shared (reserved.Ready ready) running rooms = tt
+plans_of shared (reserved.Commit commit) None rooms = absurd rooms
+plans_of shared (reserved.Commit commit) (Some running) rooms = rooms.3.way.published
 
 -- what an audit is told of a world
 abbrev gathered : WorldState → Device
@@ -229,9 +229,9 @@ gathered v = record {
 }
 
 module _ (v : WorldState) (is : IsWorld v) where
-  pub have_plans : (k : ℕ) (d : Actor) → k < length v.actors → HasPlans (slice_index_or v.actors k d).hold
+  pub have_plans : (k : ℕ) (d : Actor) → k < length v.actors → HasPlans (slice_index_or v.actors k d).reserved
   have_plans k d lt =
-      let actor = slice_index_or v.actors k d in plans_of v.shared actor.hold actor.running (is.2.rooms k d lt)
+      let actor = slice_index_or v.actors k d in plans_of v.shared actor.reserved actor.running (is.2.rooms k d lt)
 
   -- it is the machine's world as a device
   device_shown : (m : machine.World) → Shows v m → gathered v ≡ device_of m.numbers m
@@ -240,7 +240,7 @@ module _ (v : WorldState) (is : IsWorld v) where
       alike_all parts_by parts_by_actor machine.idle v.actors m.actors shows.count (λ k d lt.
       let actor = slice_index_or v.actors k d in
       let own = shows.each k d lt in
-      parts_shown v.shared actor.hold actor.running (machine.actor_at m k).hand (machine.actor_at m k).running own.hand own.running
+      parts_shown v.shared actor.reserved actor.running (machine.actor_at m k).hand (machine.actor_at m k).running own.hand own.running
       (is.2.rooms k d lt)) in
       let blocks : flat_map blocks_by v.actors ≡ flat_map held_by_actor m.actors =
       alike_all blocks_by held_by_actor machine.idle v.actors m.actors shows.count

@@ -8,22 +8,22 @@ use Rattle.nv_machine.specs.Bound.{bound_at, bound_of, most_steps}
 use Rattle.nv_machine.specs.World as machine
 use Rattle.nv_machine.specs.World.{actor_at, idle}
 use Rattle.nv_core.proofs.WorldSteps.{shows_none, shows_some}
-use Rattle.nv_core.specs.Shown.{Told, shown_by}
+use Rattle.nv_core.specs.Shown.{GhostCall, shown_by}
 use Rattle.nv_core.specs.Worlds.{IsBounded, IsWorld, Shows, ShowsRunning, WorldState, most_goes, told_of}
-use Rattle.nv_core.specs.declared.hold.Hold.{Hold}
-use Rattle.nv_core.specs.declared.hold.Hold.TheVariants as hold
+use Rattle.nv_core.specs.declared.reservation.Reservation.{Reservation}
+use Rattle.nv_core.specs.declared.reservation.Reservation.TheVariants as reserved
 use Rattle.nv_core.specs.declared.running.Running.{Running}
 use Rattle.nv_core.specs.declared.world.Actor.{Actor}
 
 -- what is told of a call doesn't count
-told_same : (cpus : ℕ) (h : Hold) (running : Running) (a b : Told)
+told_same : (cpus : ℕ) (h : Reservation) (running : Running) (a b : GhostCall)
     → bound_of cpus (Some (shown_by h a running)) ≡ bound_of cpus (Some (shown_by h b running))
-told_same cpus (hold.Hand hand) running a b = refl
-told_same cpus (hold.Ready ready) running a b = refl
-told_same cpus (hold.Commit commit) running a b = refl
+told_same cpus (reserved.Hand hand) running a b = refl
+told_same cpus (reserved.Ready ready) running a b = refl
+told_same cpus (reserved.Commit commit) running a b = refl
 
 -- two calls that one call shows
-running_same : (cpus : ℕ) (h : Hold) (running : Option Running) (x y : Option machine.Running) → ShowsRunning h running x
+running_same : (cpus : ℕ) (h : Reservation) (running : Option Running) (x y : Option machine.Running) → ShowsRunning h running x
     → ShowsRunning h running y → bound_of cpus x ≡ bound_of cpus y
 running_same cpus h None x y one two = ap (bound_of cpus) (shows_none h x one ∙ sym (shows_none h y two))
 running_same cpus h (Some running) x y one two =
@@ -63,7 +63,7 @@ bound_same w m n actor one two = by_lists w m actor one ∙ go (nat_lt actor (le
       let lt = ltb-true actor (length w.actors) e in
       let d = one_of actor w.actors lt in
       let a = slice_index_or w.actors actor d in
-      running_same cpus a.hold a.running (actor_at m actor).running (actor_at n actor).running
+      running_same cpus a.reserved a.running (actor_at m actor).running (actor_at n actor).running
       (one.each actor d lt).running (two.each actor d lt).running
   go false e =
       let past = ltb-false actor (length w.actors) e in

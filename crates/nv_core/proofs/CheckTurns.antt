@@ -17,17 +17,17 @@ use Rattle.nv_machine.specs.Step.{ending_at, made_in, with_made}
 use Rattle.nv_machine.specs.World.{HandState}
 use Rattle.nv_machine.specs.World as machine
 use Rattle.nv_calls.specs.declared.log_pages.TheConstants.{MORE_PAGES}
-use Rattle.nv_core.proofs.CheckJobs.{Ends, drains_by_job, ending_told, few_by_job, no_visit, overtaken_by_job, owed_by, wanted_by_job, wants_by_job}
+use Rattle.nv_core.proofs.CheckRequests.{Ends, drains_by_job, ending_told, few_by_job, no_visit, overtaken_by_job, owed_by, wanted_by_job, wants_by_job}
 use Rattle.nv_core.proofs.Takes.{is_changed, over_all, wanted_same, with_both}
 use Rattle.nv_core.specs.Parts.{AreHome}
 use Rattle.nv_core.specs.Rooms.{CanCountPages, CanDrain, CanEnd, CanWantPages, FitsCall, HasItsBlocks, HasMade, HasRooms, IsChecked, IsHandOf, TakesBlocks, WantsBlocks, blocks_to_take, pages_to_take}
-use Rattle.nv_core.specs.Shown.{Told, ending_of, hand_of, shared_of, shown, slots_in}
+use Rattle.nv_core.specs.Shown.{GhostCall, ending_of, hand_of, shared_of, shown, slots_in}
 use Rattle.nv_core.specs.Steps.{CanBeChecked}
-use Rattle.nv_core.specs.Told.{IsChangeWith, IsOwed, IsToldOf, OwesAt, is_change}
-use Rattle.nv_core.specs.declared.hold.Hold.TheVariants as hold
+use Rattle.nv_core.specs.GhostCalls.{IsChangeWith, IsOwed, IsGhostCallOf, OwesAt, is_change}
+use Rattle.nv_core.specs.declared.reservation.Reservation.TheVariants as reserved
 use Rattle.nv_core.specs.declared.next.Ending.{Ending as Ended}
 use Rattle.nv_core.specs.declared.next.Next.TheVariants as next
-use Rattle.nv_core.specs.declared.job.Job.{Job}
+use Rattle.nv_core.specs.declared.request.Request.{Request}
 use Rattle.nv_core.specs.declared.running.Running.{Running}
 use Rattle.nv_core.specs.declared.shared.Shared.{Shared}
 use Rattle.nv_base.specs.Memory.{out_of_memory}
@@ -56,19 +56,19 @@ counts_pages shared hand running wanted nil empty has =
     over_all (IsWanted shared hand running wanted)
     (λ u. IsChecked shared (slots_in running.slots) hand running.looked u
     × (length hand.«data».blocks ≡ blocks_to_take shared (slots_in running.slots) u))
-    running.job (λ u has. (has.1, ap length none.0 ∙ sym nil ∙ has.2)) has where
+    running.request (λ u has. (has.1, ap length none.0 ∙ sym nil ∙ has.2)) has where
       none : (hand.«data».blocks ≡ []) × ((hand.pages.blocks ≡ []) × (hand.chain ≡ []))
       none = none_in hand.«data».blocks hand.pages.blocks hand.chain empty
 
 -- and with room for them it can go on to take them
 pub has_its_blocks : (shared : Shared) (hand : Hand) (running : Running) (wanted : ℕ) → wanted ≡ 0 → blocks_of hand ≡ []
-    → IsChangeWith (λ u. pages_to_take shared (slots_in running.slots) hand u ≤ hand.pages.room) running.job
+    → IsChangeWith (λ u. pages_to_take shared (slots_in running.slots) hand u ≤ hand.pages.room) running.request
     → WantsBlocks wanted shared hand running → CanWantPages shared hand running
 has_its_blocks shared hand running wanted nil empty room has =
     over_all (λ u. IsWanted shared hand running wanted u × (pages_to_take shared (slots_in running.slots) hand u ≤ hand.pages.room))
     (λ u. HasMade shared (slots_in running.slots) hand running.made u
     × IsChecked shared (slots_in running.slots) hand running.looked u × HasItsBlocks shared (slots_in running.slots) hand u)
-    running.job (λ u has. (
+    running.request (λ u has. (
       has.0.0,
       has.0.1,
       record {
@@ -78,7 +78,7 @@ has_its_blocks shared hand running wanted nil empty room has =
       },
     ))
     (with_both (IsWanted shared hand running wanted) (λ u. pages_to_take shared (slots_in running.slots) hand u ≤ hand.pages.room)
-    running.job has room) where
+    running.request has room) where
       none : (hand.«data».blocks ≡ []) × ((hand.pages.blocks ≡ []) × (hand.chain ≡ []))
       none = none_in hand.«data».blocks hand.pages.blocks hand.chain empty
 
@@ -86,12 +86,12 @@ has_its_blocks shared hand running wanted nil empty room has =
 pub made_room : (shared now : Shared) (hand more : Hand) (running after : Running) (n : ℕ) → now ≡ shared
     → more ≡ record hand { «data» = record hand.«data» { room = more.«data».room }; pages = record hand.pages { room = more.pages.room } }
     → after ≡ running → n ≤ more.pages.room
-    → IsChangeWith (λ u. n ≡ pages_to_take shared (slots_in running.slots) hand u) running.job
-    → IsChangeWith (λ u. pages_to_take now (slots_in after.slots) more u ≤ more.pages.room) after.job
+    → IsChangeWith (λ u. n ≡ pages_to_take shared (slots_in running.slots) hand u) running.request
+    → IsChangeWith (λ u. pages_to_take now (slots_in after.slots) more u ≤ more.pages.room) after.request
 made_room shared now hand more running after n same held is room has =
     rw (is, same)
     (over_all (λ u. n ≡ pages_to_take shared (slots_in running.slots) hand u)
-    (λ u. pages_to_take shared (slots_in running.slots) more u ≤ more.pages.room) running.job
+    (λ u. pages_to_take shared (slots_in running.slots) more u ≤ more.pages.room) running.request
     (λ u count. (let pages : pages_to_take shared (slots_in running.slots) more u ≡ pages_to_take shared (slots_in running.slots) hand u =
     ap (λ (h : Hand). pages_to_take shared (slots_in running.slots) h u) held in
     omega (arith, pages, count, room))) has)
@@ -100,10 +100,10 @@ made_room shared now hand more running after n same held is room has =
 pub takes_blocks : (shared : Shared) (hand : Hand) (running : Running) (wanted : ℕ) → IsWithinLimits shared.geometry.numbers
     → AreHome shared → IsHandOf shared.geometry.numbers hand → FitsCall running → blocks_of hand ≡ []
     → wanted ≤ hand.«data».room → wanted + MORE_PAGES ≤ hand.pages.room → WantsBlocks wanted shared hand running
-    → HasRooms shared (hold.Hand hand) (record running { next = next.TakeBlocks 0; wanted = wanted })
+    → HasRooms shared (reserved.Hand hand) (record running { next = next.TakeBlocks 0; wanted = wanted })
 takes_blocks shared hand running wanted limits home sized call empty room pages has = (
   record {
-    before = is_changed (IsWanted shared hand running wanted) running.job has;
+    before = is_changed (IsWanted shared hand running wanted) running.request has;
     looks = call.looks;
     overtaken = call.overtaken;
   },
@@ -111,7 +111,7 @@ takes_blocks shared hand running wanted limits home sized call empty room pages 
   over_all (IsWanted shared hand running wanted)
       (λ u. HasMade shared (slots_in running.slots) hand running.made u
       × (IsChecked shared (slots_in running.slots) hand running.looked u × TakesBlocks shared (slots_in running.slots) hand 0 wanted u))
-      running.job (λ u has. (
+      running.request (λ u has. (
         has.0,
         (
           has.1,
@@ -149,13 +149,13 @@ noted shared hand running = record running { made = made_in (shared_of shared) h
 
 -- how the check over the lent cells ends a call, and how many blocks it takes
 abbrev EndsAs : Shared → Running → Bool → Option machine.Ending → Type 0
-EndsAs shared running numbered found = IsChangeWith (Ends shared (slots_in running.slots) running.looked numbered found) running.job
+EndsAs shared running numbered found = IsChangeWith (Ends shared (slots_in running.slots) running.looked numbered found) running.request
 
 abbrev WantsAs : Shared → Running → ℕ → Type 0
-WantsAs shared running wanted = IsChangeWith (λ u. wanted ≡ blocks_to_take shared (slots_in running.slots) u) running.job
+WantsAs shared running wanted = IsChangeWith (λ u. wanted ≡ blocks_to_take shared (slots_in running.slots) u) running.request
 
 module _ (shared : Shared) (hand : Hand) (running now : Running) (numbered : Bool) (found : Option Ended)
-    (is : now ≡ noted shared hand running) (number : numbered ≡ is_some hand.ino) (change : is_change running.job ≡ true)
+    (is : now ≡ noted shared hand running) (number : numbered ≡ is_some hand.ino) (change : is_change running.request ≡ true)
     (can : CanBeChecked shared hand running)
     (ends : EndsAs shared now numbered (option_map ending_of found)) where
   abbrev own_slots : List ℕ
@@ -181,23 +181,23 @@ module _ (shared : Shared) (hand : Hand) (running now : Running) (numbered : Boo
   pub can_end : (how : Ended) → FitsCall running → found ≡ Some how → CanEnd now how
   can_end how call some =
       subst (λ (x : Running). CanEnd x how) (sym is) (record {
-        job = no_visit running.job change;
+        request = no_visit running.request change;
         looks = call.looks;
         overtaken = λ over.
-            overtaken_by_job shared own_slots running.looked (is_some hand.ino) running.job change call.looks
+            overtaken_by_job shared own_slots running.looked (is_some hand.ino) running.request change call.looks
             (subst (λ (x : Option Ended). EndsAs shared running (is_some hand.ino) (option_map ending_of x))
             (some ∙ ap Some over) own_ends);
       })
 
   -- and it makes no drain go on
-  pub drains : (how : Ended) (any : Job) (h : Hand) → found ≡ Some how → CanDrain how any h
+  pub drains : (how : Ended) (any : Request) (h : Hand) → found ≡ Some how → CanDrain how any h
   drains how any h some =
-      drains_by_job shared own_slots running.looked (is_some hand.ino) running.job any how h change
+      drains_by_job shared own_slots running.looked (is_some hand.ino) running.request any how h change
       (subst (λ (x : Option Ended). EndsAs shared running (is_some hand.ino) (option_map ending_of x)) some own_ends)
 
   pub few : (new : Shared) (wanted : ℕ) → new ≡ shared → 0 < size → found ≡ None → WantsAs new now wanted → wanted ≤ 65536
   few new wanted same some none wants =
-      few_by_job shared own_slots running.looked (is_some hand.ino) wanted running.job some change (no_end none)
+      few_by_job shared own_slots running.looked (is_some hand.ino) wanted running.request some change (no_end none)
       (own_wanted new wanted same wants)
 
   pub wants : (new after : Shared) (more : Hand) (wanted : ℕ) → AreCells (lent_cells own_slots shared.cells.items) → new ≡ shared
@@ -207,11 +207,11 @@ module _ (shared : Shared) (hand : Hand) (running now : Running) (numbered : Boo
       (subst (λ (x : Running). WantsBlocks wanted shared more x) (sym is)
       (wants_by_job shared hand more running wanted cells can change ino chain (no_end none) (own_wanted new wanted same wanted_is)))
 
-  pub owes : (told : Told) (how : Ended) → IsToldOf running told → OwesAt how now told
-  owes told how job answers =
-      subst (λ (x : Running). IsOwed x.owed told.call) (sym is) (owed_by running.job running.owed told.call change job)
+  pub owes : (told : GhostCall) (how : Ended) → IsGhostCallOf running told → OwesAt how now told
+  owes told how request answers =
+      subst (λ (x : Running). IsOwed x.owed told.call) (sym is) (owed_by running.request running.owed told.call change request)
 
-  module _ (told : Told) (job : IsToldOf running told) where
+  module _ (told : GhostCall) (request : IsGhostCallOf running told) where
     abbrev s : machine.Shared
     s = shared_of shared
 
@@ -226,8 +226,8 @@ module _ (shared : Shared) (hand : Hand) (running now : Running) (numbered : Boo
 
     ending_is : ending_at size s (hand_of hand) (shown told running) ≡ option_map ending_of found
     ending_is =
-        ending_told shared own_slots running.looked hand.ino (made_in s hand.ino running.made) running.job running.owed told.call
-        (option_map ending_of found) change job can.read own_ends
+        ending_told shared own_slots running.looked hand.ino (made_in s hand.ino running.made) running.request running.owed told.call
+        (option_map ending_of found) change request can.read own_ends
 
     turn_by : (how : Option Ended) (granted : Bool) → found ≡ how
         → turn granted ≡ check_turn (option_map ending_of how) granted count size s (hand_of hand) r
@@ -247,31 +247,31 @@ module _ (shared : Shared) (hand : Hand) (running now : Running) (numbered : Boo
     grows_by n m zero pages is own some = rw (is, own refl) (lt-ltb 0 pages (omega (arith, some)))
     grows_by n m (suc wanted) pages is own some = rw is refl
 
-    is_now : IsToldOf now told
-    is_now = subst (λ (x : Running). IsToldOf x told) (sym is) job
+    is_now : IsGhostCallOf now told
+    is_now = subst (λ (x : Running). IsGhostCallOf x told) (sym is) request
 
     own_pages : (pages wanted : ℕ) → WantsBlocks wanted shared hand now
-        → IsChangeWith (λ u. pages ≡ pages_to_take shared (slots_in now.slots) hand u) now.job
+        → IsChangeWith (λ u. pages ≡ pages_to_take shared (slots_in now.slots) hand u) now.request
         → pages_wanted s r.slots (plan_by size s (hand_of hand) r) ≡ pages
     own_pages pages wanted has count =
         ap (λ (x : Running). pages_wanted s (slots_in x.slots) (plan_by size s (hand_of hand) (shown told x))) (sym is)
-        ∙ wanted_same shared (slots_in now.slots) hand now.looked now.made now.job now.owed told.call (has_last_page size s told.call) pages is_now
+        ∙ wanted_same shared (slots_in now.slots) hand now.looked now.made now.request now.owed told.call (has_last_page size s told.call) pages is_now
         (over_all (IsWanted shared hand now wanted)
-        (λ u. HasMade shared (slots_in now.slots) hand now.made u × IsChecked shared (slots_in now.slots) hand now.looked u) now.job
+        (λ u. HasMade shared (slots_in now.slots) hand now.made u × IsChecked shared (slots_in now.slots) hand now.looked u) now.request
         (λ u h. (h.0, h.1)) has)
         count
 
     pub turn_refuses : (new after : Shared) (more : machine.HandState) (why : Fault) (t : machine.Turn) (wanted pages : ℕ) → new ≡ shared
         → after ≡ shared → more ≡ hand_of hand → why ≡ out_of_memory → found ≡ None → WantsAs new now wanted
         → WantsBlocks wanted shared hand now
-        → (wanted ≡ 0 → IsChangeWith (λ u. pages ≡ pages_to_take shared (slots_in now.slots) hand u) now.job)
+        → (wanted ≡ 0 → IsChangeWith (λ u. pages ≡ pages_to_take shared (slots_in now.slots) hand u) now.request)
         → 0 < wanted + pages
         → refuse why (shared_of after) more (shown told now) ≡ t → turn false ≡ t
     turn_refuses new after more why t wanted pages same stays held memory none wanted_is has own some refused =
         turn_by None false none
         ∙ ap (λ (b : Bool). grown (false || not b) (wants_blocks count size s (hand_of hand) r) s (hand_of hand) r)
         (grows_by count (pages_wanted s r.slots (plan_by size s (hand_of hand) r)) wanted pages
-        (wanted_by_job shared own_slots running.looked hand.ino wanted running.job running.owed told.call change job can.read (no_end none)
+        (wanted_by_job shared own_slots running.looked hand.ino wanted running.request running.owed told.call change request can.read (no_end none)
         (own_wanted new wanted same wanted_is))
         (λ nil. own_pages pages wanted has (own nil)) some)
         ∙ ap₂ (λ (x : Shared) (y : Running). refuse out_of_memory (shared_of x) (hand_of hand) (shown told y)) (sym stays) (sym is)
@@ -284,7 +284,7 @@ module _ (shared : Shared) (hand : Hand) (running now : Running) (numbered : Boo
     turn_goes new after more wanted t same stays held none wanted_is goes =
         turn_by None true none
         ∙ ap (λ (n : ℕ). wants_blocks n size s (hand_of hand) r)
-        (wanted_by_job shared own_slots running.looked hand.ino wanted running.job running.owed told.call change job can.read (no_end none)
+        (wanted_by_job shared own_slots running.looked hand.ino wanted running.request running.owed told.call change request can.read (no_end none)
         (own_wanted new wanted same wanted_is))
         ∙ ap₂ (λ (x : Shared) (y : Running). wants_blocks wanted x.geometry.numbers.block (shared_of x) (hand_of hand) (shown told y))
         (sym stays) (sym is)

@@ -22,8 +22,8 @@ use Rattle.nv_calls.specs.Updates.{SamePlan, blank_call, call_of, text_len}
 use Rattle.nv_calls.specs.calls.Size.{cuts_page}
 use Rattle.nv_calls.specs.declared.call.Call.{Call}
 use Rattle.nv_calls.specs.declared.call.Call.TheVariants as call
-use Rattle.nv_calls.specs.declared.looked.Looked.{Looked}
-use Rattle.nv_calls.specs.declared.taken.Taken.{Taken}
+use Rattle.nv_calls.specs.declared.looked.LookupResult.{LookupResult}
+use Rattle.nv_calls.specs.declared.allocation.Allocation.{Allocation}
 use Rattle.nv_calls.specs.declared.update.Update.{Update}
 use Rattle.nv_calls.specs.declared.update.Update.TheVariants as update
 use Rattle.nv_cell.specs.Cell.{CellValue}
@@ -53,7 +53,7 @@ early_blank n (update.Rmdir dir name) text = refl
 early_blank n (update.Rename from old to new) text = refl
 
 -- a call with any text reads the same handles
-pub handles_blank : (before : Looked) (u : Update) (text : List ℕ) → handles before (call_of u text) ≡ handles before (blank_call u)
+pub handles_blank : (before : LookupResult) (u : Update) (text : List ℕ) → handles before (call_of u text) ≡ handles before (blank_call u)
 handles_blank before (update.Create dir name mode) text = refl
 handles_blank before (update.Mkdir dir name mode) text = refl
 handles_blank before (update.Write file offset count) text = refl
@@ -83,7 +83,7 @@ numbered_by number (update.Rmdir dir name) text = any_number (is_some number)
 numbered_by number (update.Rename from old to new) text = any_number (is_some number)
 
 -- the handles that it names are among those that it reads
-named_read : (shared : Shared) (slots : List ℕ) (before : Looked) (c : Call) → CanRead shared slots (handles before c)
+named_read : (shared : Shared) (slots : List ℕ) (before : LookupResult) (c : Call) → CanRead shared slots (handles before c)
     → CanRead shared slots (handles nothing_looked c)
 named_read shared slots before (call.Create dir name mode) can = can
 named_read shared slots before (call.Mkdir dir name mode) can = can
@@ -126,7 +126,7 @@ cuts_same block size present bytes few = go (nat_lt (size / block) 65536) refl w
   go false is = cuts_none block size present false bytes (past_pages block size few is)
 
 -- whatever is told of the page that a size ends in, where it is past the last page
-wanted_told : (shared : Shared) (slots : List ℕ) (n : Handle → Option NodeCopy) (u : Update) (text : List ℕ) (before : Looked)
+wanted_told : (shared : Shared) (slots : List ℕ) (n : Handle → Option NodeCopy) (u : Update) (text : List ℕ) (before : LookupResult)
     → CanRead shared slots (handles before (blank_call u)) → refusal shared.geometry.numbers.block n (blank_call u) ≡ passes
     → blocks_wanted shared.geometry.numbers.block n
     (has_last_page shared.geometry.numbers.block (shared_of shared) (call_of u text)) (blank_call u)
@@ -171,10 +171,10 @@ few_wanted block n present (call.Maintenance on) some passed = omega arith
 
 -- ---- a call whose names were bound anew
 
-no_looks : (before : Looked) → before ≡ nothing_looked → same_looked nothing_looked before ≡ false → ⊥
+no_looks : (before : LookupResult) → before ≡ nothing_looked → same_looked nothing_looked before ≡ false → ⊥
 no_looks before none anew = let e : true ≡ false = ap (same_looked nothing_looked) (sym none) ∙ anew in cc
 
-looks_anew : (n : Handle → Option NodeCopy) (before : Looked) (u : Update) → (directories (blank_call u) ≡ [] → before ≡ nothing_looked)
+looks_anew : (n : Handle → Option NodeCopy) (before : LookupResult) (u : Update) → (directories (blank_call u) ≡ [] → before ≡ nothing_looked)
     → same_looked (looked n (blank_call u)) before ≡ false → 0 < length (directories (blank_call u))
 looks_anew n before (update.Create dir name mode) none anew = absurd (no_looks before (none refl) anew)
 looks_anew n before (update.Mkdir dir name mode) none anew = absurd (no_looks before (none refl) anew)
@@ -213,7 +213,7 @@ ends_by (Ok passed) (Ok all) l true true nothing changes is none =
 behind : (t l : Check) → t ≡ passes → and_then t l ≡ l
 behind t l passed = ap (λ (x : Check). and_then x l) passed
 
-module _ (shared : Shared) (slots : List ℕ) (u : Update) (text : List ℕ) (before : Looked) where
+module _ (shared : Shared) (slots : List ℕ) (u : Update) (text : List ℕ) (before : LookupResult) where
   abbrev block : ℕ
   block = shared.geometry.numbers.block
 
@@ -241,16 +241,16 @@ module _ (shared : Shared) (slots : List ℕ) (u : Update) (text : List ℕ) (be
   reads : IsRead → CanRead shared slots (handles before c)
   reads can = subst (CanRead shared slots) (sym (handles_blank before u text)) can
 
-  blank_over : (taken : Taken) → HasText → SamePlan block o (has_page_in lent) taken b c
+  blank_over : (taken : Allocation) → HasText → SamePlan block o (has_page_in lent) taken b c
   blank_over taken len = same_plan block o (has_page_in lent) taken u text (sym len)
 
-  same_over : (taken : Taken) → IsRead → looked n c ≡ before → SameCall block (nodes (shared_of shared)) (plain_nodes lent) taken c
+  same_over : (taken : Allocation) → IsRead → looked n c ≡ before → SameCall block (nodes (shared_of shared)) (plain_nodes lent) taken c
   same_over taken can found =
       lent_call_same block shared slots taken c
-      (subst (λ (l : Looked). CanRead shared slots (handles l c)) (sym found) (reads can))
+      (subst (λ (l : LookupResult). CanRead shared slots (handles l c)) (sym found) (reads can))
 
   -- what it looks up, and the tests before that
-  found_over : (taken : Taken) → IsRead → HasText → looked o b ≡ looked n c
+  found_over : (taken : Allocation) → IsRead → HasText → looked o b ≡ looked n c
   found_over taken can len =
       sym (blank_over taken len).found
       ∙ (looks_same (nodes (shared_of shared)) (plain_nodes lent) c
@@ -262,10 +262,10 @@ module _ (shared : Shared) (slots : List ℕ) (u : Update) (text : List ℕ) (be
       ∙ (looks_same (nodes (shared_of shared)) (plain_nodes lent) c
       (nodes_agree shared slots (handles nothing_looked c) (named_read shared slots before c (reads can)))).early
 
-  refused_over : (taken : Taken) → IsRead → HasText → looked n c ≡ before → refusal block n c ≡ refusal block o b
+  refused_over : (taken : Allocation) → IsRead → HasText → looked n c ≡ before → refusal block n c ≡ refusal block o b
   refused_over taken can len found = sym (same_over taken can found).refusal ∙ (blank_over taken len).refusal
 
-  pub ends_same : (taken : Taken) (number : Option ℕ) → IsRead → HasText
+  pub ends_same : (taken : Allocation) (number : Option ℕ) → IsRead → HasText
       → check_ending (early n c) (same_looked (looked n c) before) (refusal block n c) (is_numbered (beginning c) number)
       (effect n taken.made c) ≡ ends_over block o before (is_some number) u
   ends_same taken number can len =
@@ -276,23 +276,23 @@ module _ (shared : Shared) (slots : List ℕ) (u : Update) (text : List ℕ) (be
       (is_nothing b) (effect n taken.made c)
       (λ passed same. let found : looked n c ≡ before = looked_is (looked n c) before same in
       refused_over taken can len found ∙ behind (early o b) (late block o (looked o b) b) (early_over can ∙ passed)
-      ∙ ap (λ (l : Looked). late block o l b) (found_over taken can len ∙ found))
+      ∙ ap (λ (l : LookupResult). late block o l b) (found_over taken can len ∙ found))
       (λ passed same all. let told = told_nothing block n taken c all in
       (λ none. told.no_effect ((blank_over taken len).nothing ∙ none), λ some. told.some_effect ((blank_over taken len).nothing ∙ some)))
-      ∙ ap₂ (λ (t : Check) (l : Looked). check_ends t (same_looked l before) (late block o before b) (is_some number || not (makes u))
+      ∙ ap₂ (λ (t : Check) (l : LookupResult). check_ends t (same_looked l before) (late block o before b) (is_some number || not (makes u))
       (is_nothing b)) (sym (early_over can)) (sym (found_over taken can len))
 
   pub wanted_same : IsRead → HasText → looked o b ≡ before → refusal block o b ≡ passes
       → blocks_wanted block n (has_last_page block (shared_of shared) c) c ≡ wanted_over block lent u
   wanted_same can len found passed =
-      let taken : Taken = record { made = root; runs = []; present = has_last_page block (shared_of shared) c } in
+      let taken : Allocation = record { made = root; runs = []; present = has_last_page block (shared_of shared) c } in
       sym (same_over taken can (sym (found_over taken can len) ∙ found)).wanted
       ∙ (blank_over taken len).wanted
       ∙ wanted_told shared slots o u text before can passed
 
 -- ---- what is told by how the check ends
 
-pub record Passes (block : ℕ) (n : Handle → Option NodeCopy) (before : Looked) (numbered : Bool) (u : Update) : Type 0 where
+pub record Passes (block : ℕ) (n : Handle → Option NodeCopy) (before : LookupResult) (numbered : Bool) (u : Update) : Type 0 where
   pub passed : refusal block n (blank_call u) ≡ passes
   pub same : looked n (blank_call u) ≡ before
   pub number : (numbered || not (makes u)) ≡ true
@@ -308,7 +308,7 @@ goes_on (Ok passed) (Ok all) true false nothing h = cc
 goes_on (Ok passed) (Ok all) true true true h = cc
 goes_on (Ok passed) (Ok all) true true false h = (refl, (refl, (refl, (refl, refl))))
 
-pub passes_over : (block : ℕ) (n : Handle → Option NodeCopy) (before : Looked) (numbered : Bool) (u : Update)
+pub passes_over : (block : ℕ) (n : Handle → Option NodeCopy) (before : LookupResult) (numbered : Bool) (u : Update)
     → ends_over block n before numbered u ≡ None → Passes block n before numbered u
 passes_over block n before numbered u h =
     let b = blank_call u in
@@ -316,7 +316,7 @@ passes_over block n before numbered u h =
     goes_on (early n b) (late block n before b) (same_looked (looked n b) before) (numbered || not (makes u)) (is_nothing b) h in
     let same = looked_is (looked n b) before parts.1.0 in
     record {
-      passed = behind (early n b) (late block n (looked n b) b) parts.0 ∙ ap (λ (l : Looked). late block n l b) same ∙ parts.1.1.0;
+      passed = behind (early n b) (late block n (looked n b) b) parts.0 ∙ ap (λ (l : LookupResult). late block n l b) same ∙ parts.1.1.0;
       same = same;
       number = parts.1.1.1.0;
       something = parts.1.1.1.1;
@@ -330,7 +330,7 @@ overtakes (Ok passed) (Ok all) true false nothing h = cc
 overtakes (Ok passed) (Ok all) true true true h = cc
 overtakes (Ok passed) (Ok all) true true false h = cc
 
-pub overtaken_looks : (block : ℕ) (n : Handle → Option NodeCopy) (before : Looked) (numbered : Bool) (u : Update)
+pub overtaken_looks : (block : ℕ) (n : Handle → Option NodeCopy) (before : LookupResult) (numbered : Bool) (u : Update)
     → (directories (blank_call u) ≡ [] → before ≡ nothing_looked) → ends_over block n before numbered u ≡ Some Overtaken
     → 0 < length (directories (blank_call u))
 overtaken_looks block n before numbered u none h =

@@ -15,7 +15,7 @@ use Rattle.nv_machine.specs.World.{cell_at}
 use Rattle.nv_core.specs.Cleaning.{IsMove}
 use Rattle.nv_core.specs.Rooms.{HasNextRoom, HasStepRoom}
 use Rattle.nv_core.specs.Shown.{next_of, shared_of, step_on}
-use Rattle.nv_core.specs.declared.job.Job.{Job}
+use Rattle.nv_core.specs.declared.request.Request.{Request}
 use Rattle.nv_core.specs.declared.next.CompactPlan.{CompactPlan}
 use Rattle.nv_core.specs.declared.next.Ending.{Ending}
 use Rattle.nv_core.specs.declared.next.Next.{Next}
@@ -78,19 +78,19 @@ module _ (old new : Shared) (many : length new.cells.items ≡ length old.cells.
   step_room_stays (on.Judge manner slot) hand same room = tt
 
   -- before any step, where a call with steps of its own has locked the slots of its step
-  pub next_room_stays : (n : Next) (slots : List ℕ) (how : Ending) (j : Job) (hand : Hand)
+  pub next_room_stays : (n : Next) (slots : List ℕ) (how : Ending) (j : Request) (hand : Hand)
       → ((step : MaintenanceStep) → n ≡ next.Maintenance step → slots ≡ slots_on (step_on step)) → Stay (held_at (next_of n) slots)
       → HasNextRoom n how j old hand → HasNextRoom n how j new hand
   next_room_stays (next.Maintenance step) slots how j hand own same room =
       step_room_stays step hand (subst (λ (l : List ℕ). Stay (held_at (machine.Maintenance (step_on step)) l)) (own step refl) same) room
   next_room_stays (next.Unlock place) slots how j hand own same room = room
   next_room_stays (next.Give cpu) slots how j hand own same room = room
-  next_room_stays next.Back slots how j hand own same room = room
+  next_room_stays next.ReturnNumber slots how j hand own same room = room
   next_room_stays next.Number slots how j hand own same room = tt
   next_room_stays (next.Look place) slots how j hand own same room = tt
   next_room_stays (next.Lock place) slots how j hand own same room = tt
   next_room_stays next.Check slots how j hand own same room = tt
   next_room_stays (next.TakeBlocks asked) slots how j hand own same room = tt
-  next_room_stays (next.TakePages asked) slots how j hand own same room = tt
+  next_room_stays (next.TakeLogPages asked) slots how j hand own same room = tt
   next_room_stays next.Ready slots how j hand own same room = tt
   next_room_stays next.Visit slots how j hand own same room = tt

@@ -6,19 +6,19 @@ use Rattle.std.proofs.lemmas.List.{length-map}
 use Rattle.nv_book.specs.Book.{with_journal}
 use Rattle.nv_calls.specs.Commit.{CommitValue, after_close, without_journal}
 use Rattle.nv_calls.specs.Progress.{is_open}
-use Rattle.nv_calls.specs.Ready.{CellPlanValue}
+use Rattle.nv_calls.specs.Ready.{CellCommitValue}
 use Rattle.nv_machine.specs.Kinds.{close_turn}
 use Rattle.nv_machine.specs.Reads.{slot_at, written_slots}
 use Rattle.nv_machine.specs.Sequence.{retiring}
 use Rattle.nv_machine.specs.World as machine
 use Rattle.nv_machine.specs.World.{go_to, with_book}
-use Rattle.nv_core.specs.Shown.{Told, commit_next, hand_in, shared_of, shown_commit, slots_in}
-use Rattle.nv_core.specs.Told.{IsCommitOf, IsOnItsWay}
+use Rattle.nv_core.specs.Shown.{GhostCall, commit_next, hand_in, shared_of, shown_commit, slots_in}
+use Rattle.nv_core.specs.GhostCalls.{IsCommitOf, IsOnItsWay}
 use Rattle.nv_core.specs.declared.running.Running.{Running}
 use Rattle.nv_core.specs.declared.shared.Shared.{Shared}
 use Rattle.nv_core.proofs.Retires.{retires_next}
 
-pub closes : (shared : Shared) (running : Running) (old : CommitValue) (told : Told) (cpu : ℕ)
+pub closes : (shared : Shared) (running : Running) (old : CommitValue) (told : GhostCall) (cpu : ℕ)
     → IsCommitOf (slots_in running.slots) old told
     → IsOnItsWay old → is_open old ≡ true → length old.plans ≤ old.published → old.journal ≡ Some cpu
     → close_turn cpu (shared_of shared) (hand_in old) (shown_commit old told running)
@@ -33,7 +33,7 @@ closes shared running old told cpu is way noted published own =
     let opened = way.opened noted in
     let long : length w ≡ length old.plans =
     ap (λ (xs : List ℕ). length xs) is.plans.written
-    ∙ length-map old.plans (λ (plan : CellPlanValue). slot_at (slots_in running.slots) plan.at) in
+    ∙ length-map old.plans (λ (plan : CellCommitValue). slot_at (slots_in running.slots) plan.at) in
     let next : retiring 0 w ≡ commit_next after =
     ap (λ (n : ℕ). retiring n w) (sym opened.2)
     ∙ retires_next after w long (omega (arith, opened.1)) published (omega (arith, published, opened.0)) refl in
@@ -43,7 +43,7 @@ closes shared running old told cpu is way noted published own =
     }) h (go_to (commit_next after) r)) own)
 
 -- what is told of the commit stays
-pub close_told : (slots : List ℕ) (old new : CommitValue) (told : Told) → new ≡ after_close old → IsCommitOf slots old told
+pub close_told : (slots : List ℕ) (old new : CommitValue) (told : GhostCall) → new ≡ after_close old → IsCommitOf slots old told
     → IsCommitOf slots new told
 close_told slots old new told commit is =
     subst (λ (c : CommitValue). IsCommitOf slots c told) (sym commit) (record { number = is.number; epoch = is.epoch; plans = is.plans })

@@ -15,12 +15,12 @@ use Rattle.nv_core.specs.Appends.{IsPlanOf}
 use Rattle.nv_core.specs.CommitSteps.{HasStepped}
 use Rattle.nv_core.specs.Frames.{LeavesCells}
 use Rattle.nv_core.specs.Rooms.{HasRooms, HasRoomsAfter}
-use Rattle.nv_core.specs.Shown.{Told, hand_in, machine_step, shared_of, shown_commit, slots_in}
+use Rattle.nv_core.specs.Shown.{GhostCall, hand_in, machine_step, shared_of, shown_commit, slots_in}
 use Rattle.nv_core.specs.Steps.{CanStep}
-use Rattle.nv_core.specs.Told.{IsCommitOf, IsPlaceOf}
+use Rattle.nv_core.specs.GhostCalls.{IsCommitOf, IsPlaceOf}
 use Rattle.nv_core.specs.Turns.{IsTurn, LeavesOthers}
 use Rattle.nv_core.specs.Worlds.{ShowsCall, told_of}
-use Rattle.nv_core.specs.declared.hold.Hold.TheVariants as hold
+use Rattle.nv_core.specs.declared.reservation.Reservation.TheVariants as reserved
 use Rattle.nv_core.specs.declared.running.Running.{Running}
 use Rattle.nv_core.specs.declared.shared.Shared.{Shared}
 use Rattle.nv_core.specs.declared.turn.Turn.TheVariants as result
@@ -28,16 +28,16 @@ use Rattle.nv_core.specs.declared.turn.Turn.TheVariants as result
 -- what a step of a commit makes, for whatever is told of the call
 abbrev pub TurnsCommit : CommitStep → ℕ → Shared → Running → CommitValue → Shared → CommitValue → Type 0
 TurnsCommit next actor shared running commit shared_after after =
-    (told : Told) → IsCommitOf (slots_in running.slots) commit told → IsPlaceOf (slots_in running.slots) commit told
+    (told : GhostCall) → IsCommitOf (slots_in running.slots) commit told → IsPlaceOf (slots_in running.slots) commit told
     → IsPlanOf (slots_in running.slots) told.plan
     → (kind_turn (machine_step next commit) shared.geometry.numbers.block actor true (shared_of shared) (hand_in commit)
     (shown_commit commit told running) ≡ Moves (shared_of shared_after) (hand_in after) (shown_commit after told running))
     × IsPlaceOf (slots_in running.slots) after told
 
 turns_commit : (next : CommitStep) (actor : ℕ) (shared : Shared) (running : Running) (r : machine.Running) (commit : CommitValue)
-    (shared_after : Shared) (after : CommitValue) → step_of commit ≡ next → ShowsCall (hold.Commit commit) running r
+    (shared_after : Shared) (after : CommitValue) → step_of commit ≡ next → ShowsCall (reserved.Commit commit) running r
     → HasStepped running shared shared_after commit after → TurnsCommit next actor shared running commit shared_after after
-    → IsTurn actor shared (hold.Commit commit) r result.Moves shared_after (hold.Commit after) running
+    → IsTurn actor shared (reserved.Commit commit) r result.Moves shared_after (reserved.Commit after) running
 turns_commit next actor shared running r commit shared_after after here shows stepped by =
     let told = told_of r in
     let one = by told shows.plan shows.place.1 shows.place.0 in
@@ -50,7 +50,7 @@ turns_commit next actor shared running r commit shared_after after here shows st
           (hand_in commit)
           (shown_commit commit told running)) here
           ∙ one.0;
-      shows = record { shown = refl; job = shows.job; plan = stepped.told told shows.plan; place = (shows.place.0, one.1) };
+      shows = record { shown = refl; request = shows.request; plan = stepped.told told shows.plan; place = (shows.place.0, one.1) };
     }
 
 -- a commit holds all its slots
@@ -63,7 +63,7 @@ held_all step.Retire commit slots = refl
 held_all step.Leave commit slots = refl
 
 rest_commit : (actor : ℕ) (old new : Shared) (running : Running) (r : machine.Running) (commit : CommitValue)
-    → ShowsCall (hold.Commit commit) running r → old.holder ≡ Some actor → LeavesCells (slots_in running.slots) old new
+    → ShowsCall (reserved.Commit commit) running r → old.holder ≡ Some actor → LeavesCells (slots_in running.slots) old new
     → LeavesOthers actor r old new
 rest_commit actor old new running r commit shows own leaves =
     let held : held_at r.next r.slots ≡ slots_in running.slots =
@@ -79,14 +79,14 @@ rest_commit actor old new running r commit shows own leaves =
 
 -- what a step of a commit makes for its call: its turn, the room for the next step, and the others' cells as they were
 pub record HasCommitted (actor : ℕ) (old new : Shared) (running : Running) (before after : CommitValue) : Type 0 where
-  pub turns : (r : machine.Running) → ShowsCall (hold.Commit before) running r
-      → IsTurn actor old (hold.Commit before) r result.Moves new (hold.Commit after) running
-  pub rooms : HasRoomsAfter result.Moves new (hold.Commit after) running
-  pub rest : (r : machine.Running) → ShowsCall (hold.Commit before) running r → LeavesOthers actor r old new
+  pub turns : (r : machine.Running) → ShowsCall (reserved.Commit before) running r
+      → IsTurn actor old (reserved.Commit before) r result.Moves new (reserved.Commit after) running
+  pub rooms : HasRoomsAfter result.Moves new (reserved.Commit after) running
+  pub rest : (r : machine.Running) → ShowsCall (reserved.Commit before) running r → LeavesOthers actor r old new
 
 -- so it is for each kind of step
 pub commits : (next : CommitStep) (actor : ℕ) (old new : Shared) (running : Running) (before after : CommitValue)
-    → next ≡ step_of before → CanStep old (hold.Commit before) running actor → HasRooms old (hold.Commit before) running
+    → next ≡ step_of before → CanStep old (reserved.Commit before) running actor → HasRooms old (reserved.Commit before) running
     → HasStepped running old new before after → TurnsCommit next actor old running before new after
     → HasCommitted actor old new running before after
 commits next actor old new running before after is can rooms stepped by = record {

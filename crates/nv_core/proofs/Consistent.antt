@@ -14,7 +14,7 @@ use Rattle.nv_machine.specs.Starts.{IsStart}
 use Rattle.nv_machine.specs.World.{Event, World}
 use Rattle.nv_core.proofs.AuditLaw.{agree}
 use Rattle.nv_core.specs.Consistent.{IsConsistentAfter, IsConsistentWorld}
-use Rattle.nv_core.specs.Worlds.{IsWorld, Run, Shows, WorldState}
+use Rattle.nv_core.specs.Worlds.{IsWorld, EventRun, Shows, WorldState}
 
 consistent_after : (g : GeometryNumbers) (start : World) (records : List Record) (events : List Event) → IsStart g start records
     → IsConsistentAfter g (record { start = start; records = records; events = events })
@@ -32,7 +32,7 @@ consistent_after g start records events is_start = record {
   snapshot_trees = λ snapshot lives. trees_are_copied g start records events snapshot is_start lives;
 }
 
-pub consistent : (g : GeometryNumbers) (run : Run) → IsStart g run.start run.records → IsConsistentAfter g run
+pub consistent : (g : GeometryNumbers) (run : EventRun) → IsStart g run.start run.records → IsConsistentAfter g run
 consistent g run is_start = consistent_after g run.start run.records run.events is_start
 
 pub consistent_world : (w : WorldState) → IsWorld w → IsConsistentWorld w

@@ -3,7 +3,7 @@ use Rattle.std.proofs.Common.{◌≡◌, ℕ, zero, suc, List, [], ◌∷◌, Op
 use Rattle.std.proofs.lemmas.List.{drop_all, length-take}
 use Rattle.nv_base.specs.declared.fault.Fault.{Fault}
 use Rattle.nv_calls.specs.Commit.{CommitValue}
-use Rattle.nv_calls.specs.Ready.{CellPlanValue}
+use Rattle.nv_calls.specs.Ready.{CellCommitValue}
 use Rattle.nv_calls.specs.declared.answer.Answer.{Answer}
 use Rattle.nv_machine.specs.Kinds.{again_turn, blocks_in, drained_turn, end_turn, last_turn, over_turn, rest_turn, result_by}
 use Rattle.nv_machine.specs.Reads.{home_from}
@@ -57,5 +57,5 @@ end_anywhere (slot ∷ slots) ending s h r next = refl
 -- once all that was killed is retired, nothing is left of it
 pub all_retired : (c : CommitValue) → c.retired ≡ length c.plans → killed_in c ≡ []
 all_retired c retired =
-    ap (λ (ps : List CellPlanValue). map (λ (p : CellPlanValue). p.killed) ps)
+    ap (λ (ps : List CellCommitValue). map (λ (p : CellCommitValue). p.killed) ps)
     (drop_all c.retired (take c.published c.plans) (omega (arith, retired, length-take c.published c.plans)))

@@ -9,13 +9,13 @@ use Rattle.nv_base.specs.Memory.{out_of_memory}
 use Rattle.nv_base.specs.declared.limits.TheConstants.{NUMBER}
 use Rattle.nv_book.specs.Book.{BookValue, after_enter}
 use Rattle.nv_calls.specs.Commit.{CommitValue, begun, stamp_of}
-use Rattle.nv_calls.specs.Ready.{CellPlanValue, ReadyValue}
+use Rattle.nv_calls.specs.Ready.{CellCommitValue, ReadyValue}
 use Rattle.nv_machine.specs.Kinds.{enter_turn, refuse}
 use Rattle.nv_machine.specs.Reads.{slot_at, written_slots}
 use Rattle.nv_machine.specs.World.{Moves, Next, Refuses, Turn, go_to}
 use Rattle.nv_machine.specs.World as machine
-use Rattle.nv_core.specs.Shown.{Told, hand_in, hand_of, shared_of, shown, shown_commit, shown_ready, slots_in}
-use Rattle.nv_core.specs.Told.{IsCommitOf, IsEither, IsReadyOf, entered}
+use Rattle.nv_core.specs.Shown.{GhostCall, hand_in, hand_of, shared_of, shown, shown_commit, shown_ready, slots_in}
+use Rattle.nv_core.specs.GhostCalls.{IsCommitOf, IsEither, IsReadyOf, entered}
 use Rattle.nv_core.specs.declared.running.Running.{Running}
 use Rattle.nv_core.specs.declared.shared.Shared.{Shared}
 use Rattle.nv_core.proofs.Ends.{end_anywhere}
@@ -26,15 +26,15 @@ use Rattle.nv_calls.proofs.PlannedCommits.{can_commit}
 use Rattle.nv_cell.specs.Cell.{CellValue}
 use Rattle.nv_core.specs.Rooms.{CanEnd, HasRooms, IsNoVisit, LooksAsTold}
 use Rattle.nv_core.specs.Steps.{CanEnter}
-use Rattle.nv_core.specs.declared.hold.Hold.TheVariants as hold
-use Rattle.nv_core.specs.declared.job.Job.{Job}
-use Rattle.nv_core.specs.declared.job.Job.TheVariants as job
+use Rattle.nv_core.specs.declared.reservation.Reservation.TheVariants as reserved
+use Rattle.nv_core.specs.declared.request.Request.{Request}
+use Rattle.nv_core.specs.declared.request.Request.TheVariants as request
 use Rattle.nv_core.specs.declared.next.Ending.{Ending}
 use Rattle.nv_core.specs.declared.next.Ending.TheVariants as ending
 use Rattle.nv_core.proofs.Phases.{begins}
 
 pub enters : (shared : Shared) (ready : ReadyValue) (running : Running) (actor need : ℕ) (book : BookValue) (commit : CommitValue)
-    (told : Told)
+    (told : GhostCall)
     → shared.holder ≡ None → nat_le NUMBER shared.book.state.commit ≡ false
     → book ≡ record { state = after_enter actor shared.book.state; room = need } → commit ≡ begun (stamp_of book.state) ready
     → IsReadyOf (slots_in running.slots) ready told
@@ -49,7 +49,7 @@ enters shared ready running actor need book commit told free below after begins 
     let last : BookValue = record { state = after_enter actor shared.book.state; room = need } in
     let first : CommitValue = begun (stamp_of last.state) ready in
     let many : length (written_slots r) ≡ length ready.plans = ap (λ (xs : List ℕ). length xs) is.written
-    ∙ length-map ready.plans (λ (p : CellPlanValue). slot_at (slots_in running.slots) p.at) in
+    ∙ length-map ready.plans (λ (p : CellCommitValue). slot_at (slots_in running.slots) p.at) in
     let same : commit ≡ first = begins ∙ ap (λ (b : BookValue). begun (stamp_of b.state) ready) after in
     ap (λ (x : Option ℕ). enter_turn x (nat_le NUMBER shared.book.state.commit) true actor s h r) free
     ∙ ap (λ (b : Bool). enter_turn None b true actor s h r) below
@@ -62,7 +62,7 @@ enters shared ready running actor need book commit told free below after begins 
     (shown_commit c (entered shared.book.state told) running)) same)
 
 pub begun_commit : (shared : Shared) (ready : ReadyValue) (running : Running) (actor need : ℕ) (book : BookValue) (commit : CommitValue)
-    (told : Told) → book ≡ record { state = after_enter actor shared.book.state; room = need } → commit ≡ begun (stamp_of book.state) ready
+    (told : GhostCall) → book ≡ record { state = after_enter actor shared.book.state; room = need } → commit ≡ begun (stamp_of book.state) ready
     → IsReadyOf (slots_in running.slots) ready told → IsCommitOf (slots_in running.slots) commit (entered shared.book.state told)
 begun_commit shared ready running actor need book commit told after begins is =
     let last : BookValue = record { state = after_enter actor shared.book.state; room = need } in
@@ -98,7 +98,7 @@ told_why result fault commit last is limit at (inr e) same fits = go (nat_le NUM
       let both = sym is ∙ at full in absurd (cc (both, e))
   go false q = inr (e, q)
 
-pub refuses : (shared : Shared) (hand : Hand) (running : Running) (actor : ℕ) (book : BookValue) (given : Hand) (told : Told)
+pub refuses : (shared : Shared) (hand : Hand) (running : Running) (actor : ℕ) (book : BookValue) (given : Hand) (told : GhostCall)
     (fault : Fault)
     (turn : Turn) → shared.holder ≡ None → book ≡ shared.book → given ≡ hand
     → refuse fault (shared_of (record shared { book = book })) (hand_of given) (shown told running) ≡ turn
@@ -135,19 +135,19 @@ refuses shared hand running actor book given told fault turn free same held refu
 
 -- ---- what holds of the call beside
 
--- a call whose job its commit has can end
-pub given_ends : (running : Running) (how : Ending) → running.job ≡ job.Given → (how ≡ ending.Overtaken → ⊥) → CanEnd running how
+-- a call whose request its commit has can end
+pub given_ends : (running : Running) (how : Ending) → running.request ≡ request.Given → (how ≡ ending.Overtaken → ⊥) → CanEnd running how
 given_ends running how given other = record {
-  job = subst IsNoVisit (sym given) tt;
-  looks = subst (λ (j : Job). LooksAsTold j running.looked) (sym given) tt;
+  request = subst IsNoVisit (sym given) tt;
+  looks = subst (λ (j : Request). LooksAsTold j running.looked) (sym given) tt;
   overtaken = λ is. absurd (other is);
 }
 
 -- what was ready is committed from its begin on
 pub entered_rooms : (shared : Shared) (running : Running) (ready : ReadyValue) (actor need : ℕ) (book : BookValue) (commit : CommitValue)
-    → HasRooms shared (hold.Ready ready) running → need ≡ ready.need → CanEnter shared running ready actor
+    → HasRooms shared (reserved.Ready ready) running → need ≡ ready.need → CanEnter shared running ready actor
     → book ≡ record { state = after_enter actor shared.book.state; room = need } → commit ≡ begun (stamp_of book.state) ready
-    → HasRooms (record shared { book = book; holder = Some actor }) (hold.Commit commit) running
+    → HasRooms (record shared { book = book; holder = Some actor }) (reserved.Commit commit) running
 entered_rooms shared running ready actor need book commit rooms enough enter after begins_is =
     let last : BookValue = record { state = after_enter actor shared.book.state; room = need } in
     let cells : List (ℕ × CellValue) = lent_cells (slots_in running.slots) shared.cells.items in
@@ -164,6 +164,6 @@ entered_rooms shared running ready actor need book commit rooms enough enter aft
     can_commit over.cells cells over.hand over.update last cpu ready over.can over.more over.is allows in
     let first : CommitValue = begun (stamp_of last.state) ready in
     let same : commit ≡ first = begins_is ∙ ap (λ (b : BookValue). begun (stamp_of b.state) ready) after in
-    subst (λ (b : BookValue). HasRooms (record shared { book = b; holder = Some actor }) (hold.Commit commit) running) (sym after)
-    (subst (λ (c : CommitValue). HasRooms (record shared { book = last; holder = Some actor }) (hold.Commit c) running) (sym same)
+    subst (λ (b : BookValue). HasRooms (record shared { book = b; holder = Some actor }) (reserved.Commit commit) running) (sym after)
+    (subst (λ (c : CommitValue). HasRooms (record shared { book = last; holder = Some actor }) (reserved.Commit c) running) (sym same)
     (rooms.0, rooms.1, rooms.2, begins cpu cells last ready can))

@@ -24,7 +24,7 @@ use Rattle.nv_calls.specs.SlotCells.{lent_cells}
 use Rattle.nv_calls.specs.Updates.{blank_call}
 use Rattle.nv_calls.specs.calls.Size.{resized, size_refusal}
 use Rattle.nv_calls.specs.calls.Write.{text_refusal}
-use Rattle.nv_calls.specs.declared.looked.Looked.{Looked}
+use Rattle.nv_calls.specs.declared.looked.LookupResult.{LookupResult}
 use Rattle.nv_calls.specs.declared.update.Update.{Update}
 use Rattle.nv_calls.specs.declared.update.Update.TheVariants as update
 use Rattle.nv_cell.specs.Cell.{CellState, CellValue, log_of}
@@ -88,7 +88,7 @@ more_page block old new more file page =
 
 -- ---- the pages
 
-module _ (shared : Shared) (slots : List ℕ) (hand : Hand) (looked : Looked) (now : List (ℕ × CellValue)) (byte_at : ℕ → ℕ)
+module _ (shared : Shared) (slots : List ℕ) (hand : Hand) (looked : LookupResult) (now : List (ℕ × CellValue)) (byte_at : ℕ → ℕ)
     (some : 0 < shared.geometry.numbers.block) (more : HaveNoLessRoom (lent_cells slots shared.cells.items) now)
     (sound : AllByRecursion (λ (c : ℕ × CellValue). IsSoundIn c.1.state (log_of c.1.state)) (lent_cells slots shared.cells.items)) where
   abbrev block : ℕ

@@ -15,12 +15,12 @@ use Rattle.nv_machine.specs.World as machine
 use Rattle.nv_machine.specs.World.{HandState, actor_at}
 use Rattle.nv_core.specs.Parts.{IsOfDevice}
 use Rattle.nv_core.specs.Rooms.{HasActorRooms, HasRooms, hand_held}
-use Rattle.nv_core.specs.Shown.{Told, held_by, shared_of, shown_by, shown_ready, slots_in}
+use Rattle.nv_core.specs.Shown.{GhostCall, held_by, shared_of, shown_by, shown_ready, slots_in}
 use Rattle.nv_core.specs.Steps.{CanEnter, CanStep, GivenBy}
-use Rattle.nv_core.specs.Told.{IsHoldOf, IsReadyOf, IsToldOf}
-use Rattle.nv_core.specs.Worlds.{Run, ShowsActor, ShowsCall, ShowsRunning, told_of}
-use Rattle.nv_core.specs.declared.hold.Hold.{Hold}
-use Rattle.nv_core.specs.declared.hold.Hold.TheVariants as hold
+use Rattle.nv_core.specs.GhostCalls.{IsReservationOf, IsReadyOf, IsGhostCallOf}
+use Rattle.nv_core.specs.Worlds.{EventRun, ShowsActor, ShowsCall, ShowsRunning, told_of}
+use Rattle.nv_core.specs.declared.reservation.Reservation.{Reservation}
+use Rattle.nv_core.specs.declared.reservation.Reservation.TheVariants as reserved
 use Rattle.nv_core.specs.declared.running.Running.{Running}
 use Rattle.nv_core.specs.declared.shared.Shared.{Shared}
 use Rattle.nv_core.specs.declared.world.Actor.{Actor}
@@ -34,14 +34,14 @@ use Rattle.nv_core.proofs.ShownCalls.{commit_commits, shown_slots}
 
 -- ---- over plain values
 
-held_device : (g : GeometryNumbers) (hold : Hold) → AllByRecursion (λ (b : BlockValue). b.number < g.blocks) (blocks_in (held_by hold))
-    → IsOfDevice g (hand_held hold)
-held_device g (hold.Hand hand) all = all
-held_device g (hold.Ready ready) all = all
-held_device g (hold.Commit commit) all = all
+held_device : (g : GeometryNumbers) (reserved : Reservation) → AllByRecursion (λ (b : BlockValue). b.number < g.blocks) (blocks_in (held_by reserved))
+    → IsOfDevice g (hand_held reserved)
+held_device g (reserved.Hand hand) all = all
+held_device g (reserved.Ready ready) all = all
+held_device g (reserved.Commit commit) all = all
 
-given_enter : (shared : Shared) (actor : ℕ) (told : Told) (ready : ReadyValue) (running : Running)
-    → IsGiven shared.geometry.numbers (shared_of shared) actor (held_by (hold.Ready ready)) (shown_ready told running)
+given_enter : (shared : Shared) (actor : ℕ) (told : GhostCall) (ready : ReadyValue) (running : Running)
+    → IsGiven shared.geometry.numbers (shared_of shared) actor (held_by (reserved.Ready ready)) (shown_ready told running)
     → IsReadyOf (slots_in running.slots) ready told → shared.holder ≡ None → shared.book.state.commit < NUMBER
     → CanEnter shared running ready actor
 given_enter shared actor told ready running given is free few = record {
@@ -51,17 +51,17 @@ given_enter shared actor told ready running given is free few = record {
   closed = no_journal shared.book.state.journals (actor % length shared.lists.items) (given.logs.closed free);
 }
 
-module _ (shared : Shared) (actor : ℕ) (told : Told) (running : Running) (job : IsToldOf running told) where
-  given_own : (held : Hold) → IsGiven shared.geometry.numbers (shared_of shared) actor (held_by held) (shown_by held told running)
-      → IsHoldOf (slots_in running.slots) held told → HasRooms shared held running → GivenBy shared held running actor
-  given_own (hold.Hand hand) given is rooms =
-      given_kind shared actor told hand running given job running.next refl rooms.0.before
-  given_own (hold.Ready ready) given is rooms = given_enter shared actor told ready running given is
-  given_own (hold.Commit commit) given is rooms = given.commits (commit_commits (step_of commit) commit)
+module _ (shared : Shared) (actor : ℕ) (told : GhostCall) (running : Running) (request : IsGhostCallOf running told) where
+  given_own : (held : Reservation) → IsGiven shared.geometry.numbers (shared_of shared) actor (held_by held) (shown_by held told running)
+      → IsReservationOf (slots_in running.slots) held told → HasRooms shared held running → GivenBy shared held running actor
+  given_own (reserved.Hand hand) given is rooms =
+      given_kind shared actor told hand running given request running.next refl rooms.0.before
+  given_own (reserved.Ready ready) given is rooms = given_enter shared actor told ready running given is
+  given_own (reserved.Commit commit) given is rooms = given.commits (commit_commits (step_of commit) commit)
 
-  pub given_step : (held : Hold) → IsWithinLimits shared.geometry.numbers → actor < shared.geometry.numbers.actors
+  pub given_step : (held : Reservation) → IsWithinLimits shared.geometry.numbers → actor < shared.geometry.numbers.actors
       → IsGiven shared.geometry.numbers (shared_of shared) actor (held_by held) (shown_by held told running)
-      → IsHoldOf (slots_in running.slots) held told → HasRooms shared held running → CanStep shared held running actor
+      → IsReservationOf (slots_in running.slots) held told → HasRooms shared held running → CanStep shared held running actor
   given_step held limits there given is rooms = record {
     limits = limits;
     actors = there;
@@ -76,13 +76,13 @@ module _ (shared : Shared) (actor : ℕ) (told : Told) (running : Running) (job 
 -- ---- one actor of a world
 
 -- whose machine's world is that after a run
-pub can_step_as : (shared : Shared) (held : Hold) (running : Running) (r : machine.Running) (m : machine.World)
-    (run : Run) (actor : ℕ) → IsStart shared.geometry.numbers run.start run.records → m ≡ after run.start run.events
+pub can_step_as : (shared : Shared) (held : Reservation) (running : Running) (r : machine.Running) (m : machine.World)
+    (run : EventRun) (actor : ℕ) → IsStart shared.geometry.numbers run.start run.records → m ≡ after run.start run.events
     → shared_of shared ≡ m.shared
     → actor < length m.actors → held_by held ≡ (actor_at m actor).hand → (actor_at m actor).running ≡ Some r → ShowsCall held running r
     → HasRooms shared held running → CanStep shared held running actor
 can_step_as shared held running r m run actor is_start from same there hand is shows rooms =
-    given_step shared actor (told_of r) running shows.job held is_start.limits inside given shows.plan rooms where
+    given_step shared actor (told_of r) running shows.request held is_start.limits inside given shows.plan rooms where
       inside : actor < shared.geometry.numbers.actors
       inside =
           let many =
@@ -102,12 +102,12 @@ can_step_as shared held running r m run actor is_start from same there hand is s
 -- ---- a world
 
 -- what the machine has where the code has a call
-record HasShown (held : Hold) (running : Running) (shown : Option machine.Running) : Type 0 where
+record HasShown (held : Reservation) (running : Running) (shown : Option machine.Running) : Type 0 where
   r : machine.Running
   is : shown ≡ Some r
   shows : ShowsCall held running r
 
-shown_some : (held : Hold) (o : Option Running) (shown : Option machine.Running) (running : Running) → o ≡ Some running
+shown_some : (held : Reservation) (o : Option Running) (shown : Option machine.Running) (running : Running) → o ≡ Some running
     → ShowsRunning held o shown → HasShown held running shown
 shown_some held None shown running e shows = cc
 shown_some held (Some other) None running e shows = absurd shows
@@ -117,12 +117,12 @@ shown_some held (Some other) (Some r) running e shows =
 
 -- THE LEMMA: where the shared parts and the actors of a world show those of the machine, an actor's call
 -- can make its next step
-pub can_step : (shared : Shared) (actors : List Actor) (m : machine.World) (run : Run)
+pub can_step : (shared : Shared) (actors : List Actor) (m : machine.World) (run : EventRun)
     → IsStart shared.geometry.numbers run.start run.records → m ≡ after run.start run.events
     → shared_of shared ≡ m.shared → length actors ≡ length m.actors → (actor : ℕ) → actor < length actors → (own : Actor)
-    → ShowsActor own (actor_at m actor) → HasActorRooms shared own.hold own.running → (running : Running) → own.running ≡ Some running
-    → CanStep shared own.hold running actor
+    → ShowsActor own (actor_at m actor) → HasActorRooms shared own.reserved own.running → (running : Running) → own.running ≡ Some running
+    → CanStep shared own.reserved running actor
 can_step shared actors m run is_start from same many actor there own shows rooms running has_it =
-    let call = shown_some own.hold own.running (actor_at m actor).running running has_it shows.running in
-    can_step_as shared own.hold running call.r m run actor is_start from same (omega (arith, there, many)) shows.hand call.is call.shows
-    (subst (λ (o : Option Running). HasActorRooms shared own.hold o) has_it rooms)
+    let call = shown_some own.reserved own.running (actor_at m actor).running running has_it shows.running in
+    can_step_as shared own.reserved running call.r m run actor is_start from same (omega (arith, there, many)) shows.hand call.is call.shows
+    (subst (λ (o : Option Running). HasActorRooms shared own.reserved o) has_it rooms)

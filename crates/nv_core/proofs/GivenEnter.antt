@@ -10,7 +10,7 @@ use Rattle.nv_book.specs.Book.{after_enter}
 use Rattle.nv_calls.specs.CanCommit.{TakesCommit}
 use Rattle.nv_calls.specs.Cells.{no_cell, value_at}
 use Rattle.nv_calls.specs.Commit.{stamp_of}
-use Rattle.nv_calls.specs.Ready.{CellPlanValue, ReadyValue}
+use Rattle.nv_calls.specs.Ready.{CellCommitValue, ReadyValue}
 use Rattle.nv_calls.specs.SlotCells.{cell_in, lent_cells}
 use Rattle.nv_calls.specs.Slots.{IsBefore}
 use Rattle.nv_calls.specs.Steps.{IsLater}
@@ -26,8 +26,8 @@ use Rattle.nv_machine.specs.Order.{AreLogsOrdered}
 use Rattle.nv_machine.specs.Reads.{is_written, slot_at}
 use Rattle.nv_machine.specs.World.{cell_at}
 use Rattle.nv_machine.proofs.Lists.{slot_inside}
-use Rattle.nv_core.specs.Shown.{Told, shared_of}
-use Rattle.nv_core.specs.Told.{IsReadyOf}
+use Rattle.nv_core.specs.Shown.{GhostCall, shared_of}
+use Rattle.nv_core.specs.GhostCalls.{IsReadyOf}
 use Rattle.nv_core.specs.declared.shared.Shared.{Shared}
 use Rattle.nv_core.proofs.GivenCells.{many_cells}
 use Rattle.nv_core.proofs.Nodes.{cell_is}
@@ -118,14 +118,14 @@ module _ (shared : Shared) (actor : ℕ) (slots : List ℕ) (are : AreSlotsOf (l
         (none_takes stamp)
   ]
 
-  pub given_takes : (ready : ReadyValue) (told : Told) → IsReadyOf slots ready told
+  pub given_takes : (ready : ReadyValue) (told : GhostCall) → IsReadyOf slots ready told
       → ((place : ℕ) → place < length (filter (is_written told.plan) slots)
       → (cell_at (shared_of shared) (slot_at (filter (is_written told.plan) slots) place)).generation < NUMBER)
       → AllByRecursion (λ p. TakesCommit stamp (value_at (lent_cells slots shared.cells.items) p.at)) ready.plans
   given_takes ready told is low =
-      all_of (λ (p : CellPlanValue). (cell_at (shared_of shared) (slot_at slots p.at)).generation < NUMBER)
+      all_of (λ (p : CellCommitValue). (cell_at (shared_of shared) (slot_at slots p.at)).generation < NUMBER)
       (λ p. TakesCommit stamp (value_at (lent_cells slots shared.cells.items) p.at)) (λ p. takes_at p.at) ready.plans
-      (all_places (λ (p : CellPlanValue). slot_at slots p.at) (λ ino. (cell_at (shared_of shared) ino).generation < NUMBER) ready.plans
+      (all_places (λ (p : CellCommitValue). slot_at slots p.at) (λ ino. (cell_at (shared_of shared) ino).generation < NUMBER) ready.plans
       (subst (λ (l : List ℕ). (place : ℕ) → place < length l → (cell_at (shared_of shared) (slot_at l place)).generation < NUMBER)
       is.written low))
 

@@ -20,12 +20,12 @@ use Rattle.nv_machine.specs.Sequence.{beginning}
 use Rattle.nv_machine.specs.World as machine
 use Rattle.nv_core.specs.Nodes.{CanRead, HoldHandles}
 use Rattle.nv_core.specs.Rooms.{FitsNext}
-use Rattle.nv_core.specs.Shown.{Told, draining_of, ending_of, hand_of, next_of, shared_of, showing_of, shown, slots_in}
+use Rattle.nv_core.specs.Shown.{GhostCall, draining_of, ending_of, hand_of, next_of, shared_of, showing_of, shown, slots_in}
 use Rattle.nv_core.specs.Steps.{CanBeChecked, Given, GivenOn}
-use Rattle.nv_core.specs.Told.{IsChangeWith, IsJobOf, IsToldOf, is_change}
-use Rattle.nv_core.specs.declared.job.Job.{Job}
-use Rattle.nv_core.specs.declared.job.Job.TheVariants as job
-use Rattle.nv_core.specs.declared.job.Owed.{Owed}
+use Rattle.nv_core.specs.GhostCalls.{IsChangeWith, IsRequestOf, IsGhostCallOf, is_change}
+use Rattle.nv_core.specs.declared.request.Request.{Request}
+use Rattle.nv_core.specs.declared.request.Request.TheVariants as request
+use Rattle.nv_core.specs.declared.request.PendingAnswer.{PendingAnswer}
 use Rattle.nv_core.specs.declared.next.Ending.{Ending}
 use Rattle.nv_core.specs.declared.next.Ending.TheVariants as ending
 use Rattle.nv_core.specs.declared.next.Next.{Next}
@@ -46,15 +46,15 @@ answers_only ending.Overtaken e = cc
 answers_only (ending.Drains draining) e = cc
 answers_only (ending.Cleans cleaned) e = cc
 
--- ---- the call of a job
+-- ---- the call of a request
 
--- what holds of the updates of a call holds of the update of its job
-by_job : (P : Update → Type 0) (j : Job) (owed : Owed) (c : Call) → is_change j ≡ true → IsJobOf j owed c
+-- what holds of the updates of a call holds of the update of its request
+by_job : (P : Update → Type 0) (j : Request) (owed : PendingAnswer) (c : Call) → is_change j ≡ true → IsRequestOf j owed c
     → ((u : Update) (text : List ℕ) → c ≡ call_of u text → P u) → IsChangeWith P j
-by_job P (job.Change plan text) owed c e is from = from plan.update text is.0
-by_job P (job.Visit visit) owed c e is from = cc
-by_job P (job.Maintenance on) owed c e is from = cc
-by_job P job.Given owed c e is from = cc
+by_job P (request.Change plan text) owed c e is from = from plan.update text is.0
+by_job P (request.Visit visit) owed c e is from = cc
+by_job P (request.Maintenance on) owed c e is from = cc
+by_job P request.Given owed c e is from = cc
 
 -- a call with any text makes an inode or not
 makes_same : (u : Update) (text : List ℕ) → makes_inode (beginning (call_of u text)) ≡ makes u
@@ -67,9 +67,9 @@ makes_same (update.Unlink dir name) text = refl
 makes_same (update.Rmdir dir name) text = refl
 makes_same (update.Rename from old to new) text = refl
 
-module _ (shared : Shared) (actor : ℕ) (told : Told) (hand : Hand) (running : Running)
+module _ (shared : Shared) (actor : ℕ) (told : GhostCall) (hand : Hand) (running : Running)
     (given : IsGiven shared.geometry.numbers (shared_of shared) actor (hand_of hand) (shown told running))
-    (is : IsToldOf running told) where
+    (is : IsGhostCallOf running told) where
   abbrev g : GeometryNumbers
   g = shared.geometry.numbers
 
@@ -117,15 +117,15 @@ module _ (shared : Shared) (actor : ℕ) (told : Told) (hand : Hand) (running : 
       go false q number has_it =
           inr (sym has_it ∙ (hand_at next.Check e).number (ap (λ (c : Call). makes_inode (beginning c)) same ∙ makes_same u text ∙ q))
 
-    given_check : is_change running.job ≡ true → CanBeChecked shared hand running
+    given_check : is_change running.request ≡ true → CanBeChecked shared hand running
     given_check change = record {
       still = given_still shared slots given.slots (given.still (ap next_of e));
       empty = (hand_at next.Check e).blocks;
       inside = number_inside;
-      read = by_job (λ u. CanRead shared slots (handles running.looked (blank_call u))) running.job running.owed told.call change is
+      read = by_job (λ u. CanRead shared slots (handles running.looked (blank_call u))) running.request running.owed told.call change is
           check_read;
       number = by_job (λ u. (hand.ino ≡ None) × (makes u ≡ true) ⊎ HasNumberFor (lent_cells slots shared.cells.items) (makes u) hand.ino)
-          running.job running.owed told.call change is check_number;
+          running.request running.owed told.call change is check_number;
     }
 
   -- ---- calls on snapshots
@@ -184,13 +184,13 @@ module _ (shared : Shared) (actor : ℕ) (told : Told) (hand : Hand) (running : 
 
   -- ---- all kinds
 
-  pub given_kind : (n : Next) → running.next ≡ n → FitsNext n running.job → Given n shared hand running
+  pub given_kind : (n : Next) → running.next ≡ n → FitsNext n running.request → Given n shared hand running
   given_kind next.Number e fits = ap (λ (h : machine.HandState). h.ino) (hand_at next.Number e).0
   given_kind (next.Look place) e fits = tt
   given_kind (next.Lock place) e fits = inside (next.Lock place) e
   given_kind next.Check e fits = given_check e fits
   given_kind (next.TakeBlocks asked) e fits = tt
-  given_kind (next.TakePages asked) e fits = tt
+  given_kind (next.TakeLogPages asked) e fits = tt
   given_kind next.Ready e fits = record {
     answers = answers_only running.ending (given.going (ap (λ (n : Next). is_going (next_of n)) e));
     sound = all_lent (λ (c : CellState). IsSoundIn c (log_of c)) shared slots given.slots.inside (given.sound (ap next_of e));
@@ -198,7 +198,7 @@ module _ (shared : Shared) (actor : ℕ) (told : Told) (hand : Hand) (running : 
   given_kind (next.Unlock place) e fits = inside (next.Unlock place) e
   given_kind (next.Give cpu) e fits =
       let at = hand_at (next.Give cpu) e in record { cpu = at.1; given = at.2; sized = given.sized; once = given.once cpu }
-  given_kind next.Back e fits = record {
+  given_kind next.ReturnNumber e fits = record {
     inode = λ ino has_it. (let fewer = given.numbers ino has_it in omega (arith, fewer.0, given.pool));
     absent = λ ino has_it. (given.numbers ino has_it).1;
   }

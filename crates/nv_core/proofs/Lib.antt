@@ -10,7 +10,7 @@ pub mod AuditRecords
 pub mod AuditShown
 pub mod Blocked
 pub mod Bounds
-pub mod CheckJobs
+pub mod CheckRequests
 pub mod CheckTurns
 pub mod Checks
 pub mod CleaningStays

@@ -13,7 +13,7 @@ use Rattle.nv_calls.specs.Refusals.{Check, passes}
 use Rattle.nv_calls.specs.Updates.{call_of}
 use Rattle.nv_calls.specs.declared.call.Call.{Call}
 use Rattle.nv_calls.specs.declared.call.Call.TheVariants as call
-use Rattle.nv_calls.specs.declared.looked.Looked.{Looked}
+use Rattle.nv_calls.specs.declared.looked.LookupResult.{LookupResult}
 use Rattle.nv_calls.specs.declared.plan.Plan.{Plan}
 use Rattle.nv_calls.specs.declared.update.Update.{Update}
 use Rattle.nv_calls.specs.declared.update.Update.TheVariants as update
@@ -24,10 +24,10 @@ use Rattle.nv_machine.specs.Reads.{bytes_among, copies, slots_of}
 use Rattle.nv_machine.specs.World as machine
 use Rattle.nv_machine.specs.World.{HandState, Next, Running, Shared, cell_at, no_cell}
 use Rattle.nv_core.proofs.Visits.{no_node, node_here}
-use Rattle.nv_core.specs.Told.{IsChangeBy, IsJobOf, IsLookAt, looking_at}
-use Rattle.nv_core.specs.declared.job.Job.{Job}
-use Rattle.nv_core.specs.declared.job.Job.TheVariants as job
-use Rattle.nv_core.specs.declared.job.Owed.{Owed}
+use Rattle.nv_core.specs.GhostCalls.{IsChangeBy, IsRequestOf, IsLookAt, looking_at}
+use Rattle.nv_core.specs.declared.request.Request.{Request}
+use Rattle.nv_core.specs.declared.request.Request.TheVariants as request
+use Rattle.nv_core.specs.declared.request.PendingAnswer.{PendingAnswer}
 
 -- ---- a look by the cell of its slot alone
 
@@ -46,10 +46,10 @@ node_alone s dir value None none = sym (ap (option_map (λ (p : PlainNode). p.no
 node_alone s dir value (Some c) is = ap (option_map (λ (p : PlainNode). p.node)) (node_here s dir (value c) is)
 
 -- what a look comes to
-abbrev outcome : (Handle → Option NodeCopy) → Call → List Handle → ℕ → Looked → Check × Looked
+abbrev outcome : (Handle → Option NodeCopy) → Call → List Handle → ℕ → LookupResult → Check × LookupResult
 outcome n c dirs place before = (look_tests place (look_refusal n c), seen_at dirs place (looked n c) before)
 
-alike_two : (n m : Handle → Option NodeCopy) (from : Handle) (old : List ℕ) (to : Handle) (new : List ℕ) (place : ℕ) (before : Looked)
+alike_two : (n m : Handle → Option NodeCopy) (from : Handle) (old : List ℕ) (to : Handle) (new : List ℕ) (place : ℕ) (before : LookupResult)
     (same : Bool) → (same ≡ true → from ≡ to) → let dirs = if same then from ∷ [] else from ∷ to ∷ [] in
     place < length dirs → n (handle_at dirs place) ≡ m (handle_at dirs place)
     → outcome n (call.Rename from old to new) dirs place before ≡ outcome m (call.Rename from old to new) dirs place before
@@ -65,7 +65,7 @@ alike_two n m from old to new (suc zero) before false is few e =
 alike_two n m from old to new (suc (suc place)) before false is few e = absurd (omega (arith, few))
 
 -- it comes to the same over nodes that are alike under its directory
-alike : (n m : Handle → Option NodeCopy) (u : Update) (text : List ℕ) (place : ℕ) (before : Looked) → HasPlace place u
+alike : (n m : Handle → Option NodeCopy) (u : Update) (text : List ℕ) (place : ℕ) (before : LookupResult) → HasPlace place u
     → n (handle_at (directories (call_of u text)) place) ≡ m (handle_at (directories (call_of u text)) place)
     → outcome n (call_of u text) (directories (call_of u text)) place before
     ≡ outcome m (call_of u text) (directories (call_of u text)) place before
@@ -80,50 +80,50 @@ alike n m (update.Rename from old to new) text place before few e =
 alike n m other text place before few e = absurd (omega (arith, few))
 
 -- by the cell of the directory's slot it comes to what it comes to over all nodes
-pub look_alone : {A : Type 0} (s : Shared) (u : Update) (text : List ℕ) (place : ℕ) (before : Looked) (dir : Handle)
-    (value : A → CellValue) (cell : Option A) (result : Result Looked Fault) → HasPlace place u
+pub look_alone : {A : Type 0} (s : Shared) (u : Update) (text : List ℕ) (place : ℕ) (before : LookupResult) (dir : Handle)
+    (value : A → CellValue) (cell : Option A) (result : Result LookupResult Fault) → HasPlace place u
     → dir ≡ handle_at (directories (call_of u text)) place → IsCellOf s dir.ino value cell
     → ((bytes : ℕ → List ℕ) → IsLookOf (copies_by bytes (in_slot dir.ino (option_map value cell))) u text place before result)
     → IsLookOf (copies s) u text place before result
 look_alone s u text place before dir value cell result few is there look =
     let n = copies_by (bytes_in (option_map value cell)) (in_slot dir.ino (option_map value cell)) in
-    subst (λ (x : Check × Looked). IsLook x.0 x.1 result)
+    subst (λ (x : Check × LookupResult). IsLook x.0 x.1 result)
     (alike n (copies s) u text place before few
     (subst (λ (h : Handle). n h ≡ copies s h) is (node_alone s dir value cell there)))
     (look (bytes_in (option_map value cell)))
 
-pub place_of : (j : Job) (plan : Plan) (place : ℕ) → IsChangeBy j plan → IsLookAt place j → HasPlace place plan.update
-place_of (job.Change p text) plan place by at = subst (λ (x : Plan). HasPlace place x.update) by at
-place_of (job.Visit visit) plan place by at = elim by [ ]
-place_of (job.Maintenance on) plan place by at = elim by [ ]
-place_of job.Given plan place by at = elim by [ ]
+pub place_of : (j : Request) (plan : Plan) (place : ℕ) → IsChangeBy j plan → IsLookAt place j → HasPlace place plan.update
+place_of (request.Change p text) plan place by at = subst (λ (x : Plan). HasPlace place x.update) by at
+place_of (request.Visit visit) plan place by at = elim by [ ]
+place_of (request.Maintenance on) plan place by at = elim by [ ]
+place_of request.Given plan place by at = elim by [ ]
 
 -- ---- the machine's turn of a look
 
--- the call of a job that changes nodes is that of its update, with some text
-pub call_by : (j : Job) (owed : Owed) (c : Call) (plan : Plan) → IsChangeBy j plan → IsJobOf j owed c
+-- the call of a request that changes nodes is that of its update, with some text
+pub call_by : (j : Request) (owed : PendingAnswer) (c : Call) (plan : Plan) → IsChangeBy j plan → IsRequestOf j owed c
     → (text : List ℕ) × (c ≡ call_of plan.update text)
-call_by (job.Change p text) owed c plan by is = (text, is.0 ∙ ap (λ (x : Plan). call_of x.update text) by)
-call_by (job.Visit visit) owed c plan by is = elim by [ ]
-call_by (job.Maintenance on) owed c plan by is = elim by [ ]
-call_by job.Given owed c plan by is = elim by [ ]
+call_by (request.Change p text) owed c plan by is = (text, is.0 ∙ ap (λ (x : Plan). call_of x.update text) by)
+call_by (request.Visit visit) owed c plan by is = elim by [ ]
+call_by (request.Maintenance on) owed c plan by is = elim by [ ]
+call_by request.Given owed c plan by is = elim by [ ]
 
 pub nobody : (owner : Option ℕ) (b : Bool) → b ≡ is_some owner → b ≡ false → owner ≡ None
 nobody None b same not = refl
 nobody (Some n) b same not = cc
 
-pub look_moves : (s : Shared) (h : HandState) (r : Running) (owner : Option ℕ) (tests : Check) (seen found : Looked) (place : ℕ)
+pub look_moves : (s : Shared) (h : HandState) (r : Running) (owner : Option ℕ) (tests : Check) (seen found : LookupResult) (place : ℕ)
     (slots : List ℕ) (next : Next) → owner ≡ None → tests ≡ passes → found ≡ seen → slots ≡ slots_of s None found r.call
     → next ≡ looking_at (place + 1) slots r.call
     → look_turn owner tests seen place s h r ≡ machine.Moves s h (record r { looked = found; slots = slots; next = next })
 look_moves s h r owner tests seen found place slots next free pass same at goes =
     ap (λ (o : Option ℕ). look_turn o tests seen place s h r) free
     ∙ ap (λ (t : Check). look_turn None t seen place s h r) pass
-    ∙ ap (λ (l : Looked). look_turn None passes l place s h r) (sym same)
+    ∙ ap (λ (l : LookupResult). look_turn None passes l place s h r) (sym same)
     ∙ ap (λ (xs : List ℕ). machine.Moves s h (record r { looked = found; slots = xs; next = looking_at (place + 1) xs r.call })) (sym at)
     ∙ ap (λ (n : Next). machine.Moves s h (record r { looked = found; slots = slots; next = n })) (sym goes)
 
-pub look_ends : (s : Shared) (h : HandState) (r : Running) (owner : Option ℕ) (tests : Check) (seen : Looked) (place : ℕ) (fault : Fault)
+pub look_ends : (s : Shared) (h : HandState) (r : Running) (owner : Option ℕ) (tests : Check) (seen : LookupResult) (place : ℕ) (fault : Fault)
     → owner ≡ None → tests ≡ Err fault → look_turn owner tests seen place s h r ≡ end_turn [] (machine.Refuses fault) s h r
 look_ends s h r owner tests seen place fault free refused =
     ap (λ (o : Option ℕ). look_turn o tests seen place s h r) free ∙ ap (λ (t : Check). look_turn None t seen place s h r) refused

@@ -16,7 +16,7 @@ use Rattle.nv_entry.specs.Node.{block_now, node_now}
 use Rattle.nv_calls.specs.SlotCells.{cell_in, lent_cells}
 use Rattle.nv_calls.specs.declared.call.Call.{Call}
 use Rattle.nv_calls.specs.AllCalls.{looked}
-use Rattle.nv_calls.specs.declared.taken.Taken.{Taken}
+use Rattle.nv_calls.specs.declared.allocation.Allocation.{Allocation}
 use Rattle.nv_calls.proofs.NodesHeld.{nodes_are}
 use Rattle.nv_calls.proofs.Same.{call_same}
 use Rattle.nv_cell.specs.Cell.{CellState, CellValue, log_of}
@@ -156,7 +156,7 @@ nodes_agree shared slots (handle ∷ list) can = (
 )
 
 -- the call is the same over the lent cells as in the machine
-pub lent_call_same : (block : ℕ) (shared : Shared) (slots : List ℕ) (taken : Taken) (c : Call)
+pub lent_call_same : (block : ℕ) (shared : Shared) (slots : List ℕ) (taken : Allocation) (c : Call)
     → CanRead shared slots (handles (looked (copies (shared_of shared)) c) c)
     → SameCall block (nodes (shared_of shared)) (plain_nodes (lent_cells slots shared.cells.items)) taken c
 lent_call_same block shared slots taken c can =

@@ -6,7 +6,7 @@ use Rattle.std.proofs.lemmas.List.{length-map}
 use Rattle.nv_book.specs.Book.{with_journal}
 use Rattle.nv_calls.specs.Commit.{CommitValue, after_open}
 use Rattle.nv_calls.specs.Progress.{is_open, opens as opens_journal}
-use Rattle.nv_calls.specs.Ready.{CellPlanValue, old_tail, old_tails, plan_at}
+use Rattle.nv_calls.specs.Ready.{CellCommitValue, old_tail, old_tails, plan_at}
 use Rattle.nv_calls.specs.SlotCells.{lent_cells}
 use Rattle.nv_calls.specs.declared.progress.CommitStep.TheVariants as step
 use Rattle.nv_cell.specs.Cell.{CellState, CellValue}
@@ -18,15 +18,15 @@ use Rattle.nv_machine.specs.Sequence.{publishing}
 use Rattle.nv_machine.specs.World as machine
 use Rattle.nv_machine.specs.World.{Publish, cell_at, go_to, with_book}
 use Rattle.nv_core.specs.Parts.{HaveSlots}
-use Rattle.nv_core.specs.Shown.{Told, commit_next, hand_in, machine_step, shared_of, shown_commit, slots_in}
-use Rattle.nv_core.specs.Told.{IsCommitOf, IsOnItsWay}
+use Rattle.nv_core.specs.Shown.{GhostCall, commit_next, hand_in, machine_step, shared_of, shown_commit, slots_in}
+use Rattle.nv_core.specs.GhostCalls.{IsCommitOf, IsOnItsWay}
 use Rattle.nv_core.specs.declared.running.Running.{Running}
 use Rattle.nv_core.specs.declared.shared.Shared.{Shared}
 use Rattle.nv_calls.proofs.LentSlots.{lent_at}
 use Rattle.nv_core.proofs.Publishes.{state_there}
 
 -- what is told of the commit stays
-pub open_told : (slots : List ℕ) (old new : CommitValue) (cpu : ℕ) (tails : List OldTail) (told : Told)
+pub open_told : (slots : List ℕ) (old new : CommitValue) (cpu : ℕ) (tails : List OldTail) (told : GhostCall)
     → new ≡ after_open cpu tails old → IsCommitOf slots old told → IsCommitOf slots new told
 open_told slots old new cpu tails told commit is =
     subst (λ (c : CommitValue). IsCommitOf slots c told) (sym commit) (record { number = is.number; epoch = is.epoch; plans = is.plans })
@@ -80,7 +80,7 @@ opens_next c written many appended none two noted =
     go false false false b4 b5 q r s = absurd (true≢false (sym s))
 
 -- the tails of the written slots are those of the planned cells
-tails_same : (g : ℕ → OldTail) (f : CellPlanValue → OldTail) (h : CellPlanValue → ℕ) (plans : List CellPlanValue)
+tails_same : (g : ℕ → OldTail) (f : CellCommitValue → OldTail) (h : CellCommitValue → ℕ) (plans : List CellCommitValue)
     → ((j : ℕ) → j < length plans → g (h (plan_at plans j)) ≡ f (plan_at plans j)) → map g (map h plans) ≡ map f plans
 tails_same g f h [] same = refl
 tails_same g f h (p ∷ plans) same =
@@ -88,7 +88,7 @@ tails_same g f h (p ∷ plans) same =
     (tails_same g f h plans (λ j lt. same (suc j) (omega (arith, lt))))
 
 -- the machine's opening with the tails of all cells that get entries
-pub opens : (shared : Shared) (running : Running) (old : CommitValue) (told : Told) (cpu : ℕ) → IsCommitOf (slots_in running.slots) old told
+pub opens : (shared : Shared) (running : Running) (old : CommitValue) (told : GhostCall) (cpu : ℕ) → IsCommitOf (slots_in running.slots) old told
     → HaveSlots shared.cells.items (slots_in running.slots)
     → ((j : ℕ) → j < length old.plans → (plan_at old.plans j).at < length (slots_in running.slots))
     → old.appended ≡ length old.plans → old.published ≡ 0 → 2 ≤ length old.plans
@@ -106,7 +106,7 @@ opens shared running old told cpu is there within appended none two =
     let w = written_slots r in
     let tails = old_tails (lent_cells slots cells) old.plans in
     let after = after_open cpu tails old in
-    let at : CellPlanValue → ℕ = λ plan. slot_at slots plan.at in
+    let at : CellCommitValue → ℕ = λ plan. slot_at slots plan.at in
     let tail : ℕ → OldTail = λ ino. record { ino = ino; tail = (cell_at s ino).chain.tail } in
     let long : length w ≡ length old.plans = ap (λ (xs : List ℕ). length xs) is.plans.written ∙ length-map old.plans at in
     let same : kinds.old_tails s w ≡ tails =

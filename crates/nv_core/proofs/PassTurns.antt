@@ -16,74 +16,74 @@ use Rattle.nv_core.proofs.Turns.{either}
 use Rattle.nv_core.specs.Appends.{IsPlacedBy}
 use Rattle.nv_core.proofs.Others.{others_stay}
 use Rattle.nv_core.specs.Frames.{LeavesCells}
-use Rattle.nv_core.specs.Shown.{Told, hand_of, held_by, machine_step, next_of, shared_of, shown, shown_at, shown_by, slots_in, turn_of}
-use Rattle.nv_core.specs.Told.{IsEither, IsHoldOf, IsJobOf, IsToldOf, OwesAt, planned, told_by}
+use Rattle.nv_core.specs.Shown.{GhostCall, hand_of, held_by, machine_step, next_of, shared_of, shown, shown_at, shown_by, slots_in, turn_of}
+use Rattle.nv_core.specs.GhostCalls.{IsEither, IsReservationOf, IsRequestOf, IsGhostCallOf, OwesAt, planned, told_by}
 use Rattle.nv_core.specs.Turns.{IsTurn, LeavesOthers, ShowsAfter}
 use Rattle.nv_core.specs.Worlds.{ShowsCall, told_of}
-use Rattle.nv_core.specs.declared.hold.Hold.{Hold}
-use Rattle.nv_core.specs.declared.hold.Hold.TheVariants as hold
-use Rattle.nv_core.specs.declared.job.Job.{Job}
-use Rattle.nv_core.specs.declared.job.Job.TheVariants as job
+use Rattle.nv_core.specs.declared.reservation.Reservation.{Reservation}
+use Rattle.nv_core.specs.declared.reservation.Reservation.TheVariants as reserved
+use Rattle.nv_core.specs.declared.request.Request.{Request}
+use Rattle.nv_core.specs.declared.request.Request.TheVariants as request
 use Rattle.nv_core.specs.declared.next.Next.{Next}
 use Rattle.nv_core.specs.declared.next.Next.TheVariants as next
 use Rattle.nv_core.specs.declared.running.Running.{Running}
 use Rattle.nv_core.specs.declared.shared.Shared.{Shared}
-use Rattle.nv_calls.specs.declared.slots.Slots.{Slots}
+use Rattle.nv_calls.specs.declared.slots.LockedSlots.{LockedSlots}
 use Rattle.nv_core.specs.declared.turn.Turn.{Turn}
 use Rattle.nv_core.specs.declared.turn.Turn.TheVariants as result
 
 -- what is told is what is shown
-told_back : (h : Hold) (told : Told) (running : Running) → told_of (shown_by h told running) ≡ told
-told_back (hold.Hand hand) told running = refl
-told_back (hold.Ready ready) told running = refl
-told_back (hold.Commit commit) told running = refl
+told_back : (h : Reservation) (told : GhostCall) (running : Running) → told_of (shown_by h told running) ≡ told
+told_back (reserved.Hand hand) told running = refl
+told_back (reserved.Ready ready) told running = refl
+told_back (reserved.Commit commit) told running = refl
 
-shows_call : (h : Hold) (after : Running) (told : Told) → IsToldOf after told → IsHoldOf (slots_in after.slots) h told
+shows_call : (h : Reservation) (after : Running) (told : GhostCall) → IsGhostCallOf after told → IsReservationOf (slots_in after.slots) h told
     → IsPlacedBy (slots_in after.slots) h told → ShowsCall h after (shown_by h told after)
 shows_call h after told is of placed =
     let back = told_back h told after in
     record {
-      shown = ap (λ (t : Told). shown_by h t after) back;
-      job = subst (λ (t : Told). IsToldOf after t) (sym back) is;
-      plan = subst (λ (t : Told). IsHoldOf (slots_in after.slots) h t) (sym back) of;
-      place = subst (λ (t : Told). IsPlacedBy (slots_in after.slots) h t) (sym back) placed;
+      shown = ap (λ (t : GhostCall). shown_by h t after) back;
+      request = subst (λ (t : GhostCall). IsGhostCallOf after t) (sym back) is;
+      plan = subst (λ (t : GhostCall). IsReservationOf (slots_in after.slots) h t) (sym back) of;
+      place = subst (λ (t : GhostCall). IsPlacedBy (slots_in after.slots) h t) (sym back) placed;
     }
 
-pub shows_hold : (t : Turn) (h : Hold) (after : Running) (told : Told) → IsToldOf after told → IsHoldOf (slots_in after.slots) h told
+pub shows_hold : (t : Turn) (h : Reservation) (after : Running) (told : GhostCall) → IsGhostCallOf after told → IsReservationOf (slots_in after.slots) h told
     → IsPlacedBy (slots_in after.slots) h told → ShowsAfter t h after (shown_by h told after)
 shows_hold result.Moves h after told is of placed = shows_call h after told is of placed
 shows_hold result.Waits h after told is of placed = shows_call h after told is of placed
 shows_hold (result.Ends answer) h after told is of placed = tt
 
 -- a plan is told of what is ready, and a commit of what enters
-call_planned : (h : Hold) (block : ℕ) (s : machine.Shared) (hand : machine.HandState) (r : machine.Running) (told : Told) (after : Running)
-    → IsToldOf after told → IsToldOf after (planned h block s hand r told)
-call_planned (hold.Hand h) block s hand r told after is = is
-call_planned (hold.Ready ready) block s hand r told after is = is
-call_planned (hold.Commit commit) block s hand r told after is = is
+call_planned : (h : Reservation) (block : ℕ) (s : machine.Shared) (hand : machine.HandState) (r : machine.Running) (told : GhostCall) (after : Running)
+    → IsGhostCallOf after told → IsGhostCallOf after (planned h block s hand r told)
+call_planned (reserved.Hand h) block s hand r told after is = is
+call_planned (reserved.Ready ready) block s hand r told after is = is
+call_planned (reserved.Commit commit) block s hand r told after is = is
 
-call_entered : (h : Hold) (book : BookState) (told : Told) (after : Running) → IsToldOf after told → IsToldOf after (told_by h book told)
-call_entered (hold.Hand hand) book told after is = is
-call_entered (hold.Ready ready) book told after is = is
-call_entered (hold.Commit commit) book told after is = is
+call_entered : (h : Reservation) (book : BookState) (told : GhostCall) (after : Running) → IsGhostCallOf after told → IsGhostCallOf after (told_by h book told)
+call_entered (reserved.Hand hand) book told after is = is
+call_entered (reserved.Ready ready) book told after is = is
+call_entered (reserved.Commit commit) book told after is = is
 
 -- ---- ready
 
-pub turns_ready : (actor : ℕ) (shared : Shared) (hand : Hand) (running : Running) (r : machine.Running) (done : Hold × Turn)
-    (shared_after : Shared) (after : Running) → running.next ≡ next.Ready → ShowsCall (hold.Hand hand) running r
-    → after.slots ≡ running.slots → ((told : Told) → IsToldOf running told → IsToldOf after told)
-    → ((told : Told) → IsToldOf running told → let t = planned done.0 shared.geometry.numbers.block (shared_of shared) (hand_of hand)
+pub turns_ready : (actor : ℕ) (shared : Shared) (hand : Hand) (running : Running) (r : machine.Running) (done : Reservation × Turn)
+    (shared_after : Shared) (after : Running) → running.next ≡ next.Ready → ShowsCall (reserved.Hand hand) running r
+    → after.slots ≡ running.slots → ((told : GhostCall) → IsGhostCallOf running told → IsGhostCallOf after told)
+    → ((told : GhostCall) → IsGhostCallOf running told → let t = planned done.0 shared.geometry.numbers.block (shared_of shared) (hand_of hand)
     (shown told running) told in
     IsEither (λ granted. kind_turn machine.Ready shared.geometry.numbers.block actor granted (shared_of shared) (hand_of hand)
     (shown told running))
     (turn_of done.1 (shared_of shared_after) (held_by done.0) (shown_by done.0 t after))
-    × IsHoldOf (slots_in running.slots) done.0 t × IsPlacedBy (slots_in running.slots) done.0 t)
-    → IsTurn actor shared (hold.Hand hand) r done.1 shared_after done.0 after
+    × IsReservationOf (slots_in running.slots) done.0 t × IsPlacedBy (slots_in running.slots) done.0 t)
+    → IsTurn actor shared (reserved.Hand hand) r done.1 shared_after done.0 after
 turns_ready actor shared hand running r done shared_after after here shows same keeps by =
     let told = told_of r in
     let block = shared.geometry.numbers.block in
     let t = planned done.0 block (shared_of shared) (hand_of hand) (shown told running) told in
-    let all = by told shows.job in
+    let all = by told shows.request in
     let one = either (λ granted. kind_turn machine.Ready block actor granted (shared_of shared) (hand_of hand) (shown told running))
     (turn_of done.1 (shared_of shared_after) (held_by done.0) (shown_by done.0 t after)) all.0 in
     record {
@@ -93,61 +93,61 @@ turns_ready actor shared hand running r done shared_after after here shows same 
           ∙ ap (λ (n : Next). kind_turn (next_of n) block actor one.0 (shared_of shared) (hand_of hand) (shown told running)) here
           ∙ one.1;
       shows = shows_hold done.1 done.0 after t
-          (call_planned done.0 block (shared_of shared) (hand_of hand) (shown told running) told after (keeps told shows.job))
-          (subst (λ (s : Slots). IsHoldOf (slots_in s) done.0 t) (sym same) all.1)
-          (subst (λ (s : Slots). IsPlacedBy (slots_in s) done.0 t) (sym same) all.2);
+          (call_planned done.0 block (shared_of shared) (hand_of hand) (shown told running) told after (keeps told shows.request))
+          (subst (λ (s : LockedSlots). IsReservationOf (slots_in s) done.0 t) (sym same) all.1)
+          (subst (λ (s : LockedSlots). IsPlacedBy (slots_in s) done.0 t) (sym same) all.2);
     }
 
 -- ---- enter
 
-pub turns_enter : (actor : ℕ) (shared : Shared) (ready : ReadyValue) (running : Running) (r : machine.Running) (done : Hold × Turn)
-    (shared_after : Shared) (after : Running) → ShowsCall (hold.Ready ready) running r → after.slots ≡ running.slots
-    → ((told : Told) → IsToldOf running told → IsToldOf after told)
-    → ((told : Told) → IsHoldOf (slots_in running.slots) (hold.Ready ready) told
-    → IsPlacedBy (slots_in running.slots) (hold.Ready ready) told
+pub turns_enter : (actor : ℕ) (shared : Shared) (ready : ReadyValue) (running : Running) (r : machine.Running) (done : Reservation × Turn)
+    (shared_after : Shared) (after : Running) → ShowsCall (reserved.Ready ready) running r → after.slots ≡ running.slots
+    → ((told : GhostCall) → IsGhostCallOf running told → IsGhostCallOf after told)
+    → ((told : GhostCall) → IsReservationOf (slots_in running.slots) (reserved.Ready ready) told
+    → IsPlacedBy (slots_in running.slots) (reserved.Ready ready) told
     → let t = told_by done.0 shared.book.state told in
     IsEither (λ granted. kind_turn machine.Enter shared.geometry.numbers.block actor granted (shared_of shared) (hand_of ready.hand)
-    (shown_by (hold.Ready ready) told running))
+    (shown_by (reserved.Ready ready) told running))
     (turn_of done.1 (shared_of shared_after) (held_by done.0) (shown_by done.0 t after))
-    × IsHoldOf (slots_in running.slots) done.0 t × IsPlacedBy (slots_in running.slots) done.0 t)
-    → IsTurn actor shared (hold.Ready ready) r done.1 shared_after done.0 after
+    × IsReservationOf (slots_in running.slots) done.0 t × IsPlacedBy (slots_in running.slots) done.0 t)
+    → IsTurn actor shared (reserved.Ready ready) r done.1 shared_after done.0 after
 turns_enter actor shared ready running r done shared_after after shows same keeps by =
     let told = told_of r in
     let block = shared.geometry.numbers.block in
     let t = told_by done.0 shared.book.state told in
     let all = by told shows.plan shows.place in
     let one = either (λ granted. kind_turn machine.Enter block actor granted (shared_of shared) (hand_of ready.hand)
-    (shown_by (hold.Ready ready) told running))
+    (shown_by (reserved.Ready ready) told running))
     (turn_of done.1 (shared_of shared_after) (held_by done.0) (shown_by done.0 t after)) all.0 in
     record {
       granted = one.0;
       after = shown_by done.0 t after;
       is = ap (λ (x : machine.Running). turn block actor one.0 (shared_of shared) (hand_of ready.hand) x) (sym shows.shown) ∙ one.1;
-      shows = shows_hold done.1 done.0 after t (call_entered done.0 shared.book.state told after (keeps told shows.job))
-          (subst (λ (s : Slots). IsHoldOf (slots_in s) done.0 t) (sym same) all.1)
-          (subst (λ (s : Slots). IsPlacedBy (slots_in s) done.0 t) (sym same) all.2);
+      shows = shows_hold done.1 done.0 after t (call_entered done.0 shared.book.state told after (keeps told shows.request))
+          (subst (λ (s : LockedSlots). IsReservationOf (slots_in s) done.0 t) (sym same) all.1)
+          (subst (λ (s : LockedSlots). IsPlacedBy (slots_in s) done.0 t) (sym same) all.2);
     }
 
 -- ---- leave
 
 pub turns_leave : (actor : ℕ) (shared : Shared) (commit : CommitValue) (running : Running) (r : machine.Running) (done : Hand × Turn)
-    (shared_after : Shared) (after : Running) → step_of commit ≡ step.Leave → ShowsCall (hold.Commit commit) running r
-    → ((told : Told) → IsToldOf running told → IsToldOf after told)
-    → ((told : Told) → IsToldOf running told
-    → kind_turn machine.Leave shared.geometry.numbers.block actor true (shared_of shared) (held_by (hold.Commit commit))
+    (shared_after : Shared) (after : Running) → step_of commit ≡ step.Leave → ShowsCall (reserved.Commit commit) running r
+    → ((told : GhostCall) → IsGhostCallOf running told → IsGhostCallOf after told)
+    → ((told : GhostCall) → IsGhostCallOf running told
+    → kind_turn machine.Leave shared.geometry.numbers.block actor true (shared_of shared) (held_by (reserved.Commit commit))
     (shown_at machine.Leave told running) ≡ turn_of done.1 (shared_of shared_after) (hand_of done.0) (shown told after))
-    → IsTurn actor shared (hold.Commit commit) r done.1 shared_after (hold.Hand done.0) after
+    → IsTurn actor shared (reserved.Commit commit) r done.1 shared_after (reserved.Hand done.0) after
 turns_leave actor shared commit running r done shared_after after here shows keeps by =
     let told = told_of r in
     let block = shared.geometry.numbers.block in
     record {
       granted = true;
       after = shown told after;
-      is = ap (λ (x : machine.Running). turn block actor true (shared_of shared) (held_by (hold.Commit commit)) x) (sym shows.shown)
-          ∙ ap (λ n. kind_turn (machine_step n commit) block actor true (shared_of shared) (held_by (hold.Commit commit))
+      is = ap (λ (x : machine.Running). turn block actor true (shared_of shared) (held_by (reserved.Commit commit)) x) (sym shows.shown)
+          ∙ ap (λ n. kind_turn (machine_step n commit) block actor true (shared_of shared) (held_by (reserved.Commit commit))
           (shown_at (machine_step n commit) told running)) here
-          ∙ by told shows.job;
-      shows = shows_hold done.1 (hold.Hand done.0) after told (keeps told shows.job) tt tt;
+          ∙ by told shows.request;
+      shows = shows_hold done.1 (reserved.Hand done.0) after told (keeps told shows.request) tt tt;
     }
 
 -- ---- what they leave to the others
@@ -156,7 +156,7 @@ held_ready : (r : machine.Running) (slots : List ℕ) → r.next ≡ machine.Rea
 held_ready r slots e f = ap (λ (n : machine.Next). held_at n r.slots) e ∙ f
 
 pub rest_ready : (actor : ℕ) (old new : Shared) (running : Running) (r : machine.Running) (hand : Hand) → running.next ≡ next.Ready
-    → ShowsCall (hold.Hand hand) running r → LeavesCells (slots_in running.slots) old new → new.book ≡ old.book
+    → ShowsCall (reserved.Hand hand) running r → LeavesCells (slots_in running.slots) old new → new.book ≡ old.book
     → LeavesOthers actor r old new
 rest_ready actor old new running r hand here shows leaves book =
     let held : held_at r.next r.slots ≡ slots_in running.slots =
@@ -193,6 +193,6 @@ rest_leave actor old new r is own = record {
   book = λ other some apart. absurd (apart (ap (λ (o : Option ℕ). unwrap_or o 0) (sym some ∙ own)));
 }
 
--- what a call is owed whose commit has its job
-pub owes_given : (running : Running) (told : Told) → running.job ≡ job.Given → IsToldOf running told → OwesAt running.ending running told
-owes_given running told given is answers = subst (λ (j : Job). IsJobOf j running.owed told.call) given is
+-- what a call is owed whose commit has its request
+pub owes_given : (running : Running) (told : GhostCall) → running.request ≡ request.Given → IsGhostCallOf running told → OwesAt running.ending running told
+owes_given running told given is answers = subst (λ (j : Request). IsRequestOf j running.owed told.call) given is

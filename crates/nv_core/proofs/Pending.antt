@@ -14,8 +14,8 @@ use Rattle.nv_machine.specs.World as machine
 use Rattle.nv_core.specs.Picked.{block_of, picked_at, picked_of, picked_with}
 use Rattle.nv_core.specs.Shown.{machine_step, next_of}
 use Rattle.nv_core.specs.Worlds.{Shows, ShowsActor, ShowsRunning, WorldState}
-use Rattle.nv_core.specs.declared.hold.Hold.{Hold}
-use Rattle.nv_core.specs.declared.hold.Hold.TheVariants as hold
+use Rattle.nv_core.specs.declared.reservation.Reservation.{Reservation}
+use Rattle.nv_core.specs.declared.reservation.Reservation.TheVariants as reserved
 use Rattle.nv_core.specs.declared.next.Next.{Next}
 use Rattle.nv_core.specs.declared.next.Next.TheVariants as next
 use Rattle.nv_core.specs.declared.next.MaintenanceStep.TheVariants as on
@@ -51,11 +51,11 @@ at_next (next.Look place) = refl
 at_next (next.Lock place) = refl
 at_next next.Check = refl
 at_next (next.TakeBlocks asked) = refl
-at_next (next.TakePages asked) = refl
+at_next (next.TakeLogPages asked) = refl
 at_next next.Ready = refl
 at_next (next.Unlock place) = refl
 at_next (next.Give cpu) = refl
-at_next next.Back = refl
+at_next next.ReturnNumber = refl
 at_next next.Visit = refl
 
 -- a commit has picked nothing
@@ -67,18 +67,18 @@ in_commit step.Close commit = refl
 in_commit step.Retire commit = refl
 in_commit step.Leave commit = refl
 
-by_call : (h : Hold) (x : Option Running) (y : Option machine.Running) → ShowsRunning h x y
+by_call : (h : Reservation) (x : Option Running) (y : Option machine.Running) → ShowsRunning h x y
     → picked_with h x ≡ block_count (held.picked_by_call y)
-by_call (hold.Hand hand) None None shows = refl
-by_call (hold.Ready ready) None None shows = refl
-by_call (hold.Commit commit) None None shows = refl
+by_call (reserved.Hand hand) None None shows = refl
+by_call (reserved.Ready ready) None None shows = refl
+by_call (reserved.Commit commit) None None shows = refl
 by_call h None (Some r) shows = absurd shows
 by_call h (Some running) None shows = absurd shows
-by_call (hold.Hand hand) (Some running) (Some r) shows =
+by_call (reserved.Hand hand) (Some running) (Some r) shows =
     at_next running.next ∙ ap (λ (x : machine.Running). block_count (held.picked_at x.next)) shows.shown
-by_call (hold.Ready ready) (Some running) (Some r) shows =
+by_call (reserved.Ready ready) (Some running) (Some r) shows =
     ap (λ (x : machine.Running). block_count (held.picked_at x.next)) shows.shown
-by_call (hold.Commit commit) (Some running) (Some r) shows =
+by_call (reserved.Commit commit) (Some running) (Some r) shows =
     in_commit (step_of commit) commit ∙ ap (λ (x : machine.Running). block_count (held.picked_at x.next)) shows.shown
 
 by_actors : (xs : List Actor) (ys : List machine.Actor) → length xs ≡ length ys
@@ -88,7 +88,7 @@ by_actors [] [] same each = refl
 by_actors [] (y ∷ ys) same each = absurd (omega (arith, same))
 by_actors (x ∷ xs) [] same each = absurd (omega (arith, same))
 by_actors (x ∷ xs) (y ∷ ys) same each =
-    let one = by_call x.hold x.running y.running (each 0 x (omega arith)).running in
+    let one = by_call x.reserved x.running y.running (each 0 x (omega arith)).running in
     let rest = by_actors xs ys (omega (arith, same)) (λ k d lt. each (suc k) d (omega (arith, lt))) in
     let all = counted (held.picked_by_actor y) (flat_map held.picked_by_actor ys) in
     let sum : sum_by picked_of (x ∷ xs) ≡ picked_of x + sum_by picked_of xs = sum_by-cons picked_of x xs in

@@ -13,7 +13,7 @@ use Rattle.nv_calls.specs.Commit.{CommitValue, HasJournal, after_append, after_c
 use Rattle.nv_calls.specs.Committed.{ChangesPlanned, HaveAppendRoom, HaveSamePlaces, grown, journaled, place_of}
 use Rattle.nv_calls.specs.PlanByPlan.{AppendsTo, PublishesTo, published_of}
 use Rattle.nv_calls.specs.Progress.{is_open}
-use Rattle.nv_calls.specs.Ready.{ArePlaced, CellPlanValue, ReadyValue, old_tails, plan_at}
+use Rattle.nv_calls.specs.Ready.{ArePlaced, CellCommitValue, ReadyValue, old_tails, plan_at}
 use Rattle.nv_calls.specs.Retiring.{killed_by}
 use Rattle.nv_calls.specs.Steps.{CanAppendPlan, with_plan}
 use Rattle.nv_calls.proofs.AppendAll as append_all
@@ -174,7 +174,7 @@ module _ (b : Begin) (cpu : ℕ) (can : CanCommit b.cells b.shelf cpu b.ready) (
   many = all.plans.same.count
 
   pub start_many : length start.plans ≡ length b.ready.plans
-  start_many = ap (λ (ps : List CellPlanValue). length ps) start_plans ∙ many
+  start_many = ap (λ (ps : List CellCommitValue). length ps) start_plans ∙ many
 
   pub cells_are_full : AreCells full
   cells_are_full = full_cells b.cells b.shelf cpu b.ready can full appended are
@@ -187,7 +187,7 @@ module _ (b : Begin) (cpu : ℕ) (can : CanCommit b.cells b.shelf cpu b.ready) (
 
   pub start_can : (i : ℕ) → i < length start.plans → CanBePublished (value_at full (place_of start.plans i))
   start_can =
-      subst (λ (ps : List CellPlanValue). (i : ℕ) → i < length ps → CanBePublished (value_at full (place_of ps i))) (sym start_plans)
+      subst (λ (ps : List CellCommitValue). (i : ℕ) → i < length ps → CanBePublished (value_at full (place_of ps i))) (sym start_plans)
       (can_publish b.cells b.shelf cpu b.ready can full appended are)
 
   -- the journal of two or more is open, with their tails
@@ -200,7 +200,7 @@ module _ (b : Begin) (cpu : ℕ) (can : CanCommit b.cells b.shelf cpu b.ready) (
   pub start_noted : 2 ≤ length start.plans → start.noted ≡ old_tails full start.plans
   start_noted two =
       ap (λ (c : CommitValue). c.noted)
-      (noted_two cpu full appended (omega (arith, two, ap (λ (ps : List CellPlanValue). length ps) start_plans)))
+      (noted_two cpu full appended (omega (arith, two, ap (λ (ps : List CellCommitValue). length ps) start_plans)))
       ∙ ap (old_tails full) (sym start_plans)
 
   pub start_open : 2 ≤ length appended.plans → start.journal ≡ Some cpu
@@ -274,16 +274,16 @@ module _ (b : Begin) (cpu : ℕ) (can : CanCommit b.cells b.shelf cpu b.ready) (
     pub own : ArePublished b.cells b.shelf cpu b.ready can full appended are over shut
     own =
         published_by b.cells b.shelf cpu b.ready can full appended are over shut
-        (subst (λ (ps : List CellPlanValue). ChangesPlanned ps (λ j. published (state_at full (place_of ps j))) full over) start_plans
+        (subst (λ (ps : List CellCommitValue). ChangesPlanned ps (λ j. published (state_at full (place_of ps j))) full over) start_plans
         (all_changed (length b.ready.plans) start.plans (published_of full start) full over (omega (arith, start_many)) done.changed))
-        (subst (λ (ps : List CellPlanValue). HaveAppendRoom ps (λ j. (value_at full (place_of ps j)).room) over) start_plans
+        (subst (λ (ps : List CellCommitValue). HaveAppendRoom ps (λ j. (value_at full (place_of ps j)).room) over) start_plans
         (λ j lt. done.kept j (omega (arith, lt, start_many))))
-        (subst (λ (ps : List CellPlanValue). (j : ℕ) → j < length ps → (plan_at last.plans j).killed ≡ killed_by
+        (subst (λ (ps : List CellCommitValue). (j : ℕ) → j < length ps → (plan_at last.plans j).killed ≡ killed_by
         (state_at full (place_of ps j)))
         start_plans (λ j lt. done.killed j (omega (arith, lt, start_many))))
-        (subst (λ (ps : List CellPlanValue). (j : ℕ) → j < length ps → KillsAsTold (state_at full (place_of ps j)))
+        (subst (λ (ps : List CellCommitValue). (j : ℕ) → j < length ps → KillsAsTold (state_at full (place_of ps j)))
         start_plans (λ j lt. done.told j (omega (arith, lt, start_many))))
-        (subst (λ (ps : List CellPlanValue). HaveSamePlaces ps last.plans) start_plans done.plans.same)
+        (subst (λ (ps : List CellCommitValue). HaveSamePlaces ps last.plans) start_plans done.plans.same)
         shut_is
 
     pub shut_can : CanRetireAll b.shelf.room over shut

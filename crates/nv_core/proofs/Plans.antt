@@ -24,8 +24,8 @@ use Rattle.nv_calls.specs.calls.Write.{write_plan}
 use Rattle.nv_entry.specs.declared.node.NodeCopy.{NodeCopy}
 use Rattle.nv_calls.specs.declared.call.Call.{Call}
 use Rattle.nv_calls.specs.declared.call.Call.TheVariants as call
-use Rattle.nv_calls.specs.declared.plan.Planned.{Planned}
-use Rattle.nv_calls.specs.declared.taken.Taken.{Taken}
+use Rattle.nv_calls.specs.declared.plan.InodePlan.{InodePlan}
+use Rattle.nv_calls.specs.declared.allocation.Allocation.{Allocation}
 use Rattle.nv_calls.specs.declared.update.Update.{Update}
 use Rattle.nv_calls.specs.declared.update.Update.TheVariants as update
 use Rattle.nv_cell.specs.Cell.{CellState, CellValue}
@@ -63,7 +63,7 @@ looks_same one other (call.Maintenance on) h = record { found = refl; early = re
 
 -- ---- log pages
 
-needs_same : (shared : Shared) (slots : List ℕ) (items : List Planned) → AreSlots shared slots
+needs_same : (shared : Shared) (slots : List ℕ) (items : List InodePlan) → AreSlots shared slots
     → map (wanted.pages_needed items) (lent_cells slots shared.cells.items) ≡ map (pages_needed (shared_of shared) items) slots
 needs_same shared [] items there = refl
 needs_same shared (n ∷ slots) items there =
@@ -72,7 +72,7 @@ needs_same shared (n ∷ slots) items there =
     (needs_same shared slots items (λ k lt. there (suc k) (omega (arith, lt))))
 
 -- the plan's entries need as many log pages
-pub pages_same : (shared : Shared) (slots : List ℕ) (items : List Planned) → AreSlots shared slots
+pub pages_same : (shared : Shared) (slots : List ℕ) (items : List InodePlan) → AreSlots shared slots
     → wanted.pages_wanted (lent_cells slots shared.cells.items) items ≡ pages_wanted (shared_of shared) slots items
 pages_same shared slots items there =
     sym (sum-map (wanted.pages_needed items) (lent_cells slots shared.cells.items))
@@ -88,7 +88,7 @@ block_same shared [] list can some = absurd (omega (arith, some))
 block_same shared (n ∷ slots) list can some = can.own.0.size
 
 -- a plan depends on the new handle where one is made, and never on the page that a size ends in
-plan_taken : (block : ℕ) (n : Handle → Option NodeCopy) (one other : Taken) (u : Update) → one.runs ≡ other.runs
+plan_taken : (block : ℕ) (n : Handle → Option NodeCopy) (one other : Allocation) (u : Update) → one.runs ≡ other.runs
     → (makes u ≡ true → one.made ≡ other.made) → plan block n one (blank_call u) ≡ plan block n other (blank_call u)
 plan_taken block n one other (update.Create dir name mode) runs made = ap (create_plan dir name mode) (made refl)
 plan_taken block n one other (update.Mkdir dir name mode) runs made = ap (mkdir_plan dir name mode) (made refl)
@@ -118,7 +118,7 @@ planned_same shared slots hand u text made present can some len is =
       lent : List (ℕ × CellValue)
       lent = lent_cells slots shared.cells.items
 
-      taken : Taken
+      taken : Allocation
       taken = record { made = made; runs = runs_of (numbers_of hand.«data».blocks); present = present }
 
       with_blank : SamePlan block (copies (shared_of shared)) (has_page_in lent) taken (blank_call u) (call_of u text)

@@ -12,7 +12,7 @@ use Rattle.nv_calls.specs.Cells.{AreCells, OnlyAt, state_at, value_at}
 use Rattle.nv_calls.specs.Commit.{CommitValue, NotesNext, after_open, after_publish, to_publish}
 use Rattle.nv_calls.specs.PlanByPlan.{AppendsTo, PublishesTo}
 use Rattle.nv_calls.specs.Progress.{is_open}
-use Rattle.nv_calls.specs.Ready.{ArePlaced, CellPlanValue, old_tails}
+use Rattle.nv_calls.specs.Ready.{ArePlaced, CellCommitValue, old_tails}
 use Rattle.nv_calls.specs.Retiring.{killed_by, part_in}
 use Rattle.nv_calls.proofs.PublishAll as publish_all
 use Rattle.nv_core.specs.Committing.{IsAppending, IsCommitting, IsPublishing, IsRetiring, first_of, noted_by}
@@ -152,7 +152,7 @@ module _ (cpu : ℕ) (now : List (ℕ × CellValue)) (book : BookValue) (commit 
         omega (
           arith,
           two,
-          ap (λ (ps : List CellPlanValue). length ps) (start_plans w.begin cpu w.can publishing.full publishing.appended publishing.all),
+          ap (λ (ps : List CellCommitValue). length ps) (start_plans w.begin cpu w.can publishing.full publishing.appended publishing.all),
         )
 
     pub publish_noted : 2 ≤ length commit.plans → NotesNext book.state now commit

@@ -5,7 +5,7 @@ use Rattle.std.proofs.lemmas.Bool.{false≢true, lt-ltb, ltb-true}
 use Rattle.std.proofs.lemmas.List.{get_or-map, length-map, length-set}
 use Rattle.nv_calls.specs.Progress.{is_open}
 use Rattle.nv_calls.specs.Commit.{CommitValue, after_publish, to_publish}
-use Rattle.nv_calls.specs.Ready.{CellPlanValue, no_plan, plan_at}
+use Rattle.nv_calls.specs.Ready.{CellCommitValue, no_plan, plan_at}
 use Rattle.nv_calls.specs.Retiring.{killed_by}
 use Rattle.nv_calls.specs.SlotCells.{cell_in}
 use Rattle.nv_cell.specs.Cell.{CellState, CellValue, published}
@@ -15,8 +15,8 @@ use Rattle.nv_machine.specs.Reads.{slot_at, written_slots}
 use Rattle.nv_machine.specs.Sequence.{publishing}
 use Rattle.nv_machine.specs.World as machine
 use Rattle.nv_machine.specs.World.{cell_at, go_to, no_cell as machine_none, with_cell}
-use Rattle.nv_core.specs.Shown.{Told, commit_next, hand_in, hand_with, shared_of, shown_commit, slots_in}
-use Rattle.nv_core.specs.Told.{IsCommitOf, IsOnItsWay}
+use Rattle.nv_core.specs.Shown.{GhostCall, commit_next, hand_in, hand_with, shared_of, shown_commit, slots_in}
+use Rattle.nv_core.specs.GhostCalls.{IsCommitOf, IsOnItsWay}
 use Rattle.nv_core.specs.declared.running.Running.{Running}
 use Rattle.nv_core.specs.declared.shared.Shared.{Shared}
 use Rattle.nv_core.proofs.Sequence.{publishes_next}
@@ -36,10 +36,10 @@ state_there (c ∷ cells) zero lt = refl
 state_there (c ∷ cells) (suc ino) lt = state_there cells ino (omega (arith, lt))
 
 -- one more list of killed parts
-pub killed_more : (plans : List CellPlanValue) (retired count : ℕ) (killed : List KilledPart) → retired ≤ count → count < length plans
-    → map (λ (p : CellPlanValue). p.killed) (drop retired (take (suc count) (slice_set plans count
+pub killed_more : (plans : List CellCommitValue) (retired count : ℕ) (killed : List KilledPart) → retired ≤ count → count < length plans
+    → map (λ (p : CellCommitValue). p.killed) (drop retired (take (suc count) (slice_set plans count
     (record (plan_at plans count) { killed = killed }))))
-    ≡ map (λ (p : CellPlanValue). p.killed) (drop retired (take count plans)) ++ killed ∷ []
+    ≡ map (λ (p : CellCommitValue). p.killed) (drop retired (take count plans)) ++ killed ∷ []
 killed_more [] retired count killed le lt = absurd (omega (arith, lt))
 killed_more (p ∷ plans) zero zero killed le lt = refl
 killed_more (p ∷ plans) zero (suc count) killed le lt =
@@ -49,15 +49,15 @@ killed_more (p ∷ plans) (suc retired) (suc count) killed le lt = killed_more p
     (omega (arith, lt))
 
 -- the plans of which one has noted what was killed are at the same places
-pub same_ats : (slots : List ℕ) (plans : List CellPlanValue) (j : ℕ) (killed : List KilledPart)
-    → map (λ (p : CellPlanValue). slot_at slots p.at) (slice_set plans j (record (plan_at plans j) { killed = killed }))
-    ≡ map (λ (p : CellPlanValue). slot_at slots p.at) plans
+pub same_ats : (slots : List ℕ) (plans : List CellCommitValue) (j : ℕ) (killed : List KilledPart)
+    → map (λ (p : CellCommitValue). slot_at slots p.at) (slice_set plans j (record (plan_at plans j) { killed = killed }))
+    ≡ map (λ (p : CellCommitValue). slot_at slots p.at) plans
 same_ats slots [] j killed = refl
 same_ats slots (p ∷ plans) zero killed = refl
 same_ats slots (p ∷ plans) (suc j) killed = ap (λ (rest : List ℕ). slot_at slots p.at ∷ rest) (same_ats slots plans j killed)
 
 -- the machine's publish of the cell that the commit publishes
-pub publishes : (shared : Shared) (running : Running) (old new : CommitValue) (cells : List CellValue) (told : Told) (i : ℕ)
+pub publishes : (shared : Shared) (running : Running) (old new : CommitValue) (cells : List CellValue) (told : GhostCall) (i : ℕ)
     → IsCommitOf (slots_in running.slots) old told → IsOnItsWay old → old.published < length old.plans → old.appended ≡ length old.plans
     → (2 ≤ length old.plans → (is_open old) ≡ true) → i ≡ slot_at (slots_in running.slots) (to_publish old).at
     → i < length shared.cells.items
@@ -76,7 +76,7 @@ publishes shared running old new cells told i is way lt appended journal place t
     let p = old.published in
     let cell = (cell_in shared.cells.items i).state in
     let after = after_publish (killed_by cell) old in
-    let f : CellPlanValue → ℕ = λ plan. slot_at slots plan.at in
+    let f : CellCommitValue → ℕ = λ plan. slot_at slots plan.at in
     let at : slot_at w p ≡ i =
     ap (λ (xs : List ℕ). slot_at xs p) is.plans.written ∙ get_or-map f old.plans p no_plan 0 lt ∙ sym place in
     let here : cell_at s i ≡ cell = state_there shared.cells.items i there in
@@ -94,7 +94,7 @@ publishes shared running old new cells told i is way lt appended journal place t
     ap (λ (n : ℕ). publishing n w) plus ∙ publishes_next after w p long (appended ∙ sym many) plus back opened in
     let hand : with_killed (killed_by cell) h ≡ hand_in after =
     ap (λ (parts : List (List KilledPart)). hand_with parts old.hand)
-    (sym (ap (λ (n : ℕ). map (λ (plan : CellPlanValue). plan.killed) (drop old.retired (take n (slice_set old.plans p
+    (sym (ap (λ (n : ℕ). map (λ (plan : CellCommitValue). plan.killed) (drop old.retired (take n (slice_set old.plans p
     (record (plan_at old.plans p) { killed = killed_by cell }))))) plus
     ∙ killed_more old.plans old.retired p (killed_by cell) (omega (arith, back)) lt)) in
     ap (λ (ino : ℕ). publish_turn ino p s h r) at
@@ -120,7 +120,7 @@ publishes shared running old new cells told i is way lt appended journal place t
       go false q = refl
 
 -- what is told of the commit stays
-pub publish_told : (slots : List ℕ) (old new : CommitValue) (killed : List KilledPart) (told : Told) → old.appended ≡ length old.plans
+pub publish_told : (slots : List ℕ) (old new : CommitValue) (killed : List KilledPart) (told : GhostCall) → old.appended ≡ length old.plans
     → new ≡ after_publish killed old → IsCommitOf slots old told → IsCommitOf slots new told
 publish_told slots old new killed told appended commit is =
     let many : length (slice_set old.plans old.published (record

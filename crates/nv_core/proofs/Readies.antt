@@ -12,7 +12,7 @@ use Rattle.nv_calls.specs.Committed.{place_of}
 use Rattle.nv_calls.specs.Slots.{items_for}
 use Rattle.nv_calls.specs.SlotCells.{cell_in, lent_cells, other_cells}
 use Rattle.nv_calls.specs.declared.plan.Plan.{Plan}
-use Rattle.nv_calls.specs.declared.plan.Planned.{Planned}
+use Rattle.nv_calls.specs.declared.plan.InodePlan.{InodePlan}
 use Rattle.nv_entry.specs.declared.item.Item.{Item}
 use Rattle.nv_calls.specs.AllCalls.{plan}
 use Rattle.nv_calls.specs.Plan.{runs_of}
@@ -25,10 +25,10 @@ use Rattle.nv_core.proofs.Takes.{plan_same}
 use Rattle.nv_core.proofs.Takings.{takes_at}
 use Rattle.nv_core.specs.Appends.{IsPlanOf}
 use Rattle.nv_core.specs.Rooms.{HasMade, HasRooms, HasTaken, IsChecked, IsHandOf}
-use Rattle.nv_core.specs.Told.{ArePlansOf, IsChangeWith, IsJobOf, IsToldOf}
-use Rattle.nv_core.specs.declared.hold.Hold.TheVariants as hold
-use Rattle.nv_core.specs.declared.job.Job.{Job}
-use Rattle.nv_core.specs.declared.job.Job.TheVariants as job
+use Rattle.nv_core.specs.GhostCalls.{ArePlansOf, IsChangeWith, IsRequestOf, IsGhostCallOf}
+use Rattle.nv_core.specs.declared.reservation.Reservation.TheVariants as reserved
+use Rattle.nv_core.specs.declared.request.Request.{Request}
+use Rattle.nv_core.specs.declared.request.Request.TheVariants as request
 use Rattle.nv_core.specs.declared.next.Ending.TheVariants as ending
 use Rattle.nv_core.specs.declared.next.Next.TheVariants as next
 use Rattle.nv_core.specs.declared.running.Running.{Running}
@@ -37,16 +37,16 @@ use Rattle.nv_alloc.specs.Block.{BlockValue, numbers_of}
 use Rattle.nv_alloc.specs.declared.hand.Hand.{Hand}
 use Rattle.nv_calls.specs.FillPages.{filled, fresh_pages, page_in, pages_over, sourced, with_blocks}
 use Rattle.nv_calls.specs.Prepared.{CanReady, HasNoLessRoom, HaveNoLessRoom, IsReadyBy, cell_plans, if_items, planned_by, plans_by}
-use Rattle.nv_calls.specs.Ready.{CellPlanValue, ReadyValue}
+use Rattle.nv_calls.specs.Ready.{CellCommitValue, ReadyValue}
 use Rattle.nv_calls.specs.declared.update.Update.{Update}
 use Rattle.nv_cell.specs.Cell.{CellState, CellValue, log_of}
 use Rattle.nv_machine.specs.Effects.{IsSoundIn}
 use Rattle.nv_calls.specs.Updates.{call_of, text_len}
-use Rattle.nv_calls.specs.declared.looked.Looked.{Looked}
+use Rattle.nv_calls.specs.declared.looked.LookupResult.{LookupResult}
 use Rattle.std.specs.List.{AllByRecursion}
 use Rattle.nv_core.proofs.FreshPages.{pages_are, text_whole}
 use Rattle.nv_core.specs.Readied.{filled_hand}
-use Rattle.nv_core.specs.Shown.{Told, hand_of, shared_of, shown, slots_in}
+use Rattle.nv_core.specs.Shown.{GhostCall, hand_of, shared_of, shown, slots_in}
 
 -- ---- the hand
 
@@ -103,14 +103,14 @@ states_same slots old new many more rest =
 
 -- ---- the call
 
--- a call that takes nothing more, by its job
+-- a call that takes nothing more, by its request
 pub at_ready : (shared : Shared) (hand : Hand) (running : Running) (plan : Plan) (text : List ℕ) → running.next ≡ next.Ready
-    → running.job ≡ job.Change plan text → HasRooms shared (hold.Hand hand) running → let slots = slots_in running.slots in
+    → running.request ≡ request.Change plan text → HasRooms shared (reserved.Hand hand) running → let slots = slots_in running.slots in
     HasMade shared slots hand running.made plan.update
     × (IsChecked shared slots hand running.looked plan.update × HasTaken shared slots hand plan.update)
 at_ready shared hand running plan text at is has =
     let slots = slots_in running.slots in
-    subst (λ (j : Job). IsChangeWith (λ (u : Update). HasMade shared slots hand running.made u
+    subst (λ (j : Request). IsChangeWith (λ (u : Update). HasMade shared slots hand running.made u
     × (IsChecked shared slots hand running.looked u × HasTaken shared slots hand u)) j) is
     (takes_at shared hand running next.Ready at refl has)
 
@@ -119,7 +119,7 @@ pub rooms_ready : (old new : Shared) (hand : Hand) (running : Running) (u : Upda
     → let slots = slots_in running.slots in let lent = lent_cells slots old.cells.items in let now = lent_cells slots new.cells.items in
     CanReady lent hand u → HaveNoLessRoom lent now → IsReadyBy lent hand u now ready → IsHandOf old.geometry.numbers hand
     → new.geometry ≡ old.geometry → running.ending ≡ ending.Answers
-    → HasRooms new (hold.Ready ready) (record running { job = job.Given })
+    → HasRooms new (reserved.Ready ready) (record running { request = request.Given })
 rooms_ready old new hand running u ready can more is sizes same answers = (
   refl,
   answers,
@@ -136,19 +136,19 @@ number_lent : (slots : List ℕ) (all : List CellValue) (k : ℕ) → k < length
 number_lent slots all k lt = ap (λ (c : ℕ × CellValue). c.0) (lent_at slots all k lt)
 
 -- the cells that get entries, from one of the slots on
-written_from : (plan : List Planned) (all : List ℕ) (cells : List CellValue) (at : ℕ) (slots : List ℕ)
+written_from : (plan : List InodePlan) (all : List ℕ) (cells : List CellValue) (at : ℕ) (slots : List ℕ)
     → ((k : ℕ) → k < length slots → slot_at all (at + k) ≡ slot_at slots k)
-    → filter (is_written plan) slots ≡ map (λ (p : CellPlanValue). slot_at all p.at) (cell_plans plan at (lent_cells slots cells))
+    → filter (is_written plan) slots ≡ map (λ (p : CellCommitValue). slot_at all p.at) (cell_plans plan at (lent_cells slots cells))
 written_from plan all cells at [] same = refl
 written_from plan all cells at (n ∷ slots) same =
     go (items_for plan n) refl (written_from plan all cells (at + 1) slots (λ k lt.
     let place : at + 1 + k ≡ at + suc k = omega arith in
     ap (slot_at all) place ∙ same (suc k) (omega (arith, lt)))) where
       go : (items : List Item) → items_for plan n ≡ items
-          → filter (is_written plan) slots ≡ map (λ (p : CellPlanValue). slot_at all p.at) (cell_plans plan (at + 1)
+          → filter (is_written plan) slots ≡ map (λ (p : CellCommitValue). slot_at all p.at) (cell_plans plan (at + 1)
           (lent_cells slots cells))
           → filter (is_written plan) (n ∷ slots)
-          ≡ map (λ (p : CellPlanValue). slot_at all p.at) (if_items at (items_for plan n) (cell_plans plan (at + 1)
+          ≡ map (λ (p : CellCommitValue). slot_at all p.at) (if_items at (items_for plan n) (cell_plans plan (at + 1)
           (lent_cells slots cells)))
       go [] q rest = rw q rest
       go (item ∷ items) q rest =
@@ -159,13 +159,13 @@ written_from plan all cells at (n ∷ slots) same =
 
 -- what is ready is what the plan says
 pub plans_ready : (slots : List ℕ) (all : List CellValue) (now : List (ℕ × CellValue)) (hand : Hand) (u : Update) (ready : ReadyValue)
-    (plan : List Planned) → let lent = lent_cells slots all in CanReady lent hand u → IsReadyBy lent hand u now ready
+    (plan : List InodePlan) → let lent = lent_cells slots all in CanReady lent hand u → IsReadyBy lent hand u now ready
     → plan ≡ planned_by lent hand u → ArePlansOf slots plan 0 ready.plans
 plans_ready slots all now hand u ready plan can is same =
     let lent = lent_cells slots all in
     let by = planned_by lent hand u in
-    subst (λ (ps : List Planned). ArePlansOf slots ps 0 ready.plans) (sym same)
-    (subst (λ (ps : List CellPlanValue). ArePlansOf slots by 0 ps) (sym is.plans) (record {
+    subst (λ (ps : List InodePlan). ArePlansOf slots ps 0 ready.plans) (sym same)
+    (subst (λ (ps : List CellCommitValue). ArePlansOf slots by 0 ps) (sym is.plans) (record {
       written = written_from by slots all 0 slots (λ k lt. let place : 0 + k ≡ k = omega arith in ap (slot_at slots) place);
       items = λ j le lt.
           items_are by lent j lt
@@ -174,7 +174,7 @@ plans_ready slots all now hand u ready plan can is same =
     }))
 
 -- and is for the call's slots alone
-pub placed_ready : (slots : List ℕ) (all : List CellValue) (hand : Hand) (u : Update) (plan : List Planned)
+pub placed_ready : (slots : List ℕ) (all : List CellValue) (hand : Hand) (u : Update) (plan : List InodePlan)
     → let lent = lent_cells slots all in CanReady lent hand u → plan ≡ planned_by lent hand u → IsPlanOf slots plan
 placed_ready slots all hand u plan can same =
     let lent = lent_cells slots all in
@@ -190,15 +190,15 @@ placed_ready slots all hand u plan can same =
 
 -- ---- the machine's plan
 
-pub plan_ready : (shared : Shared) (hand : Hand) (running : Running) (told : Told) (by : Plan) (text : List ℕ)
-    → running.job ≡ job.Change by text → IsToldOf running told → let slots = slots_in running.slots in
+pub plan_ready : (shared : Shared) (hand : Hand) (running : Running) (told : GhostCall) (by : Plan) (text : List ℕ)
+    → running.request ≡ request.Change by text → IsGhostCallOf running told → let slots = slots_in running.slots in
     HasMade shared slots hand running.made by.update → IsChecked shared slots hand running.looked by.update
     → plan_by shared.geometry.numbers.block (shared_of shared) (hand_of hand) (shown told running)
     ≡ planned_by (lent_cells slots shared.cells.items) hand by.update
 plan_ready shared hand running told by text at is made checked =
     let block = shared.geometry.numbers.block in
     let s = shared_of shared in
-    let of = subst (λ (j : Job). IsJobOf j running.owed told.call) at is in
+    let of = subst (λ (j : Request). IsRequestOf j running.owed told.call) at is in
     let present = has_last_page block s told.call in
     ap (λ (c : Call). plan block (copies s) (record {
       made = running.made;
@@ -209,7 +209,7 @@ plan_ready shared hand running told by text at is made checked =
 
 -- ---- the bytes of its pages
 
-pub filled_same : (shared : Shared) (slots : List ℕ) (hand : Hand) (looked : Looked) (now : List (ℕ × CellValue)) (u : Update)
+pub filled_same : (shared : Shared) (slots : List ℕ) (hand : Hand) (looked : LookupResult) (now : List (ℕ × CellValue)) (u : Update)
     (text : List ℕ)
     → 0 < shared.geometry.numbers.block → HaveNoLessRoom (lent_cells slots shared.cells.items) now
     → AllByRecursion (λ (c : ℕ × CellValue). IsSoundIn c.1.state (log_of c.1.state)) (lent_cells slots shared.cells.items)

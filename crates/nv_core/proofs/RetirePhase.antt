@@ -20,7 +20,7 @@ use Rattle.nv_calls.specs.Retiring.{erased, retired, room_erased, with_records}
 use Rattle.nv_calls.proofs.RetireAll as retire_all
 use Rattle.nv_calls.proofs.Tails.{journal_back}
 use Rattle.nv_core.specs.Committing.{IsAppending, IsCommitting, IsPublishing, IsRetiring, noted_by}
-use Rattle.nv_core.specs.Told.{IsOnItsWay}
+use Rattle.nv_core.specs.GhostCalls.{IsOnItsWay}
 use Rattle.nv_core.proofs.Retires.{retire_way}
 use Rattle.nv_core.proofs.Stages.{none_there}
 use Rattle.nv_core.proofs.Phases.{append_counts, appended_journal, no_number, noted_field, noted_one, publish_counts, retire_counts, shelf_one, shelf_two, shut_can, shut_dead, shut_placed, start_journal, start_number, start_open}

@@ -9,7 +9,7 @@ use Rattle.nv_book.specs.Book.{BookState, BookValue}
 use Rattle.nv_calls.proofs.Retires.{chain_stays}
 use Rattle.nv_calls.specs.Commit.{CommitValue, after_retire, to_retire}
 use Rattle.nv_calls.specs.Progress.{is_open, opens}
-use Rattle.nv_calls.specs.Ready.{CellPlanValue, no_plan, plan_at}
+use Rattle.nv_calls.specs.Ready.{CellCommitValue, no_plan, plan_at}
 use Rattle.nv_calls.specs.Retired.{CanRetire}
 use Rattle.nv_calls.specs.Retiring as calls
 use Rattle.nv_calls.specs.Retiring.{is_erased, number_back, with_back}
@@ -26,8 +26,8 @@ use Rattle.nv_machine.specs.Sequence.{retiring}
 use Rattle.nv_machine.specs.World as machine
 use Rattle.nv_machine.specs.World.{Leave, Retire, cell_at, go_to, with_book, with_cell}
 use Rattle.nv_core.proofs.Publishes.{state_there, states_set}
-use Rattle.nv_core.specs.Shown.{Told, commit_next, hand_in, hand_with, killed_in, machine_step, shared_of, shown_commit, slots_in}
-use Rattle.nv_core.specs.Told.{IsCommitOf, IsOnItsWay}
+use Rattle.nv_core.specs.Shown.{GhostCall, commit_next, hand_in, hand_with, killed_in, machine_step, shared_of, shown_commit, slots_in}
+use Rattle.nv_core.specs.GhostCalls.{IsCommitOf, IsOnItsWay}
 use Rattle.nv_base.specs.declared.geometry.GeometryNumbers.{GeometryNumbers}
 use Rattle.nv_core.specs.Rooms.{IsHandOf}
 use Rattle.nv_core.specs.declared.running.Running.{Running}
@@ -67,17 +67,17 @@ retires_next c written many appended published some closed =
     go false false false false false q r s t = refl
 
 -- the first of what was killed and is not retired is that of the plan whose turn it is
-pub killed_first : (plans : List CellPlanValue) (retired published : ℕ) → retired < published → published ≤ length plans
-    → first_killed (map (λ (p : CellPlanValue). p.killed) (drop retired (take published plans))) ≡ (plan_at plans retired).killed
+pub killed_first : (plans : List CellCommitValue) (retired published : ℕ) → retired < published → published ≤ length plans
+    → first_killed (map (λ (p : CellCommitValue). p.killed) (drop retired (take published plans))) ≡ (plan_at plans retired).killed
 killed_first [] retired published lt le = absurd (omega (arith, lt, le))
 killed_first (p ∷ plans) retired zero lt le = absurd (omega (arith, lt))
 killed_first (p ∷ plans) zero (suc published) lt le = refl
 killed_first (p ∷ plans) (suc retired) (suc published) lt le = killed_first plans retired published (omega (arith, lt)) (omega (arith, le))
 
 -- once it is retired, the others are left
-pub killed_left : (plans : List CellPlanValue) (retired published : ℕ) (plan : CellPlanValue) → retired < published
-    → published ≤ length plans → drop 1 (map (λ (p : CellPlanValue). p.killed) (drop retired (take published plans)))
-    ≡ map (λ (p : CellPlanValue). p.killed) (drop (suc retired) (take published (slice_set plans retired plan)))
+pub killed_left : (plans : List CellCommitValue) (retired published : ℕ) (plan : CellCommitValue) → retired < published
+    → published ≤ length plans → drop 1 (map (λ (p : CellCommitValue). p.killed) (drop retired (take published plans)))
+    ≡ map (λ (p : CellCommitValue). p.killed) (drop (suc retired) (take published (slice_set plans retired plan)))
 killed_left [] retired published plan lt le = absurd (omega (arith, lt, le))
 killed_left (p ∷ plans) retired zero plan lt le = absurd (omega (arith, lt))
 killed_left (p ∷ plans) zero (suc published) plan lt le = refl
@@ -110,15 +110,15 @@ hand_retires ino mid free parts hand empty = go (is_erased mid) empty where
   go false empty = refl
 
 -- a plan of which nothing is killed any more is at the same place
-same_ats : (slots : List ℕ) (plans : List CellPlanValue) (j : ℕ) (killed : List KilledPart)
-    → map (λ (p : CellPlanValue). slot_at slots p.at) (slice_set plans j (record (plan_at plans j) { killed = killed }))
-    ≡ map (λ (p : CellPlanValue). slot_at slots p.at) plans
+same_ats : (slots : List ℕ) (plans : List CellCommitValue) (j : ℕ) (killed : List KilledPart)
+    → map (λ (p : CellCommitValue). slot_at slots p.at) (slice_set plans j (record (plan_at plans j) { killed = killed }))
+    ≡ map (λ (p : CellCommitValue). slot_at slots p.at) plans
 same_ats slots [] j killed = refl
 same_ats slots (p ∷ plans) zero killed = refl
 same_ats slots (p ∷ plans) (suc j) killed = ap (λ (rest : List ℕ). slot_at slots p.at ∷ rest) (same_ats slots plans j killed)
 
 -- what is told of the commit stays
-pub retire_told : (slots : List ℕ) (old new : CommitValue) (living : List ℕ) (ino : ℕ) (cell : CellState) (told : Told)
+pub retire_told : (slots : List ℕ) (old new : CommitValue) (living : List ℕ) (ino : ℕ) (cell : CellState) (told : GhostCall)
     → old.appended ≡ length old.plans → new ≡ after_retire living ino cell old → IsCommitOf slots old told → IsCommitOf slots new told
 retire_told slots old new living ino cell told appended commit is =
     let many : length (slice_set old.plans old.retired (record (to_retire old) { killed = [] })) ≡ length old.plans =
@@ -177,7 +177,7 @@ no_chain living ino epoch killed hand cell can erased =
     empty [] q = refl
     empty (b ∷ blocks) q = absurd (omega (arith, q))
 
-pub retires : (shared : Shared) (running : Running) (old new : CommitValue) (book : BookValue) (cells : List CellValue) (told : Told)
+pub retires : (shared : Shared) (running : Running) (old new : CommitValue) (book : BookValue) (cells : List CellValue) (told : GhostCall)
     (i : ℕ)
     → IsCommitOf (slots_in running.slots) old told → old.appended ≡ length old.plans → old.retired < length old.plans
     → old.published ≡ length old.plans → is_open old ≡ false
@@ -212,7 +212,7 @@ retires shared running old new book cells told i is appended lt published closed
     let shelf : BookState = record shared.book.state { manifests = calls.with_records living i epoch parts shared.book.state.manifests } in
     let at : slot_at w p ≡ i =
     ap (λ (xs : List ℕ). slot_at xs p) is.plans.written
-    ∙ get_or-map (λ (plan : CellPlanValue). slot_at slots plan.at) old.plans p no_plan 0 lt ∙ sym place in
+    ∙ get_or-map (λ (plan : CellCommitValue). slot_at slots plan.at) old.plans p no_plan 0 lt ∙ sym place in
     let here : cell_at s i ≡ cell = state_there shared.cells.items i there in
     let first : first_killed (killed_in old) ≡ parts =
     killed_first old.plans p old.published (omega (arith, lt, published)) (omega (arith, published)) in
@@ -220,13 +220,13 @@ retires shared running old new book cells told i is appended lt published closed
     length-set old.plans p (record (to_retire old) { killed = [] }) in
     let long : length w ≡ length after.plans =
     ap (λ (xs : List ℕ). length xs) is.plans.written
-    ∙ length-map old.plans (λ (plan : CellPlanValue). slot_at slots plan.at) ∙ sym many in
+    ∙ length-map old.plans (λ (plan : CellCommitValue). slot_at slots plan.at) ∙ sym many in
     let next : retiring (p + 1) w ≡ commit_next after =
     retires_next after w long (omega (arith, many, appended)) (omega (arith, many, published)) (omega (arith, lt, published)) closed in
     let plus : suc p ≡ p + 1 = omega arith in
     let rest : left ≡ killed_in after =
     killed_left old.plans p old.published (record (to_retire old) { killed = [] }) (omega (arith, lt, published)) (omega (arith, published))
-    ∙ ap (λ (n : ℕ). map (λ (plan : CellPlanValue). plan.killed) (drop n (take old.published
+    ∙ ap (λ (n : ℕ). map (λ (plan : CellCommitValue). plan.killed) (drop n (take old.published
     (slice_set old.plans p (record (to_retire old) { killed = [] }))))) plus in
     let hand : with_erased i mid (record (hand_with left old.hand) { blocks = old.hand.data.blocks ++ free }) ≡ hand_in after =
     hand_retires i mid free left old.hand (no_chain living i epoch parts old.hand cell can)

@@ -14,7 +14,7 @@ use Rattle.nv_book.specs.declared.record.Record.{Record}
 use Rattle.nv_cell.specs.Cell.{CellState, log_of}
 use Rattle.nv_cell.specs.Readers.{counts_of, marks_by_entry}
 use Rattle.nv_cell.specs.Retained.{AreMarksOf}
-use Rattle.nv_cell.specs.declared.tally.PageCounts.{PageCounts}
+use Rattle.nv_cell.specs.declared.tally.LogPageCounts.{LogPageCounts}
 use Rattle.nv_entry.specs.Held.{Retention}
 use Rattle.nv_epoch.specs.SnapList.{ids, numbers}
 use Rattle.nv_epoch.specs.declared.snapshot.Snapshot.{Snapshot}
@@ -143,7 +143,7 @@ module _ (g : GeometryNumbers) (start : World) (records : List Record) (events :
       pages = map (scanned_counts (retention_at w ino) cell) (range_with_len 0 (length cell.chain.blocks));
     }
 
-    with_pages : (cell : CellState) {pages pages_now : List PageCounts} → pages ≡ pages_now
+    with_pages : (cell : CellState) {pages pages_now : List LogPageCounts} → pages ≡ pages_now
         → (let c : LogCounts = record { entries = cell.chain.tail; pages = pages } in c) ≡ record { entries = cell.chain.tail; pages = pages_now }
     with_pages cell e = rw e refl
 

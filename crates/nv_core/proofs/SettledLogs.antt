@@ -6,7 +6,7 @@ use Rattle.nv_machine.specs.Locks.{HoldsIts, commits_at, commits_by, is_owner}
 use Rattle.nv_machine.specs.Reached.{IsReached}
 use Rattle.nv_machine.specs.Reads.{written_slots}
 use Rattle.nv_machine.specs.World as machine
-use Rattle.nv_machine.specs.World.{Append, Back, Check, Close, Enter, Give, HandState, Leave, Lock, Look, Next, Number, Open, Publish, Ready, Retire, Running, Shared, Maintenance, TakeBlocks, TakePages, Unlock, Visit, actor_at, cell_at}
+use Rattle.nv_machine.specs.World.{Append, ReturnNumber, Check, Close, Enter, Give, HandState, Leave, Lock, Look, Next, Number, Open, Publish, Ready, Retire, Running, Shared, Maintenance, TakeBlocks, TakeLogPages, Unlock, Visit, actor_at, cell_at}
 use Rattle.nv_machine.proofs.SlotsBeforeCheck.{own_bytes}
 use Rattle.nv_machine.proofs.EveryWorld.{reached}
 use Rattle.nv_machine.proofs.Journals.{closed_tail}
@@ -33,7 +33,7 @@ commit_within (Look place) block cpu ino s h r commits knows = absurd (false≢t
 commit_within (Lock place) block cpu ino s h r commits knows = absurd (false≢true commits)
 commit_within Check block cpu ino s h r commits knows = absurd (false≢true commits)
 commit_within (TakeBlocks asked) block cpu ino s h r commits knows = absurd (false≢true commits)
-commit_within (TakePages asked) block cpu ino s h r commits knows = absurd (false≢true commits)
+commit_within (TakeLogPages asked) block cpu ino s h r commits knows = absurd (false≢true commits)
 commit_within Ready block cpu ino s h r commits knows = absurd (false≢true commits)
 commit_within Enter block cpu ino s h r commits knows = absurd (false≢true commits)
 commit_within (Append place) block cpu ino s h r commits knows = closed_within s ino knows.2
@@ -45,7 +45,7 @@ commit_within (Retire place) block cpu ino s h r commits knows = closed_within s
 commit_within Leave block cpu ino s h r commits knows = closed_within s ino knows.1
 commit_within (Unlock place) block cpu ino s h r commits knows = absurd (false≢true commits)
 commit_within (Give home) block cpu ino s h r commits knows = absurd (false≢true commits)
-commit_within Back block cpu ino s h r commits knows = absurd (false≢true commits)
+commit_within ReturnNumber block cpu ino s h r commits knows = absurd (false≢true commits)
 commit_within Visit block cpu ino s h r commits knows = absurd (false≢true commits)
 commit_within (Maintenance step) block cpu ino s h r commits knows = absurd (false≢true commits)
 

@@ -4,15 +4,15 @@ use Rattle.nv_calls.specs.Commit.{CommitValue}
 use Rattle.nv_calls.specs.declared.progress.CommitStep.{CommitStep}
 use Rattle.nv_calls.specs.declared.progress.CommitStep.TheVariants as step
 use Rattle.nv_machine.specs.Locks.{commits_at, held_at}
-use Rattle.nv_core.specs.Shown.{Told, machine_step, shown_by, slots_in}
-use Rattle.nv_core.specs.declared.hold.Hold.{Hold}
-use Rattle.nv_core.specs.declared.hold.Hold.TheVariants as hold
+use Rattle.nv_core.specs.Shown.{GhostCall, machine_step, shown_by, slots_in}
+use Rattle.nv_core.specs.declared.reservation.Reservation.{Reservation}
+use Rattle.nv_core.specs.declared.reservation.Reservation.TheVariants as reserved
 use Rattle.nv_core.specs.declared.running.Running.{Running}
 
-pub shown_slots : (held : Hold) (told : Told) (running : Running) → (shown_by held told running).slots ≡ slots_in running.slots
-shown_slots (hold.Hand hand) told running = refl
-shown_slots (hold.Ready ready) told running = refl
-shown_slots (hold.Commit commit) told running = refl
+pub shown_slots : (held : Reservation) (told : GhostCall) (running : Running) → (shown_by held told running).slots ≡ slots_in running.slots
+shown_slots (reserved.Hand hand) told running = refl
+shown_slots (reserved.Ready ready) told running = refl
+shown_slots (reserved.Commit commit) told running = refl
 
 -- a commit holds all its slots, and the commit lock
 pub commit_holds : (s : CommitStep) (commit : CommitValue) (slots : List ℕ) → held_at (machine_step s commit) slots ≡ slots

@@ -19,7 +19,7 @@ use Rattle.nv_calls.specs.Progress.{step_of}
 use Rattle.nv_calls.specs.Refusals.{passes}
 use Rattle.nv_calls.specs.SlotCells.{cell_in, lent_cells}
 use Rattle.nv_calls.specs.Updates.{blank_call}
-use Rattle.nv_calls.specs.declared.looked.Looked.{Looked}
+use Rattle.nv_calls.specs.declared.looked.LookupResult.{LookupResult}
 use Rattle.nv_calls.specs.declared.update.Update.{Update}
 use Rattle.nv_cell.specs.Cell.{CellValue}
 use Rattle.nv_machine.specs.Locks.{AreLocks, HoldsIts, IsInside, commits_at, held_at, is_owner}
@@ -31,13 +31,13 @@ use Rattle.nv_core.specs.Committing.{IsCommitting}
 use Rattle.nv_core.specs.Frames.{LeavesRest}
 use Rattle.nv_core.specs.Nodes.{CanRead, HasOwn, HoldHandles, wanted_over}
 use Rattle.nv_core.specs.Rooms.{HasActorRooms, HasMade, HasRooms, HasTaken, IsChecked, IsHandOf, IsIdle, IsReadyOver, Takes, TakesBlocks, TakesIf, TakesPages, committing_cpu, takes}
-use Rattle.nv_core.specs.Shown.{Told, next_of, shared_of, shown, shown_by, slots_in}
-use Rattle.nv_core.specs.Told.{IsChangeWith}
+use Rattle.nv_core.specs.Shown.{GhostCall, next_of, shared_of, shown, shown_by, slots_in}
+use Rattle.nv_core.specs.GhostCalls.{IsChangeWith}
 use Rattle.nv_core.specs.Worlds.{ShowsActor, ShowsRunning, told_of}
-use Rattle.nv_core.specs.declared.hold.Hold.{Hold}
-use Rattle.nv_core.specs.declared.hold.Hold.TheVariants as hold
-use Rattle.nv_core.specs.declared.job.Job.{Job}
-use Rattle.nv_core.specs.declared.job.Job.TheVariants as job
+use Rattle.nv_core.specs.declared.reservation.Reservation.{Reservation}
+use Rattle.nv_core.specs.declared.reservation.Reservation.TheVariants as reserved
+use Rattle.nv_core.specs.declared.request.Request.{Request}
+use Rattle.nv_core.specs.declared.request.Request.TheVariants as request
 use Rattle.nv_core.specs.declared.next.Next.{Next}
 use Rattle.nv_core.specs.declared.next.Next.TheVariants as next
 use Rattle.nv_core.specs.declared.running.Running.{Running}
@@ -54,17 +54,17 @@ same_lent (n ∷ slots) old new same =
     let first = same n (has-first n slots) in
     let rest = same_lent slots old new (λ ino h. same ino (or_right (n == ino) (has slots ino) h)) in cc
 
--- what holds of the update of a job, if it follows from the same of another
-by_update : (P Q : Update → Type 0) (j : Job) → ((u : Update) → P u → Q u) → IsChangeWith P j → IsChangeWith Q j
-by_update P Q (job.Change plan text) from p = from plan.update p
-by_update P Q (job.Visit visit) from p = p
-by_update P Q (job.Maintenance on) from p = p
-by_update P Q job.Given from p = p
+-- what holds of the update of a request, if it follows from the same of another
+by_update : (P Q : Update → Type 0) (j : Request) → ((u : Update) → P u → Q u) → IsChangeWith P j → IsChangeWith Q j
+by_update P Q (request.Change plan text) from p = from plan.update p
+by_update P Q (request.Visit visit) from p = p
+by_update P Q (request.Maintenance on) from p = p
+by_update P Q request.Given from p = p
 
 -- a call that takes holds all its slots
 takes_hold : (n : Next) (slots : List ℕ) → takes n ≡ true → held_at (next_of n) slots ≡ slots
 takes_hold (next.TakeBlocks asked) slots e = refl
-takes_hold (next.TakePages asked) slots e = refl
+takes_hold (next.TakeLogPages asked) slots e = refl
 takes_hold next.Ready slots e = refl
 takes_hold next.Check slots e = refl
 takes_hold next.Number slots e = cc
@@ -72,7 +72,7 @@ takes_hold (next.Look place) slots e = cc
 takes_hold (next.Lock place) slots e = cc
 takes_hold (next.Unlock place) slots e = cc
 takes_hold (next.Give cpu) slots e = cc
-takes_hold next.Back slots e = cc
+takes_hold next.ReturnNumber slots e = cc
 takes_hold next.Visit slots e = cc
 takes_hold (next.Maintenance step) slots e = cc
 
@@ -100,7 +100,7 @@ module _ (actor : ℕ) (held : List ℕ) (old new : Shared) (rest : LeavesRest a
     }
 
     module _ (hand : Hand) (u : Update) where
-      checked_stays : (looked : Looked) → IsChecked old slots hand looked u → IsChecked new slots hand looked u
+      checked_stays : (looked : LookupResult) → IsChecked old slots hand looked u → IsChecked new slots hand looked u
       checked_stays looked p = record {
         read = read_stays (handles looked (blank_call u)) p.read;
         lent = moved (λ g cells. AreCells cells) p.lent;
@@ -145,11 +145,11 @@ module _ (actor : ℕ) (held : List ℕ) (old new : Shared) (rest : LeavesRest a
 
   -- ---- what a call takes
 
-  takes_stay : (n : Next) (slots : List ℕ) → IsOut slots → (hand : Hand) (wanted : ℕ) (looked : Looked) (u : Update)
+  takes_stay : (n : Next) (slots : List ℕ) → IsOut slots → (hand : Hand) (wanted : ℕ) (looked : LookupResult) (u : Update)
       → Takes n old slots hand wanted looked u → Takes n new slots hand wanted looked u
   takes_stay (next.TakeBlocks asked) slots out hand wanted looked u p =
       (checked_stays slots out hand u looked p.0, takes_blocks_stay slots out hand u asked wanted p.1)
-  takes_stay (next.TakePages asked) slots out hand wanted looked u p =
+  takes_stay (next.TakeLogPages asked) slots out hand wanted looked u p =
       (checked_stays slots out hand u looked p.0, takes_pages_stay slots out hand u asked wanted p.1)
   takes_stay next.Ready slots out hand wanted looked u p = (checked_stays slots out hand u looked p.0, taken_stays slots out hand u p.1)
   takes_stay next.Number slots out hand wanted looked u p = tt
@@ -158,7 +158,7 @@ module _ (actor : ℕ) (held : List ℕ) (old new : Shared) (rest : LeavesRest a
   takes_stay next.Check slots out hand wanted looked u p = tt
   takes_stay (next.Unlock place) slots out hand wanted looked u p = tt
   takes_stay (next.Give cpu) slots out hand wanted looked u p = tt
-  takes_stay next.Back slots out hand wanted looked u p = tt
+  takes_stay next.ReturnNumber slots out hand wanted looked u p = tt
   takes_stay next.Visit slots out hand wanted looked u p = tt
   takes_stay (next.Maintenance step) slots out hand wanted looked u p = tt
 
@@ -169,29 +169,29 @@ module _ (actor : ℕ) (held : List ℕ) (old new : Shared) (rest : LeavesRest a
       let slots = slots_in running.slots in
       let stay : IsOut slots = λ ino h. out ino (ap (λ (l : List ℕ). has l ino) (takes_hold running.next slots e) ∙ h) in
       by_update (λ u. HasMade old slots hand running.made u × Takes running.next old slots hand running.wanted running.looked u)
-      (λ u. HasMade new slots hand running.made u × Takes running.next new slots hand running.wanted running.looked u) running.job
+      (λ u. HasMade new slots hand running.made u × Takes running.next new slots hand running.wanted running.looked u) running.request
       (λ u q. (made_stays slots stay hand u running.made q.0, takes_stay running.next slots stay hand running.wanted running.looked u q.1))
       p
 
   -- ---- a call
 
   -- one that commits has the commit lock, and the book with it
-  call_stays : (held_by : Hold) (told : Told) (running : Running)
+  call_stays : (held_by : Reservation) (told : GhostCall) (running : Running)
       → IsInside (shown_by held_by told running).next (shown_by held_by told running)
       → IsOut (held_at (shown_by held_by told running).next (slots_in running.slots))
       → (commits_at (shown_by held_by told running).next ≡ true → (new.book ≡ old.book) × (new.holder ≡ old.holder))
       → HasRooms old held_by running → HasRooms new held_by running
-  call_stays (hold.Hand hand) told running inside out same p = (
+  call_stays (reserved.Hand hand) told running inside out same p = (
     p.0,
     hand_stays hand p.1,
     takes_if_stays (takes running.next) hand running refl out p.2,
-    next_room_stays old new rest.count rest.lists running.next (slots_in running.slots) running.ending running.job hand
+    next_room_stays old new rest.count rest.lists running.next (slots_in running.slots) running.ending running.request hand
         (λ step e. subst (λ (n : Next). IsInside (next_of n) (shown told running)) e inside)
         (λ ino h. rest.cells ino (out ino h)) p.3,
   )
-  call_stays (hold.Ready ready) told running inside out same p =
+  call_stays (reserved.Ready ready) told running inside out same p =
       (p.0, p.1, hand_stays ready.hand p.2, moved (slots_in running.slots) out (λ g cells. IsReadyOver cells ready) p.3)
-  call_stays (hold.Commit commit) told running inside out same p =
+  call_stays (reserved.Commit commit) told running inside out same p =
       let slots = slots_in running.slots in
       let all = commit_holds (step_of commit) commit slots in
       let stay : IsOut slots = λ ino h. out ino (ap (λ (l : List ℕ). has l ino) all ∙ h) in
@@ -206,10 +206,10 @@ module _ (actor : ℕ) (held : List ℕ) (old new : Shared) (rest : LeavesRest a
             (moved slots stay (λ g cells. IsCommitting (committing_cpu old) cells old.book commit) p.3)),
       )
 
-  idle_stays : (held_by : Hold) → IsIdle old held_by → IsIdle new held_by
-  idle_stays (hold.Hand hand) p = hand_stays hand p
-  idle_stays (hold.Ready ready) p = p
-  idle_stays (hold.Commit commit) p = p
+  idle_stays : (held_by : Reservation) → IsIdle old held_by → IsIdle new held_by
+  idle_stays (reserved.Hand hand) p = hand_stays hand p
+  idle_stays (reserved.Ready ready) p = p
+  idle_stays (reserved.Commit commit) p = p
 
 -- ---- another actor of a world
 
@@ -228,7 +228,7 @@ module _ (m : machine.World) (locks : AreLocks m) (old new : Shared) (shows : sh
       subst (λ (s : machine.Shared). HoldsIts s actor (Some r)) (sym shows)
       (subst (λ (o : Option machine.Running). HoldsIts m.shared actor o) goes (locks.each actor))
 
-  rooms_by : (held : Hold) (o : Option Running) (p : Option machine.Running) → (actor_at m other).running ≡ p → ShowsRunning held o p
+  rooms_by : (held : Reservation) (o : Option Running) (p : Option machine.Running) → (actor_at m other).running ≡ p → ShowsRunning held o p
       → HasActorRooms old held o → HasActorRooms new held o
   rooms_by held None p is shown rooms = idle_stays actor (held_at r.next r.slots) old new rest held rooms
   rooms_by held (Some running) None is shown rooms = absurd shown
@@ -259,5 +259,5 @@ module _ (m : machine.World) (locks : AreLocks m) (old new : Shared) (shows : sh
             rest.book other (owner_is other old.holder commits) ne
 
   -- THE LEMMA: what another actor's step leaves
-  pub rooms_stay : (d : Actor) → ShowsActor d (actor_at m other) → HasActorRooms old d.hold d.running → HasActorRooms new d.hold d.running
-  rooms_stay d shown rooms = rooms_by d.hold d.running (actor_at m other).running refl shown.running rooms
+  pub rooms_stay : (d : Actor) → ShowsActor d (actor_at m other) → HasActorRooms old d.reserved d.running → HasActorRooms new d.reserved d.running
+  rooms_stay d shown rooms = rooms_by d.reserved d.running (actor_at m other).running refl shown.running rooms

@@ -13,15 +13,15 @@ use Rattle.nv_core.specs.CommitSteps.{IsAtStep}
 use Rattle.nv_core.specs.Committing.{IsCommitting}
 use Rattle.nv_core.specs.Frames.{LeavesCells}
 use Rattle.nv_core.specs.Rooms.{HasRooms, committing_cpu}
-use Rattle.nv_core.specs.Shown.{Told, shared_of}
+use Rattle.nv_core.specs.Shown.{GhostCall, shared_of}
 use Rattle.nv_core.specs.Steps.{CanStep}
-use Rattle.nv_core.specs.Told.{IsPlaceOf}
-use Rattle.nv_core.specs.declared.hold.Hold.TheVariants as hold
+use Rattle.nv_core.specs.GhostCalls.{IsPlaceOf}
+use Rattle.nv_core.specs.declared.reservation.Reservation.TheVariants as reserved
 use Rattle.nv_core.specs.declared.running.Running.{Running}
 use Rattle.nv_core.specs.declared.shared.Shared.{Shared}
 
 pub at_step : (next : CommitStep) (shared : Shared) (running : Running) (commit : CommitValue) (actor : ℕ) → next ≡ step_of commit
-    → CanStep shared (hold.Commit commit) running actor → HasRooms shared (hold.Commit commit) running
+    → CanStep shared (reserved.Commit commit) running actor → HasRooms shared (reserved.Commit commit) running
     → IsAtStep next shared running commit
 at_step next shared running commit actor is can rooms =
     record { slots = can.slots; committing = rooms.3; step = sym is; sized = rooms.2 }
@@ -66,6 +66,6 @@ committing_written slots shared book new commit many is =
 -- ----
 
 -- once all is appended no entry is to be placed
-pub placed_all : (slots : List ℕ) (old new : CommitValue) (told : Told) → old.appended ≡ length old.plans → new.appended ≡ old.appended
+pub placed_all : (slots : List ℕ) (old new : CommitValue) (told : GhostCall) → old.appended ≡ length old.plans → new.appended ≡ old.appended
     → length new.plans ≡ length old.plans → IsPlaceOf slots new told
 placed_all slots old new told full count many = λ lt. absurd (omega (arith, lt, full, count, many))

@@ -19,9 +19,9 @@ use Rattle.nv_calls.specs.SlotCells.{cell_in, lent_cells}
 use Rattle.nv_calls.specs.Updates.{blank_call, call_of, text_len}
 use Rattle.nv_calls.specs.declared.call.Call.{Call}
 use Rattle.nv_calls.specs.declared.call.Call.TheVariants as call
-use Rattle.nv_calls.specs.declared.looked.Looked.{Looked}
+use Rattle.nv_calls.specs.declared.looked.LookupResult.{LookupResult}
 use Rattle.nv_calls.specs.declared.plan.Plan.{Plan}
-use Rattle.nv_calls.specs.declared.taken.Taken.{Taken}
+use Rattle.nv_calls.specs.declared.allocation.Allocation.{Allocation}
 use Rattle.nv_calls.specs.declared.update.Update.{Update}
 use Rattle.nv_calls.proofs.TextLengths.{same_plan}
 use Rattle.nv_cell.specs.Cell.{CellValue}
@@ -36,39 +36,39 @@ use Rattle.nv_core.specs.Parts.{AreHome, IsOfDevice}
 use Rattle.nv_core.specs.Nodes.{CanRead}
 use Rattle.nv_core.specs.Rooms.{CanWantPages, FitsCall, FitsNext, HasItsBlocks, HasMade, HasRooms, HasTaken, IsChecked, IsHandOf, LooksAsTold, TakesPages, blocks_to_take, pages_to_take}
 use Rattle.nv_core.specs.Shown.{shared_of, slots_in}
-use Rattle.nv_core.specs.Told.{IsChangeBy, IsChangeWith, IsJobOf, IsLookAt, is_change}
-use Rattle.nv_core.specs.declared.job.Job.{Job}
-use Rattle.nv_core.specs.declared.job.Job.TheVariants as job
-use Rattle.nv_core.specs.declared.job.Owed.{Owed}
-use Rattle.nv_core.specs.declared.hold.Hold.TheVariants as hold
+use Rattle.nv_core.specs.GhostCalls.{IsChangeBy, IsChangeWith, IsRequestOf, IsLookAt, is_change}
+use Rattle.nv_core.specs.declared.request.Request.{Request}
+use Rattle.nv_core.specs.declared.request.Request.TheVariants as request
+use Rattle.nv_core.specs.declared.request.PendingAnswer.{PendingAnswer}
+use Rattle.nv_core.specs.declared.reservation.Reservation.TheVariants as reserved
 use Rattle.nv_core.specs.declared.next.Next.TheVariants as next
 use Rattle.nv_core.specs.declared.running.Running.{Running}
 use Rattle.nv_core.specs.declared.shared.Shared.{Shared}
 
--- ---- jobs
+-- ---- requests
 
--- what holds of a job's call holds of its plan's
-pub with_by : (P : Update → Type 0) (j : Job) (by : Plan) → IsChangeWith P j → IsChangeBy j by → P by.update
-with_by P (job.Change plan text) by has is = subst (λ (p : Plan). P p.update) is has
-with_by P (job.Visit visit) by has is = elim has [ ]
-with_by P (job.Maintenance on) by has is = elim has [ ]
-with_by P job.Given by has is = elim has [ ]
+-- what holds of a request's call holds of its plan's
+pub with_by : (P : Update → Type 0) (j : Request) (by : Plan) → IsChangeWith P j → IsChangeBy j by → P by.update
+with_by P (request.Change plan text) by has is = subst (λ (p : Plan). P p.update) is has
+with_by P (request.Visit visit) by has is = elim has [ ]
+with_by P (request.Maintenance on) by has is = elim has [ ]
+with_by P request.Given by has is = elim has [ ]
 
-pub over_all : (P Q : Update → Type 0) (j : Job) → ((u : Update) → P u → Q u) → IsChangeWith P j → IsChangeWith Q j
-over_all P Q (job.Change plan text) more has = more plan.update has
-over_all P Q (job.Visit visit) more has = elim has [ ]
-over_all P Q (job.Maintenance on) more has = elim has [ ]
-over_all P Q job.Given more has = elim has [ ]
+pub over_all : (P Q : Update → Type 0) (j : Request) → ((u : Update) → P u → Q u) → IsChangeWith P j → IsChangeWith Q j
+over_all P Q (request.Change plan text) more has = more plan.update has
+over_all P Q (request.Visit visit) more has = elim has [ ]
+over_all P Q (request.Maintenance on) more has = elim has [ ]
+over_all P Q request.Given more has = elim has [ ]
 
-pub by_with : (P : Update → Type 0) (j : Job) (by : Plan) → P by.update → IsChangeBy j by → IsChangeWith P j
-by_with P (job.Change plan text) by has is = subst (λ (p : Plan). P p.update) (sym is) has
-by_with P (job.Visit visit) by has is = elim is [ ]
-by_with P (job.Maintenance on) by has is = elim is [ ]
-by_with P job.Given by has is = elim is [ ]
+pub by_with : (P : Update → Type 0) (j : Request) (by : Plan) → P by.update → IsChangeBy j by → IsChangeWith P j
+by_with P (request.Change plan text) by has is = subst (λ (p : Plan). P p.update) (sym is) has
+by_with P (request.Visit visit) by has is = elim is [ ]
+by_with P (request.Maintenance on) by has is = elim is [ ]
+by_with P request.Given by has is = elim is [ ]
 
 -- ---- growths
 
-block_lent : (shared : Shared) (slots : List ℕ) (hand : Hand) (looked : Looked) (u : Update) → IsChecked shared slots hand looked u
+block_lent : (shared : Shared) (slots : List ℕ) (hand : Hand) (looked : LookupResult) (u : Update) → IsChecked shared slots hand looked u
     → block_in (lent_cells slots shared.cells.items) ≡ shared.geometry.numbers.block
 block_lent shared slots hand looked u is = block_same shared slots (handles looked (blank_call u)) is.read is.some
 
@@ -82,7 +82,7 @@ all_small g [] few all = tt
 all_small g (b ∷ bs) few all = (omega (arith, all.0, few), all_small g bs few all.1)
 
 -- a call that is checked and has its data blocks can be made ready
-pub can_ready : (shared : Shared) (slots : List ℕ) (hand : Hand) (looked : Looked) (u : Update) → IsWithinLimits shared.geometry.numbers
+pub can_ready : (shared : Shared) (slots : List ℕ) (hand : Hand) (looked : LookupResult) (u : Update) → IsWithinLimits shared.geometry.numbers
     → IsOfDevice shared.geometry.numbers hand → IsHandOf shared.geometry.numbers hand → IsChecked shared slots hand looked u
     → length hand.«data».blocks ≡ blocks_to_take shared slots u → CanReady (lent_cells slots shared.cells.items) hand u
 can_ready shared slots hand looked u limits device sizes is count =
@@ -108,7 +108,7 @@ can_ready shared slots hand looked u limits device sizes is count =
 -- ---- the machine's plan
 
 -- what holds of all handles that a call locks holds of those that it names
-named_of : (P : Handle → Type 0) (looked : Looked) (c : Call) → AllByRecursion P (handles looked c)
+named_of : (P : Handle → Type 0) (looked : LookupResult) (c : Call) → AllByRecursion P (handles looked c)
     → AllByRecursion P (handles nothing_looked c)
 named_of P looked (call.Unlink dir name) all = (all.0, tt)
 named_of P looked (call.Rmdir dir name) all = (all.0, tt)
@@ -125,7 +125,7 @@ named_of P looked (call.Maintenance on) all = all
 named_of P looked (call.Lookup dir name) all = all
 
 -- the names of a checked call lead in the machine to what its looks found
-pub found_same : (shared : Shared) (slots : List ℕ) (hand : Hand) (looked : Looked) (u : Update) → IsChecked shared slots hand looked u
+pub found_same : (shared : Shared) (slots : List ℕ) (hand : Hand) (looked : LookupResult) (u : Update) → IsChecked shared slots hand looked u
     → found_in (copies (shared_of shared)) (blank_call u) ≡ looked
 found_same shared slots hand looked u is =
     let c = blank_call u in
@@ -136,36 +136,36 @@ found_same shared slots hand looked u is =
     ∙ is.same
 
 -- the plan of a checked call over its lent cells is the machine's
-pub plan_same : (shared : Shared) (slots : List ℕ) (hand : Hand) (looked : Looked) (u : Update) (text : List ℕ) (made : Handle)
+pub plan_same : (shared : Shared) (slots : List ℕ) (hand : Hand) (looked : LookupResult) (u : Update) (text : List ℕ) (made : Handle)
     (present : Bool)
     → IsChecked shared slots hand looked u → HasMade shared slots hand made u → text_len u ≡ length text
     → plan shared.geometry.numbers.block (copies (shared_of shared))
     (record { made = made; runs = runs_of (numbers_of hand.«data».blocks); present = present }) (call_of u text)
     ≡ planned_by (lent_cells slots shared.cells.items) hand u
 plan_same shared slots hand looked u text made present is has len =
-    let taken : Taken = record { made = made; runs = runs_of (numbers_of hand.«data».blocks); present = present } in
+    let taken : Allocation = record { made = made; runs = runs_of (numbers_of hand.«data».blocks); present = present } in
     let all = copies (shared_of shared) in
     let blank = same_plan shared.geometry.numbers.block all (has_page_in (lent_cells slots shared.cells.items)) taken u text (sym len) in
     let here : handles looked (blank_call u) ≡ handles (found_in all (call_of u text)) (call_of u text) =
-    ap (λ (l : Looked). handles l (blank_call u)) (sym (found_same shared slots hand looked u is)) ∙ sym blank.handles in
+    ap (λ (l : LookupResult). handles l (blank_call u)) (sym (found_same shared slots hand looked u is)) ∙ sym blank.handles in
     planned_same shared slots hand u text made present (subst (CanRead shared slots) here is.read) is.some len has
 
--- a job's call wants as many log pages as in the machine
-pub wanted_same : (shared : Shared) (slots : List ℕ) (hand : Hand) (looked : Looked) (made : Handle) (j : Job) (owed : Owed) (c : Call)
-    (present : Bool) (n : ℕ) → IsJobOf j owed c → IsChangeWith (λ
+-- a request's call wants as many log pages as in the machine
+pub wanted_same : (shared : Shared) (slots : List ℕ) (hand : Hand) (looked : LookupResult) (made : Handle) (j : Request) (owed : PendingAnswer) (c : Call)
+    (present : Bool) (n : ℕ) → IsRequestOf j owed c → IsChangeWith (λ
     (u : Update). HasMade shared slots hand made u × IsChecked shared slots hand looked u) j
     → IsChangeWith (λ (u : Update). n ≡ pages_to_take shared slots hand u) j
     → pages_wanted (shared_of shared) slots (plan shared.geometry.numbers.block (copies (shared_of shared))
     (record { made = made; runs = runs_of (numbers_of hand.«data».blocks); present = present }) c) ≡ n
-wanted_same shared slots hand looked made (job.Change by text) owed c present n is has wants =
-    let taken : Taken = record { made = made; runs = runs_of (numbers_of hand.«data».blocks); present = present } in
+wanted_same shared slots hand looked made (request.Change by text) owed c present n is has wants =
+    let taken : Allocation = record { made = made; runs = runs_of (numbers_of hand.«data».blocks); present = present } in
     ap (λ (d : Call). pages_wanted (shared_of shared) slots (plan shared.geometry.numbers.block (copies (shared_of shared)) taken d)) is.0
     ∙ ap (pages_wanted (shared_of shared) slots) (plan_same shared slots hand looked by.update text made present has.1 has.0 is.1)
     ∙ sym (pages_same shared slots (planned_by (lent_cells slots shared.cells.items) hand by.update) has.1.read.there)
     ∙ sym wants
-wanted_same shared slots hand looked made (job.Visit visit) owed c present n is has wants = elim has [ ]
-wanted_same shared slots hand looked made (job.Maintenance on) owed c present n is has wants = elim has [ ]
-wanted_same shared slots hand looked made job.Given owed c present n is has wants = elim has [ ]
+wanted_same shared slots hand looked made (request.Visit visit) owed c present n is has wants = elim has [ ]
+wanted_same shared slots hand looked made (request.Maintenance on) owed c present n is has wants = elim has [ ]
+wanted_same shared slots hand looked made request.Given owed c present n is has wants = elim has [ ]
 
 -- ---- the turn
 
@@ -174,26 +174,26 @@ pub none_wanted : (n wanted : ℕ) (s : machine.Shared) (h : machine.HandState) 
 none_wanted n wanted s h r same none = rw (none, same ∙ none) refl
 
 pub some_wanted : (n wanted : ℕ) (s : machine.Shared) (h : machine.HandState) (r : machine.Running) → n ≡ wanted → (wanted ≡ 0 → ⊥)
-    → wants_pages n s h r ≡ machine.Moves s h (record r { wanted = wanted; next = machine.TakePages 0 })
+    → wants_pages n s h r ≡ machine.Moves s h (record r { wanted = wanted; next = machine.TakeLogPages 0 })
 some_wanted n zero s h r same some = absurd (some refl)
 some_wanted n (suc wanted) s h r same some = rw same refl
 
 -- ---- what holds before the next step
 
-pub with_both : (P Q : Update → Type 0) (j : Job) → IsChangeWith P j → IsChangeWith Q j → IsChangeWith (λ (u : Update). P u × Q u) j
-with_both P Q (job.Change plan text) one other = (one, other)
-with_both P Q (job.Visit visit) one other = elim one [ ]
-with_both P Q (job.Maintenance on) one other = elim one [ ]
-with_both P Q job.Given one other = elim one [ ]
+pub with_both : (P Q : Update → Type 0) (j : Request) → IsChangeWith P j → IsChangeWith Q j → IsChangeWith (λ (u : Update). P u × Q u) j
+with_both P Q (request.Change plan text) one other = (one, other)
+with_both P Q (request.Visit visit) one other = elim one [ ]
+with_both P Q (request.Maintenance on) one other = elim one [ ]
+with_both P Q request.Given one other = elim one [ ]
 
-pub is_changed : (P : Update → Type 0) (j : Job) → IsChangeWith P j → is_change j ≡ true
-is_changed P (job.Change plan text) has = refl
-is_changed P (job.Visit visit) has = elim has [ ]
-is_changed P (job.Maintenance on) has = elim has [ ]
-is_changed P job.Given has = elim has [ ]
+pub is_changed : (P : Update → Type 0) (j : Request) → IsChangeWith P j → is_change j ≡ true
+is_changed P (request.Change plan text) has = refl
+is_changed P (request.Visit visit) has = elim has [ ]
+is_changed P (request.Maintenance on) has = elim has [ ]
+is_changed P request.Given has = elim has [ ]
 
 -- the room that it has once it wants log pages
-module _ (shared : Shared) (slots : List ℕ) (hand : Hand) (looked : Looked) (made : Handle) (u : Update) where
+module _ (shared : Shared) (slots : List ℕ) (hand : Hand) (looked : LookupResult) (made : Handle) (u : Update) where
   abbrev Has : Type 0
   Has = HasMade shared slots hand made u × IsChecked shared slots hand looked u × HasItsBlocks shared slots hand u
 
@@ -226,40 +226,40 @@ module _ (shared : Shared) (slots : List ℕ) (hand : Hand) (looked : Looked) (m
     ),
   )
 
--- a call's job stays, and it goes on to take
-pub fits_still : (running new : Running) → FitsCall running → new.job ≡ running.job → new.looked ≡ running.looked
+-- a call's request stays, and it goes on to take
+pub fits_still : (running new : Running) → FitsCall running → new.request ≡ running.request → new.looked ≡ running.looked
     → new.ending ≡ running.ending
-    → FitsNext new.next new.job → FitsCall new
-fits_still running new fits job looked ending before = record {
+    → FitsNext new.next new.request → FitsCall new
+fits_still running new fits request looked ending before = record {
   before = before;
-  looks = subst₂ (λ (j : Job) (l : Looked). LooksAsTold j l) (sym job) (sym looked) fits.looks;
-  overtaken = λ is. subst (λ (j : Job). IsLookAt 0 j) (sym job) (fits.overtaken (sym ending ∙ is));
+  looks = subst₂ (λ (j : Request) (l : LookupResult). LooksAsTold j l) (sym request) (sym looked) fits.looks;
+  overtaken = λ is. subst (λ (j : Request). IsLookAt 0 j) (sym request) (fits.overtaken (sym ending ∙ is));
 }
 
 pub rooms_none : (shared now : Shared) (hand : Hand) (running : Running) (n : ℕ) → IsHandOf shared.geometry.numbers hand → FitsCall running
     → CanWantPages shared hand running → n ≡ 0 → IsChangeWith (λ (u : Update). n ≡ pages_to_take shared
-    (slots_in running.slots) hand u) running.job
-    → now ≡ shared → HasRooms now (hold.Hand hand) (record running { wanted = n; next = next.Ready })
+    (slots_in running.slots) hand u) running.request
+    → now ≡ shared → HasRooms now (reserved.Hand hand) (record running { wanted = n; next = next.Ready })
 rooms_none shared now hand running n sizes fits can none wants same =
-    subst (λ (s : Shared). HasRooms s (hold.Hand hand) (record running { wanted = n; next = next.Ready })) (sym same) (
-      fits_still running (record running { wanted = n; next = next.Ready }) fits refl refl refl (is_changed _ running.job can),
+    subst (λ (s : Shared). HasRooms s (reserved.Hand hand) (record running { wanted = n; next = next.Ready })) (sym same) (
+      fits_still running (record running { wanted = n; next = next.Ready }) fits refl refl refl (is_changed _ running.request can),
       sizes,
-      over_all _ _ running.job (λ u h. taken_none shared (slots_in running.slots) hand running.looked running.made u h.0 n none h.1)
-          (with_both _ _ running.job can wants),
+      over_all _ _ running.request (λ u h. taken_none shared (slots_in running.slots) hand running.looked running.made u h.0 n none h.1)
+          (with_both _ _ running.request can wants),
       tt,
     )
 
 pub rooms_next : (shared now : Shared) (hand : Hand) (running : Running) (n : ℕ) → IsWithinLimits shared.geometry.numbers → AreHome shared
     → IsHandOf shared.geometry.numbers hand → FitsCall running → CanWantPages shared hand running
-    → IsChangeWith (λ (u : Update). n ≡ pages_to_take shared (slots_in running.slots) hand u) running.job
+    → IsChangeWith (λ (u : Update). n ≡ pages_to_take shared (slots_in running.slots) hand u) running.request
     → n ≤ length hand.«data».blocks + MORE_PAGES
-    → now ≡ shared → HasRooms now (hold.Hand hand) (record running { wanted = n; next = next.TakePages 0 })
+    → now ≡ shared → HasRooms now (reserved.Hand hand) (record running { wanted = n; next = next.TakeLogPages 0 })
 rooms_next shared now hand running n limits home sizes fits can wants few same =
-    subst (λ (s : Shared). HasRooms s (hold.Hand hand) (record running { wanted = n; next = next.TakePages 0 })) (sym same) (
-      fits_still running (record running { wanted = n; next = next.TakePages 0 }) fits refl refl refl (is_changed _ running.job can),
+    subst (λ (s : Shared). HasRooms s (reserved.Hand hand) (record running { wanted = n; next = next.TakeLogPages 0 })) (sym same) (
+      fits_still running (record running { wanted = n; next = next.TakeLogPages 0 }) fits refl refl refl (is_changed _ running.request can),
       sizes,
-      over_all _ _ running.job (λ u h.
+      over_all _ _ running.request (λ u h.
           taken_next shared (slots_in running.slots) hand running.looked running.made u h.0 limits home n h.1 few)
-          (with_both _ _ running.job can wants),
+          (with_both _ _ running.request can wants),
       tt,
     )

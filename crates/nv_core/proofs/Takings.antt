@@ -8,19 +8,19 @@ use Rattle.nv_base.specs.Limits.{IsWithinLimits}
 use Rattle.nv_base.specs.declared.fault.Fault.TheVariants.{NoSpace}
 use Rattle.nv_base.specs.declared.geometry.GeometryNumbers.{GeometryNumbers}
 use Rattle.nv_base.specs.declared.numbers.Handle.{Handle}
-use Rattle.nv_calls.specs.declared.looked.Looked.{Looked}
+use Rattle.nv_calls.specs.declared.looked.LookupResult.{LookupResult}
 use Rattle.nv_calls.specs.declared.update.Update.{Update}
-use Rattle.nv_machine.specs.Kinds.{again_turn, blocks_turn, drained_turn, end_turn, last_turn, less_list, over_turn, pages_turn, refuse, rest_turn, take_blocks_turn, take_pages_turn}
+use Rattle.nv_machine.specs.Kinds.{again_turn, blocks_turn, drained_turn, end_turn, last_turn, less_list, over_turn, pages_turn, refuse, rest_turn, take_blocks_turn, take_log_pages_turn}
 use Rattle.nv_machine.specs.World as machine
 use Rattle.nv_machine.specs.World.{list_at}
 use Rattle.nv_core.proofs.Takes.{fits_still, is_changed, over_all}
 use Rattle.nv_core.specs.Parts.{AreHome, AreListsOf}
 use Rattle.nv_core.specs.Rooms.{CanWantPages, HasItsBlocks, HasMade, HasRooms, HasRoomsAfter, HasTaken, IsChecked, IsHandOf, Takes, TakesBlocks, TakesIf, TakesPages, blocks_to_take, pages_to_take, takes}
-use Rattle.nv_core.specs.Shown.{Told, hand_of, shared_of, shown, slots_in, turn_of}
+use Rattle.nv_core.specs.Shown.{GhostCall, hand_of, shared_of, shown, slots_in, turn_of}
 use Rattle.nv_core.specs.Takings.{IsTaken}
-use Rattle.nv_core.specs.Told.{IsChangeWith}
-use Rattle.nv_core.specs.declared.hold.Hold.{Hold}
-use Rattle.nv_core.specs.declared.hold.Hold.TheVariants as hold
+use Rattle.nv_core.specs.GhostCalls.{IsChangeWith}
+use Rattle.nv_core.specs.declared.reservation.Reservation.{Reservation}
+use Rattle.nv_core.specs.declared.reservation.Reservation.TheVariants as reserved
 use Rattle.nv_core.specs.declared.next.Next.{Next}
 use Rattle.nv_core.specs.declared.next.Next.TheVariants as next
 use Rattle.nv_core.specs.declared.running.Running.{Running}
@@ -75,7 +75,7 @@ blocks_none zero asked block s h r some = absurd (some refl)
 blocks_none (suc n) asked block s h r some = refl
 
 pub pages_more : (left asked : ℕ) (s : machine.Shared) (h : machine.HandState) (r : machine.Running) → (left ≡ 0 → ⊥)
-    → pages_turn left true asked s h r ≡ machine.Moves s h (record r { wanted = left; next = machine.TakePages (asked + 1) })
+    → pages_turn left true asked s h r ≡ machine.Moves s h (record r { wanted = left; next = machine.TakeLogPages (asked + 1) })
 pages_more zero asked s h r some = absurd (some refl)
 pages_more (suc n) asked s h r some = refl
 
@@ -85,7 +85,7 @@ pages_none zero asked s h r some = absurd (some refl)
 pages_none (suc n) asked s h r some = refl
 
 -- where some blocks are still wanted: the call goes on to the next list, or is refused
-pub asked_turn : (told : Told) (result : Turn) (s : machine.Shared) (h : machine.HandState) (running new goes : Running) (asked n many : ℕ)
+pub asked_turn : (told : GhostCall) (result : Turn) (s : machine.Shared) (h : machine.HandState) (running new goes : Running) (asked n many : ℕ)
     (f : Bool → machine.Turn) → n ≡ many → (asked + 1 < n → (result ≡ turn.Moves) × (new ≡ goes))
     → (n ≤ asked + 1 → refuse NoSpace s h (shown told running) ≡ turn_of result s h (shown told new))
     → f true ≡ machine.Moves s h (shown told goes) → f false ≡ refuse NoSpace s h (shown told running)
@@ -97,16 +97,16 @@ asked_turn told result s h running new goes asked n many f same more none here t
       here ∙ sym (ap (λ (t : Turn). turn_of t s h (shown told new)) is.0 ∙ ap (λ (r : Running). machine.Moves s h (shown told r)) is.1)
   go false q = there ∙ none (omega (arith, same, ltb-false (asked + 1) many q))
 
-pub asked_rooms : (result : Turn) (shared : Shared) (hold : Hold) (new goes : Running) (asked n : ℕ)
-    → (asked + 1 < n → (result ≡ turn.Moves) × (new ≡ goes)) → (n ≤ asked + 1 → HasRoomsAfter result shared hold new)
-    → (asked + 1 < n → HasRooms shared hold goes) → HasRoomsAfter result shared hold new
-asked_rooms result shared hold new goes asked n more none rooms = go (nat_lt (asked + 1) n) refl where
-  go : (b : Bool) → nat_lt (asked + 1) n ≡ b → HasRoomsAfter result shared hold new
+pub asked_rooms : (result : Turn) (shared : Shared) (reserved : Reservation) (new goes : Running) (asked n : ℕ)
+    → (asked + 1 < n → (result ≡ turn.Moves) × (new ≡ goes)) → (n ≤ asked + 1 → HasRoomsAfter result shared reserved new)
+    → (asked + 1 < n → HasRooms shared reserved goes) → HasRoomsAfter result shared reserved new
+asked_rooms result shared reserved new goes asked n more none rooms = go (nat_lt (asked + 1) n) refl where
+  go : (b : Bool) → nat_lt (asked + 1) n ≡ b → HasRoomsAfter result shared reserved new
   go true q =
       let lt = ltb-true (asked + 1) n q in
       let is = more lt in
-      subst (λ (t : Turn). HasRoomsAfter t shared hold new) (sym is.0)
-      (subst (λ (r : Running). HasRooms shared hold r) (sym is.1) (rooms lt))
+      subst (λ (t : Turn). HasRoomsAfter t shared reserved new) (sym is.0)
+      (subst (λ (r : Running). HasRooms shared reserved r) (sym is.1) (rooms lt))
   go false q = none (ltb-false (asked + 1) n q)
 
 -- ---- the shared parts and the hand that the machine has after it
@@ -119,7 +119,7 @@ less_shared old new below n cpu before after rest is =
 
 -- ---- what the call has found stays
 
-module _ (old new : Shared) (slots : List ℕ) (hand after : Hand) (looked : Looked) (u : Update) (geometry : new.geometry ≡ old.geometry)
+module _ (old new : Shared) (slots : List ℕ) (hand after : Hand) (looked : LookupResult) (u : Update) (geometry : new.geometry ≡ old.geometry)
     (cells : new.cells ≡ old.cells) (ino : after.ino ≡ hand.ino) where
   pub made_moved : (made : Handle) → HasMade old slots hand made u → HasMade new slots after made u
   made_moved made has = rw (cells, ino) has
@@ -141,15 +141,15 @@ module _ (old new : Shared) (slots : List ℕ) (hand after : Hand) (looked : Loo
 
 -- what a call has before a taking
 pub takes_at : (shared : Shared) (hand : Hand) (running : Running) (n : Next) → running.next ≡ n → takes n ≡ true
-    → HasRooms shared (hold.Hand hand) running
+    → HasRooms shared (reserved.Hand hand) running
     → IsChangeWith (λ (u : Update). HasMade shared (slots_in running.slots) hand running.made u
-    × Takes n shared (slots_in running.slots) hand running.wanted running.looked u) running.job
+    × Takes n shared (slots_in running.slots) hand running.wanted running.looked u) running.request
 takes_at shared hand running n at is has =
     subst (λ (m : Next). IsChangeWith (λ (u : Update). HasMade shared (slots_in running.slots) hand running.made u
-    × Takes m shared (slots_in running.slots) hand running.wanted running.looked u) running.job) at
+    × Takes m shared (slots_in running.slots) hand running.wanted running.looked u) running.request) at
     (subst (λ (b : Bool). TakesIf b shared hand running) (ap takes at ∙ is) has.2)
 
-module _ (old new : Shared) (slots : List ℕ) (hand : Hand) (looked : Looked) (made : Handle) (u : Update) (below n cpu asked : ℕ)
+module _ (old new : Shared) (slots : List ℕ) (hand : Hand) (looked : LookupResult) (made : Handle) (u : Update) (below n cpu asked : ℕ)
     (list : FreeBlocks)
     (queue : QueueValue) (geometry : new.geometry ≡ old.geometry) (cells : new.cells ≡ old.cells) where
   -- data blocks
@@ -244,7 +244,7 @@ module _ (old new : Shared) (slots : List ℕ) (hand : Hand) (looked : Looked) (
 pub less_wanted : (n len left : ℕ) → left ≡ n - min n len → n - len ≡ left
 less_wanted n len left q = omega (arith, q)
 
-module _ (told : Told) (old new : Shared) (hand : Hand) (running : Running) (queue : QueueValue) (below cpu asked left : ℕ)
+module _ (told : GhostCall) (old new : Shared) (hand : Hand) (running : Running) (queue : QueueValue) (below cpu asked left : ℕ)
     (rest : new ≡ record old { lists = new.lists }) (q : left ≡ running.wanted - min running.wanted (length (list_at
     (shared_of old) cpu).blocks)) where
   abbrev s : machine.Shared
@@ -269,7 +269,7 @@ module _ (told : Told) (old new : Shared) (hand : Hand) (running : Running) (que
       ∙ ap (λ (v : QueueValue). blocks_turn left more asked block (shared_of new) (hand_of (record hand { «data» = v })) r) (sym is.queue)
 
   pub pages_became : IsTaken below running.wanted cpu (list_at s cpu) old.lists.items new.lists.items hand.pages queue
-      → take_pages_turn cpu asked s (hand_of hand) r
+      → take_log_pages_turn cpu asked s (hand_of hand) r
       ≡ pages_turn left more asked (shared_of new) (hand_of (record hand { pages = queue })) r
   pages_became is =
       let h = record (hand_of hand) { pages = hand.pages.blocks ++ take running.wanted (list_at s cpu).blocks } in
@@ -282,7 +282,7 @@ module _ (told : Told) (old new : Shared) (hand : Hand) (running : Running) (que
 -- ---- what holds of the call after it
 
 module _ (old new : Shared) (hand : Hand) (running : Running) (queue : QueueValue) (below cpu asked : ℕ) (list : FreeBlocks)
-    (rest : new ≡ record old { lists = new.lists }) (has : HasRooms old (hold.Hand hand) running) where
+    (rest : new ≡ record old { lists = new.lists }) (has : HasRooms old (reserved.Hand hand) running) where
   abbrev geometry : new.geometry ≡ old.geometry
   geometry = ap (λ (t : Shared). t.geometry) rest
 
@@ -304,18 +304,18 @@ module _ (old new : Shared) (hand : Hand) (running : Running) (queue : QueueValu
     pub want_after : 0 ≡ running.wanted - min running.wanted (length list.blocks) → CanWantPages new
         (record hand { «data» = queue }) running
     want_after none =
-        over_all _ _ running.job (λ u h.
+        over_all _ _ running.request (λ u h.
         blocks_taken old new slots hand running.looked running.made u below running.wanted cpu asked list queue geometry cells is h none)
         (takes_at old hand running (next.TakeBlocks asked) at refl has)
 
     pub rooms_blocks : (left : ℕ) → left ≡ running.wanted - min running.wanted (length list.blocks) → asked + 1 < length new.lists.items
-        → HasRooms new (hold.Hand (record hand { «data» = queue })) (record running { wanted = left; next = next.TakeBlocks (asked + 1) })
+        → HasRooms new (reserved.Hand (record hand { «data» = queue })) (record running { wanted = left; next = next.TakeBlocks (asked + 1) })
     rooms_blocks left q lt =
         let had = takes_at old hand running (next.TakeBlocks asked) at refl has in (
           fits_still running (record running { wanted = left; next = next.TakeBlocks (asked + 1) }) has.0 refl refl refl
-              (is_changed _ running.job had),
+              (is_changed _ running.request had),
           hand_moved (record hand { «data» = queue }) (ap (λ (v : QueueValue). v.size) is.queue) refl,
-          over_all _ _ running.job (λ u h.
+          over_all _ _ running.request (λ u h.
               blocks_next old new slots hand running.looked running.made u below running.wanted cpu asked list queue geometry cells is h
               left
               (asked + 1) q lt)
@@ -323,15 +323,15 @@ module _ (old new : Shared) (hand : Hand) (running : Running) (queue : QueueValu
           tt,
         )
 
-  module _ (at : running.next ≡ next.TakePages asked)
+  module _ (at : running.next ≡ next.TakeLogPages asked)
       (is : IsTaken below running.wanted cpu list old.lists.items new.lists.items hand.pages queue) where
     pub rooms_taken : 0 ≡ running.wanted - min running.wanted (length list.blocks)
-        → HasRooms new (hold.Hand (record hand { pages = queue })) (record running { wanted = 0; next = next.Ready })
+        → HasRooms new (reserved.Hand (record hand { pages = queue })) (record running { wanted = 0; next = next.Ready })
     rooms_taken none =
-        let had = takes_at old hand running (next.TakePages asked) at refl has in (
-          fits_still running (record running { wanted = 0; next = next.Ready }) has.0 refl refl refl (is_changed _ running.job had),
+        let had = takes_at old hand running (next.TakeLogPages asked) at refl has in (
+          fits_still running (record running { wanted = 0; next = next.Ready }) has.0 refl refl refl (is_changed _ running.request had),
           hand_moved (record hand { pages = queue }) refl (ap (λ (v : QueueValue). v.size) is.queue),
-          over_all _ _ running.job (λ u h.
+          over_all _ _ running.request (λ u h.
               pages_taken old new slots hand running.looked running.made u below running.wanted cpu asked list queue geometry cells is h
               none)
               had,
@@ -339,13 +339,13 @@ module _ (old new : Shared) (hand : Hand) (running : Running) (queue : QueueValu
         )
 
     pub rooms_pages : (left : ℕ) → left ≡ running.wanted - min running.wanted (length list.blocks) → asked + 1 < length new.lists.items
-        → HasRooms new (hold.Hand (record hand { pages = queue })) (record running { wanted = left; next = next.TakePages (asked + 1) })
+        → HasRooms new (reserved.Hand (record hand { pages = queue })) (record running { wanted = left; next = next.TakeLogPages (asked + 1) })
     rooms_pages left q lt =
-        let had = takes_at old hand running (next.TakePages asked) at refl has in (
-          fits_still running (record running { wanted = left; next = next.TakePages (asked + 1) }) has.0 refl refl refl
-              (is_changed _ running.job had),
+        let had = takes_at old hand running (next.TakeLogPages asked) at refl has in (
+          fits_still running (record running { wanted = left; next = next.TakeLogPages (asked + 1) }) has.0 refl refl refl
+              (is_changed _ running.request had),
           hand_moved (record hand { pages = queue }) refl (ap (λ (v : QueueValue). v.size) is.queue),
-          over_all _ _ running.job (λ u h.
+          over_all _ _ running.request (λ u h.
               pages_next old new slots hand running.looked running.made u below running.wanted cpu asked list queue geometry cells is h left
               (asked + 1) q lt)
               had,

@@ -6,14 +6,14 @@ use Rattle.nv_calls.specs.declared.call.Call.{Call}
 use Rattle.nv_machine.specs.Step as machine_step
 use Rattle.nv_machine.specs.World as machine
 use Rattle.nv_core.specs.Rooms.{FitsCall, FitsNext}
-use Rattle.nv_core.specs.Shown.{Told, hand_of, next_of, shared_of, shown, turn_of}
-use Rattle.nv_core.specs.Told.{IsEither, IsJobOf, IsOwed, IsToldOf, KeepsJob, OwesAt}
+use Rattle.nv_core.specs.Shown.{GhostCall, hand_of, next_of, shared_of, shown, turn_of}
+use Rattle.nv_core.specs.GhostCalls.{IsEither, IsRequestOf, IsOwed, IsGhostCallOf, KeepsRequest, OwesAt}
 use Rattle.nv_core.specs.Turns.{IsTurn, ShowsAfter}
 use Rattle.nv_core.specs.Worlds.{ShowsCall, told_of}
-use Rattle.nv_core.specs.declared.hold.Hold.TheVariants as hold
-use Rattle.nv_core.specs.declared.job.Job.{Job}
-use Rattle.nv_core.specs.declared.job.Job.TheVariants as job
-use Rattle.nv_core.specs.declared.job.Owed.{Owed}
+use Rattle.nv_core.specs.declared.reservation.Reservation.TheVariants as reserved
+use Rattle.nv_core.specs.declared.request.Request.{Request}
+use Rattle.nv_core.specs.declared.request.Request.TheVariants as request
+use Rattle.nv_core.specs.declared.request.PendingAnswer.{PendingAnswer}
 use Rattle.nv_core.specs.declared.next.Next.{Next}
 use Rattle.nv_core.specs.declared.next.Next.TheVariants as next
 use Rattle.nv_core.specs.declared.running.Running.{Running}
@@ -26,34 +26,34 @@ pub either : (by : Bool → machine.Turn) (result : machine.Turn) → IsEither b
 either by result (inl e) = (true, e)
 either by result (inr e) = (false, e)
 
-pub told_same : (old new : Running) (told : Told) → KeepsJob old new → IsToldOf old told → IsToldOf new told
+pub told_same : (old new : Running) (told : GhostCall) → KeepsRequest old new → IsGhostCallOf old told → IsGhostCallOf new told
 told_same old new told keeps is =
-    subst (λ (j : Job). IsJobOf j new.owed told.call) (sym keeps.job)
-    (subst (λ (o : Owed). IsJobOf old.job o told.call) (sym keeps.owed) is)
+    subst (λ (j : Request). IsRequestOf j new.owed told.call) (sym keeps.request)
+    (subst (λ (o : PendingAnswer). IsRequestOf old.request o told.call) (sym keeps.owed) is)
 
 -- the turn of a kind, with the memory granted or not, for whatever is told of the call
 abbrev pub TurnsAlone : Next → ℕ → Shared → Hand → Running → Turn → Shared → Hand → Running → Type 0
 TurnsAlone next actor shared hand running result shared_after hand_after after =
-    (told : Told) → IsToldOf running told
+    (told : GhostCall) → IsGhostCallOf running told
     → (granted : Bool) × (machine_step.kind_turn (next_of next) shared.geometry.numbers.block actor granted (shared_of shared)
     (hand_of hand)
     (shown told running)
     ≡ turn_of result (shared_of shared_after) (hand_of hand_after) (shown told after))
 
-shows_after : (result : Turn) (hand : Hand) (after : Running) (told : Told) → IsToldOf after told
-    → ShowsAfter result (hold.Hand hand) after (shown told after)
-shows_after turn.Moves hand after told is = record { shown = refl; job = is; plan = tt; place = tt }
-shows_after turn.Waits hand after told is = record { shown = refl; job = is; plan = tt; place = tt }
+shows_after : (result : Turn) (hand : Hand) (after : Running) (told : GhostCall) → IsGhostCallOf after told
+    → ShowsAfter result (reserved.Hand hand) after (shown told after)
+shows_after turn.Moves hand after told is = record { shown = refl; request = is; plan = tt; place = tt }
+shows_after turn.Waits hand after told is = record { shown = refl; request = is; plan = tt; place = tt }
 shows_after (turn.Ends result) hand after told is = tt
 
 turned : (next : Next) (actor : ℕ) (shared : Shared) (hand : Hand) (running : Running) (r : machine.Running) (result : Turn)
-    (shared_after : Shared) (hand_after : Hand) (after : Running) → running.next ≡ next → ShowsCall (hold.Hand hand) running r
-    → ((told : Told) → IsToldOf running told → ShowsAfter result (hold.Hand hand_after) after (shown told after))
+    (shared_after : Shared) (hand_after : Hand) (after : Running) → running.next ≡ next → ShowsCall (reserved.Hand hand) running r
+    → ((told : GhostCall) → IsGhostCallOf running told → ShowsAfter result (reserved.Hand hand_after) after (shown told after))
     → TurnsAlone next actor shared hand running result shared_after hand_after after
-    → IsTurn actor shared (hold.Hand hand) r result shared_after (hold.Hand hand_after) after
+    → IsTurn actor shared (reserved.Hand hand) r result shared_after (reserved.Hand hand_after) after
 turned next actor shared hand running r result shared_after hand_after after here shows then by =
     let told = told_of r in
-    let one = by told shows.job in
+    let one = by told shows.request in
     record {
       granted = one.0;
       after = shown told after;
@@ -62,15 +62,15 @@ turned next actor shared hand running r result shared_after hand_after after her
           ∙ ap (λ (n : Next). machine_step.kind_turn (next_of n) shared.geometry.numbers.block actor one.0 (shared_of shared) (hand_of hand)
           (shown told running)) here
           ∙ one.1;
-      shows = then told shows.job;
+      shows = then told shows.request;
     }
 
 -- a call whose hand is alone
 pub turns_alone : (next : Next) (actor : ℕ) (shared : Shared) (hand : Hand) (running : Running) (r : machine.Running) (result : Turn)
-    (shared_after : Shared) (hand_after : Hand) (after : Running) → running.next ≡ next → ShowsCall (hold.Hand hand) running r
-    → KeepsJob running after
+    (shared_after : Shared) (hand_after : Hand) (after : Running) → running.next ≡ next → ShowsCall (reserved.Hand hand) running r
+    → KeepsRequest running after
     → TurnsAlone next actor shared hand running result shared_after hand_after after
-    → IsTurn actor shared (hold.Hand hand) r result shared_after (hold.Hand hand_after) after
+    → IsTurn actor shared (reserved.Hand hand) r result shared_after (reserved.Hand hand_after) after
 turns_alone next actor shared hand running r result shared_after hand_after after here shows keeps =
     turned next actor shared hand running r result shared_after hand_after after here shows
     (λ told is. shows_after result hand_after after told (told_same running after told keeps is))
@@ -78,55 +78,55 @@ turns_alone next actor shared hand running r result shared_after hand_after afte
 -- ---- what is owed
 
 -- a call at its last steps is told what it is owed
-owed_by : (j : Job) (owed : Owed) (c : Call) → FitsNext next.Back j → IsJobOf j owed c → IsOwed owed c
-owed_by (job.Change plan text) owed c fits is = is.2
-owed_by (job.Visit visit) owed c fits is = absurd fits
-owed_by (job.Maintenance on) owed c fits is = is.1
-owed_by job.Given owed c fits is = is
+owed_by : (j : Request) (owed : PendingAnswer) (c : Call) → FitsNext next.ReturnNumber j → IsRequestOf j owed c → IsOwed owed c
+owed_by (request.Change plan text) owed c fits is = is.2
+owed_by (request.Visit visit) owed c fits is = absurd fits
+owed_by (request.Maintenance on) owed c fits is = is.1
+owed_by request.Given owed c fits is = is
 
-last_unlock : (place : ℕ) (j : Job) → FitsNext (next.Unlock place) j → FitsNext next.Back j
-last_unlock place (job.Change plan text) fits = tt
-last_unlock place (job.Visit visit) fits = fits
-last_unlock place (job.Maintenance on) fits = tt
-last_unlock place job.Given fits = tt
+last_unlock : (place : ℕ) (j : Request) → FitsNext (next.Unlock place) j → FitsNext next.ReturnNumber j
+last_unlock place (request.Change plan text) fits = tt
+last_unlock place (request.Visit visit) fits = fits
+last_unlock place (request.Maintenance on) fits = tt
+last_unlock place request.Given fits = tt
 
-last_give : (cpu : ℕ) (j : Job) → FitsNext (next.Give cpu) j → FitsNext next.Back j
-last_give cpu (job.Change plan text) fits = tt
-last_give cpu (job.Visit visit) fits = fits
-last_give cpu (job.Maintenance on) fits = tt
-last_give cpu job.Given fits = tt
+last_give : (cpu : ℕ) (j : Request) → FitsNext (next.Give cpu) j → FitsNext next.ReturnNumber j
+last_give cpu (request.Change plan text) fits = tt
+last_give cpu (request.Visit visit) fits = fits
+last_give cpu (request.Maintenance on) fits = tt
+last_give cpu request.Given fits = tt
 
-pub owes_unlock : (place : ℕ) (running : Running) (told : Told) → running.next ≡ next.Unlock place → FitsCall running
-    → IsToldOf running told
+pub owes_unlock : (place : ℕ) (running : Running) (told : GhostCall) → running.next ≡ next.Unlock place → FitsCall running
+    → IsGhostCallOf running told
     → OwesAt running.ending running told
 owes_unlock place running told here fits is answers =
-    owed_by running.job running.owed told.call (last_unlock place running.job
-    (subst (λ (n : Next). FitsNext n running.job) here fits.before)) is
+    owed_by running.request running.owed told.call (last_unlock place running.request
+    (subst (λ (n : Next). FitsNext n running.request) here fits.before)) is
 
-pub owes_give : (cpu : ℕ) (running : Running) (told : Told) → running.next ≡ next.Give cpu → FitsCall running → IsToldOf running told
+pub owes_give : (cpu : ℕ) (running : Running) (told : GhostCall) → running.next ≡ next.Give cpu → FitsCall running → IsGhostCallOf running told
     → OwesAt running.ending running told
 owes_give cpu running told here fits is answers =
-    owed_by running.job running.owed told.call (last_give cpu running.job
-    (subst (λ (n : Next). FitsNext n running.job) here fits.before)) is
+    owed_by running.request running.owed told.call (last_give cpu running.request
+    (subst (λ (n : Next). FitsNext n running.request) here fits.before)) is
 
-pub owes_back : (running : Running) (told : Told) → running.next ≡ next.Back → FitsCall running → IsToldOf running told
+pub owes_back : (running : Running) (told : GhostCall) → running.next ≡ next.ReturnNumber → FitsCall running → IsGhostCallOf running told
     → OwesAt running.ending running told
 owes_back running told here fits is answers =
-    owed_by running.job running.owed told.call (subst (λ (n : Next). FitsNext n running.job) here fits.before) is
+    owed_by running.request running.owed told.call (subst (λ (n : Next). FitsNext n running.request) here fits.before) is
 
 -- ---- a visit, which waits or ends
 
-visit_after : (result : Turn) (hand : Hand) (running after : Running) (told : Told) → (result ≢ turn.Moves)
-    → (result ≡ turn.Waits → after ≡ running) → IsToldOf running told → ShowsAfter result (hold.Hand hand) after (shown told after)
+visit_after : (result : Turn) (hand : Hand) (running after : Running) (told : GhostCall) → (result ≢ turn.Moves)
+    → (result ≡ turn.Waits → after ≡ running) → IsGhostCallOf running told → ShowsAfter result (reserved.Hand hand) after (shown told after)
 visit_after turn.Moves hand running after told ends waits is = absurd (ends refl)
 visit_after turn.Waits hand running after told ends waits is =
-    record { shown = refl; job = subst (λ (x : Running). IsToldOf x told) (sym (waits refl)) is; plan = tt; place = tt }
+    record { shown = refl; request = subst (λ (x : Running). IsGhostCallOf x told) (sym (waits refl)) is; plan = tt; place = tt }
 visit_after (turn.Ends result) hand running after told ends waits is = tt
 
 pub turns_visit : (actor : ℕ) (shared : Shared) (hand : Hand) (running : Running) (r : machine.Running) (result : Turn) (after : Running)
-    → running.next ≡ next.Visit → ShowsCall (hold.Hand hand) running r → (result ≢ turn.Moves) → (result ≡ turn.Waits → after ≡ running)
+    → running.next ≡ next.Visit → ShowsCall (reserved.Hand hand) running r → (result ≢ turn.Moves) → (result ≡ turn.Waits → after ≡ running)
     → TurnsAlone next.Visit actor shared hand running result shared hand after
-    → IsTurn actor shared (hold.Hand hand) r result shared (hold.Hand hand) after
+    → IsTurn actor shared (reserved.Hand hand) r result shared (reserved.Hand hand) after
 turns_visit actor shared hand running r result after here shows ends waits =
     turned next.Visit actor shared hand running r result shared hand after here shows
     (λ told is. visit_after result hand running after told ends waits is)

@@ -16,7 +16,7 @@ use Rattle.nv_machine.specs.Step.{handle_at, visit_grows}
 use Rattle.nv_machine.specs.World as machine
 use Rattle.nv_machine.specs.World.{Running, Shared, empty_hand, owner_at}
 use Rattle.nv_core.proofs.Homes.{no_home}
-use Rattle.nv_core.specs.Told.{IsEither}
+use Rattle.nv_core.specs.GhostCalls.{IsEither}
 use Rattle.nv_core.specs.Visits.{IsFoundBy}
 
 pub refuses : (s : Shared) (r : Running) (fault : Fault) → r.slots ≡ []

@@ -21,7 +21,7 @@ use Rattle.nv_machine.specs.Sequence.{nothing_looked}
 use Rattle.nv_machine.specs.Step.{handle_at}
 use Rattle.nv_machine.specs.World.{Shared, cell_at, no_cell}
 use Rattle.nv_machine.specs.Step.{visit_grows}
-use Rattle.nv_core.specs.Told.{IsVisit}
+use Rattle.nv_core.specs.GhostCalls.{IsVisit}
 use Rattle.nv_core.specs.Visits.{HasOwnBytes, IsFoundBy}
 
 pub node_here : (s : Shared) (handle : Handle) (cell : CellValue) → cell_at s handle.ino ≡ cell.state

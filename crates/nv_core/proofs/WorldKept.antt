@@ -20,7 +20,7 @@ use Rattle.nv_core.proofs.Stays.{rooms_stay}
 use Rattle.nv_core.proofs.WorldSteps.{set_back, shows_none, shows_set, shows_some, steps_on, world_with}
 use Rattle.nv_core.specs.Rooms.{HasActorRooms}
 use Rattle.nv_core.specs.Turns.{CanGo, HasTurned, LeavesOthers}
-use Rattle.nv_core.specs.Worlds.{IsStep, IsWorld, IsWorldAfter, Run, Shows, ShowsActor, ShowsCall, ShowsRunning, WorldState, reply_of}
+use Rattle.nv_core.specs.Worlds.{IsStep, IsWorld, IsWorldAfter, EventRun, Shows, ShowsActor, ShowsCall, ShowsRunning, WorldState, reply_of}
 use Rattle.nv_core.specs.Shown.{held_by, shared_of}
 use Rattle.nv_core.specs.declared.event.Event.TheVariants as event
 use Rattle.nv_core.specs.declared.event.Reply.{Reply}
@@ -31,20 +31,20 @@ use Rattle.nv_machine.proofs.EveryWorld.{reached}
 use Rattle.nv_core.specs.declared.world.Actor.{Actor}
 
 -- the locks of a world that events have led to
-pub locks_of : (w : WorldState) (m : machine.World) (run : Run) → IsWorldAfter w m run → AreLocks m
+pub locks_of : (w : WorldState) (m : machine.World) (run : EventRun) → IsWorldAfter w m run → AreLocks m
 locks_of w m run is =
     subst AreLocks (sym is.reached) (reached w.shared.geometry.numbers run.start run.records run.events is.is_start).locks
 
 -- a run with one event more
-abbrev pub run_on : Run → machine.Event → Run
+abbrev pub run_on : EventRun → machine.Event → EventRun
 run_on run e = record run { events = run.events ++ e ∷ [] }
 
 -- one event more
-pub world_after : (w : WorldState) (m : machine.World) (run : Run) (e : machine.Event) (actor : ℕ) (new : Shared) (state : Actor)
+pub world_after : (w : WorldState) (m : machine.World) (run : EventRun) (e : machine.Event) (actor : ℕ) (new : Shared) (state : Actor)
     → IsWorldAfter w m run → actor < length w.actors → new.geometry ≡ w.shared.geometry
-    → Shows (world_with new actor state w) (step m e).world → HasActorRooms new state.hold state.running
+    → Shows (world_with new actor state w) (step m e).world → HasActorRooms new state.reserved state.running
     → ((k : ℕ) (d : Actor) → k ≢ actor → k < length w.actors
-    → HasActorRooms new (slice_index_or w.actors k d).hold (slice_index_or w.actors k d).running)
+    → HasActorRooms new (slice_index_or w.actors k d).reserved (slice_index_or w.actors k d).running)
     → IsWorldAfter (world_with new actor state w) (step m e).world (run_on run e)
 world_after w m run e actor new state is lt same shows own others = record {
   is_start = subst (λ (g : GeometryNumbers). IsStart g run.start run.records) (ap (λ g. g.numbers) (sym same)) is.is_start;
@@ -53,7 +53,7 @@ world_after w m run e actor new state is lt same shows own others = record {
   rooms = λ k d small. each k d (omega (arith, small, length-set w.actors actor state));
 } where
   Has : Actor → Type 0
-  Has a = HasActorRooms new a.hold a.running
+  Has a = HasActorRooms new a.reserved a.running
 
   each : (k : ℕ) (d : Actor) → k < length w.actors → Has (slice_index_or (slice_set w.actors actor state) k d)
   each k d small = go (k == actor) refl where
@@ -65,7 +65,7 @@ world_after w m run e actor new state is lt same shows own others = record {
 
 -- what the next step of an actor's call is given
 pub can_go : (w : WorldState) → IsWorld w → (actor : ℕ) → actor < length w.actors → (own : Actor) → (d : Actor)
-    → slice_index_or w.actors actor d ≡ own → CanGo w.shared own.hold own.running actor
+    → slice_index_or w.actors actor d ≡ own → CanGo w.shared own.reserved own.running actor
 can_go w is actor there own d at = by own.running refl where
   m : machine.World
   m = is.0
@@ -73,24 +73,24 @@ can_go w is actor there own d at = by own.running refl where
   all : IsWorldAfter w m is.1
   all = is.2
 
-  by : (o : Option Running) → own.running ≡ o → CanGo w.shared own.hold o actor
+  by : (o : Option Running) → own.running ≡ o → CanGo w.shared own.reserved o actor
   by None e = tt
   by (Some running) e =
       can_step w.shared w.actors m is.1 all.is_start all.reached all.shows.shared all.shows.count actor there own
       (subst (λ (a : Actor). ShowsActor a (actor_at m actor)) at (all.shows.each actor d there))
-      (subst (λ (a : Actor). HasActorRooms w.shared a.hold a.running) at (all.rooms actor d there)) running e
+      (subst (λ (a : Actor). HasActorRooms w.shared a.reserved a.running) at (all.rooms actor d there)) running e
 
 -- a call that has gone on leads to a world again
 pub goes_on : (w : WorldState) → IsWorld w → (actor : ℕ) (d : Actor) (new : Shared) (state : Actor) (running : Running) (answer : Reply)
     → actor < length w.actors → (slice_index_or w.actors actor d).running ≡ Some running
-    → ((r : machine.Running) → ShowsCall (slice_index_or w.actors actor d).hold running r
-    → HasTurned actor w.shared (slice_index_or w.actors actor d).hold running r answer new state)
-    → ((r : machine.Running) → ShowsCall (slice_index_or w.actors actor d).hold running r → LeavesOthers actor r w.shared new)
-    → HasActorRooms new state.hold state.running → IsWorld (world_with new actor state w)
+    → ((r : machine.Running) → ShowsCall (slice_index_or w.actors actor d).reserved running r
+    → HasTurned actor w.shared (slice_index_or w.actors actor d).reserved running r answer new state)
+    → ((r : machine.Running) → ShowsCall (slice_index_or w.actors actor d).reserved running r → LeavesOthers actor r w.shared new)
+    → HasActorRooms new state.reserved state.running → IsWorld (world_with new actor state w)
 goes_on w is actor d new state running answer lt runs turns leaves rooms =
     let m = is.0 in
     let all = is.2 in
-    let before = (slice_index_or w.actors actor d).hold in
+    let before = (slice_index_or w.actors actor d).reserved in
     let own = all.shows.each actor d lt in
     let call = shows_some before running (actor_at m actor).running
     (subst (λ (o : Option Running). ShowsRunning before o (actor_at m actor).running) runs own.running) in
@@ -113,8 +113,8 @@ pub stays_idle : (w : WorldState) (m : machine.World) (actor : ℕ) (d : Actor) 
 stays_idle w m actor d new state shows lt none same back =
     let own = shows.each actor d lt in
     let is : (actor_at m actor).running ≡ None =
-    shows_none (slice_index_or w.actors actor d).hold (actor_at m actor).running
-    (subst (λ (o : Option Running). ShowsRunning (slice_index_or w.actors actor d).hold o (actor_at m actor).running) none own.running) in (
+    shows_none (slice_index_or w.actors actor d).reserved (actor_at m actor).running
+    (subst (λ (o : Option Running). ShowsRunning (slice_index_or w.actors actor d).reserved o (actor_at m actor).running) none own.running) in (
       ap (λ (b : Bool). go_step b (actor_at m actor).running actor true m) (lt-ltb actor (length m.actors) (omega (arith, lt, shows.count)))
           ∙ ap (λ (o : Option machine.Running). go_step true o actor true m) is,
       ap₂ (λ (s : Shared) (xs : List Actor). let v : WorldState = record { shared = s; actors = xs } in v) same
@@ -124,11 +124,11 @@ stays_idle w m actor d new state shows lt none same back =
 -- what an actor makes of a Go
 pub record HasGone (w : WorldState) (actor : ℕ) (before : Actor) (answer : Reply) (new : Shared) (state : Actor) : Type 0 where
   pub idle : before.running ≡ None → (answer ≡ reply.Refused ActorIdle) × (new ≡ w.shared) × (state ≡ before)
-  pub turns : (running : Running) (r : machine.Running) → before.running ≡ Some running → ShowsCall before.hold running r
-      → HasTurned actor w.shared before.hold running r answer new state
-  pub rest : (running : Running) (r : machine.Running) → before.running ≡ Some running → ShowsCall before.hold running r
+  pub turns : (running : Running) (r : machine.Running) → before.running ≡ Some running → ShowsCall before.reserved running r
+      → HasTurned actor w.shared before.reserved running r answer new state
+  pub rest : (running : Running) (r : machine.Running) → before.running ≡ Some running → ShowsCall before.reserved running r
       → LeavesOthers actor r w.shared new
-  pub rooms : HasActorRooms new state.hold state.running
+  pub rooms : HasActorRooms new state.reserved state.running
 
 -- THE STEP OF AN ACTOR: of its call, or none
 pub go_steps : (w : WorldState) (m : machine.World) (actor : ℕ) (d : Actor) (new : Shared) (state : Actor) (answer : Reply) → Shows w m
@@ -149,8 +149,8 @@ go_steps w m actor d new state answer shows lt is gone = by (slice_index_or w.ac
       }
   by (Some running) some =
       let own = is.2.shows.each actor d lt in
-      let call = shows_some (slice_index_or w.actors actor d).hold running (actor_at is.0 actor).running
-      (subst (λ (o : Option Running). ShowsRunning (slice_index_or w.actors actor d).hold o
+      let call = shows_some (slice_index_or w.actors actor d).reserved running (actor_at is.0 actor).running
+      (subst (λ (o : Option Running). ShowsRunning (slice_index_or w.actors actor d).reserved o
       (actor_at is.0 actor).running) some own.running) in
       let one = steps_on w m actor d new state running answer shows lt some (gone.rest running call.0 some call.2).geometry
       (λ r shown. gone.turns running r some shown) in
@@ -181,9 +181,9 @@ start_is m actor c o lt is =
 -- what an actor makes of a start
 pub record HasStarted (w : WorldState) (before : Actor) (c : Call) (answer : Reply) (state : Actor) : Type 0 where
   pub busy : (running : Running) → before.running ≡ Some running → (answer ≡ reply.Refused ActorBusy) × (state ≡ before)
-  pub starts : before.running ≡ None → (answer ≡ reply.Started) × (state.hold ≡ before.hold)
-      × ShowsRunning state.hold state.running (Some (begun (beginning c) (shared_of w.shared) c))
-  pub rooms : HasActorRooms w.shared state.hold state.running
+  pub starts : before.running ≡ None → (answer ≡ reply.Started) × (state.reserved ≡ before.reserved)
+      × ShowsRunning state.reserved state.running (Some (begun (beginning c) (shared_of w.shared) c))
+  pub rooms : HasActorRooms w.shared state.reserved state.running
 
 pub start_steps : (w : WorldState) (m : machine.World) (actor : ℕ) (d : Actor) (c : Call) (state : Actor) (answer : Reply) → Shows w m
     → actor < length w.actors → HasStarted w (slice_index_or w.actors actor d) c answer state
@@ -204,8 +204,8 @@ start_steps w m actor d c state answer shows lt is = by (slice_index_or w.actors
   by None none =
       let told = is.starts none in
       let idle : (actor_at m actor).running ≡ None =
-      shows_none (slice_index_or w.actors actor d).hold (actor_at m actor).running
-      (subst (λ (o : Option Running). ShowsRunning (slice_index_or w.actors actor d).hold o (actor_at m actor).running) none own.running) in
+      shows_none (slice_index_or w.actors actor d).reserved (actor_at m actor).running
+      (subst (λ (o : Option Running). ShowsRunning (slice_index_or w.actors actor d).reserved o (actor_at m actor).running) none own.running) in
       let r = begun (beginning c) m.shared c in
       let x : machine.Actor = record { hand = (actor_at m actor).hand; running = Some r } in
       let all : step m (machine.Start actor c) ≡ record {
@@ -216,7 +216,7 @@ start_steps w m actor d c state answer shows lt is = by (slice_index_or w.actors
       start_is m actor c None there idle in
       let shown : ShowsActor state x = record {
         hand = ap held_by told.1 ∙ own.hand;
-        running = subst (λ (s : machine.Shared). ShowsRunning state.hold state.running
+        running = subst (λ (s : machine.Shared). ShowsRunning state.reserved state.running
             (Some (begun (beginning c) s c))) shows.shared told.2;
       } in
       let set = shows_set w m actor state x w.shared shows lt refl shown in (
@@ -227,8 +227,8 @@ start_steps w m actor d c state answer shows lt is = by (slice_index_or w.actors
       )
   by (Some running) some =
       let told = is.busy running some in
-      let call = shows_some (slice_index_or w.actors actor d).hold running (actor_at m actor).running
-      (subst (λ (o : Option Running). ShowsRunning (slice_index_or w.actors actor d).hold o (actor_at m actor).running) some own.running) in
+      let call = shows_some (slice_index_or w.actors actor d).reserved running (actor_at m actor).running
+      (subst (λ (o : Option Running). ShowsRunning (slice_index_or w.actors actor d).reserved o (actor_at m actor).running) some own.running) in
       let all : step m (machine.Start actor c) ≡ stays (machine.Refused ActorBusy) m = start_is m actor c (Some call.0) there call.1 in
       let back : world_with w.shared actor state w ≡ w =
       ap (λ (xs : List Actor). let v : WorldState = record { shared = w.shared; actors = xs } in v)

@@ -12,7 +12,7 @@ use Rattle.nv_core.specs.Shown.{held_by, shared_of, turn_of}
 use Rattle.nv_core.specs.Turns.{HasTurned, ShowsAfter, replied, still}
 use Rattle.nv_core.specs.Worlds.{Shows, ShowsActor, ShowsCall, ShowsRunning, WorldState, reply_of}
 use Rattle.nv_core.specs.declared.event.Reply.{Reply}
-use Rattle.nv_core.specs.declared.hold.Hold.{Hold}
+use Rattle.nv_core.specs.declared.reservation.Reservation.{Reservation}
 use Rattle.nv_core.specs.declared.running.Running.{Running}
 use Rattle.nv_core.specs.declared.shared.Shared.{Shared}
 use Rattle.nv_core.specs.declared.turn.Turn.{Turn}
@@ -26,12 +26,12 @@ world_with shared actor state w = record { shared = shared; actors = slice_set w
 -- ---- what is shown
 
 -- an actor with a call shows one of the machine with its call
-pub shows_some : (h : Hold) (running : Running) (x : Option machine.Running) → ShowsRunning h (Some running) x
+pub shows_some : (h : Reservation) (running : Running) (x : Option machine.Running) → ShowsRunning h (Some running) x
     → (r : machine.Running) × (x ≡ Some r) × ShowsCall h running r
 shows_some h running None shows = absurd shows
 shows_some h running (Some r) shows = (r, refl, shows)
 
-pub shows_none : (h : Hold) (x : Option machine.Running) → ShowsRunning h None x → x ≡ None
+pub shows_none : (h : Reservation) (x : Option machine.Running) → ShowsRunning h None x → x ≡ None
 shows_none h None shows = refl
 shows_none h (Some r) shows = absurd shows
 
@@ -90,24 +90,24 @@ reply_turned (turn.Ends (Err fault)) s h r actor m = refl
 shows_turned : (t : Turn) (w : WorldState) (m : machine.World) (actor : ℕ) (d : Actor) (new : Shared) (state : Actor)
     (running after : Running)
     (r : machine.Running) → Shows w m → actor < length w.actors → (slice_index_or w.actors actor d).running ≡ Some running
-    → new.geometry ≡ w.shared.geometry → ShowsAfter t state.hold after r
-    → (t ≡ turn.Waits → (new ≡ w.shared) × (state.hold ≡ (slice_index_or w.actors actor d).hold) × (after ≡ running))
+    → new.geometry ≡ w.shared.geometry → ShowsAfter t state.reserved after r
+    → (t ≡ turn.Waits → (new ≡ w.shared) × (state.reserved ≡ (slice_index_or w.actors actor d).reserved) × (after ≡ running))
     → state.running ≡ still t after
-    → Shows (world_with new actor state w) (turned (turn_of t (shared_of new) (held_by state.hold) r) actor m).world
+    → Shows (world_with new actor state w) (turned (turn_of t (shared_of new) (held_by state.reserved) r) actor m).world
 shows_turned turn.Moves w m actor d new state running after r shows lt is same shown waits left =
-    shows_set w m actor state (record { hand = held_by state.hold; running = Some r }) new shows lt same
-    (record { hand = refl; running = subst (λ (o : Option Running). ShowsRunning state.hold o (Some r)) (sym left) shown })
+    shows_set w m actor state (record { hand = held_by state.reserved; running = Some r }) new shows lt same
+    (record { hand = refl; running = subst (λ (o : Option Running). ShowsRunning state.reserved o (Some r)) (sym left) shown })
 shows_turned turn.Waits w m actor d new state running after r shows lt is same shown waits left =
     let all = waits refl in
     let back : slice_index_or w.actors actor d ≡ state =
-    ap₂ (λ (h : Hold) (o : Option Running). let a : Actor = record { hold = h; running = o } in a) (sym all.1)
+    ap₂ (λ (h : Reservation) (o : Option Running). let a : Actor = record { reserved = h; running = o } in a) (sym all.1)
     (is ∙ ap Some (sym all.2) ∙ sym left) in
     let actors = set_back w.actors actor state d lt back in
     subst (λ (v : WorldState). Shows v m)
     (sym (ap₂ (λ (s : Shared) (xs : List Actor). let v : WorldState = record { shared = s; actors = xs } in v) all.0 actors)) shows
 shows_turned (turn.Ends result) w m actor d new state running after r shows lt is same shown waits left =
-    shows_set w m actor state (record { hand = held_by state.hold; running = None }) new shows lt same
-    (record { hand = refl; running = subst (λ (o : Option Running). ShowsRunning state.hold o None) (sym left) tt })
+    shows_set w m actor state (record { hand = held_by state.reserved; running = None }) new shows lt same
+    (record { hand = refl; running = subst (λ (o : Option Running). ShowsRunning state.reserved o None) (sym left) tt })
 
 -- the step of the machine, where an actor has a call
 go_is : (m : machine.World) (actor : ℕ) (granted : Bool) (r : machine.Running) → actor < length m.actors
@@ -123,12 +123,12 @@ pub steps_on : (w : WorldState) (m : machine.World) (actor : ℕ) (d : Actor) (n
     (answer : Reply)
     → Shows w m → actor < length w.actors → (slice_index_or w.actors actor d).running ≡ Some running
     → new.geometry ≡ w.shared.geometry
-    → ((r : machine.Running) → ShowsCall (slice_index_or w.actors actor d).hold running r
-    → HasTurned actor w.shared (slice_index_or w.actors actor d).hold running r answer new state)
+    → ((r : machine.Running) → ShowsCall (slice_index_or w.actors actor d).reserved running r
+    → HasTurned actor w.shared (slice_index_or w.actors actor d).reserved running r answer new state)
     → (granted : Bool) × (reply_of answer ≡ (step m (machine.Go actor granted)).reply)
     × Shows (world_with new actor state w) (step m (machine.Go actor granted)).world
 steps_on w m actor d new state running answer shows lt is same by =
-    let before = (slice_index_or w.actors actor d).hold in
+    let before = (slice_index_or w.actors actor d).reserved in
     let own = shows.each actor d lt in
     let call = shows_some before running (actor_at m actor).running
     (subst (λ (o : Option Running). ShowsRunning before o (actor_at m actor).running) is own.running) in
@@ -137,7 +137,7 @@ steps_on w m actor d new state running answer shows lt is same by =
     let granted = done.is.granted in
     let after = done.is.after in
     let s = shared_of new in
-    let h = held_by state.hold in
+    let h = held_by state.reserved in
     let made : machine_step.turn m.numbers.block actor granted m.shared (actor_at m actor).hand r ≡ turn_of done.result s h after =
     ap (λ g. machine_step.turn g.block actor granted m.shared (actor_at m actor).hand r) (sym shows.numbers)
     ∙ ap (λ (x : machine.Shared). machine_step.turn w.shared.geometry.numbers.block actor granted x (actor_at m actor).hand r)

@@ -7,15 +7,15 @@ use Rattle.nv_audit.specs.Whole.{Device}
 use Rattle.nv_audit.specs.declared.part_list.InodePart.{InodePart}
 use Rattle.nv_base.specs.declared.geometry.GeometryNumbers.{GeometryNumbers}
 use Rattle.nv_calls.specs.Commit.{CommitValue}
-use Rattle.nv_calls.specs.Ready.{CellPlanValue}
+use Rattle.nv_calls.specs.Ready.{CellCommitValue}
 use Rattle.nv_cell.specs.declared.killed.KilledPart.{KilledPart}
 use Rattle.nv_machine.specs.Held as machine_held
 use Rattle.nv_machine.specs.Numbers.{held_by_actor, held_in}
 use Rattle.nv_machine.specs.Reads.{slot_at, written_slots}
 use Rattle.nv_machine.specs.World as machine
 use Rattle.nv_core.specs.Shown.{held_by, slots_in}
-use Rattle.nv_core.specs.declared.hold.Hold.{Hold}
-use Rattle.nv_core.specs.declared.hold.Hold.TheVariants as hold
+use Rattle.nv_core.specs.declared.reservation.Reservation.{Reservation}
+use Rattle.nv_core.specs.declared.reservation.Reservation.TheVariants as reserved
 use Rattle.nv_core.specs.declared.next.Next.{Next}
 use Rattle.nv_core.specs.declared.next.Next.TheVariants as next
 use Rattle.nv_core.specs.declared.next.MaintenanceStep.{MaintenanceStep}
@@ -57,7 +57,7 @@ device_of g w = record {
 -- ---- by the code
 
 abbrev pub blocks_by : Actor → List ℕ
-blocks_by actor = held_in (held_by actor.hold)
+blocks_by actor = held_in (held_by actor.reserved)
 
 -- the part of a record that a drain has picked
 abbrev pub picked_on : MaintenanceStep → List InodePart
@@ -70,21 +70,21 @@ picked_by (next.Maintenance step) = picked_on step
 picked_by other = []
 
 -- the killed parts of one plan, and of those that are published and not retired
-abbrev pub killed_by_plan : List ℕ → CellPlanValue → List InodePart
+abbrev pub killed_by_plan : List ℕ → CellCommitValue → List InodePart
 killed_by_plan slots plan = map (killed_part (slot_at slots plan.at)) plan.killed
 
 abbrev pub killed_by_plans : List ℕ → CommitValue → List InodePart
 killed_by_plans slots commit = flat_map (killed_by_plan slots) (drop commit.retired (take commit.published commit.plans))
 
-abbrev pub parts_with : Hold → Option Running → List InodePart
-parts_with (hold.Hand hand) (Some running) = picked_by running.next
-parts_with (hold.Commit commit) (Some running) = killed_by_plans (slots_in running.slots) commit
+abbrev pub parts_with : Reservation → Option Running → List InodePart
+parts_with (reserved.Hand hand) (Some running) = picked_by running.next
+parts_with (reserved.Commit commit) (Some running) = killed_by_plans (slots_in running.slots) commit
 parts_with other running = []
 
 abbrev pub parts_by : Actor → List InodePart
-parts_by actor = parts_with actor.hold actor.running
+parts_by actor = parts_with actor.reserved actor.running
 
 -- no more plans are published than there are
-abbrev pub HasPlans : Hold → Type 0
-HasPlans (hold.Commit commit) = commit.published ≤ length commit.plans
+abbrev pub HasPlans : Reservation → Type 0
+HasPlans (reserved.Commit commit) = commit.published ≤ length commit.plans
 HasPlans other = Unit {0}

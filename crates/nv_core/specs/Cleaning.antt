@@ -11,7 +11,7 @@ use Rattle.nv_cell.specs.Readers.{has_killed}
 use Rattle.nv_clean.specs.Plans.{unlinkable_of, wanted_of}
 use Rattle.nv_machine.specs.World.{cell_at}
 use Rattle.nv_core.specs.Shown.{shared_of}
-use Rattle.nv_core.specs.Told.{IsLookAt, IsMaintenance}
+use Rattle.nv_core.specs.GhostCalls.{IsLookAt, IsMaintenance}
 use Rattle.nv_core.specs.declared.kinds.judge.Choice.{Choice}
 use Rattle.nv_core.specs.declared.kinds.judge.Choice.TheVariants as choice
 use Rattle.nv_core.specs.declared.next.Ending.TheVariants as ending
@@ -23,8 +23,8 @@ use Rattle.nv_core.specs.declared.shared.Shared.{Shared}
 
 -- a call that has steps of its own, whatever its next one is
 pub record IsMaintaining (running : Running) : Type 0 where
-  pub job : IsMaintenance running.job
-  pub overtaken : running.ending ≡ ending.Overtaken → IsLookAt 0 running.job
+  pub request : IsMaintenance running.request
+  pub overtaken : running.ending ≡ ending.Overtaken → IsLookAt 0 running.request
 
 -- ---- what the judge chose
 

@@ -6,7 +6,7 @@ use Rattle.nv_calls.specs.Commit.{CommitValue, after_close, after_open, begun, s
 use Rattle.nv_calls.specs.PlanByPlan.{AppendsTo, PublishesTo, RetiresTo}
 use Rattle.nv_calls.specs.Ready.{ReadyValue, old_tails}
 use Rattle.nv_cell.specs.Cell.{CellValue}
-use Rattle.nv_core.specs.Told.{IsOnItsWay}
+use Rattle.nv_core.specs.GhostCalls.{IsOnItsWay}
 
 -- what a commit had when it was entered: the cells of its call, the book, and what was ready
 pub record Begin : Type 0 where

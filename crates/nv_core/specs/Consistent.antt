@@ -18,7 +18,7 @@ use Rattle.nv_machine.specs.Step.{after}
 use Rattle.nv_machine.specs.World as machine
 use Rattle.nv_machine.specs.World.{list_at}
 use Rattle.nv_core.specs.Audited.{device_of}
-use Rattle.nv_core.specs.Worlds.{Run, Shows, WorldState}
+use Rattle.nv_core.specs.Worlds.{EventRun, Shows, WorldState}
 
 -- A WORLD BESIDE THE PLAIN WORLD AND THE LIST OF ITS RECORDS. Each inode's counts, the records that living
 -- snapshots hold and each free list are what one scan of all logs and of the snapshots gives, where what hands have
@@ -42,7 +42,7 @@ pub record IsConsistent (g : GeometryNumbers) (w : machine.World) (plain : Plain
 
 -- the same of the world to which events lead from where a run starts, beside the plain world and the record list to
 -- which they lead from those of the start
-abbrev pub IsConsistentAfter : GeometryNumbers → Run → Type 0
+abbrev pub IsConsistentAfter : GeometryNumbers → EventRun → Type 0
 IsConsistentAfter g run =
     IsConsistent g (after run.start run.events) (plain_after run.start run.events (plain_of run.start))
     (records_after run.start run.events run.records)
@@ -51,4 +51,4 @@ IsConsistentAfter g run =
 abbrev pub IsConsistentWorld : WorldState → Type 0
 IsConsistentWorld w =
     let g = w.shared.geometry.numbers in
-    (run : Run) × IsStart g run.start run.records × Shows w (after run.start run.events) × IsConsistentAfter g run
+    (run : EventRun) × IsStart g run.start run.records × Shows w (after run.start run.events) × IsConsistentAfter g run

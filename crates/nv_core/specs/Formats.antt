@@ -7,7 +7,7 @@ use Rattle.nv_book.specs.Book.{empty_book}
 use Rattle.nv_cell.specs.Cell.{CellValue, empty_cell, no_room}
 use Rattle.nv_machine.specs.Format.{full_list}
 use Rattle.nv_machine.specs.World as machine
-use Rattle.nv_core.specs.declared.hold.Hold.TheVariants as hold
+use Rattle.nv_core.specs.declared.reservation.Reservation.TheVariants as reserved
 use Rattle.nv_core.specs.declared.world.Actor.{Actor}
 
 -- the cell of a slot that nothing was ever in
@@ -35,4 +35,4 @@ empty_of g = record {
 }
 
 abbrev pub idle_actor : GeometryNumbers → Actor
-idle_actor g = record { hold = hold.Hand (empty_of g); running = None }
+idle_actor g = record { reserved = reserved.Hand (empty_of g); running = None }

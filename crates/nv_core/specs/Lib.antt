@@ -19,7 +19,7 @@ pub mod Shown
 pub mod Sinks
 pub mod Steps
 pub mod Takings
-pub mod Told
+pub mod GhostCalls
 pub mod Turns
 pub mod Visits
 pub mod Whole

@@ -11,7 +11,7 @@ use Rattle.nv_calls.specs.Refusals.{Check}
 use Rattle.nv_calls.specs.Updates.{blank_call}
 use Rattle.nv_calls.specs.declared.check_end.CheckEnd.{CheckEnd}
 use Rattle.nv_calls.specs.declared.check_end.CheckEnd.TheVariants as ends
-use Rattle.nv_calls.specs.declared.looked.Looked.{Looked}
+use Rattle.nv_calls.specs.declared.looked.LookupResult.{LookupResult}
 use Rattle.nv_calls.specs.declared.update.Update.{Update}
 use Rattle.nv_calls.specs.SlotCells.{lent_cells}
 use Rattle.nv_cell.specs.Cell.{CellState, CellValue}
@@ -50,7 +50,7 @@ abbrev pub check_ends : Check → Bool → Check → Bool → Bool → Option En
 check_ends early same late numbered nothing = option_map ended_by (checked.check_ends early same late numbered nothing)
 
 -- how the check over these nodes ends a call
-abbrev pub ends_over : ℕ → (Handle → Option NodeCopy) → Looked → Bool → Update → Option Ending
+abbrev pub ends_over : ℕ → (Handle → Option NodeCopy) → LookupResult → Bool → Update → Option Ending
 ends_over block n before numbered u = option_map ended_by (checked.ends_over block n before numbered u)
 
 -- how many data blocks a call takes over these cells

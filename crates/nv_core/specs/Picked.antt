@@ -2,8 +2,8 @@
 use Rattle.std.specs.Prelude.{ℕ, if◌then◌else◌, Option, Some, None}
 use Rattle.nv_book.specs.Records.{is_page}
 use Rattle.nv_book.specs.declared.record.Record.{Record}
-use Rattle.nv_core.specs.declared.hold.Hold.{Hold}
-use Rattle.nv_core.specs.declared.hold.Hold.TheVariants as hold
+use Rattle.nv_core.specs.declared.reservation.Reservation.{Reservation}
+use Rattle.nv_core.specs.declared.reservation.Reservation.TheVariants as reserved
 use Rattle.nv_core.specs.declared.next.Next.{Next}
 use Rattle.nv_core.specs.declared.next.Next.TheVariants as next
 use Rattle.nv_core.specs.declared.next.MaintenanceStep.{MaintenanceStep}
@@ -28,10 +28,10 @@ picked_by None = 0
 picked_by (Some running) = picked_at running.next
 
 -- while its hand is with the actor alone
-abbrev pub picked_with : Hold → Option Running → ℕ
-picked_with (hold.Hand hand) running = picked_by running
+abbrev pub picked_with : Reservation → Option Running → ℕ
+picked_with (reserved.Hand hand) running = picked_by running
 picked_with other running = 0
 
 -- those of one actor: one or none
 abbrev pub picked_of : Actor → ℕ
-picked_of actor = picked_with actor.hold actor.running
+picked_of actor = picked_with actor.reserved actor.running

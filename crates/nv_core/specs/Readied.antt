@@ -5,9 +5,9 @@ use Rattle.nv_calls.specs.FillPages.{filled, page_in, pages_over, sourced}
 use Rattle.nv_calls.specs.declared.update.Update.{Update}
 use Rattle.nv_cell.specs.Cell.{CellValue}
 use Rattle.nv_machine.specs.World.{HandState}
-use Rattle.nv_core.specs.Shown.{Told, hand_of, shared_of, shown}
-use Rattle.nv_core.specs.Told.{planned}
-use Rattle.nv_core.specs.declared.hold.Hold.{Hold}
+use Rattle.nv_core.specs.Shown.{GhostCall, hand_of, shared_of, shown}
+use Rattle.nv_core.specs.GhostCalls.{planned}
+use Rattle.nv_core.specs.declared.reservation.Reservation.{Reservation}
 use Rattle.nv_core.specs.declared.running.Running.{Running}
 use Rattle.nv_core.specs.declared.shared.Shared.{Shared}
 
@@ -22,6 +22,6 @@ pub record IsFilledBy (cells : List (ℕ × CellValue)) (text : List ℕ) (u : U
   pub is : hand_of after ≡ filled_hand cells text u before
 
 -- what is told of a call after it was to be made ready
-abbrev pub planned_by : Hold → Shared → Hand → Running → Told → Told
+abbrev pub planned_by : Reservation → Shared → Hand → Running → GhostCall → GhostCall
 planned_by result shared hand running told =
     planned result shared.geometry.numbers.block (shared_of shared) (hand_of hand) (shown told running) told

@@ -18,7 +18,7 @@ use Rattle.nv_calls.specs.Refusals.{passes}
 use Rattle.nv_calls.specs.SlotCells.{lent_cells}
 use Rattle.nv_calls.specs.Updates.{blank_call}
 use Rattle.nv_calls.specs.declared.log_pages.TheConstants.{MORE_PAGES}
-use Rattle.nv_calls.specs.declared.looked.Looked.{Looked}
+use Rattle.nv_calls.specs.declared.looked.LookupResult.{LookupResult}
 use Rattle.nv_calls.specs.declared.update.Update.{Update}
 use Rattle.nv_cell.specs.Cell.{CellValue}
 use Rattle.nv_machine.specs.Sequence.{directories, nothing_looked}
@@ -26,11 +26,11 @@ use Rattle.nv_core.specs.Cleaning.{CanCompact, CanUnlink, TakesFresh}
 use Rattle.nv_core.specs.Committing.{IsCommitting}
 use Rattle.nv_core.specs.Nodes.{CanRead, wanted_over}
 use Rattle.nv_core.specs.Shown.{is_over, showing_of, slots_in}
-use Rattle.nv_core.specs.Told.{IsChangeWith, IsLookAt, IsMaintenance, IsVisitOf, is_change, makes_inode}
-use Rattle.nv_core.specs.declared.hold.Hold.{Hold}
-use Rattle.nv_core.specs.declared.hold.Hold.TheVariants as hold
-use Rattle.nv_core.specs.declared.job.Job.{Job}
-use Rattle.nv_core.specs.declared.job.Job.TheVariants as job
+use Rattle.nv_core.specs.GhostCalls.{IsChangeWith, IsLookAt, IsMaintenance, IsVisitOf, is_change, makes_inode}
+use Rattle.nv_core.specs.declared.reservation.Reservation.{Reservation}
+use Rattle.nv_core.specs.declared.reservation.Reservation.TheVariants as reserved
+use Rattle.nv_core.specs.declared.request.Request.{Request}
+use Rattle.nv_core.specs.declared.request.Request.TheVariants as request
 use Rattle.nv_core.specs.declared.next.Ending.{Ending}
 use Rattle.nv_core.specs.declared.next.Ending.TheVariants as ending
 use Rattle.nv_core.specs.declared.next.Next.{Next}
@@ -44,25 +44,25 @@ use Rattle.nv_core.specs.declared.turn.Turn.TheVariants as turn
 
 -- ---- the call
 
--- a job that changes nodes, or that its commit has
-abbrev pub IsNoVisit : Job → Type 0
-IsNoVisit (job.Visit c) = ⊥
+-- a request that changes nodes, or that its commit has
+abbrev pub IsNoVisit : Request → Type 0
+IsNoVisit (request.Visit c) = ⊥
 IsNoVisit other = Unit {0}
 
--- the job that a call has before that step
-abbrev pub FitsNext : Next → Job → Type 0
+-- the request that a call has before that step
+abbrev pub FitsNext : Next → Request → Type 0
 FitsNext next.Number j = makes_inode j ≡ true
 FitsNext (next.Look place) j = IsLookAt place j
 FitsNext next.Visit j = IsVisitOf j
 FitsNext (next.Maintenance step) j = IsMaintenance j
 FitsNext (next.Unlock place) j = IsNoVisit j
 FitsNext (next.Give cpu) j = IsNoVisit j
-FitsNext next.Back j = IsNoVisit j
+FitsNext next.ReturnNumber j = IsNoVisit j
 FitsNext before j = is_change j ≡ true
 
 -- a call that looks nothing up has found nothing
-abbrev pub LooksAsTold : Job → Looked → Type 0
-LooksAsTold (job.Change plan text) looked = directories (blank_call plan.update) ≡ [] → looked ≡ nothing_looked
+abbrev pub LooksAsTold : Request → LookupResult → Type 0
+LooksAsTold (request.Change plan text) looked = directories (blank_call plan.update) ≡ [] → looked ≡ nothing_looked
 LooksAsTold other looked = Unit {0}
 
 -- the next step is one of a call on snapshots: of any, a visit of a show, or the end of one
@@ -100,15 +100,15 @@ IsUnpin other = ⊥
 
 -- a call whose names were bound anew looks them up
 pub record FitsCall (running : Running) : Type 0 where
-  pub before : FitsNext running.next running.job
-  pub looks : LooksAsTold running.job running.looked
-  pub overtaken : running.ending ≡ ending.Overtaken → IsLookAt 0 running.job
+  pub before : FitsNext running.next running.request
+  pub looks : LooksAsTold running.request running.looked
+  pub overtaken : running.ending ≡ ending.Overtaken → IsLookAt 0 running.request
 
 -- a call can turn to its last steps, to end so
 pub record CanEnd (running : Running) (how : Ending) : Type 0 where
-  pub job : IsNoVisit running.job
-  pub looks : LooksAsTold running.job running.looked
-  pub overtaken : how ≡ ending.Overtaken → IsLookAt 0 running.job
+  pub request : IsNoVisit running.request
+  pub looks : LooksAsTold running.request running.looked
+  pub overtaken : how ≡ ending.Overtaken → IsLookAt 0 running.request
 
 -- ---- hands
 
@@ -117,16 +117,16 @@ pub record IsHandOf (g : GeometryNumbers) (hand : Hand) : Type 0 where
   pub blocks : hand.«data».size ≡ g.block
   pub pages : hand.pages.size ≡ g.block
 
-abbrev pub hand_held : Hold → Hand
-hand_held (hold.Hand hand) = hand
-hand_held (hold.Ready ready) = ready.hand
-hand_held (hold.Commit commit) = commit.hand
+abbrev pub hand_held : Reservation → Hand
+hand_held (reserved.Hand hand) = hand
+hand_held (reserved.Ready ready) = ready.hand
+hand_held (reserved.Commit commit) = commit.hand
 
 -- ---- from the check to the growths
 
 -- a call has passed its check over the cells of its slots, has something to commit, and the number of a
 -- new inode in its hand
-pub record IsChecked (shared : Shared) (slots : List ℕ) (hand : Hand) (looked : Looked) (u : Update) : Type 0 where
+pub record IsChecked (shared : Shared) (slots : List ℕ) (hand : Hand) (looked : LookupResult) (u : Update) : Type 0 where
   pub read : CanRead shared slots (handles looked (blank_call u))
   pub lent : AreCells (lent_cells slots shared.cells.items)
   pub some : 0 < length slots
@@ -176,18 +176,18 @@ pub record HasTaken (shared : Shared) (slots : List ℕ) (hand : Hand) (u : Upda
   pub blocks : length hand.«data».blocks ≡ blocks_to_take shared slots u
   pub pages : length hand.pages.blocks ≡ pages_to_take shared slots hand u
 
-abbrev pub Takes : Next → Shared → List ℕ → Hand → ℕ → Looked → Update → Type 0
+abbrev pub Takes : Next → Shared → List ℕ → Hand → ℕ → LookupResult → Update → Type 0
 Takes (next.TakeBlocks asked) shared slots hand wanted looked u =
     IsChecked shared slots hand looked u × TakesBlocks shared slots hand asked wanted u
-Takes (next.TakePages asked) shared slots hand wanted looked u =
+Takes (next.TakeLogPages asked) shared slots hand wanted looked u =
     IsChecked shared slots hand looked u × TakesPages shared slots hand asked wanted u
 Takes next.Ready shared slots hand wanted looked u = IsChecked shared slots hand looked u × HasTaken shared slots hand u
 Takes other shared slots hand wanted looked u = Unit {0}
 
--- the same of a job: one that takes changes nodes
+-- the same of a request: one that takes changes nodes
 abbrev pub takes : Next → Bool
 takes (next.TakeBlocks asked) = true
-takes (next.TakePages asked) = true
+takes (next.TakeLogPages asked) = true
 takes next.Ready = true
 takes other = false
 
@@ -195,26 +195,26 @@ abbrev pub TakesIf : Bool → Shared → Hand → Running → Type 0
 TakesIf false shared hand running = Unit {0}
 TakesIf true shared hand running =
     IsChangeWith (λ u. HasMade shared (slots_in running.slots) hand running.made u
-    × Takes running.next shared (slots_in running.slots) hand running.wanted running.looked u) running.job
+    × Takes running.next shared (slots_in running.slots) hand running.wanted running.looked u) running.request
 
--- the call of a job is checked, and has as many data blocks as it takes
+-- the call of a request is checked, and has as many data blocks as it takes
 abbrev pub CanCountPages : Shared → Hand → Running → Type 0
 CanCountPages shared hand running =
     IsChangeWith (λ u. IsChecked shared (slots_in running.slots) hand running.looked u
-    × (length hand.«data».blocks ≡ blocks_to_take shared (slots_in running.slots) u)) running.job
+    × (length hand.«data».blocks ≡ blocks_to_take shared (slots_in running.slots) u)) running.request
 
 -- it has room for log pages too
 abbrev pub CanWantPages : Shared → Hand → Running → Type 0
 CanWantPages shared hand running =
     IsChangeWith (λ u. HasMade shared (slots_in running.slots) hand running.made u
-    × IsChecked shared (slots_in running.slots) hand running.looked u × HasItsBlocks shared (slots_in running.slots) hand u) running.job
+    × IsChecked shared (slots_in running.slots) hand running.looked u × HasItsBlocks shared (slots_in running.slots) hand u) running.request
 
--- the call of a job is checked, and takes so many data blocks
+-- the call of a request is checked, and takes so many data blocks
 abbrev pub WantsBlocks : ℕ → Shared → Hand → Running → Type 0
 WantsBlocks wanted shared hand running =
     IsChangeWith (λ u. HasMade shared (slots_in running.slots) hand running.made u
     × IsChecked shared (slots_in running.slots) hand running.looked u ×
-    (wanted ≡ blocks_to_take shared (slots_in running.slots) u)) running.job
+    (wanted ≡ blocks_to_take shared (slots_in running.slots) u)) running.request
 
 -- ---- calls on snapshots, and cleaners
 
@@ -236,15 +236,15 @@ HasStepRoom (on.Compact plan) shared hand = CanCompact shared hand plan
 HasStepRoom other shared hand = Unit {0}
 
 -- so has one that goes on to its next record, and it is a call on snapshots
-abbrev pub CanDrain : Ending → Job → Hand → Type 0
+abbrev pub CanDrain : Ending → Request → Hand → Type 0
 CanDrain (ending.Drains draining) j hand = IsMaintenance j × (draining.released + draining.left ≤ DRAIN) × HoldsOne hand
 CanDrain other j hand = Unit {0}
 
-abbrev pub HasNextRoom : Next → Ending → Job → Shared → Hand → Type 0
+abbrev pub HasNextRoom : Next → Ending → Request → Shared → Hand → Type 0
 HasNextRoom (next.Maintenance step) how j shared hand = HasStepRoom step shared hand
 HasNextRoom (next.Unlock place) how j shared hand = CanDrain how j hand
 HasNextRoom (next.Give cpu) how j shared hand = CanDrain how j hand
-HasNextRoom next.Back how j shared hand = CanDrain how j hand
+HasNextRoom next.ReturnNumber how j shared hand = CanDrain how j hand
 HasNextRoom other how j shared hand = Unit {0}
 
 -- what ends so is no drain that goes on
@@ -269,27 +269,27 @@ pub record IsReadyOver (now : List (ℕ × CellValue)) (ready : ReadyValue) : Ty
 abbrev pub committing_cpu : Shared → ℕ
 committing_cpu shared = unwrap_or shared.holder 0 % length shared.lists.items
 
-abbrev pub HasRooms : Shared → Hold → Running → Type 0
-HasRooms shared (hold.Hand hand) running =
+abbrev pub HasRooms : Shared → Reservation → Running → Type 0
+HasRooms shared (reserved.Hand hand) running =
     FitsCall running × IsHandOf shared.geometry.numbers hand × TakesIf (takes running.next) shared hand running
-    × HasNextRoom running.next running.ending running.job shared hand
-HasRooms shared (hold.Ready ready) running =
-    (running.job ≡ job.Given) × (running.ending ≡ ending.Answers) × IsHandOf shared.geometry.numbers ready.hand
+    × HasNextRoom running.next running.ending running.request shared hand
+HasRooms shared (reserved.Ready ready) running =
+    (running.request ≡ request.Given) × (running.ending ≡ ending.Answers) × IsHandOf shared.geometry.numbers ready.hand
     × IsReadyOver (lent_cells (slots_in running.slots) shared.cells.items) ready
-HasRooms shared (hold.Commit commit) running =
-    (running.job ≡ job.Given) × (running.ending ≡ ending.Answers) × IsHandOf shared.geometry.numbers commit.hand
+HasRooms shared (reserved.Commit commit) running =
+    (running.request ≡ request.Given) × (running.ending ≡ ending.Answers) × IsHandOf shared.geometry.numbers commit.hand
     × IsCommitting (committing_cpu shared) (lent_cells (slots_in running.slots) shared.cells.items) shared.book commit
 
 -- an actor without a call has its hand alone
-abbrev pub IsIdle : Shared → Hold → Type 0
-IsIdle shared (hold.Hand hand) = IsHandOf shared.geometry.numbers hand
+abbrev pub IsIdle : Shared → Reservation → Type 0
+IsIdle shared (reserved.Hand hand) = IsHandOf shared.geometry.numbers hand
 IsIdle shared other = ⊥
 
-abbrev pub HasActorRooms : Shared → Hold → Option Running → Type 0
-HasActorRooms shared hold None = IsIdle shared hold
-HasActorRooms shared hold (Some running) = HasRooms shared hold running
+abbrev pub HasActorRooms : Shared → Reservation → Option Running → Type 0
+HasActorRooms shared reserved None = IsIdle shared reserved
+HasActorRooms shared reserved (Some running) = HasRooms shared reserved running
 
 -- after a turn: the same of the call that goes on, and an actor whose call has ended has its hand alone
-abbrev pub HasRoomsAfter : Turn → Shared → Hold → Running → Type 0
-HasRoomsAfter (turn.Ends result) shared hold running = IsIdle shared hold
-HasRoomsAfter other shared hold running = HasRooms shared hold running
+abbrev pub HasRoomsAfter : Turn → Shared → Reservation → Running → Type 0
+HasRoomsAfter (turn.Ends result) shared reserved running = IsIdle shared reserved
+HasRoomsAfter other shared reserved running = HasRooms shared reserved running

@@ -6,7 +6,7 @@ use Rattle.nv_base.specs.declared.numbers.Handle.{Handle}
 use Rattle.nv_calls.specs.declared.answer.Answer.{Answer}
 use Rattle.nv_calls.specs.declared.answer.Answer.TheVariants as answers
 use Rattle.nv_calls.specs.declared.call.Call.{Call}
-use Rattle.nv_calls.specs.declared.plan.Planned.{Planned}
+use Rattle.nv_calls.specs.declared.plan.InodePlan.{InodePlan}
 use Rattle.nv_calls.specs.declared.progress.CommitStep.{CommitStep}
 use Rattle.nv_calls.specs.declared.progress.CommitStep.TheVariants as step
 use Rattle.nv_calls.specs.Commit.{CommitValue}
@@ -14,10 +14,10 @@ use Rattle.nv_calls.specs.Progress.{step_of}
 use Rattle.nv_cell.specs.Cell.{CellValue}
 use Rattle.nv_cell.specs.declared.killed.KilledPart.{KilledPart}
 use Rattle.nv_machine.specs.World as machine
-use Rattle.nv_core.specs.declared.hold.Hold.{Hold}
-use Rattle.nv_core.specs.declared.hold.Hold.TheVariants as hold
-use Rattle.nv_core.specs.declared.job.Owed.{Owed}
-use Rattle.nv_core.specs.declared.job.Owed.TheVariants as owed
+use Rattle.nv_core.specs.declared.reservation.Reservation.{Reservation}
+use Rattle.nv_core.specs.declared.reservation.Reservation.TheVariants as reserved
+use Rattle.nv_core.specs.declared.request.PendingAnswer.{PendingAnswer}
+use Rattle.nv_core.specs.declared.request.PendingAnswer.TheVariants as owed
 use Rattle.nv_entry.specs.Tree.{root}
 use Rattle.nv_entry.specs.declared.tree.TreeNode.{TreeNode}
 use Rattle.nv_reader.specs.Walk.{Visit, next_handle, root_visit}
@@ -73,9 +73,9 @@ hand_in commit = hand_with (killed_in commit) commit.hand
 -- ---- calls
 
 -- what a running call of the machine has that the code has used up, or keeps in its commit
-pub record Told : Type 0 where
+pub record GhostCall : Type 0 where
   pub call : Call
-  pub plan : List Planned
+  pub plan : List InodePlan
   pub commit : ℕ
   pub epoch : ℕ
 
@@ -120,11 +120,11 @@ next_of (next.Look place) = machine.Look place
 next_of (next.Lock place) = machine.Lock place
 next_of next.Check = machine.Check
 next_of (next.TakeBlocks asked) = machine.TakeBlocks asked
-next_of (next.TakePages asked) = machine.TakePages asked
+next_of (next.TakeLogPages asked) = machine.TakeLogPages asked
 next_of next.Ready = machine.Ready
 next_of (next.Unlock place) = machine.Unlock place
 next_of (next.Give cpu) = machine.Give cpu
-next_of next.Back = machine.Back
+next_of next.ReturnNumber = machine.ReturnNumber
 next_of next.Visit = machine.Visit
 next_of (next.Maintenance step) = machine.Maintenance (step_on step)
 
@@ -150,7 +150,7 @@ ending_of (ending.Drains draining) = machine.Drains (draining_of draining)
 ending_of (ending.Cleans cleaned) = machine.Cleans cleaned
 
 -- a running call before that step
-abbrev pub shown_at : machine.Next → Told → Running → machine.Running
+abbrev pub shown_at : machine.Next → GhostCall → Running → machine.Running
 shown_at next told running = record {
   call = told.call;
   next = next;
@@ -166,11 +166,11 @@ shown_at next told running = record {
 }
 
 -- one that is not made ready, or whose commit is over
-abbrev pub shown : Told → Running → machine.Running
+abbrev pub shown : GhostCall → Running → machine.Running
 shown told running = shown_at (next_of running.next) told running
 
 -- one that is ready
-abbrev pub shown_ready : Told → Running → machine.Running
+abbrev pub shown_ready : GhostCall → Running → machine.Running
 shown_ready told running = shown_at machine.Enter told running
 
 -- ---- commits
@@ -187,27 +187,27 @@ machine_step step.Leave commit = machine.Leave
 abbrev pub commit_next : CommitValue → machine.Next
 commit_next commit = machine_step (step_of commit) commit
 
-abbrev pub shown_commit : CommitValue → Told → Running → machine.Running
+abbrev pub shown_commit : CommitValue → GhostCall → Running → machine.Running
 shown_commit commit told running = shown_at (commit_next commit) told running
 
 -- ---- what an actor holds
 
 -- what is in the hand, whoever has it
-abbrev pub held_by : Hold → machine.HandState
-held_by (hold.Hand hand) = hand_of hand
-held_by (hold.Ready ready) = hand_of ready.hand
-held_by (hold.Commit commit) = hand_in commit
+abbrev pub held_by : Reservation → machine.HandState
+held_by (reserved.Hand hand) = hand_of hand
+held_by (reserved.Ready ready) = hand_of ready.hand
+held_by (reserved.Commit commit) = hand_in commit
 
 -- the running call before its next step
-abbrev pub shown_by : Hold → Told → Running → machine.Running
-shown_by (hold.Hand hand) told running = shown told running
-shown_by (hold.Ready ready) told running = shown_ready told running
-shown_by (hold.Commit commit) told running = shown_commit commit told running
+abbrev pub shown_by : Reservation → GhostCall → Running → machine.Running
+shown_by (reserved.Hand hand) told running = shown told running
+shown_by (reserved.Ready ready) told running = shown_ready told running
+shown_by (reserved.Commit commit) told running = shown_commit commit told running
 
 -- ---- what is answered
 
 -- the answer that is owed, where a new inode has this handle
-abbrev pub answered : Owed → Handle → Answer
+abbrev pub answered : PendingAnswer → Handle → Answer
 answered owed.Made made = answers.Made made
 answered (owed.Count count) made = answers.Count count
 answered owed.Nothing made = answers.Nothing

@@ -36,10 +36,10 @@ use Rattle.nv_core.specs.Nodes.{CanRead}
 use Rattle.nv_core.specs.Parts.{AreHome, AreSlots, AreStill, IsOfDevice}
 use Rattle.nv_core.specs.Rooms.{hand_held}
 use Rattle.nv_core.specs.Shown.{hand_of, shared_of, slots_in, step_on}
-use Rattle.nv_core.specs.Told.{IsChangeWith}
+use Rattle.nv_core.specs.GhostCalls.{IsChangeWith}
 use Rattle.nv_core.specs.Visits.{HasOwnBytes}
-use Rattle.nv_core.specs.declared.hold.Hold.{Hold}
-use Rattle.nv_core.specs.declared.hold.Hold.TheVariants as hold
+use Rattle.nv_core.specs.declared.reservation.Reservation.{Reservation}
+use Rattle.nv_core.specs.declared.reservation.Reservation.TheVariants as reserved
 use Rattle.nv_core.specs.declared.next.Ending.TheVariants as ending
 use Rattle.nv_core.specs.declared.next.Next.{Next}
 use Rattle.nv_core.specs.declared.next.Next.TheVariants as next
@@ -54,9 +54,9 @@ pub record CanBeChecked (shared : Shared) (hand : Hand) (running : Running) : Ty
   pub still : AreStill shared (slots_in running.slots)
   pub empty : blocks_of hand ≡ []
   pub inside : ForSome hand.ino (λ ino. ino < length shared.cells.items)
-  pub read : IsChangeWith (λ u. CanRead shared (slots_in running.slots) (handles running.looked (blank_call u))) running.job
+  pub read : IsChangeWith (λ u. CanRead shared (slots_in running.slots) (handles running.looked (blank_call u))) running.request
   pub number : IsChangeWith (λ u. (hand.ino ≡ None) × (makes u ≡ true)
-      ⊎ HasNumberFor (lent_cells (slots_in running.slots) shared.cells.items) (makes u) hand.ino) running.job
+      ⊎ HasNumberFor (lent_cells (slots_in running.slots) shared.cells.items) (makes u) hand.ino) running.request
 
 -- the hand has no block that was at home on a lower CPU, and none that is free
 pub record CanGive (shared : Shared) (hand : Hand) (home : ℕ) : Type 0 where
@@ -121,31 +121,31 @@ Given next.Check shared hand running = CanBeChecked shared hand running
 Given next.Ready shared hand running = CanGetReady shared running
 Given (next.Unlock place) shared hand running = place < length (slots_in running.slots)
 Given (next.Give cpu) shared hand running = CanGive shared hand cpu
-Given next.Back shared hand running = CanPutBack shared hand
+Given next.ReturnNumber shared hand running = CanPutBack shared hand
 Given next.Visit shared hand running =
     (slots_in running.slots ≡ []) × ((ino : ℕ) → HasOwnBytes (shared_of shared) ino) × (hand_of hand ≡ empty_hand)
 Given (next.Maintenance step) shared hand running =
     (slots_in running.slots ≡ slots_on (step_on step)) × HandOn (step_on step) (hand_of hand) × GivenOn step shared
 Given other shared hand running = Unit {0}
 
-abbrev pub GivenBy : Shared → Hold → Running → ℕ → Type 0
-GivenBy shared (hold.Hand hand) running actor = Given running.next shared hand running
-GivenBy shared (hold.Ready ready) running actor = shared.holder ≡ None → shared.book.state.commit < NUMBER
+abbrev pub GivenBy : Shared → Reservation → Running → ℕ → Type 0
+GivenBy shared (reserved.Hand hand) running actor = Given running.next shared hand running
+GivenBy shared (reserved.Ready ready) running actor = shared.holder ≡ None → shared.book.state.commit < NUMBER
     → CanEnter shared running ready actor
-GivenBy shared (hold.Commit commit) running actor = shared.holder ≡ Some actor
+GivenBy shared (reserved.Commit commit) running actor = shared.holder ≡ Some actor
 
 -- WHAT EVERY STEP OF AN ACTOR'S CALL IS GIVEN
-pub record CanStep (shared : Shared) (hold : Hold) (running : Running) (actor : ℕ) : Type 0 where
+pub record CanStep (shared : Shared) (reserved : Reservation) (running : Running) (actor : ℕ) : Type 0 where
   pub limits : IsWithinLimits shared.geometry.numbers
   pub actors : actor < shared.geometry.numbers.actors
   pub home : AreHome shared
-  pub device : IsOfDevice shared.geometry.numbers (hand_held hold)
+  pub device : IsOfDevice shared.geometry.numbers (hand_held reserved)
   pub slots : AreSlots shared (slots_in running.slots)
   pub wide : length shared.owners.items ≡ length shared.cells.items
-  pub own : GivenBy shared hold running actor
+  pub own : GivenBy shared reserved running actor
 
 -- the next step passes the hand on: the call is made ready, it enters, or its commit leaves
-abbrev pub PassesOn : Hold → Running → Type 0
-PassesOn (hold.Hand hand) running = running.next ≡ next.Ready
-PassesOn (hold.Ready ready) running = Unit {0}
-PassesOn (hold.Commit commit) running = step_of commit ≡ Leave
+abbrev pub IsHandover : Reservation → Running → Type 0
+IsHandover (reserved.Hand hand) running = running.next ≡ next.Ready
+IsHandover (reserved.Ready ready) running = Unit {0}
+IsHandover (reserved.Commit commit) running = step_of commit ≡ Leave

@@ -9,7 +9,7 @@ use Rattle.nv_core.specs.Steps.{CanStep}
 use Rattle.nv_core.specs.Worlds.{ShowsCall}
 use Rattle.nv_core.specs.declared.event.Reply.{Reply}
 use Rattle.nv_core.specs.declared.event.Reply.TheVariants as reply
-use Rattle.nv_core.specs.declared.hold.Hold.{Hold}
+use Rattle.nv_core.specs.declared.reservation.Reservation.{Reservation}
 use Rattle.nv_core.specs.declared.running.Running.{Running}
 use Rattle.nv_core.specs.declared.shared.Shared.{Shared}
 use Rattle.nv_core.specs.declared.turn.Turn.{Turn}
@@ -17,19 +17,19 @@ use Rattle.nv_core.specs.declared.world.Actor.{Actor}
 use Rattle.nv_core.specs.declared.turn.Turn.TheVariants as turn
 
 -- the call after a turn shows that of the machine, unless it has ended
-abbrev pub ShowsAfter : Turn → Hold → Running → machine.Running → Type 0
-ShowsAfter (turn.Ends result) hold running r = Unit {0}
-ShowsAfter other hold running r = ShowsCall hold running r
+abbrev pub ShowsAfter : Turn → Reservation → Running → machine.Running → Type 0
+ShowsAfter (turn.Ends result) reserved running r = Unit {0}
+ShowsAfter other reserved running r = ShowsCall reserved running r
 
 -- the turn of a call is the machine's, where the memory that it asked for was granted or refused
-pub record IsTurn (actor : ℕ) (old : Shared) (before : Hold) (r : machine.Running) (result : Turn) (new : Shared) (hold : Hold)
+pub record IsTurn (actor : ℕ) (old : Shared) (before : Reservation) (r : machine.Running) (result : Turn) (new : Shared) (reserved : Reservation)
     (running : Running)
     : Type 0 where
   pub granted : Bool
   pub after : machine.Running
   pub is : machine_step.turn old.geometry.numbers.block actor granted (shared_of old) (held_by before) r
-      ≡ turn_of result (shared_of new) (held_by hold) after
-  pub shows : ShowsAfter result hold running after
+      ≡ turn_of result (shared_of new) (held_by reserved) after
+  pub shows : ShowsAfter result reserved running after
 
 -- what it leaves to the other actors
 abbrev pub LeavesOthers : ℕ → machine.Running → Shared → Shared → Type 0
@@ -49,16 +49,16 @@ replied (turn.Ends (Ok answer)) = reply.Done answer
 replied (turn.Ends (Err fault)) = reply.Refused fault
 
 -- the call of an actor has gone on by one turn
-pub record HasTurned (actor : ℕ) (old : Shared) (before : Hold) (running : Running) (r : machine.Running) (answer : Reply) (new : Shared)
+pub record HasTurned (actor : ℕ) (old : Shared) (before : Reservation) (running : Running) (r : machine.Running) (answer : Reply) (new : Shared)
     (state : Actor) : Type 0 where
   pub result : Turn
   pub after : Running
-  pub is : IsTurn actor old before r result new state.hold after
-  pub waits : result ≡ turn.Waits → (new ≡ old) × (state.hold ≡ before) × (after ≡ running)
+  pub is : IsTurn actor old before r result new state.reserved after
+  pub waits : result ≡ turn.Waits → (new ≡ old) × (state.reserved ≡ before) × (after ≡ running)
   pub still_is : state.running ≡ still result after
   pub reply_is : answer ≡ replied result
 
 -- what an actor is given for its next step, if it has a call
-abbrev pub CanGo : Shared → Hold → Option Running → ℕ → Type 0
-CanGo shared hold None actor = Unit {0}
-CanGo shared hold (Some running) actor = CanStep shared hold running actor
+abbrev pub CanGo : Shared → Reservation → Option Running → ℕ → Type 0
+CanGo shared reserved None actor = Unit {0}
+CanGo shared reserved (Some running) actor = CanStep shared reserved running actor

@@ -10,36 +10,36 @@ use Rattle.nv_core.specs.declared.event.Event.{Event}
 use Rattle.nv_core.specs.declared.event.Event.TheVariants as event
 use Rattle.nv_core.specs.declared.event.Reply.{Reply}
 use Rattle.nv_core.specs.declared.event.Reply.TheVariants as reply
-use Rattle.nv_core.specs.declared.hold.Hold.{Hold}
+use Rattle.nv_core.specs.declared.reservation.Reservation.{Reservation}
 use Rattle.nv_core.specs.declared.running.Running.{Running}
 use Rattle.nv_core.specs.declared.shared.Shared.{Shared}
 use Rattle.nv_core.specs.declared.world.Actor.{Actor}
 use Rattle.nv_core.specs.Rooms.{HasActorRooms}
-use Rattle.nv_core.specs.Shown.{Told, held_by, shared_of, shown_by, slots_in}
+use Rattle.nv_core.specs.Shown.{GhostCall, held_by, shared_of, shown_by, slots_in}
 use Rattle.nv_core.specs.Appends.{IsPlacedBy}
-use Rattle.nv_core.specs.Told.{IsHoldOf, IsToldOf}
+use Rattle.nv_core.specs.GhostCalls.{IsReservationOf, IsGhostCallOf}
 
 -- ---- actors
 
 -- what a running call of the machine has that the code has used up, or keeps in its commit
-abbrev pub told_of : machine.Running → Told
+abbrev pub told_of : machine.Running → GhostCall
 told_of r = record { call = r.call; plan = r.plan; commit = r.commit; epoch = r.epoch }
 
 -- a running call: but for these, it is what is shown of the code's
-pub record ShowsCall (hold : Hold) (running : Running) (r : machine.Running) : Type 0 where
-  pub shown : shown_by hold (told_of r) running ≡ r
-  pub job : IsToldOf running (told_of r)
-  pub plan : IsHoldOf (slots_in running.slots) hold (told_of r)
-  pub place : IsPlacedBy (slots_in running.slots) hold (told_of r)
+pub record ShowsCall (reserved : Reservation) (running : Running) (r : machine.Running) : Type 0 where
+  pub shown : shown_by reserved (told_of r) running ≡ r
+  pub request : IsGhostCallOf running (told_of r)
+  pub plan : IsReservationOf (slots_in running.slots) reserved (told_of r)
+  pub place : IsPlacedBy (slots_in running.slots) reserved (told_of r)
 
-abbrev pub ShowsRunning : Hold → Option Running → Option machine.Running → Type 0
-ShowsRunning hold None None = Unit {0}
-ShowsRunning hold (Some running) (Some r) = ShowsCall hold running r
-ShowsRunning hold other shown = ⊥
+abbrev pub ShowsRunning : Reservation → Option Running → Option machine.Running → Type 0
+ShowsRunning reserved None None = Unit {0}
+ShowsRunning reserved (Some running) (Some r) = ShowsCall reserved running r
+ShowsRunning reserved other shown = ⊥
 
 pub record ShowsActor (actor : Actor) (shown : machine.Actor) : Type 0 where
-  pub hand : held_by actor.hold ≡ shown.hand
-  pub running : ShowsRunning actor.hold actor.running shown.running
+  pub hand : held_by actor.reserved ≡ shown.hand
+  pub running : ShowsRunning actor.reserved actor.running shown.running
 
 -- ---- the world
 
@@ -91,31 +91,31 @@ pub record IsRun (m : machine.World) (events : List Event) (replies : List Reply
 -- ---- the invariant
 
 -- a run of the machine: where it starts, with which records, and the events that came
-pub record Run : Type 0 where
+pub record EventRun : Type 0 where
   pub start : machine.World
   pub records : List Record
   pub events : List machine.Event
 
 -- a world of the machine has a run: some events lead to it from some start of its geometry
 abbrev pub HasRun : machine.World → Type 0
-HasRun m = (run : Run) × IsStart m.numbers run.start run.records × (m ≡ machine_step.after run.start run.events)
+HasRun m = (run : EventRun) × IsStart m.numbers run.start run.records × (m ≡ machine_step.after run.start run.events)
 
 -- that of a new world before any event
-abbrev pub new_run : GeometryNumbers → Run
+abbrev pub new_run : GeometryNumbers → EventRun
 new_run g = record { start = formatted g; records = []; events = [] }
 
 -- a world shows the machine's after a run, so that the machine's laws hold of it; and there is room for what its calls
 -- are about to do
-pub record IsWorldAfter (w : WorldState) (m : machine.World) (run : Run) : Type 0 where
+pub record IsWorldAfter (w : WorldState) (m : machine.World) (run : EventRun) : Type 0 where
   pub is_start : IsStart w.shared.geometry.numbers run.start run.records
   pub reached : m ≡ machine_step.after run.start run.events
   pub shows : Shows w m
   pub rooms : (k : ℕ) (d : Actor) → k < length w.actors
-      → HasActorRooms w.shared (slice_index_or w.actors k d).hold (slice_index_or w.actors k d).running
+      → HasActorRooms w.shared (slice_index_or w.actors k d).reserved (slice_index_or w.actors k d).running
 
 -- WHAT HOLDS OF EVERY WORLD: there is one of the machine that it shows
 abbrev pub IsWorld : WorldState → Type 0
-IsWorld w = (m : machine.World) × (run : Run) × IsWorldAfter w m run
+IsWorld w = (m : machine.World) × (run : EventRun) × IsWorldAfter w m run
 
 -- ---- for those who hold a world
 

@@ -17,14 +17,14 @@ ghost use Rattle.nv_core.specs.Shown.{hand_of, slots_in};
 ghost use Rattle.nv_core.specs.Worlds.{Shows};
 
 use crate::World;
-use crate::hold::Hold;
 use crate::next::{MaintenanceStep, Next};
+use crate::reservation::Reservation;
 use crate::world::Actor;
 use nv_alloc::{Block, Hand};
 use nv_audit::{Audited, InHands, InodePart};
 use nv_base::{BlockNo, Fault, Ino};
 use nv_book::Record;
-use nv_calls::{Commit, Slots};
+use nv_calls::{Commit, LockedSlots};
 use nv_cell::KilledPart;
 use nv_entry::PartId;
 use std::alloc::{AllocError, Global};
@@ -73,19 +73,19 @@ fn blocks_in_hands(alloc: Global, actors: &[Actor]) -> Result<Vec<BlockNo>, Allo
 {
     let mut blocks = Vec::new(alloc);
     for actor in actors {
-        push_blocks(&mut blocks, hand_of(&actor.hold))?;
+        push_blocks(&mut blocks, hand_of(&actor.reserved))?;
     }
     Ok(blocks)
 }
 
 /// The hand, whoever has it.
-fn hand_of(hold: &Hold) -> &Hand
-    ensures { result.now ≡ hand_held hold.now }
+fn hand_of(reserved: &Reservation) -> &Hand
+    ensures { result.now ≡ hand_held reserved.now }
 {
-    match hold {
-        Hold::Hand(hand) => hand,
-        Hold::Ready(ready) => ready.hand(),
-        Hold::Commit(commit) => commit.hand(),
+    match reserved {
+        Reservation::Hand(hand) => hand,
+        Reservation::Ready(ready) => ready.hand(),
+        Reservation::Commit(commit) => commit.hand(),
     }
 }
 
@@ -117,7 +117,7 @@ fn push_numbers(
 /// not yet released.
 fn parts_in_hands(alloc: Global, actors: &[Actor]) -> Result<Vec<InodePart>, AllocError>
     requires { (k : ℕ) (d : Actor) → k < length actors.now
-        → HasPlans (slice_index_or actors.now k d).hold }
+        → HasPlans (slice_index_or actors.now k d).reserved }
     ensures { IfOk result (λ parts. parts.items ≡ flat_map parts_by actors.now) }
 {
     let mut parts = Vec::new(alloc);
@@ -129,12 +129,12 @@ fn parts_in_hands(alloc: Global, actors: &[Actor]) -> Result<Vec<InodePart>, All
 
 /// Puts those of one actor to the end.
 fn push_parts(parts: &mut Vec<InodePart>, actor: &Actor) -> Result<(), AllocError>
-    requires { HasPlans actor.now.hold }
+    requires { HasPlans actor.now.reserved }
     ensures { OnOk result (parts.new.items ≡ parts.old.items ++ parts_by actor.now) }
 {
-    match (&actor.hold, &actor.running) {
-        (Hold::Hand(_), Some(running)) => push_picked(parts, &running.next),
-        (Hold::Commit(commit), Some(running)) => push_killed(parts, &running.slots, commit),
+    match (&actor.reserved, &actor.running) {
+        (Reservation::Hand(_), Some(running)) => push_picked(parts, &running.next),
+        (Reservation::Commit(commit), Some(running)) => push_killed(parts, &running.slots, commit),
         _ => Ok(()),
     }
 }
@@ -168,7 +168,11 @@ fn part_of(picked: &Record) -> InodePart
 }
 
 /// Puts the parts that the publishes of a commit have killed to the end, of those inodes that aren't retired yet.
-fn push_killed(parts: &mut Vec<InodePart>, slots: &Slots, commit: &Commit) -> Result<(), AllocError>
+fn push_killed(
+    parts: &mut Vec<InodePart>,
+    slots: &LockedSlots,
+    commit: &Commit,
+) -> Result<(), AllocError>
     requires { commit.now.published ≤ length commit.now.plans }
     ensures { OnOk result (parts.new.items ≡ parts.old.items
         ++ killed_by_plans (slots_in slots.now) commit.now) }
@@ -181,7 +185,7 @@ fn push_killed(parts: &mut Vec<InodePart>, slots: &Slots, commit: &Commit) -> Re
 }
 
 /// The slot of a plan's cell, by its place among the slots of the call.
-fn slot_at(slots: &Slots, place: usize) -> Ino
+fn slot_at(slots: &LockedSlots, place: usize) -> Ino
     ensures { result ≡ slot_at (slots_in slots.now) place }
 {
     match slots.as_slice().get(place) {

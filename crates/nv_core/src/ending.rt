@@ -6,22 +6,22 @@ ghost use Rattle.nv_machine.specs.Reads.{home_from};
 ghost use Rattle.nv_machine.specs.World as machine;
 ghost use Rattle.nv_core.specs.Parts.{AreHome, IsOfDevice};
 ghost use Rattle.nv_core.specs.Rooms.{CanDrain, CanEnd, HasRoomsAfter, IsHandOf, IsNoDrain};
-ghost use Rattle.nv_core.specs.Shown.{Told, ending_of, hand_of, shared_of, shown, slots_in, turn_of};
-ghost use Rattle.nv_core.specs.Told.{KeepsJob, OwesAt};
+ghost use Rattle.nv_core.specs.Shown.{GhostCall, ending_of, hand_of, shared_of, shown, slots_in, turn_of};
+ghost use Rattle.nv_core.specs.GhostCalls.{KeepsRequest, OwesAt};
 
-use crate::hold::Hold;
 use crate::next::{Draining, Ending, MaintenanceStep, Next};
+use crate::reservation::Reservation;
 use crate::running::Running;
 use crate::shared::Shared;
 use crate::turn::Turn;
 use nv_alloc::Hand;
 use nv_base::Fault;
-use nv_calls::{Answer, Slots};
+use nv_calls::{Answer, LockedSlots};
 use nv_clean::Cleaned;
 
 /// What the call is answered at its last step.
 pub(crate) fn result_of(running: &Running) -> Result<Answer, Fault>
-    ensures { (told : Told) → OwesAt running.now.ending running.now told
+    ensures { (told : GhostCall) → OwesAt running.now.ending running.now told
         → result ≡ result_by (ending_of running.now.ending) (shown told running.now) }
 {
     match running.ending {
@@ -50,17 +50,17 @@ pub(crate) fn give_back(shared: &Shared, hand: &Hand, running: &mut Running) -> 
     requires device { IsOfDevice shared.now.geometry.numbers hand.now }
     requires call { CanEnd running.old running.old.ending }
     requires sized { IsHandOf shared.now.geometry.numbers hand.now }
-    requires drains { CanDrain running.old.ending running.old.job hand.now }
-    ensures turn { (told : Told) → OwesAt running.old.ending running.old told
+    requires drains { CanDrain running.old.ending running.old.request hand.now }
+    ensures turn { (told : GhostCall) → OwesAt running.old.ending running.old told
         → let s = shared_of shared.now in let h = hand_of hand.now in
         rest_turn (home_from 0 0 s.lists (blocks_in h)) h.ino s h (shown told running.old)
         ≡ turn_of result s h (shown told running.new) }
-    ensures job { KeepsJob running.old running.new }
+    ensures request { KeepsRequest running.old running.new }
     ensures slots { IsNoDrain running.old.ending → running.new.slots ≡ running.old.slots }
     ensures goes { result ≢ Turn.Waits }
-    ensures rooms { HasRoomsAfter result shared.now (Hold.Hand hand.now) running.new }
+    ensures rooms { HasRoomsAfter result shared.now (Reservation.Hand hand.now) running.new }
 {
-    match hand.lowest_home(&shared.geometry) {
+    match hand.first_home_cpu(&shared.geometry) {
         Some(cpu) => {
             running.next = Next::Give(cpu);
             Turn::Moves
@@ -71,20 +71,20 @@ pub(crate) fn give_back(shared: &Shared, hand: &Hand, running: &mut Running) -> 
 
 /// All blocks are at home: a number goes back. Where there is none, the step replies.
 fn give_number(hand: &Hand, running: &mut Running) -> Turn
-    ensures turn { (told : Told) (s : machine.Shared) → OwesAt running.old.ending running.old told
+    ensures turn { (told : GhostCall) (s : machine.Shared) → OwesAt running.old.ending running.old told
         → let h = hand_of hand.now in rest_turn None h.ino s h (shown told running.old)
         ≡ turn_of result s h (shown told running.new) }
-    ensures job { KeepsJob running.old running.new }
+    ensures request { KeepsRequest running.old running.new }
     ensures slots { IsNoDrain running.old.ending → running.new.slots ≡ running.old.slots }
     ensures goes { result ≢ Turn.Waits }
     ensures rooms { (s : Shared) → CanEnd running.old running.old.ending
         → IsHandOf s.geometry.numbers hand.now
-        → CanDrain running.old.ending running.old.job hand.now
-        → HasRoomsAfter result s (Hold.Hand hand.now) running.new }
+        → CanDrain running.old.ending running.old.request hand.now
+        → HasRoomsAfter result s (Reservation.Hand hand.now) running.new }
 {
     match hand.ino() {
         Some(_) => {
-            running.next = Next::Back;
+            running.next = Next::ReturnNumber;
             Turn::Moves
         }
         None => last(running),
@@ -93,16 +93,16 @@ fn give_number(hand: &Hand, running: &mut Running) -> Turn
 
 /// Nothing is locked, and nothing in the hand: the step replies, or a drain goes on.
 pub(crate) fn last(running: &mut Running) -> Turn
-    ensures turn { (told : Told) (s : machine.Shared) (h : machine.HandState)
+    ensures turn { (told : GhostCall) (s : machine.Shared) (h : machine.HandState)
         → OwesAt running.old.ending running.old told
         → last_turn (ending_of running.old.ending) s h (shown told running.old)
         ≡ turn_of result s h (shown told running.new) }
-    ensures job { KeepsJob running.old running.new }
+    ensures request { KeepsRequest running.old running.new }
     ensures slots { IsNoDrain running.old.ending → running.new.slots ≡ running.old.slots }
     ensures goes { result ≢ Turn.Waits }
     ensures rooms { (s : Shared) (hand : Hand) → CanEnd running.old running.old.ending
-        → IsHandOf s.geometry.numbers hand → CanDrain running.old.ending running.old.job hand
-        → HasRoomsAfter result s (Hold.Hand hand) running.new }
+        → IsHandOf s.geometry.numbers hand → CanDrain running.old.ending running.old.request hand
+        → HasRoomsAfter result s (Reservation.Hand hand) running.new }
 {
     match running.ending {
         Ending::Drains(draining) => drained(draining, running),
@@ -114,14 +114,14 @@ pub(crate) fn last(running: &mut Running) -> Turn
 
 /// A drain picks the next record, if it may release more.
 fn drained(draining: Draining, running: &mut Running) -> Turn
-    ensures turn { (told : Told) (s : machine.Shared) (h : machine.HandState)
+    ensures turn { (told : GhostCall) (s : machine.Shared) (h : machine.HandState)
         → drained_turn draining.left draining.released s h (shown told running.old)
         ≡ turn_of result s h (shown told running.new) }
-    ensures job { KeepsJob running.old running.new }
+    ensures request { KeepsRequest running.old running.new }
     ensures goes { result ≢ Turn.Waits }
     ensures rooms { (s : Shared) (hand : Hand) → IsHandOf s.geometry.numbers hand
-        → CanDrain (Ending.Drains draining) running.old.job hand
-        → HasRoomsAfter result s (Hold.Hand hand) running.new }
+        → CanDrain (Ending.Drains draining) running.old.request hand
+        → HasRoomsAfter result s (Reservation.Hand hand) running.new }
 {
     if draining.left == 0 {
         return Turn::Ends(Ok(Answer::Count(draining.released)));
@@ -131,7 +131,7 @@ fn drained(draining: Draining, running: &mut Running) -> Turn
         left: draining.left - 1,
     };
     running.ending = Ending::Answers;
-    running.slots = Slots::none();
+    running.slots = LockedSlots::none();
     running.next = Next::Maintenance(MaintenanceStep::Pick(next));
     Turn::Moves
 }
@@ -142,15 +142,15 @@ pub(crate) fn end_unlocked(shared: &Shared, hand: &Hand, running: &mut Running) 
     requires device { IsOfDevice shared.now.geometry.numbers hand.now }
     requires call { CanEnd running.old running.old.ending }
     requires sized { IsHandOf shared.now.geometry.numbers hand.now }
-    requires drains { CanDrain running.old.ending running.old.job hand.now }
-    ensures turn { (told : Told) → OwesAt running.old.ending running.old told
+    requires drains { CanDrain running.old.ending running.old.request hand.now }
+    ensures turn { (told : GhostCall) → OwesAt running.old.ending running.old told
         → let s = shared_of shared.now in let h = hand_of hand.now in
         over_turn (ending_of running.old.ending) s h (shown told running.old)
         ≡ turn_of result s h (shown told running.new) }
-    ensures job { KeepsJob running.old running.new }
+    ensures request { KeepsRequest running.old running.new }
     ensures slots { IsNoDrain running.old.ending → running.new.slots ≡ running.old.slots }
     ensures goes { result ≢ Turn.Waits }
-    ensures rooms { HasRoomsAfter result shared.now (Hold.Hand hand.now) running.new }
+    ensures rooms { HasRoomsAfter result shared.now (Reservation.Hand hand.now) running.new }
 {
     match running.ending {
         Ending::Answers | Ending::Refuses(_) | Ending::Drains(_) | Ending::Cleans(_) => {
@@ -162,14 +162,14 @@ pub(crate) fn end_unlocked(shared: &Shared, hand: &Hand, running: &mut Running) 
 
 /// The next round of looks, if there is one.
 fn again(running: &mut Running) -> Turn
-    ensures turn { (told : Told) (s : machine.Shared) (h : machine.HandState)
+    ensures turn { (told : GhostCall) (s : machine.Shared) (h : machine.HandState)
         → again_turn running.old.rounds s h (shown told running.old)
         ≡ turn_of result s h (shown told running.new) }
-    ensures job { KeepsJob running.old running.new }
+    ensures request { KeepsRequest running.old running.new }
     ensures slots { IsNoDrain running.old.ending → running.new.slots ≡ running.old.slots }
     ensures goes { result ≢ Turn.Waits }
     ensures rooms { (s : Shared) (h : Hand) → CanEnd running.old Ending.Overtaken
-        → IsHandOf s.geometry.numbers h → HasRoomsAfter result s (Hold.Hand h) running.new }
+        → IsHandOf s.geometry.numbers h → HasRoomsAfter result s (Reservation.Hand h) running.new }
 {
     if running.rounds == 0 {
         return Turn::Ends(Err(Fault::Contended));
@@ -186,15 +186,15 @@ pub(crate) fn end(shared: &Shared, hand: &Hand, running: &mut Running, ending: E
     requires device { IsOfDevice shared.now.geometry.numbers hand.now }
     requires call { CanEnd running.old ending }
     requires sized { IsHandOf shared.now.geometry.numbers hand.now }
-    requires drains { CanDrain ending running.old.job hand.now }
-    ensures turn { (told : Told) → OwesAt ending running.old told
+    requires drains { CanDrain ending running.old.request hand.now }
+    ensures turn { (told : GhostCall) → OwesAt ending running.old told
         → let s = shared_of shared.now in let h = hand_of hand.now in
         end_turn (slots_in running.old.slots) (ending_of ending) s h (shown told running.old)
         ≡ turn_of result s h (shown told running.new) }
-    ensures job { KeepsJob running.old running.new }
+    ensures request { KeepsRequest running.old running.new }
     ensures slots { IsNoDrain ending → running.new.slots ≡ running.old.slots }
     ensures goes { result ≢ Turn.Waits }
-    ensures rooms { HasRoomsAfter result shared.now (Hold.Hand hand.now) running.new }
+    ensures rooms { HasRoomsAfter result shared.now (Reservation.Hand hand.now) running.new }
 {
     running.ending = ending;
     if running.slots.len() > 0 {
@@ -210,12 +210,12 @@ pub(crate) fn refuse(shared: &Shared, hand: &Hand, running: &mut Running, fault:
     requires device { IsOfDevice shared.now.geometry.numbers hand.now }
     requires call { CanEnd running.old (Ending.Refuses fault) }
     requires sized { IsHandOf shared.now.geometry.numbers hand.now }
-    ensures turn { (told : Told) → let s = shared_of shared.now in let h = hand_of hand.now in
+    ensures turn { (told : GhostCall) → let s = shared_of shared.now in let h = hand_of hand.now in
         refuse fault s h (shown told running.old) ≡ turn_of result s h (shown told running.new) }
-    ensures job { KeepsJob running.old running.new }
+    ensures request { KeepsRequest running.old running.new }
     ensures slots { running.new.slots ≡ running.old.slots }
     ensures goes { result ≢ Turn.Waits }
-    ensures rooms { HasRoomsAfter result shared.now (Hold.Hand hand.now) running.new }
+    ensures rooms { HasRoomsAfter result shared.now (Reservation.Hand hand.now) running.new }
 {
     end(shared, hand, running, Ending::Refuses(fault))
 }

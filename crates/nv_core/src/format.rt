@@ -11,7 +11,7 @@ ghost use Rattle.nv_core.specs.Shown.{shared_of};
 ghost use Rattle.nv_core.specs.Worlds.{Shows};
 
 use crate::World;
-use crate::hold::Hold;
+use crate::reservation::Reservation;
 use crate::shared::Shared;
 use crate::world::{Actor, dismantle};
 use nv_alloc::{Block, BlockQueue, FreeList, Hand, InodePool};
@@ -50,7 +50,7 @@ impl World {
             holder: None,
         };
         let mut actors = Vec::new(alloc);
-        match furnish(alloc, &mut shared, &mut actors) {
+        match add_parts(alloc, &mut shared, &mut actors) {
             Ok(()) => Ok(World {
                 alloc,
                 shared,
@@ -66,7 +66,7 @@ impl World {
 }
 
 /// Puts lists, cells and actors where there are none, and the root.
-fn furnish(alloc: Global, shared: &mut Shared, actors: &mut Vec<Actor>) -> Result<(), Fault>
+fn add_parts(alloc: Global, shared: &mut Shared, actors: &mut Vec<Actor>) -> Result<(), Fault>
     requires lists { shared.old.lists.items ≡ [] }
     requires pool { shared.old.pool ≡ (rootless shared.old.geometry.numbers).pool }
     requires cells { shared.old.cells.items ≡ [] }
@@ -130,9 +130,9 @@ fn add_actors(alloc: Global, geometry: &Geometry, actors: &mut Vec<Actor>) -> Re
     let count = geometry.numbers.actors;
     actors.reserve(count as usize)?;
     for _actor in 0..count {
-        let hold = Hold::Hand(Hand::new(alloc, geometry));
+        let reserved = Reservation::Hand(Hand::new(alloc, geometry));
         let running = None;
-        actors.push_reserved(Actor { hold, running });
+        actors.push_reserved(Actor { reserved, running });
     }
     Ok(())
 }

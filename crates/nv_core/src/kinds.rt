@@ -1,7 +1,6 @@
 //! The steps, a file for each kind.
 
 pub(crate) mod append;
-pub(crate) mod back;
 pub(crate) mod check;
 pub(crate) mod clean;
 pub(crate) mod close;
@@ -23,6 +22,7 @@ pub(crate) mod publish;
 pub(crate) mod ready;
 pub(crate) mod release;
 pub(crate) mod retire;
+pub(crate) mod return_number;
 pub(crate) mod show;
 pub(crate) mod take;
 pub(crate) mod unlink;

@@ -2,7 +2,7 @@
 
 ghost use Rattle.nv_base.specs.declared.geometry.GeometryNumbers.{GeometryNumbers};
 ghost use Rattle.nv_core.specs.Consistent.{IsConsistentAfter, IsConsistentWorld};
-ghost use Rattle.nv_core.specs.Worlds.{Run};
+ghost use Rattle.nv_core.specs.Worlds.{EventRun};
 ghost use Rattle.nv_machine.specs.Starts.{IsStart};
 
 use crate::World;
@@ -14,7 +14,7 @@ use crate::World;
 /// commit point; and each living snapshot reads as the tree that stood when it was made. An inode's index and names are
 /// at all times those of one scan of its log ([`nv_cell::InodeCell`]).
 pub fn worlds_are_consistent()
-    ensures { (g : GeometryNumbers) (run : Run) → IsStart g run.start run.records
+    ensures { (g : GeometryNumbers) (run : EventRun) → IsStart g run.start run.records
         → IsConsistentAfter g run }
 {}
 

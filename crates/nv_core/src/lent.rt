@@ -17,11 +17,11 @@ ghost use Rattle.nv_core.specs.Parts.{HaveSlots};
 ghost use Rattle.nv_core.specs.Shown.{slots_in};
 
 use nv_book::Book;
-use nv_calls::{Commit, SlotCells, Slots, append_on, publish_on};
+use nv_calls::{Commit, LockedSlots, SlotCells, append_on, publish_on};
 use nv_cell::InodeCell;
 
 /// Appends the entries of the next inode.
-pub(crate) fn append_in(cells: &mut [InodeCell], slots: &Slots, commit: &mut Commit)
+pub(crate) fn append_in(cells: &mut [InodeCell], slots: &LockedSlots, commit: &mut Commit)
     requires slots { HaveSlots cells.old (slots_in slots.now) }
     requires turn { commit.old.appended < length commit.old.plans }
     requires within { (to_append commit.old).at < length (slots_in slots.now) }
@@ -47,7 +47,12 @@ pub(crate) fn append_in(cells: &mut [InodeCell], slots: &Slots, commit: &mut Com
 }
 
 /// Publishes the entries of the next inode.
-pub(crate) fn publish_in(book: &Book, cells: &mut [InodeCell], slots: &Slots, commit: &mut Commit)
+pub(crate) fn publish_in(
+    book: &Book,
+    cells: &mut [InodeCell],
+    slots: &LockedSlots,
+    commit: &mut Commit,
+)
     requires slots { HaveSlots cells.old (slots_in slots.now) }
     requires turn { commit.old.published < length commit.old.plans }
     requires appended { commit.old.appended ≡ length commit.old.plans }

@@ -10,14 +10,14 @@ ghost use Rattle.nv_core.specs.Parts.{HaveSlots};
 ghost use Rattle.nv_core.specs.Shown.{slots_in};
 
 use nv_book::Book;
-use nv_calls::{Commit, SlotCells, Slots, open_on};
+use nv_calls::{Commit, LockedSlots, SlotCells, open_on};
 use nv_cell::InodeCell;
 
 /// Opens the journal of a CPU with the tails of all inodes that get entries.
 pub(crate) fn open_in(
     book: &mut Book,
     cells: &mut [InodeCell],
-    slots: &Slots,
+    slots: &LockedSlots,
     commit: &mut Commit,
     cpu: u64,
 )

@@ -12,7 +12,7 @@ ghost use Rattle.nv_core.specs.Shown.{slots_in};
 use crate::fill::Text;
 use nv_alloc::Hand;
 use nv_base::Fault;
-use nv_calls::{Cells, Plan, Ready, SlotCells, Slots, fill, ready_on};
+use nv_calls::{Cells, LockedSlots, Plan, Ready, SlotCells, fill, ready_on};
 use nv_cell::InodeCell;
 use std::alloc::Global;
 
@@ -20,7 +20,7 @@ use std::alloc::Global;
 pub(crate) fn ready_in(
     alloc: Global,
     cells: &mut [InodeCell],
-    slots: &Slots,
+    slots: &LockedSlots,
     plan: Plan,
     hand: Hand,
     text: &[u8],

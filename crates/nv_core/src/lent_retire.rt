@@ -13,14 +13,14 @@ ghost use Rattle.nv_core.specs.Shown.{slots_in};
 ghost use Rattle.std.specs.Prelude.{None};
 
 use nv_book::Book;
-use nv_calls::{Commit, SlotCells, Slots, retire_on};
+use nv_calls::{Commit, LockedSlots, SlotCells, retire_on};
 use nv_cell::InodeCell;
 
 /// Retires what was killed of the next inode.
 pub(crate) fn retire_in(
     book: &mut Book,
     cells: &mut [InodeCell],
-    slots: &Slots,
+    slots: &LockedSlots,
     commit: &mut Commit,
 )
     requires slots { HaveSlots cells.old (slots_in slots.now) }

@@ -9,11 +9,16 @@ ghost use Rattle.nv_core.specs.Parts.{HaveSlots};
 ghost use Rattle.nv_core.specs.Shown.{slots_in};
 
 use nv_alloc::Hand;
-use nv_calls::{Plan, SlotCells, Slots, pages_wanted};
+use nv_calls::{LockedSlots, Plan, SlotCells, pages_wanted};
 use nv_cell::InodeCell;
 
 /// How many log pages a call wants, with the data blocks in the hand.
-pub(crate) fn pages_in(cells: &mut [InodeCell], slots: &Slots, plan: &Plan, hand: &Hand) -> u64
+pub(crate) fn pages_in(
+    cells: &mut [InodeCell],
+    slots: &LockedSlots,
+    plan: &Plan,
+    hand: &Hand,
+) -> u64
     requires slots { HaveSlots cells.old (slots_in slots.now) }
     requires can { CanReady (lent_cells (slots_in slots.now) cells.old) hand.now plan.now.update }
     ensures same { cells.new ≡ cells.old }

@@ -6,13 +6,11 @@
 #![tactic(auto)]
 
 mod audit;
-mod bounded;
+mod calls_end;
 mod ending;
 mod event;
 mod fill;
 mod format;
-mod hold;
-mod job;
 mod kinds;
 pub mod laws;
 mod lent;
@@ -23,6 +21,8 @@ mod lent_take;
 mod next;
 mod parts;
 mod reports;
+mod request;
+mod reservation;
 mod running;
 pub mod scan_laws;
 mod shared;
@@ -36,7 +36,7 @@ mod turn;
 mod whole;
 mod world;
 
-pub use bounded::MOST_STEPS;
+pub use calls_end::MOST_STEPS;
 pub use event::{Event, Reply};
 pub use format::root;
 pub use nv_audit::Audited;

@@ -17,11 +17,11 @@ pub(crate) enum Next {
     Lock(usize),
     Check,
     TakeBlocks(u64),
-    TakePages(u64),
+    TakeLogPages(u64),
     Ready,
     Unlock(usize),
     Give(u64),
-    Back,
+    ReturnNumber,
     Visit,
     Maintenance(MaintenanceStep),
 }

@@ -19,14 +19,14 @@ ghost use Rattle.nv_core.specs.Shown.{shared_of};
 ghost use Rattle.nv_core.specs.Worlds.{Shows};
 
 use crate::World;
-use crate::hold::Hold;
 use crate::next::{MaintenanceStep, Next};
+use crate::reservation::Reservation;
 use crate::shared::Shared;
 use crate::world::Actor;
 use nv_alloc::{FreeList, FreeRun};
 use nv_base::{Epoch, Fault, Ino, Items};
 use nv_book::Book;
-use nv_cell::{InodeCell, Mark, PageCounts};
+use nv_cell::{InodeCell, LogPageCounts, Mark};
 use nv_entry::{Entry, Part};
 use std::alloc::Global;
 
@@ -53,7 +53,7 @@ pub type Lists = Items<Items<FreeRun>>;
 #[derive(Debug, Drop)]
 pub struct LogCounts {
     pub entries: usize,
-    pub pages: Items<PageCounts>,
+    pub pages: Items<LogPageCounts>,
 }
 
 impl World {
@@ -172,8 +172,8 @@ fn picked_by(actor: &Actor) -> u64
     ensures value { result ≡ picked_of actor.now }
     ensures few { result ≤ 1 }
 {
-    match (&actor.hold, &actor.running) {
-        (Hold::Hand(_), Some(running)) => picked_at(&running.next),
+    match (&actor.reserved, &actor.running) {
+        (Reservation::Hand(_), Some(running)) => picked_at(&running.next),
         _ => 0,
     }
 }
@@ -245,7 +245,7 @@ fn kept_of(cell: &InodeCell, book: &Book, place: usize, entry: &Entry) -> u64
     requires { slice_get (log_of cell.now.state) place ≡ Some entry.now }
     ensures { result ≡ kept_at book.now.state cell.now.state place entry.now }
 {
-    cell.known();
+    cell.use_invariant();
     let marks = cell.marks_of(place);
     let mut count = 0;
     for k in 0..entry.item.part_count() {
@@ -284,7 +284,7 @@ fn has_block(cell: &InodeCell, entry: &Entry, k: u32) -> bool
         → is_there (mark_of cell.now.state place k) ≡ true
         → result ≡ is_some (block_at cell.now.state place k) }
 {
-    cell.known();
+    cell.use_invariant();
     match entry.item.part_at(k) {
         Some(part) => is_page(part),
         None => false,

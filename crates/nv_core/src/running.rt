@@ -5,18 +5,20 @@ ghost use Rattle.nv_machine.specs.Sequence.{begun, beginning, first_clean, first
 ghost use Rattle.nv_base.specs.declared.limits.TheConstants.{DRAIN};
 ghost use Rattle.nv_machine.specs.World as machine;
 ghost use Rattle.nv_core.specs.Rooms.{FitsCall, FitsNext, HasNextRoom, HasRooms, HasStepRoom, IsHandOf, takes};
-ghost use Rattle.nv_core.specs.Shown.{Told, draining_of, manner_of, next_of, shared_of, shown, slots_in, step_on};
+ghost use Rattle.nv_core.specs.Shown.{GhostCall, draining_of, manner_of, next_of, shared_of, shown, slots_in, step_on};
 ghost use Rattle.nv_calls.specs.Updates.{call_of};
-ghost use Rattle.nv_core.specs.Told.{IsAtStart, IsChangeBy, IsJobOf, IsToldOf, is_change, looking_at, starting};
+ghost use Rattle.nv_core.specs.GhostCalls.{IsAtStart, IsChangeBy, IsRequestOf, IsGhostCallOf, is_change, looking_at, starting};
 
-use crate::hold::Hold;
-use crate::job::{Job, Owed, job_of};
 use crate::next::{Draining, Ending, MaintenanceStep, Manner, Next, ToClean};
+use crate::request::{PendingAnswer, Request, request_of};
+use crate::reservation::Reservation;
 use crate::shared::Shared;
 use crate::turn::Turn;
 use nv_alloc::Hand;
 use nv_base::{Gen, Handle, Ino, limits};
-use nv_calls::{Call, Looked, MaintenanceCall, Plan, Slots, Update, look_count, slots_of};
+use nv_calls::{
+    Call, LockedSlots, LookupResult, MaintenanceCall, Plan, Update, look_count, slots_of,
+};
 use std::alloc::Global;
 
 /// How many more rounds of looks a call may make after its first.
@@ -25,16 +27,16 @@ const ROUNDS: u64 = 7;
 /// A call that runs.
 #[derive(Drop)]
 pub(crate) struct Running {
-    pub(crate) job: Job,
-    pub(crate) owed: Owed,
+    pub(crate) request: Request,
+    pub(crate) owed: PendingAnswer,
     pub(crate) next: Next,
     pub(crate) ending: Ending,
     /// What its looks found.
-    pub(crate) looked: Looked,
+    pub(crate) looked: LookupResult,
     /// How many more rounds of looks it may make.
     pub(crate) rounds: u64,
     /// The slots that it locks.
-    pub(crate) slots: Slots,
+    pub(crate) slots: LockedSlots,
     /// The handle of its new inode, where it makes one.
     pub(crate) made: Handle,
     /// How many blocks of a taking it still wants.
@@ -42,12 +44,12 @@ pub(crate) struct Running {
 }
 
 /// The step for a place in the loop of locks, or what comes behind the last.
-pub(crate) fn locking(place: usize, slots: &Slots) -> Next
+pub(crate) fn locking(place: usize, slots: &LockedSlots) -> Next
     ensures next { next_of result ≡ locking place (slots_in slots.now) }
-    ensures before { (job : Job) → is_change job ≡ true → FitsNext result job }
+    ensures before { (request : Request) → is_change request ≡ true → FitsNext result request }
     ensures none { takes result ≡ false }
-    ensures room { (how : Ending) (job : Job) (shared : Shared) (hand : Hand)
-        → HasNextRoom result how job shared hand }
+    ensures room { (how : Ending) (request : Request) (shared : Shared) (hand : Hand)
+        → HasNextRoom result how request shared hand }
 {
     if place < slots.len() {
         return Next::Lock(place);
@@ -56,14 +58,14 @@ pub(crate) fn locking(place: usize, slots: &Slots) -> Next
 }
 
 /// The same in the loop of looks, behind which comes the loop of locks.
-pub(crate) fn looking(place: usize, update: &Update, slots: &Slots) -> Next
+pub(crate) fn looking(place: usize, update: &Update, slots: &LockedSlots) -> Next
     ensures next { (text : List ℕ) → next_of result
         ≡ looking_at place (slots_in slots.now) (call_of update.now text) }
-    ensures before { (job : Job) (plan : Plan) → IsChangeBy job plan → plan.update ≡ update.now
-        → FitsNext result job }
+    ensures before { (request : Request) (plan : Plan) → IsChangeBy request plan → plan.update ≡ update.now
+        → FitsNext result request }
     ensures none { takes result ≡ false }
-    ensures room { (how : Ending) (job : Job) (shared : Shared) (hand : Hand)
-        → HasNextRoom result how job shared hand }
+    ensures room { (how : Ending) (request : Request) (shared : Shared) (hand : Hand)
+        → HasNextRoom result how request shared hand }
 {
     if place < look_count(update) {
         return Next::Look(place);
@@ -72,30 +74,30 @@ pub(crate) fn looking(place: usize, update: &Update, slots: &Slots) -> Next
 }
 
 /// The first step of a call, and the slots that it locks as far as they are known.
-fn first_step(inodes: u64, job: &Job, looked: &Looked) -> (Next, Slots)
-    requires job { IsAtStart job.now }
+fn first_step(inodes: u64, request: &Request, looked: &LookupResult) -> (Next, LockedSlots)
+    requires request { IsAtStart request.now }
     requires looked { looked.now ≡ nothing_looked }
-    ensures first { (s : machine.Shared) (owed : Owed) (c : Call) → length s.cells ≡ inodes
-        → IsJobOf job.now owed c → let first = begun (beginning c) s c in
+    ensures first { (s : machine.Shared) (owed : PendingAnswer) (c : Call) → length s.cells ≡ inodes
+        → IsRequestOf request.now owed c → let first = begun (beginning c) s c in
         (next_of result.0 ≡ first.next) × (slots_in result.1 ≡ first.slots) }
-    ensures before { FitsNext result.0 job.now }
+    ensures before { FitsNext result.0 request.now }
     ensures none { takes result.0 ≡ false }
-    ensures room { (how : Ending) (job : Job) (shared : Shared) (hand : Hand)
-        → HasNextRoom result.0 how job shared hand }
+    ensures room { (how : Ending) (request : Request) (shared : Shared) (hand : Hand)
+        → HasNextRoom result.0 how request shared hand }
 {
-    let none = Slots::none();
-    match job {
-        Job::Change(Plan { update, .. }, _) => first_of_change(inodes, update, looked),
-        Job::Maintenance(call) => {
+    let none = LockedSlots::none();
+    match request {
+        Request::Change(Plan { update, .. }, _) => first_of_change(inodes, update, looked),
+        Request::Maintenance(call) => {
             let (step, slots) = first_of_maintenance(inodes, call);
             (Next::Maintenance(step), slots)
         }
-        Job::Visit(_) | Job::Given => (Next::Visit, none),
+        Request::Visit(_) | Request::Given => (Next::Visit, none),
     }
 }
 
 /// The first step of a call on snapshots or of a cleaner, and the slot that it locks, if any.
-fn first_of_maintenance(inodes: u64, call: &MaintenanceCall) -> (MaintenanceStep, Slots)
+fn first_of_maintenance(inodes: u64, call: &MaintenanceCall) -> (MaintenanceStep, LockedSlots)
     ensures step { step_on result.0 ≡ first_step inodes call.now }
     ensures slots { slots_in result.1 ≡ slots_on (first_step inodes call.now) }
     ensures room { (shared : Shared) (hand : Hand) → HasStepRoom result.0 shared hand }
@@ -109,20 +111,20 @@ fn first_of_maintenance(inodes: u64, call: &MaintenanceCall) -> (MaintenanceStep
         MaintenanceCall::Thorough(ino) => return first_clean(inodes, Manner::Thorough, *ino),
         MaintenanceCall::Auto(ino) => return first_clean(inodes, Manner::Auto, *ino),
     };
-    (step, Slots::none())
+    (step, LockedSlots::none())
 }
 
 /// A cleaner locks the slot of its number, if there are that many. A number without a slot is judged at once.
-fn first_clean(inodes: u64, manner: Manner, ino: Ino) -> (MaintenanceStep, Slots)
+fn first_clean(inodes: u64, manner: Manner, ino: Ino) -> (MaintenanceStep, LockedSlots)
     ensures step { step_on result.0 ≡ first_clean inodes (manner_of manner) ino }
     ensures slots { slots_in result.1 ≡ slots_on (first_clean inodes (manner_of manner) ino) }
     ensures room { (shared : Shared) (hand : Hand) → HasStepRoom result.0 shared hand }
 {
     if ino.number() < inodes {
         let log = ToClean { manner, ino };
-        return (MaintenanceStep::LockCleaned(log), Slots::one(ino));
+        return (MaintenanceStep::LockCleaned(log), LockedSlots::one(ino));
     }
-    (MaintenanceStep::Judge(manner, None), Slots::none())
+    (MaintenanceStep::Judge(manner, None), LockedSlots::none())
 }
 
 /// A drain that may release so many records. A number outside 1 to [`limits::DRAIN`] counts as the nearest of these.
@@ -138,18 +140,18 @@ fn new_draining(number: u64) -> Draining
 }
 
 /// The first step of a call that changes nodes, and its slots as far as they are known.
-fn first_of_change(inodes: u64, update: &Update, looked: &Looked) -> (Next, Slots)
+fn first_of_change(inodes: u64, update: &Update, looked: &LookupResult) -> (Next, LockedSlots)
     requires looked { looked.now ≡ nothing_looked }
     ensures first { (s : machine.Shared) (text : List ℕ) → length s.cells ≡ inodes
         → let c = call_of update.now text in let first = begun (beginning c) s c in
         (next_of result.0 ≡ first.next) × (slots_in result.1 ≡ first.slots) }
-    ensures before { (job : Job) (plan : Plan) → IsChangeBy job plan → plan.update ≡ update.now
-        → FitsNext result.0 job }
+    ensures before { (request : Request) (plan : Plan) → IsChangeBy request plan → plan.update ≡ update.now
+        → FitsNext result.0 request }
     ensures none { takes result.0 ≡ false }
-    ensures room { (how : Ending) (job : Job) (shared : Shared) (hand : Hand)
-        → HasNextRoom result.0 how job shared hand }
+    ensures room { (how : Ending) (request : Request) (shared : Shared) (hand : Hand)
+        → HasNextRoom result.0 how request shared hand }
 {
-    let none = Slots::none();
+    let none = LockedSlots::none();
     match update {
         Update::Create { .. } | Update::Mkdir { .. } => (Next::Number, none),
         Update::Unlink { .. } | Update::Rmdir { .. } | Update::Rename { .. } => {
@@ -167,23 +169,23 @@ impl Running {
     pub(crate) fn started(alloc: Global, shared: &Shared, call: Call) -> Running
         ensures shown { shown (starting call) result
             ≡ begun (beginning call) (shared_of shared.now) call }
-        ensures told { IsToldOf result (starting call) }
+        ensures told { IsGhostCallOf result (starting call) }
         ensures fits { FitsCall result }
         ensures rooms { (s : Shared) (hand : Hand) → IsHandOf s.geometry.numbers hand
-            → HasRooms s (Hold.Hand hand) result }
+            → HasRooms s (Reservation.Hand hand) result }
     {
-        let (job, owed) = job_of(alloc, call);
-        let looked = Looked {
+        let (request, owed) = request_of(alloc, call);
+        let looked = LookupResult {
             first: None,
             second: None,
         };
-        let (next, slots) = first_step(shared.inodes(), &job, &looked);
+        let (next, slots) = first_step(shared.inodes(), &request, &looked);
         let made = Handle {
             ino: Ino::new(0),
             generation: Gen::new(1),
         };
         Running {
-            job,
+            request,
             owed,
             next,
             ending: Ending::Answers,
@@ -197,12 +199,12 @@ impl Running {
 
     /// The call that changes nodes, with how many blocks it takes.
     pub(crate) fn plan(&self) -> &Plan
-        requires { is_change self.now.job ≡ true }
-        ensures { IsChangeBy self.now.job result.now }
+        requires { is_change self.now.request ≡ true }
+        ensures { IsChangeBy self.now.request result.now }
     {
-        match &self.job {
-            Job::Change(plan, _) => plan,
-            Job::Visit(_) | Job::Maintenance(_) | Job::Given => unreachable!(),
+        match &self.request {
+            Request::Change(plan, _) => plan,
+            Request::Visit(_) | Request::Maintenance(_) | Request::Given => unreachable!(),
         }
     }
 }

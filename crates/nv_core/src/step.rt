@@ -9,13 +9,11 @@ ghost use Rattle.nv_calls.specs.Progress.{step_of};
 ghost use Rattle.nv_core.specs.Rooms.{HasActorRooms, HasRooms, HasRoomsAfter};
 ghost use Rattle.nv_machine.specs.Sequence.{beginning, begun};
 ghost use Rattle.nv_core.specs.Shown.{shared_of};
-ghost use Rattle.nv_core.specs.Steps.{CanStep, PassesOn};
+ghost use Rattle.nv_core.specs.Steps.{CanStep, IsHandover};
 ghost use Rattle.nv_core.specs.Turns.{CanGo, HasTurned, IsTurn, LeavesOthers};
 ghost use Rattle.nv_core.specs.Worlds.{IsRun, IsStep, Shows, ShowsCall, ShowsRunning};
 
-use crate::hold::Hold;
 use crate::kinds::append::append;
-use crate::kinds::back::back;
 use crate::kinds::check::check;
 use crate::kinds::close::close;
 use crate::kinds::enter::enter;
@@ -29,10 +27,12 @@ use crate::kinds::open::open;
 use crate::kinds::publish::publish;
 use crate::kinds::ready::ready;
 use crate::kinds::retire::retire;
-use crate::kinds::take::{take_blocks, take_pages};
+use crate::kinds::return_number::return_number;
+use crate::kinds::take::{take_blocks, take_log_pages};
 use crate::kinds::unlock::unlock;
 use crate::kinds::visit::visit;
 use crate::next::Next;
+use crate::reservation::Reservation;
 use crate::running::Running;
 use crate::shared::Shared;
 use crate::turn::{Turn, ended};
@@ -89,7 +89,7 @@ impl World {
             → IsStep m (Event.Start actor call) result self.new }
     {
         let Some(state) = self.actors.get_mut(actor as usize) else {
-            return nobody(call);
+            return refuse_no_actor(call);
         };
         begin(self.alloc, &self.shared, state, call)
     }
@@ -107,7 +107,7 @@ impl World {
 }
 
 /// There is no actor for the call.
-fn nobody(_call: Call) -> Reply
+fn refuse_no_actor(_call: Call) -> Reply
     ensures { result ≡ Reply.Refused NoActor }
 {
     Reply::Refused(Fault::NoActor)
@@ -115,14 +115,14 @@ fn nobody(_call: Call) -> Reply
 
 /// An actor without a call starts one.
 fn begin(alloc: Global, shared: &Shared, state: &mut Actor, call: Call) -> Reply
-    requires rooms { HasActorRooms shared.now state.old.hold state.old.running }
+    requires rooms { HasActorRooms shared.now state.old.reserved state.old.running }
     ensures busy { (running : Running) → state.old.running ≡ Some running
         → (result ≡ Reply.Refused ActorBusy) × (state.new ≡ state.old) }
     ensures starts { state.old.running ≡ None → (result ≡ Reply.Started)
-        × (state.new.hold ≡ state.old.hold)
-        × ShowsRunning state.new.hold state.new.running
+        × (state.new.reserved ≡ state.old.reserved)
+        × ShowsRunning state.new.reserved state.new.running
         (Some (begun (beginning call) (shared_of shared.now) call)) }
-    ensures rooms { HasActorRooms shared.now state.new.hold state.new.running }
+    ensures rooms { HasActorRooms shared.now state.new.reserved state.new.running }
 {
     if state.running.is_some() {
         return Reply::Refused(Fault::ActorBusy);
@@ -133,22 +133,22 @@ fn begin(alloc: Global, shared: &Shared, state: &mut Actor, call: Call) -> Reply
 
 /// The call of an actor goes on by one step.
 fn go_on(alloc: Global, shared: &mut Shared, state: &mut Actor, actor: u64) -> Reply
-    requires can { CanGo shared.old state.old.hold state.old.running actor }
-    requires rooms { HasActorRooms shared.old state.old.hold state.old.running }
+    requires can { CanGo shared.old state.old.reserved state.old.running actor }
+    requires rooms { HasActorRooms shared.old state.old.reserved state.old.running }
     ensures idle { state.old.running ≡ None → (result ≡ Reply.Refused ActorIdle)
         × (shared.new ≡ shared.old) × (state.new ≡ state.old) }
     ensures turns { (running : Running) (r : machine.Running) → state.old.running ≡ Some running
-        → ShowsCall state.old.hold running r
-        → HasTurned actor shared.old state.old.hold running r result shared.new state.new }
-    ensures rooms { HasActorRooms shared.new state.new.hold state.new.running }
+        → ShowsCall state.old.reserved running r
+        → HasTurned actor shared.old state.old.reserved running r result shared.new state.new }
+    ensures rooms { HasActorRooms shared.new state.new.reserved state.new.running }
     ensures rest { (running : Running) (r : machine.Running) → state.old.running ≡ Some running
-        → ShowsCall state.old.hold running r → LeavesOthers actor r shared.old shared.new }
+        → ShowsCall state.old.reserved running r → LeavesOthers actor r shared.old shared.new }
 {
-    let Actor { hold, running } = state;
+    let Actor { reserved, running } = state;
     let Some(call) = running else {
         return Reply::Refused(Fault::ActorIdle);
     };
-    match turn(alloc, shared, hold, call, actor) {
+    match turn(alloc, shared, reserved, call, actor) {
         Turn::Moves => Reply::Moved,
         Turn::Waits => Reply::Waits,
         Turn::Ends(told) => {
@@ -169,29 +169,29 @@ fn forget(running: &mut Option<Running>)
 fn turn(
     alloc: Global,
     shared: &mut Shared,
-    hold: &mut Hold,
+    reserved: &mut Reservation,
     running: &mut Running,
     actor: u64,
 ) -> Turn
-    requires can { CanStep shared.old hold.old running.old actor }
-    requires rooms { HasRooms shared.old hold.old running.old }
-    ensures turn { (r : machine.Running) → ShowsCall hold.old running.old r
-        → IsTurn actor shared.old hold.old r result shared.new hold.new running.new }
+    requires can { CanStep shared.old reserved.old running.old actor }
+    requires rooms { HasRooms shared.old reserved.old running.old }
+    ensures turn { (r : machine.Running) → ShowsCall reserved.old running.old r
+        → IsTurn actor shared.old reserved.old r result shared.new reserved.new running.new }
     ensures waits { result ≡ Turn.Waits
-        → (shared.new ≡ shared.old) × (hold.new ≡ hold.old) × (running.new ≡ running.old) }
-    ensures rooms { HasRoomsAfter result shared.new hold.new running.new }
-    ensures rest { (r : machine.Running) → ShowsCall hold.old running.old r
+        → (shared.new ≡ shared.old) × (reserved.new ≡ reserved.old) × (running.new ≡ running.old) }
+    ensures rooms { HasRoomsAfter result shared.new reserved.new running.new }
+    ensures rest { (r : machine.Running) → ShowsCall reserved.old running.old r
         → LeavesOthers actor r shared.old shared.new }
 {
-    match hold {
-        Hold::Hand(hand) => match running.next {
-            Next::Ready => pass_on(alloc, shared, hold, running, actor),
-            _ => alone(alloc, shared, hand, running, actor),
+    match reserved {
+        Reservation::Hand(hand) => match running.next {
+            Next::Ready => handover_step(alloc, shared, reserved, running, actor),
+            _ => hand_step(alloc, shared, hand, running, actor),
         },
-        Hold::Ready(_) => pass_on(alloc, shared, hold, running, actor),
-        Hold::Commit(commit) => {
+        Reservation::Ready(_) => handover_step(alloc, shared, reserved, running, actor),
+        Reservation::Commit(commit) => {
             if commit.step() == CommitStep::Leave {
-                return pass_on(alloc, shared, hold, running, actor);
+                return handover_step(alloc, shared, reserved, running, actor);
             }
             commit_step(shared, running, commit, actor);
             Turn::Moves
@@ -200,7 +200,7 @@ fn turn(
 }
 
 /// A step of a call whose hand is with the actor alone.
-fn alone(
+fn hand_step(
     alloc: Global,
     shared: &mut Shared,
     hand: &mut Hand,
@@ -208,16 +208,16 @@ fn alone(
     actor: u64,
 ) -> Turn
     requires apart { running.old.next ≢ Next.Ready }
-    requires can { CanStep shared.old (Hold.Hand hand.old) running.old actor }
-    requires rooms { HasRooms shared.old (Hold.Hand hand.old) running.old }
-    ensures turn { (r : machine.Running) → ShowsCall (Hold.Hand hand.old) running.old r
-        → IsTurn actor shared.old (Hold.Hand hand.old) r result shared.new (Hold.Hand hand.new)
+    requires can { CanStep shared.old (Reservation.Hand hand.old) running.old actor }
+    requires rooms { HasRooms shared.old (Reservation.Hand hand.old) running.old }
+    ensures turn { (r : machine.Running) → ShowsCall (Reservation.Hand hand.old) running.old r
+        → IsTurn actor shared.old (Reservation.Hand hand.old) r result shared.new (Reservation.Hand hand.new)
         running.new }
     ensures waits { result ≡ Turn.Waits
-        → (shared.new ≡ shared.old) × ((Hold.Hand hand.new) ≡ (Hold.Hand hand.old))
+        → (shared.new ≡ shared.old) × ((Reservation.Hand hand.new) ≡ (Reservation.Hand hand.old))
         × (running.new ≡ running.old) }
-    ensures rooms { HasRoomsAfter result shared.new (Hold.Hand hand.new) running.new }
-    ensures rest { (r : machine.Running) → ShowsCall (Hold.Hand hand.old) running.old r
+    ensures rooms { HasRoomsAfter result shared.new (Reservation.Hand hand.new) running.new }
+    ensures rest { (r : machine.Running) → ShowsCall (Reservation.Hand hand.old) running.old r
         → LeavesOthers actor r shared.old shared.new }
 {
     match running.next {
@@ -226,58 +226,58 @@ fn alone(
         Next::Lock(place) => lock(shared, running, actor, place),
         Next::Check => check(shared, hand, running),
         Next::TakeBlocks(asked) => take_blocks(shared, hand, running, actor, asked),
-        Next::TakePages(asked) => take_pages(shared, hand, running, actor, asked),
+        Next::TakeLogPages(asked) => take_log_pages(shared, hand, running, actor, asked),
         Next::Ready => unreachable!(),
         Next::Unlock(place) => unlock(shared, hand, running, place),
         Next::Give(cpu) => give(shared, hand, running, cpu),
-        Next::Back => back(shared, hand, running),
+        Next::ReturnNumber => return_number(shared, hand, running),
         Next::Visit => visit(shared, running),
         Next::Maintenance(_) => maintain(alloc, shared, hand, running, actor),
     }
 }
 
 /// A step that passes the hand on: it is made ready, it enters, or it leaves.
-fn pass_on(
+fn handover_step(
     alloc: Global,
     shared: &mut Shared,
-    hold: &mut Hold,
+    reserved: &mut Reservation,
     running: &mut Running,
     actor: u64,
 ) -> Turn
-    requires passes { PassesOn hold.old running.old }
-    requires can { CanStep shared.old hold.old running.old actor }
-    requires rooms { HasRooms shared.old hold.old running.old }
-    ensures turn { (r : machine.Running) → ShowsCall hold.old running.old r
-        → IsTurn actor shared.old hold.old r result shared.new hold.new running.new }
+    requires passes { IsHandover reserved.old running.old }
+    requires can { CanStep shared.old reserved.old running.old actor }
+    requires rooms { HasRooms shared.old reserved.old running.old }
+    ensures turn { (r : machine.Running) → ShowsCall reserved.old running.old r
+        → IsTurn actor shared.old reserved.old r result shared.new reserved.new running.new }
     ensures waits { result ≡ Turn.Waits
-        → (shared.new ≡ shared.old) × (hold.new ≡ hold.old) × (running.new ≡ running.old) }
-    ensures rooms { HasRoomsAfter result shared.new hold.new running.new }
-    ensures rest { (r : machine.Running) → ShowsCall hold.old running.old r
+        → (shared.new ≡ shared.old) × (reserved.new ≡ reserved.old) × (running.new ≡ running.old) }
+    ensures rooms { HasRoomsAfter result shared.new reserved.new running.new }
+    ensures rest { (r : machine.Running) → ShowsCall reserved.old running.old r
         → LeavesOthers actor r shared.old shared.new }
 {
-    let empty = Hold::Hand(Hand::new(alloc, &shared.geometry));
-    let (after, turn) = match mem::replace(hold, empty) {
-        Hold::Hand(hand) => ready(alloc, shared, hand, running),
-        Hold::Ready(held) => enter(shared, held, running, actor),
-        Hold::Commit(commit) => {
+    let empty = Reservation::Hand(Hand::new(alloc, &shared.geometry));
+    let (after, turn) = match mem::replace(reserved, empty) {
+        Reservation::Hand(hand) => ready(alloc, shared, hand, running),
+        Reservation::Ready(held) => enter(shared, held, running, actor),
+        Reservation::Commit(commit) => {
             let (hand, turn) = leave(shared, commit, running);
-            (Hold::Hand(hand), turn)
+            (Reservation::Hand(hand), turn)
         }
     };
-    mem::replace(hold, after).dismantle();
+    mem::replace(reserved, after).dismantle();
     turn
 }
 
 /// A step of a commit that is not over.
 fn commit_step(shared: &mut Shared, running: &Running, commit: &mut Commit, actor: u64)
     requires going { step_of commit.old ≢ CommitStep.Leave }
-    requires can { CanStep shared.old (Hold.Commit commit.old) running.now actor }
-    requires rooms { HasRooms shared.old (Hold.Commit commit.old) running.now }
-    ensures turn { (r : machine.Running) → ShowsCall (Hold.Commit commit.old) running.now r
-        → IsTurn actor shared.old (Hold.Commit commit.old) r Turn.Moves shared.new
-        (Hold.Commit commit.new) running.now }
-    ensures rooms { HasRoomsAfter Turn.Moves shared.new (Hold.Commit commit.new) running.now }
-    ensures rest { (r : machine.Running) → ShowsCall (Hold.Commit commit.old) running.now r
+    requires can { CanStep shared.old (Reservation.Commit commit.old) running.now actor }
+    requires rooms { HasRooms shared.old (Reservation.Commit commit.old) running.now }
+    ensures turn { (r : machine.Running) → ShowsCall (Reservation.Commit commit.old) running.now r
+        → IsTurn actor shared.old (Reservation.Commit commit.old) r Turn.Moves shared.new
+        (Reservation.Commit commit.new) running.now }
+    ensures rooms { HasRoomsAfter Turn.Moves shared.new (Reservation.Commit commit.new) running.now }
+    ensures rest { (r : machine.Running) → ShowsCall (Reservation.Commit commit.old) running.now r
         → LeavesOthers actor r shared.old shared.new }
 {
     let cpu = shared.cpu_of(actor);

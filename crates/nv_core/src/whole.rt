@@ -5,7 +5,7 @@ ghost use Rattle.nv_machine.specs.World as machine;
 ghost use Rattle.nv_core.specs.Whole.{Calls, GoesOn, Runs, last_reply};
 ghost use Rattle.nv_core.specs.Worlds.{Leads, reply_of};
 
-use crate::bounded::MOST_STEPS;
+use crate::calls_end::MOST_STEPS;
 use crate::{Reply, World};
 use nv_base::Fault;
 use nv_calls::{Answer, Call};
@@ -41,7 +41,7 @@ impl World {
         ensures { Leads (λ m n. Runs m actor (last_reply result) n) self.old self.new }
     {
         // No call has so many steps.
-        self.bounded();
+        self.calls_end();
         told(self.go_on(actor, MOST_STEPS - 1))
     }
 

@@ -3,7 +3,7 @@
 ghost use Rattle.std.specs.Prelude.{◌≡◌};
 ghost use Rattle.nv_core.specs.Worlds.{IsWorld, WorldState};
 
-use crate::hold::Hold;
+use crate::reservation::Reservation;
 use crate::running::Running;
 use crate::shared::Shared;
 use std::alloc::Global;
@@ -11,7 +11,7 @@ use std::marker::Model;
 
 /// What is an actor's own: what it holds, and the call that it runs.
 pub(crate) struct Actor {
-    pub(crate) hold: Hold,
+    pub(crate) reserved: Reservation,
     pub(crate) running: Option<Running>,
 }
 
@@ -55,8 +55,11 @@ impl World {
 /// Takes all actors apart with what they hold.
 pub(crate) fn dismantle(mut actors: Vec<Actor>) {
     while let Some(actor) = actors.pop() {
-        let Actor { hold, running: _ } = actor;
-        hold.dismantle();
+        let Actor {
+            reserved,
+            running: _,
+        } = actor;
+        reserved.dismantle();
     }
     actors.destroy_empty();
 }

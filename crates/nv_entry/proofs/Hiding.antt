@@ -5,7 +5,7 @@ use Rattle.std.proofs.lemmas.Bool.{ltb-true, ltb-false, leb-true, lt-ltb, le-leb
 use Rattle.std.proofs.lemmas.Slice.Eq.{bytes_eq-Decides}
 use Rattle.nv_base.specs.Names.{same_name}
 use Rattle.nv_entry.specs.declared.item.Entry.{Entry}
-use Rattle.nv_entry.specs.declared.item.Run.{Run}
+use Rattle.nv_entry.specs.declared.item.BlockRun.{BlockRun}
 use Rattle.nv_entry.specs.declared.item.Item.{Item}
 use Rattle.nv_entry.specs.declared.item.Item.TheVariants.{Init, Write, SetSize, SetMode, Bind, Unbind, Gone}
 use Rattle.nv_entry.specs.declared.key.Datum.{Datum}
@@ -51,14 +51,14 @@ past_from : (block size page : ℕ) → pages_for block size ≤ page → page <
 past_from block size page low high =
     and_from (nat_le (pages_for block size) page) (is_page page) (le-leb (pages_for block size) page low) (lt-ltb page 65536 high)
 
-pub run_parts : (first : ℕ) (run : Run) (page : ℕ) → in_run first run page ≡ true
+pub run_parts : (first : ℕ) (run : BlockRun) (page : ℕ) → in_run first run page ≡ true
     → (first ≤ page) × (page < first + run.len) × (page < 65536)
 run_parts first run page h =
     let p = and_parts (nat_le first page && nat_lt page (first + run.len)) (is_page page) h in
     let q = and_parts (nat_le first page) (nat_lt page (first + run.len)) p.0 in
     (leb-true first page q.0, ltb-true page (first + run.len) q.1, ltb-true page 65536 p.1)
 
-pub run_from : (first : ℕ) (run : Run) (page : ℕ) → first ≤ page → page < first + run.len → page < 65536 → in_run first run page ≡ true
+pub run_from : (first : ℕ) (run : BlockRun) (page : ℕ) → first ≤ page → page < first + run.len → page < 65536 → in_run first run page ≡ true
 run_from first run page a b c =
     and_from (nat_le first page && nat_lt page (first + run.len)) (is_page page)
     (and_from (nat_le first page) (nat_lt page (first + run.len)) (le-leb first page a) (lt-ltb page (first + run.len) b))
@@ -139,7 +139,7 @@ hidden_name block name earlier h (PageKey page) a = cc
 hidden_name block name earlier h (NameKey other) a =
     subst (λ (n : List ℕ). covers block earlier (NameKey n) ≡ false) (same_name-equal name other (absent_choice (same_name name other) a)) h
 
-hidden_write : (block first : ℕ) (run : Run) (size : ℕ) (earlier : Item) → HidesNothing block (Write first run size) earlier
+hidden_write : (block first : ℕ) (run : BlockRun) (size : ℕ) (earlier : Item) → HidesNothing block (Write first run size) earlier
 hidden_write block first run size earlier KindKey a = cc
 hidden_write block first run size earlier ModeKey a = cc
 hidden_write block first run size earlier SizeKey a = cc

@@ -10,7 +10,7 @@ use Rattle.std.proofs.lemmas.Nat.{le-div, div_below}
 use Rattle.std.proofs.lemmas.List.{length-append, length-take, length-drop, length-replicate, get_or-take, get_or-drop, get_or_past, get_or_append_left, get_or-append_right}
 use Rattle.std.proofs.lemmas.List.FromFn.{take-map-range_with_len, fill_by_all}
 use Rattle.nv_base.specs.declared.node.Kind.TheVariants.{File}
-use Rattle.nv_entry.specs.declared.item.Run.{Run}
+use Rattle.nv_entry.specs.declared.item.BlockRun.{BlockRun}
 use Rattle.nv_entry.specs.declared.item.Item.TheVariants.{Write}
 use Rattle.nv_entry.specs.declared.node.NodeCopy.{NodeCopy}
 use Rattle.nv_entry.specs.Bytes.{written, page_of, pages_touched}
@@ -208,7 +208,7 @@ page_of-untouched block offset page text old some any apart =
     page_of-apart block page offset text old (touches_not block offset (length text) page some any apart)
 
 -- each page after a write is the one that the run has, or was there before
-written_page : (bytes : ℕ → List ℕ) (block offset : ℕ) (text old : List ℕ) (run : Run) (page : ℕ) → 0 < block → 0 < length text
+written_page : (bytes : ℕ → List ℕ) (block offset : ℕ) (text old : List ℕ) (run : BlockRun) (page : ℕ) → 0 < block → 0 < length text
     → offset + length text ≤ 65536 * block → HasText bytes block offset text old run
     → page_of block page (written offset text old) ≡ cond (in_run (offset / block) run page) (bytes (run.start + (page - offset / block)))
     (page_of block page old)
@@ -234,7 +234,7 @@ written_page bytes block offset text old run page some any fits has = go (in_run
       (cases_lt page (offset / block + run.len)))
 
 -- the item of a write with one run is lawful
-pub written_makes : (bytes : ℕ → List ℕ) (block offset : ℕ) (text : List ℕ) (run : Run) (node : NodeCopy) → 0 < block → 0 < length text
+pub written_makes : (bytes : ℕ → List ℕ) (block offset : ℕ) (text : List ℕ) (run : BlockRun) (node : NodeCopy) → 0 < block → 0 < length text
     → offset + length text ≤ 65536 * block → node.kind ≡ File → length node.bytes ≡ node.size → node.size ≤ 65536 * block
     → HasText bytes block offset text node.bytes run
     → Makes bytes block (Write (offset / block) run (length (written offset text node.bytes))) (Some node)

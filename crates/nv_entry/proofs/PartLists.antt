@@ -4,16 +4,16 @@ use Rattle.std.specs.Prelude.{slice_get}
 use Rattle.std.proofs.Math.Seq.{drop-cons}
 use Rattle.std.proofs.lemmas.List.FromFn.{length-map-range_with_len, get_or-map-range_with_len}
 use Rattle.std.proofs.lemmas.Option.{get_or_from_slice_get, slice_get-get_or, slice_get_within}
-use Rattle.nv_entry.specs.declared.item.Run.{Run}
+use Rattle.nv_entry.specs.declared.item.BlockRun.{BlockRun}
 use Rattle.nv_entry.specs.declared.part.Part.TheVariants as part
 use Rattle.nv_entry.specs.Keys.{run_pages}
 
 -- how many parts a write has
-pub length-written : (first : ℕ) (run : Run) → length (part.Size ∷ map part.Page (run_pages first run)) ≡ 1 + min run.len (65536 - first)
+pub length-written : (first : ℕ) (run : BlockRun) → length (part.Size ∷ map part.Page (run_pages first run)) ≡ 1 + min run.len (65536 - first)
 length-written first run = omega (arith, length-map-range_with_len part.Page first (min run.len (65536 - first)))
 
 -- the pages among them
-pub page_at : (first : ℕ) (run : Run) (place : ℕ) → 0 < place → place < 1 + min run.len (65536 - first)
+pub page_at : (first : ℕ) (run : BlockRun) (place : ℕ) → 0 < place → place < 1 + min run.len (65536 - first)
     → slice_get (part.Size ∷ map part.Page (run_pages first run)) place ≡ Some (part.Page (first + (place - 1)))
 page_at first run zero some lt = absurd (omega arith)
 page_at first run (suc k) some lt =

@@ -5,7 +5,7 @@ use Rattle.std.proofs.lemmas.Bool.{cases_lt}
 use Rattle.nv_base.specs.Names.{same_name}
 use Rattle.nv_entry.specs.declared.item.Item.{Item}
 use Rattle.nv_entry.specs.declared.item.Item.TheVariants.{Init, Write, SetSize, SetMode, Bind, Unbind, Gone}
-use Rattle.nv_entry.specs.declared.item.Run.{Run}
+use Rattle.nv_entry.specs.declared.item.BlockRun.{BlockRun}
 use Rattle.nv_entry.specs.declared.key.Datum.{Datum}
 use Rattle.nv_entry.specs.declared.key.Datum.TheVariants as datum
 use Rattle.nv_entry.specs.declared.key.Setting.{Setting}
@@ -16,7 +16,7 @@ use Rattle.nv_entry.specs.Laws.{IsKeyOfPart, PartsAreSet, PartsRise, SetsArePart
 use Rattle.nv_entry.proofs.Hiding.{run_from, run_parts, same_name-equal, same_name-self}
 use Rattle.nv_entry.proofs.PartLists.{page_at}
 
-pages_set : (block first : ℕ) (run : Run) (size a n : ℕ) → first ≤ a → a + n ≤ min (first + run.len) 65536
+pages_set : (block first : ℕ) (run : BlockRun) (size a n : ℕ) → first ≤ a → a + n ≤ min (first + run.len) 65536
     → AllByRecursion (λ p. is_present (sets block (Write first run size) (key_of (Write first run size) p)) ≡ true)
     (map part.Page (range_with_len a n))
 pages_set block first run size a zero low high = tt

@@ -5,7 +5,7 @@ use Rattle.std.specs.Option.{option_map}
 use Rattle.std.proofs.lemmas.Option.{same_Some, slice_get_within}
 use Rattle.nv_entry.specs.declared.item.Item.{Item}
 use Rattle.nv_entry.specs.declared.item.Item.TheVariants.{Init, Write, SetSize, SetMode, Bind, Unbind, Gone}
-use Rattle.nv_entry.specs.declared.item.Run.{Run}
+use Rattle.nv_entry.specs.declared.item.BlockRun.{BlockRun}
 use Rattle.nv_entry.specs.declared.part.Part.{Part}
 use Rattle.nv_entry.specs.declared.part.Part.TheVariants as part
 use Rattle.nv_entry.specs.Keys.{Key, key_of, parts_of, run_pages, sets}
@@ -18,7 +18,7 @@ use Rattle.nv_entry.proofs.PartsSet.{sets_are_parts}
 abbrev KeyPlace : Item → ℕ → Part → Type 0
 KeyPlace item n p = place_in item (key_of item p) ≡ n
 
-page_place : (first : ℕ) (run : Run) (size n : ℕ) (p : Part) → slice_get (map part.Page (run_pages first run)) n ≡ Some p
+page_place : (first : ℕ) (run : BlockRun) (size n : ℕ) (p : Part) → slice_get (map part.Page (run_pages first run)) n ≡ Some p
     → KeyPlace (Write first run size) (suc n) p
 page_place first run size n p h =
     let lt : suc n < length (part.Size ∷ map part.Page (run_pages first run)) =

@@ -8,7 +8,7 @@ use Rattle.nv_base.specs.declared.node.Kind.{Kind}
 use Rattle.nv_base.specs.declared.node.Kind.TheVariants.{File, Dir}
 use Rattle.nv_entry.specs.declared.item.Entry.{Entry}
 use Rattle.nv_entry.specs.declared.item.Item.{Item}
-use Rattle.nv_entry.specs.declared.item.Run.{Run}
+use Rattle.nv_entry.specs.declared.item.BlockRun.{BlockRun}
 use Rattle.nv_entry.specs.declared.item.Item.TheVariants.{Init, Write, SetSize, SetMode, Bind, Unbind, Gone}
 use Rattle.nv_entry.specs.declared.key.Datum.{Datum}
 use Rattle.nv_entry.specs.declared.key.Datum.TheVariants as datum
@@ -103,7 +103,7 @@ is_present_page bytes block s node page number some st h =
     let few = pages_for-most block node.size 65536 some st.fits in
     lt-ltb page 65536 (omega arith)
 
-write_within : (bytes : ℕ → List ℕ) (block first : ℕ) (run : Run) (size : ℕ) (s : Stored) (node : NodeCopy) (page number : ℕ) → 0 < block
+write_within : (bytes : ℕ → List ℕ) (block first : ℕ) (run : BlockRun) (size : ℕ) (s : Stored) (node : NodeCopy) (page number : ℕ) → 0 < block
     → Stands bytes block s node → first + run.len ≤ pages_for block size → pages_for block node.size ≤ pages_for block size
     → block_after block (Write first run size) page (s.blocks page) ≡ Some number → page < pages_for block size
 write_within bytes block first run size s node page number some st below old h = go (in_run first run page) refl h where

@@ -7,7 +7,7 @@ use Rattle.std.proofs.lemmas.List.{length-append, get_or_append_left, get_or-app
 use Rattle.std.proofs.lemmas.List.FromFn.{length-range_with_len, get_or-range_with_len}
 use Rattle.nv_base.specs.declared.node.Kind.TheVariants.{File}
 use Rattle.nv_entry.specs.declared.item.Item.TheVariants.{Write}
-use Rattle.nv_entry.specs.declared.item.Run.{Run}
+use Rattle.nv_entry.specs.declared.item.BlockRun.{BlockRun}
 use Rattle.nv_entry.specs.declared.node.NodeCopy.{NodeCopy}
 use Rattle.nv_entry.specs.Bytes.{page_of, written}
 use Rattle.nv_entry.specs.Keys.{in_run, pages_for}
@@ -20,7 +20,7 @@ use Rattle.nv_entry.proofs.SoundLogs.{suits_file}
 
 -- ---- what the items of a write store
 
-abbrev after_write : ℕ → ℕ → List Run → ℕ → Stored → Stored
+abbrev after_write : ℕ → ℕ → List BlockRun → ℕ → Stored → Stored
 after_write block first runs size s = stored_after_all block (write_items first runs size) s
 
 -- kind, mode and names stay, and the size is the last one's
@@ -29,24 +29,24 @@ record KeepsOthers (old new : Stored) : Type 0 where
   mode : new.mode ≡ old.mode
   names : new.names ≡ old.names
 
-keeps_others : (block first : ℕ) (runs : List Run) (size : ℕ) (s : Stored) → KeepsOthers s (after_write block first runs size s)
+keeps_others : (block first : ℕ) (runs : List BlockRun) (size : ℕ) (s : Stored) → KeepsOthers s (after_write block first runs size s)
 keeps_others block first [] size s = record { kind = refl; mode = refl; names = refl }
 keeps_others block first (run ∷ runs) size s =
     let rest = keeps_others block (first + run.len) runs size (stored_after block (Write first run size) s) in
     record { kind = rest.kind; mode = rest.mode; names = rest.names }
 
-size_stays : (block first : ℕ) (runs : List Run) (size : ℕ) (s : Stored) → s.size ≡ size → (after_write block first runs size s).size ≡ size
+size_stays : (block first : ℕ) (runs : List BlockRun) (size : ℕ) (s : Stored) → s.size ≡ size → (after_write block first runs size s).size ≡ size
 size_stays block first [] size s is = is
 size_stays block first (run ∷ runs) size s is =
     size_stays block (first + run.len) runs size (stored_after block (Write first run size) s) refl
 
-size_after : (block first : ℕ) (runs : List Run) (size : ℕ) (s : Stored) → 0 < length (blocks_of runs)
+size_after : (block first : ℕ) (runs : List BlockRun) (size : ℕ) (s : Stored) → 0 < length (blocks_of runs)
     → (after_write block first runs size s).size ≡ size
 size_after block first [] size s some = absurd (omega arith)
 size_after block first (run ∷ runs) size s some = size_stays block (first + run.len) runs size
     (stored_after block (Write first run size) s) refl
 
-in_run-false : (first : ℕ) (run : Run) (page : ℕ) → (page < first) ⊎ (first + run.len ≤ page) → in_run first run page ≡ false
+in_run-false : (first : ℕ) (run : BlockRun) (page : ℕ) → (page < first) ⊎ (first + run.len ≤ page) → in_run first run page ≡ false
 in_run-false first run page apart = go (in_run first run page) refl apart where
   go : (b : Bool) → in_run first run page ≡ b → (page < first) ⊎ (first + run.len ≤ page) → b ≡ false
   go false q h = refl
@@ -54,7 +54,7 @@ in_run-false first run page apart = go (in_run first run page) refl apart where
   go true q (inr le) = absurd (omega (arith, run_parts first run page q))
 
 -- a page outside the runs keeps its block
-block_stays : (block first : ℕ) (runs : List Run) (size : ℕ) (s : Stored) (page : ℕ)
+block_stays : (block first : ℕ) (runs : List BlockRun) (size : ℕ) (s : Stored) (page : ℕ)
     → (page < first) ⊎ (first + length (blocks_of runs) ≤ page)
     → (after_write block first runs size s).blocks page ≡ s.blocks page
 block_stays block first [] size s page apart = refl
@@ -75,7 +75,7 @@ block_stays block first (run ∷ runs) size s page apart =
       own (inr le) = inr (omega (arith, long))
 
 -- each page of the runs has its block
-block_set : (block first : ℕ) (runs : List Run) (size : ℕ) (s : Stored) (page : ℕ) → first ≤ page → page < first + length (blocks_of runs)
+block_set : (block first : ℕ) (runs : List BlockRun) (size : ℕ) (s : Stored) (page : ℕ) → first ≤ page → page < first + length (blocks_of runs)
     → first + length (blocks_of runs) ≤ 65536
     → (after_write block first runs size s).blocks page ≡ Some (slice_index_or (blocks_of runs) (page - first) 0)
 block_set block first [] size s page le lt fits = absurd (omega arith)
@@ -109,7 +109,7 @@ block_set block first (run ∷ runs) size s page le lt fits =
 
 -- ---- they store what the write makes of a node
 
-module _ (bytes : ℕ → List ℕ) (block offset : ℕ) (text : List ℕ) (runs : List Run) (node : NodeCopy) (some : 0 < block)
+module _ (bytes : ℕ → List ℕ) (block offset : ℕ) (text : List ℕ) (runs : List BlockRun) (node : NodeCopy) (some : 0 < block)
     (any : 0 < length text) (fits : offset + length text ≤ 65536 * block) (file : node.kind ≡ File)
     (has : HaveText bytes block offset text node.bytes (blocks_of runs)) (s : Stored) (st : Stands bytes block s node) where
   abbrev first : ℕ
@@ -181,7 +181,7 @@ module _ (bytes : ℕ → List ℕ) (block offset : ℕ) (text : List ℕ) (runs
         suits = suits_file node.kind node.size (length after) node.names file st.suits;
       }
 
-pub runs_make : (bytes : ℕ → List ℕ) (block offset : ℕ) (text : List ℕ) (runs : List Run) (node : NodeCopy) → 0 < block → 0 < length text
+pub runs_make : (bytes : ℕ → List ℕ) (block offset : ℕ) (text : List ℕ) (runs : List BlockRun) (node : NodeCopy) → 0 < block → 0 < length text
     → offset + length text ≤ 65536 * block → node.kind ≡ File
     → HaveText bytes block offset text node.bytes (blocks_of runs)
     → MakesAll bytes block (write_items (offset / block) runs (length (written offset text node.bytes))) (Some node)

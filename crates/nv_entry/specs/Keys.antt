@@ -4,7 +4,7 @@ use Rattle.std.specs.Int.{div_ceil}
 use Rattle.std.specs.List.{range_with_len}
 use Rattle.nv_base.specs.Names.{same_name}
 use Rattle.nv_base.specs.declared.limits.TheConstants.{FILE_PAGES}
-use Rattle.nv_entry.specs.declared.item.Run.{Run}
+use Rattle.nv_entry.specs.declared.item.BlockRun.{BlockRun}
 use Rattle.nv_entry.specs.declared.item.Item.{Item}
 use Rattle.nv_entry.specs.declared.item.Item.TheVariants.{Init, Write, SetSize, SetMode, Bind, Unbind, Gone}
 use Rattle.nv_entry.specs.declared.key.Key.{Key as CodeKey}
@@ -53,7 +53,7 @@ abbrev pub pages_for : ℕ → ℕ → ℕ
 pages_for block size = div_ceil size block
 
 -- the page is one of a run's pages, the first of which is `first`
-abbrev pub in_run : ℕ → Run → ℕ → Bool
+abbrev pub in_run : ℕ → BlockRun → ℕ → Bool
 in_run first run page = nat_le first page && nat_lt page (first + run.len) && is_page page
 
 -- the page is past a size
@@ -92,7 +92,7 @@ abbrev pub covers : ℕ → Item → Key → Bool
 covers block item key = touches (sets block item key)
 
 -- the pages of a run that a file can have
-abbrev pub run_pages : ℕ → Run → List ℕ
+abbrev pub run_pages : ℕ → BlockRun → List ℕ
 run_pages first run = range_with_len first (min run.len (FILE_PAGES - first))
 
 -- the keys that an item sets to a value, as parts of its entry: kind, mode, size, name, pages rising

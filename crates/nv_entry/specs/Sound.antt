@@ -7,7 +7,7 @@ use Rattle.nv_base.specs.declared.node.Kind.TheVariants.{File, Dir}
 use Rattle.nv_entry.specs.declared.item.Entry.{Entry}
 use Rattle.nv_entry.specs.declared.item.Item.{Item}
 use Rattle.nv_entry.specs.declared.item.Item.TheVariants.{Init, Write, SetSize, SetMode, Bind, Unbind, Gone}
-use Rattle.nv_entry.specs.declared.item.Run.{Run}
+use Rattle.nv_entry.specs.declared.item.BlockRun.{BlockRun}
 use Rattle.nv_entry.specs.declared.names.BoundName.{BoundName}
 use Rattle.nv_entry.specs.declared.node.NodeCopy.{NodeCopy}
 use Rattle.nv_entry.specs.Bytes.{page_of, pages_touched, written}
@@ -88,11 +88,11 @@ abbrev pub MakesAll : (ℕ → List ℕ) → ℕ → List Item → Option NodeCo
 MakesAll bytes block items before after = (s : Stored) → Tied bytes block s before → Tied bytes block (stored_after_all block items s) after
 
 -- the blocks of runs, in order
-abbrev pub blocks_of : List Run → List ℕ
+abbrev pub blocks_of : List BlockRun → List ℕ
 blocks_of runs = flat_map (λ run. range_with_len run.start run.len) runs
 
 -- the items of a write from a page on: one for each run, with the size of the file after them all
-abbrev pub write_items : ℕ → List Run → ℕ → List Item
+abbrev pub write_items : ℕ → List BlockRun → ℕ → List Item
 write_items first [] size = []
 write_items first (run ∷ runs) size = Write first run size ∷ write_items (first + run.len) runs size
 
@@ -103,7 +103,7 @@ pub record HaveText (bytes : ℕ → List ℕ) (block offset : ℕ) (text before
       → bytes (slice_index_or blocks place 0) ≡ page_of block (offset / block + place) (written offset text before)
 
 -- a run of such blocks
-pub record HasText (bytes : ℕ → List ℕ) (block offset : ℕ) (text before : List ℕ) (run : Run) : Type 0 where
+pub record HasText (bytes : ℕ → List ℕ) (block offset : ℕ) (text before : List ℕ) (run : BlockRun) : Type 0 where
   pub count : run.len ≡ pages_touched block offset (length text)
   pub filled : (place : ℕ) → place < run.len
       → bytes (run.start + place) ≡ page_of block (offset / block + place) (written offset text before)

@@ -6,7 +6,7 @@ use nv_base::{BlockNo, EntryId, Epoch, Handle, Kind, Mode, Name};
 
 /// Consecutive blocks: `len` of them from `start` on.
 #[derive(Clone, Copy, Debug, PartialEq, Eq)]
-pub struct Run {
+pub struct BlockRun {
     pub start: BlockNo,
     pub len: u32,
     pub ghost in_range: { start + len < 2 ^ 64 },
@@ -16,18 +16,34 @@ pub struct Run {
 #[derive(Debug, Drop)]
 pub enum Item {
     /// The inode begins, with no bytes or names.
-    Init { kind: Kind, mode: Mode },
+    Init {
+        kind: Kind,
+        mode: Mode,
+    },
     /// The pages from `first` on stand in the blocks of the run, one page a block; the file has `size`
     /// bytes.
-    Write { first: u32, run: Run, size: u64 },
+    Write {
+        first: u32,
+        run: BlockRun,
+        size: u64,
+    },
     /// The file has `size` bytes; pages past them are absent.
-    SetSize { size: u64 },
+    SetSize {
+        size: u64,
+    },
     /// The inode has another mode.
-    SetMode { mode: Mode },
+    SetMode {
+        mode: Mode,
+    },
     /// The directory binds the name to another inode.
-    Bind { name: Name, to: Handle },
+    Bind {
+        name: Name,
+        to: Handle,
+    },
     /// The directory no longer has the name.
-    Unbind { name: Name },
+    Unbind {
+        name: Name,
+    },
     /// The inode is gone.
     Gone,
 }

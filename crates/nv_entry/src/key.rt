@@ -7,7 +7,7 @@ ghost use Rattle.nv_entry.specs.Data.{block_in, mode_in, node_in, size_in};
 ghost use Rattle.nv_entry.specs.declared.key.Datum.TheVariants.{Block};
 ghost use Rattle.nv_entry.specs.declared.key.Setting.TheVariants.{Present, Untouched};
 
-use crate::{Item, Run};
+use crate::{BlockRun, Item};
 use nv_base::limits::FILE_PAGES;
 use nv_base::{BlockNo, Handle, Kind, Mode};
 
@@ -173,7 +173,7 @@ fn page_setting(block: u64, item: &Item, page: u32) -> Setting
 }
 
 /// What a run of blocks, the first of which is page `first`, does to a page that a file can have.
-fn run_setting(first: u32, run: &Run, page: u32) -> Setting
+fn run_setting(first: u32, run: &BlockRun, page: u32) -> Setting
     requires { page < FILE_PAGES }
     ensures { result ≡ (if in_run first run.now page
         then Present (Block (run.now.start + (page - first))) else Untouched) }

@@ -29,7 +29,7 @@ pub use clean::{hides, is_droppable};
 pub use counts::{live, valid};
 pub use held::{Pair, is_kept};
 pub use index::{PageSource, page_source};
-pub use item::{Entry, Item, Run};
+pub use item::{BlockRun, Entry, Item};
 pub use key::{Datum, Key, Setting};
 pub use names::{BoundName, NameList, names_when};
 pub use node::{BlockBytes, NodeCopy, file_bytes_when, node_when, size_when};

@@ -16,7 +16,7 @@ ghost use Rattle.nv_base.specs.declared.node.Kind.TheVariants.{Dir, File};
 ghost use Rattle.nv_entry.specs.declared.item.Entry.{Entry};
 ghost use Rattle.nv_entry.specs.declared.item.Item.{Item};
 ghost use Rattle.nv_entry.specs.declared.item.Item.TheVariants.{Write};
-ghost use Rattle.nv_entry.specs.declared.item.Run.{Run};
+ghost use Rattle.nv_entry.specs.declared.item.BlockRun.{BlockRun};
 ghost use Rattle.nv_entry.specs.declared.key.Datum.TheVariants.{Node};
 ghost use Rattle.nv_entry.specs.declared.node.NodeCopy.{NodeCopy};
 
@@ -84,7 +84,7 @@ pub fn one_lawful_item_is_several()
 /// The item of a write whose run has the pages that the text touches makes of a file what the write makes
 /// of it.
 pub fn written_pages_are_lawful()
-    ensures { (bytes : ℕ → List ℕ) (block offset : ℕ) (text : List ℕ) (run : Run) (node : NodeCopy)
+    ensures { (bytes : ℕ → List ℕ) (block offset : ℕ) (text : List ℕ) (run : BlockRun) (node : NodeCopy)
         → 0 < block → 0 < length text → offset + length text ≤ FILE_PAGES * block
         → node.kind ≡ File → length node.bytes ≡ node.size → node.size ≤ FILE_PAGES * block
         → HasText bytes block offset text node.bytes run
@@ -94,7 +94,7 @@ pub fn written_pages_are_lawful()
 
 /// So do the items of a write in several runs together, the blocks of which have those pages in order.
 pub fn written_runs_are_lawful()
-    ensures { (bytes : ℕ → List ℕ) (block offset : ℕ) (text : List ℕ) (runs : List Run)
+    ensures { (bytes : ℕ → List ℕ) (block offset : ℕ) (text : List ℕ) (runs : List BlockRun)
         (node : NodeCopy)
         → 0 < block → 0 < length text → offset + length text ≤ FILE_PAGES * block
         → node.kind ≡ File → HaveText bytes block offset text node.bytes (blocks_of runs)

@@ -8,7 +8,7 @@ use Rattle.nv_calls.specs.AllCalls.{early, effect, looked, refusal}
 use Rattle.nv_calls.specs.Plain.{PlainNode, node_in}
 use Rattle.nv_calls.specs.declared.answer.Answer.{Answer}
 use Rattle.nv_calls.specs.declared.call.Call.{Call}
-use Rattle.nv_calls.specs.declared.looked.Looked.{Looked}
+use Rattle.nv_calls.specs.declared.looked.LookupResult.{LookupResult}
 use Rattle.nv_entry.specs.declared.node.NodeCopy.{NodeCopy}
 use Rattle.nv_machine.specs.Answered.{answer_of}
 use Rattle.nv_machine.specs.EndsDecided.{decided, is_maintenance}
@@ -53,11 +53,11 @@ module _ (block actor : ℕ) (granted : Bool) (s : Shared) (h : HandState) (r : 
         (is_numbered (beginning r.call) h.ino) (effect plain (made_in s h.ino r.made) r.call)
     files : (kind : MaintenanceStep) → k ≡ Maintenance kind → ⊥
 
-  found_by : (all : Looked) (k : Next) → WaysOf (KnowsNext (FoundBy (directories r.call) all)) Untold k block actor granted s h r
+  found_by : (all : LookupResult) (k : Next) → WaysOf (KnowsNext (FoundBy (directories r.call) all)) Untold k block actor granted s h r
       → is_on_files k ≡ true → OnFound (directories r.call) all (kind_turn k block actor granted s h r)
   found_by all k ways is = walk_of (KnowsNext (FoundBy (directories r.call) all)) Untold block actor s h r k granted ways is
 
-  kind_found : (all : Looked) (k : Next) → Given k → ((IsLate k → ⊥) → all ≡ looked plain r.call) → HasFound (directories r.call) all k r
+  kind_found : (all : LookupResult) (k : Next) → Given k → ((IsLate k → ⊥) → all ≡ looked plain r.call) → HasFound (directories r.call) all k r
       → OnFound (directories r.call) all (kind_turn k block actor granted s h r)
   kind_found all Number given is had =
       let q = noted Number block s h r in
@@ -65,10 +65,10 @@ module _ (block actor : ℕ) (granted : Bool) (s : Shared) (h : HandState) (r : 
   kind_found all (Look place) given is had = found_by all (Look place) (
     λ fault free by. refused_found (directories r.call) all,
     λ clear. (let q = noted (Look place) block s h r in
-        subst (λ (a : Looked). HasFound (directories r.call) a (looking (place + 1) q) (go_to (looking (place + 1) q) q))
+        subst (λ (a : LookupResult). HasFound (directories r.call) a (looking (place + 1) q) (go_to (looking (place + 1) q) q))
         (sym (is (λ late. late)))
         (call_sees (copies s) plain r.looked r.call place q.slots (go_to (looking (place + 1) q) q) refl (given.inside place refl)
-        (subst (λ (a : Looked). HasFound (directories r.call) a (Look place) r) (is (λ late. late)) had)
+        (subst (λ (a : LookupResult). HasFound (directories r.call) a (Look place) r) (is (λ late. late)) had)
         (ap (λ (x : Option PlainNode). node_in (λ handle. x) (handle_at (directories r.call) place))
         (given.free (handle_at (directories r.call) place) clear.0)))),
   ) refl

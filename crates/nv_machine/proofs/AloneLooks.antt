@@ -9,7 +9,7 @@ use Rattle.nv_calls.specs.Plain.{Change, same_handle}
 use Rattle.nv_calls.specs.Refusals.{Check as Tests, found}
 use Rattle.nv_calls.specs.declared.call.Call.{Call}
 use Rattle.nv_calls.specs.declared.call.Call.TheVariants as call
-use Rattle.nv_calls.specs.declared.looked.Looked.{Looked}
+use Rattle.nv_calls.specs.declared.looked.LookupResult.{LookupResult}
 use Rattle.nv_entry.specs.declared.node.NodeCopy.{NodeCopy}
 use Rattle.nv_machine.specs.Kinds.{check_ending, seen_at}
 use Rattle.nv_machine.specs.Reads.{written_slots}
@@ -25,25 +25,25 @@ use Rattle.nv_machine.proofs.StepWalk.{walk}
 -- ---- what is known of a call before a step
 
 -- of two directories the name of the first is as it is told
-abbrev pub Upto : List Handle → Looked → ℕ → Looked → Type 0
+abbrev pub Upto : List Handle → LookupResult → ℕ → LookupResult → Type 0
 Upto (dir ∷ other ∷ rest) all (suc place) l = l.first ≡ all.first
 Upto dirs all place l = Unit {0}
 
 -- up to its check a call has found these names, as far as it has looked; and behind that it is not overtaken
-abbrev pub HasFound : List Handle → Looked → Next → Running → Type 0
+abbrev pub HasFound : List Handle → LookupResult → Next → Running → Type 0
 HasFound dirs all Number r = r.looked ≡ all
 HasFound dirs all (Look place) r = Upto dirs all place r.looked
 HasFound dirs all (Lock place) r = r.looked ≡ all
 HasFound dirs all Check r = r.looked ≡ all
 HasFound dirs all other r = r.ending ≡ Overtaken → ⊥
 
-abbrev pub FoundBy : List Handle → Looked → Known
+abbrev pub FoundBy : List Handle → LookupResult → Known
 FoundBy dirs all k s h q = HasFound dirs all k q
 
-abbrev pub OnFound : List Handle → Looked → Turn → Type 0
+abbrev pub OnFound : List Handle → LookupResult → Turn → Type 0
 OnFound dirs all t = OnKnown (FoundBy dirs all) t
 
-pub upto_none : (dirs : List Handle) (all l : Looked) → Upto dirs all 0 l
+pub upto_none : (dirs : List Handle) (all l : LookupResult) → Upto dirs all 0 l
 upto_none [] all l = tt
 upto_none (dir ∷ []) all l = tt
 upto_none (dir ∷ other ∷ rest) all l = tt
@@ -62,7 +62,7 @@ LateBy k s h q = IsLate k × (q.ending ≡ Overtaken → ⊥)
 abbrev pub OnLate : Turn → Type 0
 OnLate t = OnKnown LateBy t
 
-pub late_found : (dirs : List Handle) (all : Looked) (k : Next) (r : Running) → IsLate k → (r.ending ≡ Overtaken → ⊥)
+pub late_found : (dirs : List Handle) (all : LookupResult) (k : Next) (r : Running) → IsLate k → (r.ending ≡ Overtaken → ⊥)
     → HasFound dirs all k r
 late_found dirs all Number r late over = absurd late
 late_found dirs all (Look place) r late over = absurd late
@@ -70,7 +70,7 @@ late_found dirs all (Lock place) r late over = absurd late
 late_found dirs all Check r late over = absurd late
 late_found dirs all other r late over = over
 
-pub on_found : (dirs : List Handle) (all : Looked) (t : Turn) → OnLate t → OnFound dirs all t
+pub on_found : (dirs : List Handle) (all : LookupResult) (t : Turn) → OnLate t → OnFound dirs all t
 on_found dirs all (Moves s h q) on = late_found dirs all q.next q on.0 on.1
 on_found dirs all Waits on = tt
 on_found dirs all (Ends result s h) on = tt
@@ -132,7 +132,7 @@ late_turn other block a granted s h r is not over = walk (KnowsNext LateBy) Unto
 }) refl
 
 -- a look that is refused
-pub refused_found : (dirs : List Handle) (all : Looked) {slots : List ℕ} {s : Shared} {h : HandState} {r : Running} {fault : Fault}
+pub refused_found : (dirs : List Handle) (all : LookupResult) {slots : List ℕ} {s : Shared} {h : HandState} {r : Running} {fault : Fault}
     → EndsBy (KnowsNext (FoundBy dirs all)) Untold slots s h r (Refuses fault)
 refused_found dirs all = any_ends (record {
   last = λ k is. late_found dirs all k _ (last_late k is) (λ e. cc);
@@ -143,46 +143,46 @@ refused_found dirs all = any_ends (record {
 
 -- ---- up to it
 
-pub locking_found : (dirs : List Handle) (all : Looked) (place : ℕ) (slots : List ℕ) (q : Running) → q.looked ≡ all
+pub locking_found : (dirs : List Handle) (all : LookupResult) (place : ℕ) (slots : List ℕ) (q : Running) → q.looked ≡ all
     → HasFound dirs all (locking place slots) q
 locking_found dirs all place slots q is = locking_any (λ (k : Next). HasFound dirs all k q) (λ place. is) is place slots
 
 -- a look in one directory finds all, and in two the name of its own
-one_found : (dir : Handle) (all now before : Looked) (place : ℕ) (slots : List ℕ) (q : Running)
+one_found : (dir : Handle) (all now before : LookupResult) (place : ℕ) (slots : List ℕ) (q : Running)
     → q.looked ≡ seen_at (dir ∷ []) place now before
     → place < 1 → now ≡ all
     → HasFound (dir ∷ []) all (if nat_lt (place + 1) (length (dir ∷ [])) then Look (place + 1) else locking 0 slots) q
 one_found dir all now before zero slots q is low same = locking_found (dir ∷ []) all 0 slots q (is ∙ same)
 one_found dir all now before (suc place) slots q is low same = absurd (omega (arith, low))
 
-two_found : (dir other : Handle) (all now before : Looked) (place : ℕ) (slots : List ℕ) (q : Running)
+two_found : (dir other : Handle) (all now before : LookupResult) (place : ℕ) (slots : List ℕ) (q : Running)
     → q.looked ≡ seen_at (dir ∷ other ∷ []) place now before → place < 2 → Upto (dir ∷ other ∷ []) all place before
     → (place ≡ 0 → now.first ≡ all.first) → (place ≡ 1 → now.second ≡ all.second)
     → HasFound (dir ∷ other ∷ []) all
     (if nat_lt (place + 1) (length (dir ∷ other ∷ [])) then Look (place + 1) else locking 0 slots) q
-two_found dir other all now before zero slots q is low upto first second = ap (λ (l : Looked). l.first) is ∙ first refl
+two_found dir other all now before zero slots q is low upto first second = ap (λ (l : LookupResult). l.first) is ∙ first refl
 two_found dir other all now before (suc zero) slots q is low upto first second =
     locking_found (dir ∷ other ∷ []) all 0 slots q
-    (is ∙ ap (λ (a : Option Handle). let l : Looked = record { first = a; second = now.second } in l) upto
-    ∙ ap (λ (b : Option Handle). let l : Looked = record { first = all.first; second = b } in l) (second refl))
+    (is ∙ ap (λ (a : Option Handle). let l : LookupResult = record { first = a; second = now.second } in l) upto
+    ∙ ap (λ (b : Option Handle). let l : LookupResult = record { first = all.first; second = b } in l) (second refl))
 two_found dir other all now before (suc (suc place)) slots q is low upto first second = absurd (omega (arith, low))
 
 found_same : (m n : Handle → Option NodeCopy) (dir : Handle) (name : List ℕ) → m dir ≡ n dir → found m dir name ≡ found n dir name
 found_same m n dir name e = ap (λ (x : Option NodeCopy). found (λ handle. x) dir name) e
 
 -- where the directory of a look reads as its settled log says, the look finds what the plain world has there
-abbrev Sees : List Handle → Call → (Handle → Option NodeCopy) → (Handle → Option NodeCopy) → Looked → ℕ → Type 0
+abbrev Sees : List Handle → Call → (Handle → Option NodeCopy) → (Handle → Option NodeCopy) → LookupResult → ℕ → Type 0
 Sees dirs c copied plain before place = (slots : List ℕ) (q : Running) → q.looked ≡ seen_at dirs place (looked copied c) before
     → place < length dirs → Upto dirs (looked plain c) place before → copied (handle_at dirs place) ≡ plain (handle_at dirs place)
     → HasFound dirs (looked plain c) (if nat_lt (place + 1) (length dirs) then Look (place + 1) else locking 0 slots) q
 
-module _ (copied plain : Handle → Option NodeCopy) (before : Looked) where
+module _ (copied plain : Handle → Option NodeCopy) (before : LookupResult) where
   leave_sees : (dir : Handle) (name : List ℕ) (c : Call) → ((nodes : Handle → Option NodeCopy) → looked nodes c
-      ≡ (let l : Looked = record { first = found nodes dir name; second = None } in l)) → (place : ℕ)
+      ≡ (let l : LookupResult = record { first = found nodes dir name; second = None } in l)) → (place : ℕ)
       → Sees (dir ∷ []) c copied plain before place
   leave_sees dir name c looks zero slots q is low upto same =
       one_found dir (looked plain c) (looked copied c) before zero slots q is low
-      (looks copied ∙ ap (λ (a : Option Handle). let l : Looked = record { first = a; second = None } in l)
+      (looks copied ∙ ap (λ (a : Option Handle). let l : LookupResult = record { first = a; second = None } in l)
       (found_same copied plain dir name same) ∙ sym (looks plain))
   leave_sees dir name c looks (suc place) slots q is low upto same = absurd (omega (arith, low))
 
@@ -191,9 +191,9 @@ module _ (copied plain : Handle → Option NodeCopy) (before : Looked) where
   rename_sees from old to new true e zero slots q is low upto same =
       let one : copied to ≡ plain to = subst (λ (h : Handle). copied h ≡ plain h) (handles_same from to e) same in
       one_found from (looked plain (call.Rename from old to new)) (looked copied (call.Rename from old to new)) before zero slots q is low
-      (ap (λ (a : Option Handle). let l : Looked = record { first = a; second = found copied to new } in l)
+      (ap (λ (a : Option Handle). let l : LookupResult = record { first = a; second = found copied to new } in l)
       (found_same copied plain from old same)
-      ∙ ap (λ (b : Option Handle). let l : Looked = record { first = found plain from old; second = b } in l)
+      ∙ ap (λ (b : Option Handle). let l : LookupResult = record { first = found plain from old; second = b } in l)
       (found_same copied plain to new one))
   rename_sees from old to new true e (suc place) slots q is low upto same = absurd (omega (arith, low))
   rename_sees from old to new false e zero slots q is low upto same =
@@ -219,7 +219,7 @@ same_self : (o : Option Handle) → same_found o o ≡ true
 same_self None = refl
 same_self (Some a) = handle_self a
 
-pub looked_self : (l : Looked) → same_looked l l ≡ true
+pub looked_self : (l : LookupResult) → same_looked l l ≡ true
 looked_self l = rw (same_self l.first, same_self l.second) refl
 
 pub check_same : (first : Tests) (b : Bool) (rest : Tests) (numbered : Bool) (changes : List Change) → b ≡ true

@@ -24,7 +24,7 @@ use Rattle.nv_machine.specs.Sequence.{Beginning, beginning, begun, directories, 
 use Rattle.nv_machine.specs.Settled.{settled_nodes}
 use Rattle.nv_machine.specs.Starts.{IsStart}
 use Rattle.nv_machine.specs.Step.{after, same_looked, step, turn}
-use Rattle.nv_machine.specs.World.{Actor, Answers, Back, Check, Ending, Enter, Event, Give, Go, HandState, Leave, Lock, Look, Next, Number, Overtaken, Ready, Refused, Retire, Running, Shared, Maintenance, Start, Started, TakeBlocks, TakePages, Turn, Unlock, Visit, World, actor_at}
+use Rattle.nv_machine.specs.World.{Actor, Answers, ReturnNumber, Check, Ending, Enter, Event, Give, Go, HandState, Leave, Lock, Look, Next, Number, Overtaken, Ready, Refused, Retire, Running, Shared, Maintenance, Start, Started, TakeBlocks, TakeLogPages, Turn, Unlock, Visit, World, actor_at}
 use Rattle.nv_machine.proofs.EveryWorld.{all_numbers}
 use Rattle.nv_machine.proofs.AloneEndings.{Fine, FineOf, OnFine, after_fine, caused_fine, ends_fine, reply_fine}
 use Rattle.nv_machine.proofs.AloneFinds.{FoundOf, found_more, unchanged}
@@ -71,7 +71,7 @@ module _ (block actor : ℕ) (granted : Bool) (nodes : Handle → Option PlainNo
   cause_told Check stage still same (inr (inr (inr cause))) =
       absurd (true≢false (sym (same refl) ∙ cause.1.1))
   cause_told (TakeBlocks asked) stage still same cause = inr (still refl, ap is_want cause.is)
-  cause_told (TakePages asked) stage still same cause = inr (still refl, ap is_want cause.is)
+  cause_told (TakeLogPages asked) stage still same cause = inr (still refl, ap is_want cause.is)
   cause_told Ready stage still same cause = inr (still refl, ap is_want cause.0)
   cause_told Enter stage still same (inl cause) = inr (still refl, ap is_want cause.0)
   cause_told Enter stage still same (inr cause) = inr (still refl, ap is_want cause.0)
@@ -86,7 +86,7 @@ module _ (block actor : ℕ) (granted : Bool) (nodes : Handle → Option PlainNo
   cause_early Leave a cause = absurd cause
   cause_early (Unlock place) a cause = absurd cause
   cause_early (Give cpu) a cause = absurd cause
-  cause_early Back a cause = absurd cause
+  cause_early ReturnNumber a cause = absurd cause
   cause_early other a cause = refl
 
 -- a call that looks nothing up finds nothing

@@ -22,7 +22,7 @@ use Rattle.nv_machine.specs.Numbers.{free_of, held_in, of_part, stored_in}
 use Rattle.nv_calls.proofs.FillPages.{filled_numbers}
 use Rattle.nv_calls.specs.FillPages.{fresh_pages}
 use Rattle.nv_machine.specs.Reads.{copies, pages_needed, slot_at, written_slots}
-use Rattle.nv_machine.specs.World.{Append, Back, Give, HandState, Next, Number, Publish, Ready, Retire, Running, Shared, Maintenance, TakeBlocks, TakePages, cell_at, list_at, no_cell, no_list, Unlink, Compact, MaintenanceStep, with_cell}
+use Rattle.nv_machine.specs.World.{Append, ReturnNumber, Give, HandState, Next, Number, Publish, Ready, Retire, Running, Shared, Maintenance, TakeBlocks, TakeLogPages, cell_at, list_at, no_cell, no_list, Unlink, Compact, MaintenanceStep, with_cell}
 use Rattle.nv_machine.proofs.Occurrences.{cut_times, set_times, three_times}
 use Rattle.nv_machine.proofs.StepWork.{append_work, by_back, by_number, work, maintenance_work}
 use Rattle.nv_machine.proofs.CellChanges.{IsRemoval, Removal, hand_freed, is_removal, is_removed, lent_removal, on_step, removal, removal_on, removed, stored_times, clean_cell, clean_slot, is_clean, is_clean_on, clean_slot_on, clean_cell_on, lent_clean}
@@ -274,7 +274,7 @@ work_times (TakeBlocks asked) n block actor s h r can =
     let taken = take r.wanted (list_at s cpu).blocks in
     let after : HandState = record h { blocks = h.blocks ++ taken } in
     omega (arith, taken_times n r.wanted cpu s, taken_more n h.blocks taken, held_times n h, held_times n after)
-work_times (TakePages asked) n block actor s h r can = fresh_times n (asked_list (length s.lists) actor asked) r.wanted s h
+work_times (TakeLogPages asked) n block actor s h r can = fresh_times n (asked_list (length s.lists) actor asked) r.wanted s h
 work_times Ready n block actor s h r can =
     let same = ap (times n) (filled_numbers (fresh_pages block (copies s) r.call) h.blocks) in
     omega (arith, same, held_times n h, held_times n (with_bytes block s r h))
@@ -286,7 +286,7 @@ work_times (Publish place) n block actor s h r can =
 work_times (Retire place) n block actor s h r can =
     removal_times n (removal (Retire place) s h r) s h (is_removed (Retire place) s h r refl) (can.inside _ refl) (can.none refl)
 work_times (Give cpu) n block actor s h r can = given_times n cpu s h
-work_times Back n block actor s h r can =
+work_times ReturnNumber n block actor s h r can =
     by_back (λ (t : Shared) (g : HandState). count n t g ≡ count n s h) s h (λ numbers ino. refl)
 work_times (Maintenance step) n block actor s h r can =
     let k = Maintenance step in

@@ -14,7 +14,7 @@ use Rattle.nv_machine.specs.Kinds.{first_killed}
 use Rattle.nv_machine.specs.Locks.{AllRecords}
 use Rattle.nv_machine.specs.Reads.{slot_at, written_slots}
 use Rattle.nv_machine.specs.Step.{kind_turn}
-use Rattle.nv_machine.specs.World.{Back, Drop, HandState, Make, Next, Number, Pick, Retire, Running, Shared, MaintenanceStep, Maintenance, Turn}
+use Rattle.nv_machine.specs.World.{ReturnNumber, Drop, HandState, Make, Next, Number, Pick, Retire, Running, Shared, MaintenanceStep, Maintenance, Turn}
 use Rattle.nv_machine.proofs.EachElement.{all_append, all_filter}
 use Rattle.nv_machine.proofs.StepWork.{work, maintenance_work, by_number, by_back}
 use Rattle.nv_machine.proofs.WorkKeeps.{AfterTurn, turn_keeps}
@@ -90,7 +90,7 @@ module _ (P : Record → Type 0) where
       → AllRecords P s.book → AllRecords P (work k block actor s h r).shared.book
   work_all Number block actor s h r new are =
       by_number (λ (t : Shared) (g : HandState). AllRecords P t.book) s h (λ numbers ino. are)
-  work_all Back block actor s h r new are =
+  work_all ReturnNumber block actor s h r new are =
       by_back (λ (t : Shared) (g : HandState). AllRecords P t.book) s h (λ numbers ino. are)
   work_all (Retire place) block actor s h r new are = record {
     filed = retired_each (ids s.book.snaps) (slot_at (written_slots r) place) r.epoch (first_killed h.killed) s.book.manifests

@@ -20,7 +20,7 @@ use Rattle.nv_machine.specs.Hands.{IsParted, unpublished_at}
 use Rattle.nv_machine.specs.Kinds.{entries_for, first_killed, retired_book, retired_cell, with_entries, with_erased, with_pages}
 use Rattle.nv_machine.specs.Numbers.{of_part, stored_in}
 use Rattle.nv_machine.specs.Reads.{pages_needed, slot_at, written_slots}
-use Rattle.nv_machine.specs.World.{Append, Back, Close, Enter, HandState, Leave, Make, Next, Number, Open, Publish, Release, Retire, Running, Shared, MaintenanceStep, Maintenance, cell_at, no_cell, owner_at, with_book, with_cell, Compact, Fresh, Unlink}
+use Rattle.nv_machine.specs.World.{Append, ReturnNumber, Close, Enter, HandState, Leave, Make, Next, Number, Open, Publish, Release, Retire, Running, Shared, MaintenanceStep, Maintenance, cell_at, no_cell, owner_at, with_book, with_cell, Compact, Fresh, Unlink}
 use Rattle.nv_machine.proofs.Occurrences.{set_times}
 use Rattle.nv_machine.proofs.StepWork.{Both, both, work, maintenance_work, by_number, by_back}
 use Rattle.nv_machine.proofs.StepFrames.{work_framed}
@@ -370,7 +370,7 @@ pub journals_stay : (k : Next) (block a : ℕ) (s : Shared) (h : HandState) (r :
 journals_stay Number block a s h r is = ap (λ (b : BookState). b.journals) (work_framed Number block a s h r).book
 journals_stay Open block a s h r is = absurd (true≢false is)
 journals_stay Close block a s h r is = absurd (true≢false is)
-journals_stay Back block a s h r is = ap (λ (b : BookState). b.journals) (work_framed Back block a s h r).book
+journals_stay ReturnNumber block a s h r is = ap (λ (b : BookState). b.journals) (work_framed ReturnNumber block a s h r).book
 journals_stay (Maintenance step) block a s h r is = journals_on step a s h
 journals_stay other block a s h r is = refl
 
@@ -387,7 +387,7 @@ pub commit_stays : (k : Next) (block a : ℕ) (s : Shared) (h : HandState) (r : 
     → (work k block a s h r).shared.book.commit ≡ s.book.commit
 commit_stays Number block a s h r is = ap (λ (b : BookState). b.commit) (work_framed Number block a s h r).book
 commit_stays Enter block a s h r is = absurd (true≢false is)
-commit_stays Back block a s h r is = ap (λ (b : BookState). b.commit) (work_framed Back block a s h r).book
+commit_stays ReturnNumber block a s h r is = ap (λ (b : BookState). b.commit) (work_framed ReturnNumber block a s h r).book
 commit_stays (Maintenance step) block a s h r is = commit_on step a s h
 commit_stays other block a s h r is = refl
 
@@ -408,7 +408,7 @@ epoch_on other a s h is = refl
 pub epoch_stays : (k : Next) (block a : ℕ) (s : Shared) (h : HandState) (r : Running) → makes k ≡ false
     → (work k block a s h r).shared.book.snaps.epoch ≡ s.book.snaps.epoch
 epoch_stays Number block a s h r is = ap (λ (b : BookState). b.snaps.epoch) (work_framed Number block a s h r).book
-epoch_stays Back block a s h r is = ap (λ (b : BookState). b.snaps.epoch) (work_framed Back block a s h r).book
+epoch_stays ReturnNumber block a s h r is = ap (λ (b : BookState). b.snaps.epoch) (work_framed ReturnNumber block a s h r).book
 epoch_stays (Maintenance step) block a s h r is = epoch_on step a s h is
 epoch_stays other block a s h r is = refl
 
@@ -429,7 +429,7 @@ pub holder_stays : (k : Next) (block a : ℕ) (s : Shared) (h : HandState) (r : 
 holder_stays Number block a s h r is = (work_framed Number block a s h r).holder
 holder_stays Enter block a s h r is = absurd (true≢false is)
 holder_stays Leave block a s h r is = absurd (true≢false is)
-holder_stays Back block a s h r is = (work_framed Back block a s h r).holder
+holder_stays ReturnNumber block a s h r is = (work_framed ReturnNumber block a s h r).holder
 holder_stays (Maintenance step) block a s h r is = lock_on step a s h
 holder_stays other block a s h r is = refl
 
@@ -445,7 +445,7 @@ kills other = false
 pub killed_stays : (k : Next) (block a : ℕ) (s : Shared) (h : HandState) (r : Running) → kills k ≡ false
     → (work k block a s h r).hand.killed ≡ h.killed
 killed_stays Number block a s h r is = by_number (λ (t : Shared) (g : HandState). g.killed ≡ h.killed) s h (λ numbers ino. refl)
-killed_stays Back block a s h r is = by_back (λ (t : Shared) (g : HandState). g.killed ≡ h.killed) s h (λ numbers ino. refl)
+killed_stays ReturnNumber block a s h r is = by_back (λ (t : Shared) (g : HandState). g.killed ≡ h.killed) s h (λ numbers ino. refl)
 killed_stays (Publish place) block a s h r is = absurd (true≢false is)
 killed_stays (Retire place) block a s h r is = absurd (true≢false is)
 killed_stays (Maintenance step) block a s h r is = absurd (true≢false is)

@@ -32,7 +32,7 @@ use Rattle.nv_machine.specs.Reads.{home_from, written_slots}
 use Rattle.nv_machine.specs.Starts.{IsStart}
 use Rattle.nv_machine.specs.Step.{Step, after, changed, kind_turn, step, turned}
 use Rattle.nv_machine.specs.WhatStays.{IsCompacted, IsUnlinked}
-use Rattle.nv_machine.specs.World.{Back, Cleans, Compact, Event, Give, Go, HandState, Maintenance, Next, Running, Shared, Unlink, Unlock, World, actor_at, cell_at, go_to, no_cell, owner_at, with_cell}
+use Rattle.nv_machine.specs.World.{ReturnNumber, Cleans, Compact, Event, Give, Go, HandState, Maintenance, Next, Running, Shared, Unlink, Unlock, World, actor_at, cell_at, go_to, no_cell, owner_at, with_cell}
 use Rattle.nv_machine.proofs.CellChanges.{lent_inside_own}
 use Rattle.nv_machine.proofs.CleanSteps.{compact_cleans, unlink_cleans}
 use Rattle.nv_machine.proofs.Cleanable.{IsCleanable, cleanable}
@@ -107,7 +107,7 @@ ended [] cleaned actor w t h r = go (home_from 0 0 t.lists (blocks_in h)) h.ino 
   go : (o number : Option ℕ) → IsEnded actor w (turned (rest_turn o number t h q) actor w).world t
   go (Some cpu) number =
       record { hand = h; running = Some (go_to (Give cpu) q); is = refl; killed = λ ino. refl; picked = refl }
-  go None (Some ino) = record { hand = h; running = Some (go_to Back q); is = refl; killed = λ ino. refl; picked = refl }
+  go None (Some ino) = record { hand = h; running = Some (go_to ReturnNumber q); is = refl; killed = λ ino. refl; picked = refl }
   go None None = record { hand = h; running = None; is = refl; killed = λ ino. refl; picked = refl }
 
 -- what keeps the pairs of a slot, by what it is read from

@@ -9,7 +9,7 @@ use Rattle.nv_base.specs.declared.numbers.Handle.{Handle}
 use Rattle.nv_calls.proofs.Commits.{commits}
 use Rattle.nv_calls.specs.AllCalls.{effect}
 use Rattle.nv_calls.specs.Plain.{Change, PlainNode, node_in, nodes_after, stamped}
-use Rattle.nv_calls.specs.Slots.{Commits as DoesAll, Slot, entries_of, items_for, last_commit, node_under, place_in, published as published_slots}
+use Rattle.nv_calls.specs.Slots.{Commits as DoesAll, InodeSlot, entries_of, items_for, last_commit, node_under, place_in, published as published_slots}
 use Rattle.nv_cell.specs.Cell.{CellState}
 use Rattle.nv_entry.specs.Node.{block_now, node_now}
 use Rattle.nv_entry.specs.Sound.{Gives, IsSound, empty_node}
@@ -89,7 +89,7 @@ module _ (bytes : ℕ → List ℕ) (block : ℕ) (s t : Shared) (r : Running) (
       ∙ sym (ap (λ (items : List Item). settled s ino ++ entries_of r.commit r.epoch (place_in r.plan ino) items) (plan.written ino e))
 
   published_is : settled_slots t ≡ published_slots r.commit r.epoch r.plan (settled_slots s)
-  published_is = fun_ext (λ (ino : ℕ). ap₂ (λ (g : ℕ) (log : List Entry). let x : Slot = record { generation = g; log = log } in x)
+  published_is = fun_ext (λ (ino : ℕ). ap₂ (λ (g : ℕ) (log : List Entry). let x : InodeSlot = record { generation = g; log = log } in x)
       (same ino).generation (published_log ino (has (written_slots r) ino) refl))
 
   abbrev changes : List Change
@@ -102,7 +102,7 @@ module _ (bytes : ℕ → List ℕ) (block : ℕ) (s t : Shared) (r : Running) (
       → settled_nodes t handle ≡ nodes_after r.commit changes (settled_nodes s) handle
   effect_is here there handle =
       sym (read_nodes bytes block t there handle)
-      ∙ ap (λ (slots : ℕ → Slot). node_under bytes block slots handle) published_is
+      ∙ ap (λ (slots : ℕ → InodeSlot). node_under bytes block slots handle) published_is
       ∙ does.nodes handle
       ∙ ap (λ (nodes : Handle → Option PlainNode). nodes_after r.commit changes nodes handle)
       (fun_ext (λ (h : Handle). read_nodes bytes block s here h))

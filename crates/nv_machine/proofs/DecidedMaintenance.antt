@@ -6,7 +6,7 @@ use Rattle.nv_calls.specs.declared.call.Call.{Call}
 use Rattle.nv_machine.specs.EndsDecided.{decides}
 use Rattle.nv_machine.specs.Locks.{commits_at}
 use Rattle.nv_machine.specs.Step.{kind_turn, step}
-use Rattle.nv_machine.specs.World.{Append, Back, Close, Ending, Ends, Give, HandState, Leave, Moves, Next, Open, Overtaken, Publish, Retire, Running, Shared, Maintenance, Turn, Unlock, Waits}
+use Rattle.nv_machine.specs.World.{Append, ReturnNumber, Close, Ending, Ends, Give, HandState, Leave, Moves, Next, Open, Overtaken, Publish, Retire, Running, Shared, Maintenance, Turn, Unlock, Waits}
 use Rattle.nv_machine.proofs.NextSteps.{Untold}
 use Rattle.nv_machine.proofs.MaintenanceTurns.{done_keeps, fair_for, is_fair, is_quiet, snapshot_any}
 use Rattle.nv_machine.proofs.StepWays.{After, Going, Rests}
@@ -67,9 +67,9 @@ quiet_kind (Unlock place) block a granted s h r quiet fair =
     )
 quiet_kind (Give cpu) block a granted s h r quiet fair =
     (walk_of QuietGoes Untold block a s h r (Give cpu) granted rests_quiet refl, last_from (Give cpu) block a granted s h r refl)
-quiet_kind Back block a granted s h r quiet fair = (
-  walk_of QuietGoes Untold block a s h r Back granted (record { told = λ full. tt; picks = λ d left drains some. (refl, refl) }) refl,
-  last_from Back block a granted s h r refl,
+quiet_kind ReturnNumber block a granted s h r quiet fair = (
+  walk_of QuietGoes Untold block a s h r ReturnNumber granted (record { told = λ full. tt; picks = λ d left drains some. (refl, refl) }) refl,
+  last_from ReturnNumber block a granted s h r refl,
 )
 quiet_kind other block a granted s h r quiet fair = absurd (false≢true quiet)
 
@@ -87,5 +87,5 @@ pub decides_none : (k : Next) (block : ℕ) (s : Shared) (r : Running) (t : Turn
 decides_none (Maintenance step) block s r t e = ap not (done_keeps step t)
 decides_none (Unlock place) block s r t e = refl
 decides_none (Give cpu) block s r t e = refl
-decides_none Back block s r t e = refl
+decides_none ReturnNumber block s r t e = refl
 decides_none other block s r t e = absurd (false≢true e)

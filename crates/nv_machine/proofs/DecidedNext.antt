@@ -11,7 +11,7 @@ use Rattle.nv_machine.specs.Answered.{answer_of}
 use Rattle.nv_machine.specs.EndsDecided.{is_maintenance}
 use Rattle.nv_machine.specs.Kinds.{result_by}
 use Rattle.nv_machine.specs.Sequence.{Visits, appending, beginning, closing, locking, looking, opening, publishing, retiring}
-use Rattle.nv_machine.specs.World.{Answers, Append, Back, Check, Close, Drains, Ending, Give, HandState, Leave, Lock, Look, Next, Number, Open, Overtaken, Publish, Refuses, Retire, Running, Shared, Maintenance, Turn, Unlock, Visit, go_to, Cleans}
+use Rattle.nv_machine.specs.World.{Answers, Append, ReturnNumber, Check, Close, Drains, Ending, Give, HandState, Leave, Lock, Look, Next, Number, Open, Overtaken, Publish, Refuses, Retire, Running, Shared, Maintenance, Turn, Unlock, Visit, go_to, Cleans}
 use Rattle.nv_machine.proofs.LoopSteps.{by_test, either, locking_any, looking_any}
 use Rattle.nv_machine.proofs.StepWays.{AfterBy, EndsBy, Going, Lasts, Overs, Rests, Telling, by_taking, is_maintained, is_taking}
 use Rattle.nv_calls.specs.declared.call.Call.TheVariants as call
@@ -27,7 +27,7 @@ told_at (Retire place) e a = a ∷ []
 told_at Leave e a = a ∷ []
 told_at (Unlock place) e a = told_by e a
 told_at (Give cpu) e a = told_by e a
-told_at Back e a = told_by e a
+told_at ReturnNumber e a = told_by e a
 told_at other e a = []
 
 abbrev pub IsNoVisit : Call → Type 0
@@ -46,7 +46,7 @@ Stage Check e c = IsNoVisit c
 Stage Visit e c = beginning c ≡ Visits
 Stage (Unlock place) e c = IsLastOf e c × (e ≡ Overtaken → IsNoVisit c)
 Stage (Give cpu) e c = IsLastOf e c
-Stage Back e c = IsLastOf e c
+Stage ReturnNumber e c = IsLastOf e c
 Stage (Maintenance step) e c = ⊥
 Stage other e c = is_nothing c ≡ false
 

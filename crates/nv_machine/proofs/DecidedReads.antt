@@ -12,8 +12,8 @@ use Rattle.nv_calls.specs.Refusals.{Check as Tests, and_then, found, kind_of, pa
 use Rattle.nv_calls.specs.calls.Lookup.{lookup_refusal}
 use Rattle.nv_calls.specs.calls.Rename.{rename_early}
 use Rattle.nv_calls.specs.declared.call.Call.{Call}
-use Rattle.nv_calls.specs.declared.looked.Looked.{Looked}
-use Rattle.nv_calls.specs.declared.taken.Taken.{Taken}
+use Rattle.nv_calls.specs.declared.looked.LookupResult.{LookupResult}
+use Rattle.nv_calls.specs.declared.allocation.Allocation.{Allocation}
 use Rattle.nv_calls.proofs.Same.{call_same}
 use Rattle.nv_cell.specs.Cell.{log_of}
 use Rattle.nv_cell.proofs.Publishing.{take_whole}
@@ -78,10 +78,10 @@ module _ (plain others : Handle → Option PlainNode) where
       ap₂ (λ (check : Tests) (node : Option NodeCopy). and_then check (want_directory (kind_of node) (want_lawful new passes)))
       (look_same from old f) (same_node to t)
 
-  abbrev one_name : Option Handle → Looked
+  abbrev one_name : Option Handle → LookupResult
   one_name first = record { first = first; second = None }
 
-  abbrev two_names : Option Handle → Option Handle → Looked
+  abbrev two_names : Option Handle → Option Handle → LookupResult
   two_names first second = record { first = first; second = second }
 
   pub looks_alike : (c : Call) → Agree plain others (handles nothing_looked c) → LooksAlike plain others c
@@ -109,7 +109,7 @@ module _ (plain others : Handle → Option PlainNode) where
   first_look other e = refl
 
   -- the handles that a call names are among all that it reads
-  named_agree : (seen : Looked) (c : Call) → Agree plain others (handles seen c) → Agree plain others (handles nothing_looked c)
+  named_agree : (seen : LookupResult) (c : Call) → Agree plain others (handles seen c) → Agree plain others (handles nothing_looked c)
   named_agree seen (call.Unlink dir name) h = (h.0, tt)
   named_agree seen (call.Rmdir dir name) h = (h.0, tt)
   named_agree seen (call.Rename from old to new) h = (h.0, (h.1.0, tt))
@@ -154,10 +154,10 @@ module _ (block : ℕ) (s : Shared) (h : HandState) (r : Running) where
     alike : LooksAlike (settled_nodes s) (nodes s) r.call
     alike = looks_alike (settled_nodes s) (nodes s) r.call (named_agree (settled_nodes s) (nodes s) r.looked r.call check_agrees)
 
-    same_then_all : same_looked (looked plain r.call) r.looked ≡ true → (taken : Taken)
+    same_then_all : same_looked (looked plain r.call) r.looked ≡ true → (taken : Allocation)
         → SameCall block (settled_nodes s) (nodes s) taken r.call
     same_then_all e taken = call_same block (settled_nodes s) (nodes s) taken r.call
-        (subst (λ (l : Looked). Agree (settled_nodes s) (nodes s) (handles l r.call)) (sym (looked_is (looked plain r.call) r.looked e))
+        (subst (λ (l : LookupResult). Agree (settled_nodes s) (nodes s) (handles l r.call)) (sym (looked_is (looked plain r.call) r.looked e))
         check_agrees)
 
     either : (same : Bool) → same_looked (looked plain r.call) r.looked ≡ same
@@ -174,6 +174,6 @@ module _ (block : ℕ) (s : Shared) (h : HandState) (r : Running) where
     -- a check ends its call as the plain world would
     pub ending_settled : ending_at block s h r ≡ settled_ending
     ending_settled =
-        ap₂ (λ (first : Tests) (l : Looked). check_ending first (same_looked l r.looked) (refusal block (copies s) r.call)
+        ap₂ (λ (first : Tests) (l : LookupResult). check_ending first (same_looked l r.looked) (refusal block (copies s) r.call)
         (is_numbered (beginning r.call) h.ino) (effect (copies s) made r.call)) alike.early alike.found
         ∙ either (same_looked (looked plain r.call) r.looked) refl

@@ -19,8 +19,8 @@ use Rattle.nv_machine.specs.Sequence.{Beginning, Locks, Maintains, Visits, begin
 use Rattle.nv_machine.specs.Settled.{settled_nodes}
 use Rattle.nv_machine.specs.Starts.{IsStart}
 use Rattle.nv_machine.specs.Step.{Step, after, start_step, step, turn, turned}
-use Rattle.nv_machine.specs.World.{Actor, Append, Back, Check, Close, Done, Ending, Ends, Event, Give, Go, HandState, Leave, Lock, Look, Moves, Next, Number, Open, Publish, Refused, Reply, Retire, Running, Shared, Maintenance, Start, Turn, Unlock, Visit, Waits, World, actor_at, idle}
-use Rattle.nv_calls.specs.declared.taken.Taken.{Taken}
+use Rattle.nv_machine.specs.World.{Actor, Append, ReturnNumber, Check, Close, Done, Ending, Ends, Event, Give, Go, HandState, Leave, Lock, Look, Moves, Next, Number, Open, Publish, Refused, Reply, Retire, Running, Shared, Maintenance, Start, Turn, Unlock, Visit, Waits, World, actor_at, idle}
+use Rattle.nv_calls.specs.declared.allocation.Allocation.{Allocation}
 use Rattle.nv_calls.proofs.Nothing.{told_nothing}
 use Rattle.nv_machine.proofs.EveryWorld.{all_fit, all_known}
 use Rattle.nv_machine.proofs.EndingsStay.{deed_is}
@@ -99,7 +99,7 @@ staged Check e c stage = stage.1
 staged Visit e c stage = plain_visit c stage
 staged (Unlock place) e c stage = stage.0.1
 staged (Give cpu) e c stage = stage.1
-staged Back e c stage = stage.1
+staged ReturnNumber e c stage = stage.1
 staged (Maintenance step) e c stage = absurd stage
 staged other e c stage = (no_visit c stage).1
 
@@ -305,7 +305,7 @@ module _ (g : GeometryNumbers) (start : World) (records : List Record) (events :
       → deed_of w (Go actor granted) ≡ Commits → 0 < length (effect (node_in (settled_nodes w.shared)) r.made r.call)
   commits_something granted r there is e =
       let block = w.numbers.block in
-      let taken : Taken = record { made = r.made; runs = []; present = false } in
+      let taken : Allocation = record { made = r.made; runs = []; present = false } in
       let fits : FitsAt r.next block w.shared (actor_at w actor).hand r =
       subst (λ (o : Option Running). FitsOf o block w.shared (actor_at w actor).hand) is
       ((all_fit g start records is_start events).each actor) in

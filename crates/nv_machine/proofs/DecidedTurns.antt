@@ -12,7 +12,7 @@ use Rattle.nv_calls.specs.Plain.{Change, PlainNode, node_in}
 use Rattle.nv_calls.specs.Refusals.{Check as Tests, passes}
 use Rattle.nv_calls.specs.declared.answer.Answer.{Answer}
 use Rattle.nv_calls.specs.declared.call.Call.{Call}
-use Rattle.nv_calls.specs.declared.taken.Taken.{Taken}
+use Rattle.nv_calls.specs.declared.allocation.Allocation.{Allocation}
 use Rattle.nv_calls.proofs.Nothing.{told_nothing}
 use Rattle.nv_calls.proofs.Passed.{both_passed}
 use Rattle.nv_cell.specs.Cell.{log_of}
@@ -27,7 +27,7 @@ use Rattle.nv_machine.specs.Reads.{copies, nodes, written_slots}
 use Rattle.nv_machine.specs.Sequence.{Visits, appending, beginning, nothing_looked, publishing, retiring}
 use Rattle.nv_machine.specs.Settled.{settled, settled_nodes}
 use Rattle.nv_machine.specs.Step.{ending_at, handle_at, is_numbered, kind_turn, made_in, same_looked, visit_grows, with_made}
-use Rattle.nv_machine.specs.World.{Answers, Append, Back, Check, Close, Draining, Drains, Ending, Ends, Enter, Give, HandState, Leave, Lock, Look, Moves, Next, Number, Open, Overtaken, Publish, Ready, Refuses, Retire, Running, Shared, Maintenance, TakeBlocks, TakePages, Turn, Unlock, Visit, Waits, cell_at, go_to, owner_at, Cleans}
+use Rattle.nv_machine.specs.World.{Answers, Append, ReturnNumber, Check, Close, Draining, Drains, Ending, Ends, Enter, Give, HandState, Leave, Lock, Look, Moves, Next, Number, Open, Overtaken, Publish, Ready, Refuses, Retire, Running, Shared, Maintenance, TakeBlocks, TakeLogPages, Turn, Unlock, Visit, Waits, cell_at, go_to, owner_at, Cleans}
 use Rattle.nv_machine.proofs.EndingsStay.{no_node_tells}
 use Rattle.nv_machine.proofs.DecidedReads.{ending_settled, settled_ending}
 use Rattle.nv_machine.proofs.DecidedNext.{IsNoVisit, IsTold, OnTold, ToldEnds, ToldGoes, appending_before, before_told, behind_told, denied_told, ends_told, lasts_told, locking_told, looking_told, no_visit, overs_told, plain_visit, rests_told, retiring_behind, several_before, single_behind, taking_told, told_by}
@@ -142,7 +142,7 @@ pub record Relied (k : Next) (block a cpu : ℕ) (s : Shared) (h : HandState) (r
   pub several : k ≡ Open → nat_lt 1 (length (written_slots r)) ≡ true
   pub written : k ≡ Enter → is_nothing r.call ≡ false → 0 < length (written_slots r)
   pub visit : beginning r.call ≡ Visits → owner_at s (handle_at (handles nothing_looked r.call) 0).ino ≡ None
-      → (taken : Taken) → SameCall block (settled_nodes s) (nodes s) taken r.call
+      → (taken : Allocation) → SameCall block (settled_nodes s) (nodes s) taken r.call
 
 -- these decide nothing
 abbrev decides_none : Next → Bool
@@ -264,8 +264,8 @@ module _ (block a cpu : ℕ) (s : Shared) (h : HandState) (r : Running) where
     takes : (k : Next) → before ≡ [] → is_nothing r.call ≡ false → is_list_taker k ≡ true → Takes Goes k block a s h r
     takes (TakeBlocks asked) none some on =
         any_takes Goes Tells block a s h r (TakeBlocks asked) (λ n next is. taking_told none next _ is some) refl
-    takes (TakePages asked) none some on =
-        any_takes Goes Tells block a s h r (TakePages asked) (λ n next is. taking_told none next _ is some) refl
+    takes (TakeLogPages asked) none some on =
+        any_takes Goes Tells block a s h r (TakeLogPages asked) (λ n next is. taking_told none next _ is some) refl
     takes other none some on = absurd (false≢true on)
 
     -- of a kind that decides nothing
@@ -276,8 +276,8 @@ module _ (block a cpu : ℕ) (s : Shared) (h : HandState) (r : Running) where
     ways (Lock place) st d on = λ free. locking_told d.told (place + 1) r.slots _ d.stage
     ways (TakeBlocks asked) st d on =
         (takes (TakeBlocks asked) d.told d.stage refl, λ n is last. denied_told d.told (no_visit r.call d.stage).1)
-    ways (TakePages asked) st d on =
-        (takes (TakePages asked) d.told d.stage refl, λ n is last. denied_told d.told (no_visit r.call d.stage).1)
+    ways (TakeLogPages asked) st d on =
+        (takes (TakeLogPages asked) d.told d.stage refl, λ n is last. denied_told d.told (no_visit r.call d.stage).1)
     ways Ready st d on = (λ lacks. denied_told d.told (no_visit r.call d.stage).1, record { told = d.told; stage = d.stage })
     ways (Append place) st d on =
         before_told (appending (place + 1) (written_slots r)) _ before
@@ -292,7 +292,7 @@ module _ (block a cpu : ℕ) (s : Shared) (h : HandState) (r : Running) where
     ways (Unlock place) st d on =
         (λ more. record { told = d.told; stage = d.stage }, λ past. overs_told d.stage.0 d.told d.stage.1)
     ways (Give home) st d on = rests_told d.stage d.told
-    ways Back st d on = lasts_told d.stage d.told
+    ways ReturnNumber st d on = lasts_told d.stage d.told
     ways other st d on = absurd (false≢true on)
 
     walked : (k : Next) → Relied k block a cpu s h r → IsTold k r before → decides_none k ≡ true → is_on_files k ≡ true

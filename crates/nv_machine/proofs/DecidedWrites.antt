@@ -8,7 +8,7 @@ use Rattle.nv_entry.specs.Bytes.{pages_touched, written}
 use Rattle.nv_entry.specs.Sound.{blocks_of, write_items}
 use Rattle.nv_entry.specs.declared.item.Item.{Item}
 use Rattle.nv_entry.specs.declared.item.Item.TheVariants.{SetSize}
-use Rattle.nv_entry.specs.declared.item.Run.{Run}
+use Rattle.nv_entry.specs.declared.item.BlockRun.{BlockRun}
 use Rattle.nv_entry.specs.declared.node.NodeCopy.{NodeCopy}
 use Rattle.nv_calls.specs.AllCalls.{blocks_wanted, is_nothing, plan, refusal}
 use Rattle.nv_calls.specs.Plain.{node_in, same_handle}
@@ -17,8 +17,8 @@ use Rattle.nv_calls.specs.Slots.{items_for}
 use Rattle.nv_calls.specs.calls.Rename.{bound_plan, move_plan, own_place, replaced_plan}
 use Rattle.nv_calls.specs.calls.Unlink.{leave_plan}
 use Rattle.nv_calls.specs.declared.call.Call.{Call}
-use Rattle.nv_calls.specs.declared.plan.Planned.{Planned}
-use Rattle.nv_calls.specs.declared.taken.Taken.{Taken}
+use Rattle.nv_calls.specs.declared.plan.InodePlan.{InodePlan}
+use Rattle.nv_calls.specs.declared.allocation.Allocation.{Allocation}
 use Rattle.nv_calls.proofs.Lawful.{one_item_a_run}
 use Rattle.nv_calls.proofs.Nothing.{told_nothing}
 use Rattle.nv_alloc.specs.Block.{BlockValue, numbers_of}
@@ -37,11 +37,11 @@ use Rattle.nv_machine.proofs.PlansOfBlocks.{length_numbers, runs_are, small_numb
 use Rattle.nv_calls.specs.declared.call.Call.TheVariants as call
 
 -- a plan has items for some slot
-pub record HasItems (plan : List Planned) : Type 0 where
+pub record HasItems (plan : List InodePlan) : Type 0 where
   pub slot : ℕ
   pub some : 0 < length (items_for plan slot)
 
-first_has : (p : Planned) (plan : List Planned) → 0 < length p.items → HasItems (p ∷ plan)
+first_has : (p : InodePlan) (plan : List InodePlan) → 0 < length p.items → HasItems (p ∷ plan)
 first_has p plan some = record { slot = p.handle.ino; some = rw (self p.handle.ino) some }
 
 -- a text that is not empty touches a page
@@ -50,7 +50,7 @@ touches block offset count some more =
     let below = le-div (offset / block) (offset + count - 1) block some (omega (arith, more, div-mul-le_self offset block)) in
     omega (arith, below)
 
-has_runs : (runs : List Run) → 0 < length (blocks_of runs) → 0 < length runs
+has_runs : (runs : List BlockRun) → 0 < length (blocks_of runs) → 0 < length runs
 has_runs [] some = some
 has_runs (run ∷ runs) some = omega arith
 
@@ -59,7 +59,7 @@ leave_has : (dir : Handle) (name : List ℕ) (bound : Option Handle) → 0 < len
 leave_has dir name None some = absurd (omega (arith, some))
 leave_has dir name (Some to) some = first_has _ _ (omega arith)
 
-move_has : (same : Bool) (from : Handle) (old : List ℕ) (to : Handle) (new : List ℕ) (moved : Handle) (rest : List Planned)
+move_has : (same : Bool) (from : Handle) (old : List ℕ) (to : Handle) (new : List ℕ) (moved : Handle) (rest : List InodePlan)
     → HasItems (move_plan same from old to new moved rest)
 move_has true from old to new moved rest = first_has _ _ (omega arith)
 move_has false from old to new moved rest = first_has _ _ (omega arith)
@@ -70,7 +70,7 @@ rename_has true from old to new bound other some = absurd (omega (arith, some))
 rename_has false from old to new None other some = absurd (omega (arith, some))
 rename_has false from old to new (Some moved) other some = move_has (same_handle from to) from old to new moved (replaced_plan other)
 
-module _ (block : ℕ) (nodes : Handle → Option NodeCopy) (taken : Taken) (positive : 0 < block) where
+module _ (block : ℕ) (nodes : Handle → Option NodeCopy) (taken : Allocation) (positive : 0 < block) where
   pub plan_has : (c : Call) → refusal block nodes c ≡ passes → is_nothing c ≡ false
       → length (blocks_of taken.runs) ≡ blocks_wanted block nodes taken.present c → HasItems (plan block nodes taken c)
   plan_has (call.Create dir name mode) h some count = first_has _ _ (omega arith)
@@ -94,7 +94,7 @@ module _ (block : ℕ) (nodes : Handle → Option NodeCopy) (taken : Taken) (pos
   plan_has other h some count = cc
 
 -- so the slots that are written are not none
-pub some_written : (slots : List ℕ) (plan : List Planned) → ((ino : ℕ) → has slots ino ≡ false → items_for plan ino ≡ [])
+pub some_written : (slots : List ℕ) (plan : List InodePlan) → ((ino : ℕ) → has slots ino ≡ false → items_for plan ino ≡ [])
     → HasItems plan → 0 < length slots
 some_written [] plan out some =
     let none = ap (λ (l : List Item). length l) (out some.slot refl) in absurd (let lt = some.some in omega (arith, lt, none))

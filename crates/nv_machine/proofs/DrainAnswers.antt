@@ -15,7 +15,7 @@ use Rattle.nv_machine.specs.PlainRun.{actor_of}
 use Rattle.nv_machine.specs.Reading.{releases, releases_at, releases_in, releases_of}
 use Rattle.nv_machine.specs.Maintenance.{maintenance_turn}
 use Rattle.nv_machine.specs.Step.{after, go_step, kind_turn, reply_of, step, turn, turned}
-use Rattle.nv_machine.specs.World.{Actor, Answers, Back, Done, Draining, Drains, Ending, Ends, Event, Give, Go, HandState, LockPicked, Moves, Next, Overtaken, Pick, Refused, Refuses, Release, Running, Shared, MaintenanceStep, Maintenance, Start, Started, Turn, Unlock, Waits, World, actor_at, idle, Cleans}
+use Rattle.nv_machine.specs.World.{Actor, Answers, ReturnNumber, Done, Draining, Drains, Ending, Ends, Event, Give, Go, HandState, LockPicked, Moves, Next, Overtaken, Pick, Refused, Refuses, Release, Running, Shared, MaintenanceStep, Maintenance, Start, Started, Turn, Unlock, Waits, World, actor_at, idle, Cleans}
 use Rattle.nv_machine.proofs.StepWays.{After, AfterBy, EndsBy, Going, IsFull, Lasts, Overs, Rests, Telling, any_ends}
 use Rattle.nv_machine.proofs.StepWalk.{walk_by}
 use Rattle.nv_machine.proofs.MaintenanceWalk.{step_walk_by}
@@ -47,7 +47,7 @@ HasReleasedOn all n other = ⊥
 abbrev pub IsDrain : ℕ → ℕ → Next → Ending → Type 0
 IsDrain all n (Unlock place) e = HasReleased all n e
 IsDrain all n (Give cpu) e = HasReleased all n e
-IsDrain all n Back e = HasReleased all n e
+IsDrain all n ReturnNumber e = HasReleased all n e
 IsDrain all n (Maintenance step) e = HasReleasedOn all n step
 IsDrain all n other e = ⊥
 
@@ -180,9 +180,9 @@ module _ (all n block actor : ℕ) (granted : Bool) (s : Shared) (h : HandState)
       let none = IsLastPick (Give cpu) s in
       walk_by (n ≡ n + 0) (DrainGoes all (n + 0)) (DrainTold none all (n + 0)) block actor s h r (Give cpu) granted
       (λ blocked. absurd blocked) (drain_rests none all (n + 0) (more_none all n r.ending is)) refl
-  kind_on Back is =
-      let none = IsLastPick Back s in
-      walk_by (n ≡ n + 0) (DrainGoes all (n + 0)) (DrainTold none all (n + 0)) block actor s h r Back granted
+  kind_on ReturnNumber is =
+      let none = IsLastPick ReturnNumber s in
+      walk_by (n ≡ n + 0) (DrainGoes all (n + 0)) (DrainTold none all (n + 0)) block actor s h r ReturnNumber granted
       (λ blocked. absurd blocked) (drain_lasts none all (n + 0) (more_none all n r.ending is)) refl
   kind_on (Maintenance step) is = snapshots_on step is
   kind_on other is = absurd is
@@ -202,7 +202,7 @@ few_released all n other is = absurd is
 few_at : (all n : ℕ) (k : Next) (e : Ending) → IsDrain all n k e → n ≤ all
 few_at all n (Unlock place) e is = few_released all n e is
 few_at all n (Give cpu) e is = few_released all n e is
-few_at all n Back e is = few_released all n e is
+few_at all n ReturnNumber e is = few_released all n e is
 few_at all n (Maintenance (Pick draining)) e is = omega (arith, is.0, is.1)
 few_at all n (Maintenance (LockPicked draining picked)) e is = omega (arith, is.0, is.1)
 few_at all n (Maintenance (Release draining picked)) e is = omega (arith, is.0, is.1)

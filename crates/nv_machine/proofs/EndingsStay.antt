@@ -14,7 +14,7 @@ use Rattle.nv_machine.specs.PlainRun.{Commits, Nothing, Numbers, deed, deed_by, 
 use Rattle.nv_machine.specs.Reads.{written_slots}
 use Rattle.nv_machine.specs.Sequence.{Visits, beginning}
 use Rattle.nv_machine.specs.Step.{kind_turn, reply_of, step, turn, turned}
-use Rattle.nv_machine.specs.World.{Actor, Answers, Append, Back, Close, Ending, Ends, Enter, Give, Go, HandState, Leave, Moves, Next, Open, Publish, Retire, Running, Shared, MaintenanceStep, Maintenance, Turn, Unlock, Waits, World, actor_at, idle}
+use Rattle.nv_machine.specs.World.{Actor, Answers, Append, ReturnNumber, Close, Ending, Ends, Enter, Give, Go, HandState, Leave, Moves, Next, Open, Publish, Retire, Running, Shared, MaintenanceStep, Maintenance, Turn, Unlock, Waits, World, actor_at, idle}
 use Rattle.nv_machine.proofs.SingleEvents.{go_is_turn}
 use Rattle.nv_machine.proofs.LoopSteps.{Commits as Committing, appending_any, is_on_files, publishing_any, retiring_any}
 use Rattle.nv_machine.proofs.MaintenanceTurns.{done_is}
@@ -64,7 +64,7 @@ kind_end e k block a granted s h r final is last = go k last where
   go (Unlock place) last =
       walks (Unlock place) (last_ways _ _ block a s h r (Unlock place) granted refl closes) (λ blocked. blocked) refl
   go (Give cpu) last = walks (Give cpu) (any_rests closes) (λ blocked. blocked) refl
-  go Back last = walks Back (any_lasts closes) (λ blocked. blocked) refl
+  go ReturnNumber last = walks ReturnNumber (any_lasts closes) (λ blocked. blocked) refl
   go other last = absurd last
 
 -- ---- commit points

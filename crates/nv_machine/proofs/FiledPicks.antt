@@ -13,7 +13,7 @@ use Rattle.nv_machine.specs.Locks.{commits_at}
 use Rattle.nv_machine.specs.Sequence.{beginning, begun, first_step, locking}
 use Rattle.nv_machine.specs.Maintenance.{copies_at, first_showing, seen_on, show_or_unpin, visited}
 use Rattle.nv_machine.specs.Step.{kind_turn}
-use Rattle.nv_machine.specs.World.{Append, Back, Close, Ends, Give, HandState, Leave, LockPicked, Look, Moves, Next, Number, Open, Pick, Pin, Publish, Retire, Running, Shared, Show, Showing, MaintenanceStep, Maintenance, Turn, Unlock, Visit, Waits, LockCleaned, Fresh, Unlink, Compact}
+use Rattle.nv_machine.specs.World.{Append, ReturnNumber, Close, Ends, Give, HandState, Leave, LockPicked, Look, Moves, Next, Number, Open, Pick, Pin, Publish, Retire, Running, Shared, Show, Showing, MaintenanceStep, Maintenance, Turn, Unlock, Visit, Waits, LockCleaned, Fresh, Unlink, Compact}
 use Rattle.nv_machine.proofs.NextSteps.{IsNext, files_next, snapshots_next}
 use Rattle.nv_machine.proofs.LoopSteps.{is_on_files, locking_on}
 use Rattle.nv_machine.proofs.MaintenanceWalk.{goes_next, next_on, LeadsTo}
@@ -106,7 +106,7 @@ none_killed g (Retire place) h r e at = absurd (true≢false e)
 none_killed g Leave h r e at = absurd (true≢false e)
 none_killed g (Unlock place) h r e at = at.0
 none_killed g (Give cpu) h r e at = at.0
-none_killed g Back h r e at = at.0
+none_killed g ReturnNumber h r e at = at.0
 none_killed g Visit h r e at = rw at refl
 none_killed g (Maintenance step) h r e at = none_in step h at
 none_killed g other h r e at = at.killed

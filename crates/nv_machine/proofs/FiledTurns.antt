@@ -20,7 +20,7 @@ use Rattle.nv_machine.specs.Reads.{slot_at, written_slots}
 use Rattle.nv_machine.specs.Recorded.{after_deed, after_retire}
 use Rattle.nv_machine.specs.Maintenance.{drop_tests, maintenance_turn}
 use Rattle.nv_machine.specs.Step.{kind_turn}
-use Rattle.nv_machine.specs.World.{Back, Close, Draining, Drop, Ends, Enter, HandState, Make, Moves, Next, Number, Open, Pick, Pin, Publish, Refuses, Retire, Running, Shared, MaintenanceStep, Maintenance, Turn, Unpin, Waits, empty_hand, Judge}
+use Rattle.nv_machine.specs.World.{ReturnNumber, Close, Draining, Drop, Ends, Enter, HandState, Make, Moves, Next, Number, Open, Pick, Pin, Publish, Refuses, Retire, Running, Shared, MaintenanceStep, Maintenance, Turn, Unpin, Waits, empty_hand, Judge}
 use Rattle.nv_machine.proofs.FiledBooks.{IsListed, dropped_listed, made_listed, picked_listed, pinned_listed, retired_listed, unpinned_listed}
 use Rattle.nv_machine.proofs.StepWork.{work, maintenance_work, by_number, by_back}
 use Rattle.nv_machine.proofs.WorkKeeps.{AfterTurn, turn_keeps}
@@ -176,7 +176,7 @@ module _ (block a : ℕ) (granted : Bool) (rs : List Record) (s : Shared) (h : H
   turn_listed (Retire place) can =
       retired_listed (slot_at (written_slots r) place) r.epoch (first_killed h.killed) s.book.snaps s.book.manifests s.book.deferred rs
       (let e = can.epoch refl in omega (arith, e)) is
-  turn_listed Back can = same Back (by_back (λ (t : Shared) (g : HandState). Listed rs t) s h (λ numbers ino. is))
+  turn_listed ReturnNumber can = same ReturnNumber (by_back (λ (t : Shared) (g : HandState). Listed rs t) s h (λ numbers ino. is))
   turn_listed (Maintenance step) can = let own = can.alone step refl in snapshot_listed rs s h r is step a granted own.0 own.1
   turn_listed other can = same other is
 

@@ -20,8 +20,8 @@ use Rattle.nv_calls.specs.Locked.{KeepsToIts, locks}
 use Rattle.nv_calls.specs.Plain.{PlainNode, node_in, stamped}
 use Rattle.nv_calls.specs.Refusals.{passes}
 use Rattle.nv_calls.specs.Slots.{IsPlan, items_for, last_commit, node_under}
-use Rattle.nv_calls.specs.declared.plan.Planned.{Planned}
-use Rattle.nv_calls.specs.declared.taken.Taken.{Taken}
+use Rattle.nv_calls.specs.declared.plan.InodePlan.{InodePlan}
+use Rattle.nv_calls.specs.declared.allocation.Allocation.{Allocation}
 use Rattle.nv_cell.specs.Cell.{CellState}
 use Rattle.nv_entry.specs.Node.{node_now}
 use Rattle.nv_entry.specs.Sound.{IsSound}
@@ -130,14 +130,14 @@ module _ (bytes : ℕ → List ℕ) (block : ℕ) (s : Shared) (is : IsRead byte
     nothing false e = cc
 
   module _ (r : Running) (some : 0 < block) (p : Passed block s r) (At : List BlockValue → Type 0) (d : Drawn block s r At) where
-    abbrev taken : Taken
+    abbrev taken : Allocation
     taken = taken_of r.made (present_in block (settled_slots s) r.call) d.fresh
 
     passed : refusal block (node_in (node_under bytes block (settled_slots s))) r.call ≡ passes
     passed = subst (λ (nodes : Handle → Option PlainNode). refusal block (node_in nodes) r.call ≡ passes) (sym nodes_are) p.passes
 
     -- what is planned is locked
-    abbrev IsHeld : Planned → Type 0
+    abbrev IsHeld : InodePlan → Type 0
     IsHeld q = has r.slots q.handle.ino ≡ true
 
     at_place : (P : Handle → Type 0) (list : List Handle) (k : ℕ) (d : Handle) → AllByRecursion P list → k < length list
@@ -153,13 +153,13 @@ module _ (bytes : ℕ → List ℕ) (block : ℕ) (s : Shared) (is : IsRead byte
     abbrev Node : Handle → Option NodeCopy
     Node = node_in (node_under bytes block (settled_slots s))
 
-    held_one : (q : Planned) → IsOfNode Node (makes_inode (beginning r.call)) r.made q → IsLocked (length s.cells) r.slots q.handle
+    held_one : (q : InodePlan) → IsOfNode Node (makes_inode (beginning r.call)) r.made q → IsLocked (length s.cells) r.slots q.handle
         → IsHeld q
     held_one q (inl new) lock = lock (subst (λ (h : Handle). h.ino < length s.cells) (sym new.1) (p.inside new.0))
     held_one q (inr there) lock = lock (inside q.handle there)
 
-    held_all : (plan : List Planned) → AllByRecursion (IsOfNode Node (makes_inode (beginning r.call)) r.made) plan
-        → AllByRecursion (λ (q : Planned). Contains (locks r.looked r.made r.call) q.handle) plan → AllByRecursion IsHeld plan
+    held_all : (plan : List InodePlan) → AllByRecursion (IsOfNode Node (makes_inode (beginning r.call)) r.made) plan
+        → AllByRecursion (λ (q : InodePlan). Contains (locks r.looked r.made r.call) q.handle) plan → AllByRecursion IsHeld plan
     held_all [] all among = tt
     held_all (q ∷ plan) all among = (held_one q all.0 (locked q.handle among.0), held_all plan all.1 among.1)
 
@@ -168,15 +168,15 @@ module _ (bytes : ℕ → List ℕ) (block : ℕ) (s : Shared) (is : IsRead byte
         (ap (λ (nodes : Handle → Option PlainNode). plan block (node_in nodes) taken r.call) nodes_are ∙ sym d.drawn.plan)
         (planned_there bytes block (settled_slots s) taken some r.call passed)
 
-    plan_among : AllByRecursion (λ (q : Planned). Contains (locks r.looked r.made r.call) q.handle) r.plan
+    plan_among : AllByRecursion (λ (q : InodePlan). Contains (locks r.looked r.made r.call) q.handle) r.plan
     plan_among =
         let k : KeepsToIts (node_in (settled_nodes s)) r.call taken (plan block (node_in (settled_nodes s)) taken r.call) =
         keeps_to_its block (node_in (settled_nodes s)) taken r.call in
-        subst (AllByRecursion (λ (q : Planned). Contains (locks r.looked r.made r.call) q.handle)) (sym d.drawn.plan)
-        (subst (λ (l : _). AllByRecursion (λ (q : Planned). Contains (locks l r.made r.call) q.handle)
+        subst (AllByRecursion (λ (q : InodePlan). Contains (locks r.looked r.made r.call) q.handle)) (sym d.drawn.plan)
+        (subst (λ (l : _). AllByRecursion (λ (q : InodePlan). Contains (locks l r.made r.call) q.handle)
         (plan block (node_in (settled_nodes s)) taken r.call)) p.found k.handles)
 
-    items_held : (plan : List Planned) → AllByRecursion IsHeld plan → (ino : ℕ) → 0 < length (items_for plan ino) → has r.slots ino ≡ true
+    items_held : (plan : List InodePlan) → AllByRecursion IsHeld plan → (ino : ℕ) → 0 < length (items_for plan ino) → has r.slots ino ≡ true
     items_held [] all ino lt = absurd (omega (arith, lt))
     items_held (q ∷ plan) all ino lt = go (q.handle.ino == ino) refl lt (items_held plan all.1 ino) where
       go : (b : Bool) → (q.handle.ino == ino) ≡ b → 0 < length (cond b q.items (items_for plan ino))
@@ -199,7 +199,7 @@ module _ (bytes : ℕ → List ℕ) (block : ℕ) (s : Shared) (is : IsRead byte
     abbrev Stored : List BlockValue → Type 0
     Stored = AllByRecursion (IsStored s r.slots)
 
-    abbrev mine : Taken
+    abbrev mine : Allocation
     mine = taken_of r.made (present_in block (settled_slots s) r.call) d.fresh
 
     stored_read : (bs : List BlockValue) → AllByRecursion (IsStored s r.slots) bs → AreRead bytes bs
@@ -213,7 +213,7 @@ module _ (bytes : ℕ → List ℕ) (block : ℕ) (s : Shared) (is : IsRead byte
         d.drawn.filled)
 
     fits : IsPlan bytes block (settled_slots s) r.plan (effect (node_in (settled_nodes s)) r.made r.call)
-    fits = subst (λ (plan : List Planned). IsPlan bytes block (settled_slots s) plan (effect (node_in (settled_nodes s)) r.made r.call))
+    fits = subst (λ (plan : List InodePlan). IsPlan bytes block (settled_slots s) plan (effect (node_in (settled_nodes s)) r.made r.call))
         (sym d.drawn.plan)
         (subst (λ (nodes : Handle → Option PlainNode). IsPlan bytes block (settled_slots s) (plan block (node_in nodes) mine r.call)
         (effect (node_in nodes) r.made r.call)) nodes_are
@@ -229,7 +229,7 @@ module _ (bytes : ℕ → List ℕ) (block : ℕ) (s : Shared) (is : IsRead byte
     grows_now =
         plan_grows bytes block (settled_slots s) (makes_inode (beginning r.call)) r.made p.free r.plan lawful
         (plan_there r some p Stored d) fits.all
-        (subst (AllByRecursion (λ (q : Planned). IsGoneLast q.items)) (sym d.drawn.plan)
+        (subst (AllByRecursion (λ (q : InodePlan). IsGoneLast q.items)) (sym d.drawn.plan)
         (plan_last block (node_in (settled_nodes s)) mine r.call))
 
     pub plan_now : HasPlanNow bytes block s r

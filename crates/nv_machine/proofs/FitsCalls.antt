@@ -8,14 +8,14 @@ use Rattle.nv_calls.specs.AllCalls.{blocks_wanted, plan, refusal}
 use Rattle.nv_calls.specs.Plain.{node_in, same_handle}
 use Rattle.nv_calls.specs.Plan.{plan_blocks}
 use Rattle.nv_calls.specs.Refusals.{Check, found, kind_of, passes, want_bound}
-use Rattle.nv_calls.specs.Slots.{Slot, node_under}
+use Rattle.nv_calls.specs.Slots.{InodeSlot, node_under}
 use Rattle.nv_calls.specs.calls.Rename.{bound_plan, move_plan, moved_refusal, own_place, pass_if, replaced_plan, replaced_refusal}
 use Rattle.nv_calls.specs.calls.Unlink.{leave_plan}
 use Rattle.nv_calls.specs.declared.call.Call.{Call}
 use Rattle.nv_calls.specs.declared.call.Call.TheVariants as call
-use Rattle.nv_calls.specs.declared.looked.Looked.{Looked}
-use Rattle.nv_calls.specs.declared.plan.Planned.{Planned}
-use Rattle.nv_calls.specs.declared.taken.Taken.{Taken}
+use Rattle.nv_calls.specs.declared.looked.LookupResult.{LookupResult}
+use Rattle.nv_calls.specs.declared.plan.InodePlan.{InodePlan}
+use Rattle.nv_calls.specs.declared.allocation.Allocation.{Allocation}
 use Rattle.nv_calls.proofs.Commits.{handle-same}
 use Rattle.nv_calls.proofs.Keeps.{bound_none, cut_blocks-are, leave_none, write_blocks-are}
 use Rattle.nv_calls.proofs.Passed.{IsThere, both_passed, directory_passed, elsewhere, file_passed, look_passed, moved_passed, names_passed, node_passed, there}
@@ -40,10 +40,10 @@ found_is (Some handle) None e = cc
 found_is (Some handle) (Some other) e = ap (λ (h : Handle). Some h) (handles_same handle other e)
 
 two_found : (a b c d : Option Handle) → a ≡ c → b ≡ d
-    → (let x : Looked = record { first = a; second = b } in x) ≡ (let y : Looked = record { first = c; second = d } in y)
+    → (let x : LookupResult = record { first = a; second = b } in x) ≡ (let y : LookupResult = record { first = c; second = d } in y)
 two_found a b c d e f = rw (e, f) refl
 
-pub looked_is : (now before : Looked) → same_looked now before ≡ true → now ≡ before
+pub looked_is : (now before : LookupResult) → same_looked now before ≡ true → now ≡ before
 looked_is now before e =
     let both = and_parts (same_found now.first before.first) (same_found now.second before.second) e in
     two_found now.first now.second before.first before.second (found_is now.first before.first both.0)
@@ -51,14 +51,14 @@ looked_is now before e =
 
 -- ---- plans are of nodes that are there, and of the new one
 
-abbrev pub IsOfNode : (Handle → Option NodeCopy) → Bool → Handle → Planned → Type 0
+abbrev pub IsOfNode : (Handle → Option NodeCopy) → Bool → Handle → InodePlan → Type 0
 IsOfNode nodes makes made p = ((makes ≡ true) × (p.handle ≡ made)) ⊎ IsThere (nodes p.handle)
 
-module _ (bytes : ℕ → List ℕ) (block : ℕ) (slots : ℕ → Slot) (taken : Taken) (some : 0 < block) where
+module _ (bytes : ℕ → List ℕ) (block : ℕ) (slots : ℕ → InodeSlot) (taken : Allocation) (some : 0 < block) where
   abbrev nodes : Handle → Option NodeCopy
   nodes = node_in (node_under bytes block slots)
 
-  abbrev Are : Bool → List Planned → Type 0
+  abbrev Are : Bool → List InodePlan → Type 0
   Are makes plan = AllByRecursion (IsOfNode nodes makes taken.made) plan
 
   leave_there : (dir : Handle) (name : List ℕ) (bound : Option Handle) (next : Handle → Check) → IsThere (nodes dir)
@@ -70,7 +70,7 @@ module _ (bytes : ℕ → List ℕ) (block : ℕ) (slots : ℕ → Slot) (taken 
   replaced_there moved None h = tt
   replaced_there moved (Some other) h = (inr (node_passed (nodes other) _ h).0, tt)
 
-  move_there : (same : Bool) (from : Handle) (old : List ℕ) (to : Handle) (new : List ℕ) (moved : Handle) (rest : List Planned)
+  move_there : (same : Bool) (from : Handle) (old : List ℕ) (to : Handle) (new : List ℕ) (moved : Handle) (rest : List InodePlan)
       → IsThere (nodes from) → IsThere (nodes to) → Are false rest → Are false (move_plan same from old to new moved rest)
   move_there true from old to new moved rest f t all = (inr f, all)
   move_there false from old to new moved rest f t all = (inr f, (inr t, all))
@@ -117,7 +117,7 @@ no_length : (xs : List ℕ) → length xs ≡ 0 → xs ≡ []
 no_length [] e = refl
 no_length (x ∷ xs) e = cc
 
-pub plan_all : (block : ℕ) (nodes : Handle → Option NodeCopy) (taken : Taken) (c : Call)
+pub plan_all : (block : ℕ) (nodes : Handle → Option NodeCopy) (taken : Allocation) (c : Call)
     → length (blocks_of taken.runs) ≡ blocks_wanted block nodes taken.present c
     → plan_blocks (plan block nodes taken c) ≡ blocks_of taken.runs
 plan_all block nodes taken (call.Write file offset (byte ∷ rest)) e = append-nil _ ∙ write_blocks-are _ taken.runs _

@@ -11,7 +11,7 @@ use Rattle.nv_base.specs.declared.numbers.Handle.{Handle}
 use Rattle.nv_calls.specs.AllCalls.{refusal}
 use Rattle.nv_calls.specs.Refusals.{passes}
 use Rattle.nv_calls.specs.Plain.{node_in}
-use Rattle.nv_calls.specs.Slots.{items_for, Slot}
+use Rattle.nv_calls.specs.Slots.{items_for, InodeSlot}
 use Rattle.nv_calls.specs.declared.call.Call.{Call}
 use Rattle.nv_cell.specs.Cell.{CellState}
 use Rattle.nv_entry.specs.declared.item.Entry.{Entry}
@@ -135,7 +135,7 @@ module _ (a b : ℕ) (s t : Shared) (slots : List ℕ) (ne : b ≢ a) (left : Ce
       many = many;
       nodes = λ handle is. ap₂ (λ (c : CellState) (log : List Entry). cond (handle.generation == c.generation) (node_by c log) None)
           (slot_kept handle is).0 (slot_kept handle is).1;
-      slots = λ handle is. ap₂ (λ (c : CellState) (l : List Entry). let x : Slot = record { generation = c.generation; log = l } in x)
+      slots = λ handle is. ap₂ (λ (c : CellState) (l : List Entry). let x : InodeSlot = record { generation = c.generation; log = l } in x)
           (slot_kept handle is).0 (slot_kept handle is).1;
     };
     blocks = λ ino place b held is. ap (λ (c : CellState). slice_index_or c.blocks place None) (held_slot ino held).0 ∙ is;

@@ -20,7 +20,7 @@ use Rattle.nv_machine.specs.Reads.{if_number, is_written, pages_needed, slot_at,
 use Rattle.nv_machine.specs.Sequence.{appending, locking, publishing}
 use Rattle.nv_machine.specs.Settled.{settled}
 use Rattle.nv_machine.specs.Step.{kind_turn}
-use Rattle.nv_machine.specs.World.{Append, Check, Close, Enter, HandState, Lock, Look, Next, Number, Open, Publish, Ready, Retire, Running, Shared, TakeBlocks, TakePages, cell_at, go_to, list_at, owner_at, with_book, with_cell, Maintenance, Judge, Fresh}
+use Rattle.nv_machine.specs.World.{Append, Check, Close, Enter, HandState, Lock, Look, Next, Number, Open, Publish, Ready, Retire, Running, Shared, TakeBlocks, TakeLogPages, cell_at, go_to, list_at, owner_at, with_book, with_cell, Maintenance, Judge, Fresh}
 use Rattle.nv_machine.proofs.FitsCells.{append_logs, append_wider, publish_logs, same_wider, wider_cells}
 use Rattle.nv_machine.proofs.FitsOwn.{IsNumberFree, all_in, all_stored, passed_check, ready_drawn, same_stored, wanted_check}
 use Rattle.nv_machine.proofs.FitsStages.{Drawn, FitsAt, IsDrawn, IsStored, Passed, SameStored, drawn_on, fits_still, passed_on, stored_on, view, wanted_in}
@@ -198,7 +198,7 @@ module _ (g : GeometryNumbers) (a : ℕ) (s : Shared) (h : HandState) (r : Runni
       counted (KnowsNext (Fits g.block)) Untold g.block a s h r (TakeBlocks asked) (Wants s)
       (take_sum h.blocks (list_at s (asked_list (length s.lists) a asked)).blocks r.wanted ∙ st.fits.1) (λ n q. (st.fits.0, q))
       (λ n q. (st.fits.0, q)) (λ q. (st.fits.0, q))
-  ways (TakePages asked) st = record { more = λ n is ask. st.fits; pages = λ n none is. st.fits; ready = λ none is. st.fits }
+  ways (TakeLogPages asked) st = record { more = λ n is ask. st.fits; pages = λ n none is. st.fits; ready = λ none is. st.fits }
   ways Ready st = (st.fits.0, ready_drawn g.block s h r (logs_at_ready st) st.fits.0 st.fits.1 st.kept.small)
   ways Enter st = λ clear.
       entering_fits g.block (work Enter g.block a s h r).shared h (go_to (appending 0 (written_slots r)) (noted Enter g.block s h r))
@@ -223,7 +223,7 @@ their_fits (Lock place) block s t h r many same f =
     f ∙ ap (λ (n : ℕ). slots_in n (if_number h.ino ++ map (λ (x : Handle). x.ino) (handles r.looked r.call))) (sym many)
 their_fits Check block s t h r many same f = fits_still block s t h r (same refl) Check f
 their_fits (TakeBlocks asked) block s t h r many same f = fits_still block s t h r (same refl) (TakeBlocks asked) f
-their_fits (TakePages asked) block s t h r many same f = fits_still block s t h r (same refl) (TakePages asked) f
+their_fits (TakeLogPages asked) block s t h r many same f = fits_still block s t h r (same refl) (TakeLogPages asked) f
 their_fits Ready block s t h r many same f = fits_still block s t h r (same refl) Ready f
 their_fits Enter block s t h r many same f = fits_still block s t h r (same refl) Enter f
 their_fits (Append place) block s t h r many same f = fits_still block s t h r (same refl) (Append place) f

@@ -12,7 +12,7 @@ use Rattle.nv_machine.specs.PlainRun.{Commits, deed_of}
 use Rattle.nv_machine.specs.Settled.{settled_nodes}
 use Rattle.nv_machine.specs.Starts.{IsStart}
 use Rattle.nv_machine.specs.Step.{after, step}
-use Rattle.nv_machine.specs.World.{Append, Close, Enter, Event, Go, HandState, Next, Open, Publish, Ready, Running, Shared, TakeBlocks, TakePages, World, actor_at}
+use Rattle.nv_machine.specs.World.{Append, Close, Enter, Event, Go, HandState, Next, Open, Publish, Ready, Running, Shared, TakeBlocks, TakeLogPages, World, actor_at}
 use Rattle.nv_machine.proofs.EveryWorld.{all_fit, all_known}
 use Rattle.nv_machine.proofs.CommitEffects.{point_effect}
 use Rattle.nv_machine.proofs.FitsEvents.{fits_now, passes_now}
@@ -22,7 +22,7 @@ use Rattle.nv_machine.proofs.FitsStages.{FitsAt, FitsOf, Passed}
 checked_passed : (k : Next) (block : ℕ) (s : Shared) (h : HandState) (r : Running) → is_checked k ≡ true → FitsAt k block s h r
     → Passed block s r
 checked_passed (TakeBlocks asked) block s h r e f = f.0
-checked_passed (TakePages asked) block s h r e f = f.0
+checked_passed (TakeLogPages asked) block s h r e f = f.0
 checked_passed Ready block s h r e f = f.0
 checked_passed Enter block s h r e f = f.0
 checked_passed (Append place) block s h r e f = f.0

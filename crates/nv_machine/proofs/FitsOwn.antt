@@ -14,11 +14,11 @@ use Rattle.nv_calls.specs.Locked.{KeepsToIts, handles, made_by}
 use Rattle.nv_calls.specs.Plain.{Change, node_in}
 use Rattle.nv_calls.specs.Plan.{plan_blocks, runs_of}
 use Rattle.nv_calls.specs.Refusals.{Check as Tests, passes}
-use Rattle.nv_calls.specs.Slots.{IsFree, Slot, items_for, place_in}
+use Rattle.nv_calls.specs.Slots.{IsFree, InodeSlot, items_for, place_in}
 use Rattle.nv_calls.specs.declared.call.Call.{Call}
 use Rattle.nv_calls.specs.declared.call.Call.TheVariants as call
-use Rattle.nv_calls.specs.declared.plan.Planned.{Planned}
-use Rattle.nv_calls.specs.declared.taken.Taken.{Taken}
+use Rattle.nv_calls.specs.declared.plan.InodePlan.{InodePlan}
+use Rattle.nv_calls.specs.declared.allocation.Allocation.{Allocation}
 use Rattle.nv_cell.specs.Cell.{CellState, log_of}
 use Rattle.nv_entry.specs.Blocks.{item_blocks}
 use Rattle.nv_entry.specs.Sound.{blocks_of}
@@ -52,8 +52,8 @@ now s = record {
 }
 
 slot_log : (g : ℕ) (a b : List Entry) → a ≡ b
-    → (let x : Slot = record { generation = g; log = a } in x) ≡ (let y : Slot = record { generation = g; log = b } in y)
-slot_log g a b e = ap (λ (l : List Entry). let x : Slot = record { generation = g; log = l } in x) e
+    → (let x : InodeSlot = record { generation = g; log = a } in x) ≡ (let y : InodeSlot = record { generation = g; log = b } in y)
+slot_log g a b e = ap (λ (l : List Entry). let x : InodeSlot = record { generation = g; log = l } in x) e
 
 module _ (s : Shared) (locked : List ℕ) (logs : (ino : ℕ) → has locked ino ≡ true → settled s ino ≡ log_of (cell_at s ino)) where
   log_here : (handle : Handle) → IsLocked (length s.cells) locked handle → settled s handle.ino ≡ log_of (cell_at s handle.ino)
@@ -199,7 +199,7 @@ module _ (block : ℕ) (s : Shared) (h : HandState) (r : Running)
     drawn_now : IsDrawn block (now s) r.call r.made (plan_by block s h r) fresh
     drawn_now = record {
       plan = ap₂ (λ (numbers : List ℕ) (b : Bool).
-          plan block (copies s) (let t : Taken = record { made = r.made; runs = runs_of numbers; present = b } in t) r.call)
+          plan block (copies s) (let t : Allocation = record { made = r.made; runs = runs_of numbers; present = b } in t) r.call)
           (sym (filled_numbers (fresh_pages block (copies s) r.call) h.blocks)) (last_page block s r.call);
       filled = record {
         before = h.blocks;
@@ -220,7 +220,7 @@ module _ (block : ℕ) (s : Shared) (h : HandState) (r : Running)
 
 -- ---- the first append puts all blocks of the plan into the cell
 
-all_blocks : (plan : List Planned) (numbers : List ℕ) (slot : ℕ) → plan_blocks plan ≡ numbers → (1 < length plan → plan_blocks plan ≡ [])
+all_blocks : (plan : List InodePlan) (numbers : List ℕ) (slot : ℕ) → plan_blocks plan ≡ numbers → (1 < length plan → plan_blocks plan ≡ [])
     → is_written plan slot ≡ true → (numbers ≡ []) ⊎ (numbers ≡ flat_map item_blocks (items_for plan slot))
 all_blocks [] numbers slot e several there = inl (sym e)
 all_blocks (p ∷ q ∷ plan) numbers slot e several there = inl (sym e ∙ several (omega arith))
@@ -235,7 +235,7 @@ module _ (block : ℕ) (s : Shared) (r : Running) (slot : ℕ) (there : has (wri
   abbrev new : CellState
   new = with_entries (entries_for r slot) blocks old
 
-  abbrev taken : Taken
+  abbrev taken : Allocation
   taken = taken_of r.made (present_in block (view s).slots r.call) blocks
 
   has_runs : blocks_of taken.runs ≡ numbers_of blocks
@@ -249,7 +249,7 @@ module _ (block : ℕ) (s : Shared) (r : Running) (slot : ℕ) (there : has (wri
   several lt =
       let k : KeepsToIts (node_in (settled_nodes s)) r.call taken
       (plan block (node_in (settled_nodes s)) taken r.call) = keeps_to_its block (node_in (settled_nodes s)) taken r.call in
-      ap plan_blocks d.plan ∙ k.several (subst (λ (l : List Planned). 1 < length l) d.plan lt)
+      ap plan_blocks d.plan ∙ k.several (subst (λ (l : List InodePlan). 1 < length l) d.plan lt)
 
   pub all_in : AllByRecursion (IsIn new) blocks
   all_in = elim (all_blocks r.plan (numbers_of blocks) slot plan_has several (filtered (is_written r.plan) r.slots slot there)) [
@@ -287,7 +287,7 @@ same_stored s t locked many nodes logs wide = record {
   same = record {
     many = many;
     nodes = λ handle is. nodes handle;
-    slots = λ handle is. ap₂ (λ (g : ℕ) (l : List Entry). let x : Slot = record { generation = g; log = l } in x)
+    slots = λ handle is. ap₂ (λ (g : ℕ) (l : List Entry). let x : InodeSlot = record { generation = g; log = l } in x)
         (wide handle.ino).generation (logs handle.ino);
   };
   blocks = λ ino place b held is. (wide ino).blocks place b is;

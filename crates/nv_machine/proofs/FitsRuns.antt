@@ -9,13 +9,13 @@ use Rattle.nv_calls.specs.AllCalls.{IsReady}
 use Rattle.nv_calls.specs.Locked.{Agree, handles}
 use Rattle.nv_calls.specs.Plain.{PlainNode, node_in}
 use Rattle.nv_calls.specs.Plan.{AreMaximal, run_if, runs_of, stretches, with_number}
-use Rattle.nv_calls.specs.Slots.{IsFree, Slot}
+use Rattle.nv_calls.specs.Slots.{IsFree, InodeSlot}
 use Rattle.nv_calls.specs.declared.call.Call.{Call}
 use Rattle.nv_calls.specs.declared.call.Call.TheVariants as call
-use Rattle.nv_calls.specs.declared.looked.Looked.{Looked}
-use Rattle.nv_calls.specs.declared.taken.Taken.{Taken}
+use Rattle.nv_calls.specs.declared.looked.LookupResult.{LookupResult}
+use Rattle.nv_calls.specs.declared.allocation.Allocation.{Allocation}
 use Rattle.nv_entry.specs.Node.{block_now}
-use Rattle.nv_entry.specs.declared.item.Run.{Run}
+use Rattle.nv_entry.specs.declared.item.BlockRun.{BlockRun}
 use Rattle.nv_entry.specs.declared.node.NodeCopy.{NodeCopy}
 use Rattle.nv_machine.specs.Hands.{makes_inode}
 use Rattle.nv_calls.specs.FillPages.{fresh_pages}
@@ -49,17 +49,17 @@ are_maximal (n ∷ numbers) = one_more n (stretches numbers) (are_maximal number
 abbrev Ends_ : ℕ × ℕ → Type 0
 Ends_ run = run.0 + run.1 ≤ 2 ^ 32
 
-abbrev made : List (ℕ × ℕ) → List Run
+abbrev made : List (ℕ × ℕ) → List BlockRun
 made runs = flat_map (λ (run : ℕ × ℕ). run_if run.0 run.1 (nat_lt (run.0 + run.1) (2 ^ 64)) refl) runs
 
 -- a run for a stretch
-record IsRunOf (run : ℕ × ℕ) (runs rest : List Run) : Type 0 where
-  one : Run
+record IsRunOf (run : ℕ × ℕ) (runs rest : List BlockRun) : Type 0 where
+  one : BlockRun
   start : one.start ≡ run.0
   len : one.len ≡ run.1
   is : runs ≡ one ∷ rest
 
-run_is : (start len : ℕ) (b : Bool) (is : nat_lt (start + len) (2 ^ 64) ≡ b) (rest : List Run) → b ≡ true
+run_is : (start len : ℕ) (b : Bool) (is : nat_lt (start + len) (2 ^ 64) ≡ b) (rest : List BlockRun) → b ≡ true
     → IsRunOf (start, len) (run_if start len b is ++ rest) rest
 run_is start len true is rest e = record { one = _; start = refl; len = refl; is = refl }
 run_is start len false is rest e = cc
@@ -77,7 +77,7 @@ made_maximal (run ∷ next ∷ runs) small h =
     let f = first_run run (next ∷ runs) small.0 in
     let g = first_run next runs small.1.0 in
     let more : AreMaximal (g.one ∷ made runs) = subst AreMaximal g.is (made_maximal (next ∷ runs) small.1 h.2) in
-    subst AreMaximal (sym (f.is ∙ ap (λ (l : List Run). f.one ∷ l) g.is))
+    subst AreMaximal (sym (f.is ∙ ap (λ (l : List BlockRun). f.one ∷ l) g.is))
     (omega (arith, h.0, f.len), (λ same. h.1 (omega (arith, same, f.start, f.len, g.start))), more)
 
 pub runs_maximal : (numbers : List ℕ) → AllByRecursion (λ n. n < 2 ^ 32) numbers → AreMaximal (runs_of numbers)
@@ -86,16 +86,16 @@ runs_maximal numbers small = made_maximal (stretches numbers) (all_end (2 ^ 32) 
 -- ---- what a call needs
 
 -- whether the page that a size ends in is present in its log
-abbrev pub present_in : ℕ → (ℕ → Slot) → Call → Bool
+abbrev pub present_in : ℕ → (ℕ → InodeSlot) → Call → Bool
 present_in block slots (call.Size file size) = is_some (block_now block (slots file.ino).log (size / block))
 present_in block slots other = false
 
-abbrev pub taken_of : Handle → Bool → List BlockValue → Taken
+abbrev pub taken_of : Handle → Bool → List BlockValue → Allocation
 taken_of new present fresh = record { made = new; runs = runs_of (numbers_of fresh); present = present }
 
-module _ (bytes : ℕ → List ℕ) (block : ℕ) (slots : ℕ → Slot) (nodes : Handle → Option NodeCopy) (new : Handle) (fresh : List BlockValue)
+module _ (bytes : ℕ → List ℕ) (block : ℕ) (slots : ℕ → InodeSlot) (nodes : Handle → Option NodeCopy) (new : Handle) (fresh : List BlockValue)
     (read : AreRead bytes fresh) where
-  abbrev Taken_ : Call → Taken
+  abbrev Taken_ : Call → Allocation
   Taken_ c = taken_of new (present_in block slots c) fresh
 
   told : (c : Call) → (makes_inode (beginning c) ≡ true → IsFree slots new) → IsTold block slots (Taken_ c) c
@@ -112,7 +112,7 @@ module _ (bytes : ℕ → List ℕ) (block : ℕ) (slots : ℕ → Slot) (nodes 
       (runs_are (numbers_of fresh) small) c (told c free) f
 
 -- the pages that a call fills are the same in worlds that agree on the handles that it locks
-pub fresh_same : (block : ℕ) (nodes other : Handle → Option PlainNode) (l : Looked) (c : Call) → Agree nodes other (handles l c)
+pub fresh_same : (block : ℕ) (nodes other : Handle → Option PlainNode) (l : LookupResult) (c : Call) → Agree nodes other (handles l c)
     → fresh_pages block (node_in other) c ≡ fresh_pages block (node_in nodes) c
 fresh_same block nodes other l (call.Write file offset text) h = rw h.0 refl
 fresh_same block nodes other l (call.Size file size) h = rw h.0 refl

@@ -9,12 +9,12 @@ use Rattle.nv_calls.specs.AllCalls.{blocks_wanted, looked, plan, refusal}
 use Rattle.nv_calls.specs.Locked.{Agree, SameCall, handles, locks, made_by}
 use Rattle.nv_calls.specs.Plain.{PlainNode, node_in}
 use Rattle.nv_calls.specs.Refusals.{passes}
-use Rattle.nv_calls.specs.Slots.{IsFree, Slot}
+use Rattle.nv_calls.specs.Slots.{IsFree, InodeSlot}
 use Rattle.nv_calls.specs.declared.call.Call.{Call}
 use Rattle.nv_calls.specs.declared.call.Call.TheVariants as call
-use Rattle.nv_calls.specs.declared.looked.Looked.{Looked}
-use Rattle.nv_calls.specs.declared.plan.Planned.{Planned}
-use Rattle.nv_calls.specs.declared.taken.Taken.{Taken}
+use Rattle.nv_calls.specs.declared.looked.LookupResult.{LookupResult}
+use Rattle.nv_calls.specs.declared.plan.InodePlan.{InodePlan}
+use Rattle.nv_calls.specs.declared.allocation.Allocation.{Allocation}
 use Rattle.nv_calls.proofs.Same.{call_same}
 use Rattle.nv_machine.specs.Effects.{settled_slots}
 use Rattle.nv_machine.specs.Hands.{makes_inode}
@@ -22,7 +22,7 @@ use Rattle.nv_calls.specs.FillPages.{filled}
 use Rattle.nv_machine.specs.Reads.{if_number, slots_in, slots_of}
 use Rattle.nv_machine.specs.Sequence.{beginning}
 use Rattle.nv_machine.specs.Settled.{settled_nodes}
-use Rattle.nv_machine.specs.World.{Append, Check, Close, Enter, HandState, Lock, Next, Open, Publish, Ready, Running, Shared, TakeBlocks, TakePages, cell_at}
+use Rattle.nv_machine.specs.World.{Append, Check, Close, Enter, HandState, Lock, Next, Open, Publish, Ready, Running, Shared, TakeBlocks, TakeLogPages, cell_at}
 use Rattle.nv_calls.specs.Filled.{AreFilled}
 use Rattle.nv_machine.proofs.FitsRuns.{fresh_same, present_in, taken_of}
 use Rattle.nv_machine.proofs.EachElement.{all_back}
@@ -32,7 +32,7 @@ use Rattle.nv_machine.proofs.EachElement.{all_back}
 -- the nodes and slots by their settled logs, and how many slots there are
 pub record View : Type 0 where
   pub nodes : Handle → Option PlainNode
-  pub slots : ℕ → Slot
+  pub slots : ℕ → InodeSlot
   pub many : ℕ
 
 abbrev pub view : Shared → View
@@ -43,7 +43,7 @@ abbrev pub IsLocked : ℕ → List ℕ → Handle → Type 0
 IsLocked many locked handle = handle.ino < many → has locked handle.ino ≡ true
 
 -- a call passes now, and has locked what it reads, and the slot of a new inode, which is free
-pub record IsPassed (block : ℕ) (v : View) (c : Call) (seen : Looked) (new : Handle) (locked : List ℕ) : Type 0 where
+pub record IsPassed (block : ℕ) (v : View) (c : Call) (seen : LookupResult) (new : Handle) (locked : List ℕ) : Type 0 where
   pub covers : AllByRecursion (IsLocked v.many locked) (locks seen new c)
   pub found : looked (node_in v.nodes) c ≡ seen
   pub passes : refusal block (node_in v.nodes) c ≡ passes
@@ -55,7 +55,7 @@ abbrev pub wanted_in : ℕ → View → Call → ℕ
 wanted_in block v c = blocks_wanted block (node_in v.nodes) (present_in block v.slots c) c
 
 -- its plan is that of blocks that it has filled
-pub record IsDrawn (block : ℕ) (v : View) (c : Call) (new : Handle) (planned : List Planned) (fresh : List BlockValue) : Type 0 where
+pub record IsDrawn (block : ℕ) (v : View) (c : Call) (new : Handle) (planned : List InodePlan) (fresh : List BlockValue) : Type 0 where
   pub plan : planned ≡ plan block (node_in v.nodes) (taken_of new (present_in block v.slots c) fresh) c
   pub filled : AreFilled block (node_in v.nodes) (present_in block v.slots c) c fresh
 
@@ -72,22 +72,22 @@ agree_on v w locked same [] all = tt
 agree_on v w locked same (handle ∷ list) all = (same.nodes handle all.0, agree_on v w locked same list all.1)
 
 -- the new inode is locked too
-pub made_locked : (many : ℕ) (locked : List ℕ) (seen : Looked) (new : Handle) (c : Call) → makes_inode (beginning c) ≡ true
+pub made_locked : (many : ℕ) (locked : List ℕ) (seen : LookupResult) (new : Handle) (c : Call) → makes_inode (beginning c) ≡ true
     → AllByRecursion (IsLocked many locked) (locks seen new c) → IsLocked many locked new
 made_locked many locked seen new (call.Create dir name mode) e all = all.0
 made_locked many locked seen new (call.Mkdir dir name mode) e all = all.0
 made_locked many locked seen new other e all = cc
 
-module _ (block : ℕ) (v w : View) (c : Call) (seen : Looked) (new : Handle) (locked : List ℕ) (same : SameFor v w locked)
+module _ (block : ℕ) (v w : View) (c : Call) (seen : LookupResult) (new : Handle) (locked : List ℕ) (same : SameFor v w locked)
     (p : IsPassed block v c seen new locked) where
   agree : Agree v.nodes w.nodes (handles seen c)
   agree = agree_on v w locked same (handles seen c) (all_back (IsLocked v.many locked) (made_by new c) (handles seen c) p.covers)
 
-  same_call : (taken : Taken) → SameCall block v.nodes w.nodes taken c
-  same_call taken = call_same block v.nodes w.nodes taken c (subst (λ (l : Looked). Agree v.nodes w.nodes (handles l c))
+  same_call : (taken : Allocation) → SameCall block v.nodes w.nodes taken c
+  same_call taken = call_same block v.nodes w.nodes taken c (subst (λ (l : LookupResult). Agree v.nodes w.nodes (handles l c))
       (sym p.found) agree)
 
-  abbrev nothing_taken : Taken
+  abbrev nothing_taken : Allocation
   nothing_taken = record { made = new; runs = []; present = false }
 
   new_slot : makes_inode (beginning c) ≡ true → w.slots new.ino ≡ v.slots new.ino
@@ -100,8 +100,8 @@ module _ (block : ℕ) (v w : View) (c : Call) (seen : Looked) (new : Handle) (l
     passes = (same_call nothing_taken).refusal ∙ p.passes;
     inside = λ e. subst (λ (n : ℕ). new.ino < n) (sym same.many) (p.inside e);
     free = λ e. record {
-      empty = ap (λ (x : Slot). x.log) (new_slot e) ∙ (p.free e).empty;
-      own = (p.free e).own ∙ sym (ap (λ (x : Slot). x.generation) (new_slot e));
+      empty = ap (λ (x : InodeSlot). x.log) (new_slot e) ∙ (p.free e).empty;
+      own = (p.free e).own ∙ sym (ap (λ (x : InodeSlot). x.generation) (new_slot e));
     };
   }
 
@@ -123,7 +123,7 @@ module _ (block : ℕ) (v w : View) (c : Call) (seen : Looked) (new : Handle) (l
       ap (λ (b : Bool). plan block (node_in w.nodes) (taken_of new b fresh) c) present_same
       ∙ (same_call (taken_of new (present_in block v.slots c) fresh)).plan
 
-  pub drawn_still : (planned : List Planned) (fresh : List BlockValue) → IsDrawn block v c new planned fresh
+  pub drawn_still : (planned : List InodePlan) (fresh : List BlockValue) → IsDrawn block v c new planned fresh
       → IsDrawn block w c new planned fresh
   drawn_still planned fresh d = record {
     plan = d.plan ∙ sym (plan_still fresh);
@@ -150,7 +150,7 @@ AreAt zero s locked h fresh = h.blocks ≡ fresh
 AreAt (suc place) s locked h fresh = AllByRecursion (IsStored s locked) fresh
 
 -- a plan of blocks that were filled, which stand somewhere
-pub record HasDrawn (block : ℕ) (v : View) (c : Call) (new : Handle) (planned : List Planned) (At : List BlockValue → Type 0) : Type 0 where
+pub record HasDrawn (block : ℕ) (v : View) (c : Call) (new : Handle) (planned : List InodePlan) (At : List BlockValue → Type 0) : Type 0 where
   pub fresh : List BlockValue
   pub drawn : IsDrawn block v c new planned fresh
   pub at : At fresh
@@ -165,7 +165,7 @@ abbrev pub FitsAt : Next → ℕ → Shared → HandState → Running → Type 0
 FitsAt (Lock place) block s h r = r.slots ≡ slots_of s h.ino r.looked r.call
 FitsAt Check block s h r = r.slots ≡ slots_of s h.ino r.looked r.call
 FitsAt (TakeBlocks asked) block s h r = Passed block s r × (length h.blocks + r.wanted ≡ wanted_in block (view s) r.call)
-FitsAt (TakePages asked) block s h r = Passed block s r × (length h.blocks ≡ wanted_in block (view s) r.call)
+FitsAt (TakeLogPages asked) block s h r = Passed block s r × (length h.blocks ≡ wanted_in block (view s) r.call)
 FitsAt Ready block s h r = Passed block s r × (length h.blocks ≡ wanted_in block (view s) r.call)
 FitsAt Enter block s h r = Passed block s r × Drawn block s r (λ fresh. h.blocks ≡ fresh)
 FitsAt (Append place) block s h r = Passed block s r × Drawn block s r (AreAt place s r.slots h)
@@ -222,7 +222,7 @@ module _ (block : ℕ) (s t : Shared) (h : HandState) (r : Running) (same : Same
   fits_still (Lock place) f = f ∙ ap slots_among (sym same.same.many)
   fits_still Check f = f ∙ ap slots_among (sym same.same.many)
   fits_still (TakeBlocks asked) f = (passed_on f.0, wanted_on _ f.0 f.1)
-  fits_still (TakePages asked) f = (passed_on f.0, wanted_on _ f.0 f.1)
+  fits_still (TakeLogPages asked) f = (passed_on f.0, wanted_on _ f.0 f.1)
   fits_still Ready f = (passed_on f.0, wanted_on _ f.0 f.1)
   fits_still Enter f = (passed_on f.0, drawn_on _ _ (λ fresh e. e) f.0 f.1)
   fits_still (Append place) f = (passed_on f.0, drawn_on _ _ (at_on place) f.0 f.1)

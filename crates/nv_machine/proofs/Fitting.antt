@@ -19,8 +19,8 @@ use Rattle.nv_calls.specs.Slots.{items_for}
 use Rattle.nv_calls.specs.calls.Rename.{bound_plan, move_plan, own_place, replaced_plan}
 use Rattle.nv_calls.specs.declared.call.Call.{Call}
 use Rattle.nv_calls.specs.declared.call.Call.TheVariants as call
-use Rattle.nv_calls.specs.declared.plan.Planned.{Planned}
-use Rattle.nv_calls.specs.declared.taken.Taken.{Taken}
+use Rattle.nv_calls.specs.declared.plan.InodePlan.{InodePlan}
+use Rattle.nv_calls.specs.declared.allocation.Allocation.{Allocation}
 use Rattle.nv_calls.proofs.Keeps.{keeps_to_its}
 use Rattle.nv_calls.proofs.Within.{size_within, write_within}
 use Rattle.nv_cell.specs.Append.{IsWithinFile}
@@ -28,7 +28,7 @@ use Rattle.nv_entry.specs.Blocks.{item_blocks}
 use Rattle.nv_entry.specs.Sound.{blocks_of, write_items}
 use Rattle.nv_entry.specs.declared.item.Item.{Item}
 use Rattle.nv_entry.specs.declared.item.Item.TheVariants.{SetSize}
-use Rattle.nv_entry.specs.declared.item.Run.{Run}
+use Rattle.nv_entry.specs.declared.item.BlockRun.{BlockRun}
 use Rattle.nv_entry.specs.declared.node.NodeCopy.{NodeCopy}
 use Rattle.nv_machine.proofs.PlansOfBlocks.{leave_within, replaced_within}
 use Rattle.nv_machine.specs.Hands.{FitsFile, planned_blocks}
@@ -53,7 +53,7 @@ unfolding weight
 weight_is [] = refl
 weight_is (n ∷ numbers) = one_more n (stretches numbers) ∙ (let h = weight_is numbers in omega (arith, h))
 
-abbrev made_run : (ℕ × ℕ) → List Run
+abbrev made_run : (ℕ × ℕ) → List BlockRun
 made_run run = run_if run.0 run.1 (nat_lt (run.0 + run.1) (2 ^ 64)) refl
 
 one_run : (start len : ℕ) (b : Bool) (is : nat_lt (start + len) (2 ^ 64) ≡ b) → length (blocks_of (run_if start len b is)) ≤ len
@@ -64,7 +64,7 @@ runs_few : (runs : List (ℕ × ℕ)) → length (blocks_of (flat_map made_run r
 unfolding weight
 runs_few [] = omega arith
 runs_few (run ∷ runs) =
-    let both = ap length (flat_map-append (λ (x : Run). range_with_len x.start x.len) (made_run run) (flat_map made_run runs)) in
+    let both = ap length (flat_map-append (λ (x : BlockRun). range_with_len x.start x.len) (made_run run) (flat_map made_run runs)) in
     omega (
       arith,
       both,
@@ -121,7 +121,7 @@ runs_fit : (many : ℕ) (runs : List (ℕ × ℕ)) → many < 2 ^ 64 → EndBelo
 unfolding expand
 runs_fit many [] small h = refl
 runs_fit many (run ∷ runs) small h =
-    flat_map-append (λ (x : Run). range_with_len x.start x.len) (made_run run) (flat_map made_run runs)
+    flat_map-append (λ (x : BlockRun). range_with_len x.start x.len) (made_run run) (flat_map made_run runs)
     ∙ ap (λ (l : List ℕ). l ++ blocks_of (flat_map made_run runs))
     (one_fits run.0 run.1 (nat_lt (run.0 + run.1) (2 ^ 64)) refl (omega (arith, small, h.0)))
     ∙ ap (λ (l : List ℕ). range_with_len run.0 run.1 ++ l) (runs_fit many runs small h.1)
@@ -131,13 +131,13 @@ runs_same many numbers small h = runs_fit many (stretches numbers) small (ends_b
 
 -- ---- slots that rise have no more of a plan's blocks than the plan
 
-abbrev cost : List Planned → ℕ → ℕ
+abbrev cost : List InodePlan → ℕ → ℕ
 cost plan ino = length (flat_map item_blocks (items_for plan ino))
 
-abbrev own_cost : Planned → ℕ → ℕ
+abbrev own_cost : InodePlan → ℕ → ℕ
 own_cost p ino = if p.handle.ino == ino then length (flat_map item_blocks p.items) else 0
 
-none_above : (p : Planned) (slots : List ℕ) → AllByRecursion (λ m. p.handle.ino < m) slots → sum_by (own_cost p) slots ≡ 0
+none_above : (p : InodePlan) (slots : List ℕ) → AllByRecursion (λ m. p.handle.ino < m) slots → sum_by (own_cost p) slots ≡ 0
 none_above p [] h = refl
 none_above p (m ∷ slots) h =
     let more = none_above p slots h.1 in
@@ -148,7 +148,7 @@ none_above p (m ∷ slots) h =
       go true e cons more = let is = eqb-true p.handle.ino m e in absurd (omega (arith, is, h.0))
       go false e cons more = let own : own_cost p m ≡ 0 = rw e refl in omega (arith, own, cons, more)
 
-own_once : (p : Planned) (slots : List ℕ) → IsRising slots → sum_by (own_cost p) slots ≤ length (flat_map item_blocks p.items)
+own_once : (p : InodePlan) (slots : List ℕ) → IsRising slots → sum_by (own_cost p) slots ≤ length (flat_map item_blocks p.items)
 own_once p [] r = omega arith
 own_once p (m ∷ slots) r =
     go (p.handle.ino == m) refl (sum_by-cons (own_cost p) m slots) (own_once p slots r.1) where
@@ -161,14 +161,14 @@ own_once p (m ∷ slots) r =
           omega (arith, own, cons, none)
       go false e cons more = let own : own_cost p m ≡ 0 = rw e refl in omega (arith, own, cons, more)
 
-cost_least : (p : Planned) (plan : List Planned) (ino : ℕ) → cost (p ∷ plan) ino ≤ own_cost p ino + cost plan ino
+cost_least : (p : InodePlan) (plan : List InodePlan) (ino : ℕ) → cost (p ∷ plan) ino ≤ own_cost p ino + cost plan ino
 cost_least p plan ino = go (p.handle.ino == ino) where
   go : (b : Bool) → length (flat_map item_blocks (if b then p.items else items_for plan ino))
       ≤ (if b then length (flat_map item_blocks p.items) else 0) + cost plan ino
   go true = omega arith
   go false = omega arith
 
-costs : (p : Planned) (plan : List Planned) (slots : List ℕ)
+costs : (p : InodePlan) (plan : List InodePlan) (slots : List ℕ)
     → sum_by (cost (p ∷ plan)) slots ≤ sum_by (own_cost p) slots + sum_by (cost plan) slots
 costs p plan [] = omega arith
 costs p plan (m ∷ slots) = omega (
@@ -184,7 +184,7 @@ no_costs : (slots : List ℕ) → sum_by (cost []) slots ≡ 0
 no_costs [] = refl
 no_costs (m ∷ slots) = omega (arith, sum_by-cons (cost []) m slots, no_costs slots)
 
-costs_few : (plan : List Planned) (slots : List ℕ) → IsRising slots → sum_by (cost plan) slots ≤ length (plan_blocks plan)
+costs_few : (plan : List InodePlan) (slots : List ℕ) → IsRising slots → sum_by (cost plan) slots ≤ length (plan_blocks plan)
 costs_few [] slots r = omega (arith, no_costs slots)
 costs_few (p ∷ plan) slots r =
     omega (
@@ -195,23 +195,23 @@ costs_few (p ∷ plan) slots r =
       length-append (flat_map item_blocks p.items) (plan_blocks plan),
     )
 
-pub planned_few : (plan : List Planned) (slots : List ℕ) → IsRising slots → length (planned_blocks plan slots) ≤ length (plan_blocks plan)
+pub planned_few : (plan : List InodePlan) (slots : List ℕ) → IsRising slots → length (planned_blocks plan slots) ≤ length (plan_blocks plan)
 planned_few plan slots r =
     omega (arith, length-flat_map (λ ino. flat_map item_blocks (items_for plan ino)) slots, costs_few plan slots r)
 
-pub plan_few : (block : ℕ) (nodes : Handle → Option NodeCopy) (taken : Taken) (c : Call) (numbers : List ℕ)
+pub plan_few : (block : ℕ) (nodes : Handle → Option NodeCopy) (taken : Allocation) (c : Call) (numbers : List ℕ)
     → taken.runs ≡ runs_of numbers → length (plan_blocks (plan block nodes taken c)) ≤ length numbers
 plan_few block nodes taken c numbers is =
     let keeps : KeepsToIts nodes c taken (plan block nodes taken c) = keeps_to_its block nodes taken c in
     let short = runs_short numbers in
     elim keeps.blocks [
-      | inl same ↦ omega (arith, short, ap length same, ap (λ (l : List Run). length (blocks_of l)) is)
+      | inl same ↦ omega (arith, short, ap length same, ap (λ (l : List BlockRun). length (blocks_of l)) is)
       | inr none ↦ omega (arith, ap length none)
     ]
 
 -- ---- a plan's blocks are those that were taken, in order
 
-none_for : (p : Planned) (slots : List ℕ) → AllByRecursion (λ m. p.handle.ino < m) slots → planned_blocks (p ∷ []) slots ≡ []
+none_for : (p : InodePlan) (slots : List ℕ) → AllByRecursion (λ m. p.handle.ino < m) slots → planned_blocks (p ∷ []) slots ≡ []
 none_for p [] h = refl
 none_for p (m ∷ slots) h = go (p.handle.ino == m) refl (none_for p slots h.1) where
   go : (b : Bool) → (p.handle.ino == m) ≡ b → planned_blocks (p ∷ []) slots ≡ []
@@ -219,7 +219,7 @@ none_for p (m ∷ slots) h = go (p.handle.ino == m) refl (none_for p slots h.1) 
   go true e more = let is = eqb-true p.handle.ino m e in absurd (omega (arith, is, h.0))
   go false e more = more
 
-one_planned : (p : Planned) (slots : List ℕ) → IsRising slots
+one_planned : (p : InodePlan) (slots : List ℕ) → IsRising slots
     → (planned_blocks (p ∷ []) slots ≡ []) ⊎ (planned_blocks (p ∷ []) slots ≡ flat_map item_blocks p.items)
 one_planned p [] r = inl refl
 one_planned p (m ∷ slots) r = go (p.handle.ino == m) refl (one_planned p slots r.1) where
@@ -244,7 +244,7 @@ is_first : (xs ns : List ℕ) → (xs ≡ []) ⊎ (xs ≡ ns) → take (length x
 is_first xs ns (inl e) = subst (λ (l : List ℕ). take (length l) ns ≡ l) (sym e) refl
 is_first xs ns (inr e) = subst (λ (l : List ℕ). take (length l) ns ≡ l) (sym e) (whole ns)
 
-by_plan : (plan : List Planned) (slots numbers : List ℕ) → IsRising slots → (1 < length plan → plan_blocks plan ≡ [])
+by_plan : (plan : List InodePlan) (slots numbers : List ℕ) → IsRising slots → (1 < length plan → plan_blocks plan ≡ [])
     → plan_blocks plan ≡ numbers → (planned_blocks plan slots ≡ []) ⊎ (planned_blocks plan slots ≡ numbers)
 by_plan [] slots numbers r several same =
     inl (empty_by_length (planned_blocks [] slots) (planned_few [] slots r))
@@ -257,7 +257,7 @@ by_plan (p ∷ q ∷ plan) slots numbers r several same =
     let none = ap length (several (omega arith)) in
     inl (empty_by_length (planned_blocks (p ∷ q ∷ plan) slots) (omega (arith, few, none)))
 
-pub plan_first : (block many : ℕ) (nodes : Handle → Option NodeCopy) (taken : Taken) (c : Call) (numbers slots : List ℕ)
+pub plan_first : (block many : ℕ) (nodes : Handle → Option NodeCopy) (taken : Allocation) (c : Call) (numbers slots : List ℕ)
     → taken.runs ≡ runs_of numbers → many < 2 ^ 64 → AllByRecursion (λ n. n < many) numbers → IsRising slots
     → take (length (planned_blocks (plan block nodes taken c) slots)) numbers ≡ planned_blocks (plan block nodes taken c) slots
 plan_first block many nodes taken c numbers slots is small below r =
@@ -277,22 +277,22 @@ plan_first block many nodes taken c numbers slots is small below r =
 abbrev AreWithin : List Item → Type 0
 AreWithin items = AllByRecursion IsWithinFile items
 
-abbrev AllWithin : List Planned → Type 0
-AllWithin plan = AllByRecursion (λ (p : Planned). AreWithin p.items) plan
+abbrev AllWithin : List InodePlan → Type 0
+AllWithin plan = AllByRecursion (λ (p : InodePlan). AreWithin p.items) plan
 
-items_within : (plan : List Planned) (ino : ℕ) → AllWithin plan → AreWithin (items_for plan ino)
+items_within : (plan : List InodePlan) (ino : ℕ) → AllWithin plan → AreWithin (items_for plan ino)
 items_within [] ino h = tt
 items_within (p ∷ plan) ino h = go (p.handle.ino == ino) (items_within plan ino h.1) where
   go : (b : Bool) → AreWithin (items_for plan ino) → AreWithin (if b then p.items else items_for plan ino)
   go true more = h.0
   go false more = more
 
-run_count : (run : Run) (runs : List Run) → length (blocks_of (run ∷ runs)) ≡ run.len + length (blocks_of runs)
+run_count : (run : BlockRun) (runs : List BlockRun) → length (blocks_of (run ∷ runs)) ≡ run.len + length (blocks_of runs)
 run_count run runs =
     length-append (range_with_len run.start run.len) (blocks_of runs)
     ∙ ap (λ (n : ℕ). n + length (blocks_of runs)) (length-range_with_len run.start run.len)
 
-written_within : (first size : ℕ) (runs : List Run) (rest : List Item) → first + length (blocks_of runs) ≤ FILE_PAGES → AreWithin rest
+written_within : (first size : ℕ) (runs : List BlockRun) (rest : List Item) → first + length (blocks_of runs) ≤ FILE_PAGES → AreWithin rest
     → AreWithin (write_items first runs size ++ rest)
 written_within first size [] rest few more = more
 written_within first size (run ∷ runs) rest few more = (
@@ -300,7 +300,7 @@ written_within first size (run ∷ runs) rest few more = (
   written_within (first + run.len) size runs rest (omega (arith, few, run_count run runs)) more,
 )
 
-move_within : (same : Bool) (from : Handle) (old : List ℕ) (to : Handle) (new : List ℕ) (moved : Handle) (rest : List Planned)
+move_within : (same : Bool) (from : Handle) (old : List ℕ) (to : Handle) (new : List ℕ) (moved : Handle) (rest : List InodePlan)
     → AllWithin rest → AllWithin (move_plan same from old to new moved rest)
 move_within true from old to new moved rest h = ((tt, (tt, tt)), h)
 move_within false from old to new moved rest h = ((tt, tt), ((tt, tt), h))
@@ -312,7 +312,7 @@ bound_within false from old to new None second = tt
 bound_within false from old to new (Some moved) second =
     move_within (same_handle from to) from old to new moved (replaced_plan second) (replaced_within second)
 
-all_within : (block count : ℕ) (nodes : Handle → Option NodeCopy) (taken : Taken) (c : Call) → length (blocks_of taken.runs) ≤ count
+all_within : (block count : ℕ) (nodes : Handle → Option NodeCopy) (taken : Allocation) (c : Call) → length (blocks_of taken.runs) ≤ count
     → FitsFile block c count → AllWithin (plan block nodes taken c)
 all_within block count nodes taken (call.Create dir name mode) few fits = ((tt, tt), ((tt, tt), tt))
 all_within block count nodes taken (call.Mkdir dir name mode) few fits = ((tt, tt), ((tt, tt), tt))
@@ -329,13 +329,13 @@ all_within block count nodes taken (call.Rename from old to new) few fits =
 all_within block count nodes taken (call.Read file offset many) few fits = tt
 all_within block count nodes taken other few fits = tt
 
-pub plan_within : (block : ℕ) (nodes : Handle → Option NodeCopy) (taken : Taken) (c : Call) (numbers : List ℕ)
+pub plan_within : (block : ℕ) (nodes : Handle → Option NodeCopy) (taken : Allocation) (c : Call) (numbers : List ℕ)
     → taken.runs ≡ runs_of numbers → FitsFile block c (length numbers) → (ino : ℕ)
     → AllByRecursion IsWithinFile (items_for (plan block nodes taken c) ino)
 plan_within block nodes taken c numbers is fits ino =
     items_within (plan block nodes taken c) ino
     (all_within block (length numbers) nodes taken c
-    (omega (arith, runs_short numbers, ap (λ (l : List Run). length (blocks_of l)) is)) fits)
+    (omega (arith, runs_short numbers, ap (λ (l : List BlockRun). length (blocks_of l)) is)) fits)
 
 -- ---- a check that ends nothing
 

@@ -18,7 +18,7 @@ use Rattle.nv_machine.specs.PoolScan.{has_inode}
 use Rattle.nv_machine.specs.Reads.{is_written, pages_needed, slot_at, written_slots}
 use Rattle.nv_machine.specs.Starts.{IsStart}
 use Rattle.nv_machine.specs.Step.{after, step}
-use Rattle.nv_machine.specs.World.{Append, Close, Enter, Event, HandState, Next, Open, Publish, Ready, Running, Shared, TakeBlocks, TakePages, World, actor_at, cell_at}
+use Rattle.nv_machine.specs.World.{Append, Close, Enter, Event, HandState, Next, Open, Publish, Ready, Running, Shared, TakeBlocks, TakeLogPages, World, actor_at, cell_at}
 use Rattle.nv_machine.proofs.EveryWorld.{all_known, all_pooled}
 use Rattle.nv_machine.proofs.NewWorld.{each_cell}
 use Rattle.nv_machine.proofs.FromScratch.{counted}
@@ -79,7 +79,7 @@ module _ (g : GeometryNumbers) (block a : ℕ) (s : Shared) (h : HandState) (r :
   pub checked_early : (k : Next) → is_checked k ≡ true → Standing g k a s h r → (ino : ℕ) → has r.slots ino ≡ true
       → (cell_at s ino).generation < NUMBER
   checked_early (TakeBlocks asked) e st = inode_early (TakeBlocks asked) st st.sees.0
-  checked_early (TakePages asked) e st = inode_early (TakePages asked) st st.sees.0
+  checked_early (TakeLogPages asked) e st = inode_early (TakeLogPages asked) st st.sees.0
   checked_early Ready e st = inode_early Ready st st.sees.0
   checked_early Enter e st = inode_early Enter st st.sees.0
   checked_early (Append place) e st = inode_early (Append place) st st.sees.0

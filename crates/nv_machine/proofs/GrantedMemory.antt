@@ -14,7 +14,7 @@ use Rattle.nv_calls.specs.AllCalls.{early, late, look_refusal, looked, refusal}
 use Rattle.nv_calls.specs.Plain.{same_handle}
 use Rattle.nv_calls.specs.Refusals.{Check as Tests, and_then, is_directory, kind_of, lookup, passes, refuse_if, want_bound, want_directory, want_file, want_lawful, want_node}
 use Rattle.nv_calls.specs.declared.call.Call.{Call}
-use Rattle.nv_calls.specs.declared.looked.Looked.{Looked}
+use Rattle.nv_calls.specs.declared.looked.LookupResult.{LookupResult}
 use Rattle.nv_calls.specs.calls.Create.{create_refusal}
 use Rattle.nv_calls.specs.calls.Lookup.{lookup_refusal}
 use Rattle.nv_calls.specs.calls.Rename.{moved_refusal, own_place, pass_if, rename_early, replaced_refusal}
@@ -23,7 +23,7 @@ use Rattle.nv_machine.specs.Causes.{EndsFor, IsCause, IsDenied, IsShort, MayBeOv
 use Rattle.nv_machine.specs.Memory.{IsOther}
 use Rattle.nv_machine.specs.Reads.{copies}
 use Rattle.nv_machine.specs.Step.{kind_turn}
-use Rattle.nv_machine.specs.World.{Answers, Check, Drop, Ending, Ends, Enter, HandState, Look, Make, Moves, Next, Pick, Pin, Ready, Refuses, Running, Shared, Show, Maintenance, TakeBlocks, TakePages, Turn, Visit, Waits, Fresh, Judge}
+use Rattle.nv_machine.specs.World.{Answers, Check, Drop, Ending, Ends, Enter, HandState, Look, Make, Moves, Next, Pick, Pin, Ready, Refuses, Running, Shared, Show, Maintenance, TakeBlocks, TakeLogPages, Turn, Visit, Waits, Fresh, Judge}
 use Rattle.nv_machine.proofs.RefusalCauses.{caused}
 use Rattle.nv_machine.specs.Maintenance.{drop_tests, make_tests}
 use Rattle.nv_epoch.specs.SnapList.{Snapshots as Living, pins_of}
@@ -115,7 +115,7 @@ module _ (block : ℕ) (nodes : Handle → Option NodeCopy) where
   early_else (call.Rename from old to new) = rename_else from old to new
   early_else other = tt
 
-  late_else : (found : Looked) (c : Call) → AreElse (late block nodes found c)
+  late_else : (found : LookupResult) (c : Call) → AreElse (late block nodes found c)
   late_else found (call.Create dir name mode) = create_else dir name
   late_else found (call.Mkdir dir name mode) = create_else dir name
   late_else found (call.Write file offset text) = file_else (kind_of (nodes file)) _ (text_else offset text)
@@ -179,7 +179,7 @@ cause_other Check block actor s h r fault (inr (inl none)) = is_other fault NoIn
 cause_other Check block actor s h r fault (inr (inr (inl lack))) = granted_other fault lack.0
 cause_other Check block actor s h r fault (inr (inr (inr last))) = is_other fault Contended tt last.0
 cause_other (TakeBlocks asked) block actor s h r fault short = short_other s _ asked r.wanted fault short
-cause_other (TakePages asked) block actor s h r fault short = short_other s _ asked r.wanted fault short
+cause_other (TakeLogPages asked) block actor s h r fault short = short_other s _ asked r.wanted fault short
 cause_other Ready block actor s h r fault lack = granted_other fault lack
 cause_other Enter block actor s h r fault (inl limit) = is_other fault CommitLimit tt limit.0
 cause_other Enter block actor s h r fault (inr lack) = granted_other fault lack

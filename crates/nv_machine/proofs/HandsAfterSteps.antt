@@ -6,7 +6,7 @@ use Rattle.nv_base.specs.declared.fault.Fault.{Fault}
 use Rattle.nv_base.specs.declared.geometry.GeometryNumbers.{GeometryNumbers}
 use Rattle.nv_calls.specs.AllCalls.{looked}
 use Rattle.nv_calls.specs.declared.call.Call.{Call}
-use Rattle.nv_calls.specs.declared.looked.Looked.{Looked}
+use Rattle.nv_calls.specs.declared.looked.LookupResult.{LookupResult}
 use Rattle.nv_cell.specs.declared.killed.KilledPart.{KilledPart}
 use Rattle.nv_machine.specs.Hands.{AreGiven, AreLists, BeginsAnew, HandOf, HasTakenNone, makes_inode}
 use Rattle.nv_machine.specs.Kinds.{blocks_in}
@@ -147,7 +147,7 @@ looking_hand g place t h r empty looks going =
     ((empty, looks), λ e. going) (locking_hand g 0 t h r (taken_none h r empty looks) going)
 
 -- a name that a call does not look up is bound as before
-pub same_nothing : (nodes : _) (c : Call) (before : Looked) → makes_inode (beginning c) ≡ true → before ≡ nothing_looked
+pub same_nothing : (nodes : _) (c : Call) (before : LookupResult) → makes_inode (beginning c) ≡ true → before ≡ nothing_looked
     → same_looked (looked nodes c) before ≡ true
 same_nothing nodes (call.Create dir name mode) before makes is = rw is refl
 same_nothing nodes (call.Mkdir dir name mode) before makes is = rw is refl

@@ -20,9 +20,9 @@ use Rattle.nv_machine.specs.Reads.{slot_at, written_slots}
 use Rattle.nv_machine.specs.Sequence.{appending, closing, opening, publishing, retiring}
 use Rattle.nv_machine.specs.Maintenance.{maintenance_turn}
 use Rattle.nv_machine.specs.Step.{kind_turn}
-use Rattle.nv_machine.specs.World.{Answers, Append, Back, Check, Close, Drop, Ending, Enter, Give, HandState, Leave, Lock, LockPicked, Look, Make, Next, Number, Open, Pick, Pin, Publish, Ready, Retire, Running, Shared, Show, MaintenanceStep, Maintenance, TakeBlocks, TakePages, Unlock, Unpin, Visit, empty_hand, go_to, list_at, LockCleaned, Fresh, Unlink, Compact, Judge}
+use Rattle.nv_machine.specs.World.{Answers, Append, ReturnNumber, Check, Close, Drop, Ending, Enter, Give, HandState, Leave, Lock, LockPicked, Look, Make, Next, Number, Open, Pick, Pin, Publish, Ready, Retire, Running, Shared, Show, MaintenanceStep, Maintenance, TakeBlocks, TakeLogPages, Unlock, Unpin, Visit, empty_hand, go_to, list_at, LockCleaned, Fresh, Unlink, Compact, Judge}
 use Rattle.nv_machine.proofs.BlockCounts.{given_all}
-use Rattle.nv_machine.proofs.StepWork.{back_work, work, maintenance_work}
+use Rattle.nv_machine.proofs.StepWork.{return_number_work, work, maintenance_work}
 use Rattle.nv_machine.proofs.HandsAfterSteps.{GoesHome, HandGoes, HandTold, OnHand, denied_hand, ends_hand, is_empty, lasts_hand, locking_hand, looking_hand, number_hand, overs_hand, rests_hand}
 use Rattle.nv_machine.proofs.HandsInTakings.{check_fits, check_overtaken, first_below, ready_planned}
 use Rattle.nv_machine.proofs.Homes.{all_given}
@@ -270,7 +270,7 @@ snapshot_hand g other a granted s h r goes hand going = other_hand g other a gra
 -- ---- every kind
 
 back_empty : (number : Option ℕ) (s : Shared) (h : HandState) → h.ino ≡ number → h.killed ≡ [] → blocks_in h ≡ []
-    → (back_work number s h).hand ≡ empty_hand
+    → (return_number_work number s h).hand ≡ empty_hand
 back_empty None s h is killed none = is_empty h none is killed
 back_empty (Some ino) s h is killed none = is_empty (record h { ino = None }) none refl killed
 
@@ -302,7 +302,7 @@ module _ (g : GeometryNumbers) (a : ℕ) (granted : Bool) (s : Shared) (h : Hand
         (λ q. (record { killed = at.killed; fits = q }, λ e. going refl)),
     λ n is last. denied_hand g _ _ goes.1 at.killed,
   )
-  ways (TakePages asked) b goes give at going = (
+  ways (TakeLogPages asked) b goes give at going = (
     record {
       more = λ n is ask. (record { killed = at.killed; fits = at.fits }, λ e. going refl);
       pages = λ n none is. (record { killed = at.killed; fits = at.fits }, λ e. going refl);
@@ -342,7 +342,7 @@ module _ (g : GeometryNumbers) (a : ℕ) (granted : Bool) (s : Shared) (h : Hand
       rests_hand g (cpu + 1) s (with_given cpu h s) (given cpu s h)
       (record { some = goes.1.some; lists = goes.0.lists; below = goes.1.below }) refl (let inside = at.1 in omega (arith, inside))
       (subst (λ (l : List BlockValue). AreGiven g (cpu + 1) l) (sym (given_all cpu s h)) kept) at.0
-  ways Back b goes give at going = lasts_hand g (back_empty h.ino s h refl at.0 at.1)
+  ways ReturnNumber b goes give at going = lasts_hand g (back_empty h.ino s h refl at.0 at.1)
   ways Visit b goes give at going = (
     λ fault free by. denied_hand g s h goes.0 (ap (λ (x : HandState). x.killed) at),
     λ free passed lacks. denied_hand g s h goes.0 (ap (λ (x : HandState). x.killed) at),

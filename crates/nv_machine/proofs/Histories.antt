@@ -18,7 +18,7 @@ use Rattle.nv_machine.specs.Sequence.{appending, slots_on}
 use Rattle.nv_machine.specs.Maintenance.{maintenance_turn}
 use Rattle.nv_machine.specs.Starts.{IsStart}
 use Rattle.nv_machine.specs.Step.{after, kind_turn, step, turned}
-use Rattle.nv_machine.specs.World.{Back, Drop, Ending, Ends, Enter, Event, Go, HandState, Make, Moves, Next, Number, Publish, Running, Shared, MaintenanceStep, Maintenance, Start, Turn, Unpin, Waits, World, actor_at, Judge, Pin, Pick}
+use Rattle.nv_machine.specs.World.{ReturnNumber, Drop, Ending, Ends, Enter, Event, Go, HandState, Make, Moves, Next, Number, Publish, Running, Shared, MaintenanceStep, Maintenance, Start, Turn, Unpin, Waits, World, actor_at, Judge, Pin, Pick}
 use Rattle.nv_machine.proofs.CommitNumbers.{enters_appending}
 use Rattle.nv_machine.proofs.LoopSteps.{goes_on}
 use Rattle.nv_machine.proofs.OverEvents.{go_deed, start_deed, turn_at}
@@ -166,7 +166,7 @@ module _ (block a : ℕ) (granted : Bool) (s : Shared) (h : HandState) (r : Runn
       (by_number (λ (u : Shared) (x : HandState). u.book.history ≡ s.book.history) s h (λ numbers ino. refl)) refl
   kind_told Enter bare = enter_told a s block granted h r
   kind_told (Publish place) bare = file_told (Publish place) refl (publish_none (nat_lt 1 (length (written_slots r))) a s)
-  kind_told Back bare = file_told Back
+  kind_told ReturnNumber bare = file_told ReturnNumber
       (by_back (λ (u : Shared) (x : HandState). u.book.history ≡ s.book.history) s h (λ numbers ino. refl)) refl
   kind_told (Maintenance step) bare = step_told a granted s h r step bare.0 bare.1
   kind_told other bare = file_told other refl refl

@@ -19,7 +19,7 @@ use Rattle.nv_machine.specs.Sequence.{Beginning, Locks, beginning, begun, nothin
 use Rattle.nv_machine.specs.Starts.{IsStart}
 use Rattle.nv_machine.specs.Step.{after, kind_turn, start_step, step, turn}
 use Rattle.nv_machine.specs.Takings.{AreEmptied, Asked, IsEmptied, IsShortInAll, Taking, and_asked, asked_in, asking, asks_list, beginning_with, no_taking, taking_after, taking_by, taking_in, taking_of}
-use Rattle.nv_machine.specs.World.{Actor, Answers, Check, Ends, Event, Go, HandState, Lock, Moves, Next, Ready, Refuses, Running, Shared, Start, TakeBlocks, TakePages, Turn, Waits, World, actor_at, idle, list_at, no_list, Maintenance, Fresh, Compact, MaintenanceStep}
+use Rattle.nv_machine.specs.World.{Actor, Answers, Check, Ends, Event, Go, HandState, Lock, Moves, Next, Ready, Refuses, Running, Shared, Start, TakeBlocks, TakeLogPages, Turn, Waits, World, actor_at, idle, list_at, no_list, Maintenance, Fresh, Compact, MaintenanceStep}
 use Rattle.nv_machine.proofs.EveryWorld.{all_numbers}
 use Rattle.nv_machine.proofs.OverEvents.{OwnAfter, event_of, own_goes, turn_at}
 use Rattle.nv_machine.proofs.RefusalCauses.{unrefused}
@@ -38,7 +38,7 @@ record IsAsking (cpus actor asked : ℕ) (taking : Taking) (wanted : ℕ) : Type
 
 abbrev Asks : Next → ℕ → ℕ → Taking → ℕ → Type 0
 Asks (TakeBlocks asked) cpus actor taking wanted = IsAsking cpus actor asked taking wanted
-Asks (TakePages asked) cpus actor taking wanted = IsAsking cpus actor asked taking wanted
+Asks (TakeLogPages asked) cpus actor taking wanted = IsAsking cpus actor asked taking wanted
 Asks (Maintenance (Fresh ino asked some)) cpus actor taking wanted = IsAsking cpus actor asked taking some
 Asks other cpus actor taking wanted = Unit {0}
 
@@ -63,7 +63,7 @@ new_taking cpus actor asked wanted taking false e is some = cc
 first_asks : (next : Next) (cpus actor wanted : ℕ) (taking : Taking) → IsFirst next → 0 < cpus
     → Asks next cpus actor (beginning_with next wanted taking) wanted
 first_asks (TakeBlocks asked) cpus actor wanted taking is some = new_taking cpus actor asked wanted taking (asked == 0) refl is some
-first_asks (TakePages asked) cpus actor wanted taking is some = new_taking cpus actor asked wanted taking (asked == 0) refl is some
+first_asks (TakeLogPages asked) cpus actor wanted taking is some = new_taking cpus actor asked wanted taking (asked == 0) refl is some
 first_asks (Maintenance (Fresh ino asked fresh)) cpus actor wanted taking is some =
     new_taking cpus actor asked fresh taking (asked == 0) refl is some
 first_asks other cpus actor wanted taking is some = tt
@@ -192,12 +192,12 @@ module _ (cpus actor asked wanted block : ℕ) (s : Shared) (h : HandState) (r :
 
   pages_asks : (left : ℕ) (more : Bool) → wanted - length (list_at s asked_cpu).blocks ≡ left
       → nat_lt (asked + 1) (length s.lists) ≡ more
-      → OnAsks (TakePages asked) cpus actor s h taking (pages_turn left more asked t with_log_pages r)
+      → OnAsks (TakeLogPages asked) cpus actor s h taking (pages_turn left more asked t with_log_pages r)
   pages_asks zero more is lt = tt
   pages_asks (suc n) true is lt =
       asks_next cpus actor asked s h with_log_pages wanted taking many asks (more_pages h _) (suc n) is (omega arith)
       (let below = ltb-true (asked + 1) (length s.lists) lt in omega (arith, below, many))
-  pages_asks (suc n) false is lt = first_turn (TakePages asked) cpus actor s h taking _ some_cpus
+  pages_asks (suc n) false is lt = first_turn (TakeLogPages asked) cpus actor s h taking _ some_cpus
       (on_first _ (on_apart _ (end_plain r.slots (Refuses NoSpace) t with_log_pages r)))
 
   abbrev Shorts : Next → Turn → Type 0
@@ -217,7 +217,7 @@ module _ (cpus actor asked wanted block : ℕ) (s : Shared) (h : HandState) (r :
   module _ (answers : r.ending ≡ Answers) where
     wants_short : (n : ℕ) (h2 : HandState) → Shorts (TakeBlocks asked) (wants_pages n t h2 r)
     wants_short zero h2 = unrefused _ ⊥ Ready r.ending answers
-    wants_short (suc n) h2 = unrefused _ ⊥ (TakePages 0) r.ending answers
+    wants_short (suc n) h2 = unrefused _ ⊥ (TakeLogPages 0) r.ending answers
 
     blocks_short : (left : ℕ) (more : Bool) → wanted - length (list_at s asked_cpu).blocks ≡ left
         → nat_lt (asked + 1) (length s.lists) ≡ more → Shorts (TakeBlocks asked) (blocks_turn left more asked block t with_blocks r)
@@ -228,10 +228,10 @@ module _ (cpus actor asked wanted block : ℕ) (s : Shared) (h : HandState) (r :
         (let past = ltb-false (asked + 1) (length s.lists) lt in omega (arith, past, many)))
 
     pages_short : (left : ℕ) (more : Bool) → wanted - length (list_at s asked_cpu).blocks ≡ left
-        → nat_lt (asked + 1) (length s.lists) ≡ more → Shorts (TakePages asked) (pages_turn left more asked t with_log_pages r)
+        → nat_lt (asked + 1) (length s.lists) ≡ more → Shorts (TakeLogPages asked) (pages_turn left more asked t with_log_pages r)
     pages_short zero more is lt = unrefused _ ⊥ Ready r.ending answers
-    pages_short (suc n) true is lt = unrefused _ ⊥ (TakePages (asked + 1)) r.ending answers
-    pages_short (suc n) false is lt = end_short (TakePages asked) r.slots with_log_pages
+    pages_short (suc n) true is lt = unrefused _ ⊥ (TakeLogPages (asked + 1)) r.ending answers
+    pages_short (suc n) false is lt = end_short (TakeLogPages asked) r.slots with_log_pages
         (is_short cpus actor asked s h with_log_pages wanted taking many asks (more_pages h _) (suc n) is (omega arith)
         (let past = ltb-false (asked + 1) (length s.lists) lt in omega (arith, past, many)))
 
@@ -261,7 +261,7 @@ kind_asks : (k : Next) (cpus block actor : ℕ) (granted : Bool) (s : Shared) (h
     → OnAsks k cpus actor s h taking (kind_turn k block actor granted s h r)
 kind_asks (TakeBlocks asked) cpus block actor granted s h r taking many some asks =
     blocks_asks cpus actor asked r.wanted block s h r taking many asks _ _ refl refl
-kind_asks (TakePages asked) cpus block actor granted s h r taking many some asks =
+kind_asks (TakeLogPages asked) cpus block actor granted s h r taking many some asks =
     pages_asks cpus actor asked r.wanted block s h r taking many asks _ _ refl refl
 kind_asks (Maintenance (Fresh ino asked wanted)) cpus block actor granted s h r taking many some asks =
     fresh_asks cpus actor asked wanted block s h r taking many asks ino _ _ refl refl
@@ -274,7 +274,7 @@ kind_short : (k : Next) (cpus block actor : ℕ) (granted : Bool) (s : Shared) (
     (kind_turn k block actor granted s h r)
 kind_short (TakeBlocks asked) cpus block actor granted s h r taking e many answers asks =
     blocks_short cpus actor asked r.wanted block s h r taking many asks answers _ _ refl refl
-kind_short (TakePages asked) cpus block actor granted s h r taking e many answers asks =
+kind_short (TakeLogPages asked) cpus block actor granted s h r taking e many answers asks =
     pages_short cpus actor asked r.wanted block s h r taking many asks answers _ _ refl refl
 kind_short (Maintenance (Fresh ino asked wanted)) cpus block actor granted s h r taking e many answers asks =
     fresh_short cpus actor asked wanted block s h r taking many asks answers ino _ _ refl refl
@@ -366,6 +366,6 @@ lists_asked g start records events actor granted r is_start is takes =
     (subst (λ (o : Option Running). AsksOf o g.cpus actor (taking_after actor start events no_taking)) is own) where
       goes_on : (k : Next) → asks_list k ≡ true → (is_going k ≡ true → r.ending ≡ Answers) → r.ending ≡ Answers
       goes_on (TakeBlocks asked) e f = f refl
-      goes_on (TakePages asked) e f = f refl
+      goes_on (TakeLogPages asked) e f = f refl
       goes_on (Maintenance (Fresh ino asked wanted)) e f = f refl
       goes_on other e f = absurd (false≢true e)

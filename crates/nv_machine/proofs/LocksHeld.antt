@@ -8,13 +8,13 @@ use Rattle.nv_alloc.specs.Numbers.{has}
 use Rattle.nv_base.specs.declared.fault.Fault.{Fault}
 use Rattle.nv_machine.specs.Frame.{lent, lent_on}
 use Rattle.nv_machine.specs.Locks.{AreSlots, HoldsIts, IsHeldByOther, IsInside, IsOfSlot, WaitsFor, WaitsOn, commits_at, held_at, is_owner, held_on}
-use Rattle.nv_calls.specs.declared.looked.Looked.{Looked}
+use Rattle.nv_calls.specs.declared.looked.LookupResult.{LookupResult}
 use Rattle.nv_machine.specs.Reads.{is_written, slot_at, slots_of, written_slots}
 use Rattle.nv_machine.specs.Sequence.{locking, slots_on}
 use Rattle.nv_machine.specs.Maintenance.{copies_at, first_showing, seen_on, show_or_unpin, visited}
 use Rattle.nv_machine.specs.Step.{kind_turn, with_made}
-use Rattle.nv_machine.specs.World.{Append, Back, Check, Close, Drop, Enter, Give, HandState, Leave, Lock, LockPicked, Look, Make, Next, Number, Open, Pick, Pin, Publish, Ready, Refuses, Release, Retire, Running, Shared, Show, Showing, MaintenanceStep, Maintenance, TakeBlocks, TakePages, Unlock, Unpin, Visit, go_to, owner_at, with_numbers, with_owner, Compact, Fresh, Judge, LockCleaned, Unlink, cell_at}
-use Rattle.nv_machine.proofs.StepWork.{back_work, work, number_work, maintenance_work}
+use Rattle.nv_machine.specs.World.{Append, ReturnNumber, Check, Close, Drop, Enter, Give, HandState, Leave, Lock, LockPicked, Look, Make, Next, Number, Open, Pick, Pin, Publish, Ready, Refuses, Release, Retire, Running, Shared, Show, Showing, MaintenanceStep, Maintenance, TakeBlocks, TakeLogPages, Unlock, Unpin, Visit, go_to, owner_at, with_numbers, with_owner, Compact, Fresh, Judge, LockCleaned, Unlink, cell_at}
+use Rattle.nv_machine.proofs.StepWork.{return_number_work, work, number_work, maintenance_work}
 use Rattle.nv_machine.proofs.Lists.{drop_all, has_at, has_drop, has_filter, self, slot_inside, slots_are, take_apart}
 use Rattle.nv_machine.proofs.LocksAlongCalls.{Holds, LocksGo, LocksLeft, LocksTold, OnLocks, apart, appending_holds, ends_locks, holds_as, idle_as, lasts_locks, locked_holds, locked_left, locking_holds, looking_holds, others_not, overs_locks, publishing_holds, rests_locks, retiring_holds, same_locks, unlocked_holds, unlocked_left}
 use Rattle.nv_machine.proofs.StepWays.{EndsBy, Going, IsBlocked, IsBlockedOn, Telling, by_taking, is_taking, noted, numbered_slots}
@@ -33,7 +33,7 @@ pub record Before (a : ℕ) (s : Shared) (k : Next) (r : Running) : Type 0 where
   pub wide : length s.owners ≡ length s.cells
   pub deferred : AllByRecursion (IsOfSlot (length s.owners)) s.book.deferred
 
-pub new_slots : (s : Shared) (number : Option ℕ) (looked : Looked) (r : Running) → length s.owners ≡ length s.cells
+pub new_slots : (s : Shared) (number : Option ℕ) (looked : LookupResult) (r : Running) → length s.owners ≡ length s.cells
     → AreSlots (length s.owners) (slots_of s number looked r.call)
 new_slots s number looked r e = subst (λ (n : ℕ). AreSlots n (slots_of s number looked r.call)) (sym e) (slots_are (length s.cells) _)
 
@@ -98,7 +98,7 @@ number_locks a (ino ∷ numbers) s h r b = (
 )
 
 back_locks : (a : ℕ) (number : Option ℕ) (s : Shared) (h : HandState) → Holds s a [] false
-    → LocksLeft a s (back_work number s h).shared × Holds (back_work number s h).shared a [] false
+    → LocksLeft a s (return_number_work number s h).shared × Holds (return_number_work number s h).shared a [] false
 back_locks a None s h mine = (same_locks a s, mine)
 back_locks a (Some ino) s h mine = (as_before a s _ refl refl, record { owners = mine.owners; holder = mine.holder })
 
@@ -241,9 +241,9 @@ module _ (a : ℕ) (granted : Bool) (s : Shared) (h : HandState) (r : Running) w
         (record { owners = b.mine.owners; holder = b.mine.holder }) b.are) refl,
     λ n is last. ends_locks (as_before a s _ refl refl) (record { owners = b.mine.owners; holder = b.mine.holder }) b.are,
   )
-  ways (TakePages asked) block b = (
-    any_takes Goes Tells block a s h r (TakePages asked) (λ n next is.
-        taking_holds a s _ (work (TakePages asked) block a s h r).hand (record r { wanted = n }) next is (as_before a s _ refl refl)
+  ways (TakeLogPages asked) block b = (
+    any_takes Goes Tells block a s h r (TakeLogPages asked) (λ n next is.
+        taking_holds a s _ (work (TakeLogPages asked) block a s h r).hand (record r { wanted = n }) next is (as_before a s _ refl refl)
         (record { owners = b.mine.owners; holder = b.mine.holder }) b.are) refl,
     λ n is last. ends_locks (as_before a s _ refl refl) (record { owners = b.mine.owners; holder = b.mine.holder }) b.are,
   )
@@ -282,7 +282,7 @@ module _ (a : ℕ) (granted : Bool) (s : Shared) (h : HandState) (r : Running) w
             (drop_all (place + 1) r.slots (ltb-false (place + 1) (length r.slots) past)) mine) are,
       )
   ways (Give cpu) block b = rests_locks (as_before a s _ refl refl) (record { owners = b.mine.owners; holder = b.mine.holder }) b.are
-  ways Back block b = let left = back_locks a h.ino s h b.mine in lasts_locks left.0 left.1
+  ways ReturnNumber block b = let left = back_locks a h.ino s h b.mine in lasts_locks left.0 left.1
   ways Visit block b = (
     λ fault free by. none_held b.inside b.mine b.are,
     λ free passed lacks. none_held b.inside b.mine b.are,

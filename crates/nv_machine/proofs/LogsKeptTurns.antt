@@ -19,7 +19,7 @@ use Rattle.nv_machine.specs.PlainRun.{Commits, Nothing, deed, keeps_nodes}
 use Rattle.nv_machine.specs.Reads.{copies, has_last_page, slot_at, written_slots}
 use Rattle.nv_machine.specs.Sequence.{beginning, locking, looking}
 use Rattle.nv_machine.specs.Step.{ending_at, is_numbered, kind_turn, made_in, same_looked}
-use Rattle.nv_machine.specs.World.{Append, Back, Check, Close, Ending, Ends, Enter, Give, HandState, Leave, Lock, LockPicked, Look, Moves, Next, Number, Open, Overtaken, Publish, Ready, Refuses, Release, Retire, Running, Shared, Show, MaintenanceStep, Maintenance, TakeBlocks, TakePages, Turn, Unlock, Visit, Waits, cell_at, go_to, no_cell, owner_at, with_book, LockCleaned, Judge, Fresh, Unlink, Compact, with_cell}
+use Rattle.nv_machine.specs.World.{Append, ReturnNumber, Check, Close, Ending, Ends, Enter, Give, HandState, Leave, Lock, LockPicked, Look, Moves, Next, Number, Open, Overtaken, Publish, Ready, Refuses, Release, Retire, Running, Shared, Show, MaintenanceStep, Maintenance, TakeBlocks, TakeLogPages, Turn, Unlock, Visit, Waits, cell_at, go_to, no_cell, owner_at, with_book, LockCleaned, Judge, Fresh, Unlink, Compact, with_cell}
 use Rattle.nv_machine.proofs.LogsKeptByCommits.{OnKept, append_kept, close_kept, knows_appending, open_kept, publish_kept, retire_kept}
 use Rattle.nv_machine.proofs.UnlentSteps.{IsBeside, aside, is_aside}
 use Rattle.nv_machine.proofs.CallKnowledge.{KnownBy, OnKnows, closes_knows, denied_knows, locking_knows, not_overtaken, number_nothing, passed_check, ready_knows, snapshot_knows, wanted_in_file}
@@ -254,7 +254,7 @@ module _ (block a : ℕ) (granted : Bool) (s : Shared) (h : HandState) (r : Runn
         (λ n q. (st.knows.0, st.knows.1, q)) (λ n q. (st.knows.0, st.knows.1, q)) (λ q. (st.knows.0, st.knows.1, q)),
     λ n is last. denied,
   ) refl
-  knows_turn (TakePages asked) st is = walk_of Knows_ Untold block a s h r (TakePages asked) granted (
+  knows_turn (TakeLogPages asked) st is = walk_of Knows_ Untold block a s h r (TakeLogPages asked) granted (
     record { more = λ n is ask. st.knows; pages = λ n none is. st.knows; ready = λ none is. st.knows },
     λ n is last. denied,
   ) refl
@@ -272,8 +272,8 @@ module _ (block a : ℕ) (granted : Bool) (s : Shared) (h : HandState) (r : Runn
   knows_turn (Give cpu) st is = walk_of Knows_ Untold block a s h r (Give cpu) granted
       (record { give = λ cpu is. tt; back = λ ino none is. tt; lasts = λ none is. record { told = λ full. tt; picks = λ d left drains some. tt } })
       refl
-  knows_turn Back st is =
-      walk_of Knows_ Untold block a s h r Back granted (record { told = λ full. tt; picks = λ d left drains some. tt }) refl
+  knows_turn ReturnNumber st is =
+      walk_of Knows_ Untold block a s h r ReturnNumber granted (record { told = λ full. tt; picks = λ d left drains some. tt }) refl
   knows_turn Visit st is = walk_of Knows_ Untold block a s h r Visit granted
       (λ fault free by. denied, λ free passed lacks. denied, λ free passed. tt) refl
   knows_turn (Maintenance step) st is = snapshot_knows block _ step a granted s h r

@@ -8,13 +8,13 @@ use Rattle.nv_calls.specs.AllCalls.{early, effect, looked, refusal}
 use Rattle.nv_calls.specs.Plain.{same_handle}
 use Rattle.nv_calls.specs.declared.answer.Answer.{Answer}
 use Rattle.nv_calls.specs.declared.call.Call.{Call}
-use Rattle.nv_calls.specs.declared.looked.Looked.{Looked}
+use Rattle.nv_calls.specs.declared.looked.LookupResult.{LookupResult}
 use Rattle.nv_entry.specs.declared.node.NodeCopy.{NodeCopy}
 use Rattle.nv_machine.specs.Reads.{copies, written_slots}
 use Rattle.nv_machine.specs.Sequence.{Beginning, Locks, Looks, beginning, begun, directories, locking, looking, nothing_looked, sequel}
 use Rattle.nv_machine.specs.Starts.{AreIdle}
 use Rattle.nv_machine.specs.Step.{after, ending_at, is_numbered, kind_turn, made_in, same_looked}
-use Rattle.nv_machine.specs.World.{Actor, Append, Check, Close, Ending, Enter, Event, HandState, Lock, Look, Next, Number, Open, Overtaken, Publish, Ready, Refuses, Retire, Running, Shared, Maintenance, TakeBlocks, TakePages, World, actor_at, go_to}
+use Rattle.nv_machine.specs.World.{Actor, Append, Check, Close, Ending, Enter, Event, HandState, Lock, Look, Next, Number, Open, Overtaken, Publish, Ready, Refuses, Retire, Running, Shared, Maintenance, TakeBlocks, TakeLogPages, World, actor_at, go_to}
 use Rattle.nv_machine.proofs.RefusalCauses.{CheckCause, check_told}
 use Rattle.nv_machine.proofs.OverEvents.{Keeps, each, steady}
 use Rattle.nv_machine.proofs.LoopSteps.{Commits, appending_any, locking_any, publishing_any, retiring_any}
@@ -126,14 +126,14 @@ closes s h r e has names = record {
 }
 
 -- where nothing was found and nothing is, that is the same
-not_alike : (before : Looked) → before ≡ nothing_looked → same_looked nothing_looked before ≡ false → ⊥
+not_alike : (before : LookupResult) → before ≡ nothing_looked → same_looked nothing_looked before ≡ false → ⊥
 not_alike before none e = true≢false (sym (ap (same_looked nothing_looked) none) ∙ e)
 
 some_dirs : (from to : Handle) (b : Bool) → 0 < length (if b then from ∷ [] else from ∷ to ∷ [])
 some_dirs from to true = omega arith
 some_dirs from to false = omega arith
 
-alike : (nodes : Handle → Option NodeCopy) (c : Call) (before : Looked) → (directories c ≡ [] → before ≡ nothing_looked)
+alike : (nodes : Handle → Option NodeCopy) (c : Call) (before : LookupResult) → (directories c ≡ [] → before ≡ nothing_looked)
     → same_looked (looked nodes c) before ≡ false → 0 < length (directories c)
 alike nodes (call.Unlink dir name) before none e = omega arith
 alike nodes (call.Rmdir dir name) before none e = omega arith
@@ -172,7 +172,7 @@ takes k block s h r has taker n next is = go k taker where
   go : (k : Next) → is_taker k ≡ true → HasLooks (record (noted k block s h r) { wanted = n; next = next })
   go Check taker = record { place = place; nothing = has.nothing; names = has.names }
   go (TakeBlocks asked) taker = record { place = place; nothing = has.nothing; names = has.names }
-  go (TakePages asked) taker = record { place = place; nothing = has.nothing; names = has.names }
+  go (TakeLogPages asked) taker = record { place = place; nothing = has.nothing; names = has.names }
   go other taker = absurd (false≢true taker)
 
 kind_looks : (k : Next) (block a : ℕ) (granted : Bool) (s : Shared) (h : HandState) (r : Running) → HasLooks r → r.next ≡ k

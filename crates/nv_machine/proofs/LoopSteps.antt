@@ -3,7 +3,7 @@ use Rattle.std.proofs.Common.{Bool, List, false, if◌then◌else◌, length, na
 use Rattle.std.proofs.lemmas.Bool.{false≢true}
 use Rattle.nv_machine.specs.Reads.{written_slots}
 use Rattle.nv_machine.specs.Sequence.{appending, closing, directories, locking, looking, opening, publishing, retiring, sequel}
-use Rattle.nv_machine.specs.World.{Append, Back, Check, Close, Enter, Give, Leave, Lock, Look, Next, Number, Open, Publish, Ready, Retire, Running, Maintenance, TakeBlocks, TakePages, Unlock, Visit}
+use Rattle.nv_machine.specs.World.{Append, ReturnNumber, Check, Close, Enter, Give, Leave, Lock, Look, Next, Number, Open, Publish, Ready, Retire, Running, Maintenance, TakeBlocks, TakeLogPages, Unlock, Visit}
 
 -- what holds of each step of a commit
 pub record Commits (P : Next → Type 0) : Type 0 where
@@ -56,13 +56,13 @@ module _ (P : Next → Type 0) (all : Commits P) where
 abbrev pub goes_on : Next → Bool
 goes_on Check = false
 goes_on (TakeBlocks asked) = false
-goes_on (TakePages asked) = false
+goes_on (TakeLogPages asked) = false
 goes_on Visit = false
 goes_on (Maintenance step) = false
 goes_on Leave = false
 goes_on (Unlock place) = false
 goes_on (Give cpu) = false
-goes_on Back = false
+goes_on ReturnNumber = false
 goes_on other = true
 
 -- what holds of each step that may come next

@@ -6,7 +6,7 @@ use Rattle.std.proofs.lemmas.Grind.{get_or-set_at}
 use Rattle.nv_machine.specs.Exact.{HasFirst, HasGiven, Leaves, TakesData, TakesLogPages}
 use Rattle.nv_machine.specs.Kinds.{asked_list, less_list}
 use Rattle.nv_machine.specs.Step.{kind_turn}
-use Rattle.nv_machine.specs.World.{Ends, HandState, Moves, Number, Running, Shared, TakeBlocks, TakePages, Turn, Waits, list_at, no_list}
+use Rattle.nv_machine.specs.World.{Ends, HandState, Moves, Number, Running, Shared, TakeBlocks, TakeLogPages, Turn, Waits, list_at, no_list}
 use Rattle.nv_machine.proofs.WorkKeeps.{AfterTurn, work_keeps}
 use Rattle.nv_machine.proofs.StepWork.{number_work}
 
@@ -43,7 +43,7 @@ module _ (asked block actor : ℕ) (granted : Bool) (s : Shared) (h : HandState)
       (work_keeps (TakesData s cpu h r) (TakeBlocks asked) block actor granted s h r refl refl (record { hand = refl; list = given }))
 
   pub pages_taken : Leaves (TakesLogPages s (asked_list (length s.lists) actor asked) h r)
-      (kind_turn (TakePages asked) block actor granted s h r)
+      (kind_turn (TakeLogPages asked) block actor granted s h r)
   pages_taken =
-      leaves (TakesLogPages s cpu h r) (kind_turn (TakePages asked) block actor granted s h r)
-      (work_keeps (TakesLogPages s cpu h r) (TakePages asked) block actor granted s h r refl refl (record { hand = refl; list = given }))
+      leaves (TakesLogPages s cpu h r) (kind_turn (TakeLogPages asked) block actor granted s h r)
+      (work_keeps (TakesLogPages s cpu h r) (TakeLogPages asked) block actor granted s h r refl refl (record { hand = refl; list = given }))

@@ -5,7 +5,7 @@ use Rattle.nv_base.specs.declared.fault.Fault.{Fault}
 use Rattle.nv_calls.specs.declared.answer.Answer.{Answer}
 use Rattle.nv_machine.specs.PlainRun.{Nothing, Maintains, done_on, keeps_nodes}
 use Rattle.nv_machine.specs.Maintenance.{maintenance_turn}
-use Rattle.nv_machine.specs.World.{Answers, Back, Drains, Ending, Ends, Give, HandState, Moves, Next, Overtaken, Refuses, Running, Shared, MaintenanceStep, Maintenance, Turn, Unlock, Unpin, Waits}
+use Rattle.nv_machine.specs.World.{Answers, ReturnNumber, Drains, Ending, Ends, Give, HandState, Moves, Next, Overtaken, Refuses, Running, Shared, MaintenanceStep, Maintenance, Turn, Unlock, Unpin, Waits}
 use Rattle.nv_machine.proofs.StepWays.{After, Closes, any_ends, is_last, by_last}
 use Rattle.nv_machine.proofs.MaintenanceWalk.{maintenance_walk, ends_apart}
 
@@ -13,7 +13,7 @@ abbrev pub is_quiet : Next → Bool
 is_quiet (Maintenance step) = true
 is_quiet (Unlock place) = true
 is_quiet (Give cpu) = true
-is_quiet Back = true
+is_quiet ReturnNumber = true
 is_quiet other = false
 
 -- the unlock is that of a call whose names were not bound anew

@@ -11,8 +11,8 @@ use Rattle.nv_calls.specs.Locked.{made_by}
 use Rattle.nv_calls.specs.Plain.{PlainNode, node_in, same_handle}
 use Rattle.nv_calls.specs.Slots.{IsFree, entries_of, items_for, place_in}
 use Rattle.nv_calls.specs.declared.call.Call.{Call}
-use Rattle.nv_calls.specs.declared.plan.Planned.{Planned}
-use Rattle.nv_calls.specs.declared.taken.Taken.{Taken}
+use Rattle.nv_calls.specs.declared.plan.InodePlan.{InodePlan}
+use Rattle.nv_calls.specs.declared.allocation.Allocation.{Allocation}
 use Rattle.nv_entry.specs.Tree.{root}
 use Rattle.nv_entry.specs.declared.item.Entry.{Entry}
 use Rattle.nv_entry.specs.declared.item.Item.{Item}
@@ -53,7 +53,7 @@ own_items : (b : Bool) (items : List Item) → b ≡ true → 0 < length items �
 own_items true items e some = some
 own_items false items e some = cc
 
-made_items : (block : ℕ) (nodes : Handle → Option NodeCopy) (taken : Taken) (c : Call) → makes_inode (beginning c) ≡ true
+made_items : (block : ℕ) (nodes : Handle → Option NodeCopy) (taken : Allocation) (c : Call) → makes_inode (beginning c) ≡ true
     → 0 < length (items_for (plan block nodes taken c) taken.made.ino)
 made_items block nodes taken (call.Create dir name mode) e =
     begin_items (dir.ino == taken.made.ino) _ _ (omega arith)
@@ -87,7 +87,7 @@ module _ (g : GeometryNumbers) (w : World) (known : IsKnown g w) (actor : ℕ) (
   items : 0 < length (items_for r.plan r.made.ino)
   items =
       let now = drawn_now g w known actor granted r is there e in
-      subst (λ (p : List Planned). 0 < length (items_for p r.made.ino)) (sym now.drawn.plan)
+      subst (λ (p : List InodePlan). 0 < length (items_for p r.made.ino)) (sym now.drawn.plan)
       (made_items w.numbers.block (node_in (settled_nodes w.shared))
       (taken_of r.made (present_in w.numbers.block (settled_slots w.shared) r.call) now.fresh) r.call makes)
 

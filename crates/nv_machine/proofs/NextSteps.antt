@@ -7,7 +7,7 @@ use Rattle.nv_machine.specs.Kinds.{end_turn}
 use Rattle.nv_machine.specs.Sequence.{sequel}
 use Rattle.nv_machine.specs.Maintenance.{maintenance_turn}
 use Rattle.nv_machine.specs.Step.{ending_at, kind_turn}
-use Rattle.nv_machine.specs.World.{Back, Check, Draining, Ending, Enter, Give, HandState, Leave, Lock, Look, Next, Pick, Ready, Running, Shared, Show, Showing, MaintenanceStep, Maintenance, TakeBlocks, TakePages, Turn, Unlock, Unpin, Visit, Judge, Fresh, Unlink, Compact, cell_at, go_to}
+use Rattle.nv_machine.specs.World.{ReturnNumber, Check, Draining, Ending, Enter, Give, HandState, Leave, Lock, Look, Next, Pick, Ready, Running, Shared, Show, Showing, MaintenanceStep, Maintenance, TakeBlocks, TakeLogPages, Turn, Unlock, Unpin, Visit, Judge, Fresh, Unlink, Compact, cell_at, go_to}
 use Rattle.nv_machine.proofs.LoopSteps.{goes_on, is_on_files, sequel_on}
 use Rattle.nv_machine.proofs.StepWays.{After, Closes, EndsBy, Going, IsClear, IsClearOn, Takes, Telling, any_ends, end_goes, is_last, is_taker, is_taking, noted, by_last, by_taking}
 use Rattle.nv_machine.proofs.StepWalk.{WaysOf, Works, last_walk, walk, walk_of}
@@ -99,7 +99,7 @@ OnKnown X t = After (KnowsNext X) Untold t
 pub record IsQuiet (X : Known) : Type 0 where
   pub unlock : (place : ℕ) (s : Shared) (h : HandState) (r : Running) → X (Unlock place) s h r
   pub give : (cpu : ℕ) (s : Shared) (h : HandState) (r : Running) → X (Give cpu) s h r
-  pub back : (s : Shared) (h : HandState) (r : Running) → X Back s h r
+  pub back : (s : Shared) (h : HandState) (r : Running) → X ReturnNumber s h r
   pub look : (s : Shared) (h : HandState) (r : Running) → X (Look 0) s h r
   pub steps : (step : MaintenanceStep) → is_cleaning step ≡ false
       → (s : Shared) (h : HandState) (r : Running) → X (Maintenance step) s h r
@@ -108,12 +108,12 @@ pub record IsQuiet (X : Known) : Type 0 where
 abbrev pub QuietWays : Known → Next → ℕ → ℕ → Shared → HandState → Running → Type 0
 QuietWays X Check block a s h r = ending_at block s h r ≡ None → Takes (KnowsNext X) Check block a s h r
 QuietWays X (TakeBlocks asked) block a s h r = Takes (KnowsNext X) (TakeBlocks asked) block a s h r
-QuietWays X (TakePages asked) block a s h r = Takes (KnowsNext X) (TakePages asked) block a s h r
+QuietWays X (TakeLogPages asked) block a s h r = Takes (KnowsNext X) (TakeLogPages asked) block a s h r
 QuietWays X Enter block a s h r = IsClear Enter s r → Works (KnowsNext X) Enter block a s h r
 QuietWays X Leave block a s h r = Unit {0}
 QuietWays X (Unlock place) block a s h r = Unit {0}
 QuietWays X (Give cpu) block a s h r = Unit {0}
-QuietWays X Back block a s h r = Unit {0}
+QuietWays X ReturnNumber block a s h r = Unit {0}
 QuietWays X Visit block a s h r = Unit {0}
 QuietWays X (Maintenance (Judge manner slot)) block a s h r =
     (ino : ℕ) → X (Maintenance (Unlink ino)) s h (go_to (Maintenance (Unlink ino)) r)
@@ -178,13 +178,13 @@ module _ (X : Known) (quiet : IsQuiet X) where
     go (Lock place) w = walks (Lock place) (λ free. w) refl
     go Check w = walks Check (λ e by. quiet_ends, λ none lacks. quiet_ends, w) refl
     go (TakeBlocks asked) w = walks (TakeBlocks asked) (w, λ n is last. quiet_ends) refl
-    go (TakePages asked) w = walks (TakePages asked) (w, λ n is last. quiet_ends) refl
+    go (TakeLogPages asked) w = walks (TakeLogPages asked) (w, λ n is last. quiet_ends) refl
     go Ready w = walks Ready (λ lacks. quiet_ends, w) refl
     go Enter w = walks Enter (λ free last. quiet_ends, λ clear lacks. quiet_ends, w) refl
     go Leave w = walks Leave quiet_ends refl
     go (Unlock place) w = last_walk (KnowsNext X) Untold block a s h r (Unlock place) granted refl quiet_closes
     go (Give cpu) w = last_walk (KnowsNext X) Untold block a s h r (Give cpu) granted refl quiet_closes
-    go Back w = last_walk (KnowsNext X) Untold block a s h r Back granted refl quiet_closes
+    go ReturnNumber w = last_walk (KnowsNext X) Untold block a s h r ReturnNumber granted refl quiet_closes
     go Visit w = walks Visit (λ fault free by. quiet_ends, λ free passed lacks. quiet_ends, λ free passed. tt) refl
     go (Maintenance step) w = quiet_step step block a granted s h r w
     go other w = walks other w refl

@@ -16,7 +16,7 @@ use Rattle.nv_machine.specs.Reads.{slot_at, written_slots}
 use Rattle.nv_machine.specs.PlainRun.{actor_of}
 use Rattle.nv_machine.specs.Starts.{IsStart}
 use Rattle.nv_machine.specs.Step.{Step, after, kind_turn, step, turned}
-use Rattle.nv_machine.specs.World.{Actor, Answers, Back, Ending, Ends, Event, Give, Go, HandState, Leave, Moves, Next, Overtaken, Retire, Running, Shared, Start, Turn, Unlock, Waits, World, actor_at, idle}
+use Rattle.nv_machine.specs.World.{Actor, Answers, ReturnNumber, Ending, Ends, Event, Give, Go, HandState, Leave, Moves, Next, Overtaken, Retire, Running, Shared, Start, Turn, Unlock, Waits, World, actor_at, idle}
 use Rattle.nv_machine.proofs.EveryWorld.{all_known}
 use Rattle.nv_machine.proofs.OverEvents.{others_stay, runs_inside}
 use Rattle.nv_machine.proofs.FitsEvents.{IsKnown}
@@ -26,7 +26,7 @@ use Rattle.nv_machine.proofs.Lists.{self}
 use Rattle.nv_machine.proofs.PoolCommits.{erased_number}
 use Rattle.nv_machine.proofs.PoolRuns.{standing}
 use Rattle.nv_machine.proofs.PoolTurns.{Standing}
-use Rattle.nv_machine.proofs.StepWork.{back_work}
+use Rattle.nv_machine.proofs.StepWork.{return_number_work}
 use Rattle.nv_machine.proofs.StepWays.{After, Going, Overs, Rests, Telling, is_overtaken}
 use Rattle.nv_machine.proofs.StepWalk.{walk_of}
 
@@ -71,9 +71,9 @@ put_has ino numbers = go (has (put_by (λ n. n) ino numbers) ino) refl where
   go false e = absurd (omega (arith, many, not_counted ino (put_by (λ n. n) ino numbers) e))
 
 back_has : (ino : ℕ) (number : Option ℕ) (s : Shared) (h : HandState) → number ≡ Some ino
-    → has (back_work number s h).shared.pool.numbers ino ≡ true
+    → has (return_number_work number s h).shared.pool.numbers ino ≡ true
 back_has ino number s h is =
-    subst (λ (o : Option ℕ). has (back_work o s h).shared.pool.numbers ino ≡ true) (sym is) (put_has ino s.pool.numbers)
+    subst (λ (o : Option ℕ). has (return_number_work o s h).shared.pool.numbers ino ≡ true) (sym is) (put_has ino s.pool.numbers)
 
 module _ (g : GeometryNumbers) (block a ino : ℕ) (granted : Bool) (s : Shared) (h : HandState) (r : Running)
     (is : h.ino ≡ Some ino) where
@@ -110,9 +110,9 @@ module _ (g : GeometryNumbers) (block a ino : ℕ) (granted : Bool) (s : Shared)
     λ past. overs_way is (λ over. none-some ino (sym (ap (λ (x : HandState). x.ino) (st.hand.1 over).empty) ∙ is)),
   ) refl
   late_way (Give cpu) late st going = walk_of (WayGoes ino) (WayTold ino) block a s h r (Give cpu) granted (rests_way is) refl
-  late_way Back late st going =
+  late_way ReturnNumber late st going =
       let there = back_has ino h.ino s h is in
-      walk_of (WayGoes ino) (WayTold ino) block a s h r Back granted
+      walk_of (WayGoes ino) (WayTold ino) block a s h r ReturnNumber granted
       (record { told = λ full. there; picks = λ d left drains some. inr (refl, there) }) refl
   late_way other late st going = absurd (false≢true late)
 

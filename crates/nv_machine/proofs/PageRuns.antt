@@ -10,7 +10,7 @@ use Rattle.nv_base.specs.declared.numbers.Handle.{Handle}
 use Rattle.nv_calls.specs.AllCalls.{plan}
 use Rattle.nv_calls.specs.Plain.{node_in}
 use Rattle.nv_calls.specs.Retiring.{is_erased}
-use Rattle.nv_calls.specs.Slots.{Slot, entries_of, items_for, place_in}
+use Rattle.nv_calls.specs.Slots.{InodeSlot, entries_of, items_for, place_in}
 use Rattle.nv_cell.specs.Cell.{CellState, IsCell, log_of}
 use Rattle.nv_entry.specs.Log.{IsLog}
 use Rattle.nv_entry.specs.declared.item.Item.{Item}
@@ -25,7 +25,7 @@ use Rattle.nv_machine.specs.Reads.{is_written, node_of, pages_needed, pages_want
 use Rattle.nv_machine.specs.Sequence.{appending, locking, looking}
 use Rattle.nv_machine.specs.Step.{kind_turn}
 use Rattle.nv_machine.specs.Wanted.{log_pages_wanted}
-use Rattle.nv_machine.specs.World.{Append, Check, Close, Enter, HandState, Lock, Look, Next, Number, Open, Publish, Ready, Retire, Running, Shared, TakeBlocks, TakePages, cell_at, go_to, list_at, no_cell, owner_at, with_cell, Maintenance, Fresh, Compact, Judge}
+use Rattle.nv_machine.specs.World.{Append, Check, Close, Enter, HandState, Lock, Look, Next, Number, Open, Publish, Ready, Retire, Running, Shared, TakeBlocks, TakeLogPages, cell_at, go_to, list_at, no_cell, owner_at, with_cell, Maintenance, Fresh, Compact, Judge}
 use Rattle.nv_machine.proofs.FitsKinds.{logs_of}
 use Rattle.nv_machine.proofs.FitsOwn.{last_page, now, same_then}
 use Rattle.nv_machine.proofs.FitsRuns.{present_in, taken_of}
@@ -107,7 +107,7 @@ module _ (g : GeometryNumbers) (a : ℕ) (granted : Bool) (s : Shared) (h : Hand
     pages = λ n enough is. omega (arith, has_them, is);
     ready = λ enough is. has_them ∙ sym is;
   }
-  ways (TakePages asked) at b has_them =
+  ways (TakeLogPages asked) at b has_them =
       let sum = take_sum h.pages (list_at s (asked_list (length s.lists) a asked)).blocks r.wanted in
       record {
         more = λ n is ask. omega (arith, sum, is, has_them);
@@ -208,7 +208,7 @@ module _ (block b : ℕ) (s t : Shared) (h : HandState) (r : Running) (many : le
   same_nows = record {
     many = many;
     nodes = λ handle is. ap (λ (c : CellState). cond (handle.generation == c.generation) (node_of c) None) (cell_same handle is);
-    slots = λ handle is. ap (λ (c : CellState). let x : Slot = record { generation = c.generation; log = log_of c } in x)
+    slots = λ handle is. ap (λ (c : CellState). let x : InodeSlot = record { generation = c.generation; log = log_of c } in x)
         (cell_same handle is);
   }
 
@@ -238,8 +238,8 @@ pub their_pages : (k : Next) (block b : ℕ) (s t : Shared) (h : HandState) (r :
     → (held_at k r.slots ≡ r.slots → (ino : ℕ) → has r.slots ino ≡ true → cell_at t ino ≡ cell_at s ino)
     → (held_at k r.slots ≡ r.slots → (ino : ℕ) → has r.slots ino ≡ true → owner_at s ino ≡ Some b)
     → IsInside k r → HasGrown k s b r → FitsAt k block s h r → HasLogPages k block s h r → HasLogPages k block t h r
-their_pages (TakePages asked) block b s t h r many own mine inside grown fits has_them =
-    has_them ∙ sym (wanted_same block b s t h r many (own refl) (TakePages asked) (λ ino. refl) (λ ino. refl) grown (mine refl) fits.0)
+their_pages (TakeLogPages asked) block b s t h r many own mine inside grown fits has_them =
+    has_them ∙ sym (wanted_same block b s t h r many (own refl) (TakeLogPages asked) (λ ino. refl) (λ ino. refl) grown (mine refl) fits.0)
 their_pages Ready block b s t h r many own mine inside grown fits has_them =
     has_them ∙ sym (wanted_same block b s t h r many (own refl) Ready (λ ino. refl) (λ ino. refl) grown (mine refl) fits.0)
 their_pages Enter block b s t h r many own mine inside grown fits has_them = has_them ∙ sym (same_want s t r.plan r.slots (own refl))

@@ -4,7 +4,7 @@ use Rattle.std.proofs.lemmas.Bool.{ltb-false, true≢false}
 use Rattle.std.proofs.lemmas.List.Sums.{sum_by-cons}
 use Rattle.nv_alloc.specs.Numbers.{has}
 use Rattle.nv_calls.specs.Slots.{items_for}
-use Rattle.nv_calls.specs.declared.plan.Planned.{Planned}
+use Rattle.nv_calls.specs.declared.plan.InodePlan.{InodePlan}
 use Rattle.nv_cell.specs.Cell.{CellState}
 use Rattle.nv_log.specs.Chain.{pages_for}
 use Rattle.nv_machine.specs.Pages.{HasLogPages}
@@ -18,12 +18,12 @@ use Rattle.nv_machine.proofs.MaintenanceWalk.{is_cleaning}
 
 -- ---- how many pages are wanted
 
-unwritten : (s : Shared) (plan : List Planned) (ino : ℕ) → is_written plan ino ≡ false → pages_needed s plan ino ≡ 0
+unwritten : (s : Shared) (plan : List InodePlan) (ino : ℕ) → is_written plan ino ≡ false → pages_needed s plan ino ≡ 0
 unwritten s plan ino e =
     let none : length (items_for plan ino) ≡ 0 = (let few = ltb-false 0 (length (items_for plan ino)) e in omega (arith, few)) in
     ap (λ (n : ℕ). pages_for (cell_at s ino).chain n) none
 
-pub written_want : (s : Shared) (plan : List Planned) (slots : List ℕ)
+pub written_want : (s : Shared) (plan : List InodePlan) (slots : List ℕ)
     → pages_wanted s (filter (is_written plan) slots) plan ≡ pages_wanted s slots plan
 written_want s plan [] = refl
 written_want s plan (ino ∷ slots) =
@@ -37,13 +37,13 @@ written_want s plan (ino ∷ slots) =
       go false e more = let none = unwritten s plan ino e in omega (arith, none, more)
 
 -- the first of those from a place on
-pub next_want : (s : Shared) (plan : List Planned) (place : ℕ) (slots : List ℕ) → place < length slots
+pub next_want : (s : Shared) (plan : List InodePlan) (place : ℕ) (slots : List ℕ) → place < length slots
     → pages_wanted s (drop place slots) plan ≡ pages_needed s plan (slot_at slots place) + pages_wanted s (drop (suc place) slots) plan
 next_want s plan place [] lt = absurd (omega (arith, lt))
 next_want s plan zero (ino ∷ slots) lt = sum_by-cons (pages_needed s plan) ino slots
 next_want s plan (suc place) (ino ∷ slots) lt = next_want s plan place slots (omega (arith, lt))
 
-pub none_want : (s : Shared) (plan : List Planned) (place : ℕ) (slots : List ℕ) → length slots ≤ place
+pub none_want : (s : Shared) (plan : List InodePlan) (place : ℕ) (slots : List ℕ) → length slots ≤ place
     → pages_wanted s (drop place slots) plan ≡ 0
 none_want s plan zero [] le = refl
 none_want s plan (suc place) [] le = refl
@@ -51,7 +51,7 @@ none_want s plan zero (ino ∷ slots) le = absurd (omega (arith, le))
 none_want s plan (suc place) (ino ∷ slots) le = none_want s plan place slots (omega (arith, le))
 
 -- where the cells of these slots are the same
-pub same_want : (s t : Shared) (plan : List Planned) (slots : List ℕ)
+pub same_want : (s t : Shared) (plan : List InodePlan) (slots : List ℕ)
     → ((ino : ℕ) → has slots ino ≡ true → cell_at t ino ≡ cell_at s ino) → pages_wanted t slots plan ≡ pages_wanted s slots plan
 same_want s t plan [] same = refl
 same_want s t plan (ino ∷ slots) same =

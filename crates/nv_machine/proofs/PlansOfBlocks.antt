@@ -12,14 +12,14 @@ use Rattle.nv_calls.specs.calls.Unlink.{leave_plan}
 use Rattle.nv_calls.specs.Plain.{same_handle}
 use Rattle.nv_calls.specs.Plan.{plan_blocks, run_if, runs_of, stretches, with_number}
 use Rattle.nv_calls.specs.declared.call.Call.{Call}
-use Rattle.nv_calls.specs.declared.plan.Planned.{Planned}
-use Rattle.nv_calls.specs.declared.taken.Taken.{Taken}
+use Rattle.nv_calls.specs.declared.plan.InodePlan.{InodePlan}
+use Rattle.nv_calls.specs.declared.allocation.Allocation.{Allocation}
 use Rattle.nv_calls.proofs.Keeps.{keeps_to_its}
 use Rattle.nv_cell.specs.Append.{IsWithinFile}
 use Rattle.nv_entry.specs.Sound.{blocks_of, write_items}
 use Rattle.nv_entry.specs.declared.item.Item.{Item}
 use Rattle.nv_entry.specs.declared.item.Item.TheVariants.{SetSize}
-use Rattle.nv_entry.specs.declared.item.Run.{Run}
+use Rattle.nv_entry.specs.declared.item.BlockRun.{BlockRun}
 use Rattle.nv_entry.specs.declared.node.NodeCopy.{NodeCopy}
 use Rattle.nv_machine.specs.Kept.{IsInFile, IsPlanFor}
 use Rattle.nv_calls.specs.declared.call.Call.TheVariants as call
@@ -56,7 +56,7 @@ pub all_end : (most : ℕ) (numbers : List ℕ) → AllByRecursion (λ n. n < mo
 all_end most [] all = tt
 all_end most (n ∷ numbers) all = more_end most n (stretches numbers) all.0 (all_end most numbers all.1)
 
-one_run : (start len : ℕ) (rest : List Run) (b : Bool) (is : nat_lt (start + len) (2 ^ 64) ≡ b) → b ≡ true
+one_run : (start len : ℕ) (rest : List BlockRun) (b : Bool) (is : nat_lt (start + len) (2 ^ 64) ≡ b) → b ≡ true
     → blocks_of (run_if start len b is ++ rest) ≡ range_with_len start len ++ blocks_of rest
 one_run start len rest true is e = refl
 one_run start len rest false is e = cc
@@ -83,10 +83,10 @@ length_numbers (b ∷ bs) = ap suc (length_numbers bs)
 
 -- ---- pages of a file
 
-abbrev AllWithin : List Planned → Type 0
-AllWithin plan = AllByRecursion (λ (p : Planned). AllByRecursion IsWithinFile p.items) plan
+abbrev AllWithin : List InodePlan → Type 0
+AllWithin plan = AllByRecursion (λ (p : InodePlan). AllByRecursion IsWithinFile p.items) plan
 
-writes_within : (first size : ℕ) (runs : List Run) (tail : List Item) → first + length (blocks_of runs) ≤ 65536
+writes_within : (first size : ℕ) (runs : List BlockRun) (tail : List Item) → first + length (blocks_of runs) ≤ 65536
     → AllByRecursion IsWithinFile tail → AllByRecursion IsWithinFile (write_items first runs size ++ tail)
 writes_within first size [] tail le all = all
 writes_within first size (run ∷ runs) tail le all =
@@ -111,7 +111,7 @@ bound_within false same from old to new None other e = tt
 bound_within false true from old to new (Some moved) other e = rw e ((tt, (tt, tt)), replaced_within other)
 bound_within false false from old to new (Some moved) other e = rw e ((tt, tt), ((tt, tt), replaced_within other))
 
-module _ (block : ℕ) (nodes : Handle → Option NodeCopy) (taken : Taken) where
+module _ (block : ℕ) (nodes : Handle → Option NodeCopy) (taken : Allocation) where
   pub all_within : (c : Call) → IsInFile block c (length (blocks_of taken.runs)) → AllWithin (plan block nodes taken c)
   all_within (call.Write file offset (byte ∷ rest)) h =
       (subst (AllByRecursion IsWithinFile) (append-nil _) (writes_within (offset / block) _ taken.runs [] (h (omega arith)) tt), tt)

@@ -16,7 +16,7 @@ use Rattle.nv_calls.specs.calls.Rmdir.{rmdir_late}
 use Rattle.nv_calls.specs.calls.Unlink.{unlink_late}
 use Rattle.nv_calls.specs.declared.call.Call.{Call}
 use Rattle.nv_calls.specs.declared.call.Call.TheVariants as call
-use Rattle.nv_calls.specs.declared.looked.Looked.{Looked}
+use Rattle.nv_calls.specs.declared.looked.LookupResult.{LookupResult}
 use Rattle.nv_calls.proofs.Passed.{IsThere, both_passed, directory_passed, file_passed, if_passed, look_passed, node_passed, there}
 use Rattle.nv_cell.specs.Cell.{log_of}
 use Rattle.nv_entry.specs.Node.{node_now}
@@ -132,7 +132,7 @@ module _ (s : Shared) where
   both_any (Some a) b (Some c) d first second all =
       ((same_any (Some a) (Some c) first (all.0, tt)).0, same_any b d second all.1)
 
-  pub same_handles : (c : Call) (now before : Looked) → same_looked now before ≡ true → HaveInode s (handles now c)
+  pub same_handles : (c : Call) (now before : LookupResult) → same_looked now before ≡ true → HaveInode s (handles now c)
       → HaveInode s (handles before c)
   same_handles (call.Unlink dir name) now before same all =
       let both = and_parts (same_found now.first before.first) (same_found now.second before.second) same in
@@ -146,7 +146,7 @@ module _ (s : Shared) where
   same_handles other now before same all = all
 
 -- the handles of a call that passes its check have inodes
-pub checked_inodes : (block : ℕ) (s : Shared) (made : Handle) (before : Looked) (c : Call) → refusal block (copies s) c ≡ passes
+pub checked_inodes : (block : ℕ) (s : Shared) (made : Handle) (before : LookupResult) (c : Call) → refusal block (copies s) c ≡ passes
     → 0 < length (effect (copies s) made c) → same_looked (looked (copies s) c) before ≡ true → HaveInode s (handles before c)
 checked_inodes block s made before c passed any same =
     same_handles s c (looked (copies s) c) before same

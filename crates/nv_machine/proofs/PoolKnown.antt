@@ -5,7 +5,7 @@ use Rattle.std.proofs.lemmas.Bool.{false≢true, le-ltb, ltb-false, ltb-true}
 use Rattle.nv_alloc.specs.Numbers.{has}
 use Rattle.nv_base.specs.declared.numbers.Handle.{Handle}
 use Rattle.nv_calls.specs.declared.call.Call.{Call}
-use Rattle.nv_calls.specs.declared.plan.Planned.{Planned}
+use Rattle.nv_calls.specs.declared.plan.InodePlan.{InodePlan}
 use Rattle.nv_cell.specs.Cell.{log_of}
 use Rattle.nv_cell.specs.Readers.{is_gone}
 use Rattle.nv_machine.specs.Hands.{makes_inode}
@@ -13,7 +13,7 @@ use Rattle.nv_machine.specs.Kinds.{entries_for}
 use Rattle.nv_machine.specs.PoolScan.{has_inode}
 use Rattle.nv_machine.specs.Reads.{slots_of, written_slots}
 use Rattle.nv_machine.specs.Sequence.{appending, beginning, closing, locking, looking, opening, publishing, retiring}
-use Rattle.nv_machine.specs.World.{Append, Check, Close, Enter, HandState, Leave, Lock, Next, Open, Publish, Ready, Retire, Running, Shared, TakeBlocks, TakePages, Turn, cell_at, go_to}
+use Rattle.nv_machine.specs.World.{Append, Check, Close, Enter, HandState, Leave, Lock, Next, Open, Publish, Ready, Retire, Running, Shared, TakeBlocks, TakeLogPages, Turn, cell_at, go_to}
 use Rattle.nv_machine.proofs.StepWork.{number_work}
 use Rattle.nv_machine.proofs.Lists.{drop_all, take_all}
 use Rattle.nv_machine.proofs.NextSteps.{IsQuiet, Known, OnKnown}
@@ -44,7 +44,7 @@ pub record IsWritten (n : ℕ) (written : List ℕ) : Type 0 where
   pub own : has written n ≡ true
   pub several : nat_lt 1 (length written) ≡ true
 
-abbrev pub HasPlan : Shared → Option ℕ → List ℕ → List ℕ → List Planned → Type 0
+abbrev pub HasPlan : Shared → Option ℕ → List ℕ → List ℕ → List InodePlan → Type 0
 HasPlan s number slots written plan =
     HaveInodes s number slots × ((n : ℕ) → number ≡ Some n → IsWritten n written) × LeavesOne plan
 
@@ -60,7 +60,7 @@ abbrev pub Sees : Next → Shared → HandState → Running → Type 0
 Sees (Lock place) s h r = r.slots ≡ slots_of s h.ino r.looked r.call
 Sees Check s h r = r.slots ≡ slots_of s h.ino r.looked r.call
 Sees (TakeBlocks asked) s h r = HasTaken s h.ino r.call r.made r.slots
-Sees (TakePages asked) s h r = HasTaken s h.ino r.call r.made r.slots
+Sees (TakeLogPages asked) s h r = HasTaken s h.ino r.call r.made r.slots
 Sees Ready s h r = HasTaken s h.ino r.call r.made r.slots
 Sees Enter s h r = HasPlan s h.ino r.slots (written_slots r) r.plan
 Sees (Append place) s h r = HasPlan s h.ino r.slots (written_slots r) r.plan

@@ -12,8 +12,8 @@ use Rattle.nv_calls.specs.calls.Rename.{bound_plan, move_plan, own_place, replac
 use Rattle.nv_calls.specs.calls.Unlink.{leave_plan}
 use Rattle.nv_calls.specs.declared.call.Call.{Call}
 use Rattle.nv_calls.specs.declared.call.Call.TheVariants as call
-use Rattle.nv_calls.specs.declared.plan.Planned.{Planned}
-use Rattle.nv_calls.specs.declared.taken.Taken.{Taken}
+use Rattle.nv_calls.specs.declared.plan.InodePlan.{InodePlan}
+use Rattle.nv_calls.specs.declared.allocation.Allocation.{Allocation}
 use Rattle.nv_cell.specs.Readers.{is_gone}
 use Rattle.nv_entry.specs.declared.item.Item.{Item}
 use Rattle.nv_entry.specs.declared.node.NodeCopy.{NodeCopy}
@@ -30,17 +30,17 @@ abbrev pub Leaves : List Item → ℕ → ℕ → ℕ → Type 0
 Leaves items commit epoch place = is_gone (entries_of commit epoch place items) ≡ true
 
 -- of a plan one inode leaves at most
-abbrev pub LeavesOne : List Planned → Type 0
+abbrev pub LeavesOne : List InodePlan → Type 0
 LeavesOne plan = (commit epoch p q i j : ℕ) → Leaves (items_for plan i) commit epoch p → Leaves (items_for plan j) commit epoch q → i ≡ j
 
 -- that of a number, if any
-abbrev OnlyLeaves : ℕ → List Planned → Type 0
-OnlyLeaves k plan = AllByRecursion (λ (p : Planned). (commit epoch place : ℕ) → Leaves p.items commit epoch place → p.handle.ino ≡ k) plan
+abbrev OnlyLeaves : ℕ → List InodePlan → Type 0
+OnlyLeaves k plan = AllByRecursion (λ (p : InodePlan). (commit epoch place : ℕ) → Leaves p.items commit epoch place → p.handle.ino ≡ k) plan
 
-abbrev OneLeaves : List Planned → Type 0
+abbrev OneLeaves : List InodePlan → Type 0
 OneLeaves plan = (k : ℕ) × OnlyLeaves k plan
 
-leaving : (k : ℕ) (plan : List Planned) → OnlyLeaves k plan → (commit epoch place i : ℕ) → Leaves (items_for plan i) commit epoch place
+leaving : (k : ℕ) (plan : List InodePlan) → OnlyLeaves k plan → (commit epoch place i : ℕ) → Leaves (items_for plan i) commit epoch place
     → i ≡ k
 leaving k [] only commit epoch place i h = absurd (false≢true h)
 leaving k (p ∷ plan) only commit epoch place i h = go (p.handle.ino == i) refl h (leaving k plan only.1 commit epoch place i) where
@@ -72,7 +72,7 @@ left_leaves : (dir : Handle) (name : List ℕ) (bound : Option Handle) → OneLe
 left_leaves dir name None = (0, tt)
 left_leaves dir name (Some to) = (to.ino, (λ commit epoch place h. absurd (false≢true h), (λ commit epoch place h. refl, tt)))
 
-one_leaves : (block : ℕ) (nodes : Handle → Option NodeCopy) (taken : Taken) (c : Call) → OneLeaves (plan block nodes taken c)
+one_leaves : (block : ℕ) (nodes : Handle → Option NodeCopy) (taken : Allocation) (c : Call) → OneLeaves (plan block nodes taken c)
 one_leaves block nodes taken (call.Create dir name mode) =
     (0, (λ commit epoch place h. absurd (false≢true h), (λ commit epoch place h. absurd (false≢true h), tt)))
 one_leaves block nodes taken (call.Mkdir dir name mode) =
@@ -88,7 +88,7 @@ one_leaves block nodes taken (call.Rename from old to new) =
 one_leaves block nodes taken (call.Read file offset count) = (0, tt)
 one_leaves block nodes taken other = (0, tt)
 
-pub plan_leaves : (block : ℕ) (nodes : Handle → Option NodeCopy) (taken : Taken) (c : Call) → LeavesOne (plan block nodes taken c)
+pub plan_leaves : (block : ℕ) (nodes : Handle → Option NodeCopy) (taken : Allocation) (c : Call) → LeavesOne (plan block nodes taken c)
 plan_leaves block nodes taken c commit epoch p q i j first second =
     let only = one_leaves block nodes taken c in
     leaving only.0 (plan block nodes taken c) only.1 commit epoch p i first
@@ -101,11 +101,11 @@ abbrev pub parent_of : Call → Handle
 parent_of c = handle_at (handles nothing_looked c) 0
 
 -- a plan that makes an inode has items for it and for its directory
-pub record MakesIn (plan : List Planned) (made parent : ℕ) : Type 0 where
+pub record MakesIn (plan : List InodePlan) (made parent : ℕ) : Type 0 where
   pub own : is_written plan made ≡ true
   pub above : is_written plan parent ≡ true
 
-pub plan_makes : (block : ℕ) (nodes : Handle → Option NodeCopy) (taken : Taken) (c : Call) → makes_inode (beginning c) ≡ true
+pub plan_makes : (block : ℕ) (nodes : Handle → Option NodeCopy) (taken : Allocation) (c : Call) → makes_inode (beginning c) ≡ true
     → ((parent_of c).ino == taken.made.ino) ≡ false → MakesIn (plan block nodes taken c) taken.made.ino (parent_of c).ino
 plan_makes block nodes taken (call.Create dir name mode) makes ne =
     record { own = rw (ne, self taken.made.ino) refl; above = rw (self dir.ino) refl }

@@ -17,11 +17,11 @@ use Rattle.nv_machine.specs.Locks.{AreLocks, HoldsIts, held_at}
 use Rattle.nv_machine.specs.Reads.{if_number, is_written, slots_in, slots_of, written_slots}
 use Rattle.nv_machine.specs.Sequence.{Beginning, Looks, Locks, Numbers, Visits, beginning, begun, nothing_looked, started, Maintains}
 use Rattle.nv_machine.specs.Step.{kind_turn, step, turned}
-use Rattle.nv_machine.specs.World.{Actor, Append, Back, Check, Close, Ends, Enter, Event, HandState, Lock, Moves, Next, Number, Open, Publish, Ready, Retire, Running, Shared, TakeBlocks, TakePages, Turn, Waits, World, actor_at, cell_at, idle, owner_at, Make, Maintenance}
+use Rattle.nv_machine.specs.World.{Actor, Append, ReturnNumber, Check, Close, Ends, Enter, Event, HandState, Lock, Moves, Next, Number, Open, Publish, Ready, Retire, Running, Shared, TakeBlocks, TakeLogPages, Turn, Waits, World, actor_at, cell_at, idle, owner_at, Make, Maintenance}
 use Rattle.nv_machine.proofs.Occurrences.{set_times}
 use Rattle.nv_machine.proofs.OverEvents.{begun_at, begun_in, event_by, set_one, turn_at}
 use Rattle.nv_machine.proofs.StepFrames.{framed}
-use Rattle.nv_machine.proofs.StepWork.{back_work, work, number_work}
+use Rattle.nv_machine.proofs.StepWork.{return_number_work, work, number_work}
 use Rattle.nv_machine.proofs.WorkKeeps.{AfterTurn, turn_keeps}
 use Rattle.nv_machine.proofs.Lists.{has_filter, has_later, self}
 use Rattle.nv_machine.proofs.LocksHeld.{lent_cell, owner_is}
@@ -61,7 +61,7 @@ module _ (s t : Shared) (h : HandState) (r : Running) (many : length t.cells ≡
   their_sees (Lock place) same e = same_slots e
   their_sees Check same e = same_slots e
   their_sees (TakeBlocks asked) same e = (same_inodes h.ino same e.0, e.1)
-  their_sees (TakePages asked) same e = (same_inodes h.ino same e.0, e.1)
+  their_sees (TakeLogPages asked) same e = (same_inodes h.ino same e.0, e.1)
   their_sees Ready same e = (same_inodes h.ino same e.0, e.1)
   their_sees Enter same e = (same_inodes h.ino same e.0, e.1, e.2)
   their_sees (Append place) same e = (same_inodes h.ino same e.0, e.1, e.2)
@@ -157,7 +157,7 @@ number_rising [] s h is rising = rising
 number_rising (ino ∷ numbers) s h is rising = (subst IsRising is rising).1
 
 back_rising : (number : Option ℕ) (s : Shared) (h : HandState) → ((n : ℕ) → number ≡ Some n → times n s.pool.numbers ≡ 0)
-    → IsRising s.pool.numbers → IsRising (back_work number s h).shared.pool.numbers
+    → IsRising s.pool.numbers → IsRising (return_number_work number s h).shared.pool.numbers
 back_rising None s h none rising = rising
 back_rising (Some ino) s h none rising = rising_put ino s.pool.numbers (none ino refl) rising
 
@@ -165,8 +165,8 @@ work_rising : (g : GeometryNumbers) (k : Next) (block a : ℕ) (s : Shared) (h :
     → IsRising s.pool.numbers → IsRising (work k block a s h r).shared.pool.numbers
 work_rising g Number block a s h r st rising = number_rising s.pool.numbers s h refl rising
 work_rising g (Maintenance Make) block a s h r st rising = rising
-work_rising g Back block a s h r st rising = back_rising h.ino s h (λ n is.
-    let few = subst (λ (o : Option ℕ). tally n s (loose Back (written_slots r) o) ≤ 1) is (st.few n) in
+work_rising g ReturnNumber block a s h r st rising = back_rising h.ino s h (λ n is.
+    let few = subst (λ (o : Option ℕ). tally n s (loose ReturnNumber (written_slots r) o) ≤ 1) is (st.few n) in
     let one = times-yes n n [] (self n) in
     omega (arith, few, one)) rising
 work_rising g other block a s h r st rising = rising

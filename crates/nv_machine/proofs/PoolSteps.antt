@@ -9,7 +9,7 @@ use Rattle.nv_base.specs.declared.geometry.GeometryNumbers.{GeometryNumbers}
 use Rattle.nv_cell.specs.Cell.{published}
 use Rattle.nv_machine.specs.Reads.{if_number, is_written, slot_at, written_slots}
 use Rattle.nv_machine.specs.Step.{kind_turn}
-use Rattle.nv_machine.specs.World.{Append, Check, Close, Ends, Enter, HandState, Lock, Look, Moves, Next, Number, Open, Publish, Ready, Retire, Running, Shared, TakeBlocks, TakePages, Turn, Waits, cell_at, with_cell, MaintenanceStep, Maintenance, Fresh, Judge}
+use Rattle.nv_machine.specs.World.{Append, Check, Close, Ends, Enter, HandState, Lock, Look, Moves, Next, Number, Open, Publish, Ready, Retire, Running, Shared, TakeBlocks, TakeLogPages, Turn, Waits, cell_at, with_cell, MaintenanceStep, Maintenance, Fresh, Judge}
 use Rattle.nv_machine.proofs.StepWork.{work}
 use Rattle.nv_machine.proofs.WorkKeeps.{AfterTurn, turn_keeps}
 use Rattle.nv_machine.proofs.Lists.{has_filter, has_take, rising_filter, self, take_apart}
@@ -39,7 +39,7 @@ module _ (g : GeometryNumbers) (block a : ℕ) (granted : Bool) (s : Shared) (h 
       record { more = λ n is ask. (t, λ n. refl); pages = λ n few is. (t, λ n. refl); ready = λ few is. (t, λ n. refl) }
   ways (TakeBlocks asked) st =
       record { more = λ n is ask. (st.sees, λ n. refl); pages = λ n few is. (st.sees, λ n. refl); ready = λ few is. (st.sees, λ n. refl) }
-  ways (TakePages asked) st =
+  ways (TakeLogPages asked) st =
       record { more = λ n is ask. (st.sees, λ n. refl); pages = λ n few is. (st.sees, λ n. refl); ready = λ few is. (st.sees, λ n. refl) }
   ways Ready st = (ready_plan g block a s h r st.sees, λ n. refl)
   ways Enter st = λ clear. appending_seen (work Enter block a s h r).shared h (noted Enter block s h r) 0 st.sees

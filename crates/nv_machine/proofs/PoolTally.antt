@@ -11,8 +11,8 @@ use Rattle.nv_cell.specs.Cell.{CellState, empty_cell}
 use Rattle.nv_machine.specs.Kinds.{entries_for, with_erased}
 use Rattle.nv_machine.specs.Cleaning.{compacted_cell, unlinked}
 use Rattle.nv_machine.specs.Reads.{if_number, pages_needed, slot_at, written_slots}
-use Rattle.nv_machine.specs.World.{Actor, Append, Back, Close, HandState, Next, Number, Publish, Retire, Running, Shared, cell_at, with_cell, Maintenance, MaintenanceStep, Compact, Unlink}
-use Rattle.nv_machine.proofs.StepWork.{back_work, maintenance_work, work, number_work}
+use Rattle.nv_machine.specs.World.{Actor, Append, ReturnNumber, Close, HandState, Next, Number, Publish, Retire, Running, Shared, cell_at, with_cell, Maintenance, MaintenanceStep, Compact, Unlink}
+use Rattle.nv_machine.proofs.StepWork.{return_number_work, maintenance_work, work, number_work}
 use Rattle.nv_machine.proofs.Lists.{self}
 use Rattle.nv_machine.proofs.LogsKept.{cell_set}
 use Rattle.nv_machine.proofs.PoolCells.{IsLike, appended_like, erased_gone, gone_inode, like_taken, one_if, keeps_like, taken_once, with_inode}
@@ -64,7 +64,7 @@ number_tally n (ino ∷ numbers) s h is none =
     omega (arith, all, hand, times-cons n ino numbers)
 
 back_tally : (n : ℕ) (number : Option ℕ) (s : Shared) (h : HandState) → h.ino ≡ number
-    → tally n (back_work number s h).shared (if_number (back_work number s h).hand.ino) ≡ tally n s (if_number h.ino)
+    → tally n (return_number_work number s h).shared (if_number (return_number_work number s h).hand.ino) ≡ tally n s (if_number h.ino)
 back_tally n None s h is = refl
 back_tally n (Some ino) s h is =
     let numbers = s.pool.numbers in
@@ -184,7 +184,7 @@ work_tally (Publish place) n block actor s h r can = absurd can
 work_tally Close n block actor s h r can = absurd can
 work_tally (Retire place) n block actor s h r can =
     removal_tally n (removal (Retire place) s h r) s h (is_removed (Retire place) s h r refl) can.0 can.1
-work_tally Back n block actor s h r can = back_tally n h.ino s h refl
+work_tally ReturnNumber n block actor s h r can = back_tally n h.ino s h refl
 work_tally (Maintenance step) n block actor s h r can =
     on_step (λ (t : Shared) (g : HandState). tally n t (if_number g.ino) ≡ tally n s (if_number h.ino)) step actor s h
     (λ is. let ok = can.0 is in removal_tally n (removal_on step s h) s h (is_removed (Maintenance step) s h r is) ok.0 ok.1)

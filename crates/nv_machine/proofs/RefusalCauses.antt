@@ -18,7 +18,7 @@ use Rattle.nv_machine.specs.Reads.{copies}
 use Rattle.nv_machine.specs.Sequence.{beginning, directories, sequel}
 use Rattle.nv_machine.specs.Maintenance.{shown_by, maintenance_turn}
 use Rattle.nv_machine.specs.Step.{check_grows, ending_at, handle_at, is_numbered, kind_turn, made_in, same_looked, visit_grows, with_made}
-use Rattle.nv_machine.specs.World.{Answers, Back, Check, Draining, Drains, Ending, Enter, Give, HandState, Leave, Lock, Look, Make, Moves, Next, Overtaken, Ready, Refuses, Running, Shared, MaintenanceStep, Maintenance, TakeBlocks, TakePages, Turn, Unlock, Unpin, Visit, list_at, owner_at, Cleans, Compact, Fresh, Judge, Release, Unlink}
+use Rattle.nv_machine.specs.World.{Answers, ReturnNumber, Check, Draining, Drains, Ending, Enter, Give, HandState, Leave, Lock, Look, Make, Moves, Next, Overtaken, Ready, Refuses, Running, Shared, MaintenanceStep, Maintenance, TakeBlocks, TakeLogPages, Turn, Unlock, Unpin, Visit, list_at, owner_at, Cleans, Compact, Fresh, Judge, Release, Unlink}
 use Rattle.nv_machine.proofs.StepWays.{After, Closes, EndsBy, Going, IsClear, Takes, Telling, any_ends, any_lasts, any_rests, asks_on, by_last, is_last, is_overtaken, noted, noted_ending}
 use Rattle.nv_machine.proofs.StepWalk.{WaysOf, last_ways, walk_of}
 use Rattle.nv_machine.proofs.MaintenanceWalk.{next_on, no_growth, maintenance_walk, told_on, EndsWith}
@@ -147,7 +147,7 @@ module _ (nodes : Handle → Option NodeCopy) (block a : ℕ) (granted : Bool) (
   takes : (k : Next) → Takes (Goes k) k block a s h r
   takes k = record {
     more = λ n is ask. on k (asks_on k);
-    pages = λ n none is. on k (TakePages 0);
+    pages = λ n none is. on k (TakeLogPages 0);
     ready = λ none is. on k Ready;
   }
 
@@ -193,7 +193,7 @@ module _ (nodes : Handle → Option NodeCopy) (block a : ℕ) (granted : Bool) (
     λ none. takes Check,
   )
   ways (TakeBlocks asked) reads = (takes (TakeBlocks asked), λ n is last. denied (TakeBlocks asked) NoSpace (short n asked is last))
-  ways (TakePages asked) reads = (takes (TakePages asked), λ n is last. denied (TakePages asked) NoSpace (short n asked is last))
+  ways (TakeLogPages asked) reads = (takes (TakeLogPages asked), λ n is last. denied (TakeLogPages asked) NoSpace (short n asked is last))
   ways Ready reads = (λ lacks. denied Ready out_of_memory (refl, lacks), works Ready)
   ways Enter reads = (
     λ free last. denied Enter CommitLimit (inl (refl, leb-true NUMBER s.book.commit last)),
@@ -203,7 +203,7 @@ module _ (nodes : Handle → Option NodeCopy) (block a : ℕ) (granted : Bool) (
   ways Leave reads = any_ends (answered Leave)
   ways (Unlock place) reads = last_ways (Goes (Unlock place)) (Tells (Unlock place)) block a s h r (Unlock place) granted refl (answered (Unlock place))
   ways (Give cpu) reads = any_rests (answered (Give cpu))
-  ways Back reads = any_lasts (answered Back)
+  ways ReturnNumber reads = any_lasts (answered ReturnNumber)
   ways Visit reads = (
     λ fault free by. denied Visit fault (inl (reads free ∙ by)),
     λ free passed lacks. (let none = no_growth granted (visit_grows r.call) lacks in

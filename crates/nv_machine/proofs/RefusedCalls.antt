@@ -12,7 +12,7 @@ use Rattle.nv_machine.specs.Refusing.{GoesOn, IsUnanswered, LeavesBooks, SameBoo
 use Rattle.nv_machine.specs.Maintenance.{shown_by}
 use Rattle.nv_machine.specs.Starts.{IsStart}
 use Rattle.nv_machine.specs.Step.{after, kind_turn, turn}
-use Rattle.nv_machine.specs.World.{Answers, Append, Back, Close, Draining, Drains, Drop, Ending, Ends, Enter, Event, HandState, LockPicked, Make, Moves, Next, Number, Open, Pick, Pin, Publish, Refuses, Release, Retire, Running, Shared, Show, MaintenanceStep, Maintenance, Turn, Unpin, Waits, World, actor_at, with_book, Cleans, Compact, Fresh, Judge, LockCleaned, Unlink}
+use Rattle.nv_machine.specs.World.{Answers, Append, ReturnNumber, Close, Draining, Drains, Drop, Ending, Ends, Enter, Event, HandState, LockPicked, Make, Moves, Next, Number, Open, Pick, Pin, Publish, Refuses, Release, Retire, Running, Shared, Show, MaintenanceStep, Maintenance, Turn, Unpin, Waits, World, actor_at, with_book, Cleans, Compact, Fresh, Judge, LockCleaned, Unlink}
 use Rattle.nv_machine.proofs.EveryWorld.{all_numbers, reached}
 use Rattle.nv_machine.proofs.StepWork.{by_back, by_number, work}
 use Rattle.nv_machine.proofs.WorkKeeps.{AfterTurn, turn_keeps}
@@ -134,7 +134,7 @@ module _ (block actor cpu : ℕ) (granted : Bool) (s : Shared) (h : HandState) (
   books_left (Publish place) knows on = answered r.ending knows.1
   books_left Close knows on = answered r.ending knows.1
   books_left (Retire place) knows on = answered r.ending knows.1
-  books_left Back knows on = quiet_left Back (refl, refl) (by_back (λ (t : Shared) (g : HandState). SameBooks Back s t) s h (λ numbers ino. (refl, refl)))
+  books_left ReturnNumber knows on = quiet_left ReturnNumber (refl, refl) (by_back (λ (t : Shared) (g : HandState). SameBooks ReturnNumber s t) s h (λ numbers ino. (refl, refl)))
   books_left (Maintenance step) knows on =
       leaves (Maintenance step) s _ (step_walk_by (Unit {0}) (LeftGoes (Maintenance step) s) (LeftTold (Maintenance step) s)
       actor s h r step granted

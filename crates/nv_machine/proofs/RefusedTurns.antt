@@ -17,7 +17,7 @@ use Rattle.nv_machine.specs.Reads.{copies, written_slots}
 use Rattle.nv_machine.specs.Sequence.{beginning, sequel}
 use Rattle.nv_machine.specs.Maintenance.{is_first, one_more, shown_by}
 use Rattle.nv_machine.specs.Step.{ending_at, is_numbered, kind_turn, same_looked, with_made}
-use Rattle.nv_machine.specs.World.{Answers, Append, Back, Check, Close, Draining, Drains, Drop, Ending, Enter, Give, HandState, Leave, Lock, LockPicked, Look, Make, Next, Number, Open, Overtaken, Pick, Pin, Publish, Ready, Refuses, Release, Retire, Running, Shared, Show, MaintenanceStep, Maintenance, TakeBlocks, TakePages, Unlock, Unpin, Visit, with_book, Cleans, Compact, Fresh, Judge, LockCleaned, Unlink, cell_at}
+use Rattle.nv_machine.specs.World.{Answers, Append, ReturnNumber, Check, Close, Draining, Drains, Drop, Ending, Enter, Give, HandState, Leave, Lock, LockPicked, Look, Make, Next, Number, Open, Overtaken, Pick, Pin, Publish, Ready, Refuses, Release, Retire, Running, Shared, Show, MaintenanceStep, Maintenance, TakeBlocks, TakeLogPages, Unlock, Unpin, Visit, with_book, Cleans, Compact, Fresh, Judge, LockCleaned, Unlink, cell_at}
 use Rattle.nv_machine.proofs.LoopSteps.{Commits, appending_any, publishing_any, retiring_any}
 use Rattle.nv_machine.proofs.RefusalCauses.{CheckCause, reads_itself}
 use Rattle.nv_machine.proofs.MaintenanceWalk.{StepWaysOf, next_on, step_walk_by}
@@ -47,7 +47,7 @@ is_open (Look place) = true
 is_open (Lock place) = true
 is_open Check = true
 is_open (TakeBlocks asked) = true
-is_open (TakePages asked) = true
+is_open (TakeLogPages asked) = true
 is_open Ready = true
 is_open Enter = true
 is_open Visit = true
@@ -61,7 +61,7 @@ is_closing_on other = false
 abbrev pub is_closing : Next → Bool
 is_closing (Unlock place) = true
 is_closing (Give cpu) = true
-is_closing Back = true
+is_closing ReturnNumber = true
 is_closing (Maintenance step) = is_closing_on step
 is_closing other = false
 
@@ -117,7 +117,7 @@ unpins s snapshot = record {
 numbered : (s : Shared) (h : HandState) (block a : ℕ) (r : Running) → SameButPins s (work Number block a s h r).shared
 numbered s h block a r = by_number (λ (t : Shared) (x : HandState). SameButPins s t) s h (λ numbers ino. record { book = refl; cells = refl })
 
-given_back : (s : Shared) (h : HandState) (block a : ℕ) (r : Running) → SameButPins s (work Back block a s h r).shared
+given_back : (s : Shared) (h : HandState) (block a : ℕ) (r : Running) → SameButPins s (work ReturnNumber block a s h r).shared
 given_back s h block a r = by_back (λ (t : Shared) (x : HandState). SameButPins s t) s h (λ numbers ino. record { book = refl; cells = refl })
 
 -- ---- a call that is to be answered
@@ -236,7 +236,7 @@ module _ (block a : ℕ) (granted : Bool) (s : Shared) (h : HandState) (r : Runn
   takes : (k : Next) → IsOpenLeft k s (work k block a s h r).shared → Takes (Goes k s) k block a s h r
   takes k left = record {
     more = λ n is ask. opens k (asks_on k) _ left;
-    pages = λ n none is. opens k (TakePages 0) _ left;
+    pages = λ n none is. opens k (TakeLogPages 0) _ left;
     ready = λ none is. opens k Ready _ left;
   }
 
@@ -266,9 +266,9 @@ module _ (block a : ℕ) (granted : Bool) (s : Shared) (h : HandState) (r : Runn
     takes (TakeBlocks asked) (refl, record { book = refl; cells = refl }),
     λ n is last. denies (TakeBlocks asked) NoSpace (refl, record { book = refl; cells = refl }),
   )
-  ways (TakePages asked) = (
-    takes (TakePages asked) (refl, record { book = refl; cells = refl }),
-    λ n is last. denies (TakePages asked) NoSpace (refl, record { book = refl; cells = refl }),
+  ways (TakeLogPages asked) = (
+    takes (TakeLogPages asked) (refl, record { book = refl; cells = refl }),
+    λ n is last. denies (TakeLogPages asked) NoSpace (refl, record { book = refl; cells = refl }),
   )
   ways Ready = (λ lacks. denies Ready out_of_memory (refl, same_as s), opens Ready Enter s (refl, same_as s))
   ways Enter = (
@@ -286,7 +286,7 @@ module _ (block a : ℕ) (granted : Bool) (s : Shared) (h : HandState) (r : Runn
       (answered_closes (Unlock place) s r.ending going)
   ways (Give cpu) = last_ways (Goes (Give cpu) s) (Tells (Give cpu) s) block a s h r (Give cpu) granted refl
       (answered_closes (Give cpu) s r.ending going)
-  ways Back = last_ways (Goes Back s) (Tells Back s) block a s h r Back granted refl (answered_closes Back s r.ending going)
+  ways ReturnNumber = last_ways (Goes ReturnNumber s) (Tells ReturnNumber s) block a s h r ReturnNumber granted refl (answered_closes ReturnNumber s r.ending going)
   ways Visit = (
     λ fault free by. denies Visit fault (refl, same_as s),
     λ free passed lacks. denies Visit out_of_memory (refl, same_as s),
@@ -370,7 +370,7 @@ module _ (fault : Fault) (block a : ℕ) (granted : Bool) (s : Shared) (h : Hand
   pub closing_kind : (k : Next) → is_closing k ≡ true → After (ClosingGoes fault s) (ClosingTold fault s) (kind_turn k block a granted s h r)
   closing_kind (Unlock place) on = last_closing (Unlock place) refl (record { book = refl; cells = refl })
   closing_kind (Give cpu) on = last_closing (Give cpu) refl (record { book = refl; cells = refl })
-  closing_kind Back on = last_closing Back refl (given_back s h block a r)
+  closing_kind ReturnNumber on = last_closing ReturnNumber refl (given_back s h block a r)
   closing_kind (Maintenance (Unpin snapshot seen)) on =
       step_walk_by (Unit {0}) (ClosingGoes fault s) (ClosingTold fault s) a s h r (Unpin snapshot seen) granted (λ blocked. tt)
       (λ clear. (ap (λ (e : Ending). shown_by e seen) is, unpins s snapshot))

@@ -13,14 +13,14 @@ use Rattle.nv_entry.specs.Shape.{AreLawful, IsGoneLast, IsShaped, items_of, kind
 use Rattle.nv_calls.specs.Lawful.{IsLawfulFor}
 use Rattle.nv_calls.specs.Plain.{PlainNode, node_in, same_handle, stamped}
 use Rattle.nv_calls.specs.Refusals.{bytes_of, found, kind_of}
-use Rattle.nv_calls.specs.Slots.{IsFree, IsPlanned, Slot, items_for, last_commit, node_under}
+use Rattle.nv_calls.specs.Slots.{IsFree, IsPlanned, InodeSlot, items_for, last_commit, node_under}
 use Rattle.nv_calls.specs.calls.Rename.{bound_plan, move_plan, own_place, rename_plan, replaced_plan}
 use Rattle.nv_calls.specs.calls.Unlink.{leave_plan}
 use Rattle.nv_calls.specs.declared.call.Call.{Call}
 use Rattle.nv_calls.specs.declared.call.Call.TheVariants as call
-use Rattle.nv_calls.specs.declared.looked.Looked.{Looked}
-use Rattle.nv_calls.specs.declared.plan.Planned.{Planned}
-use Rattle.nv_calls.specs.declared.taken.Taken.{Taken}
+use Rattle.nv_calls.specs.declared.looked.LookupResult.{LookupResult}
+use Rattle.nv_calls.specs.declared.plan.InodePlan.{InodePlan}
+use Rattle.nv_calls.specs.declared.allocation.Allocation.{Allocation}
 use Rattle.nv_entry.specs.Bytes.{written}
 use Rattle.nv_entry.specs.Keys.{KindKey, sets}
 use Rattle.nv_entry.specs.Log.{last_setting, later_of, value_of}
@@ -29,7 +29,7 @@ use Rattle.nv_entry.specs.Sound.{write_items}
 use Rattle.nv_entry.specs.declared.item.Entry.{Entry}
 use Rattle.nv_entry.specs.declared.item.Item.{Item}
 use Rattle.nv_entry.specs.declared.item.Item.TheVariants.{Gone, Init, SetSize, Write}
-use Rattle.nv_entry.specs.declared.item.Run.{Run}
+use Rattle.nv_entry.specs.declared.item.BlockRun.{BlockRun}
 use Rattle.nv_entry.specs.declared.key.Datum.TheVariants as datum
 use Rattle.nv_entry.specs.declared.key.Setting.{Setting}
 use Rattle.nv_entry.specs.declared.key.Setting.TheVariants.{Untouched, Absent, Present}
@@ -79,7 +79,7 @@ kind_now bytes block log = go (last_setting block log KindKey) ∙ sym (all_kind
   go (Present (datum.Node to)) = refl
   go (Present (datum.Block number)) = refl
 
-kind_under : (bytes : ℕ → List ℕ) (block : ℕ) (slots : ℕ → Slot) (handle : Handle) → handle.generation ≡ (slots handle.ino).generation
+kind_under : (bytes : ℕ → List ℕ) (block : ℕ) (slots : ℕ → InodeSlot) (handle : Handle) → handle.generation ≡ (slots handle.ino).generation
     → kind_of (node_in (node_under bytes block slots) handle) ≡ kinds_after (items_of (slots handle.ino).log) None
 kind_under bytes block slots handle own =
     ap (λ (b : Bool). kind_of (option_map (λ (p : PlainNode). p.node)
@@ -112,14 +112,14 @@ last_then : (item : Item) (items : List Item) → item ≢ Gone → IsGoneLast i
 last_then item [] other last = tt
 last_then item (next ∷ items) other last = (other, last)
 
-writes_last : (first size : ℕ) (runs : List Run) (items : List Item) → IsGoneLast items → IsGoneLast (write_items first runs size ++ items)
+writes_last : (first size : ℕ) (runs : List BlockRun) (items : List Item) → IsGoneLast items → IsGoneLast (write_items first runs size ++ items)
 writes_last first size [] items last = last
 writes_last first size (run ∷ runs) items last =
     last_then (Write first run size) (write_items (first + run.len) runs size ++ items) (λ e. cc)
     (writes_last (first + run.len) size runs items last)
 
-abbrev AllLast : List Planned → Type 0
-AllLast plan = AllByRecursion (λ (p : Planned). IsGoneLast p.items) plan
+abbrev AllLast : List InodePlan → Type 0
+AllLast plan = AllByRecursion (λ (p : InodePlan). IsGoneLast p.items) plan
 
 leave_last : (dir : Handle) (name : List ℕ) (bound : Option Handle) → AllLast (leave_plan dir name bound)
 leave_last dir name None = tt
@@ -129,7 +129,7 @@ replaced_last : (other : Option Handle) → AllLast (replaced_plan other)
 replaced_last None = tt
 replaced_last (Some other) = (tt, tt)
 
-rename_last : (from : Handle) (old : List ℕ) (to : Handle) (new : List ℕ) (names : Looked) → AllLast (rename_plan from old to new names)
+rename_last : (from : Handle) (old : List ℕ) (to : Handle) (new : List ℕ) (names : LookupResult) → AllLast (rename_plan from old to new names)
 rename_last from old to new names = go (own_place from old to new) where
   moved : (same : Bool) (handle : Handle) → AllLast (move_plan same from old to new handle (replaced_plan names.second))
   moved true handle = (((λ e. cc), tt), replaced_last names.second)
@@ -143,7 +143,7 @@ rename_last from old to new names = go (own_place from old to new) where
   go true = tt
   go false = bound names.first
 
-pub plan_last : (block : ℕ) (nodes : Handle → Option NodeCopy) (taken : Taken) (c : Call) → AllLast (plan block nodes taken c)
+pub plan_last : (block : ℕ) (nodes : Handle → Option NodeCopy) (taken : Allocation) (c : Call) → AllLast (plan block nodes taken c)
 plan_last block nodes taken (call.Create dir name mode) = (tt, (tt, tt))
 plan_last block nodes taken (call.Mkdir dir name mode) = (tt, (tt, tt))
 plan_last block nodes taken (call.Write file offset []) = tt
@@ -180,11 +180,11 @@ shape_more block log more is grows = record {
   last_of (inl empty) = rw empty grows.last
   last_of (inr there) = last_more (items_of log) (items_of more) None there.0 is.last there.1 grows.last
 
-module _ (bytes : ℕ → List ℕ) (block : ℕ) (slots : ℕ → Slot) (makes : Bool) (made : Handle) (free : makes ≡ true → IsFree slots made) where
+module _ (bytes : ℕ → List ℕ) (block : ℕ) (slots : ℕ → InodeSlot) (makes : Bool) (made : Handle) (free : makes ≡ true → IsFree slots made) where
   abbrev nodes : Handle → Option NodeCopy
   nodes = node_in (node_under bytes block slots)
 
-  planned_grows : (p : Planned) → IsLawfulFor block nodes p → IsOfNode nodes makes made p → IsPlanned slots p → IsGoneLast p.items
+  planned_grows : (p : InodePlan) → IsLawfulFor block nodes p → IsOfNode nodes makes made p → IsPlanned slots p → IsGoneLast p.items
       → Grows block (slots p.handle.ino).log p.items
   planned_grows p lawful of_node planned last = record {
     lawful = subst (AreLawful block p.items) kind lawful.lawful;
@@ -199,7 +199,7 @@ module _ (bytes : ℕ → List ℕ) (block : ℕ) (slots : ℕ → Slot) (makes 
     there (inl new) = inl (ap (λ (h : Handle). (slots h.ino).log) new.1 ∙ (free new.0).empty)
     there (inr node) = inr (node.node.kind, sym kind ∙ ap kind_of node.is)
 
-  pub plan_grows : (ps : List Planned) → AllByRecursion (IsLawfulFor block nodes) ps → AllByRecursion (IsOfNode nodes makes made) ps
+  pub plan_grows : (ps : List InodePlan) → AllByRecursion (IsLawfulFor block nodes) ps → AllByRecursion (IsOfNode nodes makes made) ps
       → AllByRecursion (IsPlanned slots) ps → AllLast ps → (ino : ℕ)
       → (items_for ps ino ≡ []) ⊎ Grows block (slots ino).log (items_for ps ino)
   plan_grows [] lawful nodes_of planned last ino = inl refl

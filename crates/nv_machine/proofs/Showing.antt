@@ -17,7 +17,7 @@ use Rattle.nv_epoch.specs.SnapList.{Snapshots as Living, pins_of}
 use Rattle.nv_machine.specs.Reading.{ArePins, pins_at}
 use Rattle.nv_machine.specs.Maintenance.{copies_at, first_showing, seen_on, show_or_unpin, showing_on, maintenance_turn, visited}
 use Rattle.nv_machine.specs.Step.{kind_turn}
-use Rattle.nv_machine.specs.World.{Back, Ending, Ends, HandState, LockPicked, Moves, Next, Number, Pick, Pin, Refuses, Running, Shared, Show, Showing, MaintenanceStep, Maintenance, Turn, Unpin, Waits, owner_at, Compact, Fresh, LockCleaned, Unlink}
+use Rattle.nv_machine.specs.World.{ReturnNumber, Ending, Ends, HandState, LockPicked, Moves, Next, Number, Pick, Pin, Refuses, Running, Shared, Show, Showing, MaintenanceStep, Maintenance, Turn, Unpin, Waits, owner_at, Compact, Fresh, LockCleaned, Unlink}
 use Rattle.nv_machine.proofs.StepWork.{work}
 use Rattle.nv_machine.proofs.WorkKeeps.{AfterTurn, turn_keeps}
 use Rattle.nv_machine.proofs.Lists.{self}
@@ -196,5 +196,5 @@ module _ (copies : ℕ → Handle → Option NodeCopy) (inodes : ℕ) where
         → ShowsAt copies inodes k r.ending → OnShows (kind_turn k block a granted s h r)
     kind_shows (Maintenance step) bare found first is = step_shows found first step bare is
     kind_shows Number bare found first is = plain_shows Number (λ n. refl) (number_same s.pool.numbers s h)
-    kind_shows Back bare found first is = plain_shows Back (λ n. refl) (back_same h.ino s h)
+    kind_shows ReturnNumber bare found first is = plain_shows ReturnNumber (λ n. refl) (back_same h.ino s h)
     kind_shows other bare found first is = plain_shows other (λ n. refl) refl

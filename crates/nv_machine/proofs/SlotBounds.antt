@@ -7,7 +7,7 @@ use Rattle.std.proofs.lemmas.Option.{none-some}
 use Rattle.std.specs.List.{list_any}
 use Rattle.std.specs.Prelude.{unwrap_or}
 use Rattle.nv_calls.specs.Locked.{handles, if_any}
-use Rattle.nv_calls.specs.declared.looked.Looked.{Looked}
+use Rattle.nv_calls.specs.declared.looked.LookupResult.{LookupResult}
 use Rattle.nv_alloc.specs.Block.{BlockValue}
 use Rattle.nv_alloc.specs.FreeList.{FreeBlocks, is_home}
 use Rattle.nv_base.specs.declared.numbers.Handle.{Handle}
@@ -42,7 +42,7 @@ if_any-length : (to : Option Handle) → length (if_any to) ≤ 1
 if_any-length None = omega arith
 if_any-length (Some to) = omega arith
 
-handles-length : (looked : Looked) (c : Call) → length (handles looked c) ≤ 4
+handles-length : (looked : LookupResult) (c : Call) → length (handles looked c) ≤ 4
 handles-length looked (call.Unlink dir name) = omega (arith, if_any-length looked.first)
 handles-length looked (call.Rmdir dir name) = omega (arith, if_any-length looked.first)
 handles-length looked (call.Rename from old to new) =
@@ -61,7 +61,7 @@ if_number-length : (number : Option ℕ) → length (if_number number) ≤ 1
 if_number-length None = omega arith
 if_number-length (Some ino) = omega arith
 
-pub slots_of-length : (s : Shared) (number : Option ℕ) (looked : Looked) (c : Call) → length (slots_of s number looked c) ≤ 5
+pub slots_of-length : (s : Shared) (number : Option ℕ) (looked : LookupResult) (c : Call) → length (slots_of s number looked c) ≤ 5
 slots_of-length s number looked c =
     omega (
       arith,

@@ -9,7 +9,7 @@ use Rattle.nv_base.specs.declared.numbers.Handle.{Handle}
 use Rattle.nv_calls.specs.AllCalls.{early, effect, looked, refusal}
 use Rattle.nv_calls.specs.Locked.{handles}
 use Rattle.nv_calls.specs.declared.call.Call.{Call}
-use Rattle.nv_calls.specs.declared.looked.Looked.{Looked}
+use Rattle.nv_calls.specs.declared.looked.LookupResult.{LookupResult}
 use Rattle.nv_cell.specs.Cell.{log_of}
 use Rattle.nv_cell.specs.Pages.{AreBytesOf}
 use Rattle.nv_entry.specs.declared.node.NodeCopy.{NodeCopy}
@@ -53,7 +53,7 @@ held_tails w actor r is runs out ino held =
 
 -- ---- a call reads some slot
 
-some_handle : (nodes : Handle → Option NodeCopy) (made : Handle) (found : Looked) (c : Call) → 0 < length (effect nodes made c)
+some_handle : (nodes : Handle → Option NodeCopy) (made : Handle) (found : LookupResult) (c : Call) → 0 < length (effect nodes made c)
     → 0 < length (handles found c)
 some_handle nodes made found (call.Maintenance what) any = absurd (omega (arith, any))
 some_handle nodes made found other any = omega arith

@@ -15,9 +15,9 @@ use Rattle.nv_machine.specs.PlainRun.{Commits, Deed, Nothing, Numbers, Maintains
 use Rattle.nv_machine.specs.Reads.{written_slots}
 use Rattle.nv_machine.specs.Maintenance.{maintenance_turn}
 use Rattle.nv_machine.specs.Step.{kind_turn, step, turned}
-use Rattle.nv_machine.specs.World.{Back, Drop, Ends, Enter, Event, HandState, Make, Moves, Next, Number, Pin, Publish, Running, Shared, MaintenanceStep, Maintenance, Turn, Unpin, Waits, World, actor_at, Judge, Pick}
+use Rattle.nv_machine.specs.World.{ReturnNumber, Drop, Ends, Enter, Event, HandState, Make, Moves, Next, Number, Pin, Publish, Running, Shared, MaintenanceStep, Maintenance, Turn, Unpin, Waits, World, actor_at, Judge, Pick}
 use Rattle.nv_machine.proofs.OverEvents.{event_deed, turn_at}
-use Rattle.nv_machine.proofs.StepWork.{back_work, work, number_work, maintenance_work}
+use Rattle.nv_machine.proofs.StepWork.{return_number_work, work, number_work, maintenance_work}
 use Rattle.nv_machine.proofs.WorkKeeps.{AfterTurn, turn_keeps}
 
 -- ---- the list after a deed
@@ -112,7 +112,7 @@ pub number_same : (numbers : List ℕ) (s : Shared) (h : HandState) → (number_
 number_same [] s h = refl
 number_same (ino ∷ numbers) s h = refl
 
-pub back_same : (number : Option ℕ) (s : Shared) (h : HandState) → (back_work number s h).shared.book.snaps ≡ s.book.snaps
+pub back_same : (number : Option ℕ) (s : Shared) (h : HandState) → (return_number_work number s h).shared.book.snaps ≡ s.book.snaps
 back_same None s h = refl
 back_same (Some ino) s h = refl
 
@@ -130,7 +130,7 @@ module _ (block a : ℕ) (granted : Bool) (s : Shared) (h : HandState) (r : Runn
   kind_snaps Number bare = file_snaps Number (number_same s.pool.numbers s h) refl
   kind_snaps Enter bare = file_snaps Enter refl (entered_same (kind_turn Enter block a granted s h r) s.book.snaps)
   kind_snaps (Publish place) bare = file_snaps (Publish place) refl (publish_same (nat_lt 1 (length (written_slots r))) s.book.snaps)
-  kind_snaps Back bare = file_snaps Back (back_same h.ino s h) refl
+  kind_snaps ReturnNumber bare = file_snaps ReturnNumber (back_same h.ino s h) refl
   kind_snaps (Maintenance step) bare = step_snaps a granted s h r step bare.0 bare.1
   kind_snaps other bare = file_snaps other refl refl
 

@@ -22,7 +22,7 @@ use Rattle.nv_machine.specs.Hands.{AreLists, HandAt, HasPlanned, IsParted}
 use Rattle.nv_machine.specs.Kinds.{asked_list, blocks_in, blocks_left, entries_for, less_list, with_entries, with_pages}
 use Rattle.nv_calls.specs.FillPages.{filled, fresh_pages}
 use Rattle.nv_machine.specs.Reads.{copies, pages_needed, slot_at, written_slots}
-use Rattle.nv_machine.specs.World.{Append, Back, Check, Give, HandState, Look, Next, Number, Publish, Ready, Retire, Running, Shared, Maintenance, MaintenanceStep, Compact, Unlink, TakeBlocks, TakePages, Visit, cell_at, list_at, no_cell, no_list, with_cell, with_numbers}
+use Rattle.nv_machine.specs.World.{Append, ReturnNumber, Check, Give, HandState, Look, Next, Number, Publish, Ready, Retire, Running, Shared, Maintenance, MaintenanceStep, Compact, Unlink, TakeBlocks, TakeLogPages, Visit, cell_at, list_at, no_cell, no_list, with_cell, with_numbers}
 use Rattle.nv_machine.proofs.BlockCounts.{given_all}
 use Rattle.nv_machine.proofs.HandsInCommits.{slot_first}
 use Rattle.nv_machine.proofs.StepWork.{append_work, by_back, by_number, work, maintenance_work}
@@ -267,7 +267,7 @@ work_sound g (TakeBlocks asked) a s h r b at sound cleans =
         chain = all.chain;
       });
     }
-work_sound g (TakePages asked) a s h r b at sound cleans = fresh_sound g (asked_list (length s.lists) a asked) r.wanted s h sound
+work_sound g (TakeLogPages asked) a s h r b at sound cleans = fresh_sound g (asked_list (length s.lists) a asked) r.wanted s h sound
 work_sound g Ready a s h r b at sound cleans =
     let all = all_sized g.block h sound.sized in
     record {
@@ -297,7 +297,7 @@ work_sound g (Give cpu) a s h r b at sound cleans = record {
   sized = subst (λ (l : List BlockValue). AreSized g.block l) (sym (given_all cpu s h))
       (AreSized-kept g.block (list_at s cpu) (blocks_in h) sound.sized);
 }
-work_sound g Back a s h r b at sound cleans = by_back (IsSound g) s h (same_sound g s h sound)
+work_sound g ReturnNumber a s h r b at sound cleans = by_back (IsSound g) s h (same_sound g s h sound)
 work_sound g Visit a s h r b at sound cleans = sound
 work_sound g (Maintenance step) a s h r b at sound cleans =
     on_step (IsSound g) step a s h (λ is. removal_sound g (removal_on step s h) s h (is_removed (Maintenance step) s h r is) sound)

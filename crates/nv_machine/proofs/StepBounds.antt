@@ -11,7 +11,7 @@ use Rattle.nv_machine.specs.Reads.{copies, slots_of, written_slots}
 use Rattle.nv_machine.specs.Sequence.{Beginning, Locks, Looks, Numbers, Maintains, Visits, beginning, begun, directories, first_clean, new_draining, nothing_looked, slots_on, started}
 use Rattle.nv_machine.specs.Maintenance.{copies_at, first_showing, seen_on, show_or_unpin, visited}
 use Rattle.nv_machine.specs.Step.{ending_at, is_numbered, kind_turn, made_in, same_looked}
-use Rattle.nv_machine.specs.World.{Append, Auto, Back, Check, Close, Drop, Ending, Enter, Fast, Give, HandState, Leave, Lock, LockPicked, Look, Make, Manner, Next, Number, Open, Pick, Pin, Publish, Ready, Release, Retire, Running, Shared, Show, Showing, MaintenanceStep, Maintenance, TakeBlocks, TakePages, Thorough, Unlock, Unpin, Visit, Compact, Fresh, Judge, LockCleaned, Unlink}
+use Rattle.nv_machine.specs.World.{Append, Auto, ReturnNumber, Check, Close, Drop, Ending, Enter, Fast, Give, HandState, Leave, Lock, LockPicked, Look, Make, Manner, Next, Number, Open, Pick, Pin, Publish, Ready, Release, Retire, Running, Shared, Show, Showing, MaintenanceStep, Maintenance, TakeBlocks, TakeLogPages, Thorough, Unlock, Unpin, Visit, Compact, Fresh, Judge, LockCleaned, Unlink}
 use Rattle.std.proofs.lemmas.Nat.{mul-le}
 use Rattle.nv_machine.proofs.SlotBounds.{home_from-above, slots_of-length, written-length}
 use Rattle.nv_machine.proofs.FileStepBounds.{Lower, append_from, append_next, behind_of, ends_fall, falls_so, first_lock, lasts_fall, lock_next, look_next, none_behind, overs_fall, publish_from, publish_next, rests_fall, retire_from, retire_next}
@@ -128,13 +128,13 @@ module _ (block actor : ℕ) (granted : Bool) (s : Shared) (h : HandState) (r : 
     },
     λ n is last. ends (TakeBlocks asked) (omega arith),
   )
-  ways (TakePages asked) = (
+  ways (TakeLogPages asked) = (
     record {
       more = λ n is ask. omega (arith, ltb-true (asked + 1) cpus ask);
       pages = λ n few is. cc;
       ready = λ few is. omega arith;
     },
-    λ n is last. ends (TakePages asked) (omega arith),
+    λ n is last. ends (TakeLogPages asked) (omega arith),
   )
   ways Ready = (λ lacks. ends Ready (omega arith), omega arith)
   ways Enter = (
@@ -166,7 +166,7 @@ module _ (block actor : ℕ) (granted : Bool) (s : Shared) (h : HandState) (r : 
       rests_fall cpus (most (Give cpu))
       (λ to e. let above = home_from-above (cpu + 1) 0 s.lists (blocks_in (given cpu s h)) to e in omega (arith, above.0, above.1))
       (omega arith)
-  ways Back = lasts_fall cpus (most Back) (omega arith)
+  ways ReturnNumber = lasts_fall cpus (most ReturnNumber) (omega arith)
   ways Visit = (λ fault free by. ends Visit (omega arith), λ free passed lacks. ends Visit (omega arith), λ free passed. tt)
   ways (Maintenance step) = tt
 

@@ -6,8 +6,8 @@ use Rattle.nv_book.specs.Book.{BookState}
 use Rattle.nv_cell.specs.Cell.{CellState}
 use Rattle.nv_machine.specs.Frame.{Frame, IsFramed, Lent, Stays, lent, lent_on, nothing_lent}
 use Rattle.nv_machine.specs.Step.{kind_turn}
-use Rattle.nv_machine.specs.World.{Append, Back, Close, Ends, Enter, Give, HandState, Leave, Lock, LockPicked, Moves, Next, Number, Open, Publish, Release, Retire, Running, Shared, Show, MaintenanceStep, Maintenance, TakeBlocks, TakePages, Turn, Unlock, Waits, no_cell, no_list, with_book, with_cell, with_list, with_owner, Compact, Fresh, Judge, LockCleaned, Unlink}
-use Rattle.nv_machine.proofs.StepWork.{back_work, work, number_work, maintenance_work}
+use Rattle.nv_machine.specs.World.{Append, ReturnNumber, Close, Ends, Enter, Give, HandState, Leave, Lock, LockPicked, Moves, Next, Number, Open, Publish, Release, Retire, Running, Shared, Show, MaintenanceStep, Maintenance, TakeBlocks, TakeLogPages, Turn, Unlock, Waits, no_cell, no_list, with_book, with_cell, with_list, with_owner, Compact, Fresh, Judge, LockCleaned, Unlink}
+use Rattle.nv_machine.proofs.StepWork.{return_number_work, work, number_work, maintenance_work}
 use Rattle.nv_machine.proofs.WorkKeeps.{AfterTurn, turn_keeps}
 
 -- ---- what is changed
@@ -93,7 +93,7 @@ number_framed [] s h = same_frame _ s
 number_framed (ino ∷ numbers) s h = pool_frame _ s
 
 back_framed : (number : Option ℕ) (s : Shared) (h : HandState)
-    → Frame (record nothing_lent { pool = true }) s (back_work number s h).shared
+    → Frame (record nothing_lent { pool = true }) s (return_number_work number s h).shared
 back_framed None s h = same_frame _ s
 back_framed (Some ino) s h = pool_frame _ s
 
@@ -114,7 +114,7 @@ pub work_framed : (k : Next) (block actor : ℕ) (s : Shared) (h : HandState) (r
 work_framed Number block actor s h r = number_framed s.pool.numbers s h
 work_framed (Lock place) block actor s h r = lock_frame _ (Some actor) s
 work_framed (TakeBlocks asked) block actor s h r = list_frame _ _ s
-work_framed (TakePages asked) block actor s h r = list_frame _ _ s
+work_framed (TakeLogPages asked) block actor s h r = list_frame _ _ s
 work_framed Enter block actor s h r = parts_frame _ s.pool _ _ s refl tt tt
 work_framed (Append place) block actor s h r = cell_frame false _ s.book _ s refl
 work_framed Open block actor s h r = book_frame _ s
@@ -124,7 +124,7 @@ work_framed (Retire place) block actor s h r = cell_frame true _ _ _ s tt
 work_framed Leave block actor s h r = leave_frame s
 work_framed (Unlock place) block actor s h r = lock_frame _ None s
 work_framed (Give cpu) block actor s h r = list_frame cpu _ s
-work_framed Back block actor s h r = back_framed h.ino s h
+work_framed ReturnNumber block actor s h r = back_framed h.ino s h
 work_framed (Maintenance step) block actor s h r = snapshot_framed step actor s h
 work_framed other block actor s h r = same_frame _ s
 

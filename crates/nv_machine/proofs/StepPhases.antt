@@ -9,7 +9,7 @@ use Rattle.nv_machine.specs.Sequence.{sequel}
 use Rattle.nv_machine.specs.Maintenance.{maintenance_turn}
 use Rattle.nv_machine.specs.Step.{ending_at, kind_turn, with_made}
 use Rattle.nv_machine.specs.Takings.{asks_list}
-use Rattle.nv_machine.specs.World.{Back, Check, Ending, Ends, Give, HandState, Leave, Lock, Look, Moves, Next, Number, Ready, Refuses, Running, Shared, Maintenance, TakeBlocks, TakePages, Turn, Unlock, Visit, Waits, Fresh, Judge, MaintenanceStep}
+use Rattle.nv_machine.specs.World.{ReturnNumber, Check, Ending, Ends, Give, HandState, Leave, Lock, Look, Moves, Next, Number, Ready, Refuses, Running, Shared, Maintenance, TakeBlocks, TakeLogPages, Turn, Unlock, Visit, Waits, Fresh, Judge, MaintenanceStep}
 use Rattle.nv_machine.proofs.NextSteps.{IsNext, end_next, kind_next, step_next}
 use Rattle.nv_machine.proofs.LoopSteps.{Sequel, goes_on, locking_any, looking_any, sequel_any}
 use Rattle.nv_machine.proofs.StepWays.{by_last, is_last, is_taker, noted, EndsBy, any_ends}
@@ -17,14 +17,14 @@ use Rattle.nv_machine.proofs.MaintenanceWalk.{leads, step_walk_by, goes_plain, i
 
 abbrev pub IsFirst : Next → Type 0
 IsFirst (TakeBlocks asked) = (asked == 0) ≡ true
-IsFirst (TakePages asked) = (asked == 0) ≡ true
+IsFirst (TakeLogPages asked) = (asked == 0) ≡ true
 IsFirst (Maintenance (Fresh ino asked wanted)) = (asked == 0) ≡ true
 IsFirst other = Unit {0}
 
 -- no taking, and not the step behind both; and none of a commit either
 abbrev pub IsApart : Next → Type 0
 IsApart (TakeBlocks asked) = ⊥
-IsApart (TakePages asked) = ⊥
+IsApart (TakeLogPages asked) = ⊥
 IsApart Ready = ⊥
 IsApart (Maintenance (Fresh ino asked wanted)) = ⊥
 IsApart other = Unit {0}
@@ -36,7 +36,7 @@ IsPlain (Lock place) = Unit {0}
 IsPlain Check = Unit {0}
 IsPlain (Unlock place) = Unit {0}
 IsPlain (Give cpu) = Unit {0}
-IsPlain Back = Unit {0}
+IsPlain ReturnNumber = Unit {0}
 IsPlain Visit = Unit {0}
 IsPlain (Maintenance (Fresh ino asked wanted)) = ⊥
 IsPlain (Maintenance step) = Unit {0}
@@ -61,7 +61,7 @@ next_weaker P Q weaker (Ends result s h) on = tt
 
 plain_apart : (next : Next) → IsPlain next → IsApart next
 plain_apart (TakeBlocks asked) is = absurd is
-plain_apart (TakePages asked) is = absurd is
+plain_apart (TakeLogPages asked) is = absurd is
 plain_apart Ready is = absurd is
 plain_apart (Maintenance (Fresh ino asked wanted)) is = absurd is
 plain_apart other is = tt
@@ -71,7 +71,7 @@ on_apart t on = next_weaker IsPlain IsApart plain_apart t on
 
 apart_first : (next : Next) → IsApart next → IsFirst next
 apart_first (TakeBlocks asked) is = absurd is
-apart_first (TakePages asked) is = absurd is
+apart_first (TakeLogPages asked) is = absurd is
 apart_first (Maintenance (Fresh ino asked wanted)) is = absurd is
 apart_first other is = tt
 
@@ -96,7 +96,7 @@ leads_to_plain (Lock place) = true
 leads_to_plain Leave = true
 leads_to_plain (Unlock place) = true
 leads_to_plain (Give cpu) = true
-leads_to_plain Back = true
+leads_to_plain ReturnNumber = true
 leads_to_plain Visit = true
 leads_to_plain (Maintenance step) = not (leads step)
 leads_to_plain other = false
@@ -121,7 +121,7 @@ all_apart = record {
 no_taker : (k : Next) → leads_to_plain k ≡ true → is_taker k ≡ true → ⊥
 no_taker Check e on = false≢true e
 no_taker (TakeBlocks asked) e on = false≢true e
-no_taker (TakePages asked) e on = false≢true e
+no_taker (TakeLogPages asked) e on = false≢true e
 no_taker other e on = false≢true on
 
 not_cleaning : (step : MaintenanceStep) → is_cleaning step ≡ false → IsPlain (Maintenance step)
@@ -146,7 +146,7 @@ leads_to_takings other = asks_list other
 taker_leads : (k : Next) → is_taker k ≡ true → leads_to_takings k ≡ true
 taker_leads Check on = refl
 taker_leads (TakeBlocks asked) on = refl
-taker_leads (TakePages asked) on = refl
+taker_leads (TakeLogPages asked) on = refl
 taker_leads other on = absurd (false≢true on)
 
 pub apart : (k : Next) (block actor : ℕ) (granted : Bool) (s : Shared) (h : HandState) (r : Running) → leads_to_takings k ≡ false

@@ -10,12 +10,12 @@ use Rattle.nv_base.specs.declared.limits.TheConstants.{NUMBER}
 use Rattle.nv_calls.specs.AllCalls.{answer, look_refusal, looked, refusal}
 use Rattle.nv_calls.specs.Locked.{handles}
 use Rattle.nv_calls.specs.Refusals.{Check as Tests}
-use Rattle.nv_machine.specs.Kinds.{back_turn, blocks_in, blocks_turn, check_turn, end_turn, enter_turn, given, grown, lock_turn, look_tests, look_turn, number_turn, pages_turn, seen_at, unlocked_turn, visit_turn, wants_blocks, wants_pages, with_given}
+use Rattle.nv_machine.specs.Kinds.{return_number_turn, blocks_in, blocks_turn, check_turn, end_turn, enter_turn, given, grown, lock_turn, look_tests, look_turn, number_turn, pages_turn, seen_at, unlocked_turn, visit_turn, wants_blocks, wants_pages, with_given}
 use Rattle.nv_machine.specs.Reads.{copies, home_from, nodes, slot_at}
 use Rattle.nv_machine.specs.Sequence.{directories, nothing_looked, sequel}
 use Rattle.nv_machine.specs.Step.{check_grows, ending_at, handle_at, kind_turn, visit_grows, with_made}
-use Rattle.nv_machine.specs.World.{Answers, Back, Check, Cleans, Drains, Ending, Ends, Enter, Give, HandState, Leave, Lock, Look, Next, Number, Overtaken, Ready, Refuses, Running, Shared, Maintenance, TakeBlocks, TakePages, Turn, Unlock, Visit, go_to, owner_at}
-use Rattle.nv_machine.proofs.StepWork.{back_work, work, number_work}
+use Rattle.nv_machine.specs.World.{Answers, ReturnNumber, Check, Cleans, Drains, Ending, Ends, Enter, Give, HandState, Leave, Lock, Look, Next, Number, Overtaken, Ready, Refuses, Running, Shared, Maintenance, TakeBlocks, TakeLogPages, Turn, Unlock, Visit, go_to, owner_at}
+use Rattle.nv_machine.proofs.StepWork.{return_number_work, work, number_work}
 use Rattle.nv_machine.proofs.LoopSteps.{is_on_files}
 use Rattle.nv_machine.proofs.StepWays.{After, AfterBy, Closes, EndsBy, Going, IsBlocked, IsClear, Lasts, Overs, Rests, StopsBy, Takes, Telling, Ways, any_ends, any_lasts, any_overs, any_rests, asks_on, ends_go, is_last, is_taking, last_goes, may_ask, noted, numbered_slots, over_goes, pages_yet, rest_goes, wanted_yet}
 
@@ -45,10 +45,10 @@ WaysOf P E (TakeBlocks asked) block a granted s h r =
     Takes P (TakeBlocks asked) block a s h r
     × ((n : ℕ) → wanted_yet (TakeBlocks asked) block a s r ≡ suc n → may_ask (TakeBlocks asked) s ≡ false
     → Denies P E (work (TakeBlocks asked) block a s h r).shared (work (TakeBlocks asked) block a s h r).hand r NoSpace)
-WaysOf P E (TakePages asked) block a granted s h r =
-    Takes P (TakePages asked) block a s h r
-    × ((n : ℕ) → wanted_yet (TakePages asked) block a s r ≡ suc n → may_ask (TakePages asked) s ≡ false
-    → Denies P E (work (TakePages asked) block a s h r).shared (work (TakePages asked) block a s h r).hand r NoSpace)
+WaysOf P E (TakeLogPages asked) block a granted s h r =
+    Takes P (TakeLogPages asked) block a s h r
+    × ((n : ℕ) → wanted_yet (TakeLogPages asked) block a s r ≡ suc n → may_ask (TakeLogPages asked) s ≡ false
+    → Denies P E (work (TakeLogPages asked) block a s h r).shared (work (TakeLogPages asked) block a s h r).hand r NoSpace)
 WaysOf P E Ready block a granted s h r = (granted ≡ false → Denies P E s h r out_of_memory) × Works P Ready block a s h r
 WaysOf P E Enter block a granted s h r =
     (s.holder ≡ None → nat_le NUMBER s.book.commit ≡ true → Denies P E s h r CommitLimit)
@@ -60,7 +60,7 @@ WaysOf P E (Unlock place) block a granted s h r =
     × (nat_lt (place + 1) (length r.slots) ≡ false → Overs P E (work (Unlock place) block a s h r).shared h r r.ending)
 WaysOf P E (Give cpu) block a granted s h r =
     Rests P E (home_from (cpu + 1) 0 s.lists (blocks_in (given cpu s h))) (with_given cpu h s) (given cpu s h) r r.ending
-WaysOf P E Back block a granted s h r = Lasts P E (back_work h.ino s h).shared (back_work h.ino s h).hand r r.ending
+WaysOf P E ReturnNumber block a granted s h r = Lasts P E (return_number_work h.ino s h).shared (return_number_work h.ino s h).hand r r.ending
 WaysOf P E Visit block a granted s h r =
     ((fault : Fault) → IsClear Visit s r → refusal block (copies s) r.call ≡ Err fault → Denies P E s h r fault)
     × (IsClear Visit s r → refusal block (copies s) r.call ≡ Ok tt → (granted || not (visit_grows r.call)) ≡ false
@@ -126,9 +126,9 @@ module _ (W : Type 0) (P : Going) (E : Telling) (block a : ℕ) (s : Shared) (h 
   blocks_goes (suc n) true asked granted q m w = w.0.more n q m
   blocks_goes (suc n) false asked granted q m w = refused_goes W P E NoSpace _ _ r (w.1 n q m)
 
-  taken_goes : (n : ℕ) (more : Bool) (asked : ℕ) (granted : Bool) → wanted_yet (TakePages asked) block a s r ≡ n
-      → may_ask (TakePages asked) s ≡ more → WaysOf P E (TakePages asked) block a granted s h r
-      → let d = work (TakePages asked) block a s h r in AfterBy W P E (pages_turn n more asked d.shared d.hand r)
+  taken_goes : (n : ℕ) (more : Bool) (asked : ℕ) (granted : Bool) → wanted_yet (TakeLogPages asked) block a s r ≡ n
+      → may_ask (TakeLogPages asked) s ≡ more → WaysOf P E (TakeLogPages asked) block a granted s h r
+      → let d = work (TakeLogPages asked) block a s h r in AfterBy W P E (pages_turn n more asked d.shared d.hand r)
   taken_goes zero more asked granted q m w = w.0.ready q refl
   taken_goes (suc n) true asked granted q m w = w.0.more n q m
   taken_goes (suc n) false asked granted q m w = refused_goes W P E NoSpace _ _ r (w.1 n q m)
@@ -145,8 +145,8 @@ module _ (W : Type 0) (P : Going) (E : Telling) (block a : ℕ) (s : Shared) (h 
   unlocked_goes true place granted is w = w.0 is
   unlocked_goes false place granted is w = over_goes W P E _ _ r r.ending r.ending refl (w.1 is)
 
-  back_goes : (number : Option ℕ) → Lasts P E (back_work number s h).shared (back_work number s h).hand r r.ending
-      → AfterBy W P E (back_turn number s h r)
+  back_goes : (number : Option ℕ) → Lasts P E (return_number_work number s h).shared (return_number_work number s h).hand r r.ending
+      → AfterBy W P E (return_number_turn number s h r)
   back_goes None c = last_goes W P E _ _ r r.ending r.ending refl c
   back_goes (Some ino) c = last_goes W P E _ _ r r.ending r.ending refl c
 
@@ -167,13 +167,13 @@ module _ (W : Type 0) (P : Going) (E : Telling) (block a : ℕ) (s : Shared) (h 
   walk_by (Lock place) granted wait w is = lock_goes _ place refl wait w
   walk_by Check granted wait w is = check_goes (ending_at block s h r) granted refl w
   walk_by (TakeBlocks asked) granted wait w is = blocks_goes _ _ asked granted refl refl w
-  walk_by (TakePages asked) granted wait w is = taken_goes _ _ asked granted refl refl w
+  walk_by (TakeLogPages asked) granted wait w is = taken_goes _ _ asked granted refl refl w
   walk_by Ready granted wait w is = grown_goes W P E granted _ s h r w.0 w.1
   walk_by Enter granted wait w is = enter_goes s.holder _ granted refl refl wait w
   walk_by Leave granted wait w is = ends_go W P E _ _ r r.ending r.slots w
   walk_by (Unlock place) granted wait w is = unlocked_goes _ place granted refl w
   walk_by (Give cpu) granted wait w is = rest_goes W P E _ _ r r.ending _ (given cpu s h).ino refl w
-  walk_by Back granted wait w is = back_goes h.ino w
+  walk_by ReturnNumber granted wait w is = back_goes h.ino w
   walk_by Visit granted wait w is = visit_goes _ _ granted refl refl wait w
   walk_by (Maintenance step) granted wait w is = absurd (false≢true is)
   walk_by other granted wait w is = w
@@ -188,7 +188,7 @@ module _ (P : Going) (E : Telling) (block a : ℕ) (s : Shared) (h : HandState) 
       → Closes P E (work k block a s h r).shared (work k block a s h r).hand r r.ending → WaysOf P E k block a granted s h r
   last_ways (Unlock place) granted is c = (λ more. c.last (Unlock (place + 1)) refl, λ past. any_overs c)
   last_ways (Give cpu) granted is c = any_rests c
-  last_ways Back granted is c = any_lasts c
+  last_ways ReturnNumber granted is c = any_lasts c
   last_ways other granted is c = absurd (false≢true is)
 
   pub any_takes : (k : Next) → ((n : ℕ) (next : Next) → is_taking next ≡ true
@@ -196,7 +196,7 @@ module _ (P : Going) (E : Telling) (block a : ℕ) (s : Shared) (h : HandState) 
       → is_taking (asks_on k) ≡ true → Takes P k block a s h r
   any_takes k takes on = record {
     more = λ n is ask. takes (suc n) (asks_on k) on;
-    pages = λ n none is. takes (suc n) (TakePages 0) refl;
+    pages = λ n none is. takes (suc n) (TakeLogPages 0) refl;
     ready = λ none is. takes 0 Ready refl;
   }
 
@@ -205,7 +205,7 @@ module _ (P : Going) (E : Telling) (block a : ℕ) (s : Shared) (h : HandState) 
       → ((n : ℕ) → Q (length (work k block a s h r).hand.blocks + n)
       → P (work k block a s h r).shared (work k block a s h r).hand (record (noted k block s h r) { wanted = n; next = asks_on k }))
       → ((n : ℕ) → Q (length (work k block a s h r).hand.blocks)
-      → P (work k block a s h r).shared (work k block a s h r).hand (record (noted k block s h r) { wanted = n; next = TakePages 0 }))
+      → P (work k block a s h r).shared (work k block a s h r).hand (record (noted k block s h r) { wanted = n; next = TakeLogPages 0 }))
       → (Q (length (work k block a s h r).hand.blocks)
       → P (work k block a s h r).shared (work k block a s h r).hand (record (noted k block s h r) { wanted = 0; next = Ready }))
       → Takes P k block a s h r
@@ -234,8 +234,8 @@ module _ (P : Going) (E : Telling) (block a : ℕ) (s : Shared) (h : HandState) 
     check_stops (Cleans cleaned) by = by
   any_ways (TakeBlocks asked) granted w is =
       (any_takes (TakeBlocks asked) (w.takes refl) refl, λ n is last. any_ends (w.short refl))
-  any_ways (TakePages asked) granted w is =
-      (any_takes (TakePages asked) (w.takes refl) refl, λ n is last. any_ends (w.short refl))
+  any_ways (TakeLogPages asked) granted w is =
+      (any_takes (TakeLogPages asked) (w.takes refl) refl, λ n is last. any_ends (w.short refl))
   any_ways Ready granted w is = (λ lacks. any_ends (w.stops (Refuses out_of_memory) refl), w.goes refl tt)
   any_ways Enter granted w is = (
     λ free last. any_ends (w.stops (Refuses CommitLimit) refl),
@@ -245,7 +245,7 @@ module _ (P : Going) (E : Telling) (block a : ℕ) (s : Shared) (h : HandState) 
   any_ways Leave granted w is = any_ends (w.over refl)
   any_ways (Unlock place) granted w is = last_ways (Unlock place) granted refl (w.over refl)
   any_ways (Give cpu) granted w is = last_ways (Give cpu) granted refl (w.over refl)
-  any_ways Back granted w is = last_ways Back granted refl (w.over refl)
+  any_ways ReturnNumber granted w is = last_ways ReturnNumber granted refl (w.over refl)
   any_ways Visit granted w is = (
     λ fault free by. any_ends (w.stops (Refuses fault) refl),
     λ free passed lacks. any_ends (w.stops (Refuses out_of_memory) refl),
@@ -258,7 +258,7 @@ module _ (P : Going) (E : Telling) (block a : ℕ) (s : Shared) (h : HandState) 
       → Closes P E (work k block a s h r).shared (work k block a s h r).hand r r.ending → After P E (kind_turn k block a granted s h r)
   last_walk (Unlock place) granted is c = walk_of (Unlock place) granted (last_ways (Unlock place) granted is c) refl
   last_walk (Give cpu) granted is c = walk_of (Give cpu) granted (last_ways (Give cpu) granted is c) refl
-  last_walk Back granted is c = walk_of Back granted (last_ways Back granted is c) refl
+  last_walk ReturnNumber granted is c = walk_of ReturnNumber granted (last_ways ReturnNumber granted is c) refl
   last_walk other granted is c = absurd (false≢true is)
 
   pub walk : (k : Next) (granted : Bool) → Ways P E k block a s h r → is_on_files k ≡ true

@@ -15,7 +15,7 @@ use Rattle.nv_machine.specs.Reads.{copies, has_last_page, home_from, nodes, page
 use Rattle.nv_machine.specs.Sequence.{directories, nothing_looked, sequel}
 use Rattle.nv_machine.specs.Maintenance.{drop_tests, make_tests, visited}
 use Rattle.nv_machine.specs.Step.{ending_at, handle_at, with_made}
-use Rattle.nv_machine.specs.World.{Answers, Back, Check, Compact, Draining, Drains, Drop, Ending, Ends, Enter, Fresh, Give, HandState, Judge, Leave, Lock, LockCleaned, LockPicked, Look, Make, Moves, Next, Number, Overtaken, Pick, Pin, Ready, Refuses, Release, Running, Shared, Show, MaintenanceStep, Maintenance, TakeBlocks, TakePages, Turn, Unlink, Unlock, Unpin, Visit, Waits, go_to, list_at, owner_at, Cleans}
+use Rattle.nv_machine.specs.World.{Answers, ReturnNumber, Check, Compact, Draining, Drains, Drop, Ending, Ends, Enter, Fresh, Give, HandState, Judge, Leave, Lock, LockCleaned, LockPicked, Look, Make, Moves, Next, Number, Overtaken, Pick, Pin, Ready, Refuses, Release, Running, Shared, Show, MaintenanceStep, Maintenance, TakeBlocks, TakeLogPages, Turn, Unlink, Unlock, Unpin, Visit, Waits, go_to, list_at, owner_at, Cleans}
 use Rattle.nv_machine.proofs.StepWork.{work}
 use Rattle.nv_machine.proofs.LoopSteps.{goes_on}
 
@@ -43,44 +43,44 @@ abbrev pub is_over : Next → Bool
 is_over Leave = true
 is_over (Unlock place) = true
 is_over (Give cpu) = true
-is_over Back = true
+is_over ReturnNumber = true
 is_over other = false
 
 abbrev pub is_last : Next → Bool
 is_last (Unlock place) = true
 is_last (Give cpu) = true
-is_last Back = true
+is_last ReturnNumber = true
 is_last other = false
 
 -- a taking may come next
 abbrev pub is_taker : Next → Bool
 is_taker Check = true
 is_taker (TakeBlocks asked) = true
-is_taker (TakePages asked) = true
+is_taker (TakeLogPages asked) = true
 is_taker other = false
 
 abbrev pub is_taking : Next → Bool
 is_taking (TakeBlocks asked) = true
-is_taking (TakePages asked) = true
+is_taking (TakeLogPages asked) = true
 is_taking Ready = true
 is_taking other = false
 
 abbrev pub is_list_taker : Next → Bool
 is_list_taker (TakeBlocks asked) = true
-is_list_taker (TakePages asked) = true
+is_list_taker (TakeLogPages asked) = true
 is_list_taker other = false
 
 module _ (P : Next → Type 0) where
-  pub by_last : ((place : ℕ) → P (Unlock place)) → ((cpu : ℕ) → P (Give cpu)) → P Back → (k : Next) → is_last k ≡ true → P k
+  pub by_last : ((place : ℕ) → P (Unlock place)) → ((cpu : ℕ) → P (Give cpu)) → P ReturnNumber → (k : Next) → is_last k ≡ true → P k
   by_last unlock give back (Unlock place) is = unlock place
   by_last unlock give back (Give cpu) is = give cpu
-  by_last unlock give back Back is = back
+  by_last unlock give back ReturnNumber is = back
   by_last unlock give back other is = absurd (false≢true is)
 
-  pub by_taking : ((asked : ℕ) → P (TakeBlocks asked)) → ((asked : ℕ) → P (TakePages asked)) → P Ready → (k : Next)
+  pub by_taking : ((asked : ℕ) → P (TakeBlocks asked)) → ((asked : ℕ) → P (TakeLogPages asked)) → P Ready → (k : Next)
       → is_taking k ≡ true → P k
   by_taking blocks pages ready (TakeBlocks asked) is = blocks asked
-  by_taking blocks pages ready (TakePages asked) is = pages asked
+  by_taking blocks pages ready (TakeLogPages asked) is = pages asked
   by_taking blocks pages ready Ready is = ready
   by_taking blocks pages ready other is = absurd (false≢true is)
 
@@ -225,7 +225,7 @@ pub record Lasts (P : Going) (E : Telling) (s : Shared) (h : HandState) (r : Run
 -- nothing is locked: blocks are at home on a CPU, or none are and a number is in the hand, or nothing is
 pub record Rests (P : Going) (E : Telling) (home : Option ℕ) (s : Shared) (h : HandState) (r : Running) (e : Ending) : Type 0 where
   pub give : (cpu : ℕ) → home ≡ Some cpu → P s h (record r { ending = e; next = Give cpu })
-  pub back : (ino : ℕ) → home ≡ None → h.ino ≡ Some ino → P s h (record r { ending = e; next = Back })
+  pub back : (ino : ℕ) → home ≡ None → h.ino ≡ Some ino → P s h (record r { ending = e; next = ReturnNumber })
   pub lasts : home ≡ None → h.ino ≡ None → Lasts P E s h r e
 
 pub record Overs (P : Going) (E : Telling) (s : Shared) (h : HandState) (r : Running) (e : Ending) : Type 0 where
@@ -273,7 +273,7 @@ module _ {P : Going} {E : Telling} {s : Shared} {h : HandState} {r : Running} {e
   any_lasts c = record { told = λ full. c.told; picks = c.picks }
 
   pub any_rests : {home : Option ℕ} → Closes P E s h r e → Rests P E home s h r e
-  any_rests c = record { give = λ cpu is. c.last (Give cpu) refl; back = λ ino none is. c.last Back refl; lasts = λ none is. any_lasts c }
+  any_rests c = record { give = λ cpu is. c.last (Give cpu) refl; back = λ ino none is. c.last ReturnNumber refl; lasts = λ none is. any_lasts c }
 
   pub any_overs : Closes P E s h r e → Overs P E s h r e
   any_overs c = record {
@@ -295,7 +295,7 @@ end_goes P E s h r e c slots = ends_go (Unit {0}) P E s h r e slots (any_ends c)
 abbrev pub wanted_yet : Next → ℕ → ℕ → Shared → Running → ℕ
 wanted_yet Check block a s r = blocks_wanted block (copies s) (has_last_page block s r.call) r.call
 wanted_yet (TakeBlocks asked) block a s r = r.wanted - length (list_at s (asked_list (length s.lists) a asked)).blocks
-wanted_yet (TakePages asked) block a s r = r.wanted - length (list_at s (asked_list (length s.lists) a asked)).blocks
+wanted_yet (TakeLogPages asked) block a s r = r.wanted - length (list_at s (asked_list (length s.lists) a asked)).blocks
 wanted_yet other block a s r = 0
 
 -- and so many log pages, where no more blocks are wanted
@@ -309,12 +309,12 @@ pages_yet other block a s h r = 0
 abbrev pub asks_on : Next → Next
 asks_on Check = TakeBlocks 0
 asks_on (TakeBlocks asked) = TakeBlocks (asked + 1)
-asks_on (TakePages asked) = TakePages (asked + 1)
+asks_on (TakeLogPages asked) = TakeLogPages (asked + 1)
 asks_on other = other
 
 abbrev pub may_ask : Next → Shared → Bool
 may_ask (TakeBlocks asked) s = nat_lt (asked + 1) (length s.lists)
-may_ask (TakePages asked) s = nat_lt (asked + 1) (length s.lists)
+may_ask (TakeLogPages asked) s = nat_lt (asked + 1) (length s.lists)
 may_ask other s = true
 
 -- what is taken and what is wanted yet are what was wanted
@@ -326,6 +326,6 @@ pub record Takes (P : Going) (k : Next) (block a : ℕ) (s : Shared) (h : HandSt
   pub more : (n : ℕ) → wanted_yet k block a s r ≡ suc n → may_ask k s ≡ true
       → P (work k block a s h r).shared (work k block a s h r).hand (record (noted k block s h r) { wanted = suc n; next = asks_on k })
   pub pages : (n : ℕ) → wanted_yet k block a s r ≡ 0 → pages_yet k block a s h r ≡ suc n
-      → P (work k block a s h r).shared (work k block a s h r).hand (record (noted k block s h r) { wanted = suc n; next = TakePages 0 })
+      → P (work k block a s h r).shared (work k block a s h r).hand (record (noted k block s h r) { wanted = suc n; next = TakeLogPages 0 })
   pub ready : wanted_yet k block a s r ≡ 0 → pages_yet k block a s h r ≡ 0
       → P (work k block a s h r).shared (work k block a s h r).hand (record (noted k block s h r) { wanted = 0; next = Ready })

@@ -11,7 +11,7 @@ use Rattle.nv_machine.specs.Cleaning.{compacted_cell, unlinked, with_fresh, with
 use Rattle.nv_machine.specs.Kinds.{asked_list, blocks_left, entries_for, first_killed, given, less_list, old_tails, retired_book, retired_cell, with_bytes, with_entries, with_erased, with_freed, with_given, with_killed, with_pages}
 use Rattle.nv_machine.specs.Reads.{pages_needed, slot_at, written_slots}
 use Rattle.nv_machine.specs.Maintenance.{with_released}
-use Rattle.nv_machine.specs.World.{Append, Back, Close, Compact, Drop, Enter, Fresh, Give, HandState, Judge, Leave, Lock, LockCleaned, LockPicked, Make, Next, Number, Open, Pick, Pin, Publish, Ready, Release, Retire, Running, Shared, Show, MaintenanceStep, Maintenance, TakeBlocks, TakePages, Unlink, Unlock, Unpin, cell_at, list_at, with_book, with_cell, with_numbers, with_owner}
+use Rattle.nv_machine.specs.World.{Append, ReturnNumber, Close, Compact, Drop, Enter, Fresh, Give, HandState, Judge, Leave, Lock, LockCleaned, LockPicked, Make, Next, Number, Open, Pick, Pin, Publish, Ready, Release, Retire, Running, Shared, Show, MaintenanceStep, Maintenance, TakeBlocks, TakeLogPages, Unlink, Unlock, Unpin, cell_at, list_at, with_book, with_cell, with_numbers, with_owner}
 
 -- what is shared, and a hand
 pub record Both : Type 0 where
@@ -35,9 +35,9 @@ retire_work ino killed s h r =
     both (with_cell ino (erased (retired_cell ino killed s r)) (with_book (retired_book ino killed s r) s))
     (with_erased ino (retired_cell ino killed s r) (with_freed ino killed s r h))
 
-abbrev pub back_work : Option ℕ → Shared → HandState → Both
-back_work None s h = both s h
-back_work (Some ino) s h = both (with_numbers (put_by (λ n. n) ino s.pool.numbers) s) (record h { ino = None })
+abbrev pub return_number_work : Option ℕ → Shared → HandState → Both
+return_number_work None s h = both s h
+return_number_work (Some ino) s h = both (with_numbers (put_by (λ n. n) ino s.pool.numbers) s) (record h { ino = None })
 
 abbrev pub release_work : Record → Shared → HandState → Both
 release_work picked s h =
@@ -68,7 +68,7 @@ work (Lock place) block actor s h r = both (with_owner (slot_at r.slots place) (
 work (TakeBlocks asked) block actor s h r =
     both (less_list (asked_list (length s.lists) actor asked) r.wanted s)
     (record h { blocks = h.blocks ++ take r.wanted (list_at s (asked_list (length s.lists) actor asked)).blocks })
-work (TakePages asked) block actor s h r =
+work (TakeLogPages asked) block actor s h r =
     both (less_list (asked_list (length s.lists) actor asked) r.wanted s)
     (record h { pages = h.pages ++ take r.wanted (list_at s (asked_list (length s.lists) actor asked)).blocks })
 work Ready block actor s h r = both s (with_bytes block s r h)
@@ -85,7 +85,7 @@ work (Retire place) block actor s h r = retire_work (slot_at (written_slots r) p
 work Leave block actor s h r = both (record s { holder = None }) h
 work (Unlock place) block actor s h r = both (with_owner (slot_at r.slots place) None s) h
 work (Give cpu) block actor s h r = both (with_given cpu h s) (given cpu s h)
-work Back block actor s h r = back_work h.ino s h
+work ReturnNumber block actor s h r = return_number_work h.ino s h
 work (Maintenance step) block actor s h r = maintenance_work step actor s h
 work other block actor s h r = both s h
 
@@ -96,12 +96,12 @@ module _ (P : Shared → HandState → Type 0) (s : Shared) (h : HandState)
   on_number [] = p s.pool.numbers h.ino
   on_number (ino ∷ numbers) = p numbers (Some ino)
 
-  on_back : (number : Option ℕ) → P (back_work number s h).shared (back_work number s h).hand
+  on_back : (number : Option ℕ) → P (return_number_work number s h).shared (return_number_work number s h).hand
   on_back None = p s.pool.numbers h.ino
   on_back (Some ino) = p (put_by (λ n. n) ino s.pool.numbers) None
 
   pub by_number : P (number_work s.pool.numbers s h).shared (number_work s.pool.numbers s h).hand
   by_number = on_number s.pool.numbers
 
-  pub by_back : P (back_work h.ino s h).shared (back_work h.ino s h).hand
+  pub by_back : P (return_number_work h.ino s h).shared (return_number_work h.ino s h).hand
   by_back = on_back h.ino

@@ -2,7 +2,7 @@
 use Rattle.std.proofs.Common.{Bool, arith, inl, inr, refl, sym, ℕ}
 use Rattle.nv_machine.specs.Step.{kind_turn}
 use Rattle.nv_machine.specs.Wanted.{LeadsTo, TakesInTurn}
-use Rattle.nv_machine.specs.World.{Check, Ends, HandState, Moves, Next, Ready, Running, Shared, TakeBlocks, TakePages, Turn, Waits, Maintenance, Judge, Fresh, MaintenanceStep}
+use Rattle.nv_machine.specs.World.{Check, Ends, HandState, Moves, Next, Ready, Running, Shared, TakeBlocks, TakeLogPages, Turn, Waits, Maintenance, Judge, Fresh, MaintenanceStep}
 use Rattle.nv_machine.proofs.StepPhases.{IsApart, OnApart, apart}
 use Rattle.nv_machine.proofs.NextSteps.{IsQuiet, Known, OnKnown, quiet_walk, QuietWays, quiet_step}
 
@@ -18,7 +18,7 @@ module _ (k : Next) (block actor : ℕ) (s : Shared) (r : Running) where
   -- a step that goes on to no taking, nor past both
   apart_leads : (next : Next) (t : Shared) (h : HandState) (q : Running) → IsApart next → Leads next t h q
   apart_leads (TakeBlocks asked) t h q is = absurd is
-  apart_leads (TakePages asked) t h q is = absurd is
+  apart_leads (TakeLogPages asked) t h q is = absurd is
   apart_leads Ready t h q is = absurd is
   apart_leads other t h q is = tt
 
@@ -53,10 +53,10 @@ takes_in_turn (TakeBlocks asked) block actor granted s h r =
       pages = λ n few is. inl (few, record { own_list = refl; is = sym is; some = omega arith });
       ready = λ few is. inl (few, is);
     }))
-takes_in_turn (TakePages asked) block actor granted s h r =
-    leads (TakePages asked) block actor s r _
-    (quiet_walk (Leads (TakePages asked) block actor s r) (quiet (TakePages asked) block actor s r) block actor granted s h r
-    (TakePages asked) (record {
+takes_in_turn (TakeLogPages asked) block actor granted s h r =
+    leads (TakeLogPages asked) block actor s r _
+    (quiet_walk (Leads (TakeLogPages asked) block actor s r) (quiet (TakeLogPages asked) block actor s r) block actor granted s h r
+    (TakeLogPages asked) (record {
       more = λ n is ask. inr (asked, refl, record { next = refl; is = sym is; some = omega arith });
       pages = λ n few is. cc;
       ready = λ few is. inr (asked, refl, few);

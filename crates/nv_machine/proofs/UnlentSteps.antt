@@ -3,7 +3,7 @@ use Rattle.std.proofs.Common.{Bool, false, length, length-set, refl, true, ℕ, 
 use Rattle.std.proofs.lemmas.Bool.{false≢true}
 use Rattle.nv_machine.specs.Kinds.{asked_list}
 use Rattle.nv_machine.specs.Step.{kind_turn}
-use Rattle.nv_machine.specs.World.{Append, Back, Close, Enter, Give, HandState, Leave, LockPicked, Next, Number, Open, Publish, Retire, Running, Shared, Show, MaintenanceStep, Maintenance, TakeBlocks, TakePages, LockCleaned, Judge, Fresh}
+use Rattle.nv_machine.specs.World.{Append, ReturnNumber, Close, Enter, Give, HandState, Leave, LockPicked, Next, Number, Open, Publish, Retire, Running, Shared, Show, MaintenanceStep, Maintenance, TakeBlocks, TakeLogPages, LockCleaned, Judge, Fresh}
 use Rattle.nv_machine.proofs.StepWork.{by_back, by_number, work}
 use Rattle.nv_machine.proofs.WorkKeeps.{AfterTurn, turn_keeps}
 use Rattle.nv_machine.proofs.LoopSteps.{is_on_files}
@@ -51,12 +51,12 @@ work_beside : (k : Next) (block a : ℕ) (s : Shared) (h : HandState) (r : Runni
 work_beside Number block a s h r is =
     by_number (λ (t : Shared) (g : HandState). IsBeside s t) s h
     (λ numbers ino. record { cells = refl; book = refl; holder = refl; cpus = refl })
-work_beside Back block a s h r is =
+work_beside ReturnNumber block a s h r is =
     by_back (λ (t : Shared) (g : HandState). IsBeside s t) s h
     (λ numbers ino. record { cells = refl; book = refl; holder = refl; cpus = refl })
 work_beside (TakeBlocks asked) block a s h r is =
     record { cells = refl; book = refl; holder = refl; cpus = length-set s.lists (asked_list (length s.lists) a asked) _ }
-work_beside (TakePages asked) block a s h r is =
+work_beside (TakeLogPages asked) block a s h r is =
     record { cells = refl; book = refl; holder = refl; cpus = length-set s.lists (asked_list (length s.lists) a asked) _ }
 work_beside (Give cpu) block a s h r is = record { cells = refl; book = refl; holder = refl; cpus = length-set s.lists cpu _ }
 work_beside (Maintenance step) block a s h r is = on_beside step block a s h r is
@@ -84,7 +84,7 @@ pub files_leave : (k : Next) (block a : ℕ) (s : Shared) (h : HandState) (r : R
     → LeavesRecords s (work k block a s h r).shared
 files_leave Number block a s h r is =
     by_number (λ (t : Shared) (g : HandState). LeavesRecords s t) s h (λ numbers ino. record { snaps = refl; deferred = refl })
-files_leave Back block a s h r is =
+files_leave ReturnNumber block a s h r is =
     by_back (λ (t : Shared) (g : HandState). LeavesRecords s t) s h (λ numbers ino. record { snaps = refl; deferred = refl })
 files_leave (Maintenance step) block a s h r is = absurd (false≢true is)
 files_leave other block a s h r is = record { snaps = refl; deferred = refl }

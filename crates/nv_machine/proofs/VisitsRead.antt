@@ -9,7 +9,7 @@ use Rattle.nv_calls.specs.AllCalls.{answer}
 use Rattle.nv_calls.specs.Locked.{SameCall, handles}
 use Rattle.nv_calls.specs.declared.answer.Answer.{Answer}
 use Rattle.nv_calls.specs.declared.call.Call.{Call}
-use Rattle.nv_calls.specs.declared.taken.Taken.{Taken}
+use Rattle.nv_calls.specs.declared.allocation.Allocation.{Allocation}
 use Rattle.nv_calls.proofs.Same.{call_same}
 use Rattle.nv_cell.specs.Cell.{log_of}
 use Rattle.nv_entry.specs.declared.item.Entry.{Entry}
@@ -38,7 +38,7 @@ module _ (w : World) (logs : AreGrown w) where
       (node_by (cell_at w.shared handle.ino) log) None) (free_log handle.ino free)
 
   -- a visit reads one node
-  pub visit_same : (taken : Taken) (c : Call) → beginning c ≡ Visits
+  pub visit_same : (taken : Allocation) (c : Call) → beginning c ≡ Visits
       → owner_at w.shared (handle_at (handles nothing_looked c) 0).ino ≡ None
       → SameCall w.numbers.block (settled_nodes w.shared) (nodes w.shared) taken c
   visit_same taken (call.Read file offset count) is free =

@@ -4,7 +4,7 @@ use Rattle.nv_base.specs.declared.geometry.GeometryNumbers.{GeometryNumbers}
 use Rattle.nv_book.specs.declared.record.Record.{Record}
 use Rattle.nv_machine.specs.Starts.{IsStart}
 use Rattle.nv_machine.specs.Step.{after, step}
-use Rattle.nv_machine.specs.World.{Back, Event, HandState, Make, Next, Number, Running, Shared, MaintenanceStep, Maintenance, World, actor_at}
+use Rattle.nv_machine.specs.World.{ReturnNumber, Event, HandState, Make, Next, Number, Running, Shared, MaintenanceStep, Maintenance, World, actor_at}
 use Rattle.nv_machine.proofs.StepWork.{by_back, by_number, work, maintenance_work}
 use Rattle.nv_machine.proofs.OverEvents.{event_actors, event_shared, events_by}
 use Rattle.nv_machine.proofs.WorkKeeps.{turn_keeps}
@@ -24,7 +24,7 @@ snapshot_pool other actor s h = refl
 work_pool : (k : Next) (block actor : ℕ) (s : Shared) (h : HandState) (r : Running)
     → (work k block actor s h r).shared.pool.inodes ≡ s.pool.inodes
 work_pool Number block actor s h r = by_number (λ t g. t.pool.inodes ≡ s.pool.inodes) s h (λ numbers ino. refl)
-work_pool Back block actor s h r = by_back (λ t g. t.pool.inodes ≡ s.pool.inodes) s h (λ numbers ino. refl)
+work_pool ReturnNumber block actor s h r = by_back (λ t g. t.pool.inodes ≡ s.pool.inodes) s h (λ numbers ino. refl)
 work_pool (Maintenance step) block actor s h r = snapshot_pool step actor s h
 work_pool other block actor s h r = refl
 

@@ -5,7 +5,7 @@ use Rattle.std.proofs.lemmas.Bool.{eqb-true, false≢true}
 use Rattle.nv_alloc.specs.Numbers.{IsRising, has}
 use Rattle.nv_calls.specs.Plan.{plan_blocks}
 use Rattle.nv_calls.specs.Slots.{items_for}
-use Rattle.nv_calls.specs.declared.plan.Planned.{Planned}
+use Rattle.nv_calls.specs.declared.plan.InodePlan.{InodePlan}
 use Rattle.nv_cell.specs.Append.{IsWithinFile}
 use Rattle.nv_entry.specs.Blocks.{item_blocks}
 use Rattle.nv_entry.specs.declared.item.Item.{Item}
@@ -38,7 +38,7 @@ one_slot f k only (x ∷ xs) r = go (f x) refl (one_slot f k only xs r.1) where
       rw none (omega arith)
   go false e more = more
 
-pub many_planned : (plan : List Planned) (slots : List ℕ) → IsRising slots → 1 < length (filter (is_written plan) slots) → 1 < length plan
+pub many_planned : (plan : List InodePlan) (slots : List ℕ) → IsRising slots → 1 < length (filter (is_written plan) slots) → 1 < length plan
 many_planned (p ∷ q ∷ plan) slots rising lt = omega arith
 many_planned (p ∷ []) slots rising lt =
     absurd (omega (arith, lt, one_slot (is_written (p ∷ [])) p.handle.ino (λ n e. go n (p.handle.ino == n) refl e) slots rising)) where
@@ -53,7 +53,7 @@ both_none : (xs ys : List ℕ) → xs ++ ys ≡ [] → (xs ≡ []) × (ys ≡ []
 both_none [] ys h = (refl, h)
 both_none (x ∷ xs) ys h = cc
 
-none_for : (plan : List Planned) (ino : ℕ) → plan_blocks plan ≡ [] → flat_map item_blocks (items_for plan ino) ≡ []
+none_for : (plan : List InodePlan) (ino : ℕ) → plan_blocks plan ≡ [] → flat_map item_blocks (items_for plan ino) ≡ []
 none_for [] ino h = refl
 none_for (p ∷ plan) ino h =
     let both = both_none (flat_map item_blocks p.items) (plan_blocks plan) h in
@@ -66,9 +66,9 @@ none_for (p ∷ plan) ino h =
 no_front : (items : List Item) (numbers : List ℕ) → flat_map item_blocks items ≡ [] → HaveFront items numbers
 no_front items numbers e = record { rest = numbers; is = sym (ap (λ (l : List ℕ). l ++ numbers) e) }
 
-pub front_of : (plan : List Planned) (numbers : List ℕ) (ino : ℕ) → IsPlanFor plan numbers → HaveFront (items_for plan ino) numbers
+pub front_of : (plan : List InodePlan) (numbers : List ℕ) (ino : ℕ) → IsPlanFor plan numbers → HaveFront (items_for plan ino) numbers
 front_of plan numbers ino p = go plan p.blocks p.several where
-  go : (plan : List Planned) → (plan_blocks plan ≡ numbers) ⊎ (plan_blocks plan ≡ []) → (1 < length plan → plan_blocks plan ≡ [])
+  go : (plan : List InodePlan) → (plan_blocks plan ≡ numbers) ⊎ (plan_blocks plan ≡ []) → (1 < length plan → plan_blocks plan ≡ [])
       → HaveFront (items_for plan ino) numbers
   go plan (inr none) several = no_front (items_for plan ino) numbers (none_for plan ino none)
   go [] (inl all) several = no_front [] numbers refl
@@ -79,7 +79,7 @@ front_of plan numbers ino p = go plan p.blocks p.several where
   go (q ∷ o ∷ plan) (inl all) several = no_front (items_for (q ∷ o ∷ plan) ino) numbers
       (none_for (q ∷ o ∷ plan) ino (several (omega arith)))
 
-pub within_of : (plan : List Planned) (ino : ℕ) → AllByRecursion (λ (p : Planned). AllByRecursion IsWithinFile p.items) plan
+pub within_of : (plan : List InodePlan) (ino : ℕ) → AllByRecursion (λ (p : InodePlan). AllByRecursion IsWithinFile p.items) plan
     → AllByRecursion IsWithinFile (items_for plan ino)
 within_of [] ino h = tt
 within_of (p ∷ plan) ino h = go (p.handle.ino == ino) (within_of plan ino h.1) where

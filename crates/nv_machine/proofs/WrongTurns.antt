@@ -5,7 +5,7 @@ use Rattle.nv_machine.specs.Format.{formatted}
 use Rattle.nv_machine.specs.Pages.{HasLogPages}
 use Rattle.nv_machine.specs.Sequence.{started}
 use Rattle.nv_machine.specs.Wanted.{TakesInTurn, data_wanted, lacking}
-use Rattle.nv_machine.specs.World.{Check, HandState, Moves, Next, Ready, Running, Shared, TakeBlocks, TakePages, Turn, World, actor_at}
+use Rattle.nv_machine.specs.World.{Check, HandState, Moves, Next, Ready, Running, Shared, TakeBlocks, TakeLogPages, Turn, World, actor_at}
 use Rattle.nv_machine.proofs.LimitRows.{two_takings}
 use Rattle.nv_machine.proofs.ScriptRows.{device, handle, played}
 
@@ -42,7 +42,7 @@ both_at_once (inr goes) = let e = goes.1 in cc
 one_block : data_wanted 4 (shared_at 1) (call_at 1) ≡ 1
 one_block = refl
 
-page_alone : IsLawful 1 (TakePages 0) 1 → ⊥
+page_alone : IsLawful 1 (TakeLogPages 0) 1 → ⊥
 page_alone (inl begins) = let e : data_wanted 4 (shared_at 1) (call_at 1) ≡ 0 = begins.0 in omega (arith, e, one_block)
 page_alone (inr goes) = let e = goes.1 in cc
 

@@ -4,7 +4,7 @@ use Rattle.nv_calls.specs.AllCalls.{answer}
 use Rattle.nv_calls.specs.declared.answer.Answer.{Answer}
 use Rattle.nv_machine.specs.Kinds.{result_by}
 use Rattle.nv_machine.specs.Step.{Step, reply_of}
-use Rattle.nv_machine.specs.World.{Answers, Append, Back, Cleans, Close, Drains, Ending, Give, Leave, Moved, Next, Open, Overtaken, Publish, Refuses, Retire, Running, Maintenance, Unlock, Unpin, actor_at}
+use Rattle.nv_machine.specs.World.{Answers, Append, ReturnNumber, Cleans, Close, Drains, Ending, Give, Leave, Moved, Next, Open, Overtaken, Publish, Refuses, Retire, Running, Maintenance, Unlock, Unpin, actor_at}
 
 -- no step is left that decides anything: a commit is under way, or what is locked or in the hand is given up
 abbrev pub IsLast : Next → Type 0
@@ -16,7 +16,7 @@ IsLast (Retire place) = Unit {0}
 IsLast Leave = Unit {0}
 IsLast (Unlock place) = Unit {0}
 IsLast (Give cpu) = Unit {0}
-IsLast Back = Unit {0}
+IsLast ReturnNumber = Unit {0}
 IsLast other = ⊥
 
 -- nor is one left that refuses anything: a show that is refused has to take its pin off

@@ -6,7 +6,7 @@ use Rattle.nv_calls.specs.declared.call.Call.{Call}
 use Rattle.nv_calls.specs.declared.call.Call.TheVariants as call
 use Rattle.nv_calls.specs.declared.maintenance_call.MaintenanceCall.TheVariants as on
 use Rattle.nv_machine.specs.Step.{step}
-use Rattle.nv_machine.specs.World.{Append, Back, Check, Close, Compact, Drains, Drop, Ending, Ends, Enter, Event, Fresh, Give, Go, Judge, Leave, Lock, LockCleaned, LockPicked, Look, Make, Moved, Moves, Next, Number, Open, Pick, Pin, Publish, Ready, Release, Reply, Retire, Running, Show, MaintenanceStep, Maintenance, Start, TakeBlocks, TakePages, Turn, Unlink, Unlock, Unpin, Visit, Waits, World, actor_at}
+use Rattle.nv_machine.specs.World.{Append, ReturnNumber, Check, Close, Compact, Drains, Drop, Ending, Ends, Enter, Event, Fresh, Give, Go, Judge, Leave, Lock, LockCleaned, LockPicked, Look, Make, Moved, Moves, Next, Number, Open, Pick, Pin, Publish, Ready, Release, Reply, Retire, Running, Show, MaintenanceStep, Maintenance, Start, TakeBlocks, TakeLogPages, Turn, Unlink, Unlock, Unpin, Visit, Waits, World, actor_at}
 
 -- a whole round, whatever its looks find
 abbrev pub round : ℕ → ℕ
@@ -30,7 +30,7 @@ rank_on cpus slots (Compact ino) = 4 + cpus + slots
 
 -- the steps left in one round, by the step that comes next, with so many CPUs and slots to lock
 abbrev pub rank : ℕ → ℕ → Next → ℕ
-rank cpus slots Back = 1
+rank cpus slots ReturnNumber = 1
 rank cpus slots (Give cpu) = 2 + (cpus - cpu)
 rank cpus slots (Unlock place) = 3 + cpus + (slots - place)
 rank cpus slots Leave = 4 + cpus + slots
@@ -41,7 +41,7 @@ rank cpus slots Open = 8 + cpus + 3 * slots
 rank cpus slots (Append place) = 9 + cpus + 3 * slots + (slots - place)
 rank cpus slots Enter = 10 + cpus + 4 * slots
 rank cpus slots Ready = 11 + cpus + 4 * slots
-rank cpus slots (TakePages asked) = 12 + cpus + 4 * slots + (cpus - asked)
+rank cpus slots (TakeLogPages asked) = 12 + cpus + 4 * slots + (cpus - asked)
 rank cpus slots (TakeBlocks asked) = 13 + 2 * cpus + 4 * slots + (cpus - asked)
 rank cpus slots Check = 14 + 3 * cpus + 4 * slots
 rank cpus slots Visit = 14 + 3 * cpus + 4 * slots

@@ -16,7 +16,7 @@ use Rattle.nv_machine.specs.Sequence.{beginning}
 use Rattle.nv_epoch.specs.SnapList.{pins_of}
 use Rattle.nv_machine.specs.Maintenance.{drop_tests, is_first, make_tests}
 use Rattle.nv_machine.specs.Step.{check_grows, is_numbered, same_looked, visit_grows}
-use Rattle.nv_machine.specs.World.{Answers, Check, Cleans, Drains, Drop, Ending, Ends, Enter, Fresh, HandState, Judge, Look, Make, Moves, Next, Overtaken, Pick, Pin, Ready, Refuses, Running, Shared, Show, MaintenanceStep, Maintenance, TakeBlocks, TakePages, Turn, Visit, Waits, cell_at, list_at}
+use Rattle.nv_machine.specs.World.{Answers, Check, Cleans, Drains, Drop, Ending, Ends, Enter, Fresh, HandState, Judge, Look, Make, Moves, Next, Overtaken, Pick, Pin, Ready, Refuses, Running, Shared, Show, MaintenanceStep, Maintenance, TakeBlocks, TakeLogPages, Turn, Visit, Waits, cell_at, list_at}
 
 -- ---- causes
 
@@ -87,7 +87,7 @@ IsCause Check block actor granted nodes s h r fault =
     ⊎ IsLastRound nodes r fault
 IsCause (TakeBlocks asked) block actor granted nodes s h r fault =
     IsShort s (asked_list (length s.lists) actor asked) asked r.wanted fault
-IsCause (TakePages asked) block actor granted nodes s h r fault =
+IsCause (TakeLogPages asked) block actor granted nodes s h r fault =
     IsShort s (asked_list (length s.lists) actor asked) asked r.wanted fault
 IsCause Ready block actor granted nodes s h r fault = IsDenied granted fault
 IsCause Enter block actor granted nodes s h r fault = IsAtLimit s fault ⊎ IsDenied granted fault

@@ -4,7 +4,7 @@ use Rattle.nv_alloc.specs.Block.{BlockValue}
 use Rattle.nv_alloc.specs.Numbers.{has}
 use Rattle.nv_calls.specs.AllCalls.{effect}
 use Rattle.nv_calls.specs.Plain.{node_in}
-use Rattle.nv_calls.specs.Slots.{IsPlan, Slot, items_for}
+use Rattle.nv_calls.specs.Slots.{IsPlan, InodeSlot, items_for}
 use Rattle.nv_cell.specs.Cell.{CellState}
 use Rattle.nv_entry.specs.Sound.{IsSound}
 use Rattle.nv_entry.specs.declared.item.Entry.{Entry}
@@ -21,7 +21,7 @@ abbrev pub AreSound : Shared → Type 0
 AreSound s = (ino : ℕ) → IsSoundIn (cell_at s ino) (settled s ino)
 
 -- slots by their settled logs
-abbrev pub settled_slots : Shared → ℕ → Slot
+abbrev pub settled_slots : Shared → ℕ → InodeSlot
 settled_slots s ino = record { generation = (cell_at s ino).generation; log = settled s ino }
 
 -- `bytes` gives those of each cell's blocks, settled logs are sound by it, and the plan, which is of slots that are

@@ -15,7 +15,7 @@ use Rattle.nv_machine.specs.Held.{is_of_slot, pending_in}
 use Rattle.nv_machine.specs.PoolScan.{is_withheld}
 use Rattle.nv_machine.specs.Settled.{settled}
 use Rattle.nv_machine.specs.Step.{changed}
-use Rattle.nv_machine.specs.World.{Back, Give, Leave, Next, Pick, Retire, Running, Shared, Maintenance, Unlock, World, actor_at, cell_at, empty_hand}
+use Rattle.nv_machine.specs.World.{ReturnNumber, Give, Leave, Next, Pick, Retire, Running, Shared, Maintenance, Unlock, World, actor_at, cell_at, empty_hand}
 
 -- what keeps the pairs of a slot, but for a hand that has killed them: the living snapshots and, by name,
 -- these that are pending
@@ -58,7 +58,7 @@ is_late (Retire place) = true
 is_late Leave = true
 is_late (Unlock place) = true
 is_late (Give cpu) = true
-is_late Back = true
+is_late ReturnNumber = true
 is_late other = false
 
 -- a number is in the hand of such a call

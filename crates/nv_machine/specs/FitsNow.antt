@@ -4,7 +4,7 @@ use Rattle.std.specs.List.{flat_map}
 use Rattle.nv_alloc.specs.Block.{BlockValue}
 use Rattle.nv_cell.specs.Cell.{CellState}
 use Rattle.nv_machine.specs.Reads.{bytes_among}
-use Rattle.nv_machine.specs.World.{Append, Close, Enter, Next, Open, Publish, Ready, Shared, TakeBlocks, TakePages}
+use Rattle.nv_machine.specs.World.{Append, Close, Enter, Next, Open, Publish, Ready, Shared, TakeBlocks, TakeLogPages}
 
 abbrev pub all_parts : List CellState → List (Option BlockValue)
 all_parts cells = flat_map (λ (c : CellState). c.blocks) cells
@@ -16,7 +16,7 @@ bytes_in s number = bytes_among (all_parts s.cells) number
 -- a call has passed its check, and has not yet had its commit point
 abbrev pub is_checked : Next → Bool
 is_checked (TakeBlocks asked) = true
-is_checked (TakePages asked) = true
+is_checked (TakeLogPages asked) = true
 is_checked Ready = true
 is_checked Enter = true
 is_checked (Append place) = true

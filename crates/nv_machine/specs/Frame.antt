@@ -5,7 +5,7 @@ use Rattle.nv_machine.specs.Kinds.{asked_list}
 use Rattle.nv_machine.specs.Reads.{slot_at, written_slots}
 use Rattle.nv_machine.specs.Sequence.{beginning, begun}
 use Rattle.nv_machine.specs.Step.{Step, turn, turned}
-use Rattle.nv_machine.specs.World.{Append, Back, Check, Close, Compact, Ends, Enter, Fresh, Give, Judge, Leave, Lock, LockCleaned, LockPicked, Look, Moves, Next, Number, Open, Publish, Ready, Release, Retire, Running, Shared, Show, MaintenanceStep, Maintenance, Started, TakeBlocks, TakePages, Turn, Unlink, Unlock, Visit, Waits, World, actor_at, cell_at, list_at, owner_at}
+use Rattle.nv_machine.specs.World.{Append, ReturnNumber, Check, Close, Compact, Ends, Enter, Fresh, Give, Judge, Leave, Lock, LockCleaned, LockPicked, Look, Moves, Next, Number, Open, Publish, Ready, Release, Retire, Running, Shared, Show, MaintenanceStep, Maintenance, Started, TakeBlocks, TakeLogPages, Turn, Unlink, Unlock, Visit, Waits, World, actor_at, cell_at, list_at, owner_at}
 
 -- the parts that a step may change: the free list of a CPU, the pool, the cell of a slot, the lock of a slot, the
 -- book, and the commit lock
@@ -39,7 +39,7 @@ lent (Look place) cpus actor r = nothing_lent
 lent (Lock place) cpus actor r = record nothing_lent { lock = Some (slot_at r.slots place) }
 lent Check cpus actor r = nothing_lent
 lent (TakeBlocks asked) cpus actor r = record nothing_lent { list = Some (asked_list cpus actor asked) }
-lent (TakePages asked) cpus actor r = record nothing_lent { list = Some (asked_list cpus actor asked) }
+lent (TakeLogPages asked) cpus actor r = record nothing_lent { list = Some (asked_list cpus actor asked) }
 lent Ready cpus actor r = nothing_lent
 lent Enter cpus actor r = record nothing_lent { book = true; commit_lock = true }
 lent (Append place) cpus actor r = record nothing_lent { cell = Some (slot_at (written_slots r) place) }
@@ -50,7 +50,7 @@ lent (Retire place) cpus actor r = record nothing_lent { book = true; cell = Som
 lent Leave cpus actor r = record nothing_lent { commit_lock = true }
 lent (Unlock place) cpus actor r = record nothing_lent { lock = Some (slot_at r.slots place) }
 lent (Give cpu) cpus actor r = record nothing_lent { list = Some cpu }
-lent Back cpus actor r = record nothing_lent { pool = true }
+lent ReturnNumber cpus actor r = record nothing_lent { pool = true }
 lent Visit cpus actor r = nothing_lent
 lent (Maintenance step) cpus actor r = lent_on step cpus actor
 

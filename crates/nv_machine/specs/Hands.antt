@@ -10,7 +10,7 @@ use Rattle.nv_base.specs.declared.limits.TheConstants.{FILE_PAGES}
 use Rattle.nv_calls.specs.Slots.{items_for}
 use Rattle.nv_calls.specs.declared.call.Call.{Call}
 use Rattle.nv_calls.specs.declared.call.Call.TheVariants as call
-use Rattle.nv_calls.specs.declared.plan.Planned.{Planned}
+use Rattle.nv_calls.specs.declared.plan.InodePlan.{InodePlan}
 use Rattle.nv_cell.specs.Append.{IsWithinFile}
 use Rattle.nv_cell.specs.Cell.{AreSlotsSized, CellState, log_of, mark_or_fresh, page_block}
 use Rattle.nv_cell.specs.Marks.{is_there}
@@ -20,7 +20,7 @@ use Rattle.nv_machine.specs.Kinds.{blocks_in}
 use Rattle.nv_machine.specs.Numbers.{IsEachOnce, all_blocks}
 use Rattle.nv_machine.specs.Reads.{written_slots}
 use Rattle.nv_machine.specs.Sequence.{Beginning, Looks, Locks, Numbers, Maintains, Visits, beginning, nothing_looked}
-use Rattle.nv_machine.specs.World.{Answers, Append, Back, Check, Close, Compact, Enter, Fresh, Give, HandState, Leave, Lock, Look, Next, Number, Open, Overtaken, Publish, Ready, Retire, Running, Shared, MaintenanceStep, Maintenance, TakeBlocks, TakePages, Unlock, Unpin, Visit, World, actor_at, cell_at, empty_hand, list_at}
+use Rattle.nv_machine.specs.World.{Answers, Append, ReturnNumber, Check, Close, Compact, Enter, Fresh, Give, HandState, Leave, Lock, Look, Next, Number, Open, Overtaken, Publish, Ready, Retire, Running, Shared, MaintenanceStep, Maintenance, TakeBlocks, TakeLogPages, Unlock, Unpin, Visit, World, actor_at, cell_at, empty_hand, list_at}
 
 -- ---- lists and cells
 
@@ -96,7 +96,7 @@ pub record HasFitting (block : ℕ) (h : HandState) (r : Running) (count : ℕ) 
   pub fits : FitsFile block r.call count
 
 -- the blocks of the pages that a plan has for these slots
-abbrev pub planned_blocks : List Planned → List ℕ → List ℕ
+abbrev pub planned_blocks : List InodePlan → List ℕ → List ℕ
 planned_blocks plan slots = flat_map (λ ino. flat_map item_blocks (items_for plan ino)) slots
 
 -- the blocks of a plan's pages for these slots stand first in the hand, in order
@@ -131,7 +131,7 @@ HandAt g (Look place) h r = (h ≡ empty_hand) × (makes_inode (beginning r.call
 HandAt g (Lock place) h r = HasTakenNone h r
 HandAt g Check h r = HasTakenNone h r
 HandAt g (TakeBlocks asked) h r = HasFitting g.block h r (length h.blocks + r.wanted)
-HandAt g (TakePages asked) h r = HasFitting g.block h r (length h.blocks)
+HandAt g (TakeLogPages asked) h r = HasFitting g.block h r (length h.blocks)
 HandAt g Ready h r = HasFitting g.block h r (length h.blocks)
 HandAt g Enter h r = HasPlanned h r (written_slots r)
 HandAt g (Append place) h r = HasPlanned h r (drop place (written_slots r))
@@ -142,7 +142,7 @@ HandAt g (Retire place) h r = length h.killed + place ≡ length (written_slots 
 HandAt g Leave h r = h.killed ≡ []
 HandAt g (Unlock place) h r = (h.killed ≡ []) × (r.ending ≡ Overtaken → BeginsAnew h r)
 HandAt g (Give cpu) h r = (h.killed ≡ []) × (cpu < g.cpus) × AreGiven g cpu (blocks_in h)
-HandAt g Back h r = (h.killed ≡ []) × (blocks_in h ≡ [])
+HandAt g ReturnNumber h r = (h.killed ≡ []) × (blocks_in h ≡ [])
 HandAt g Visit h r = h ≡ empty_hand
 HandAt g (Maintenance step) h r = HandOn step h
 
@@ -154,7 +154,7 @@ is_going_on other = true
 abbrev pub is_going : Next → Bool
 is_going (Unlock place) = false
 is_going (Give cpu) = false
-is_going Back = false
+is_going ReturnNumber = false
 is_going (Maintenance step) = is_going_on step
 is_going other = true
 

@@ -10,7 +10,7 @@ use Rattle.nv_calls.specs.Plan.{plan_blocks}
 use Rattle.nv_calls.specs.Retiring.{name_of}
 use Rattle.nv_calls.specs.declared.call.Call.{Call}
 use Rattle.nv_calls.specs.declared.call.Call.TheVariants as call
-use Rattle.nv_calls.specs.declared.plan.Planned.{Planned}
+use Rattle.nv_calls.specs.declared.plan.InodePlan.{InodePlan}
 use Rattle.nv_cell.specs.Append.{IsWithinFile}
 use Rattle.nv_cell.specs.Cell.{CellState, IsCell, log_of, number_in, page_block}
 use Rattle.nv_cell.specs.declared.killed.KilledPart.{KilledPart}
@@ -21,7 +21,7 @@ use Rattle.nv_machine.specs.Hands.{AreTailsLast}
 use Rattle.nv_machine.specs.Pages.{PagesOf}
 use Rattle.nv_machine.specs.Reads.{written_slots}
 use Rattle.nv_machine.specs.Settled.{settled, settled_tail}
-use Rattle.nv_machine.specs.World.{Answers, Append, Back, Check, Close, Enter, Give, HandState, Leave, Lock, Look, Next, Number, Open, Overtaken, Publish, Ready, Release, Retire, Running, Shared, Maintenance, TakeBlocks, TakePages, Unlock, Visit, World, actor_at, cell_at, empty_hand}
+use Rattle.nv_machine.specs.World.{Answers, Append, ReturnNumber, Check, Close, Enter, Give, HandState, Leave, Lock, Look, Next, Number, Open, Overtaken, Publish, Ready, Release, Retire, Running, Shared, Maintenance, TakeBlocks, TakeLogPages, Unlock, Visit, World, actor_at, cell_at, empty_hand}
 
 -- ---- blocks
 
@@ -92,8 +92,8 @@ IsInFile block (call.Size file size) count = size / block + count ≤ FILE_PAGES
 IsInFile block other count = Unit {0}
 
 -- a plan is of pages that a file can have; it uses these blocks or none, and none where it is of several inodes
-pub record IsPlanFor (plan : List Planned) (numbers : List ℕ) : Type 0 where
-  pub within : AllByRecursion (λ (p : Planned). AllByRecursion IsWithinFile p.items) plan
+pub record IsPlanFor (plan : List InodePlan) (numbers : List ℕ) : Type 0 where
+  pub within : AllByRecursion (λ (p : InodePlan). AllByRecursion IsWithinFile p.items) plan
   pub blocks : (plan_blocks plan ≡ numbers) ⊎ (plan_blocks plan ≡ [])
   pub several : 1 < length plan → plan_blocks plan ≡ []
 
@@ -121,7 +121,7 @@ Knows (Look place) block s cpu h r = HasNothing h × (r.ending ≡ Answers)
 Knows (Lock place) block s cpu h r = HasNothing h × (r.ending ≡ Answers)
 Knows Check block s cpu h r = HasNothing h × (r.ending ≡ Answers)
 Knows (TakeBlocks asked) block s cpu h r = (h.killed ≡ []) × (r.ending ≡ Answers) × IsInFile block r.call (length h.blocks + r.wanted)
-Knows (TakePages asked) block s cpu h r = (h.killed ≡ []) × (r.ending ≡ Answers) × IsInFile block r.call (length h.blocks)
+Knows (TakeLogPages asked) block s cpu h r = (h.killed ≡ []) × (r.ending ≡ Answers) × IsInFile block r.call (length h.blocks)
 Knows Ready block s cpu h r = (h.killed ≡ []) × (r.ending ≡ Answers) × IsInFile block r.call (length h.blocks)
 Knows Enter block s cpu h r = (h.killed ≡ []) × (r.ending ≡ Answers) × IsPlanFor r.plan (numbers_of h.blocks)
 Knows (Append place) block s cpu h r =
@@ -138,7 +138,7 @@ Knows (Retire place) block s cpu h r =
 Knows Leave block s cpu h r = (r.ending ≡ Answers) × AreClosed s.book.journals
 Knows (Unlock place) block s cpu h r = r.ending ≡ Overtaken → HasNothing h
 Knows (Give home) block s cpu h r = Unit {0}
-Knows Back block s cpu h r = Unit {0}
+Knows ReturnNumber block s cpu h r = Unit {0}
 Knows Visit block s cpu h r = Unit {0}
 Knows (Maintenance step) block s cpu h r = Unit {0}
 

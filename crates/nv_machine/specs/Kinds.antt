@@ -1,7 +1,7 @@
 -- The steps, one function a kind. What decides a step is an argument.
 pub use Rattle.nv_calls.specs.Looks.{look_tests, seen_at}
 use Rattle.std.specs.Prelude.{ℕ, zero, suc, ◌+◌, ◌-◌, ◌%◌, ◌||◌, Bool, true, false, if◌then◌else◌, nat_lt, not, List, [], ◌∷◌, ◌++◌, drop, length, map, take, Option, Some, None, Result, Ok, Err}
-use Rattle.nv_calls.specs.declared.looked.Looked.{Looked}
+use Rattle.nv_calls.specs.declared.looked.LookupResult.{LookupResult}
 use Rattle.nv_alloc.specs.Block.{BlockValue}
 use Rattle.nv_alloc.specs.Giving.{after_giving, kept_of}
 use Rattle.nv_alloc.specs.Numbers.{put_by}
@@ -27,7 +27,7 @@ use Rattle.nv_log.specs.Chain.{with_page}
 use Rattle.nv_calls.specs.FillPages.{filled, fresh_pages}
 use Rattle.nv_machine.specs.Reads.{copies, home_from, pages_wanted, plan_by, slot_at, slots_of, written_slots}
 use Rattle.nv_machine.specs.Sequence.{sequel}
-use Rattle.nv_machine.specs.World.{Answers, Append, Back, Cleans, Close, Drains, Ending, Ends, Enter, Give, HandState, Lock, Look, Moves, Next, Number, Open, Overtaken, Pick, Publish, Ready, Refuses, Retire, Running, Shared, Maintenance, TakeBlocks, TakePages, Turn, Unlock, Waits, cell_at, go_to, list_at, with_book, with_cell, with_list, with_numbers, with_owner}
+use Rattle.nv_machine.specs.World.{Answers, Append, ReturnNumber, Cleans, Close, Drains, Ending, Ends, Enter, Give, HandState, Lock, Look, Moves, Next, Number, Open, Overtaken, Pick, Publish, Ready, Refuses, Retire, Running, Shared, Maintenance, TakeBlocks, TakeLogPages, Turn, Unlock, Waits, cell_at, go_to, list_at, with_book, with_cell, with_list, with_numbers, with_owner}
 
 -- ---- how a call ends
 
@@ -60,7 +60,7 @@ last_turn (Cleans cleaned) s h r = Ends (result_by (Cleans cleaned) r) s h
 -- replies, or a drain goes on
 abbrev pub rest_turn : Option ℕ → Option ℕ → Shared → HandState → Running → Turn
 rest_turn (Some cpu) number s h r = Moves s h (go_to (Give cpu) r)
-rest_turn None (Some ino) s h r = Moves s h (go_to Back r)
+rest_turn None (Some ino) s h r = Moves s h (go_to ReturnNumber r)
 rest_turn None None s h r = last_turn r.ending s h r
 
 -- the next round of looks, if there is one
@@ -101,7 +101,7 @@ number_turn (ino ∷ numbers) s h r =
 
 -- ---- look: what the names of one directory are bound to
 
-abbrev pub look_turn : Option ℕ → Tests → Looked → ℕ → Shared → HandState → Running → Turn
+abbrev pub look_turn : Option ℕ → Tests → LookupResult → ℕ → Shared → HandState → Running → Turn
 look_turn (Some other) tests found place s h r = Waits
 look_turn None (Err fault) found place s h r = end_turn [] (Refuses fault) s h r
 look_turn None (Ok passed) found place s h r = go_on (Look place) s h (record r { looked = found; slots = slots_of s None found r.call })
@@ -127,7 +127,7 @@ check_ending (Ok passed) true (Ok all) true (change ∷ effect) = None
 -- what is wanted is taken, data blocks first and then log pages; a taking of nothing has no step
 abbrev pub wants_pages : ℕ → Shared → HandState → Running → Turn
 wants_pages zero s h r = Moves s h (record r { wanted = 0; next = Ready })
-wants_pages (suc n) s h r = Moves s h (record r { wanted = suc n; next = TakePages 0 })
+wants_pages (suc n) s h r = Moves s h (record r { wanted = suc n; next = TakeLogPages 0 })
 
 abbrev pub wants_blocks : ℕ → ℕ → Shared → HandState → Running → Turn
 wants_blocks zero block s h r = wants_pages (pages_wanted s r.slots (plan_by block s h r)) s h r
@@ -160,7 +160,7 @@ blocks_turn (suc n) false asked block s h r = refuse NoSpace s h r
 
 abbrev pub pages_turn : ℕ → Bool → ℕ → Shared → HandState → Running → Turn
 pages_turn zero more asked s h r = Moves s h (record r { wanted = 0; next = Ready })
-pages_turn (suc n) true asked s h r = Moves s h (record r { wanted = suc n; next = TakePages (asked + 1) })
+pages_turn (suc n) true asked s h r = Moves s h (record r { wanted = suc n; next = TakeLogPages (asked + 1) })
 pages_turn (suc n) false asked s h r = refuse NoSpace s h r
 
 abbrev pub take_blocks_turn : ℕ → ℕ → ℕ → Shared → HandState → Running → Turn
@@ -168,8 +168,8 @@ take_blocks_turn cpu asked block s h r =
     blocks_turn (r.wanted - length (list_at s cpu).blocks) (nat_lt (asked + 1) (length s.lists)) asked block (less_list cpu r.wanted s)
     (record h { blocks = h.blocks ++ take r.wanted (list_at s cpu).blocks }) r
 
-abbrev pub take_pages_turn : ℕ → ℕ → Shared → HandState → Running → Turn
-take_pages_turn cpu asked s h r =
+abbrev pub take_log_pages_turn : ℕ → ℕ → Shared → HandState → Running → Turn
+take_log_pages_turn cpu asked s h r =
     pages_turn (r.wanted - length (list_at s cpu).blocks) (nat_lt (asked + 1) (length s.lists)) asked (less_list cpu r.wanted s)
     (record h { pages = h.pages ++ take r.wanted (list_at s cpu).blocks }) r
 
@@ -302,9 +302,9 @@ give_turn cpu s h r =
 
 -- ---- back: the number in the hand goes to the pool
 
-abbrev pub back_turn : Option ℕ → Shared → HandState → Running → Turn
-back_turn None s h r = last_turn r.ending s h r
-back_turn (Some ino) s h r = last_turn r.ending (with_numbers (put_by (λ n. n) ino s.pool.numbers) s) (record h { ino = None }) r
+abbrev pub return_number_turn : Option ℕ → Shared → HandState → Running → Turn
+return_number_turn None s h r = last_turn r.ending s h r
+return_number_turn (Some ino) s h r = last_turn r.ending (with_numbers (put_by (λ n. n) ino s.pool.numbers) s) (record h { ino = None }) r
 
 -- ---- visit
 

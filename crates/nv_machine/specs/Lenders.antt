@@ -1,7 +1,7 @@
 -- WHICH STEPS ARE LENT EACH PART of what is shared, part by part.
 use Rattle.std.specs.Prelude.{◌≡◌, Bool, true, false, is_some}
 use Rattle.nv_machine.specs.Frame.{Lent}
-use Rattle.nv_machine.specs.World.{Append, Back, Close, Compact, Drop, Enter, Fresh, Give, Leave, Lock, LockCleaned, LockPicked, Make, Next, Number, Open, Pick, Pin, Publish, Release, Retire, MaintenanceStep, Maintenance, TakeBlocks, TakePages, Unlink, Unlock, Unpin}
+use Rattle.nv_machine.specs.World.{Append, ReturnNumber, Close, Compact, Drop, Enter, Fresh, Give, Leave, Lock, LockCleaned, LockPicked, Make, Next, Number, Open, Pick, Pin, Publish, Release, Retire, MaintenanceStep, Maintenance, TakeBlocks, TakeLogPages, Unlink, Unlock, Unpin}
 
 -- a free list: those that take from one or give to one
 abbrev pub takes_fresh : MaintenanceStep → Bool
@@ -10,7 +10,7 @@ takes_fresh other = false
 
 abbrev pub moves_blocks : Next → Bool
 moves_blocks (TakeBlocks asked) = true
-moves_blocks (TakePages asked) = true
+moves_blocks (TakeLogPages asked) = true
 moves_blocks (Give cpu) = true
 moves_blocks (Maintenance step) = takes_fresh step
 moves_blocks other = false
@@ -18,7 +18,7 @@ moves_blocks other = false
 -- the pool: those that take a number or give one back
 abbrev pub moves_numbers : Next → Bool
 moves_numbers Number = true
-moves_numbers Back = true
+moves_numbers ReturnNumber = true
 moves_numbers other = false
 
 -- a cell: those that change a log, or what is kept of it

@@ -11,7 +11,7 @@ use Rattle.nv_machine.specs.Sequence.{directories, nothing_looked, slots_on}
 use Rattle.nv_machine.specs.Step.{handle_at}
 use Rattle.nv_calls.specs.Locked.{handles}
 use Rattle.nv_machine.specs.Maintenance.{visited}
-use Rattle.nv_machine.specs.World.{Append, Back, Close, Compact, Enter, Fresh, Give, Judge, Leave, Lock, LockCleaned, LockPicked, Look, Next, Number, Open, Publish, Release, Retire, Running, Shared, Show, MaintenanceStep, Maintenance, Unlink, Unlock, Visit, World, actor_at, owner_at}
+use Rattle.nv_machine.specs.World.{Append, ReturnNumber, Close, Compact, Enter, Fresh, Give, Judge, Leave, Lock, LockCleaned, LockPicked, Look, Next, Number, Open, Publish, Release, Retire, Running, Shared, Show, MaintenanceStep, Maintenance, Unlink, Unlock, Visit, World, actor_at, owner_at}
 
 -- ---- what a call holds
 
@@ -31,7 +31,7 @@ held_at (Look place) slots = []
 held_at (Lock place) slots = take place slots
 held_at (Unlock place) slots = drop place slots
 held_at (Give cpu) slots = []
-held_at Back slots = []
+held_at ReturnNumber slots = []
 held_at Visit slots = []
 held_at (Maintenance step) slots = held_on step slots
 held_at other slots = slots

@@ -4,7 +4,7 @@ use Rattle.nv_clean.specs.Plans.{wanted_of}
 use Rattle.nv_log.specs.Chain.{AreEnds, ChainState}
 use Rattle.nv_machine.specs.Reads.{pages_wanted, written_slots}
 use Rattle.nv_machine.specs.Wanted.{log_pages_wanted}
-use Rattle.nv_machine.specs.World.{Append, Close, Compact, Enter, Fresh, HandState, Leave, Maintenance, MaintenanceStep, Next, Open, Publish, Ready, Retire, Running, Shared, TakeBlocks, TakePages, cell_at}
+use Rattle.nv_machine.specs.World.{Append, Close, Compact, Enter, Fresh, HandState, Leave, Maintenance, MaintenanceStep, Next, Open, Publish, Ready, Retire, Running, Shared, TakeBlocks, TakeLogPages, cell_at}
 
 -- each entry of a chain stands on one of its pages, none of which has more than so many; pages without an entry stand last
 pub record AreOnPages (page : ℕ) (chain : ChainState) : Type 0 where
@@ -22,7 +22,7 @@ HasPagesOn other s h = Unit {0}
 
 abbrev pub HasLogPages : Next → ℕ → Shared → HandState → Running → Type 0
 HasLogPages (TakeBlocks asked) block s h r = length h.pages ≡ 0
-HasLogPages (TakePages asked) block s h r = length h.pages + r.wanted ≡ log_pages_wanted block s h r
+HasLogPages (TakeLogPages asked) block s h r = length h.pages + r.wanted ≡ log_pages_wanted block s h r
 HasLogPages Ready block s h r = length h.pages ≡ log_pages_wanted block s h r
 HasLogPages Enter block s h r = length h.pages ≡ pages_wanted s r.slots r.plan
 HasLogPages (Append place) block s h r = length h.pages ≡ pages_wanted s (drop place (written_slots r)) r.plan

@@ -3,18 +3,18 @@ pub use Rattle.nv_calls.specs.Locked.{if_number, slots_in, with_slot}
 use Rattle.std.specs.Prelude.{ℕ, ◌+◌, ◌/◌, ◌==◌, if◌then◌else◌, Bool, false, is_some, nat_lt, List, [], ◌∷◌, filter, length, Option, Some, None, slice_index_or}
 use Rattle.std.specs.List.{list_any, sum_by}
 use Rattle.nv_calls.specs.Locked.{slots_among}
-use Rattle.nv_calls.specs.declared.looked.Looked.{Looked}
+use Rattle.nv_calls.specs.declared.looked.LookupResult.{LookupResult}
 use Rattle.nv_alloc.specs.Block.{BlockValue, numbers_of}
 use Rattle.nv_alloc.specs.FreeList.{FreeBlocks, is_home}
 use Rattle.nv_base.specs.declared.numbers.Handle.{Handle}
 use Rattle.nv_calls.specs.AllCalls.{plan}
-use Rattle.nv_calls.specs.declared.taken.Taken.{Taken}
+use Rattle.nv_calls.specs.declared.allocation.Allocation.{Allocation}
 use Rattle.nv_calls.specs.Plain.{PlainNode, node_in, stamped}
 use Rattle.nv_calls.specs.Plan.{runs_of}
 use Rattle.nv_calls.specs.Slots.{items_for, last_commit}
 use Rattle.nv_calls.specs.declared.call.Call.{Call}
 use Rattle.nv_calls.specs.declared.call.Call.TheVariants as call
-use Rattle.nv_calls.specs.declared.plan.Planned.{Planned}
+use Rattle.nv_calls.specs.declared.plan.InodePlan.{InodePlan}
 use Rattle.nv_cell.specs.Cell.{CellState, log_of}
 use Rattle.nv_entry.specs.Node.{block_now, node_now}
 use Rattle.nv_entry.specs.declared.node.NodeCopy.{NodeCopy}
@@ -43,11 +43,11 @@ copies s = node_in (nodes s)
 -- ---- slots
 
 -- the slots that a call locks: those of its handles, of what its looks found, and of the number in its hand
-abbrev pub slots_of : Shared → Option ℕ → Looked → Call → List ℕ
+abbrev pub slots_of : Shared → Option ℕ → LookupResult → Call → List ℕ
 slots_of s number looked c = slots_among (length s.cells) number looked c
 
 -- whether a plan has entries for a slot
-abbrev pub is_written : List Planned → ℕ → Bool
+abbrev pub is_written : List InodePlan → ℕ → Bool
 is_written plan ino = nat_lt 0 (length (items_for plan ino))
 
 -- the inodes that get entries, in rising number
@@ -66,17 +66,17 @@ has_last_page block s (call.Size file size) = is_some (block_now block (log_of (
 has_last_page block s other = false
 
 -- what a plan is made with: the new handle, and the data blocks in the hand
-abbrev pub taken_by : ℕ → Shared → HandState → Running → Taken
+abbrev pub taken_by : ℕ → Shared → HandState → Running → Allocation
 taken_by block s h r = record { made = r.made; runs = runs_of (numbers_of h.blocks); present = has_last_page block s r.call }
 
-abbrev pub plan_by : ℕ → Shared → HandState → Running → List Planned
+abbrev pub plan_by : ℕ → Shared → HandState → Running → List InodePlan
 plan_by block s h r = plan block (copies s) (taken_by block s h r) r.call
 
 -- how many log pages a plan's entries for a slot need, and those for several
-abbrev pub pages_needed : Shared → List Planned → ℕ → ℕ
+abbrev pub pages_needed : Shared → List InodePlan → ℕ → ℕ
 pages_needed s plan ino = pages_for (cell_at s ino).chain (length (items_for plan ino))
 
-abbrev pub pages_wanted : Shared → List ℕ → List Planned → ℕ
+abbrev pub pages_wanted : Shared → List ℕ → List InodePlan → ℕ
 pages_wanted s slots plan = sum_by (pages_needed s plan) slots
 
 -- ---- homes

@@ -11,11 +11,11 @@ use Rattle.nv_base.specs.declared.numbers.Handle.{Handle}
 use Rattle.nv_calls.specs.AllCalls.{answer, blocks_wanted, early, effect, look_refusal, looked, refusal}
 use Rattle.nv_calls.specs.declared.answer.Answer.{Answer}
 use Rattle.nv_calls.specs.declared.call.Call.{Call}
-use Rattle.nv_machine.specs.Kinds.{append_turn, asked_list, back_turn, check_ending, check_turn, close_turn, enter_turn, first_killed, give_turn, leave_turn, lock_turn, look_tests, look_turn, number_turn, open_turn, publish_turn, ready_turn, retire_turn, seen_at, take_blocks_turn, take_pages_turn, unlock_turn, visit_turn, wants_room}
+use Rattle.nv_machine.specs.Kinds.{append_turn, asked_list, return_number_turn, check_ending, check_turn, close_turn, enter_turn, first_killed, give_turn, leave_turn, lock_turn, look_tests, look_turn, number_turn, open_turn, publish_turn, ready_turn, retire_turn, seen_at, take_blocks_turn, take_log_pages_turn, unlock_turn, visit_turn, wants_room}
 use Rattle.nv_machine.specs.Reads.{copies, has_last_page, nodes, pages_needed, pages_wanted, plan_by, slot_at, written_slots}
 use Rattle.nv_machine.specs.Sequence.{Beginning, Looks, Locks, Numbers, Maintains, Visits, beginning, begun, directories, nothing_looked}
 use Rattle.nv_machine.specs.Maintenance.{maintenance_turn}
-use Rattle.nv_machine.specs.World.{Append, Back, Check, Close, Done, Ending, Ends, Enter, Event, Give, Go, HandState, Leave, Lock, Look, Moved, Moves, Next, Number, Open, Publish, Ready, Refused, Reply, Retire, Running, Shared, Maintenance, Start, Started, TakeBlocks, TakePages, Turn, Unlock, Visit, Waiting, Waits, World, actor_at, cell_at, owner_at}
+use Rattle.nv_machine.specs.World.{Append, ReturnNumber, Check, Close, Done, Ending, Ends, Enter, Event, Give, Go, HandState, Leave, Lock, Look, Moved, Moves, Next, Number, Open, Publish, Ready, Refused, Reply, Retire, Running, Shared, Maintenance, Start, Started, TakeBlocks, TakeLogPages, Turn, Unlock, Visit, Waiting, Waits, World, actor_at, cell_at, owner_at}
 
 -- ---- what decides
 
@@ -59,7 +59,7 @@ kind_turn Check block actor granted s h r =
     check_turn (ending_at block s h r) granted (blocks_wanted block (copies s) (has_last_page block s r.call) r.call) block s h
     (with_made s h r)
 kind_turn (TakeBlocks asked) block actor granted s h r = take_blocks_turn (asked_list (length s.lists) actor asked) asked block s h r
-kind_turn (TakePages asked) block actor granted s h r = take_pages_turn (asked_list (length s.lists) actor asked) asked s h r
+kind_turn (TakeLogPages asked) block actor granted s h r = take_log_pages_turn (asked_list (length s.lists) actor asked) asked s h r
 kind_turn Ready block actor granted s h r = ready_turn granted block s h r
 kind_turn Enter block actor granted s h r = enter_turn s.holder (nat_le NUMBER s.book.commit) granted actor s h r
 kind_turn (Append place) block actor granted s h r =
@@ -71,7 +71,7 @@ kind_turn (Retire place) block actor granted s h r = retire_turn (slot_at (writt
 kind_turn Leave block actor granted s h r = leave_turn s h r
 kind_turn (Unlock place) block actor granted s h r = unlock_turn place s h r
 kind_turn (Give cpu) block actor granted s h r = give_turn cpu s h r
-kind_turn Back block actor granted s h r = back_turn h.ino s h r
+kind_turn ReturnNumber block actor granted s h r = return_number_turn h.ino s h r
 kind_turn Visit block actor granted s h r =
     visit_turn (owner_at s (handle_at (handles nothing_looked r.call) 0).ino) (refusal block (copies s) r.call)
     (granted || not (visit_grows r.call)) (answer (nodes s) r.made r.call) s h r

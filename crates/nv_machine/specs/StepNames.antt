@@ -7,7 +7,7 @@ pub data StepName : Type 0 where
   Lock : (slot : ℕ) → StepName
   Check : StepName
   TakeBlocks : (cpu : ℕ) → StepName
-  TakePages : (cpu : ℕ) → StepName
+  TakeLogPages : (cpu : ℕ) → StepName
   Ready : StepName
   Enter : StepName
   Append : (slot : ℕ) → StepName
@@ -18,7 +18,7 @@ pub data StepName : Type 0 where
   Leave : StepName
   Unlock : (slot : ℕ) → StepName
   Give : (cpu : ℕ) → StepName
-  Back : StepName
+  ReturnNumber : StepName
   Visit : (slot : ℕ) → StepName
   Make : StepName
   Drop : StepName

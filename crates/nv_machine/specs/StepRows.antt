@@ -13,7 +13,7 @@ use Rattle.nv_machine.specs.Sequence.{directories, nothing_looked}
 use Rattle.nv_machine.specs.Maintenance.{visited}
 use Rattle.nv_machine.specs.Step.{handle_at, step}
 use Rattle.nv_machine.specs.StepNames as named
-use Rattle.nv_machine.specs.World.{Append, Back, Check, Close, Compact, Drop, Enter, Fresh, Give, Go, Judge, Leave, Lock, LockCleaned, LockPicked, Look, Make, Next, Number, Open, Pick, Pin, Publish, Ready, Release, Retire, Running, Show, MaintenanceStep, Maintenance, Start, TakeBlocks, TakePages, Unlink, Unlock, Unpin, Visit, World, actor_at}
+use Rattle.nv_machine.specs.World.{Append, ReturnNumber, Check, Close, Compact, Drop, Enter, Fresh, Give, Go, Judge, Leave, Lock, LockCleaned, LockPicked, Look, Make, Next, Number, Open, Pick, Pin, Publish, Ready, Release, Retire, Running, Show, MaintenanceStep, Maintenance, Start, TakeBlocks, TakeLogPages, Unlink, Unlock, Unpin, Visit, World, actor_at}
 
 -- ---- the steps of a call
 
@@ -39,7 +39,7 @@ name_of (Look place) cpus actor r = named.Look (handle_at (directories r.call) p
 name_of (Lock place) cpus actor r = named.Lock (slot_at r.slots place)
 name_of Check cpus actor r = named.Check
 name_of (TakeBlocks asked) cpus actor r = named.TakeBlocks (asked_list cpus actor asked)
-name_of (TakePages asked) cpus actor r = named.TakePages (asked_list cpus actor asked)
+name_of (TakeLogPages asked) cpus actor r = named.TakeLogPages (asked_list cpus actor asked)
 name_of Ready cpus actor r = named.Ready
 name_of Enter cpus actor r = named.Enter
 name_of (Append place) cpus actor r = named.Append (slot_at (written_slots r) place)
@@ -50,7 +50,7 @@ name_of (Retire place) cpus actor r = named.Retire (slot_at (written_slots r) pl
 name_of Leave cpus actor r = named.Leave
 name_of (Unlock place) cpus actor r = named.Unlock (slot_at r.slots place)
 name_of (Give cpu) cpus actor r = named.Give cpu
-name_of Back cpus actor r = named.Back
+name_of ReturnNumber cpus actor r = named.ReturnNumber
 name_of Visit cpus actor r = named.Visit (handle_at (handles nothing_looked r.call) 0).ino
 name_of (Maintenance step) cpus actor r = name_on step cpus actor
 
@@ -118,14 +118,14 @@ commit_two slot other =
 -- a new inode in slot 1 takes its log page from the list of CPU 1
 abbrev pub of_new : List named.StepName
 of_new =
-    named.Number ∷ named.Lock 0 ∷ named.Lock 1 ∷ named.Check ∷ named.TakePages 1 ∷ named.Ready ∷ commit_two 0 1
+    named.Number ∷ named.Lock 0 ∷ named.Lock 1 ∷ named.Check ∷ named.TakeLogPages 1 ∷ named.Ready ∷ commit_two 0 1
     ++ named.Unlock 0 ∷ named.Unlock 1 ∷ []
 
 -- an inode in slot 1 goes with its log page, and its number goes back
 abbrev pub of_gone : List named.StepName
 of_gone =
     named.Look 0 ∷ named.Lock 0 ∷ named.Lock 1 ∷ named.Check ∷ named.Ready ∷ commit_two 0 1
-    ++ named.Unlock 0 ∷ named.Unlock 1 ∷ named.Give 1 ∷ named.Back ∷ []
+    ++ named.Unlock 0 ∷ named.Unlock 1 ∷ named.Give 1 ∷ named.ReturnNumber ∷ []
 
 abbrev pub row : List Call → Call → List named.StepName → Row
 row before c steps = record { before = before; call = c; steps = steps }
@@ -152,7 +152,7 @@ rows_of_changes =
     (named.Look 1 ∷ named.Look 2 ∷ named.Lock 1 ∷ named.Lock 2 ∷ named.Lock 3 ∷ named.Lock 4 ∷ named.Check ∷ named.Ready
     ∷ named.Enter ∷ named.Append 1 ∷ named.Append 2 ∷ named.Append 4 ∷ named.Open 1 ∷ named.Publish 1 ∷ named.Publish 2
     ∷ named.Publish 4 ∷ named.Close 1 ∷ named.Retire 1 ∷ named.Retire 2 ∷ named.Retire 4 ∷ named.Leave
-    ∷ named.Unlock 1 ∷ named.Unlock 2 ∷ named.Unlock 3 ∷ named.Unlock 4 ∷ named.Give 1 ∷ named.Back ∷ [])
+    ∷ named.Unlock 1 ∷ named.Unlock 2 ∷ named.Unlock 3 ∷ named.Unlock 4 ∷ named.Give 1 ∷ named.ReturnNumber ∷ [])
     ∷ []
 
 abbrev pub rows_of_readers : List Row

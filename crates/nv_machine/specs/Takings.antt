@@ -5,7 +5,7 @@ use Rattle.nv_base.specs.declared.fault.Fault.{Fault}
 use Rattle.nv_base.specs.declared.fault.Fault.TheVariants.{NoSpace}
 use Rattle.nv_machine.specs.Kinds.{asked_list, blocks_in}
 use Rattle.nv_machine.specs.Step.{step, turn}
-use Rattle.nv_machine.specs.World.{Ends, Event, Fresh, Go, HandState, Maintenance, Moves, Next, Running, Shared, Start, TakeBlocks, TakePages, Turn, Waits, World, actor_at, list_at}
+use Rattle.nv_machine.specs.World.{Ends, Event, Fresh, Go, HandState, Maintenance, Moves, Next, Running, Shared, Start, TakeBlocks, TakeLogPages, Turn, Waits, World, actor_at, list_at}
 
 -- ---- what was asked
 
@@ -39,7 +39,7 @@ and_asked cpu s h t after taking = record taking { asked = asked_in cpu s h t af
 -- a step of a taking asks a list
 abbrev pub asking : Next → ℕ → Shared → HandState → Shared → HandState → Taking → Taking
 asking (TakeBlocks asked) actor s h t after taking = and_asked (asked_list (length s.lists) actor asked) s h t after taking
-asking (TakePages asked) actor s h t after taking = and_asked (asked_list (length s.lists) actor asked) s h t after taking
+asking (TakeLogPages asked) actor s h t after taking = and_asked (asked_list (length s.lists) actor asked) s h t after taking
 asking (Maintenance (Fresh ino asked wanted)) actor s h t after taking =
     and_asked (asked_list (length s.lists) actor asked) s h t after taking
 asking other actor s h t after taking = taking
@@ -47,7 +47,7 @@ asking other actor s h t after taking = taking
 -- and one that goes on to a first list begins another taking
 abbrev pub beginning_with : Next → ℕ → Taking → Taking
 beginning_with (TakeBlocks asked) wanted taking = if asked == 0 then record { wanted = wanted; asked = [] } else taking
-beginning_with (TakePages asked) wanted taking = if asked == 0 then record { wanted = wanted; asked = [] } else taking
+beginning_with (TakeLogPages asked) wanted taking = if asked == 0 then record { wanted = wanted; asked = [] } else taking
 beginning_with (Maintenance (Fresh ino asked wanted)) other taking =
     if asked == 0 then record { wanted = wanted; asked = [] } else taking
 beginning_with other wanted taking = taking
@@ -93,7 +93,7 @@ AreEmptied cpus actor (suc n) (one ∷ asked) =
 
 abbrev pub asks_list : Next → Bool
 asks_list (TakeBlocks asked) = true
-asks_list (TakePages asked) = true
+asks_list (TakeLogPages asked) = true
 asks_list (Maintenance (Fresh ino asked wanted)) = true
 asks_list other = false
 

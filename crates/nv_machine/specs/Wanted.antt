@@ -3,7 +3,7 @@ use Rattle.std.specs.Prelude.{◌≡◌, ℕ, ◌+◌, ◌-◌, ◌<◌, ◌⊎�
 use Rattle.nv_calls.specs.AllCalls.{blocks_wanted}
 use Rattle.nv_machine.specs.Kinds.{asked_list}
 use Rattle.nv_machine.specs.Reads.{copies, has_last_page, pages_wanted, plan_by}
-use Rattle.nv_machine.specs.World.{Check, Ends, HandState, Moves, Next, Ready, Running, Shared, TakeBlocks, TakePages, Turn, Waits, list_at}
+use Rattle.nv_machine.specs.World.{Check, Ends, HandState, Moves, Next, Ready, Running, Shared, TakeBlocks, TakeLogPages, Turn, Waits, list_at}
 
 -- ---- how much is wanted
 
@@ -44,12 +44,12 @@ abbrev pub LeadsTo : Next → Next → ℕ → ℕ → Shared → Running → Sh
 LeadsTo (TakeBlocks asked) k block actor s r t after q =
     ((k ≡ Check) × Begins asked q.wanted (data_wanted block s r))
     ⊎ ((before : ℕ) × (k ≡ TakeBlocks before) × GoesOn before asked q.wanted (lacking before actor s r))
-LeadsTo (TakePages asked) k block actor s r t after q =
+LeadsTo (TakeLogPages asked) k block actor s r t after q =
     (HasAllData k block actor s r × Begins asked q.wanted (log_pages_wanted block t after q))
-    ⊎ ((before : ℕ) × (k ≡ TakePages before) × GoesOn before asked q.wanted (lacking before actor s r))
+    ⊎ ((before : ℕ) × (k ≡ TakeLogPages before) × GoesOn before asked q.wanted (lacking before actor s r))
 LeadsTo Ready k block actor s r t after q =
     (HasAllData k block actor s r × (log_pages_wanted block t after q ≡ 0))
-    ⊎ ((before : ℕ) × (k ≡ TakePages before) × (lacking before actor s r ≡ 0))
+    ⊎ ((before : ℕ) × (k ≡ TakeLogPages before) × (lacking before actor s r ≡ 0))
 LeadsTo other k block actor s r t after q = Unit {0}
 
 -- TWO TAKINGS: so is each step that goes on

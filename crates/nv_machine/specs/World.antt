@@ -1,6 +1,6 @@
 -- The world of atomic steps: what is shared, and what is each actor's own.
 use Rattle.std.specs.Prelude.{ℕ, Bool, List, [], Option, None, Result, slice_index_or, slice_set}
-use Rattle.nv_calls.specs.declared.looked.Looked.{Looked}
+use Rattle.nv_calls.specs.declared.looked.LookupResult.{LookupResult}
 use Rattle.nv_alloc.specs.Block.{BlockValue}
 use Rattle.nv_alloc.specs.FreeList.{FreeBlocks}
 use Rattle.nv_alloc.specs.InodePool.{FreeInodes}
@@ -11,7 +11,7 @@ use Rattle.nv_book.specs.Book.{BookState}
 use Rattle.nv_book.specs.declared.record.Record.{Record}
 use Rattle.nv_calls.specs.declared.answer.Answer.{Answer}
 use Rattle.nv_calls.specs.declared.call.Call.{Call}
-use Rattle.nv_calls.specs.declared.plan.Planned.{Planned}
+use Rattle.nv_calls.specs.declared.plan.InodePlan.{InodePlan}
 use Rattle.nv_cell.specs.Cell.{CellState, empty_cell}
 use Rattle.nv_cell.specs.declared.killed.KilledPart.{KilledPart}
 use Rattle.nv_clean.specs.declared.cleaned.Cleaned.{Cleaned}
@@ -84,7 +84,7 @@ pub data Next : Type 0 where
   Lock : (place : ℕ) → Next
   Check : Next
   TakeBlocks : (asked : ℕ) → Next
-  TakePages : (asked : ℕ) → Next
+  TakeLogPages : (asked : ℕ) → Next
   Ready : Next
   Enter : Next
   Append : (place : ℕ) → Next
@@ -95,7 +95,7 @@ pub data Next : Type 0 where
   Leave : Next
   Unlock : (place : ℕ) → Next
   Give : (cpu : ℕ) → Next
-  Back : Next
+  ReturnNumber : Next
   Visit : Next
   Maintenance : (step : MaintenanceStep) → Next
 
@@ -115,12 +115,12 @@ pub record Running : Type 0 where
   pub call : Call
   pub next : Next
   pub ending : Ending
-  pub looked : Looked
+  pub looked : LookupResult
   pub rounds : ℕ
   pub slots : List ℕ
   pub made : Handle
   pub wanted : ℕ
-  pub plan : List Planned
+  pub plan : List InodePlan
   pub commit : ℕ
   pub epoch : ℕ
 

@@ -33,7 +33,7 @@ ghost use Rattle.nv_machine.specs.Step.{after, kind_turn, stays, step, turn};
 ghost use Rattle.nv_machine.specs.Pages.{AreOnPages, HasLogPages, TakesPages};
 ghost use Rattle.nv_machine.specs.Memory.{IsOther, denied_turn, grows};
 ghost use Rattle.nv_machine.specs.Wanted.{TakesInTurn};
-ghost use Rattle.nv_machine.specs.World.{Answers, Append, Event, Go, HandState, Number, Refused, Running, Shared, Start, Started, TakeBlocks, TakePages, Waiting, World, actor_at, cell_at, list_at};
+ghost use Rattle.nv_machine.specs.World.{Answers, Append, Event, Go, HandState, Number, Refused, Running, Shared, Start, Started, TakeBlocks, TakeLogPages, Waiting, World, actor_at, cell_at, list_at};
 
 /// A `Go` of an actor whose call runs makes the one step that comes next, and changes only its actor and the
 /// parts that the step is lent. A start changes its actor alone: one without a call has the call now, before its
@@ -68,7 +68,7 @@ pub fn the_lowest_are_taken()
     ensures pages { (asked block actor : ℕ) (granted : Bool) (s : Shared) (h : HandState)
         (r : Running) → 0 < length s.lists
         → Leaves (TakesLogPages s (asked_list (length s.lists) actor asked) h r)
-        (kind_turn (TakePages asked) block actor granted s h r) }
+        (kind_turn (TakeLogPages asked) block actor granted s h r) }
 {}
 
 /// A call takes its data first and then its log pages, in two takings, neither of which wants any of the other's. The

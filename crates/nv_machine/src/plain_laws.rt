@@ -16,7 +16,7 @@ ghost use Rattle.nv_calls.specs.Plain.{PlainNode, node_in, nodes_after};
 ghost use Rattle.nv_calls.specs.Locked.{SameCall, handles};
 ghost use Rattle.nv_calls.specs.declared.answer.Answer.{Answer};
 ghost use Rattle.nv_calls.specs.declared.call.Call.{Call};
-ghost use Rattle.nv_calls.specs.declared.taken.Taken.{Taken};
+ghost use Rattle.nv_calls.specs.declared.allocation.Allocation.{Allocation};
 ghost use Rattle.nv_machine.specs.Bound.{AreNoStarts};
 ghost use Rattle.nv_entry.specs.Sound.{IsSound};
 ghost use Rattle.nv_entry.specs.Tree.{root};
@@ -341,7 +341,7 @@ pub fn made_handles_are_new()
 /// A visit reads settled nodes, since it waits while its slot is held: what it tests and answers is the same there, so
 /// that its answer is the plain world's.
 pub fn visits_read_settled_nodes()
-    ensures reads { (w : World) (taken : Taken) (c : Call) → AreGrown w → beginning c ≡ Visits
+    ensures reads { (w : World) (taken : Allocation) (c : Call) → AreGrown w → beginning c ≡ Visits
         → owner_at w.shared (handle_at (handles nothing_looked c) 0).ino ≡ None
         → SameCall w.numbers.block (settled_nodes w.shared) (nodes w.shared) taken c }
     ensures answers { (w : World) (actor : ℕ) (granted : Bool) (r : Running) (told : Answer)

@@ -7,7 +7,7 @@ use Rattle.std.proofs.lemmas.Bool.Decides.{nat_tests}
 use Rattle.nv_base.specs.declared.numbers.EntryId.{EntryId}
 use Rattle.nv_entry.specs.declared.item.Entry.{Entry}
 use Rattle.nv_entry.specs.declared.item.Item.TheVariants.{Write, SetSize}
-use Rattle.nv_entry.specs.declared.item.Run.{Run}
+use Rattle.nv_entry.specs.declared.item.BlockRun.{BlockRun}
 use Rattle.nv_entry.specs.declared.key.Datum.{Datum}
 use Rattle.nv_entry.specs.declared.key.Datum.TheVariants.{Block}
 use Rattle.nv_entry.specs.declared.key.Setting.{Setting}
@@ -99,7 +99,7 @@ pub record IsTold (block : ℕ) (later : List Entry) (cut p : ℕ) (slot : Optio
   pub writer : slot ≡ page_writer block later p
   pub told : any_cover block later (PageKey p) ≡ (is_some slot || nat_le cut p)
 
-pub told_write : (block : ℕ) (e : Entry) (later : List Entry) (first size cut p : ℕ) (run : Run) (slot : Option EntryId)
+pub told_write : (block : ℕ) (e : Entry) (later : List Entry) (first size cut p : ℕ) (run : BlockRun) (slot : Option EntryId)
     → e.item ≡ Write first run size → p < 65536 → IsTold block later cut p slot
     → IsTold block (e ∷ later) cut p
     (cond (nat_le first p && nat_lt p (min (first + run.len) cut)) (option_or slot (Some e.id)) slot)

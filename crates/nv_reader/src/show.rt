@@ -42,7 +42,7 @@ pub fn show_on(alloc: Global, cell: &InodeCell, epoch: Epoch) -> Result<Option<N
     ensures err { FailsOnly out_of_memory result }
 {
     // What a cell keeps of its log and its blocks.
-    cell.known();
+    cell.use_invariant();
     let log = entries_to(cell.log().log(), epoch);
     Ok(node_by(alloc, cell.block_bytes(), log, cell)?)
 }
@@ -71,7 +71,7 @@ pub fn settled_on(
         return node_by_index(cell);
     };
     // What a cell keeps of its log and its blocks.
-    cell.known();
+    cell.use_invariant();
     let log = &cell.log().entries()[..tail];
     Ok(node_by(alloc, cell.block_bytes(), log, cell)?)
 }
@@ -85,7 +85,7 @@ fn node_by_index(cell: &InodeCell) -> Result<Option<NodeCopy>, Fault>
     ensures err { FailsOnly out_of_memory result }
 {
     // What a cell keeps of its log.
-    cell.known();
+    cell.use_invariant();
     let Some(stat) = cell.stat() else {
         return Ok(None);
     };

@@ -2,7 +2,7 @@
 
 use crate::ids::{handle, id};
 use nv_base::{BlockNo, Epoch, Kind, Mode, Name};
-use nv_entry::{BlockBytes, Entry, Item, PartId, Retention, Run, When};
+use nv_entry::{BlockBytes, BlockRun, Entry, Item, PartId, Retention, When};
 use std::alloc::Global;
 use std::test::Fail;
 
@@ -56,7 +56,7 @@ fn begun(kind: Kind, bits: u16) -> Result<Item, Fail> {
 }
 
 fn written(first: u32, start: u32, len: u32, size: u64) -> Item {
-    let run = Run {
+    let run = BlockRun {
         start: BlockNo::new(u64::from(start)),
         len,
     };

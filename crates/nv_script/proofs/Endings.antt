@@ -13,9 +13,9 @@ use Rattle.nv_base.specs.declared.fault.ScriptFaultKind.TheVariants as kind
 use Rattle.nv_machine.specs.World.{World}
 use Rattle.nv_script.specs.declared.fault.LineFault.{LineFault}
 use Rattle.nv_script.specs.declared.fault.LineFault.TheVariants as line_fault
-use Rattle.nv_script.specs.declared.feed.Taken.{Taken}
-use Rattle.nv_script.specs.declared.feed.Taken.TheVariants as taken
-use Rattle.nv_script.specs.Lines.{IsLine, TakenIs, WritesFront, WritesSome, ended}
+use Rattle.nv_script.specs.declared.feed.LineResult.{LineResult}
+use Rattle.nv_script.specs.declared.feed.LineResult.TheVariants as taken
+use Rattle.nv_script.specs.Lines.{IsLine, LineResultIs, WritesFront, WritesSome, ended}
 use Rattle.nv_script.specs.Play.{Ends, EndsBy, EndsWell, IsFault, ListsWords, Played, Plays, PlaysAll, Stops, most_lines, nodes_listed}
 use Rattle.nv_script.specs.Grammar.{is_skipped}
 use Rattle.nv_script.specs.Texts.{line_of, node_line, tree_lines}
@@ -252,8 +252,8 @@ answered number answer told is =
     ]
 
 -- a line to play was taken, within the last
-pub line_taken : (number : ℕ) (t : Taken) (known after : Option (List ℕ)) (line : List ℕ) → is_line number t ≡ Ok true
-    → TakenIs t known after line → TakenIs taken.Line known after line × (number ≤ most_lines)
+pub line_taken : (number : ℕ) (t : LineResult) (known after : Option (List ℕ)) (line : List ℕ) → is_line number t ≡ Ok true
+    → LineResultIs t known after line → LineResultIs taken.Line known after line × (number ≤ most_lines)
 line_taken number taken.End known after line is took = cc
 line_taken number taken.Line known after line is took =
     elim (answered number _ _ is) [ inl many ↦ (let e = many.1 in cc) | inr few ↦ (took, few.0) ]
@@ -263,8 +263,8 @@ line_taken number taken.Unended known after line is took =
     elim (answered number _ _ is) [ inl many ↦ (let e = many.1 in cc) | inr few ↦ (let e = few.1 in cc) ]
 
 -- nothing was taken at the end
-end_taken : (number : ℕ) (t : Taken) (known after : Option (List ℕ)) (line : List ℕ) → is_line number t ≡ Ok false
-    → TakenIs t known after line → TakenIs taken.End known after line
+end_taken : (number : ℕ) (t : LineResult) (known after : Option (List ℕ)) (line : List ℕ) → is_line number t ≡ Ok false
+    → LineResultIs t known after line → LineResultIs taken.End known after line
 end_taken number taken.End known after line is took = took
 end_taken number taken.Line known after line is took =
     elim (answered number _ _ is) [ inl many ↦ (let e = many.1 in cc) | inr few ↦ (let e = few.1 in cc) ]
@@ -337,8 +337,8 @@ module _ (input known old new : Option (List ℕ)) (gathered : List ℕ) (number
       )
 
   -- the end of the input
-  pub ends : (t : Taken) (left : Option (List ℕ)) (ahead line : List ℕ) → is_line number t ≡ Ok false
-      → TakenIs t known (prepend_known ahead left) line → EndsWell input left Written
+  pub ends : (t : LineResult) (left : Option (List ℕ)) (ahead line : List ℕ) → is_line number t ≡ Ok false
+      → LineResultIs t known (prepend_known ahead left) line → EndsWell input left Written
   ends t left ahead line is took =
       let end = end_taken number t known (prepend_known ahead left) line is took in (
         at.lines,
@@ -364,12 +364,12 @@ module _ (input known old new : Option (List ℕ)) (gathered : List ℕ) (number
   too_many after left piece many some more = faulty after left piece kind.Lines more
       (λ rest. past number (is_some world) (piece ++ rest) many (some_after piece rest some))
 
-  too_long : (after left : Option (List ℕ)) (line : List ℕ) → number ≤ most_lines → IsLine line → TakenIs taken.Long known after line
+  too_long : (after left : Option (List ℕ)) (line : List ℕ) → number ≤ most_lines → IsLine line → LineResultIs taken.Long known after line
       → EndsBy (fault.ScriptFault kind.Long number) input left Written
   too_long after left line inside lawful is = faulty after left (line ++ is.0 ∷ []) kind.Long is.1
       (λ rest. within number (is_some world) _ kind.Long inside (inl (refl, (line, rest, is.0, lawful, is.3, is.2, refl))))
 
-  unended : (after left : Option (List ℕ)) (line : List ℕ) → number ≤ most_lines → IsLine line → TakenIs taken.Unended known after line
+  unended : (after left : Option (List ℕ)) (line : List ℕ) → number ≤ most_lines → IsLine line → LineResultIs taken.Unended known after line
       → EndsBy (fault.ScriptFault kind.Unended number) input left Written
   unended after left line inside lawful is = (
     at.lines,
@@ -386,8 +386,8 @@ module _ (input known old new : Option (List ℕ)) (gathered : List ℕ) (number
   ends_as told why left same is = let e : told ≡ why = cc in subst (λ (f : Fault). EndsBy f input left Written) (sym e) is
 
   -- no line to play was taken
-  pub not_line : (t : Taken) (why : Fault) (after left : Option (List ℕ)) (line : List ℕ) → is_line number t ≡ Err why → IsLine line
-      → TakenIs t known after line → EndsBy why input left Written
+  pub not_line : (t : LineResult) (why : Fault) (after left : Option (List ℕ)) (line : List ℕ) → is_line number t ≡ Err why → IsLine line
+      → LineResultIs t known after line → EndsBy why input left Written
   not_line taken.End why after left line is lawful took = cc
   not_line taken.Line why after left line is lawful took =
       elim (answered number _ _ is) [
@@ -405,9 +405,9 @@ module _ (input known old new : Option (List ℕ)) (gathered : List ℕ) (number
         | inr inside ↦ ends_as why _ left inside.1 (unended after left line inside.0 lawful took)
       ]
 
-  module _ (t : Taken) (after : Option (List ℕ)) (line : List ℕ) (is : is_line number t ≡ Ok true) (lawful : IsLine line)
-      (took : TakenIs t known after line) where
-    here : TakenIs taken.Line known after line
+  module _ (t : LineResult) (after : Option (List ℕ)) (line : List ℕ) (is : is_line number t ≡ Ok true) (lawful : IsLine line)
+      (took : LineResultIs t known after line) where
+    here : LineResultIs taken.Line known after line
     here = (line_taken number t known after line is took).0
 
     pub within_last : number ≤ most_lines

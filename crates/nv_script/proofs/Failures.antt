@@ -8,8 +8,8 @@ use Rattle.nv_base.specs.declared.fault.ScriptFaultKind.TheVariants as kind
 use Rattle.nv_machine.specs.World.{World}
 use Rattle.nv_script.specs.declared.fault.LineFault.{LineFault}
 use Rattle.nv_script.specs.declared.fault.LineFault.TheVariants as line_fault
-use Rattle.nv_script.specs.declared.feed.Taken.{Taken}
-use Rattle.nv_script.specs.declared.feed.Taken.TheVariants as taken
+use Rattle.nv_script.specs.declared.feed.LineResult.{LineResult}
+use Rattle.nv_script.specs.declared.feed.LineResult.TheVariants as taken
 use Rattle.nv_script.specs.Play.{most_lines}
 use Rattle.nv_script.specs.Results.{HoldsNone, LineFaultIs, Sent, ending_of, is_line}
 
@@ -19,7 +19,7 @@ due_written ahead gathered (inl has) fails = absurd (fails has)
 due_written ahead gathered (inr none) fails = none
 
 -- what is no line to play is no failed call
-pub not_line_held : (number : ℕ) (t : Taken) (why : Fault) (gathered : List ℕ) → is_line number t ≡ Err why
+pub not_line_held : (number : ℕ) (t : LineResult) (why : Fault) (gathered : List ℕ) → is_line number t ≡ Err why
     → HoldsNone {A = Bool} (Err why) gathered
 not_line_held number t why gathered is = subst (λ (r : Result Bool Fault). HoldsNone r gathered) is (held t) where
   within : (past : Bool) (answer : Result Bool Fault) → HoldsNone answer gathered
@@ -27,7 +27,7 @@ not_line_held number t why gathered is = subst (λ (r : Result Bool Fault). Hold
   within true answer is = tt
   within false answer is = is
 
-  held : (t : Taken) → HoldsNone (is_line number t) gathered
+  held : (t : LineResult) → HoldsNone (is_line number t) gathered
   held taken.End = tt
   held taken.Line = within (nat_lt most_lines number) (Ok true) tt
   held taken.Long = within (nat_lt most_lines number) (Err (fault.ScriptFault kind.Long number)) tt

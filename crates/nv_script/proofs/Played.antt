@@ -16,7 +16,7 @@ use Rattle.nv_script.specs.declared.command.Command.TheVariants as command
 use Rattle.nv_script.specs.declared.fault.LineFault.{LineFault}
 use Rattle.nv_script.specs.declared.fault.LineFault.TheVariants as line_fault
 use Rattle.nv_script.specs.Grammar.{IsLineFault, Parsed, command_of, format_of, is_skipped}
-use Rattle.nv_script.specs.Play.{Acts, ActsBy, LineFails, ListsFront, ListsWords, Plays, PlaysWords, ShowsTree, WordsFail, is_list, nodes_listed, told_of}
+use Rattle.nv_script.specs.Play.{Acts, ActsBy, LineFails, ListsFront, ListsWords, Plays, PlaysWords, ShowsTree, WordsFail, is_list, nodes_listed, reports_of}
 use Rattle.nv_script.specs.Results.{HasAnyRun, IsNewWorld, LineFaultIs, LineIs, ListIs, ListsText, MakesWorld, PlaysShown, SendsBut, Sent}
 use Rattle.nv_script.specs.Texts.{line_of}
 use Rattle.nv_script.specs.Words.{words_of}
@@ -117,7 +117,7 @@ unread (line_fault.Faulty kind) from old line rest new parsed skipped is fails =
 -- a command on a world
 pub played : (old : Option WorldState) (world new : WorldState) (line text : List ℕ) (from : Sent) (command : Command) → old ≡ Some world
     → is_skipped line ≡ false
-    → command_of (words_of line) ≡ Ok command → Leads (λ m n. ActsBy (told_of m) m command text n) world new
+    → command_of (words_of line) ≡ Ok command → Leads (λ m n. ActsBy (reports_of m) m command text n) world new
     → PlaysShown old line (SendsBut text from from) (Some new)
 played old world new line text from command there skipped read leads m shows has =
     go m (subst (λ (w : Option WorldState). ShowsAny w m) there shows) has where

@@ -26,7 +26,7 @@ use Rattle.nv_core.proofs.ScannedReports.{lists_scanned, logs_scanned, snaps_sca
 use Rattle.nv_script.specs.declared.command.Command.{Command}
 use Rattle.nv_script.specs.declared.command.Command.TheVariants as command
 use Rattle.nv_script.specs.Grammar.{is_skipped}
-use Rattle.nv_script.specs.Play.{Acts, ActsBy, Formats, Plays, PlaysAll, PlaysWords, Reports, ShowsLog, ShowsTree, told_by_scan, told_of}
+use Rattle.nv_script.specs.Play.{Acts, ActsBy, Formats, Plays, PlaysAll, PlaysWords, Reports, ShowsLog, ShowsTree, reports_by_scan, reports_of}
 use Rattle.nv_script.specs.Results.{HasAnyRun}
 use Rattle.nv_script.specs.Texts.{lists_lines, log_line, snaps_lines, space_line}
 use Rattle.nv_script.specs.Words.{words_of}
@@ -58,7 +58,7 @@ run_from _ m actor last n ends has = subst HasRun (sym ends.1) has
 
 -- ---- commands
 
-run_log : (b : Bool) (ino : ℕ) (m : World) (text : List ℕ) (n : World) → ShowsLog b (told_by_scan m) ino m text n → n ≡ m
+run_log : (b : Bool) (ino : ℕ) (m : World) (text : List ℕ) (n : World) → ShowsLog b (reports_by_scan m) ino m text n → n ≡ m
 run_log true ino m text n shows = shows.1
 run_log false ino m text n shows = shows.1
 
@@ -163,7 +163,7 @@ plays_run lines text n plays = run_lines None lines text n plays tt
 -- ---- reports
 
 -- what a command does where its reports are by what stands in a world is what it does where they are by a scan
-pub acts_scanned : (m : World) (c : Command) (text : List ℕ) (n : World) → HasRun m → ActsBy (told_of m) m c text n → Acts m c text n
+pub acts_scanned : (m : World) (c : Command) (text : List ℕ) (n : World) → HasRun m → ActsBy (reports_of m) m c text n → Acts m c text n
 acts_scanned m command.Space text n has acts =
     subst (λ (s : Space). (text ≡ space_line s) × (n ≡ m)) (space_scanned m has) acts
 acts_scanned m command.Lists text n has acts =
@@ -171,7 +171,7 @@ acts_scanned m command.Lists text n has acts =
 acts_scanned m command.Snaps text n has acts =
     subst (λ (s : Snaps). Reports (snaps_lines s) m text n) (snaps_scanned m has) acts
 acts_scanned m (command.Log ino) text n has acts = go (nat_lt ino (length m.shared.cells)) acts where
-  go : (b : Bool) → ShowsLog b (told_of m) ino m text n → ShowsLog b (told_by_scan m) ino m text n
+  go : (b : Bool) → ShowsLog b (reports_of m) ino m text n → ShowsLog b (reports_by_scan m) ino m text n
   go true shows = subst (λ (l : LogCounts). Reports (log_line ino l) m text n) (logs_scanned m ino has) shows
   go false shows = shows
 acts_scanned m (command.Start actor call) text n has acts = acts

@@ -1,8 +1,8 @@
 -- Lines of a text, how a line is taken of the bytes that a reader has left, and how a text is written.
 use Rattle.std.specs.Prelude.{◌≡◌, ◌≢◌, ◌≤◌, ◌<◌, ℕ, List, [], ◌∷◌, ◌++◌, ◌-◌, length, slice_index, Option}
 use Rattle.std.specs.Io.KnownBytes.{Appends, Consumes, IsAtEnd}
-use Rattle.nv_script.specs.declared.feed.Taken.{Taken}
-use Rattle.nv_script.specs.declared.feed.Taken.TheVariants.{Line, End, Unended, Long}
+use Rattle.nv_script.specs.declared.feed.LineResult.{LineResult}
+use Rattle.nv_script.specs.declared.feed.LineResult.TheVariants.{Line, End, Unended, Long}
 
 -- no byte is a line end (LF)
 abbrev pub HasNoEnd : List ℕ → Type 0
@@ -36,8 +36,8 @@ WritesSome old new text = (sent : List ℕ) × IsCutOff sent text × Appends old
 
 -- what was taken: a line and its end; nothing, at the end of the bytes; the last bytes, which have no line end;
 -- or the first 4,097 bytes of a line that has more than 4,096
-abbrev pub TakenIs : Taken → Option (List ℕ) → Option (List ℕ) → List ℕ → Type 0
-TakenIs Line old new line = Consumes old new (line ++ 10 ∷ [])
-TakenIs End old new line = Consumes old new [] × IsAtEnd new × (line ≡ [])
-TakenIs Unended old new line = Consumes old new line × IsAtEnd new × (line ≢ [])
-TakenIs Long old new line = (byte : ℕ) × Consumes old new (line ++ byte ∷ []) × (byte ≢ 10) × (length line ≡ 4096)
+abbrev pub LineResultIs : LineResult → Option (List ℕ) → Option (List ℕ) → List ℕ → Type 0
+LineResultIs Line old new line = Consumes old new (line ++ 10 ∷ [])
+LineResultIs End old new line = Consumes old new [] × IsAtEnd new × (line ≡ [])
+LineResultIs Unended old new line = Consumes old new line × IsAtEnd new × (line ≢ [])
+LineResultIs Long old new line = (byte : ℕ) × Consumes old new (line ++ byte ∷ []) × (byte ≢ 10) × (length line ≡ 4096)

@@ -46,22 +46,22 @@ abbrev pub Reports : List ℕ → World → List ℕ → World → Type 0
 Reports lines old text new = ((text ≡ lines) ⊎ (text ≡ refused_line out_of_memory)) × (new ≡ old)
 
 -- what a world reports, of its blocks, its free lists, each log and its snapshots
-pub record Told : Type 0 where
+pub record WorldReports : Type 0 where
   pub space : Space
   pub lists : List (List FreeRun)
   pub log : ℕ → LogCounts
   pub snaps : Snaps
 
 -- by what stands in it, and BY ONE SCAN of all logs, which is the same for each world that events lead to
-abbrev pub told_of : World → Told
-told_of w = record { space = space_of w; lists = lists_of w.shared; log = log_at w.shared; snaps = snaps_of w.shared.book }
+abbrev pub reports_of : World → WorldReports
+reports_of w = record { space = space_of w; lists = lists_of w.shared; log = log_at w.shared; snaps = snaps_of w.shared.book }
 
-abbrev pub told_by_scan : World → Told
-told_by_scan w =
+abbrev pub reports_by_scan : World → WorldReports
+reports_by_scan w =
     record { space = space_by_scan w; lists = lists_by_scan w; log = log_by_scan w; snaps = snaps_by_scan w }
 
 -- the log of a slot, or a refusal where there is none
-abbrev pub ShowsLog : Bool → Told → ℕ → World → List ℕ → World → Type 0
+abbrev pub ShowsLog : Bool → WorldReports → ℕ → World → List ℕ → World → Type 0
 ShowsLog true told ino old text new = Reports (log_line ino (told.log ino)) old text new
 ShowsLog false told ino old text new = (text ≡ refused_line fault.Stale) × (new ≡ old)
 
@@ -92,7 +92,7 @@ ShowsTree true snapshot old text new = Reports (tree_lines (snapshot_tree old sn
 ShowsTree false snapshot old text new = (text ≡ refused_line fault.NoSnapshot) × (new ≡ old)
 
 -- what a command writes and leaves, where the world reports this
-abbrev pub ActsBy : Told → World → Command → List ℕ → World → Type 0
+abbrev pub ActsBy : WorldReports → World → Command → List ℕ → World → Type 0
 ActsBy told old (command.Start actor call) text new =
     (text ≡ reply_line ((step old (Start actor call)).reply)) × (new ≡ (step old (Start actor call)).world)
 ActsBy told old (command.Go actor more) text new = Answers (GoesOn (more + 1) old actor) text new
@@ -108,7 +108,7 @@ ActsBy told old command.Audit text new = Reports (line_of (codes "audit ok")) ol
 
 -- reports are those of a scan
 abbrev pub Acts : World → Command → List ℕ → World → Type 0
-Acts old command text new = ActsBy (told_by_scan old) old command text new
+Acts old command text new = ActsBy (reports_by_scan old) old command text new
 
 -- the words of a line without a fault: a `format` where no world is made, and else a command on the world
 abbrev pub PlaysWords : Option World → List (List ℕ) → List ℕ → Option World → Type 0

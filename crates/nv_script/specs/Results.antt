@@ -15,8 +15,8 @@ use Rattle.nv_core.specs.Worlds.{HasRun, Shows, ShowsAny, WorldState}
 use Rattle.nv_script.specs.declared.asked.Asked.{Asked}
 use Rattle.nv_script.specs.declared.fault.LineFault.{LineFault}
 use Rattle.nv_script.specs.declared.fault.LineFault.TheVariants as line_fault
-use Rattle.nv_script.specs.declared.feed.Taken.{Taken}
-use Rattle.nv_script.specs.declared.feed.Taken.TheVariants as taken
+use Rattle.nv_script.specs.declared.feed.LineResult.{LineResult}
+use Rattle.nv_script.specs.declared.feed.LineResult.TheVariants as taken
 use Rattle.nv_script.specs.Lines.{WritesFront, WritesSome, ended}
 use Rattle.nv_script.specs.Play.{EndsBy, EndsWell, Formats, LineFails, ListsFront, Plays, PlaysAll, StopsAt, most_lines}
 use Rattle.nv_script.specs.Texts.{line_of, node_line, refused_line, tree_lines}
@@ -146,7 +146,7 @@ abbrev pub within_lines : ℕ → Result Bool Fault → Result Bool Fault
 within_lines number answer = if nat_lt most_lines number then Err (fault.ScriptFault kind.Lines number) else answer
 
 -- whether what was taken is a line to play; or how it ends the script
-abbrev pub is_line : ℕ → Taken → Result Bool Fault
+abbrev pub is_line : ℕ → LineResult → Result Bool Fault
 is_line number taken.End = Ok false
 is_line number taken.Line = within_lines number (Ok true)
 is_line number taken.Long = within_lines number (Err (fault.ScriptFault kind.Long number))

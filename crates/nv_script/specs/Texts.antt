@@ -9,7 +9,7 @@ use Rattle.nv_base.specs.declared.numbers.Handle.{Handle}
 use Rattle.nv_alloc.specs.declared.runs.FreeRun.{FreeRun}
 use Rattle.nv_calls.specs.declared.answer.Answer.{Answer}
 use Rattle.nv_calls.specs.declared.answer.Answer.TheVariants as answer
-use Rattle.nv_cell.specs.declared.tally.PageCounts.{PageCounts}
+use Rattle.nv_cell.specs.declared.tally.LogPageCounts.{LogPageCounts}
 use Rattle.nv_entry.specs.declared.names.BoundName.{BoundName}
 use Rattle.nv_machine.specs.World.{Done, Moved, Refused, Reply, Started, Waiting}
 use Rattle.nv_core.specs.declared.reports.LogCounts.{LogCounts}
@@ -126,7 +126,7 @@ lists_from cpu (runs ∷ lists) = line_of (codes "cpu " ++ decimal cpu ++ runs_t
 abbrev pub lists_lines : List (List FreeRun) → List ℕ
 lists_lines lists = lists_from 0 lists
 
-abbrev pub counts_text : PageCounts → List ℕ
+abbrev pub counts_text : LogPageCounts → List ℕ
 counts_text counts = codes " " ++ decimal counts.live ++ codes ":" ++ decimal counts.valid
 
 -- the log of a slot: entries and pages, and the counts of each page

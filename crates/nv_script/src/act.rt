@@ -3,7 +3,7 @@
 ghost use Rattle.std.specs.Prelude.{◌≡◌, ◌≢◌, ◌<◌, ◌+◌, ◌-◌, ◌^◌, [], None, IfOk, OnOk, false};
 ghost use Rattle.nv_base.specs.Limits.{first_bad_field};
 ghost use Rattle.nv_script.specs.declared.command.Command.TheVariants.{Audit};
-ghost use Rattle.nv_script.specs.Play.{ActsBy, is_list, told_of};
+ghost use Rattle.nv_script.specs.Play.{ActsBy, is_list, reports_of};
 ghost use Rattle.nv_script.specs.Results.{IsNewWorld, LineIs, MakesWorld, TellsAudit, failed_in_line};
 ghost use Rattle.nv_core.specs.Worlds.{Leads};
 
@@ -98,7 +98,7 @@ fn act(world: &mut World, command: Command, out: &mut Vec<u8>) -> Result<Option<
     requires other { is_list command ≡ false }
     requires empty { out.old.items ≡ [] }
     ensures acts { OnOk result
-        (Leads (λ m n. ActsBy (told_of m) m command out.new.items n) world.old world.new) }
+        (Leads (λ m n. ActsBy (reports_of m) m command out.new.items n) world.old world.new) }
     ensures asked { IfOk result (λ asked. command ≡ Audit → TellsAudit asked out.new.items) }
 {
     if let Command::Audit = command {
@@ -131,7 +131,7 @@ fn tell(world: &mut World, command: Command, out: &mut Vec<u8>) -> Result<(), Al
     requires no_audit { command ≢ Audit }
     requires empty { out.old.items ≡ [] }
     ensures { OnOk result
-        (Leads (λ m n. ActsBy (told_of m) m command out.new.items n) world.old world.new) }
+        (Leads (λ m n. ActsBy (reports_of m) m command out.new.items n) world.old world.new) }
 {
     match command {
         Command::Start(actor, call) => push_reply(out, &world.start(actor, call)),

@@ -21,7 +21,7 @@ const CHUNK_BYTES: usize = 65_536;
 
 /// How a line was taken.
 #[derive(Clone, Copy, Debug, PartialEq, Eq, Drop)]
-pub enum Taken {
+pub enum LineResult {
     /// A line and its end.
     Line,
     /// Nothing: the reader has no more bytes.
@@ -56,7 +56,7 @@ impl Model for Feed {
 }
 
 impl Feed {
-    ghost use Rattle.nv_script.specs.Lines.{IsLine, TakenIs};
+    ghost use Rattle.nv_script.specs.Lines.{IsLine, LineResultIs};
 
     /// A feed with no bytes read ahead.
     pub fn new(alloc: Global) -> Result<Feed, AllocError>
@@ -85,7 +85,7 @@ impl Feed {
         &mut self,
         reader: &mut R,
         line: &mut Vec<u8>,
-    ) -> Result<Taken, ReadFailed>
+    ) -> Result<LineResult, ReadFailed>
         requires room { MAX_LINE_BYTES ≤ vec_capacity line.old }
         requires failures { R.failed reader.old < 2 ^ 64 - 1 }
         ensures room { MAX_LINE_BYTES ≤ vec_capacity line.new }
@@ -93,7 +93,7 @@ impl Feed {
         ensures taken { let old = prepend_known self.old (R.remaining reader.old) in
             let new = prepend_known self.new (R.remaining reader.new) in
             MatchResult result
-            (λ taken. TakenIs taken old new line.new.items)
+            (λ taken. LineResultIs taken old new line.new.items)
             (λ _. Consumes old new line.new.items) }
         ensures ahead { IsErr result → self.new ≡ [] }
         ensures there { Contains self.old LINE_END → IsOk result }
@@ -105,16 +105,16 @@ impl Feed {
         while self.fill(reader)? {
             if let Some(byte) = self.take_front(line) {
                 return Ok(if byte == LINE_END {
-                    Taken::Line
+                    LineResult::Line
                 } else {
-                    Taken::Long
+                    LineResult::Long
                 });
             }
         }
         Ok(if line.is_empty() {
-            Taken::End
+            LineResult::End
         } else {
-            Taken::Unended
+            LineResult::Unended
         })
     }
 

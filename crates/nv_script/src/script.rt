@@ -13,7 +13,7 @@ ghost use Rattle.nv_script.specs.Results.{AtLine, HoldsNone, TurnIs, ending_of, 
 use crate::act::play_line;
 use crate::counted::{CountedRead, CountedWrite, ReadCounter, WriteCounter, WriteFailed};
 use crate::fault::LineFault;
-use crate::feed::{Feed, MAX_LINE_BYTES, Taken};
+use crate::feed::{Feed, LineResult, MAX_LINE_BYTES};
 use crate::outbox::Outbox;
 use nv_base::{Fault, ScriptFaultKind};
 use nv_core::World;
@@ -273,15 +273,15 @@ fn write_before_read<W: CountedWrite>(
 }
 
 /// Whether what was taken is a line to play. It is none at the end of the bytes; else it ends the script by a fault.
-fn is_line(number: u64, taken: Taken) -> Result<bool, Fault>
+fn is_line(number: u64, taken: LineResult) -> Result<bool, Fault>
     ensures { result ≡ is_line number taken }
 {
     match taken {
-        Taken::End => Ok(false),
+        LineResult::End => Ok(false),
         _ if number > MAX_LINES => Err(Fault::ScriptFault(ScriptFaultKind::Lines, number)),
-        Taken::Line => Ok(true),
-        Taken::Long => Err(Fault::ScriptFault(ScriptFaultKind::Long, number)),
-        Taken::Unended => Err(Fault::ScriptFault(ScriptFaultKind::Unended, number)),
+        LineResult::Line => Ok(true),
+        LineResult::Long => Err(Fault::ScriptFault(ScriptFaultKind::Long, number)),
+        LineResult::Unended => Err(Fault::ScriptFault(ScriptFaultKind::Unended, number)),
     }
 }
 

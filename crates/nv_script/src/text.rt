@@ -11,7 +11,7 @@ ghost use Rattle.nv_core.specs.Worlds.{reply_of};
 use crate::word::{push_escaped, push_number};
 use nv_alloc::FreeRun;
 use nv_base::{Fault, Handle, Items, Kind, Mode, Name, ScriptFaultKind};
-use nv_cell::PageCounts;
+use nv_cell::LogPageCounts;
 use nv_core::{Answer, CallFault, LogCounts, Reply, SnapCounts, Snaps, Space, TreeNode};
 use nv_entry::{BoundName, NodeCopy};
 use std::alloc::{AllocError, Global};
@@ -379,7 +379,7 @@ pub(crate) fn push_lists(out: &mut Vec<u8>, lists: &[Items<FreeRun>]) -> Result<
 }
 
 /// Adds the counts of the pages of a log.
-fn push_counts(out: &mut Vec<u8>, pages: &[PageCounts]) -> Result<(), AllocError>
+fn push_counts(out: &mut Vec<u8>, pages: &[LogPageCounts]) -> Result<(), AllocError>
     ensures { OnOk result (out.new.items ≡ out.old.items ++ flat_map counts_text pages.now) }
 {
     for page in pages {

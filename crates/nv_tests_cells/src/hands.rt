@@ -102,7 +102,7 @@ pub fn holds(rt: &impl Abort, hand: &Hand, want: &Held) {
 
 /// Gives all blocks of a hand back, and says which inode's number it has.
 pub fn give_back(rt: &impl Abort, list: &mut FreeList, mut hand: Hand) -> Option<Ino> {
-    hand.give_home(list);
+    hand.give_blocks(list);
     let ino = hand.take_ino();
     assert!(rt; hand.is_empty());
     hand.dismantle();

@@ -10,7 +10,7 @@ use std::process::Abort;
 
 /// What a read finds.
 #[derive(Clone, Copy, Debug)]
-pub enum Found {
+pub enum ReadResult {
     Bytes(&'static [u8]),
     /// Names in order, with the inodes that they lead to.
     Names(&'static [(&'static str, u64)]),
@@ -66,9 +66,9 @@ fn viewed(
 }
 
 /// What a look finds where a look-up finds this: a name that isn't bound is no refusal.
-fn looked(want: Result<Found, Fault>) -> Result<Option<Handle>, Fault> {
+fn looked(want: Result<ReadResult, Fault>) -> Result<Option<Handle>, Fault> {
     match want {
-        Ok(Found::To(ino)) => Ok(Some(handle(ino))),
+        Ok(ReadResult::To(ino)) => Ok(Some(handle(ino))),
         Ok(_) | Err(Fault::Missing) => Ok(None),
         Err(fault) => Err(fault),
     }
@@ -81,7 +81,7 @@ pub fn finds(
     ino: u64,
     cell: &InodeCell,
     reads: Reads,
-    want: Result<Found, Fault>,
+    want: Result<ReadResult, Fault>,
 ) {
     let ino = Ino::new(ino);
     if let Reads::Lookup(dir, name) = reads {
@@ -102,7 +102,7 @@ pub fn finds(
     }
 }
 
-fn is_view(rt: &impl Abort, view: &View, version: u64, reads: Reads, want: &Found) {
+fn is_view(rt: &impl Abort, view: &View, version: u64, reads: Reads, want: &ReadResult) {
     same_for(rt, &reads, view.version(), version);
     assert!(rt; is_of(view.call(), reads), "{reads:?}");
     is_answer(rt, view.found(), want);
@@ -119,10 +119,10 @@ fn is_of(call: &Call, reads: Reads) -> bool {
     }
 }
 
-fn is_answer(rt: &impl Abort, found: &Answer, want: &Found) {
+fn is_answer(rt: &impl Abort, found: &Answer, want: &ReadResult) {
     match (found, want) {
-        (Answer::Bytes(found), Found::Bytes(want)) => same(rt, found.as_slice(), *want),
-        (Answer::Made(to), Found::To(ino)) => same(rt, *to, handle(*ino)),
+        (Answer::Bytes(found), ReadResult::Bytes(want)) => same(rt, found.as_slice(), *want),
+        (Answer::Made(to), ReadResult::To(ino)) => same(rt, *to, handle(*ino)),
         (
             Answer::Stat {
                 kind,
@@ -130,12 +130,12 @@ fn is_answer(rt: &impl Abort, found: &Answer, want: &Found) {
                 size,
                 commit,
             },
-            Found::Stat(of, bits, len, last),
+            ReadResult::Stat(of, bits, len, last),
         ) => {
             same(rt, (*kind, mode.bits()), (*of, *bits));
             same(rt, (*size, *commit), (*len, CommitNo::new(*last)));
         }
-        (Answer::Names(names), Found::Names(want)) => {
+        (Answer::Names(names), ReadResult::Names(want)) => {
             same(rt, names.len(), want.len());
             for (bound, (name, ino)) in names.as_slice().iter().zip(*want) {
                 same_for(rt, name, bound.name.bytes(), name.as_bytes());

@@ -1,9 +1,9 @@
 //! The worked rows, each call from its check to its last retirement.
 
-use crate::reads::{Found, Reads};
+use crate::reads::{ReadResult, Reads};
 use crate::says::Says::{Create, Mkdir, Mode, Rename, Rmdir, Size, Unlink, Write};
 use crate::steps::{Step, play};
-use Found::{Bytes, Names, Stat, To};
+use ReadResult::{Bytes, Names, Stat, To};
 use Reads::{List, Lookup, Read};
 use Step::{
     Commits, Finds, FindsNothing, Free, Gone, Leaves, Log, Makes, Nothing, Refused, Snapshot,

@@ -7,7 +7,7 @@ use crate::slots::{begin, slot};
 use crate::stock::{Outcome, Stock};
 use nv_base::limits::BLOCK_BYTES;
 use nv_base::{Fault, Ino};
-use nv_calls::{Cells, LastCell, LentCell, Looked, Source, check_on};
+use nv_calls::{Cells, LastCell, LentCell, LookupResult, Source, check_on};
 use nv_cell::InodeCell;
 use nv_scenes::Row;
 use std::alloc::Global;
@@ -84,7 +84,7 @@ impl Scene {
 
     /// Why a call of the root is refused whose first name was bound to this inode when it looked.
     pub fn overtaken(&mut self, rt: &impl Abort, says: Says, said: u64) -> Option<Fault> {
-        let before = Looked {
+        let before = LookupResult {
             first: Some(handle(said)),
             second: None,
         };

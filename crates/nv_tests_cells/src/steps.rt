@@ -2,13 +2,13 @@
 
 use crate::compare::{same, same_for};
 use crate::hands::{Held, Takes, has_free, making, taking};
-use crate::reads::{Found, Reads, finds};
+use crate::reads::{ReadResult, Reads, finds};
 use crate::says::Says;
 use crate::scene::Scene;
 use crate::sources::CountedText;
 use crate::stock::Outcome;
 use nv_base::{CommitNo, Epoch, Fault, Ino};
-use nv_cell::PageCounts;
+use nv_cell::LogPageCounts;
 use nv_scenes::Row;
 use std::alloc::Global;
 use std::process::Abort;
@@ -23,7 +23,7 @@ pub enum Step {
     Nothing(Says),
     Refused(Says, Fault),
     /// A call that only reads.
-    Finds(Reads, Found),
+    Finds(Reads, ReadResult),
     FindsNothing(Reads, Fault),
     /// One that is lent the cell of this inode.
     FindsNothingIn(u64, Reads, Fault),
@@ -116,7 +116,7 @@ fn reads_in(
     scene: &Scene,
     ino: u64,
     reads: Reads,
-    want: Result<Found, Fault>,
+    want: Result<ReadResult, Fault>,
 ) {
     finds(rt, alloc, ino % 10, scene.cell(rt, ino), reads, want);
 }
@@ -145,7 +145,7 @@ fn has_log(
     same_for(rt, &ino, cell.version(), version);
     same_for(rt, &ino, cell.log().ends().len(), pages.len());
     for (page, (live, valid)) in pages.iter().enumerate() {
-        let counts = PageCounts {
+        let counts = LogPageCounts {
             live: *live,
             valid: *valid,
         };

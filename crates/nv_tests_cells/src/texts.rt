@@ -3,13 +3,13 @@
 
 use crate::compare::{same, same_for};
 use crate::hands::taking;
-use crate::reads::{Found, Reads};
+use crate::reads::{ReadResult, Reads};
 use crate::says::Says::{Create, Write};
 use crate::scene::Scene;
 use crate::sources::{CountedText, SingleBytes, SlowText};
 use crate::steps::{Step, make};
 use crate::stock::Outcome;
-use Found::Bytes;
+use ReadResult::Bytes;
 use Reads::Read;
 use Step::{Commits, Finds, Free, Log, Makes};
 use nv_base::{CommitNo, Fault};

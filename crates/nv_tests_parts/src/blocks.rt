@@ -103,7 +103,7 @@ fn takes_what_there_is(rt: HostRuntime) {
     same(&rt, list.is_empty(), true);
     same(&rt, take(&rt, &mut list, &mut hand.data, 1), 0);
     same(&rt, hand.data.room(), 12);
-    hand.give_home(&mut list);
+    hand.give_blocks(&mut list);
     same(&rt, hand.is_empty(), true);
     assert_runs(&rt, &list, &[(8, 15)]);
     hand.dismantle();
@@ -134,8 +134,8 @@ fn give_lowest(
     home: u64,
     runs: &[(u64, u64)],
 ) {
-    same(rt, hand.lowest_home(&device(rt)), Some(home));
-    hand.give_home(list);
+    same(rt, hand.first_home_cpu(&device(rt)), Some(home));
+    hand.give_blocks(list);
     assert_runs(rt, list, runs);
 }
 
@@ -157,7 +157,7 @@ fn gives_each_block_to_its_home(rt: HostRuntime) {
 fn is_homeless(rt: &impl Abort, hand: &Hand) {
     same(
         rt,
-        (hand.lowest_home(&device(rt)), hand.is_empty()),
+        (hand.first_home_cpu(&device(rt)), hand.is_empty()),
         (None, true),
     );
 }
@@ -168,7 +168,7 @@ fn keeps_what_a_list_has_already(rt: HostRuntime) {
     let mut again = list_of(&rt, rt.alloc(), 0);
     let mut hand = hand_for(&rt, rt.alloc(), 2, 0);
     same(&rt, take(&rt, &mut again, &mut hand.data, 2), 2);
-    hand.give_home(&mut list);
+    hand.give_blocks(&mut list);
     has_numbers(&rt, &hand.data, &[0, 1]);
     same(&rt, list.len(), 8);
     hand.dismantle();
@@ -244,7 +244,7 @@ fn holds_a_chain_and_a_number(rt: HostRuntime) {
     let pages = hand.chain.take();
     same(&rt, (hand.is_empty(), pages.len()), (true, 1));
     put_chain(&rt, &mut hand, pages);
-    hand.give_home(&mut list);
+    hand.give_blocks(&mut list);
     same(&rt, hand.chain.is_empty(), true);
     assert_runs(&rt, &list, &[(0, 7)]);
     hold_number(&rt, &mut hand);

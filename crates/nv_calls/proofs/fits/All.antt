@@ -5,12 +5,12 @@ use Rattle.nv_base.specs.declared.numbers.Handle.{Handle}
 use Rattle.nv_entry.specs.declared.node.NodeCopy.{NodeCopy}
 use Rattle.nv_entry.specs.Sound.{IsSound}
 use Rattle.nv_calls.specs.AllCalls.{IsReady, effect, plan, refusal}
-use Rattle.nv_calls.specs.declared.taken.Taken.{Taken}
+use Rattle.nv_calls.specs.declared.allocation.Allocation.{Allocation}
 use Rattle.nv_calls.specs.declared.call.Call.{Call}
 use Rattle.nv_calls.specs.declared.call.Call.TheVariants as call
 use Rattle.nv_calls.specs.Plain.{node_in}
 use Rattle.nv_calls.specs.Refusals.{passes}
-use Rattle.nv_calls.specs.Slots.{IsPlan, Slot, node_under}
+use Rattle.nv_calls.specs.Slots.{IsPlan, InodeSlot, node_under}
 use Rattle.nv_calls.proofs.Items.{no_plan}
 use Rattle.nv_calls.proofs.fits.Create.{create_fits}
 use Rattle.nv_calls.proofs.fits.Mode.{mode_fits}
@@ -19,7 +19,7 @@ use Rattle.nv_calls.proofs.fits.Size.{size_fits}
 use Rattle.nv_calls.proofs.fits.Unlink.{rmdir_fits, unlink_fits}
 use Rattle.nv_calls.proofs.fits.Write.{write_fits}
 
-module _ (bytes : ℕ → List ℕ) (block : ℕ) (slots : ℕ → Slot) (taken : Taken) (some : 0 < block)
+module _ (bytes : ℕ → List ℕ) (block : ℕ) (slots : ℕ → InodeSlot) (taken : Allocation) (some : 0 < block)
     (sound : (ino : ℕ) → IsSound bytes block (slots ino).log) where
   abbrev nodes : Handle → Option NodeCopy
   nodes = node_in (node_under bytes block slots)

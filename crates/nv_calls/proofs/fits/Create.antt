@@ -6,12 +6,12 @@ use Rattle.nv_entry.specs.declared.item.Item.TheVariants.{Init}
 use Rattle.nv_calls.specs.Plain.{begins, change, node_in}
 use Rattle.nv_calls.specs.Plan.{planned}
 use Rattle.nv_calls.specs.Refusals.{passes}
-use Rattle.nv_calls.specs.Slots.{IsFree, IsPlan, Slot, node_under}
+use Rattle.nv_calls.specs.Slots.{IsFree, IsPlan, InodeSlot, node_under}
 use Rattle.nv_calls.specs.calls.Create.{begin_effect, begin_plan, create_refusal}
 use Rattle.nv_calls.proofs.Items.{and_bind, and_init, no_plan}
 use Rattle.nv_calls.proofs.Passed.{directory_passed}
 
-pub create_fits : (bytes : ℕ → List ℕ) (block : ℕ) (slots : ℕ → Slot) (kind : Kind) (dir : Handle) (name : List ℕ) (mode : ℕ)
+pub create_fits : (bytes : ℕ → List ℕ) (block : ℕ) (slots : ℕ → InodeSlot) (kind : Kind) (dir : Handle) (name : List ℕ) (mode : ℕ)
     (made : Handle)
     → 0 < block
     → create_refusal (node_in (node_under bytes block slots)) dir name ≡ passes → IsFree slots made

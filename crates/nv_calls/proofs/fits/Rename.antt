@@ -7,22 +7,22 @@ use Rattle.nv_entry.specs.declared.item.Item.TheVariants.{Bind}
 use Rattle.nv_entry.specs.declared.node.NodeCopy.{NodeCopy}
 use Rattle.nv_entry.specs.Index.{with_last}
 use Rattle.nv_calls.specs.Plain.{Change, change, node_in, same_handle, with_names}
-use Rattle.nv_calls.specs.declared.plan.Planned.{Planned}
+use Rattle.nv_calls.specs.declared.plan.InodePlan.{InodePlan}
 use Rattle.nv_calls.specs.Plan.{planned}
 use Rattle.nv_calls.specs.AllCalls.{looked, refusal}
 use Rattle.nv_calls.specs.declared.call.Call.TheVariants as call
 use Rattle.nv_calls.specs.Refusals.{found, kind_of, passes, want_bound}
-use Rattle.nv_calls.specs.Slots.{IsPlan, Slot, node_under}
+use Rattle.nv_calls.specs.Slots.{IsPlan, InodeSlot, node_under}
 use Rattle.nv_calls.specs.calls.Rename.{bound_effect, bound_plan, move_effect, move_plan, moved_refusal, own_place, pass_if, rename_effect, rename_plan, replaced_effect, replaced_plan, replaced_refusal}
 use Rattle.nv_calls.proofs.Items.{and_bind, and_gone, and_move, and_unbind, no_plan}
 use Rattle.nv_calls.proofs.Passed.{HasKind, elsewhere, moved_passed, names_passed, node_passed}
 
-module _ (bytes : ℕ → List ℕ) (block : ℕ) (slots : ℕ → Slot) (some : 0 < block) (from : Handle) (old : List ℕ) (to : Handle)
+module _ (bytes : ℕ → List ℕ) (block : ℕ) (slots : ℕ → InodeSlot) (some : 0 < block) (from : Handle) (old : List ℕ) (to : Handle)
     (new : List ℕ) where
   abbrev nodes : Handle → Option NodeCopy
   nodes = node_in (node_under bytes block slots)
 
-  abbrev Plans : List Planned → List Change → Type 0
+  abbrev Plans : List InodePlan → List Change → Type 0
   Plans plan effect = IsPlan bytes block slots plan effect
 
   replaced_fits : (moved : Option Kind) (other : Option Handle) → replaced_refusal nodes moved other ≡ passes
@@ -31,7 +31,7 @@ module _ (bytes : ℕ → List ℕ) (block : ℕ) (slots : ℕ → Slot) (some :
   replaced_fits moved (Some other) h =
       and_gone bytes block slots some other [] [] (node_passed (nodes other) _ h).0 (no_plan bytes block slots some)
 
-  move_fits : (same : Bool) (moved : Handle) (plan : List Planned) (effect : List Change) → HasKind Dir (nodes from)
+  move_fits : (same : Bool) (moved : Handle) (plan : List InodePlan) (effect : List Change) → HasKind Dir (nodes from)
       → HasKind Dir (nodes to)
       → Plans plan effect → Plans (move_plan same from old to new moved plan) (move_effect same from old to new moved effect)
   move_fits true moved plan effect f t rest = and_move bytes block slots some from old new moved plan effect f rest

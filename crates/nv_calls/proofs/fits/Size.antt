@@ -7,7 +7,7 @@ use Rattle.nv_base.specs.declared.node.Kind.TheVariants.{File}
 use Rattle.nv_base.specs.declared.numbers.Handle.{Handle}
 use Rattle.nv_entry.specs.declared.item.Entry.{Entry}
 use Rattle.nv_entry.specs.declared.item.Item.TheVariants.{Write, SetSize}
-use Rattle.nv_entry.specs.declared.item.Run.{Run}
+use Rattle.nv_entry.specs.declared.item.BlockRun.{BlockRun}
 use Rattle.nv_entry.specs.declared.node.NodeCopy.{NodeCopy}
 use Rattle.nv_entry.specs.Bytes.{page_of}
 use Rattle.nv_entry.specs.Keys.{in_run, is_past, pages_for}
@@ -18,10 +18,10 @@ use Rattle.nv_entry.proofs.Hiding.{run_from, run_parts}
 use Rattle.nv_entry.proofs.PageBytes.{page_of-past, pages_for-most}
 use Rattle.nv_entry.proofs.SoundLogs.{one_makes, suits_file}
 use Rattle.nv_calls.specs.AllCalls.{HasCutPage}
-use Rattle.nv_calls.specs.declared.taken.Taken.{Taken}
+use Rattle.nv_calls.specs.declared.allocation.Allocation.{Allocation}
 use Rattle.nv_calls.specs.Plain.{node_in}
 use Rattle.nv_calls.specs.Refusals.{bytes_of, passes, refuse_if}
-use Rattle.nv_calls.specs.Slots.{IsPlan, Slot, node_under}
+use Rattle.nv_calls.specs.Slots.{IsPlan, InodeSlot, node_under}
 use Rattle.nv_calls.specs.calls.Size.{HaveCut, cuts_page, resized, resized_node, size_effect, size_plan, size_refusal}
 use Rattle.nv_calls.proofs.Items.{and_plan, no_plan}
 use Rattle.nv_calls.proofs.Passed.{file_passed, if_passed, own_handle, there}
@@ -57,7 +57,7 @@ module _ (bytes : ℕ → List ℕ) (block size : ℕ) (node : NodeCopy) (some :
 
   -- ---- with a page that is cut
 
-  module _ (run : Run) (one : run.len ≡ 1) (filled : bytes run.start ≡ page_of block (size / block) after) (s : Stored)
+  module _ (run : BlockRun) (one : run.len ≡ 1) (filled : bytes run.start ≡ page_of block (size / block) after) (s : Stored)
       (st : Stands bytes block s node) where
     abbrev new : Stored
     new = stored_after_all block (Write (size / block) run size ∷ SetSize size ∷ []) s
@@ -121,7 +121,7 @@ module _ (bytes : ℕ → List ℕ) (block size : ℕ) (node : NodeCopy) (some :
       suits = suits_file node.kind node.size size node.names file st.suits;
     }
 
-  size_makes : (present : Bool) (runs : List Run) → HaveCut bytes block size present node.bytes runs
+  size_makes : (present : Bool) (runs : List BlockRun) → HaveCut bytes block size present node.bytes runs
       → (present ≡ false → page_of block (size / block) node.bytes ≡ replicate block 0)
       → MakesAll bytes block (write_items (size / block) runs size ++ SetSize size ∷ []) (Some node) (Some (resized_node size node))
   size_makes present [] has absent s st =
@@ -138,7 +138,7 @@ module _ (bytes : ℕ → List ℕ) (block size : ℕ) (node : NodeCopy) (some :
         most true n h = absurd (omega arith)
         most false n h = absurd (omega arith)
 
-some_items : (first : ℕ) (runs : List Run) (size : ℕ) → 0 < length (write_items first runs size ++ SetSize size ∷ [])
+some_items : (first : ℕ) (runs : List BlockRun) (size : ℕ) → 0 < length (write_items first runs size ++ SetSize size ∷ [])
 some_items first [] size = omega arith
 some_items first (run ∷ runs) size = omega arith
 
@@ -152,13 +152,13 @@ absent_page bytes block page log node present st told missing =
       none None h = refl
       none (Some number) h = cc
 
-pub size_fits : (bytes : ℕ → List ℕ) (block : ℕ) (slots : ℕ → Slot) (file : Handle) (size : ℕ) (taken : Taken)
+pub size_fits : (bytes : ℕ → List ℕ) (block : ℕ) (slots : ℕ → InodeSlot) (file : Handle) (size : ℕ) (taken : Allocation)
     → 0 < block → IsSound bytes block (slots file.ino).log
     → size_refusal block (node_in (node_under bytes block slots)) file size ≡ passes
     → HasCutPage bytes block slots taken file size (bytes_of (node_in (node_under bytes block slots) file))
     → IsPlan bytes block slots (size_plan block file size taken.runs) (size_effect file size)
 size_fits bytes block slots file size taken some sound passed has =
-    let runs : List Run = taken.runs in
+    let runs : List BlockRun = taken.runs in
     let found : Option NodeCopy = node_in (node_under bytes block slots) file in
     let f = file_passed found (refuse_if (nat_lt (65536 * block) size) fault.FileTooBig passes) passed in
     let few = ltb-false (65536 * block) size (if_passed (nat_lt (65536 * block) size) fault.FileTooBig passes f.1).0 in

@@ -9,13 +9,13 @@ use Rattle.nv_calls.specs.Plan.{planned}
 use Rattle.nv_calls.specs.AllCalls.{refusal}
 use Rattle.nv_calls.specs.declared.call.Call.TheVariants as call
 use Rattle.nv_calls.specs.Refusals.{Check, found, passes, want_bound}
-use Rattle.nv_calls.specs.Slots.{IsPlan, Slot, node_under}
+use Rattle.nv_calls.specs.Slots.{IsPlan, InodeSlot, node_under}
 use Rattle.nv_calls.specs.calls.Lookup.{lookup_refusal}
 use Rattle.nv_calls.specs.calls.Unlink.{leave_effect, leave_plan}
 use Rattle.nv_calls.proofs.Items.{and_gone, and_unbind, no_plan}
 use Rattle.nv_calls.proofs.Passed.{HasKind, IsThere, both_passed, directory_passed, file_passed, look_passed, there}
 
-module _ (bytes : ℕ → List ℕ) (block : ℕ) (slots : ℕ → Slot) (some : 0 < block) (dir : Handle) (name : List ℕ) where
+module _ (bytes : ℕ → List ℕ) (block : ℕ) (slots : ℕ → InodeSlot) (some : 0 < block) (dir : Handle) (name : List ℕ) where
   abbrev nodes : Handle → Option NodeCopy
   nodes = node_in (node_under bytes block slots)
 

@@ -3,7 +3,7 @@ use Rattle.std.proofs.Common.{◌≡◌, ℕ, ◌+◌, ◌*◌, ◌/◌, ◌<◌
 use Rattle.std.specs.Prelude.{option_map}
 use Rattle.nv_base.specs.declared.node.Kind.TheVariants.{File}
 use Rattle.nv_base.specs.declared.numbers.Handle.{Handle}
-use Rattle.nv_entry.specs.declared.item.Run.{Run}
+use Rattle.nv_entry.specs.declared.item.BlockRun.{BlockRun}
 use Rattle.nv_entry.specs.declared.node.NodeCopy.{NodeCopy}
 use Rattle.nv_entry.specs.Bytes.{written}
 use Rattle.nv_entry.specs.Sound.{HaveText, MakesAll, blocks_of, rewritten, write_items}
@@ -11,17 +11,17 @@ use Rattle.nv_entry.proofs.PageBytes.{touches_some}
 use Rattle.nv_entry.proofs.WrittenRuns.{runs_make}
 use Rattle.nv_calls.specs.Plain.{node_in}
 use Rattle.nv_calls.specs.Refusals.{bytes_of, passes}
-use Rattle.nv_calls.specs.Slots.{IsPlan, Slot, node_under}
+use Rattle.nv_calls.specs.Slots.{IsPlan, InodeSlot, node_under}
 use Rattle.nv_calls.specs.calls.Write.{text_refusal, write_effect, write_plan, write_refusal}
 use Rattle.nv_calls.proofs.Items.{and_plan, no_plan}
 use Rattle.nv_calls.proofs.Within.{count_passed}
 use Rattle.nv_calls.proofs.Passed.{HasKind, file_passed, own_handle, there}
 
-some_items : (first : ℕ) (runs : List Run) (size : ℕ) → 0 < length (blocks_of runs) → 0 < length (write_items first runs size)
+some_items : (first : ℕ) (runs : List BlockRun) (size : ℕ) → 0 < length (blocks_of runs) → 0 < length (write_items first runs size)
 some_items first [] size some = absurd (omega arith)
 some_items first (run ∷ runs) size some = omega arith
 
-module _ (bytes : ℕ → List ℕ) (block : ℕ) (slots : ℕ → Slot) (some : 0 < block) (file : Handle) (offset : ℕ) (runs : List Run) where
+module _ (bytes : ℕ → List ℕ) (block : ℕ) (slots : ℕ → InodeSlot) (some : 0 < block) (file : Handle) (offset : ℕ) (runs : List BlockRun) where
   abbrev nodes : Handle → Option NodeCopy
   nodes = node_in (node_under bytes block slots)
 

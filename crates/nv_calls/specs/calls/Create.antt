@@ -8,7 +8,7 @@ use Rattle.nv_entry.specs.declared.item.Item.TheVariants.{Init, Bind}
 use Rattle.nv_entry.specs.declared.node.NodeCopy.{NodeCopy}
 use Rattle.nv_entry.specs.Index.{with_last}
 use Rattle.nv_calls.specs.Plain.{Change, begins, change, with_names}
-use Rattle.nv_calls.specs.declared.plan.Planned.{Planned}
+use Rattle.nv_calls.specs.declared.plan.InodePlan.{InodePlan}
 use Rattle.nv_calls.specs.Plan.{planned}
 use Rattle.nv_calls.specs.Refusals.{Check, kind_of, lookup, passes, refuse_if, want_directory, want_lawful}
 
@@ -23,7 +23,7 @@ create_refusal nodes dir name =
 abbrev pub begin_effect : Kind → Handle → List ℕ → ℕ → Handle → List Change
 begin_effect kind dir name mode made = change dir (with_names (with_last name made)) ∷ change made (begins kind mode) ∷ []
 
-abbrev pub begin_plan : Kind → Handle → List ℕ → ℕ → Handle → List Planned
+abbrev pub begin_plan : Kind → Handle → List ℕ → ℕ → Handle → List InodePlan
 begin_plan kind dir name mode made = planned dir (Bind name made ∷ []) ∷ planned made (Init kind mode ∷ []) ∷ []
 
 -- ---- a new file
@@ -31,5 +31,5 @@ begin_plan kind dir name mode made = planned dir (Bind name made ∷ []) ∷ pla
 abbrev pub create_effect : Handle → List ℕ → ℕ → Handle → List Change
 create_effect dir name mode made = begin_effect File dir name mode made
 
-abbrev pub create_plan : Handle → List ℕ → ℕ → Handle → List Planned
+abbrev pub create_plan : Handle → List ℕ → ℕ → Handle → List InodePlan
 create_plan dir name mode made = begin_plan File dir name mode made

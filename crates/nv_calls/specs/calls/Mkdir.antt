@@ -4,7 +4,7 @@ use Rattle.nv_base.specs.declared.node.Kind.TheVariants.{Dir}
 use Rattle.nv_base.specs.declared.numbers.Handle.{Handle}
 use Rattle.nv_entry.specs.declared.node.NodeCopy.{NodeCopy}
 use Rattle.nv_calls.specs.Plain.{Change}
-use Rattle.nv_calls.specs.declared.plan.Planned.{Planned}
+use Rattle.nv_calls.specs.declared.plan.InodePlan.{InodePlan}
 use Rattle.nv_calls.specs.Refusals.{Check}
 use Rattle.nv_calls.specs.calls.Create.{begin_effect, begin_plan, create_refusal}
 
@@ -14,5 +14,5 @@ mkdir_refusal nodes dir name = create_refusal nodes dir name
 abbrev pub mkdir_effect : Handle → List ℕ → ℕ → Handle → List Change
 mkdir_effect dir name mode made = begin_effect Dir dir name mode made
 
-abbrev pub mkdir_plan : Handle → List ℕ → ℕ → Handle → List Planned
+abbrev pub mkdir_plan : Handle → List ℕ → ℕ → Handle → List InodePlan
 mkdir_plan dir name mode made = begin_plan Dir dir name mode made

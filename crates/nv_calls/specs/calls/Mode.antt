@@ -4,7 +4,7 @@ use Rattle.nv_base.specs.declared.numbers.Handle.{Handle}
 use Rattle.nv_entry.specs.declared.item.Item.TheVariants.{SetMode}
 use Rattle.nv_entry.specs.declared.node.NodeCopy.{NodeCopy}
 use Rattle.nv_calls.specs.Plain.{Change, change, with_mode}
-use Rattle.nv_calls.specs.declared.plan.Planned.{Planned}
+use Rattle.nv_calls.specs.declared.plan.InodePlan.{InodePlan}
 use Rattle.nv_calls.specs.Plan.{planned}
 use Rattle.nv_calls.specs.Refusals.{Check, kind_of, passes, want_node}
 
@@ -14,5 +14,5 @@ mode_refusal nodes handle = want_node (kind_of (nodes handle)) passes
 abbrev pub mode_effect : Handle → ℕ → List Change
 mode_effect handle mode = change handle (with_mode mode) ∷ []
 
-abbrev pub mode_plan : Handle → ℕ → List Planned
+abbrev pub mode_plan : Handle → ℕ → List InodePlan
 mode_plan handle mode = planned handle (SetMode mode ∷ []) ∷ []

@@ -8,11 +8,11 @@ use Rattle.nv_entry.specs.declared.item.Item.TheVariants.{Bind, Unbind, Gone}
 use Rattle.nv_entry.specs.declared.node.NodeCopy.{NodeCopy}
 use Rattle.nv_entry.specs.Index.{with_last, without}
 use Rattle.nv_calls.specs.Plain.{Change, change, goes, same_handle, with_names}
-use Rattle.nv_calls.specs.declared.plan.Planned.{Planned}
+use Rattle.nv_calls.specs.declared.plan.InodePlan.{InodePlan}
 use Rattle.nv_calls.specs.Plan.{planned}
 use Rattle.nv_calls.specs.Refusals.{Check, and_then, is_directory, kind_of, passes, refuse_if, want_bound, want_directory, want_lawful, want_node}
 use Rattle.nv_calls.specs.calls.Lookup.{lookup_refusal}
-use Rattle.nv_calls.specs.declared.looked.Looked.{Looked}
+use Rattle.nv_calls.specs.declared.looked.LookupResult.{LookupResult}
 
 -- both names are one, in one directory
 abbrev pub own_place : Handle → List ℕ → Handle → List ℕ → Bool
@@ -41,7 +41,7 @@ moved_refusal nodes from to other moved =
     (replaced_refusal nodes (kind_of (nodes moved)) other))
 
 -- the tests of what the names lead to
-abbrev pub rename_late : (Handle → Option NodeCopy) → Handle → List ℕ → Handle → List ℕ → Looked → Check
+abbrev pub rename_late : (Handle → Option NodeCopy) → Handle → List ℕ → Handle → List ℕ → LookupResult → Check
 rename_late nodes from old to new looked =
     want_bound looked.first (λ moved. pass_if (own_place from old to new) (moved_refusal nodes from to looked.second moved))
 
@@ -60,24 +60,24 @@ abbrev pub bound_effect : Handle → List ℕ → Handle → List ℕ → Option
 bound_effect from old to new None other = []
 bound_effect from old to new (Some moved) other = move_effect (same_handle from to) from old to new moved (replaced_effect other)
 
-abbrev pub rename_effect : Handle → List ℕ → Handle → List ℕ → Looked → List Change
+abbrev pub rename_effect : Handle → List ℕ → Handle → List ℕ → LookupResult → List Change
 rename_effect from old to new looked =
     if own_place from old to new then [] else bound_effect from old to new looked.first looked.second
 
 -- ---- its plan
 
-abbrev pub replaced_plan : Option Handle → List Planned
+abbrev pub replaced_plan : Option Handle → List InodePlan
 replaced_plan None = []
 replaced_plan (Some other) = planned other (Gone ∷ []) ∷ []
 
-abbrev pub move_plan : Bool → Handle → List ℕ → Handle → List ℕ → Handle → List Planned → List Planned
+abbrev pub move_plan : Bool → Handle → List ℕ → Handle → List ℕ → Handle → List InodePlan → List InodePlan
 move_plan true from old to new moved rest = planned from (Unbind old ∷ Bind new moved ∷ []) ∷ rest
 move_plan false from old to new moved rest = planned from (Unbind old ∷ []) ∷ planned to (Bind new moved ∷ []) ∷ rest
 
-abbrev pub bound_plan : Handle → List ℕ → Handle → List ℕ → Option Handle → Option Handle → List Planned
+abbrev pub bound_plan : Handle → List ℕ → Handle → List ℕ → Option Handle → Option Handle → List InodePlan
 bound_plan from old to new None other = []
 bound_plan from old to new (Some moved) other = move_plan (same_handle from to) from old to new moved (replaced_plan other)
 
-abbrev pub rename_plan : Handle → List ℕ → Handle → List ℕ → Looked → List Planned
+abbrev pub rename_plan : Handle → List ℕ → Handle → List ℕ → LookupResult → List InodePlan
 rename_plan from old to new looked =
     if own_place from old to new then [] else bound_plan from old to new looked.first looked.second

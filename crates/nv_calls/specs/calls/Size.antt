@@ -5,12 +5,12 @@ use Rattle.nv_base.specs.declared.fault.Fault.TheVariants as fault
 use Rattle.nv_base.specs.declared.limits.TheConstants.{FILE_PAGES}
 use Rattle.nv_base.specs.declared.numbers.Handle.{Handle}
 use Rattle.nv_entry.specs.declared.item.Item.TheVariants.{SetSize}
-use Rattle.nv_entry.specs.declared.item.Run.{Run}
+use Rattle.nv_entry.specs.declared.item.BlockRun.{BlockRun}
 use Rattle.nv_entry.specs.declared.node.NodeCopy.{NodeCopy}
 use Rattle.nv_entry.specs.Bytes.{page_of}
 use Rattle.nv_entry.specs.Sound.{write_items}
 use Rattle.nv_calls.specs.Plain.{Change, change}
-use Rattle.nv_calls.specs.declared.plan.Planned.{Planned}
+use Rattle.nv_calls.specs.declared.plan.InodePlan.{InodePlan}
 use Rattle.nv_calls.specs.Plan.{planned}
 use Rattle.nv_calls.specs.Refusals.{Check, bytes_of, kind_of, passes, refuse_if, want_file}
 
@@ -36,14 +36,14 @@ cuts_page block size present bytes = nat_lt size (length bytes) && not (size % b
 abbrev pub size_blocks : ℕ → (Handle → Option NodeCopy) → Handle → ℕ → Bool → ℕ
 size_blocks block nodes file size present = if cuts_page block size present (bytes_of (nodes file)) then 1 else 0
 
-abbrev pub size_plan : ℕ → Handle → ℕ → List Run → List Planned
+abbrev pub size_plan : ℕ → Handle → ℕ → List BlockRun → List InodePlan
 size_plan block file size runs = planned file (write_items (size / block) runs size ++ SetSize size ∷ []) ∷ []
 
 -- a run of one block, which has the page that a size ends in after the cut
-abbrev pub IsCutPage : (ℕ → List ℕ) → ℕ → ℕ → List ℕ → Run → Type 0
+abbrev pub IsCutPage : (ℕ → List ℕ) → ℕ → ℕ → List ℕ → BlockRun → Type 0
 IsCutPage bytes block size before run = (run.len ≡ 1) × (bytes run.start ≡ page_of block (size / block) (resized size before))
 
 -- where a page is cut, there is one run with it, and else none
-pub record HaveCut (bytes : ℕ → List ℕ) (block size : ℕ) (present : Bool) (before : List ℕ) (runs : List Run) : Type 0 where
+pub record HaveCut (bytes : ℕ → List ℕ) (block size : ℕ) (present : Bool) (before : List ℕ) (runs : List BlockRun) : Type 0 where
   pub count : length runs ≡ (if cuts_page block size present before then 1 else 0)
   pub filled : AllByRecursion (IsCutPage bytes block size before) runs

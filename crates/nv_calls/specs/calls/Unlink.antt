@@ -5,7 +5,7 @@ use Rattle.nv_entry.specs.declared.item.Item.TheVariants.{Unbind, Gone}
 use Rattle.nv_entry.specs.declared.node.NodeCopy.{NodeCopy}
 use Rattle.nv_entry.specs.Index.{without}
 use Rattle.nv_calls.specs.Plain.{Change, change, goes, with_names}
-use Rattle.nv_calls.specs.declared.plan.Planned.{Planned}
+use Rattle.nv_calls.specs.declared.plan.InodePlan.{InodePlan}
 use Rattle.nv_calls.specs.Plan.{planned}
 use Rattle.nv_calls.specs.Refusals.{Check, kind_of, passes, want_bound, want_file}
 
@@ -18,6 +18,6 @@ abbrev pub leave_effect : Handle → List ℕ → Option Handle → List Change
 leave_effect dir name None = []
 leave_effect dir name (Some to) = change dir (with_names (without name)) ∷ change to goes ∷ []
 
-abbrev pub leave_plan : Handle → List ℕ → Option Handle → List Planned
+abbrev pub leave_plan : Handle → List ℕ → Option Handle → List InodePlan
 leave_plan dir name None = []
 leave_plan dir name (Some to) = planned dir (Unbind name ∷ []) ∷ planned to (Gone ∷ []) ∷ []

@@ -3,12 +3,12 @@ use Rattle.std.specs.Prelude.{ℕ, ◌+◌, ◌*◌, ◌/◌, nat_lt, List, [], 
 use Rattle.nv_base.specs.declared.fault.Fault.TheVariants as fault
 use Rattle.nv_base.specs.declared.limits.TheConstants.{FILE_PAGES, WRITE_PAGES}
 use Rattle.nv_base.specs.declared.numbers.Handle.{Handle}
-use Rattle.nv_entry.specs.declared.item.Run.{Run}
+use Rattle.nv_entry.specs.declared.item.BlockRun.{BlockRun}
 use Rattle.nv_entry.specs.declared.node.NodeCopy.{NodeCopy}
 use Rattle.nv_entry.specs.Bytes.{pages_touched, written}
 use Rattle.nv_entry.specs.Sound.{rewritten, write_items}
 use Rattle.nv_calls.specs.Plain.{Change, change}
-use Rattle.nv_calls.specs.declared.plan.Planned.{Planned}
+use Rattle.nv_calls.specs.declared.plan.InodePlan.{InodePlan}
 use Rattle.nv_calls.specs.Plan.{planned}
 use Rattle.nv_calls.specs.Refusals.{Check, bytes_of, kind_of, passes, refuse_if, want_file}
 
@@ -35,7 +35,7 @@ write_blocks block offset [] = 0
 write_blocks block offset (byte ∷ rest) = pages_touched block offset (length (byte ∷ rest))
 
 -- one item for each run of them, with the size of the file after the whole call
-abbrev pub write_plan : ℕ → (Handle → Option NodeCopy) → Handle → ℕ → List ℕ → List Run → List Planned
+abbrev pub write_plan : ℕ → (Handle → Option NodeCopy) → Handle → ℕ → List ℕ → List BlockRun → List InodePlan
 write_plan block nodes file offset [] runs = []
 write_plan block nodes file offset (byte ∷ rest) runs =
     planned file (write_items (offset / block) runs (length (written offset (byte ∷ rest) (bytes_of (nodes file))))) ∷ []

@@ -9,7 +9,7 @@ ghost use Rattle.nv_calls.specs.calls.Create.{begin_plan, create_plan, create_re
 use crate::names::name_of;
 use crate::plan::list_of_two;
 use crate::wants::{refuse_if, want_directory, want_lawful};
-use crate::{Nodes, Planned, PlannedItems};
+use crate::{InodePlan, InodePlans, Nodes};
 use nv_base::{Fault, Handle, Kind, Mode};
 use nv_entry::Item;
 use std::alloc::Global;
@@ -30,7 +30,7 @@ pub fn plan(
     name: &[u8],
     mode: Mode,
     made: Handle,
-) -> Result<PlannedItems, Fault>
+) -> Result<InodePlans, Fault>
     requires { IsTrue (is_lawful_name name.now) }
     ensures ok { IfOk result (λ plan. plan ≡ create_plan dir name.now mode made) }
     ensures err { FailsOnly out_of_memory result }
@@ -46,14 +46,14 @@ pub(crate) fn plan_new(
     name: &[u8],
     mode: Mode,
     made: Handle,
-) -> Result<PlannedItems, Fault>
+) -> Result<InodePlans, Fault>
     requires { IsTrue (is_lawful_name name.now) }
     ensures ok { IfOk result (λ plan. plan ≡ begin_plan kind dir name.now mode made) }
     ensures err { FailsOnly out_of_memory result }
 {
     let name = name_of(alloc, name)?;
     let to = made;
-    let bind = Planned::one(alloc, dir, Item::Bind { name, to })?;
-    let init = Planned::one(alloc, made, Item::Init { kind, mode })?;
+    let bind = InodePlan::one(alloc, dir, Item::Bind { name, to })?;
+    let init = InodePlan::one(alloc, made, Item::Init { kind, mode })?;
     Ok(list_of_two(alloc, bind, init)?)
 }

@@ -7,7 +7,7 @@ ghost use Rattle.nv_base.specs.Memory.{out_of_memory};
 ghost use Rattle.nv_calls.specs.calls.Mkdir.{mkdir_plan, mkdir_refusal};
 
 use crate::calls::create;
-use crate::{Nodes, PlannedItems};
+use crate::{InodePlans, Nodes};
 use nv_base::{Fault, Handle, Kind, Mode};
 use std::alloc::Global;
 
@@ -25,7 +25,7 @@ pub fn plan(
     name: &[u8],
     mode: Mode,
     made: Handle,
-) -> Result<PlannedItems, Fault>
+) -> Result<InodePlans, Fault>
     requires { IsTrue (is_lawful_name name.now) }
     ensures ok { IfOk result (λ plan. plan ≡ mkdir_plan dir name.now mode made) }
     ensures err { FailsOnly out_of_memory result }

@@ -5,7 +5,7 @@ ghost use Rattle.nv_calls.specs.calls.Mode.{mode_plan, mode_refusal};
 
 use crate::plan::list_of_one;
 use crate::wants::want_node;
-use crate::{Nodes, Planned, PlannedItems};
+use crate::{InodePlan, InodePlans, Nodes};
 use nv_base::{Fault, Handle, Mode};
 use nv_entry::Item;
 use std::alloc::{AllocError, Global};
@@ -18,9 +18,9 @@ pub fn check<N: Nodes>(nodes: &N, handle: &Handle) -> Result<(), Fault>
 }
 
 /// The node gets the mode.
-pub fn plan(alloc: Global, handle: Handle, mode: Mode) -> Result<PlannedItems, AllocError>
+pub fn plan(alloc: Global, handle: Handle, mode: Mode) -> Result<InodePlans, AllocError>
     ensures { IfOk result (λ plan. plan ≡ mode_plan handle mode) }
 {
-    let planned = Planned::one(alloc, handle, Item::SetMode { mode })?;
+    let planned = InodePlan::one(alloc, handle, Item::SetMode { mode })?;
     list_of_one(alloc, planned)
 }

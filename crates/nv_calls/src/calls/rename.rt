@@ -11,7 +11,7 @@ ghost use Rattle.nv_calls.specs.calls.Rename.{move_plan, moved_refusal, own_plac
 use crate::calls::lookup;
 use crate::names::name_of;
 use crate::wants::{refuse_if, want_bound, want_directory, want_lawful, want_node};
-use crate::{Looked, Nodes, Planned, PlannedItems};
+use crate::{InodePlan, InodePlans, LookupResult, Nodes};
 use nv_base::{Fault, Handle, Items, Kind, Name};
 use nv_entry::Item;
 use std::alloc::{AllocError, Global};
@@ -38,7 +38,7 @@ pub fn check_late<N: Nodes>(
     old: &[u8],
     to: &Handle,
     new: &[u8],
-    looked: &Looked,
+    looked: &LookupResult,
 ) -> Result<(), Fault>
     ensures { result
         ≡ rename_late (N.nodes_of nodes.now) from.now old.now to.now new.now looked.now }
@@ -94,8 +94,8 @@ pub fn plan(
     old: &[u8],
     to: Handle,
     new: &[u8],
-    looked: &Looked,
-) -> Result<PlannedItems, Fault>
+    looked: &LookupResult,
+) -> Result<InodePlans, Fault>
     requires old_lawful { IsTrue (is_lawful_name old.now) }
     requires new_lawful { IsTrue (is_lawful_name new.now) }
     ensures ok { IfOk result (λ plan. plan ≡ rename_plan from old.now to new.now looked.now) }
@@ -111,7 +111,7 @@ pub fn plan(
     let new = name_of(alloc, new)?;
     let mut plan = plan_of_names(alloc, from, old, to, new, moved)?;
     if let Some(other) = looked.second {
-        plan.push(Planned::one(alloc, other, Item::Gone)?)?;
+        plan.push(InodePlan::one(alloc, other, Item::Gone)?)?;
     }
     Ok(Items::from_vec(plan))
 }
@@ -124,7 +124,7 @@ fn plan_of_names(
     to: Handle,
     new: Name,
     moved: Handle,
-) -> Result<Vec<Planned>, AllocError>
+) -> Result<Vec<InodePlan>, AllocError>
     ensures { IfOk result (λ plan. plan.items
         ≡ move_plan (same_handle from to) from old to new moved []) }
 {
@@ -136,11 +136,11 @@ fn plan_of_names(
     };
     let mut plan = Vec::new(alloc);
     if same {
-        plan.push(Planned::two(alloc, from, unbind, bind)?)?;
+        plan.push(InodePlan::two(alloc, from, unbind, bind)?)?;
         return Ok(plan);
     }
-    plan.push(Planned::one(alloc, from, unbind)?)?;
-    plan.push(Planned::one(alloc, to, bind)?)?;
+    plan.push(InodePlan::one(alloc, from, unbind)?)?;
+    plan.push(InodePlan::one(alloc, to, bind)?)?;
     Ok(plan)
 }
 

@@ -8,9 +8,9 @@ ghost use Rattle.nv_calls.specs.calls.Size.{size_blocks, size_plan, size_refusal
 use crate::plan::list_of_one;
 use crate::runs::write_items;
 use crate::wants::{refuse_if, want_file};
-use crate::{Nodes, Planned, PlannedItems};
+use crate::{InodePlan, InodePlans, Nodes};
 use nv_base::{Fault, Handle, Items, limits};
-use nv_entry::{Item, Run};
+use nv_entry::{BlockRun, Item};
 use std::alloc::{AllocError, Global};
 
 /// Why a size is refused.
@@ -44,8 +44,8 @@ pub fn plan(
     block: u64,
     file: Handle,
     size: u64,
-    runs: &[Run],
-) -> Result<PlannedItems, AllocError>
+    runs: &[BlockRun],
+) -> Result<InodePlans, AllocError>
     requires some_bytes { 0 < block }
     requires fits { size / block + length (blocks_of runs.now) ≤ FILE_PAGES }
     ensures { IfOk result (λ plan. plan ≡ size_plan block file size runs.now) }
@@ -55,5 +55,5 @@ pub fn plan(
     items.push(Item::SetSize { size })?;
     let items = Items::from_vec(items);
     let handle = file;
-    list_of_one(alloc, Planned { handle, items })
+    list_of_one(alloc, InodePlan { handle, items })
 }

@@ -9,7 +9,7 @@ ghost use Rattle.nv_calls.specs.calls.Unlink.{leave_plan, unlink_late};
 use crate::names::name_of;
 use crate::plan::list_of_two;
 use crate::wants::{want_bound, want_file};
-use crate::{Nodes, Planned, PlannedItems};
+use crate::{InodePlan, InodePlans, Nodes};
 use nv_base::{Fault, Handle, Items};
 use nv_entry::Item;
 use std::alloc::Global;
@@ -28,7 +28,7 @@ pub fn plan(
     dir: Handle,
     name: &[u8],
     bound: Option<Handle>,
-) -> Result<PlannedItems, Fault>
+) -> Result<InodePlans, Fault>
     requires { IsTrue (is_lawful_name name.now) }
     ensures ok { IfOk result (λ plan. plan ≡ leave_plan dir name.now bound) }
     ensures err { FailsOnly out_of_memory result }
@@ -37,7 +37,7 @@ pub fn plan(
         return Ok(Items::empty(alloc));
     };
     let name = name_of(alloc, name)?;
-    let unbind = Planned::one(alloc, dir, Item::Unbind { name })?;
-    let gone = Planned::one(alloc, to, Item::Gone)?;
+    let unbind = InodePlan::one(alloc, dir, Item::Unbind { name })?;
+    let gone = InodePlan::one(alloc, to, Item::Gone)?;
     Ok(list_of_two(alloc, unbind, gone)?)
 }

@@ -9,9 +9,9 @@ ghost use Rattle.nv_calls.specs.calls.Write.{count_refusal, write_blocks, write_
 use crate::plan::list_of_one;
 use crate::runs::write_items;
 use crate::wants::{refuse_if, want_file};
-use crate::{Nodes, Planned, PlannedItems};
+use crate::{InodePlan, InodePlans, Nodes};
 use nv_base::{Fault, Handle, Items, limits};
-use nv_entry::Run;
+use nv_entry::BlockRun;
 use std::alloc::{AllocError, Global};
 
 /// Why a write is refused.
@@ -77,8 +77,8 @@ pub fn plan<N: Nodes>(
     file: Handle,
     offset: u64,
     count: u64,
-    runs: &[Run],
-) -> Result<PlannedItems, AllocError>
+    runs: &[BlockRun],
+) -> Result<InodePlans, AllocError>
     requires some_bytes { 0 < block }
     requires end { offset + count < 2 ^ 64 }
     requires fits { 0 < count → offset / block + length (blocks_of runs.now) ≤ FILE_PAGES }
@@ -92,7 +92,7 @@ pub fn plan<N: Nodes>(
     let first = (offset / block) as u32;
     let items = Items::from_vec(write_items(alloc, first, runs, size)?);
     let handle = file;
-    list_of_one(alloc, Planned { handle, items })
+    list_of_one(alloc, InodePlan { handle, items })
 }
 
 /// The size of a file after a write.

@@ -17,45 +17,45 @@ ghost use Rattle.nv_machine.specs.Step.{ending_at, made_in, with_made};
 ghost use Rattle.nv_core.specs.Nodes.{ends_over, wanted_over};
 ghost use Rattle.nv_core.specs.Parts.{AreHome, AreSlots, HaveSlots, IsOfDevice};
 ghost use Rattle.nv_core.specs.Rooms.{FitsCall, HasRoomsAfter, IsHandOf, WantsBlocks, pages_to_take};
-ghost use Rattle.nv_core.specs.Shown.{Told, ending_of, hand_of, shared_of, shown, slots_in, turn_of};
+ghost use Rattle.nv_core.specs.Shown.{GhostCall, ending_of, hand_of, shared_of, shown, slots_in, turn_of};
 ghost use Rattle.nv_core.specs.Steps.{CanBeChecked};
-ghost use Rattle.nv_core.specs.Told.{IsChangeWith, IsEither, IsToldOf, KeepsJob, is_change};
+ghost use Rattle.nv_core.specs.GhostCalls.{IsChangeWith, IsEither, IsGhostCallOf, KeepsRequest, is_change};
 
 use crate::ending::{end, refuse};
-use crate::hold::Hold;
 use crate::kinds::take::{pages_by, want_pages};
 use crate::next::{Ending, Next};
+use crate::reservation::Reservation;
 use crate::running::Running;
 use crate::shared::Shared;
 use crate::turn::Turn;
 use nv_alloc::Hand;
 use nv_base::Fault;
 use nv_calls::{
-    CheckEnd, HeldNodes, Looked, MORE_PAGES, Nodes, SlotCells, Slots, Update, blocks_wanted,
-    ends_at_check, ends_in_page,
+    CheckEnd, HeldNodes, LockedSlots, LookupResult, MORE_PAGES, Nodes, SlotCells, Update,
+    blocks_wanted, ends_at_check, ends_in_page,
 };
 use nv_cell::InodeCell;
 
 /// Tests the call, and settles how many blocks it takes. The hand gets room for them: where it takes none, nothing grows.
 pub(crate) fn check(shared: &mut Shared, hand: &mut Hand, running: &mut Running) -> Turn
-    requires change { is_change running.old.job ≡ true }
+    requires change { is_change running.old.request ≡ true }
     requires limits { IsWithinLimits shared.old.geometry.numbers }
     requires home { AreHome shared.old }
     requires device { IsOfDevice shared.old.geometry.numbers hand.old }
     requires sized { IsHandOf shared.old.geometry.numbers hand.old }
     requires call { FitsCall running.old }
     requires can { CanBeChecked shared.old hand.old running.old }
-    ensures turn { (told : Told) → IsToldOf running.old told
+    ensures turn { (told : GhostCall) → IsGhostCallOf running.old told
         → let block = shared.old.geometry.numbers.block in let s = shared_of shared.old in
         let h = hand_of hand.old in let r = shown told running.old in
         IsEither (λ granted. check_turn (ending_at block s h r) granted
         (blocks_wanted block (copies s) (has_last_page block s r.call) r.call) block s h
         (with_made s h r))
         (turn_of result (shared_of shared.new) (hand_of hand.new) (shown told running.new)) }
-    ensures job { KeepsJob running.old running.new }
+    ensures request { KeepsRequest running.old running.new }
     ensures goes { result ≢ Turn.Waits }
     ensures rest { shared.new ≡ shared.old }
-    ensures rooms { HasRoomsAfter result shared.new (Hold.Hand hand.new) running.new }
+    ensures rooms { HasRoomsAfter result shared.new (Reservation.Hand hand.new) running.new }
 {
     note_made(shared, hand, running);
     if let Some(ending) = ending_of(shared, running, hand.ino().is_some()) {
@@ -86,12 +86,12 @@ fn ending_of(shared: &mut Shared, running: &Running, has_number: bool) -> Option
     requires slots { AreSlots shared.old (slots_in running.now.slots) }
     requires some_bytes { 0 < shared.old.geometry.numbers.block }
     requires few_bytes { shared.old.geometry.numbers.block ≤ BLOCK_BYTES }
-    requires change { is_change running.now.job ≡ true }
+    requires change { is_change running.now.request ≡ true }
     ensures same { shared.new ≡ shared.old }
     ensures ends { let lent = lent_cells (slots_in running.now.slots) shared.old.cells.items in
         let block = shared.old.geometry.numbers.block in
         IsChangeWith (λ u. option_map ending_of result
-        ≡ ends_over block (nodes_in lent) running.now.looked has_number u) running.now.job }
+        ≡ ends_over block (nodes_in lent) running.now.looked has_number u) running.now.request }
 {
     let block = shared.block();
     let update = &running.plan().update;
@@ -109,8 +109,8 @@ fn ending_of(shared: &mut Shared, running: &Running, has_number: bool) -> Option
 fn ending_in(
     block: u64,
     cells: &mut [InodeCell],
-    slots: &Slots,
-    before: &Looked,
+    slots: &LockedSlots,
+    before: &LookupResult,
     update: &Update,
     has_number: bool,
 ) -> Option<Ending>
@@ -131,7 +131,7 @@ fn ending_in(
 fn ending_over<N: Nodes>(
     block: u64,
     nodes: &N,
-    before: &Looked,
+    before: &LookupResult,
     update: &Update,
     has_number: bool,
 ) -> Option<Ending>
@@ -152,11 +152,11 @@ fn wanted_by(shared: &mut Shared, running: &Running) -> u64
     requires slots { AreSlots shared.old (slots_in running.now.slots) }
     requires some_bytes { 0 < shared.old.geometry.numbers.block }
     requires few_bytes { shared.old.geometry.numbers.block ≤ BLOCK_BYTES }
-    requires change { is_change running.now.job ≡ true }
+    requires change { is_change running.now.request ≡ true }
     ensures same { shared.new ≡ shared.old }
     ensures wanted { let lent = lent_cells (slots_in running.now.slots) shared.old.cells.items in
         let block = shared.old.geometry.numbers.block in
-        IsChangeWith (λ u. result ≡ wanted_over block lent u) running.now.job }
+        IsChangeWith (λ u. result ≡ wanted_over block lent u) running.now.request }
 {
     let block = shared.block();
     wanted_in(
@@ -168,7 +168,7 @@ fn wanted_by(shared: &mut Shared, running: &Running) -> u64
 }
 
 /// The same over the cells of the call's slots.
-fn wanted_in(block: u64, cells: &mut [InodeCell], slots: &Slots, update: &Update) -> u64
+fn wanted_in(block: u64, cells: &mut [InodeCell], slots: &LockedSlots, update: &Update) -> u64
     requires slots { HaveSlots cells.old (slots_in slots.now) }
     requires some_bytes { 0 < block }
     requires few_bytes { block ≤ BLOCK_BYTES }
@@ -193,7 +193,7 @@ fn most_pages(shared: &mut Shared, hand: &Hand, running: &Running, wanted: u64) 
     requires can { WantsBlocks wanted shared.old hand.now running.now }
     ensures same { shared.new ≡ shared.old }
     ensures none { let slots = slots_in running.now.slots in wanted ≡ 0 → IsChangeWith
-        (λ u. result ≡ pages_to_take shared.old slots hand.now u) running.now.job }
+        (λ u. result ≡ pages_to_take shared.old slots hand.now u) running.now.request }
     ensures some { 0 < wanted → result ≡ wanted + MORE_PAGES }
 {
     if wanted > 0 {
@@ -228,16 +228,16 @@ fn want_blocks(shared: &mut Shared, hand: &Hand, running: &mut Running, wanted: 
     requires room { wanted ≤ hand.now.data.room }
     requires pages { 0 < wanted → wanted + MORE_PAGES ≤ hand.now.pages.room }
     requires own { let slots = slots_in running.old.slots in wanted ≡ 0 → IsChangeWith
-        (λ u. pages_to_take shared.old slots hand.now u ≤ hand.now.pages.room) running.old.job }
+        (λ u. pages_to_take shared.old slots hand.now u ≤ hand.now.pages.room) running.old.request }
     requires can { WantsBlocks wanted shared.old hand.now running.old }
-    ensures turn { (told : Told) → IsToldOf running.old told
+    ensures turn { (told : GhostCall) → IsGhostCallOf running.old told
         → let s = shared_of shared.old in let h = hand_of hand.now in
         wants_blocks wanted shared.old.geometry.numbers.block s h (shown told running.old)
         ≡ turn_of result s h (shown told running.new) }
-    ensures job { KeepsJob running.old running.new }
+    ensures request { KeepsRequest running.old running.new }
     ensures goes { result ≢ Turn.Waits }
     ensures same { shared.new ≡ shared.old }
-    ensures rooms { HasRoomsAfter result shared.new (Hold.Hand hand.now) running.new }
+    ensures rooms { HasRoomsAfter result shared.new (Reservation.Hand hand.now) running.new }
 {
     running.wanted = wanted;
     if wanted == 0 {

@@ -7,15 +7,15 @@ ghost use Rattle.nv_machine.specs.Step.{kind_turn};
 ghost use Rattle.nv_machine.specs.World.{HandState, owner_at};
 ghost use Rattle.nv_core.specs.Frames.{LeavesRest};
 ghost use Rattle.nv_core.specs.Rooms.{HasRooms, HasRoomsAfter, IsCleaning};
-ghost use Rattle.nv_core.specs.Shown.{Told, hand_of, manner_of, next_of, shared_of, shown, slots_in, turn_of};
+ghost use Rattle.nv_core.specs.Shown.{GhostCall, hand_of, manner_of, next_of, shared_of, shown, slots_in, turn_of};
 ghost use Rattle.nv_core.specs.Steps.{CanStep};
-ghost use Rattle.nv_core.specs.Told.{KeepsJob};
+ghost use Rattle.nv_core.specs.GhostCalls.{KeepsRequest};
 
-use crate::hold::Hold;
 use crate::kinds::compact::compact;
 use crate::kinds::fresh::take_fresh;
 use crate::kinds::unlink::unlink;
 use crate::next::{MaintenanceStep, Next, ToClean};
+use crate::reservation::Reservation;
 use crate::running::Running;
 use crate::shared::Shared;
 use crate::turn::Turn;
@@ -31,14 +31,14 @@ pub(crate) fn lock_cleaned(
 ) -> Turn
     requires next { running.old.next ≡ Next.Maintenance (MaintenanceStep.LockCleaned log) }
     requires there { log.ino < length shared.old.owners.items }
-    ensures turn { (told : Told) (h : HandState) → let s = shared_of shared.old in
+    ensures turn { (told : GhostCall) (h : HandState) → let s = shared_of shared.old in
         lock_cleaned_turn (owner_at s log.ino) actor (manner_of log.manner) log.ino s h
         (shown told running.old)
         ≡ turn_of result (shared_of shared.new) h (shown told running.new) }
     ensures waits { result ≡ Turn.Waits → (shared.new ≡ shared.old) × (running.new ≡ running.old) }
-    ensures job { KeepsJob running.old running.new }
-    ensures rooms { (hand : Hand) → HasRooms shared.old (Hold.Hand hand) running.old
-        → HasRoomsAfter result shared.new (Hold.Hand hand) running.new }
+    ensures request { KeepsRequest running.old running.new }
+    ensures rooms { (hand : Hand) → HasRooms shared.old (Reservation.Hand hand) running.old
+        → HasRoomsAfter result shared.new (Reservation.Hand hand) running.new }
     ensures rest { shared.new ≡ record shared.old { owners = shared.new.owners } }
 {
     if shared.is_locked(log.ino) {
@@ -52,15 +52,15 @@ pub(crate) fn lock_cleaned(
 /// A step of a cleaner behind its judge. None waits.
 pub(crate) fn clean(shared: &mut Shared, hand: &mut Hand, running: &mut Running, actor: u64) -> Turn
     requires step { IsCleaning running.old.next }
-    requires can { CanStep shared.old (Hold.Hand hand.old) running.old actor }
-    requires rooms { HasRooms shared.old (Hold.Hand hand.old) running.old }
-    ensures turn { (told : Told) (granted : Bool) → kind_turn (next_of running.old.next)
+    requires can { CanStep shared.old (Reservation.Hand hand.old) running.old actor }
+    requires rooms { HasRooms shared.old (Reservation.Hand hand.old) running.old }
+    ensures turn { (told : GhostCall) (granted : Bool) → kind_turn (next_of running.old.next)
         shared.old.geometry.numbers.block actor granted (shared_of shared.old) (hand_of hand.old)
         (shown told running.old)
         ≡ turn_of result (shared_of shared.new) (hand_of hand.new) (shown told running.new) }
     ensures goes { result ≢ Turn.Waits }
-    ensures job { KeepsJob running.old running.new }
-    ensures rooms { HasRoomsAfter result shared.new (Hold.Hand hand.new) running.new }
+    ensures request { KeepsRequest running.old running.new }
+    ensures rooms { HasRoomsAfter result shared.new (Reservation.Hand hand.new) running.new }
     ensures rest { LeavesRest actor (held_at (next_of running.old.next)
         (slots_in running.old.slots)) shared.old shared.new }
 {

@@ -4,17 +4,17 @@ ghost use Rattle.std.specs.Prelude.{◌≡◌, ◌≢◌, ◌<◌, [], length};
 ghost use Rattle.nv_machine.specs.Maintenance.{lock_picked_turn, pick_turn};
 ghost use Rattle.nv_machine.specs.World.{HandState, empty_hand, owner_at};
 ghost use Rattle.nv_core.specs.Rooms.{HasRooms, HasRoomsAfter};
-ghost use Rattle.nv_core.specs.Shown.{Told, draining_of, hand_of, shared_of, shown, slots_in, turn_of};
-ghost use Rattle.nv_core.specs.Told.{IsEither, KeepsJob};
+ghost use Rattle.nv_core.specs.Shown.{GhostCall, draining_of, hand_of, shared_of, shown, slots_in, turn_of};
+ghost use Rattle.nv_core.specs.GhostCalls.{IsEither, KeepsRequest};
 
-use crate::hold::Hold;
 use crate::next::{Draining, MaintenanceStep, Next};
+use crate::reservation::Reservation;
 use crate::running::Running;
 use crate::shared::Shared;
 use crate::turn::Turn;
 use nv_alloc::Hand;
 use nv_book::Record;
-use nv_calls::{Answer, Slots};
+use nv_calls::{Answer, LockedSlots};
 
 /// Picks the first deferred record. Where there is none, this is the call's last step. The first pick of a call makes
 /// room for a block before.
@@ -27,15 +27,15 @@ pub(crate) fn pick(
     requires next { running.old.next ≡ Next.Maintenance (MaintenanceStep.Pick draining) }
     requires slots { slots_in running.old.slots ≡ [] }
     requires empty { hand_of hand.old ≡ empty_hand }
-    requires rooms { HasRooms shared.old (Hold.Hand hand.old) running.old }
-    ensures turn { (told : Told) → let s = shared_of shared.old in
+    requires rooms { HasRooms shared.old (Reservation.Hand hand.old) running.old }
+    ensures turn { (told : GhostCall) → let s = shared_of shared.old in
         IsEither (λ granted. pick_turn (draining_of draining) granted s empty_hand
         (shown told running.old))
         (turn_of result (shared_of shared.new) empty_hand (shown told running.new)) }
     ensures empty { hand_of hand.new ≡ empty_hand }
-    ensures job { KeepsJob running.old running.new }
+    ensures request { KeepsRequest running.old running.new }
     ensures goes { result ≢ Turn.Waits }
-    ensures rooms { HasRoomsAfter result shared.new (Hold.Hand hand.new) running.new }
+    ensures rooms { HasRoomsAfter result shared.new (Reservation.Hand hand.new) running.new }
     ensures rest { shared.new ≡ record shared.old { book = shared.new.book } }
 {
     if draining.released == 0 {
@@ -46,7 +46,7 @@ pub(crate) fn pick(
     let Some(picked) = shared.book.pick() else {
         return Turn::Ends(Ok(Answer::Count(draining.released)));
     };
-    running.slots = Slots::one(picked.ino);
+    running.slots = LockedSlots::one(picked.ino);
     running.next = Next::Maintenance(MaintenanceStep::LockPicked(draining, picked));
     Turn::Moves
 }
@@ -61,14 +61,14 @@ pub(crate) fn lock_picked(
 ) -> Turn
     requires next { running.old.next ≡ Next.Maintenance (MaintenanceStep.LockPicked draining picked) }
     requires there { picked.ino < length shared.old.owners.items }
-    ensures turn { (told : Told) (h : HandState) → let s = shared_of shared.old in
+    ensures turn { (told : GhostCall) (h : HandState) → let s = shared_of shared.old in
         lock_picked_turn (owner_at s picked.ino) actor (draining_of draining) picked s h
         (shown told running.old)
         ≡ turn_of result (shared_of shared.new) h (shown told running.new) }
     ensures waits { result ≡ Turn.Waits → (shared.new ≡ shared.old) × (running.new ≡ running.old) }
-    ensures job { KeepsJob running.old running.new }
-    ensures rooms { (hand : Hand) → HasRooms shared.old (Hold.Hand hand) running.old
-        → HasRoomsAfter result shared.new (Hold.Hand hand) running.new }
+    ensures request { KeepsRequest running.old running.new }
+    ensures rooms { (hand : Hand) → HasRooms shared.old (Reservation.Hand hand) running.old
+        → HasRoomsAfter result shared.new (Reservation.Hand hand) running.new }
     ensures rest { shared.new ≡ record shared.old { owners = shared.new.owners } }
 {
     if shared.is_locked(picked.ino) {

@@ -6,12 +6,12 @@ ghost use Rattle.nv_machine.specs.Kinds.{enter_turn};
 ghost use Rattle.nv_core.specs.Appends.{IsPlacedBy, IsPlanOf};
 ghost use Rattle.nv_core.specs.Parts.{AreHome, IsOfDevice};
 ghost use Rattle.nv_core.specs.Rooms.{HasRooms, HasRoomsAfter};
-ghost use Rattle.nv_core.specs.Shown.{Told, hand_of, held_by, shared_of, shown_by, shown_ready, slots_in, turn_of};
+ghost use Rattle.nv_core.specs.Shown.{GhostCall, hand_of, held_by, shared_of, shown_by, shown_ready, slots_in, turn_of};
 ghost use Rattle.nv_core.specs.Steps.{GivenBy};
-ghost use Rattle.nv_core.specs.Told.{IsEither, IsHoldOf, IsReadyOf, KeepsJob, told_by};
+ghost use Rattle.nv_core.specs.GhostCalls.{IsEither, IsReservationOf, IsReadyOf, KeepsRequest, told_by};
 
 use crate::ending::refuse;
-use crate::hold::Hold;
+use crate::reservation::Reservation;
 use crate::running::Running;
 use crate::shared::Shared;
 use crate::turn::Turn;
@@ -23,21 +23,21 @@ pub(crate) fn enter(
     ready: Ready,
     running: &mut Running,
     actor: u64,
-) -> (Hold, Turn)
+) -> (Reservation, Turn)
     requires home { AreHome shared.old }
     requires device { IsOfDevice shared.old.geometry.numbers ready.hand }
-    requires rooms { HasRooms shared.old (Hold.Ready ready) running.old }
-    requires given { GivenBy shared.old (Hold.Ready ready) running.old actor }
-    ensures turn { (told : Told) → IsReadyOf (slots_in running.old.slots) ready told
+    requires rooms { HasRooms shared.old (Reservation.Ready ready) running.old }
+    requires given { GivenBy shared.old (Reservation.Ready ready) running.old actor }
+    ensures turn { (told : GhostCall) → IsReadyOf (slots_in running.old.slots) ready told
         → let s = shared_of shared.old in let after = told_by result.0 s.book told in
         IsEither (λ granted. enter_turn s.holder (nat_le NUMBER s.book.commit) granted actor s
         (hand_of ready.hand) (shown_ready told running.old))
         (turn_of result.1 (shared_of shared.new) (held_by result.0)
         (shown_by result.0 after running.new)) }
-    ensures told { (told : Told) → IsReadyOf (slots_in running.old.slots) ready told
-        → IsHoldOf (slots_in running.old.slots) result.0
+    ensures told { (told : GhostCall) → IsReadyOf (slots_in running.old.slots) ready told
+        → IsReservationOf (slots_in running.old.slots) result.0
         (told_by result.0 shared.old.book.state told) }
-    ensures placed { (told : Told) → IsReadyOf (slots_in running.old.slots) ready told
+    ensures placed { (told : GhostCall) → IsReadyOf (slots_in running.old.slots) ready told
         → IsPlanOf (slots_in running.old.slots) told.plan
         → IsPlacedBy (slots_in running.old.slots) result.0
         (told_by result.0 shared.old.book.state told) }
@@ -45,15 +45,15 @@ pub(crate) fn enter(
         → ready.need ≤ shared.old.book.room → shared.new.holder ≡ Some actor }
     ensures waits { is_some shared.old.holder ≡ true → result.1 ≡ Turn.Waits }
     ensures still { result.1 ≡ Turn.Waits → (shared.new ≡ shared.old)
-        × (running.new ≡ running.old) × (result.0 ≡ Hold.Ready ready) }
-    ensures job { KeepsJob running.old running.new }
+        × (running.new ≡ running.old) × (result.0 ≡ Reservation.Ready ready) }
+    ensures request { KeepsRequest running.old running.new }
     ensures slots { running.new.slots ≡ running.old.slots }
     ensures rooms { HasRoomsAfter result.1 shared.new result.0 running.new }
     ensures rest { shared.new
         ≡ record shared.old { book = shared.new.book; holder = shared.new.holder } }
 {
     if shared.holder.is_some() {
-        return (Hold::Ready(ready), Turn::Waits);
+        return (Reservation::Ready(ready), Turn::Waits);
     }
     // It tells that the number of the latest commit is none above the limit.
     let _last = shared.book.commit();
@@ -61,12 +61,12 @@ pub(crate) fn enter(
         Ok(_fixed) => {
             shared.holder = Some(actor);
             let commit = Commit::begin(ready, &shared.book);
-            (Hold::Commit(commit), Turn::Moves)
+            (Reservation::Commit(commit), Turn::Moves)
         }
         Err(fault) => {
             let hand = ready.into_hand();
             let turn = refuse(shared, &hand, running, fault);
-            (Hold::Hand(hand), turn)
+            (Reservation::Hand(hand), turn)
         }
     }
 }

@@ -7,13 +7,13 @@ ghost use Rattle.nv_machine.specs.Kinds.{asked_list};
 ghost use Rattle.nv_core.specs.Cleaning.{IsMaintaining, TakesFresh};
 ghost use Rattle.nv_core.specs.Parts.{AreHome, IsOfDevice};
 ghost use Rattle.nv_core.specs.Rooms.{HasRoomsAfter, IsHandOf};
-ghost use Rattle.nv_core.specs.Shown.{Told, hand_of, shared_of, shown, turn_of};
-ghost use Rattle.nv_core.specs.Told.{KeepsJob};
+ghost use Rattle.nv_core.specs.Shown.{GhostCall, hand_of, shared_of, shown, turn_of};
+ghost use Rattle.nv_core.specs.GhostCalls.{KeepsRequest};
 
 use crate::ending::refuse;
-use crate::hold::Hold;
 use crate::kinds::take::take_from;
 use crate::next::{FreshPages, MaintenanceStep, Next};
+use crate::reservation::Reservation;
 use crate::running::Running;
 use crate::shared::Shared;
 use crate::turn::Turn;
@@ -35,13 +35,13 @@ pub(crate) fn take_fresh(
     requires call { IsMaintaining running.old }
     requires takes { TakesFresh shared.old hand.old fresh }
     requires small { actor + fresh.asked < 2 ^ 64 - 1 }
-    ensures turn { (told : Told) → let s = shared_of shared.old in
+    ensures turn { (told : GhostCall) → let s = shared_of shared.old in
         take_fresh_turn (asked_list (length s.lists) actor fresh.asked) fresh.plan.ino fresh.asked
         fresh.left s (hand_of hand.old) (shown told running.old)
         ≡ turn_of result (shared_of shared.new) (hand_of hand.new) (shown told running.new) }
-    ensures job { KeepsJob running.old running.new }
+    ensures request { KeepsRequest running.old running.new }
     ensures goes { result ≢ Turn.Waits }
-    ensures rooms { HasRoomsAfter result shared.new (Hold.Hand hand.new) running.new }
+    ensures rooms { HasRoomsAfter result shared.new (Reservation.Hand hand.new) running.new }
     ensures rest { shared.new ≡ record shared.old { lists = shared.new.lists } }
     ensures count { length shared.new.lists.items ≡ length shared.old.lists.items }
 {
@@ -58,13 +58,13 @@ fn ask_on(shared: &Shared, hand: &Hand, running: &mut Running, fresh: FreshPages
     requires call { IsMaintaining running.old }
     requires takes { TakesFresh shared.now hand.now fresh }
     requires small { fresh.asked < 2 ^ 64 - 1 }
-    ensures turn { (told : Told) → let s = shared_of shared.now in let h = hand_of hand.now in
+    ensures turn { (told : GhostCall) → let s = shared_of shared.now in let h = hand_of hand.now in
         fresh_turn fresh.left (nat_lt (fresh.asked + 1) (length s.lists)) fresh.plan.ino fresh.asked
         s h (shown told running.old)
         ≡ turn_of result s h (shown told running.new) }
-    ensures job { KeepsJob running.old running.new }
+    ensures request { KeepsRequest running.old running.new }
     ensures goes { result ≢ Turn.Waits }
-    ensures rooms { HasRoomsAfter result shared.now (Hold.Hand hand.now) running.new }
+    ensures rooms { HasRoomsAfter result shared.now (Reservation.Hand hand.now) running.new }
 {
     let FreshPages { asked, left, plan } = fresh;
     if left == 0 {

@@ -9,11 +9,11 @@ ghost use Rattle.nv_machine.specs.Kinds.{blocks_in, give_turn};
 ghost use Rattle.nv_machine.specs.World.{list_at};
 ghost use Rattle.nv_core.specs.Parts.{AreHome, IsOfDevice};
 ghost use Rattle.nv_core.specs.Rooms.{CanDrain, HasRooms, HasRoomsAfter, IsNoVisit};
-ghost use Rattle.nv_core.specs.Shown.{Told, hand_of, shared_of, shown, turn_of};
-ghost use Rattle.nv_core.specs.Told.{KeepsJob, OwesAt};
+ghost use Rattle.nv_core.specs.Shown.{GhostCall, hand_of, shared_of, shown, turn_of};
+ghost use Rattle.nv_core.specs.GhostCalls.{KeepsRequest, OwesAt};
 
 use crate::ending::give_back;
-use crate::hold::Hold;
+use crate::reservation::Reservation;
 use crate::running::Running;
 use crate::shared::Shared;
 use crate::turn::Turn;
@@ -21,9 +21,9 @@ use nv_alloc::Hand;
 
 /// Gives one list all blocks in the hand that are at home there.
 pub(crate) fn give(shared: &mut Shared, hand: &mut Hand, running: &mut Running, cpu: u64) -> Turn
-    requires rooms { HasRooms shared.old (Hold.Hand hand.old) running.old }
-    requires job { IsNoVisit running.old.job }
-    requires drains { CanDrain running.old.ending running.old.job hand.old }
+    requires rooms { HasRooms shared.old (Reservation.Hand hand.old) running.old }
+    requires request { IsNoVisit running.old.request }
+    requires drains { CanDrain running.old.ending running.old.request hand.old }
     requires cpu { cpu < shared.old.geometry.numbers.cpus }
     requires home { AreHome shared.old }
     requires device { IsOfDevice shared.old.geometry.numbers hand.old }
@@ -31,15 +31,15 @@ pub(crate) fn give(shared: &mut Shared, hand: &mut Hand, running: &mut Running, 
     requires sized { AreSized shared.old.geometry.numbers.block (blocks_of hand.old) }
     requires once { (n : ℕ) → times n (numbers_of (blocks_of hand.old))
         + times n (numbers_of (list_at (shared_of shared.old) cpu).blocks) ≤ 1 }
-    ensures turn { (told : Told) → OwesAt running.old.ending running.old told
+    ensures turn { (told : GhostCall) → OwesAt running.old.ending running.old told
         → give_turn cpu (shared_of shared.old) (hand_of hand.old) (shown told running.old)
         ≡ turn_of result (shared_of shared.new) (hand_of hand.new) (shown told running.new) }
-    ensures job { KeepsJob running.old running.new }
+    ensures request { KeepsRequest running.old running.new }
     ensures goes { result ≢ Turn.Waits }
-    ensures rooms { HasRoomsAfter result shared.new (Hold.Hand hand.new) running.new }
+    ensures rooms { HasRoomsAfter result shared.new (Reservation.Hand hand.new) running.new }
     ensures rest { shared.new ≡ record shared.old { lists = shared.new.lists } }
     ensures count { length shared.new.lists.items ≡ length shared.old.lists.items }
 {
-    hand.give_home(&mut shared.lists[cpu as usize]);
+    hand.give_blocks(&mut shared.lists[cpu as usize]);
     give_back(shared, hand, running)
 }

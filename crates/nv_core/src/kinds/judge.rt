@@ -12,12 +12,12 @@ ghost use Rattle.nv_machine.specs.World.{cell_at};
 ghost use Rattle.nv_core.specs.Cleaning.{HasRoomFor, IsFoundIn, IsMaintaining, IsNoSmaller, compacts};
 ghost use Rattle.nv_core.specs.Parts.{AreHome, IsOfDevice};
 ghost use Rattle.nv_core.specs.Rooms.{HasRoomsAfter, IsHandOf};
-ghost use Rattle.nv_core.specs.Shown.{Told, hand_of, manner_of, shared_of, shown, turn_of};
-ghost use Rattle.nv_core.specs.Told.{IsEither, KeepsJob};
+ghost use Rattle.nv_core.specs.Shown.{GhostCall, hand_of, manner_of, shared_of, shown, turn_of};
+ghost use Rattle.nv_core.specs.GhostCalls.{IsEither, KeepsRequest};
 
 use crate::ending::{end, refuse};
-use crate::hold::Hold;
 use crate::next::{CompactPlan, Ending, FreshPages, MaintenanceStep, Manner, Next, UnlinkPlan};
+use crate::reservation::Reservation;
 use crate::running::Running;
 use crate::shared::Shared;
 use crate::turn::Turn;
@@ -51,13 +51,13 @@ pub(crate) fn judge(
     requires sized { IsHandOf shared.now.geometry.numbers hand.old }
     requires none { length hand.old.pages.blocks ≡ 0 }
     requires call { IsMaintaining running.old }
-    ensures turn { (told : Told) → let s = shared_of shared.now in
+    ensures turn { (told : GhostCall) → let s = shared_of shared.now in
         IsEither (λ granted. judge_turn (manner_of manner) slot granted s (hand_of hand.old)
         (shown told running.old))
         (turn_of result s (hand_of hand.new) (shown told running.new)) }
-    ensures job { KeepsJob running.old running.new }
+    ensures request { KeepsRequest running.old running.new }
     ensures goes { result ≢ Turn.Waits }
-    ensures rooms { HasRoomsAfter result shared.now (Hold.Hand hand.new) running.new }
+    ensures rooms { HasRoomsAfter result shared.now (Reservation.Hand hand.new) running.new }
 {
     match slot {
         Some(ino) => judge_slot(alloc, shared, hand, running, manner, ino),
@@ -81,13 +81,13 @@ fn judge_slot(
     requires sized { IsHandOf shared.now.geometry.numbers hand.old }
     requires none { length hand.old.pages.blocks ≡ 0 }
     requires call { IsMaintaining running.old }
-    ensures turn { (told : Told) → let s = shared_of shared.now in
+    ensures turn { (told : GhostCall) → let s = shared_of shared.now in
         IsEither (λ granted. inode_turn (has_inode (cell_at s ino)) (manner_of manner) ino granted
         s (hand_of hand.old) (shown told running.old))
         (turn_of result s (hand_of hand.new) (shown told running.new)) }
-    ensures job { KeepsJob running.old running.new }
+    ensures request { KeepsRequest running.old running.new }
     ensures goes { result ≢ Turn.Waits }
-    ensures rooms { HasRoomsAfter result shared.now (Hold.Hand hand.new) running.new }
+    ensures rooms { HasRoomsAfter result shared.now (Reservation.Hand hand.new) running.new }
 {
     let cell = &shared.cells[ino.number() as usize];
     if !has_inode(cell) {
@@ -104,7 +104,7 @@ fn has_inode(cell: &InodeCell) -> bool
     ensures { result ≡ has_inode cell.now.state }
 {
     // The chain is one, so that its tail is no further than its entries.
-    cell.known();
+    cell.use_invariant();
     cell.tail() > 0
 }
 
@@ -172,12 +172,12 @@ fn follow(shared: &Shared, hand: &Hand, running: &mut Running, ino: Ino, choice:
     requires none { length hand.now.pages.blocks ≡ 0 }
     requires found { IsFoundIn (cell_at (shared_of shared.now) ino) choice }
     requires room { HasRoomFor hand.now.pages choice }
-    ensures turn { (told : Told) → let s = shared_of shared.now in let h = hand_of hand.now in
+    ensures turn { (told : GhostCall) → let s = shared_of shared.now in let h = hand_of hand.now in
         chosen_turn (compacts choice) ino s h (shown told running.old)
         ≡ turn_of result s h (shown told running.new) }
-    ensures job { KeepsJob running.old running.new }
+    ensures request { KeepsRequest running.old running.new }
     ensures goes { result ≢ Turn.Waits }
-    ensures rooms { HasRoomsAfter result shared.now (Hold.Hand hand.now) running.new }
+    ensures rooms { HasRoomsAfter result shared.now (Reservation.Hand hand.now) running.new }
 {
     match choice {
         Choice::Unlinks(walk) => {
@@ -199,12 +199,12 @@ fn want_fresh(shared: &Shared, hand: &Hand, running: &mut Running, ino: Ino, wal
     requires walk { walk ≡ wanted_of (cell_at (shared_of shared.now) ino) }
     requires room { HasRoomFor hand.now.pages (Choice.Compacts walk) }
     requires none { length hand.now.pages.blocks ≡ 0 }
-    ensures turn { (told : Told) → let s = shared_of shared.now in let h = hand_of hand.now in
+    ensures turn { (told : GhostCall) → let s = shared_of shared.now in let h = hand_of hand.now in
         thorough_turn walk.dropped walk.pages ino s h (shown told running.old)
         ≡ turn_of result s h (shown told running.new) }
-    ensures job { KeepsJob running.old running.new }
+    ensures request { KeepsRequest running.old running.new }
     ensures goes { result ≢ Turn.Waits }
-    ensures rooms { HasRoomsAfter result shared.now (Hold.Hand hand.now) running.new }
+    ensures rooms { HasRoomsAfter result shared.now (Reservation.Hand hand.now) running.new }
 {
     if walk.is_all() {
         let none = Cleaned {

@@ -6,11 +6,11 @@ ghost use Rattle.nv_machine.specs.Kinds.{leave_turn};
 ghost use Rattle.nv_machine.specs.World as machine;
 ghost use Rattle.nv_core.specs.Parts.{AreHome, IsOfDevice};
 ghost use Rattle.nv_core.specs.Rooms.{HasRooms, HasRoomsAfter, IsNoDrain};
-ghost use Rattle.nv_core.specs.Shown.{Told, hand_in, hand_of, shared_of, shown, shown_at, turn_of};
-ghost use Rattle.nv_core.specs.Told.{KeepsJob, OwesAt};
+ghost use Rattle.nv_core.specs.Shown.{GhostCall, hand_in, hand_of, shared_of, shown, shown_at, turn_of};
+ghost use Rattle.nv_core.specs.GhostCalls.{KeepsRequest, OwesAt};
 
 use crate::ending::end;
-use crate::hold::Hold;
+use crate::reservation::Reservation;
 use crate::running::Running;
 use crate::shared::Shared;
 use crate::turn::Turn;
@@ -21,16 +21,16 @@ use nv_calls::{Commit, CommitStep};
 pub(crate) fn leave(shared: &mut Shared, commit: Commit, running: &mut Running) -> (Hand, Turn)
     requires home { AreHome shared.old }
     requires device { IsOfDevice shared.old.geometry.numbers commit.hand }
-    requires rooms { HasRooms shared.old (Hold.Commit commit) running.old }
+    requires rooms { HasRooms shared.old (Reservation.Commit commit) running.old }
     requires step { step_of commit ≡ CommitStep.Leave }
-    ensures turn { (told : Told) → OwesAt running.old.ending running.old told
+    ensures turn { (told : GhostCall) → OwesAt running.old.ending running.old told
         → leave_turn (shared_of shared.old) (hand_in commit)
         (shown_at machine.Leave told running.old)
         ≡ turn_of result.1 (shared_of shared.new) (hand_of result.0) (shown told running.new) }
-    ensures job { KeepsJob running.old running.new }
+    ensures request { KeepsRequest running.old running.new }
     ensures goes { result.1 ≢ Turn.Waits }
     ensures slots { IsNoDrain running.old.ending → running.new.slots ≡ running.old.slots }
-    ensures rooms { HasRoomsAfter result.1 shared.new (Hold.Hand result.0) running.new }
+    ensures rooms { HasRoomsAfter result.1 shared.new (Reservation.Hand result.0) running.new }
     ensures rest { shared.new ≡ record shared.old { holder = None } }
 {
     shared.holder = None;

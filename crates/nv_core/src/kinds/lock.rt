@@ -5,10 +5,10 @@ ghost use Rattle.nv_machine.specs.Kinds.{lock_turn};
 ghost use Rattle.nv_machine.specs.Reads.{slot_at};
 ghost use Rattle.nv_machine.specs.World.{HandState, owner_at};
 ghost use Rattle.nv_core.specs.Rooms.{HasRooms, HasRoomsAfter};
-ghost use Rattle.nv_core.specs.Shown.{Told, shared_of, shown, slots_in, turn_of};
-ghost use Rattle.nv_core.specs.Told.{KeepsJob, is_change};
+ghost use Rattle.nv_core.specs.Shown.{GhostCall, shared_of, shown, slots_in, turn_of};
+ghost use Rattle.nv_core.specs.GhostCalls.{KeepsRequest, is_change};
 
-use crate::hold::Hold;
+use crate::reservation::Reservation;
 use crate::running::{Running, locking};
 use crate::shared::Shared;
 use crate::turn::Turn;
@@ -16,17 +16,17 @@ use nv_alloc::Hand;
 
 /// Locks the slot at a place, or waits for its lock.
 pub(crate) fn lock(shared: &mut Shared, running: &mut Running, actor: u64, place: usize) -> Turn
-    requires change { is_change running.old.job ≡ true }
+    requires change { is_change running.old.request ≡ true }
     requires place { place < length (slots_in running.old.slots) }
     requires there { slot_at (slots_in running.old.slots) place < length shared.old.owners.items }
-    ensures turn { (told : Told) (h : HandState) → let s = shared_of shared.old in
+    ensures turn { (told : GhostCall) (h : HandState) → let s = shared_of shared.old in
         lock_turn (owner_at s (slot_at (slots_in running.old.slots) place)) actor place s h
         (shown told running.old)
         ≡ turn_of result (shared_of shared.new) h (shown told running.new) }
     ensures waits { result ≡ Turn.Waits → (shared.new ≡ shared.old) × (running.new ≡ running.old) }
-    ensures job { KeepsJob running.old running.new }
-    ensures rooms { (hand : Hand) → HasRooms shared.old (Hold.Hand hand) running.old
-        → HasRoomsAfter result shared.new (Hold.Hand hand) running.new }
+    ensures request { KeepsRequest running.old running.new }
+    ensures rooms { (hand : Hand) → HasRooms shared.old (Reservation.Hand hand) running.old
+        → HasRoomsAfter result shared.new (Reservation.Hand hand) running.new }
     ensures rest { shared.new ≡ record shared.old { owners = shared.new.owners } }
 {
     let ino = running.slots.at(place);

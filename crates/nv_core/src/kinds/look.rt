@@ -9,12 +9,12 @@ ghost use Rattle.nv_machine.specs.Step.{handle_at};
 ghost use Rattle.nv_machine.specs.World.{owner_at};
 ghost use Rattle.nv_core.specs.Parts.{AreHome, IsOfDevice};
 ghost use Rattle.nv_core.specs.Rooms.{HasRooms, HasRoomsAfter};
-ghost use Rattle.nv_core.specs.Shown.{Told, hand_of, shared_of, shown, turn_of};
-ghost use Rattle.nv_core.specs.Told.{IsLookAt, IsToldOf, KeepsJob};
+ghost use Rattle.nv_core.specs.Shown.{GhostCall, hand_of, shared_of, shown, turn_of};
+ghost use Rattle.nv_core.specs.GhostCalls.{IsLookAt, IsGhostCallOf, KeepsRequest};
 
 use crate::ending::give_back;
-use crate::hold::Hold;
 use crate::next::Ending;
+use crate::reservation::Reservation;
 use crate::running::{Running, looking};
 use crate::shared::Shared;
 use crate::turn::Turn;
@@ -24,11 +24,11 @@ use nv_calls::{directory, look_at, slots_of};
 /// Looks up the names of a call in one of their directories. The first name may be refused here. What is wrong with the
 /// second is told at the check.
 pub(crate) fn look(shared: &Shared, hand: &Hand, running: &mut Running, place: usize) -> Turn
-    requires rooms { HasRooms shared.now (Hold.Hand hand.now) running.old }
-    requires place { IsLookAt place running.old.job }
+    requires rooms { HasRooms shared.now (Reservation.Hand hand.now) running.old }
+    requires place { IsLookAt place running.old.request }
     requires home { AreHome shared.now }
     requires device { IsOfDevice shared.now.geometry.numbers hand.now }
-    ensures turn { (told : Told) → IsToldOf running.old told → let s = shared_of shared.now in
+    ensures turn { (told : GhostCall) → IsGhostCallOf running.old told → let s = shared_of shared.now in
         let h = hand_of hand.now in let c = told.call in
         look_turn (owner_at s (handle_at (directories c) place).ino)
         (look_tests place (look_refusal (copies s) c))
@@ -36,8 +36,8 @@ pub(crate) fn look(shared: &Shared, hand: &Hand, running: &mut Running, place: u
         (shown told running.old)
         ≡ turn_of result s h (shown told running.new) }
     ensures waits { result ≡ Turn.Waits → running.new ≡ running.old }
-    ensures job { KeepsJob running.old running.new }
-    ensures rooms { HasRoomsAfter result shared.now (Hold.Hand hand.now) running.new }
+    ensures request { KeepsRequest running.old running.new }
+    ensures rooms { HasRoomsAfter result shared.now (Reservation.Hand hand.now) running.new }
 {
     let update = &running.plan().update;
     let ino = directory(update, place).ino;

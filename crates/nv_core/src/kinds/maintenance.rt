@@ -4,12 +4,11 @@ ghost use Rattle.std.specs.Prelude.{◌≡◌, []};
 ghost use Rattle.nv_machine.specs.Step.{kind_turn};
 ghost use Rattle.nv_core.specs.Frames.{LeavesRest};
 ghost use Rattle.nv_core.specs.Rooms.{HasRooms, HasRoomsAfter, IsOnBook, IsMaintenanceStep};
-ghost use Rattle.nv_core.specs.Shown.{Told, hand_of, next_of, shared_of, shown, slots_in, turn_of};
+ghost use Rattle.nv_core.specs.Shown.{GhostCall, hand_of, next_of, shared_of, shown, slots_in, turn_of};
 ghost use Rattle.nv_core.specs.Steps.{CanStep};
-ghost use Rattle.nv_core.specs.Told.{IsEither, KeepsJob};
+ghost use Rattle.nv_core.specs.GhostCalls.{IsEither, KeepsRequest};
 ghost use Rattle.nv_machine.specs.Locks.{held_at};
 
-use crate::hold::Hold;
 use crate::kinds::clean::{clean, lock_cleaned};
 use crate::kinds::drain::{lock_picked, pick};
 use crate::kinds::drop_snapshot::drop_snapshot;
@@ -18,6 +17,7 @@ use crate::kinds::make_snapshot::make_snapshot;
 use crate::kinds::release::release;
 use crate::kinds::show::{pin, show, unpin};
 use crate::next::{MaintenanceStep, Next};
+use crate::reservation::Reservation;
 use crate::running::Running;
 use crate::shared::Shared;
 use crate::turn::Turn;
@@ -33,16 +33,16 @@ pub(crate) fn maintain(
     actor: u64,
 ) -> Turn
     requires step { IsMaintenanceStep running.old.next }
-    requires can { CanStep shared.old (Hold.Hand hand.old) running.old actor }
-    requires rooms { HasRooms shared.old (Hold.Hand hand.old) running.old }
-    ensures turn { (told : Told) → IsEither (λ granted. kind_turn (next_of running.old.next)
+    requires can { CanStep shared.old (Reservation.Hand hand.old) running.old actor }
+    requires rooms { HasRooms shared.old (Reservation.Hand hand.old) running.old }
+    ensures turn { (told : GhostCall) → IsEither (λ granted. kind_turn (next_of running.old.next)
         shared.old.geometry.numbers.block actor granted (shared_of shared.old) (hand_of hand.old)
         (shown told running.old))
         (turn_of result (shared_of shared.new) (hand_of hand.new) (shown told running.new)) }
     ensures waits { result ≡ Turn.Waits
         → (shared.new ≡ shared.old) × (hand.new ≡ hand.old) × (running.new ≡ running.old) }
-    ensures job { KeepsJob running.old running.new }
-    ensures rooms { HasRoomsAfter result shared.new (Hold.Hand hand.new) running.new }
+    ensures request { KeepsRequest running.old running.new }
+    ensures rooms { HasRoomsAfter result shared.new (Reservation.Hand hand.new) running.new }
     ensures rest { LeavesRest actor (held_at (next_of running.old.next)
         (slots_in running.old.slots)) shared.old shared.new }
 {
@@ -77,16 +77,16 @@ fn on_book(
     actor: u64,
 ) -> Turn
     requires step { IsOnBook running.old.next }
-    requires can { CanStep shared.old (Hold.Hand hand.old) running.old actor }
-    requires rooms { HasRooms shared.old (Hold.Hand hand.old) running.old }
-    ensures turn { (told : Told) → IsEither (λ granted. kind_turn (next_of running.old.next)
+    requires can { CanStep shared.old (Reservation.Hand hand.old) running.old actor }
+    requires rooms { HasRooms shared.old (Reservation.Hand hand.old) running.old }
+    ensures turn { (told : GhostCall) → IsEither (λ granted. kind_turn (next_of running.old.next)
         shared.old.geometry.numbers.block actor granted (shared_of shared.old) (hand_of hand.old)
         (shown told running.old))
         (turn_of result (shared_of shared.new) (hand_of hand.new) (shown told running.new)) }
     ensures waits { result ≡ Turn.Waits
         → (shared.new ≡ shared.old) × (hand.new ≡ hand.old) × (running.new ≡ running.old) }
-    ensures job { KeepsJob running.old running.new }
-    ensures rooms { HasRoomsAfter result shared.new (Hold.Hand hand.new) running.new }
+    ensures request { KeepsRequest running.old running.new }
+    ensures rooms { HasRoomsAfter result shared.new (Reservation.Hand hand.new) running.new }
     ensures held { held_at (next_of running.old.next) (slots_in running.old.slots) ≡ [] }
     ensures rest { LeavesRest actor [] shared.old shared.new }
 {

@@ -5,12 +5,12 @@ ghost use Rattle.nv_machine.specs.Kinds.{go_on, number_turn};
 ghost use Rattle.nv_machine.specs.Reads.{slots_of};
 ghost use Rattle.nv_machine.specs.World as machine;
 ghost use Rattle.nv_core.specs.Rooms.{FitsCall, HasNextRoom, HasRooms, HasRoomsAfter, takes};
-ghost use Rattle.nv_core.specs.Shown.{Told, hand_of, shared_of, shown, turn_of};
-ghost use Rattle.nv_core.specs.Told.{IsToldOf, KeepsJob, makes_inode};
-ghost use Rattle.nv_core.specs.declared.job.Job.{Job};
+ghost use Rattle.nv_core.specs.Shown.{GhostCall, hand_of, shared_of, shown, turn_of};
+ghost use Rattle.nv_core.specs.GhostCalls.{IsGhostCallOf, KeepsRequest, makes_inode};
+ghost use Rattle.nv_core.specs.declared.request.Request.{Request};
 ghost use Rattle.nv_core.specs.declared.next.Ending.{Ending};
 
-use crate::hold::Hold;
+use crate::reservation::Reservation;
 use crate::running::{Running, locking};
 use crate::shared::Shared;
 use crate::turn::Turn;
@@ -20,15 +20,15 @@ use nv_calls::slots_of;
 
 /// Takes the lowest free number into the hand. That there is none is told at the check.
 pub(crate) fn number(shared: &mut Shared, hand: &mut Hand, running: &mut Running) -> Turn
-    requires rooms { HasRooms shared.old (Hold.Hand hand.old) running.old }
-    requires makes { makes_inode running.old.job ≡ true }
+    requires rooms { HasRooms shared.old (Reservation.Hand hand.old) running.old }
+    requires makes { makes_inode running.old.request ≡ true }
     requires none { hand.old.ino ≡ None }
-    ensures turn { (told : Told) → IsToldOf running.old told → let s = shared_of shared.old in
+    ensures turn { (told : GhostCall) → IsGhostCallOf running.old told → let s = shared_of shared.old in
         number_turn s.pool.numbers s (hand_of hand.old) (shown told running.old)
         ≡ turn_of result (shared_of shared.new) (hand_of hand.new) (shown told running.new) }
-    ensures job { KeepsJob running.old running.new }
+    ensures request { KeepsRequest running.old running.new }
     ensures goes { result ≢ Turn.Waits }
-    ensures rooms { HasRoomsAfter result shared.new (Hold.Hand hand.new) running.new }
+    ensures rooms { HasRoomsAfter result shared.new (Reservation.Hand hand.new) running.new }
     ensures rest { shared.new ≡ record shared.old { pool = shared.new.pool } }
 {
     match shared.pool.take() {
@@ -43,16 +43,16 @@ pub(crate) fn number(shared: &mut Shared, hand: &mut Hand, running: &mut Running
 /// It is known which slots the call locks, with this number among them.
 fn go_on(inodes: u64, running: &mut Running, number: Option<Ino>) -> Turn
     requires call { FitsCall running.old }
-    requires makes { makes_inode running.old.job ≡ true }
-    ensures turn { (told : Told) (s : machine.Shared) (h : machine.HandState)
-        → IsToldOf running.old told → length s.cells ≡ inodes → let r = shown told running.old in
+    requires makes { makes_inode running.old.request ≡ true }
+    ensures turn { (told : GhostCall) (s : machine.Shared) (h : machine.HandState)
+        → IsGhostCallOf running.old told → length s.cells ≡ inodes → let r = shown told running.old in
         go_on machine.Number s h (record r { slots = slots_of s number r.looked r.call })
         ≡ turn_of result s h (shown told running.new) }
-    ensures job { KeepsJob running.old running.new }
+    ensures request { KeepsRequest running.old running.new }
     ensures fits { FitsCall running.new }
     ensures none { takes running.new.next ≡ false }
-    ensures room { (how : Ending) (job : Job) (shared : Shared) (hand : Hand)
-        → HasNextRoom running.new.next how job shared hand }
+    ensures room { (how : Ending) (request : Request) (shared : Shared) (hand : Hand)
+        → HasNextRoom running.new.next how request shared hand }
     ensures moves { result ≡ Turn.Moves }
 {
     let update = &running.plan().update;

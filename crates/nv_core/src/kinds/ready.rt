@@ -11,21 +11,21 @@ ghost use Rattle.nv_core.specs.Frames.{LeavesCells};
 ghost use Rattle.nv_core.specs.Parts.{AreHome, AreSlots, IsOfDevice};
 ghost use Rattle.nv_core.specs.Readied.{IsFilledBy, planned_by};
 ghost use Rattle.nv_core.specs.Rooms.{HasRooms, HasRoomsAfter};
-ghost use Rattle.nv_core.specs.Shown.{Told, hand_of, held_by, shared_of, shown, shown_by, slots_in, turn_of};
+ghost use Rattle.nv_core.specs.Shown.{GhostCall, hand_of, held_by, shared_of, shown, shown_by, slots_in, turn_of};
 ghost use Rattle.nv_core.specs.Steps.{CanGetReady};
-ghost use Rattle.nv_core.specs.Told.{IsEither, IsHoldOf, IsToldOf};
+ghost use Rattle.nv_core.specs.GhostCalls.{IsEither, IsReservationOf, IsGhostCallOf};
 
 use crate::ending::refuse;
-use crate::hold::Hold;
-use crate::job::Job;
 use crate::lent_ready::ready_in;
 use crate::next::Next;
+use crate::request::Request;
+use crate::reservation::Reservation;
 use crate::running::Running;
 use crate::shared::Shared;
 use crate::turn::Turn;
 use nv_alloc::Hand;
 use nv_base::Fault;
-use nv_calls::{Plan, Ready, Slots};
+use nv_calls::{LockedSlots, Plan, Ready};
 use std::alloc::Global;
 use std::mem;
 
@@ -35,23 +35,23 @@ pub(crate) fn ready(
     shared: &mut Shared,
     hand: Hand,
     running: &mut Running,
-) -> (Hold, Turn)
+) -> (Reservation, Turn)
     requires limits { IsWithinLimits shared.old.geometry.numbers }
     requires home { AreHome shared.old }
     requires device { IsOfDevice shared.old.geometry.numbers hand }
     requires next { running.old.next ≡ Next.Ready }
-    requires rooms { HasRooms shared.old (Hold.Hand hand) running.old }
+    requires rooms { HasRooms shared.old (Reservation.Hand hand) running.old }
     requires can { CanGetReady shared.old running.old }
-    ensures turn { (told : Told) → IsToldOf running.old told
+    ensures turn { (told : GhostCall) → IsGhostCallOf running.old told
         → IsEither (λ granted. ready_turn granted shared.old.geometry.numbers.block
         (shared_of shared.old) (hand_of hand) (shown told running.old))
         (turn_of result.1 (shared_of shared.new) (held_by result.0)
         (shown_by result.0 (planned_by result.0 shared.old hand running.old told) running.new)) }
-    ensures told { (told : Told) → IsToldOf running.old told → IsToldOf running.new told }
-    ensures plans { (told : Told) → IsToldOf running.old told
-        → IsHoldOf (slots_in running.old.slots) result.0
+    ensures told { (told : GhostCall) → IsGhostCallOf running.old told → IsGhostCallOf running.new told }
+    ensures plans { (told : GhostCall) → IsGhostCallOf running.old told
+        → IsReservationOf (slots_in running.old.slots) result.0
         (planned_by result.0 shared.old hand running.old told) }
-    ensures placed { (told : Told) → IsToldOf running.old told
+    ensures placed { (told : GhostCall) → IsGhostCallOf running.old told
         → IsPlacedBy (slots_in running.old.slots) result.0
         (planned_by result.0 shared.old hand running.old told) }
     ensures slots { running.new.slots ≡ running.old.slots }
@@ -60,14 +60,14 @@ pub(crate) fn ready(
     ensures rest { LeavesCells (slots_in running.old.slots) shared.old shared.new }
     ensures book { shared.new.book ≡ shared.old.book }
 {
-    let Job::Change(plan, text) = mem::replace(&mut running.job, Job::Given) else {
+    let Request::Change(plan, text) = mem::replace(&mut running.request, Request::Given) else {
         unreachable!()
     };
     match ready_of(alloc, shared, &running.slots, plan, hand, text.as_slice()) {
-        Ok(ready) => (Hold::Ready(ready), Turn::Moves),
+        Ok(ready) => (Reservation::Ready(ready), Turn::Moves),
         Err((fault, hand)) => {
             let turn = refuse(shared, &hand, running, fault);
-            (Hold::Hand(hand), turn)
+            (Reservation::Hand(hand), turn)
         }
     }
 }
@@ -76,7 +76,7 @@ pub(crate) fn ready(
 fn ready_of(
     alloc: Global,
     shared: &mut Shared,
-    slots: &Slots,
+    slots: &LockedSlots,
     plan: Plan,
     hand: Hand,
     text: &[u8],

@@ -7,13 +7,13 @@ ghost use Rattle.nv_machine.specs.Locks.{held_at};
 ghost use Rattle.nv_core.specs.Frames.{LeavesRest};
 ghost use Rattle.nv_core.specs.Parts.{AreHome};
 ghost use Rattle.nv_core.specs.Rooms.{HasRooms, HasRoomsAfter};
-ghost use Rattle.nv_core.specs.Shown.{Told, draining_of, hand_of, next_of, shared_of, shown, slots_in, turn_of};
+ghost use Rattle.nv_core.specs.Shown.{GhostCall, draining_of, hand_of, next_of, shared_of, shown, slots_in, turn_of};
 ghost use Rattle.nv_core.specs.Steps.{CanRelease};
-ghost use Rattle.nv_core.specs.Told.{KeepsJob};
+ghost use Rattle.nv_core.specs.GhostCalls.{KeepsRequest};
 
 use crate::ending::end;
-use crate::hold::Hold;
 use crate::next::{Draining, Ending, MaintenanceStep, Next};
+use crate::reservation::Reservation;
 use crate::running::Running;
 use crate::shared::Shared;
 use crate::turn::Turn;
@@ -34,13 +34,13 @@ pub(crate) fn release(
     requires home { AreHome shared.old }
     requires can { CanRelease shared.old picked }
     requires empty { hand_of hand.old ≡ empty_hand }
-    requires rooms { HasRooms shared.old (Hold.Hand hand.old) running.old }
-    ensures turn { (told : Told) → release_turn (draining_of draining) picked (shared_of shared.old)
+    requires rooms { HasRooms shared.old (Reservation.Hand hand.old) running.old }
+    ensures turn { (told : GhostCall) → release_turn (draining_of draining) picked (shared_of shared.old)
         empty_hand (shown told running.old)
         ≡ turn_of result (shared_of shared.new) (hand_of hand.new) (shown told running.new) }
-    ensures job { KeepsJob running.old running.new }
+    ensures request { KeepsRequest running.old running.new }
     ensures goes { result ≢ Turn.Waits }
-    ensures rooms { HasRoomsAfter result shared.new (Hold.Hand hand.new) running.new }
+    ensures rooms { HasRoomsAfter result shared.new (Reservation.Hand hand.new) running.new }
     ensures rest { (actor : ℕ) → LeavesRest actor (held_at (next_of running.old.next)
         (slots_in running.old.slots)) shared.old shared.new }
 {

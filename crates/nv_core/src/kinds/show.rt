@@ -10,12 +10,12 @@ ghost use Rattle.nv_machine.specs.Maintenance.{copies_at, pin_turn, seen_on, sho
 ghost use Rattle.nv_machine.specs.World as machine;
 ghost use Rattle.nv_machine.specs.World.{HandState, empty_hand, owner_at};
 ghost use Rattle.nv_core.specs.Rooms.{HasRooms, HasRoomsAfter, HasStepRoom, IsShow, IsUnpin};
-ghost use Rattle.nv_core.specs.Shown.{Told, is_over, seen_in, shared_of, showing_in, showing_of, shown, slots_in, snapshot_in, step_on, turn_of};
+ghost use Rattle.nv_core.specs.Shown.{GhostCall, is_over, seen_in, shared_of, showing_in, showing_of, shown, slots_in, snapshot_in, step_on, turn_of};
 ghost use Rattle.nv_core.specs.Steps.{CanShow};
-ghost use Rattle.nv_core.specs.Told.{IsEither, KeepsJob};
+ghost use Rattle.nv_core.specs.GhostCalls.{IsEither, KeepsRequest};
 
-use crate::hold::Hold;
 use crate::next::{Ending, MaintenanceStep, Next};
+use crate::reservation::Reservation;
 use crate::running::Running;
 use crate::shared::Shared;
 use crate::showing::Showing;
@@ -32,13 +32,13 @@ pub(crate) fn pin(alloc: Global, shared: &mut Shared, running: &mut Running, sna
     requires next { running.old.next ≡ Next.Maintenance (MaintenanceStep.Pin snapshot) }
     requires slots { slots_in running.old.slots ≡ [] }
     requires pins { ForSome (pins_of shared.old.book.state.snaps snapshot) (λ pins. pins < PINS) }
-    ensures turn { (told : Told) → let s = shared_of shared.old in
+    ensures turn { (told : GhostCall) → let s = shared_of shared.old in
         pin_turn snapshot (pins_of s.book.snaps snapshot) s empty_hand (shown told running.old)
         ≡ turn_of result (shared_of shared.new) empty_hand (shown told running.new) }
-    ensures job { KeepsJob running.old running.new }
+    ensures request { KeepsRequest running.old running.new }
     ensures goes { result ≢ Turn.Waits }
-    ensures rooms { (hand : Hand) → HasRooms shared.old (Hold.Hand hand) running.old
-        → HasRoomsAfter result shared.new (Hold.Hand hand) running.new }
+    ensures rooms { (hand : Hand) → HasRooms shared.old (Reservation.Hand hand) running.old
+        → HasRoomsAfter result shared.new (Reservation.Hand hand) running.new }
     ensures rest { shared.new ≡ record shared.old { book = shared.new.book } }
 {
     if let Err(fault) = shared.book.pin(Epoch::new(snapshot)) {
@@ -66,15 +66,15 @@ pub(crate) fn show(alloc: Global, shared: &Shared, running: &mut Running) -> Tur
     requires next { IsShow running.old.next }
     requires can { CanShow shared.now (snapshot_in running.old.next) }
     requires more { is_over (showing_in running.old.next) ≡ false }
-    ensures turn { (told : Told) (h : HandState) → let s = shared_of shared.now in
+    ensures turn { (told : GhostCall) (h : HandState) → let s = shared_of shared.now in
         let snapshot = snapshot_in running.old.next in let to = showing_in running.old.next in
         IsEither (λ granted. show_turn (owner_at s (visited to.visits).ino) granted
         (copies_at s snapshot (visited to.visits)) snapshot to s h (shown told running.old))
         (turn_of result s h (shown told running.new)) }
     ensures waits { result ≡ Turn.Waits → running.new ≡ running.old }
-    ensures job { KeepsJob running.old running.new }
-    ensures rooms { (hand : Hand) → HasRooms shared.now (Hold.Hand hand) running.old
-        → HasRoomsAfter result shared.now (Hold.Hand hand) running.new }
+    ensures request { KeepsRequest running.old running.new }
+    ensures rooms { (hand : Hand) → HasRooms shared.now (Reservation.Hand hand) running.old
+        → HasRoomsAfter result shared.now (Reservation.Hand hand) running.new }
 {
     let Next::Maintenance(MaintenanceStep::Show(_, showing)) = &running.next else {
         unreachable!()
@@ -117,11 +117,11 @@ pub(crate) fn unpin(shared: &mut Shared, running: &mut Running) -> Turn
     requires next { IsUnpin running.old.next }
     requires pins { IsSomeAnd (pins_of shared.old.book.state.snaps (snapshot_in running.old.next))
         (λ pins. 0 < pins) }
-    ensures turn { (told : Told) (h : HandState) → unpin_turn (snapshot_in running.old.next)
+    ensures turn { (told : GhostCall) (h : HandState) → unpin_turn (snapshot_in running.old.next)
         (seen_in running.old.next) (shared_of shared.old) h (shown told running.old)
         ≡ turn_of result (shared_of shared.new) h (shown told running.new) }
     ensures ends { (result ≢ Turn.Moves) × (result ≢ Turn.Waits) }
-    ensures job { KeepsJob running.old running.new }
+    ensures request { KeepsRequest running.old running.new }
     ensures rest { shared.new ≡ record shared.old { book = shared.new.book } }
 {
     let Next::Maintenance(MaintenanceStep::Unpin(snapshot, seen)) = mem::replace(

@@ -1,22 +1,22 @@
 //! Blocks are taken from a list.
 
 ghost use Rattle.std.specs.Prelude.{◌≡◌, ◌≢◌, ◌+◌, ◌-◌, ◌%◌, ◌<◌, ◌≤◌, ◌^◌, length, min};
-ghost use Rattle.nv_machine.specs.Kinds.{asked_list, refuse, take_blocks_turn, take_pages_turn, wants_pages};
+ghost use Rattle.nv_machine.specs.Kinds.{asked_list, refuse, take_blocks_turn, take_log_pages_turn, wants_pages};
 ghost use Rattle.nv_machine.specs.Reads.{pages_wanted, plan_by};
 ghost use Rattle.nv_base.specs.declared.fault.Fault.TheVariants.{NoSpace};
 ghost use Rattle.nv_base.specs.Limits.{IsWithinLimits};
 ghost use Rattle.nv_calls.specs.declared.log_pages.TheConstants.{MORE_PAGES};
 ghost use Rattle.nv_core.specs.Parts.{AreHome, IsOfDevice};
 ghost use Rattle.nv_core.specs.Rooms.{CanCountPages, CanEnd, CanWantPages, FitsCall, HasRooms, HasRoomsAfter, IsHandOf, pages_to_take};
-ghost use Rattle.nv_core.specs.Shown.{Told, hand_of, shared_of, shown, slots_in, turn_of};
+ghost use Rattle.nv_core.specs.Shown.{GhostCall, hand_of, shared_of, shown, slots_in, turn_of};
 ghost use Rattle.nv_machine.specs.World.{list_at};
 ghost use Rattle.nv_core.specs.Takings.{IsTaken};
-ghost use Rattle.nv_core.specs.Told.{IsChangeWith, IsToldOf, KeepsJob};
+ghost use Rattle.nv_core.specs.GhostCalls.{IsChangeWith, IsGhostCallOf, KeepsRequest};
 
 use crate::ending::refuse;
-use crate::hold::Hold;
 use crate::lent_take::pages_in;
 use crate::next::{Ending, Next};
+use crate::reservation::Reservation;
 use crate::running::Running;
 use crate::shared::Shared;
 use crate::turn::Turn;
@@ -32,20 +32,20 @@ pub(crate) fn want_pages(shared: &mut Shared, hand: &Hand, running: &mut Running
     requires call { FitsCall running.old }
     requires can { CanWantPages shared.old hand.now running.old }
     ensures shared { shared.new ≡ shared.old }
-    ensures turn { (told : Told) → IsToldOf running.old told → let s = shared_of shared.old in
+    ensures turn { (told : GhostCall) → IsGhostCallOf running.old told → let s = shared_of shared.old in
         let h = hand_of hand.now in let r = shown told running.old in
         wants_pages (pages_wanted s r.slots (plan_by shared.old.geometry.numbers.block s h r)) s h r
         ≡ turn_of result s h (shown told running.new) }
-    ensures job { KeepsJob running.old running.new }
+    ensures request { KeepsRequest running.old running.new }
     ensures goes { result ≡ Turn.Moves }
-    ensures rooms { HasRoomsAfter result shared.new (Hold.Hand hand.now) running.new }
+    ensures rooms { HasRoomsAfter result shared.new (Reservation.Hand hand.now) running.new }
 {
     running.wanted = pages_by(shared, hand, running);
     if running.wanted == 0 {
         running.next = Next::Ready;
         return Turn::Moves;
     }
-    running.next = Next::TakePages(0);
+    running.next = Next::TakeLogPages(0);
     Turn::Moves
 }
 
@@ -57,7 +57,7 @@ pub(crate) fn pages_by(shared: &mut Shared, hand: &Hand, running: &Running) -> u
     requires can { CanCountPages shared.old hand.now running.now }
     ensures same { shared.new ≡ shared.old }
     ensures wanted { let slots = slots_in running.now.slots in IsChangeWith
-        (λ u. result ≡ pages_to_take shared.old slots hand.now u) running.now.job }
+        (λ u. result ≡ pages_to_take shared.old slots hand.now u) running.now.request }
     ensures few { result ≤ length hand.now.data.blocks + MORE_PAGES }
 {
     pages_in(&mut shared.cells, &running.slots, running.plan(), hand)
@@ -74,16 +74,16 @@ pub(crate) fn take_blocks(
     requires limits { IsWithinLimits shared.old.geometry.numbers }
     requires home { AreHome shared.old }
     requires device { IsOfDevice shared.old.geometry.numbers hand.old }
-    requires rooms { HasRooms shared.old (Hold.Hand hand.old) running.old }
+    requires rooms { HasRooms shared.old (Reservation.Hand hand.old) running.old }
     requires next { running.old.next ≡ Next.TakeBlocks asked }
     requires small { actor + asked < 2 ^ 64 - 1 }
-    ensures turn { (told : Told) → IsToldOf running.old told → let s = shared_of shared.old in
+    ensures turn { (told : GhostCall) → IsGhostCallOf running.old told → let s = shared_of shared.old in
         take_blocks_turn (asked_list (length s.lists) actor asked) asked
         shared.old.geometry.numbers.block s (hand_of hand.old) (shown told running.old)
         ≡ turn_of result (shared_of shared.new) (hand_of hand.new) (shown told running.new) }
-    ensures job { KeepsJob running.old running.new }
+    ensures request { KeepsRequest running.old running.new }
     ensures goes { result ≢ Turn.Waits }
-    ensures rooms { HasRoomsAfter result shared.new (Hold.Hand hand.new) running.new }
+    ensures rooms { HasRoomsAfter result shared.new (Reservation.Hand hand.new) running.new }
     ensures rest { shared.new ≡ record shared.old { lists = shared.new.lists } }
     ensures count { length shared.new.lists.items ≡ length shared.old.lists.items }
 {
@@ -102,7 +102,7 @@ pub(crate) fn take_blocks(
 }
 
 /// Takes log pages from one list, its lowest blocks.
-pub(crate) fn take_pages(
+pub(crate) fn take_log_pages(
     shared: &mut Shared,
     hand: &mut Hand,
     running: &mut Running,
@@ -112,16 +112,16 @@ pub(crate) fn take_pages(
     requires limits { IsWithinLimits shared.old.geometry.numbers }
     requires home { AreHome shared.old }
     requires device { IsOfDevice shared.old.geometry.numbers hand.old }
-    requires rooms { HasRooms shared.old (Hold.Hand hand.old) running.old }
-    requires next { running.old.next ≡ Next.TakePages asked }
+    requires rooms { HasRooms shared.old (Reservation.Hand hand.old) running.old }
+    requires next { running.old.next ≡ Next.TakeLogPages asked }
     requires small { actor + asked < 2 ^ 64 - 1 }
-    ensures turn { (told : Told) → let s = shared_of shared.old in
-        take_pages_turn (asked_list (length s.lists) actor asked) asked s (hand_of hand.old)
+    ensures turn { (told : GhostCall) → let s = shared_of shared.old in
+        take_log_pages_turn (asked_list (length s.lists) actor asked) asked s (hand_of hand.old)
         (shown told running.old)
         ≡ turn_of result (shared_of shared.new) (hand_of hand.new) (shown told running.new) }
-    ensures job { KeepsJob running.old running.new }
+    ensures request { KeepsRequest running.old running.new }
     ensures goes { result ≢ Turn.Waits }
-    ensures rooms { HasRoomsAfter result shared.new (Hold.Hand hand.new) running.new }
+    ensures rooms { HasRoomsAfter result shared.new (Reservation.Hand hand.new) running.new }
     ensures rest { shared.new ≡ record shared.old { lists = shared.new.lists } }
     ensures count { length shared.new.lists.items ≡ length shared.old.lists.items }
 {
@@ -137,7 +137,7 @@ pub(crate) fn take_pages(
         running,
         asked,
         left,
-        Next::TakePages(asked + 1),
+        Next::TakeLogPages(asked + 1),
     )
 }
 
@@ -178,13 +178,13 @@ fn ask_on(
     requires sized { IsHandOf shared.now.geometry.numbers hand.now }
     ensures more { asked + 1 < length shared.now.lists.items → (result ≡ Turn.Moves)
         × (running.new ≡ record running.old { wanted = left; next = next }) }
-    ensures none { (told : Told) → length shared.now.lists.items ≤ asked + 1
+    ensures none { (told : GhostCall) → length shared.now.lists.items ≤ asked + 1
         → let s = shared_of shared.now in let h = hand_of hand.now in
         refuse NoSpace s h (shown told running.old) ≡ turn_of result s h (shown told running.new) }
-    ensures job { KeepsJob running.old running.new }
+    ensures request { KeepsRequest running.old running.new }
     ensures goes { result ≢ Turn.Waits }
     ensures rooms { length shared.now.lists.items ≤ asked + 1
-        → HasRoomsAfter result shared.now (Hold.Hand hand.now) running.new }
+        → HasRoomsAfter result shared.now (Reservation.Hand hand.now) running.new }
 {
     if asked + 1 < shared.lists.len() as u64 {
         running.wanted = left;

@@ -7,12 +7,12 @@ ghost use Rattle.nv_core.specs.Cleaning.{CanClean, CanUnlink, IsMaintaining};
 ghost use Rattle.nv_core.specs.Frames.{LeavesRest};
 ghost use Rattle.nv_core.specs.Parts.{AreHome};
 ghost use Rattle.nv_core.specs.Rooms.{HasRoomsAfter, IsHandOf};
-ghost use Rattle.nv_core.specs.Shown.{Told, hand_of, shared_of, shown, turn_of};
-ghost use Rattle.nv_core.specs.Told.{KeepsJob};
+ghost use Rattle.nv_core.specs.Shown.{GhostCall, hand_of, shared_of, shown, turn_of};
+ghost use Rattle.nv_core.specs.GhostCalls.{KeepsRequest};
 
 use crate::ending::end;
-use crate::hold::Hold;
 use crate::next::{Ending, UnlinkPlan};
+use crate::reservation::Reservation;
 use crate::running::Running;
 use crate::shared::Shared;
 use crate::turn::Turn;
@@ -32,12 +32,12 @@ pub(crate) fn unlink(
     requires can { CanClean shared.old plan.ino }
     requires empty { hand_of hand.old ≡ empty_hand }
     requires plan { CanUnlink shared.old hand.old plan }
-    ensures turn { (told : Told) → unlink_turn plan.ino (shared_of shared.old) (hand_of hand.old)
+    ensures turn { (told : GhostCall) → unlink_turn plan.ino (shared_of shared.old) (hand_of hand.old)
         (shown told running.old)
         ≡ turn_of result (shared_of shared.new) (hand_of hand.new) (shown told running.new) }
-    ensures job { KeepsJob running.old running.new }
+    ensures request { KeepsRequest running.old running.new }
     ensures goes { result ≢ Turn.Waits }
-    ensures rooms { HasRoomsAfter result shared.new (Hold.Hand hand.new) running.new }
+    ensures rooms { HasRoomsAfter result shared.new (Reservation.Hand hand.new) running.new }
     ensures rest { (actor : ℕ) → LeavesRest actor (plan.ino ∷ []) shared.old shared.new }
 {
     let UnlinkPlan { ino, walk } = plan;

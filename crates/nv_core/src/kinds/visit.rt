@@ -11,12 +11,12 @@ ghost use Rattle.nv_machine.specs.Sequence.{nothing_looked};
 ghost use Rattle.nv_machine.specs.Step.{handle_at, visit_grows};
 ghost use Rattle.nv_machine.specs.World.{empty_hand, owner_at};
 ghost use Rattle.nv_core.specs.Rooms.{HasRooms, HasRoomsAfter};
-ghost use Rattle.nv_core.specs.Shown.{Told, shared_of, shown, slots_in, turn_of};
+ghost use Rattle.nv_core.specs.Shown.{GhostCall, shared_of, shown, slots_in, turn_of};
 ghost use Rattle.nv_core.specs.Visits.{HasOwnBytes, IsFoundBy};
-ghost use Rattle.nv_core.specs.Told.{IsEither, IsToldOf, IsVisit, IsVisitOf};
+ghost use Rattle.nv_core.specs.GhostCalls.{IsEither, IsGhostCallOf, IsVisit, IsVisitOf};
 
-use crate::hold::Hold;
-use crate::job::{Job, visited};
+use crate::request::{Request, visited};
+use crate::reservation::Reservation;
 use crate::running::Running;
 use crate::shared::Shared;
 use crate::turn::Turn;
@@ -28,10 +28,10 @@ use std::mem;
 
 /// Reads one inode, or waits for its lock.
 pub(crate) fn visit(shared: &Shared, running: &mut Running) -> Turn
-    requires visit { IsVisitOf running.old.job }
+    requires visit { IsVisitOf running.old.request }
     requires slots { slots_in running.old.slots ≡ [] }
     requires own { (ino : ℕ) → HasOwnBytes (shared_of shared.now) ino }
-    ensures turn { (told : Told) → IsToldOf running.old told
+    ensures turn { (told : GhostCall) → IsGhostCallOf running.old told
         → let block = shared.now.geometry.numbers.block in let s = shared_of shared.now in
         let c = told.call in let r = shown told running.old in
         IsEither (λ granted. visit_turn (owner_at s (handle_at (handles nothing_looked c) 0).ino)
@@ -40,17 +40,17 @@ pub(crate) fn visit(shared: &Shared, running: &mut Running) -> Turn
         (turn_of result s empty_hand (shown told running.new)) }
     ensures ends { result ≢ Turn.Moves }
     ensures waits { result ≡ Turn.Waits → running.new ≡ running.old }
-    ensures rooms { (hand : Hand) → HasRooms shared.now (Hold.Hand hand) running.old
-        → HasRoomsAfter result shared.now (Hold.Hand hand) running.new }
+    ensures rooms { (hand : Hand) → HasRooms shared.now (Reservation.Hand hand) running.old
+        → HasRoomsAfter result shared.now (Reservation.Hand hand) running.new }
 {
-    let Job::Visit(call) = &running.job else {
+    let Request::Visit(call) = &running.request else {
         unreachable!()
     };
     let ino = visited(call).ino;
     if shared.is_locked(ino) {
         return Turn::Waits;
     }
-    let Job::Visit(call) = mem::replace(&mut running.job, Job::Given) else {
+    let Request::Visit(call) = mem::replace(&mut running.request, Request::Given) else {
         unreachable!()
     };
     Turn::Ends(found(shared, ino, call))

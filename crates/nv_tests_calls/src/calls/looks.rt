@@ -6,7 +6,7 @@ use super::says::{Says, update};
 use crate::compare::{holds_for, same, same_for};
 use Says::{Create, Mkdir, Rename, Rmdir, Unlink};
 use nv_base::{Fault, Ino};
-use nv_calls::{Looked, Update, found, is_as_looked, laws, look, look_all, place_in};
+use nv_calls::{LookupResult, Update, found, is_as_looked, laws, look, look_all, place_in};
 use nv_scenes::handle;
 use std::process::Abort;
 use std::test::Fail;
@@ -33,7 +33,7 @@ fn looks_find_what_names_lead_to(rt: HostRuntime) -> Result<(), Fail> {
     let nodes = known(rt.alloc())?;
     for row in 0..LOOKS.len() {
         let (says, first, second) = LOOKS[row];
-        let wanted = Looked {
+        let wanted = LookupResult {
             first: first.map(handle),
             second: second.map(handle),
         };
@@ -42,10 +42,10 @@ fn looks_find_what_names_lead_to(rt: HostRuntime) -> Result<(), Fail> {
     Ok(())
 }
 
-fn is_found(rt: &impl Abort, nodes: &Known, row: usize, call: &Update, wanted: Looked) {
+fn is_found(rt: &impl Abort, nodes: &Known, row: usize, call: &Update, wanted: LookupResult) {
     same_for(rt, &row, look_all(nodes, call), wanted);
     holds_for(rt, row, is_as_looked(nodes, &wanted, call));
-    let other = Looked {
+    let other = LookupResult {
         first: Some(handle(8)),
         second: wanted.second,
     };

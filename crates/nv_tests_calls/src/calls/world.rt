@@ -8,8 +8,8 @@ use super::says::{Says, update};
 use crate::compare::same_for;
 use nv_base::{BlockNo, Epoch, Fault, Handle, Ino, Items};
 use nv_calls::{
-    Plan, Planned, PlannedItems, Taken, Update, blocks_wanted, check, ends_in_page, plan_items,
-    plan_of, runs_of,
+    Allocation, InodePlan, InodePlans, Plan, Update, blocks_wanted, check, ends_in_page,
+    plan_items, plan_of, runs_of,
 };
 use nv_entry::{Entry, Item, When, node_when, page_source};
 use nv_scenes::logs::{Device, Says as LogSays, log_of};
@@ -119,7 +119,7 @@ impl World {
         alloc: Global,
         call: &Update,
         blocks: &[u32],
-    ) -> Result<PlannedItems, Fail> {
+    ) -> Result<InodePlans, Fail> {
         let block = self.block;
         assert!(rt; 0 < block && block <= 4_096);
         assert!(rt; blocks.len() < 100);
@@ -130,7 +130,7 @@ impl World {
         let wanted = blocks_wanted(block, &self.nodes, present, call);
         assert!(rt; wanted == blocks.len() as u64);
         let numbers = numbers(alloc, blocks)?;
-        let taken = Taken {
+        let taken = Allocation {
             made: handle(self.logs.len() as u64),
             runs: Items::from_vec(runs_of(alloc, &numbers)?),
             present,
@@ -181,12 +181,12 @@ impl World {
     }
 
     /// Appends what is planned, as one commit.
-    fn append(&mut self, alloc: Global, planned: PlannedItems, epoch: u64) -> Result<(), Fail> {
+    fn append(&mut self, alloc: Global, planned: InodePlans, epoch: u64) -> Result<(), Fail> {
         self.commit = self.commit.saturating_add(1);
         let planned = planned.into_vec();
         let places = places_by_hand(alloc, &planned)?;
         for (p, place) in planned.into_iter().zip(places) {
-            let Planned { handle, items } = p;
+            let InodePlan { handle, items } = p;
             self.append_items(alloc, handle.ino, epoch, place, items.into_vec())?;
         }
         Ok(())
@@ -227,7 +227,7 @@ fn of_a_check(found: Result<(), Fault>) -> Outcome {
 }
 
 /// The place of the first item of each inode in their commit.
-fn places_by_hand(alloc: Global, planned: &[Planned]) -> Result<Vec<u32>, Fail> {
+fn places_by_hand(alloc: Global, planned: &[InodePlan]) -> Result<Vec<u32>, Fail> {
     let mut places = Vec::new(alloc);
     for p in planned {
         places.push(place_by_hand(planned, p.handle.ino))?;
@@ -236,7 +236,7 @@ fn places_by_hand(alloc: Global, planned: &[Planned]) -> Result<Vec<u32>, Fail> 
 }
 
 /// How many items are planned for inodes of lower numbers.
-fn place_by_hand(planned: &[Planned], ino: Ino) -> u32 {
+fn place_by_hand(planned: &[InodePlan], ino: Ino) -> u32 {
     let mut place = 0u32;
     for p in planned {
         if p.handle.ino < ino {

@@ -3,7 +3,7 @@ ghost use Rattle.std.specs.Prelude.{◌≤◌};
 ghost use Rattle.std.specs.Vec.{vec_capacity};
 
 use crate::compare::same;
-use nv_script::feed::{Feed, MAX_LINE_BYTES, Taken};
+use nv_script::feed::{Feed, LineResult, MAX_LINE_BYTES};
 use nv_script::{ReadCounter, ReadFailed};
 use std::alloc::{AllocError, Global};
 use std::io;
@@ -32,7 +32,7 @@ impl Lines {
         &mut self,
         rt: &impl Abort,
         reader: &mut R,
-        taken: Result<Taken, ReadFailed>,
+        taken: Result<LineResult, ReadFailed>,
         want: &[u8],
     ) {
         let mut reader = ReadCounter::new(reader);
@@ -43,13 +43,13 @@ impl Lines {
 }
 
 /// How the lines of `one`, nothing, `two` and `rest` are taken.
-const TAKEN: [(Taken, &[u8]); 6] = [
-    (Taken::Line, b"one"),
-    (Taken::Line, b""),
-    (Taken::Line, b"two\r"),
-    (Taken::Unended, b"rest"),
-    (Taken::End, b""),
-    (Taken::End, b""),
+const TAKEN: [(LineResult, &[u8]); 6] = [
+    (LineResult::Line, b"one"),
+    (LineResult::Line, b""),
+    (LineResult::Line, b"two\r"),
+    (LineResult::Unended, b"rest"),
+    (LineResult::End, b""),
+    (LineResult::End, b""),
 ];
 
 #[test]
@@ -60,8 +60,8 @@ fn lines_and_ends(rt: HostRuntime) -> Result<(), Fail> {
         lines.take(&rt, &mut reader, Ok(*taken), want);
     }
     let mut last_ended = b"a\n".as_slice();
-    lines.take(&rt, &mut last_ended, Ok(Taken::Line), b"a");
-    lines.take(&rt, &mut last_ended, Ok(Taken::End), b"");
+    lines.take(&rt, &mut last_ended, Ok(LineResult::Line), b"a");
+    lines.take(&rt, &mut last_ended, Ok(LineResult::End), b"");
     Ok(())
 }
 
@@ -75,11 +75,11 @@ fn longest_lines(rt: HostRuntime) -> Result<(), Fail> {
 }
 
 /// What stands behind the longest line, and how that line is taken.
-const TAILS: [(&[u8], Taken); 4] = [
-    (b"\n", Taken::Line),
-    (b"", Taken::Unended),
-    (b"b", Taken::Long),
-    (b"b\n", Taken::Long),
+const TAILS: [(&[u8], LineResult); 4] = [
+    (b"\n", LineResult::Line),
+    (b"", LineResult::Unended),
+    (b"b", LineResult::Long),
+    (b"b\n", LineResult::Long),
 ];
 
 fn takes_longest(
@@ -87,7 +87,7 @@ fn takes_longest(
     alloc: Global,
     longest: &[u8],
     tail: &[u8],
-    taken: Taken,
+    taken: LineResult,
 ) -> Result<(), Fail> {
     let mut text = Vec::from_slice(alloc, longest)?;
     text.extend_from_slice(tail)?;
@@ -108,10 +108,10 @@ fn lines_over_many_chunks(rt: HostRuntime) -> Result<(), Fail> {
     let mut reader = text.as_slice();
     let mut lines = Lines::new(rt.alloc())?;
     for _ in 0..200 {
-        lines.take(&rt, &mut reader, Ok(Taken::Line), &long);
-        lines.take(&rt, &mut reader, Ok(Taken::Line), b"");
+        lines.take(&rt, &mut reader, Ok(LineResult::Line), &long);
+        lines.take(&rt, &mut reader, Ok(LineResult::Line), b"");
     }
-    lines.take(&rt, &mut reader, Ok(Taken::End), b"");
+    lines.take(&rt, &mut reader, Ok(LineResult::End), b"");
     Ok(())
 }
 
@@ -142,7 +142,7 @@ fn failed_read(rt: HostRuntime) -> Result<(), Fail> {
     let mut lines = Lines::new(rt.alloc())?;
     let mut reader = Faltering { reads: 0 };
     lines.take(&rt, &mut reader, Err(ReadFailed), b"abc");
-    lines.take(&rt, &mut reader, Ok(Taken::Line), b"d");
-    lines.take(&rt, &mut reader, Ok(Taken::End), b"");
+    lines.take(&rt, &mut reader, Ok(LineResult::Line), b"d");
+    lines.take(&rt, &mut reader, Ok(LineResult::End), b"");
     Ok(())
 }

@@ -16,7 +16,7 @@ use nv_base::limits::NUMBER;
 use nv_base::{EntryId, Epoch};
 use nv_cell::laws::ready_cells_can_publish;
 use nv_cell::{InodeCell, KilledPart, Stat};
-use nv_entry::{Entry, Item, Key, Run};
+use nv_entry::{BlockRun, Entry, Item, Key};
 use std::process::Abort;
 
 /// The id of a first entry of a commit, and the epoch.
@@ -119,7 +119,7 @@ fn has_blocks(queue: &BlockQueue, item: &Item) -> bool
     }
 }
 
-fn has_run(queue: &BlockQueue, run: Run) -> bool
+fn has_run(queue: &BlockQueue, run: BlockRun) -> bool
     ensures { IsTrue result
         → map number_of (take run.len queue.now.blocks) ≡ range_with_len run.start run.len }
 {

@@ -199,7 +199,7 @@ fn marks_are(rt: &impl Abort, cell: &InodeCell, retention: &Retention<'_>)
     ensures { AreMarksOf (retention_of retention.now) cell.now.state }
 {
     assert!(rt; retention.block == cell.block_bytes());
-    cell.known();
+    cell.use_invariant();
     let log = cell.log().log();
     for place in 0..log.len() {
         assert!(rt; place < cell.tail());

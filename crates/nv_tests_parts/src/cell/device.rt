@@ -68,14 +68,14 @@ impl Device {
     pub fn give_pages(&mut self, rt: &impl Abort, alloc: Global, blocks: Vec<Block>) {
         let mut pages = ChainPages::new(alloc);
         pages.put(blocks);
-        pages.give_home(&mut self.list);
+        pages.give_blocks(&mut self.list);
         same(rt, pages.len(), 0);
         pages.dismantle();
     }
 
     /// Gives the blocks of a queue back.
     pub fn give_queue(&mut self, rt: &impl Abort, mut queue: BlockQueue) {
-        queue.give_home(&mut self.list);
+        queue.give_blocks(&mut self.list);
         same(rt, queue.len(), 0);
         queue.dismantle();
     }
@@ -92,7 +92,7 @@ impl Device {
 
     /// Gives all blocks of a hand back.
     pub fn give_hand(&mut self, rt: &impl Abort, mut hand: Hand) {
-        hand.give_home(&mut self.list);
+        hand.give_blocks(&mut self.list);
         same(rt, hand.is_empty(), true);
         hand.dismantle();
     }

@@ -3,7 +3,7 @@
 use crate::compare::push;
 use crate::device::name;
 use nv_base::{BlockNo, Kind, Mode};
-use nv_entry::{Item, Run};
+use nv_entry::{BlockRun, Item};
 use nv_scenes::{handle, handle_of};
 use std::alloc::Global;
 use std::process::Abort;
@@ -73,7 +73,7 @@ fn begun(rt: &impl Abort, kind: Kind, bits: u16) -> Item {
 fn written(rt: &impl Abort, first: u32, start: u64, text: &[u8], size: u64) -> Item {
     assert!(rt; start < 1_000 && text.len() < 1_000);
     let len = (text.len() / 4) as u32;
-    let run = Run {
+    let run = BlockRun {
         start: BlockNo::new(start),
         len,
     };

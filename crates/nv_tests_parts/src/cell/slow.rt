@@ -4,7 +4,7 @@ use super::device::BLOCK;
 use super::entries::Says;
 use crate::compare::{push, same};
 use nv_base::{BlockNo, EntryId, Epoch, Fault};
-use nv_cell::{KilledPart, Mark, PageCounts};
+use nv_cell::{KilledPart, LogPageCounts, Mark};
 use nv_entry::{
     BlockBytes, Entry, Item, NodeCopy, Part, PartId, When, first_cover, live, node_when,
 };
@@ -169,10 +169,10 @@ impl SlowCell {
     }
 
     /// How many entries of a page of four have a current part, and how many one that is not out.
-    pub fn counts(&self, page: usize) -> PageCounts {
+    pub fn counts(&self, page: usize) -> LogPageCounts {
         let start = page.saturating_mul(4).min(self.log.len());
         let end = start.saturating_add(4).min(self.log.len());
-        PageCounts {
+        LogPageCounts {
             live: live(BLOCK, &self.log[start..], end - start),
             valid: self.valid(start, end),
         }

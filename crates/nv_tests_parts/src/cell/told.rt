@@ -3,7 +3,7 @@
 use super::device::BLOCK;
 use crate::compare::{refused_memory, same, same_for};
 use nv_base::{Bytes, Fault, Gen};
-use nv_cell::{InodeCell, PageCounts, Stat};
+use nv_cell::{InodeCell, LogPageCounts, Stat};
 use nv_entry::NameList;
 use nv_scenes::handle;
 use std::process::Abort;
@@ -57,7 +57,7 @@ pub fn has_names(rt: &impl Abort, cell: &InodeCell, want: &[(&[u8], u64)]) {
 /// The live and the valid entries of each page.
 pub fn has_counts(rt: &impl Abort, cell: &InodeCell, want: &[(usize, usize)]) {
     for (page, (live, valid)) in want.iter().enumerate() {
-        let counts = PageCounts {
+        let counts = LogPageCounts {
             live: *live,
             valid: *valid,
         };
@@ -66,7 +66,7 @@ pub fn has_counts(rt: &impl Abort, cell: &InodeCell, want: &[(usize, usize)]) {
     same(
         rt,
         cell.counts(want.len()),
-        PageCounts { live: 0, valid: 0 },
+        LogPageCounts { live: 0, valid: 0 },
     );
 }
 
@@ -84,7 +84,7 @@ pub fn tells(rt: &impl Abort, cell: &InodeCell, want: Option<Stat>) {
 
 /// Whether it is gone, keeps nothing, and is withheld; its generation and version.
 pub fn is_slot(rt: &impl Abort, cell: &InodeCell, is: [bool; 3], generation: u64, version: u64) {
-    cell.known();
+    cell.use_invariant();
     let found = [cell.is_gone(), cell.keeps_nothing(), cell.is_withheld()];
     same(rt, found, is);
     same(rt, cell.generation(), Gen::new(generation));

@@ -14,7 +14,7 @@ ghost use Rattle.nv_entry.specs.Sound.{Gives, HasText, HaveText, IsSound, Makes,
 ghost use Rattle.nv_entry.specs.Stored.{nothing, stored, stored_after};
 ghost use Rattle.nv_entry.specs.declared.item.Entry.{Entry};
 ghost use Rattle.nv_entry.specs.declared.item.Item.TheVariants.{Init, SetMode, SetSize};
-ghost use Rattle.nv_entry.specs.declared.item.Run.{Run};
+ghost use Rattle.nv_entry.specs.declared.item.BlockRun.{BlockRun};
 ghost use Rattle.nv_entry.specs.declared.node.NodeCopy.{NodeCopy};
 
 use nv_entry::stored::{
@@ -78,7 +78,7 @@ fn a_first_item_is_lawful_alone()
 }
 
 fn written_pages_lie_below_the_size()
-    ensures { (bytes : ℕ → List ℕ) (block offset : ℕ) (text : List ℕ) (run : Run) (node : NodeCopy)
+    ensures { (bytes : ℕ → List ℕ) (block offset : ℕ) (text : List ℕ) (run : BlockRun) (node : NodeCopy)
         → 0 < block → 0 < length text → offset + length text ≤ FILE_PAGES * block
         → node.kind ≡ File → length node.bytes ≡ node.size → node.size ≤ FILE_PAGES * block
         → HasText bytes block offset text node.bytes run
@@ -89,7 +89,7 @@ fn written_pages_lie_below_the_size()
 
 fn a_write_in_two_runs_is_sound()
     ensures { (bytes : ℕ → List ℕ) (block offset : ℕ) (text : List ℕ) (log : List Entry)
-        (first second : Entry) (a b : Run) (node : NodeCopy)
+        (first second : Entry) (a b : BlockRun) (node : NodeCopy)
         → 0 < block → 0 < length text → offset + length text ≤ FILE_PAGES * block
         → Gives bytes block log (Some node) → node.kind ≡ File
         → HaveText bytes block offset text node.bytes (blocks_of (a ∷ b ∷ []))

@@ -35,7 +35,7 @@ enum When {
 
 /// What a visit finds.
 #[derive(Clone, Copy, Debug)]
-enum Found {
+enum VisitResult {
     Nothing,
     /// Its mode.
     Dir(u16),
@@ -44,7 +44,7 @@ enum Found {
 }
 
 /// The inode and the generation that are wanted, the path, and what is found.
-type Visit = ((u64, u64), &'static [&'static str], Found);
+type Visit = ((u64, u64), &'static [&'static str], VisitResult);
 
 #[derive(Clone, Copy)]
 struct World {
@@ -58,12 +58,12 @@ const NOW: When = When::Now(NONE_NOTED);
 const NONE_NOTED: &[Option<usize>; 3] = &[None, None, None];
 
 const BEFORE_THE_UNLINK: &[Visit] = &[
-    ((0, 1), &[], Found::Dir(493)),
-    ((1, 1), &["d"], Found::Dir(493)),
-    ((2, 1), &["d", "x"], Found::Text(420, b"")),
+    ((0, 1), &[], VisitResult::Dir(493)),
+    ((1, 1), &["d"], VisitResult::Dir(493)),
+    ((2, 1), &["d", "x"], VisitResult::Text(420, b"")),
 ];
 
-const THE_ROOT_ALONE: &[Visit] = &[((0, 1), &[], Found::Dir(493))];
+const THE_ROOT_ALONE: &[Visit] = &[((0, 1), &[], VisitResult::Dir(493))];
 
 /// A file in a directory; after a snapshot the file is unlinked, and then the directory is removed.
 const READER_SEES_THE_OLD_TREE: World = World {
@@ -87,7 +87,7 @@ const READER_SEES_THE_OLD_TREE: World = World {
         },
     ],
     trees: &[
-        (When::At(0), &[((0, 1), &[], Found::Nothing)]),
+        (When::At(0), &[((0, 1), &[], VisitResult::Nothing)]),
         (When::At(1), BEFORE_THE_UNLINK),
         (When::At(2), THE_ROOT_ALONE),
         (NOW, THE_ROOT_ALONE),
@@ -95,8 +95,8 @@ const READER_SEES_THE_OLD_TREE: World = World {
         (
             When::Now(&[Some(2), Some(3), None]),
             &[
-                ((0, 1), &[], Found::Dir(493)),
-                ((1, 1), &["d"], Found::Dir(493)),
+                ((0, 1), &[], VisitResult::Dir(493)),
+                ((1, 1), &["d"], VisitResult::Dir(493)),
             ],
         ),
         (When::Now(&[Some(2), Some(2), Some(1)]), BEFORE_THE_UNLINK),
@@ -136,43 +136,43 @@ const STALE_HANDLES: World = World {
         (
             When::At(1),
             &[
-                ((0, 1), &[], Found::Dir(493)),
-                ((1, 1), &["old"], Found::Nothing),
-                ((1, 2), &["new"], Found::Nothing),
-                ((2, 2), &["next"], Found::Nothing),
-                ((2, 1), &["f"], Found::Text(420, b"abcd")),
-                ((3, 1), &["past"], Found::Nothing),
+                ((0, 1), &[], VisitResult::Dir(493)),
+                ((1, 1), &["old"], VisitResult::Nothing),
+                ((1, 2), &["new"], VisitResult::Nothing),
+                ((2, 2), &["next"], VisitResult::Nothing),
+                ((2, 1), &["f"], VisitResult::Text(420, b"abcd")),
+                ((3, 1), &["past"], VisitResult::Nothing),
             ],
         ),
         (
             When::At(2),
             &[
-                ((0, 1), &[], Found::Dir(493)),
-                ((1, 1), &["old"], Found::Nothing),
-                ((1, 2), &["new"], Found::Text(420, b"here")),
-                ((2, 2), &["next"], Found::Nothing),
-                ((2, 1), &["f"], Found::Text(384, b"wxy")),
-                ((3, 1), &["past"], Found::Nothing),
+                ((0, 1), &[], VisitResult::Dir(493)),
+                ((1, 1), &["old"], VisitResult::Nothing),
+                ((1, 2), &["new"], VisitResult::Text(420, b"here")),
+                ((2, 2), &["next"], VisitResult::Nothing),
+                ((2, 1), &["f"], VisitResult::Text(384, b"wxy")),
+                ((3, 1), &["past"], VisitResult::Nothing),
             ],
         ),
         (
             When::Now(&[Some(4), Some(1), Some(3)]),
             &[
-                ((0, 1), &[], Found::Dir(493)),
-                ((1, 1), &["old"], Found::Nothing),
-                ((1, 2), &["new"], Found::Text(420, b"")),
-                ((2, 2), &["next"], Found::Nothing),
+                ((0, 1), &[], VisitResult::Dir(493)),
+                ((1, 1), &["old"], VisitResult::Nothing),
+                ((1, 2), &["new"], VisitResult::Text(420, b"")),
+                ((2, 2), &["next"], VisitResult::Nothing),
             ],
         ),
         (
             When::Now(&[None, None, Some(3)]),
             &[
-                ((0, 1), &[], Found::Dir(493)),
-                ((1, 1), &["old"], Found::Nothing),
-                ((1, 2), &["new"], Found::Text(420, b"here")),
-                ((2, 2), &["next"], Found::Nothing),
-                ((2, 1), &["f"], Found::Text(384, b"abcd")),
-                ((3, 1), &["past"], Found::Nothing),
+                ((0, 1), &[], VisitResult::Dir(493)),
+                ((1, 1), &["old"], VisitResult::Nothing),
+                ((1, 2), &["new"], VisitResult::Text(420, b"here")),
+                ((2, 2), &["next"], VisitResult::Nothing),
+                ((2, 1), &["f"], VisitResult::Text(384, b"abcd")),
+                ((3, 1), &["past"], VisitResult::Nothing),
             ],
         ),
     ],
@@ -276,9 +276,9 @@ fn next_node(
 fn is_found(rt: &impl Abort, row: &Visit, given: Option<TreeNode>) {
     let (_, _, found) = *row;
     match (given, found) {
-        (None, Found::Nothing) => {}
-        (Some(given), Found::Dir(mode)) => is_given(rt, row, &given, (Kind::Dir, mode), b""),
-        (Some(given), Found::Text(mode, text)) => {
+        (None, VisitResult::Nothing) => {}
+        (Some(given), VisitResult::Dir(mode)) => is_given(rt, row, &given, (Kind::Dir, mode), b""),
+        (Some(given), VisitResult::Text(mode, text)) => {
             is_given(rt, row, &given, (Kind::File, mode), text);
         }
         (_, _) => panic!(rt; "{row:?} is wanted"),

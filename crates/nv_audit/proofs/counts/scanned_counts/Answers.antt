@@ -7,7 +7,7 @@ use Rattle.nv_entry.proofs.Steps.{rest_from}
 use Rattle.nv_log.specs.Chain.{ChainState, end_of, log, start_of}
 use Rattle.nv_cell.specs.Cell.{log_of}
 use Rattle.nv_cell.specs.Retained.{published_on}
-use Rattle.nv_cell.specs.declared.tally.PageCounts.{PageCounts}
+use Rattle.nv_cell.specs.declared.tally.LogPageCounts.{LogPageCounts}
 use Rattle.nv_audit.proofs.PageEntries.{published_is}
 use Rattle.nv_audit.proofs.counts.scanned_counts.Goals as goal
 
@@ -25,11 +25,11 @@ returns c =
     let end : c.min.result ≡ min (end_of state.chain page) (length (log_of state)) =
     c.min.ensures ∙ ap₂ min (c.page_end.ensures.value ∙ ap (λ (x : ChainState). end_of x page) chain_is) (ap length es_is) in
     let count : c.min.result - c.min-start.result ≡ published_on state page =
-    ap₂ (λ (a b : ℕ). a - b) end start ∙ sym (published_is state page c.known.ensures.chain c.requires) in
+    ap₂ (λ (a b : ℕ). a - b) end start ∙ sym (published_is state page c.use_invariant.ensures.chain c.requires) in
     let from : drop c.min-start.result es ≡ drop (start_of state.chain page) (log_of state) =
     ap₂ (λ (k : ℕ) (xs : List Entry). drop k xs) start es_is ∙ drop_min (start_of state.chain page) (log_of state) in
     let live = rw (rest_from es c.min-start.result) at c.live.ensures in
     let valid = rw (rest_from es c.min-start.result) at c.valid.ensures in
-    ap₂ (λ (a b : ℕ). let counts : PageCounts = record { live = a; valid = b } in counts)
+    ap₂ (λ (a b : ℕ). let counts : LogPageCounts = record { live = a; valid = b } in counts)
     (live ∙ ap₂ (λ (n : ℕ) (xs : List Entry). live_of r.block n xs) count from)
     (valid ∙ ap₂ (λ (n : ℕ) (xs : List Entry). valid_of r n xs) count from)

@@ -1,7 +1,7 @@
 use Rattle.std.proofs.Common.{◌<◌, List, Some, slice_get, drop, ◌≡◌, [], ◌∷◌, true, false, length, arith, refl, sym, ap, ◌∙◌}
 use Rattle.std.proofs.lemmas.Grind.{common_steps}
 use Rattle.nv_book.specs.declared.record.Record.{Record}
-use Rattle.nv_book.specs.declared.run.Run.{Run}
+use Rattle.nv_book.specs.declared.run.RecordRun.{RecordRun}
 use Rattle.nv_book.specs.Runs.{records_of}
 use Rattle.nv_book.proofs.Ends.{first-run}
 use Rattle.nv_book.proofs.Series.{cut-list, drop-list}
@@ -25,7 +25,7 @@ returns c =
     let front = picked _ _ _ left.0 in
     rw c.pop_front-node.ensures.rest (record { first = front.0; rest = front.1; runs = left.1; room = grind (arith, common_steps) })
 
-none-of : (rs : List Run) → (0 < length rs → false ≡ true) → records_of rs ≡ []
+none-of : (rs : List RecordRun) → (0 < length rs → false ≡ true) → records_of rs ≡ []
 unfolding records_of
 none-of [] h = refl
 none-of (r ∷ rs) h = let no : false ≡ true = h (omega arith) in cc

@@ -42,7 +42,7 @@ loop-added-preserved g c =
     let is = now_is g (goal.at.loop-added-preserved g c).After-add_page-arg-1 in
     let here : Some c.in-Some.block ≡ slice_get (drop n bs) 0 =
     c.in-Some.ensures.block ∙ ap (λ (q : QueueValue). slice_get q.blocks 0) i.pages in
-    let chain : IsChain now.state.chain = subst (λ (v : CellValue). IsChain v.state.chain) c.cell.ensures c.known.ensures.chain in
+    let chain : IsChain now.state.chain = subst (λ (v : CellValue). IsChain v.state.chain) c.cell.ensures c.use_invariant.ensures.chain in
     let p = page_added n v0 now new bs c.in-Some.block here chain is c.add_page.ensures.state c.add_page.ensures.room in
     record {
       cells = only_again cells (g.C.Cells.cells l.cells) (g.C.Cells.cells c.add_page.new.self) k (with_pages (take n bs) v0)

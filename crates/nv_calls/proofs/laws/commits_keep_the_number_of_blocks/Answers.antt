@@ -1,7 +1,7 @@
 use Rattle.nv_cell.specs.Cell.{IsCell}
 use Rattle.nv_calls.specs.Cells.{no_cell}
 use Rattle.nv_calls.proofs.BlockCounts.{commit_count}
-use Rattle.nv_calls.proofs.CellPlans.{all_at}
+use Rattle.nv_calls.proofs.CellCommits.{all_at}
 use Rattle.nv_calls.proofs.laws.commits_keep_the_number_of_blocks.Goals as goal
 
 pub returns : goal.returns

@@ -3,8 +3,8 @@ use Rattle.std.proofs.lemmas.Grind.{common_steps}
 use Rattle.nv_calls.specs.Cells.{ino_at, no_cell}
 use Rattle.nv_calls.specs.Slots.{items_for}
 use Rattle.nv_calls.specs.Prepared.{cell_plans}
-use Rattle.nv_calls.specs.Ready.{CellPlanValue}
-use Rattle.nv_calls.proofs.CellPlans.{with_items, without_items}
+use Rattle.nv_calls.specs.Ready.{CellCommitValue}
+use Rattle.nv_calls.proofs.CellCommits.{with_items, without_items}
 use Rattle.nv_calls.proofs.prepare.cell_plans.Goals.{then-not-is_empty+in_ok-push, else-not-is_empty}
 use Rattle.nv_calls.proofs.prepare.cell_plans.Goals as goal
 
@@ -22,7 +22,7 @@ loop-at-preserved g c =
             let some : 0 < length c.take_items-items.result.items = grind (arith, common_steps) in
             ap (λ v. v.items ++ cell_plans plan (at + 1) (drop (at + 1) cells)) w.plans-is
             ∙ ap (λ ps. ps ++ cell_plans plan (at + 1) (drop (at + 1) cells)) w.in_ok-push.ensures.items
-            ∙ ap (λ (p : CellPlanValue). (c.loop-at.plans.items ++ p ∷ []) ++ cell_plans plan (at + 1) (drop (at + 1) cells)) w.new.ensures
+            ∙ ap (λ (p : CellCommitValue). (c.loop-at.plans.items ++ p ∷ []) ++ cell_plans plan (at + 1) (drop (at + 1) cells)) w.new.ensures
             ∙ with_items plan at cells c.loop-at.plans.items c.take_items-items.result.items lt items c.loop-at.invariant.plans some
         | else-not-is_empty w ↦
             let none : length c.take_items-items.result.items ≡ 0 = grind (arith, common_steps) in

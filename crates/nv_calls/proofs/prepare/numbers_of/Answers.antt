@@ -2,7 +2,7 @@ use Rattle.std.proofs.Common.{◌≡◌, map, sym, ap, ◌∙◌}
 use Rattle.std.specs.VecDeque.Iter.{deque_iter_rest}
 use Rattle.std.proofs.lemmas.Iterator.Consumers.{YieldsList-end, YieldsList-from_deque}
 use Rattle.nv_alloc.specs.Block.{number_of}
-use Rattle.nv_calls.proofs.CellPlans.{map_twice}
+use Rattle.nv_calls.proofs.CellCommits.{map_twice}
 use Rattle.nv_calls.proofs.prepare.numbers_of.Goals as goal
 
 pub returns : goal.returns

@@ -1,5 +1,5 @@
 use Rattle.std.proofs.Common.{◌≡◌, ◌+◌, List, ◌∷◌, [], ◌++◌, length, arith, refl, ap, sym, ◌∙◌, subst}
-use Rattle.nv_entry.specs.declared.item.Run.{Run}
+use Rattle.nv_entry.specs.declared.item.BlockRun.{BlockRun}
 use Rattle.nv_entry.specs.Sound.{blocks_of}
 use Rattle.nv_calls.specs.Plan.{AreMaximal}
 use Rattle.nv_calls.proofs.RunLists.{blocks_of-join, count-push, maximal-longer, maximal-more}
@@ -8,7 +8,7 @@ use Rattle.nv_calls.proofs.runs.add_block.Goals as goal
 pub overflow_add-len : goal.overflow_add-len
 overflow_add-len c =
     let old : c.args.runs.now.items ≡ c.pop.new.self.items ++ c.in-Some.last ∷ [] = c.in-Some.ensures.items in
-    let count = ap (λ (runs : List Run). length (blocks_of runs)) old ∙ count-push c.pop.new.self.items c.in-Some.last in
+    let count = ap (λ (runs : List BlockRun). length (blocks_of runs)) old ∙ count-push c.pop.new.self.items c.in-Some.last in
     omega (arith, count, c.requires.few)
 
 pub returns-then-number-from-clause-blocks : goal.returns-then-number-from-clause-blocks
@@ -28,7 +28,7 @@ returns-then-number-from-clause-maximal c =
 pub returns-clause-maximal : goal.returns-clause-maximal
 returns-clause-maximal c =
     let old : c.args.runs.now.items ≡ c.pop.new.self.items ++ c.in-Some.last ∷ [] = c.in-Some.ensures.items in
-    let one : Run = c.run_of_one-2.result in
-    subst AreMaximal (sym (c.in_ok-push-4.ensures.items ∙ ap (λ (xs : List Run). xs ++ one ∷ []) c.in_ok-push-3.ensures.items))
+    let one : BlockRun = c.run_of_one-2.result in
+    subst AreMaximal (sym (c.in_ok-push-4.ensures.items ∙ ap (λ (xs : List BlockRun). xs ++ one ∷ []) c.in_ok-push-3.ensures.items))
     (maximal-more c.pop.new.self.items c.in-Some.last one (subst AreMaximal old c.requires.maximal)
     (λ e. omega (arith, e, c.if-number-from.false, c.run_of_one-2.ensures.start)) (omega (arith, c.run_of_one-2.ensures.len)))

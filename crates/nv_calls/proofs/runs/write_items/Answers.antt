@@ -1,25 +1,25 @@
 use Rattle.std.proofs.Common.{◌≡◌, ℕ, ◌+◌, ◌<◌, ◌≤◌, List, ◌∷◌, [], ◌++◌, length, take, get_or, ap, ap₂, sym, ◌∙◌, arith}
 use Rattle.nv_entry.specs.declared.item.Item.{Item}
 use Rattle.nv_entry.specs.declared.item.Item.TheVariants.{Write}
-use Rattle.nv_entry.specs.declared.item.Run.{Run}
+use Rattle.nv_entry.specs.declared.item.BlockRun.{BlockRun}
 use Rattle.nv_entry.specs.Sound.{blocks_of, write_items}
 use Rattle.std.proofs.lemmas.List.{take_more}
 use Rattle.nv_calls.proofs.RunLists.{count-push, count-take, write_items-push}
 use Rattle.nv_calls.proofs.runs.write_items.Goals as goal
 
-abbrev blocks_in : List Run → ℕ
+abbrev blocks_in : List BlockRun → ℕ
 blocks_in runs = length (blocks_of runs)
 
 -- one more run of those gone over
-taken_more : (runs : List Run) (i first size : ℕ) (run : Run) → i < length runs → run ≡ get_or runs i run
+taken_more : (runs : List BlockRun) (i first size : ℕ) (run : BlockRun) → i < length runs → run ≡ get_or runs i run
     → (write_items first (take (i + 1) runs) size
     ≡ write_items first (take i runs) size ++ Write (first + blocks_in (take i runs)) run size ∷ [])
     × (blocks_in (take (i + 1) runs) ≡ blocks_in (take i runs) + run.len)
     × (blocks_in (take i runs) + run.len ≤ blocks_in runs)
 taken_more runs i first size run lt is =
-    let more : take (i + 1) runs ≡ take i runs ++ run ∷ [] = take_more runs i run lt ∙ ap (λ (r : Run). take i runs ++ r ∷ []) (sym is) in
+    let more : take (i + 1) runs ≡ take i runs ++ run ∷ [] = take_more runs i run lt ∙ ap (λ (r : BlockRun). take i runs ++ r ∷ []) (sym is) in
     let step : blocks_in (take (i + 1) runs) ≡ blocks_in (take i runs) + run.len = ap blocks_in more ∙ count-push (take i runs) run in
-    let items = ap (λ (xs : List Run). write_items first xs size) more ∙ write_items-push first size (take i runs) run in
+    let items = ap (λ (xs : List BlockRun). write_items first xs size) more ∙ write_items-push first size (take i runs) run in
     (items, step, omega (arith, step, count-take runs (i + 1)))
 
 pub overflow_add-page : goal.overflow_add-page

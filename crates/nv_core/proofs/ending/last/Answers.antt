@@ -7,7 +7,7 @@ pub returns-in-Answers : goal.returns-in-Answers
 returns-in-Answers c = record {
   turn = λ told s h owes. last_ends c.args.running.now.ending (shown told c.args.running.now) s h c.result_of.result c.in-Answers.is
       (c.result_of.ensures told owes);
-  job = record { job = refl; owed = refl };
+  request = record { request = refl; owed = refl };
   slots = λ plain. refl;
   goes = λ waits. cc;
   rooms = λ s hand call sized drains. sized;

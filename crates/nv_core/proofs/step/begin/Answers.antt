@@ -11,8 +11,8 @@ pub returns-clause-starts : goal.returns-clause-starts
 returns-clause-starts c none = (
   refl,
   refl,
-  shows_started c.args.state.now.hold c.args.shared.now c.started.result c.args.call
+  shows_started c.args.state.now.reserved c.args.shared.now c.started.result c.args.call
       (begun (beginning c.args.call) (shared_of c.args.shared.now) c.args.call)
-      (subst (λ (o : Option Running). HasActorRooms c.args.shared.now c.args.state.now.hold o) none c.requires.rooms)
+      (subst (λ (o : Option Running). HasActorRooms c.args.shared.now c.args.state.now.reserved o) none c.requires.rooms)
       c.started.ensures.shown c.started.ensures.told,
 )

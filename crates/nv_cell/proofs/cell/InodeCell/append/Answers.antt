@@ -7,7 +7,7 @@ use Rattle.nv_entry.specs.Covered.{is_covered, part_count, part_total}
 use Rattle.nv_entry.specs.Refs.{scan_ref}
 use Rattle.nv_log.specs.Chain.{ChainState, IsChain, appended as appended_chain, room_of}
 use Rattle.nv_nindex.specs.NameIndex.{HaveSameBindings}
-use Rattle.nv_cell.specs.declared.tally.PageCounts.{PageCounts}
+use Rattle.nv_cell.specs.declared.tally.LogPageCounts.{LogPageCounts}
 use Rattle.nv_cell.specs.Append.{appended, blocks_for}
 use Rattle.nv_cell.specs.Cell.{CellState, CellValue, HasBlocks}
 use Rattle.nv_cell.specs.Fields.{state_in, value_in}
@@ -55,7 +55,7 @@ invariant_of-self c =
     let log : take s.chain.tail (es ++ e ∷ []) ≡ take s.chain.tail es = log_stays s.chain.tail es e within in
     let total : part_total (es ++ e ∷ []) ≡ part_total es + part_count e = omega (arith, total_append es (e ∷ [])) in
     let more : length (es ++ e ∷ []) ≡ length es + 1 = length-append es (e ∷ []) in
-    let counts : List PageCounts = c.self.inside.marks.pages.items in
+    let counts : List LogPageCounts = c.self.inside.marks.pages.items in
     let ends : c.ends.result.now ≡ (appended_chain e s.chain).ends =
     c.ends.ensures.value ∙ ap (λ (k : ChainState). k.ends) c.append.ensures.state in
     let pages : c.count_pages.new.pages.items ≡ counts_for counts (appended_chain e s.chain).ends =

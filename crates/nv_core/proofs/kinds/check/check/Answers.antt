@@ -6,7 +6,7 @@ use Rattle.nv_core.proofs.CheckTurns.{can_end, drains, few, made_room, no_chain,
 use Rattle.nv_core.proofs.Nodes.{lent_are}
 use Rattle.nv_core.specs.Rooms.{pages_to_take}
 use Rattle.nv_core.specs.Shown.{hand_of, shared_of, shown, slots_in, turn_of}
-use Rattle.nv_core.specs.Told.{IsChangeWith, IsToldOf}
+use Rattle.nv_core.specs.GhostCalls.{IsChangeWith, IsGhostCallOf}
 use Rattle.nv_core.specs.declared.running.Running.{Running}
 use Rattle.nv_core.specs.declared.shared.Shared.{Shared}
 use Rattle.nv_core.proofs.kinds.check.check.Goals as goal
@@ -36,7 +36,7 @@ returns-in-Err-clause-turn c told is =
     c.args.running.now.slots.rising)
     c.ending_of.ensures.same refl refl (no_chain c.args.hand.now c.requires.can.empty) c.in_default.is c.wanted_by-wanted.ensures.wanted)
     (λ nil. subst (λ (x : Shared). IsChangeWith (λ u. c.most_pages-pages.result ≡ pages_to_take x
-    (slots_in c.note_made.new.running.slots) c.args.hand.now u) c.note_made.new.running.job)
+    (slots_in c.note_made.new.running.slots) c.args.hand.now u) c.note_made.new.running.request)
     (c.wanted_by-wanted.ensures.same ∙ c.ending_of.ensures.same) (c.most_pages-pages.ensures.none nil))
     c.in-Err.ensures.some (c.refuse.ensures.turn told))
 
@@ -60,7 +60,7 @@ returns-clause-turn c told is =
     c.ending_of.new.shared c.most_pages-pages.new.shared (hand_of c.make_room.new.hand) c.wanted_by-wanted.result _
     c.ending_of.ensures.same (c.most_pages-pages.ensures.same ∙ c.wanted_by-wanted.ensures.same ∙ c.ending_of.ensures.same) (ap hand_of c.make_room.ensures.hand)
     c.in_default.is c.wanted_by-wanted.ensures.wanted
-    (c.want_blocks.ensures.turn told (subst (λ (x : Running). IsToldOf x told) (sym c.note_made.ensures) is))
+    (c.want_blocks.ensures.turn told (subst (λ (x : Running). IsGhostCallOf x told) (sym c.note_made.ensures) is))
     ∙ ap (λ (x : Shared). turn_of c.want_blocks.result (shared_of x) (hand_of c.make_room.new.hand) (shown told c.want_blocks.new.running))
     (sym c.want_blocks.ensures.same))
 
@@ -98,4 +98,4 @@ pub end-requires-clause-drains : goal.end-requires-clause-drains
 end-requires-clause-drains c =
     drains c.args.shared.now c.args.hand.now c.args.running.now c.note_made.new.running c.is_some.result c.ending_of.result
     c.note_made.ensures (c.is_some.ensures ∙ ap is_some c.ino.ensures) c.requires.change c.requires.can c.ending_of.ensures.ends
-    c.in-Some.ending c.note_made.new.running.job c.args.hand.now c.in-Some.is
+    c.in-Some.ending c.note_made.new.running.request c.args.hand.now c.in-Some.is

@@ -21,7 +21,7 @@ returns-clause-ends c =
     ends_over size (nodes_in (lent_cells slots cells)) before c.args.has_number u in
     let block = c.args.shared.now.geometry.numbers.block in
     by_with (λ (u : Update). option_map ending_of c.ending_in.result ≡ over block c.args.shared.now.cells.items u)
-    c.args.running.now.job c.plan.result.now
+    c.args.running.now.request c.plan.result.now
     (c.ending_in.ensures.ends
     ∙ ap₂ (λ (size : ℕ) (cells : List CellValue). over size cells c.plan.result.now.update) c.block-block.ensures c.deref_mut.ensures.value)
     c.plan.ensures

@@ -16,7 +16,7 @@ returns-clause-wanted c =
     let slots = slots_in c.args.running.now.slots in
     let over = λ (size : ℕ) (cells : List CellValue) (u : Update). wanted_over size (lent_cells slots cells) u in
     by_with (λ (u : Update). c.wanted_in.result ≡ over c.args.shared.now.geometry.numbers.block c.args.shared.now.cells.items u)
-    c.args.running.now.job c.plan.result.now
+    c.args.running.now.request c.plan.result.now
     (c.wanted_in.ensures.wanted
     ∙ ap₂ (λ (size : ℕ) (cells : List CellValue). over size cells c.plan.result.now.update) c.block-block.ensures c.deref_mut.ensures.value)
     c.plan.ensures

@@ -9,7 +9,7 @@ use Rattle.nv_base.specs.declared.numbers.Epoch.{Epoch}
 use Rattle.nv_calls.specs.Commit.{CommitValue, stamp_of}
 use Rattle.nv_core.specs.Rooms.{IsHandOf}
 use Rattle.nv_core.specs.Shown.{slots_in}
-use Rattle.nv_core.specs.Told.{IsPlaceOf, entered}
+use Rattle.nv_core.specs.GhostCalls.{IsPlaceOf, entered}
 use Rattle.nv_core.proofs.Appends.{begin_place}
 use Rattle.nv_core.proofs.Enters.{begun_commit, entered_rooms, enters, given_ends, last_below, refuses, told_why}
 use Rattle.nv_core.proofs.Stages.{none_there}

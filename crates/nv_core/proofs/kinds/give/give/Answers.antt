@@ -18,19 +18,19 @@ list_was c = c.index_mut.ensures.value
     (omega (arith, c.requires.cpu, c.requires.home.count))
 
 hand_was : (c : goal.After-give_back-arg-1)
-    → hand_of c.give_home.new.self ≡ given c.args.cpu (shared_of c.args.shared.now) (hand_of c.args.hand.now)
+    → hand_of c.give_blocks.new.self ≡ given c.args.cpu (shared_of c.args.shared.now) (hand_of c.args.hand.now)
 hand_was c =
     let old = c.args.hand.now in
     let was = list_was c in
-    handed c.args.cpu (shared_of c.args.shared.now) old c.give_home.new.self
-    (c.give_home.ensures.data ∙ ap (λ (l : FreeBlocks). after_home l old.data) was)
-    (c.give_home.ensures.pages ∙ ap (λ (l : FreeBlocks). after_home (after_giving l old.data.blocks) old.pages) was)
-    (c.give_home.ensures.chain ∙ ap (λ (l : FreeBlocks). kept_of (after_giving l (old.data.blocks ++ old.pages.blocks)) old.chain) was)
-    c.give_home.ensures.ino
+    handed c.args.cpu (shared_of c.args.shared.now) old c.give_blocks.new.self
+    (c.give_blocks.ensures.data ∙ ap (λ (l : FreeBlocks). after_home l old.data) was)
+    (c.give_blocks.ensures.pages ∙ ap (λ (l : FreeBlocks). after_home (after_giving l old.data.blocks) old.pages) was)
+    (c.give_blocks.ensures.chain ∙ ap (λ (l : FreeBlocks). kept_of (after_giving l (old.data.blocks ++ old.pages.blocks)) old.chain) was)
+    c.give_blocks.ensures.ino
 
 took : (c : goal.After-give_back-arg-1)
-    → c.give_home.new.list ≡ after_giving (list_at (shared_of c.args.shared.now) c.args.cpu) (blocks_of c.args.hand.now)
-took c = c.give_home.ensures.given ∙ ap (λ (l : FreeBlocks). after_giving l (blocks_of c.args.hand.now)) (list_was c)
+    → c.give_blocks.new.list ≡ after_giving (list_at (shared_of c.args.shared.now) c.args.cpu) (blocks_of c.args.hand.now)
+took c = c.give_blocks.ensures.given ∙ ap (λ (l : FreeBlocks). after_giving l (blocks_of c.args.hand.now)) (list_was c)
 
 -- src/kinds/give.rt
 pub give_back-requires-clause-home : goal.give_back-requires-clause-home
@@ -53,7 +53,7 @@ give_back-requires-clause-device c =
 pub returns-clause-turn : goal.returns-clause-turn
 returns-clause-turn c told owes =
     gives c.args.shared.now.geometry.numbers c.args.cpu (shared_of c.args.shared.now) (hand_of c.args.hand.now)
-    (hand_of c.give_home.new.self)
-    c.give_home.new.list (shown told c.args.running.now) c.requires.cpu c.requires.home c.requires.sized c.requires.once c.requires.given
+    (hand_of c.give_blocks.new.self)
+    c.give_blocks.new.list (shown told c.args.running.now) c.requires.cpu c.requires.home c.requires.sized c.requires.once c.requires.given
     (hand_was c.before) (took c.before)
     ∙ c.give_back.ensures.turn told owes

@@ -5,8 +5,8 @@ use Rattle.nv_machine.specs.Kinds.{with_bytes}
 use Rattle.nv_machine.specs.Reads.{copies, plan_by}
 use Rattle.nv_machine.specs.World as machine
 use Rattle.nv_core.specs.Readied.{filled_hand}
-use Rattle.nv_core.specs.Told.{IsJobOf}
-use Rattle.nv_core.specs.declared.job.Job.{Job}
+use Rattle.nv_core.specs.GhostCalls.{IsRequestOf}
+use Rattle.nv_core.specs.declared.request.Request.{Request}
 use Rattle.nv_calls.specs.SlotCells.{lent_cells}
 use Rattle.nv_core.specs.Shown.{hand_of, shared_of, shown, slots_in}
 use Rattle.nv_core.proofs.Readies.{at_ready, filled_same, placed_ready, plan_ready, plans_ready, rooms_ready}
@@ -26,7 +26,7 @@ returns-in-Ok-clause-turn c told is =
     let slots = slots_in running.slots in let u = c.in-Change.plan.update in let text = c.in-Change.text in
     let s = shared_of shared in let r = shown told running in
     let has = at_ready shared hand running c.in-Change.plan text c.requires.next (sym c.in-Change.ensures.value) c.requires.rooms in
-    let of = subst (λ (j : Job). IsJobOf j running.owed told.call) (sym c.in-Change.ensures.value) is in
+    let of = subst (λ (j : Request). IsRequestOf j running.owed told.call) (sym c.in-Change.ensures.value) is in
     let now = lent_cells slots c.ready_of.new.shared.cells.items in
     let fill : hand_of c.in-Ok.ready.hand ≡ with_bytes shared.geometry.numbers.block s r (hand_of hand) =
     c.in-Ok.ensures.hand.is

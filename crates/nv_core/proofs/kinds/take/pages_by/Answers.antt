@@ -17,7 +17,7 @@ has : (c : goal.After-plan) → let u = c.plan.result.now.update in
 has c =
     let shared = c.args.shared.now in let slots = slots_in c.args.running.now.slots in let hand = c.args.hand.now in
     with_by (λ (u : Update). IsChecked shared slots hand c.args.running.now.looked u
-    × (length hand.«data».blocks ≡ blocks_to_take shared slots u)) c.args.running.now.job c.plan.result.now c.requires.can c.plan.ensures
+    × (length hand.«data».blocks ≡ blocks_to_take shared slots u)) c.args.running.now.request c.plan.result.now c.requires.can c.plan.ensures
 
 pub pages_in-requires-clause-can : goal.pages_in-requires-clause-can
 pages_in-requires-clause-can c =
@@ -36,7 +36,7 @@ returns-clause-same c = cells_same c.args.shared.now c.pages_in.new.cells (c.pag
 pub returns-clause-wanted : goal.returns-clause-wanted
 returns-clause-wanted c =
     let slots = slots_in c.args.running.now.slots in let u = c.plan.result.now.update in
-    by_with (λ (v : Update). c.pages_in.result ≡ pages_to_take c.args.shared.now slots c.args.hand.now v) c.args.running.now.job
+    by_with (λ (v : Update). c.pages_in.result ≡ pages_to_take c.args.shared.now slots c.args.hand.now v) c.args.running.now.request
     c.plan.result.now
     (c.pages_in.ensures.wanted ∙ ap (λ (xs : List CellValue). let lent = lent_cells slots xs in pages_wanted lent (planned_by lent
     c.args.hand.now u))

@@ -2,7 +2,7 @@ use Rattle.std.proofs.Common.{◌∙◌, ◌+◌, ◌-◌, ◌%◌, Bool, true, 
 use Rattle.nv_machine.specs.Kinds.{blocks_turn}
 use Rattle.nv_machine.specs.World.{list_at}
 use Rattle.nv_core.specs.Shown.{hand_of, shared_of, shown, turn_of}
-use Rattle.nv_core.specs.declared.hold.Hold.TheVariants as hold
+use Rattle.nv_core.specs.declared.reservation.Reservation.TheVariants as reserved
 use Rattle.nv_core.specs.declared.next.Next.TheVariants as next
 use Rattle.nv_core.specs.declared.shared.Shared.{Shared}
 use Rattle.nv_core.proofs.Takings.{asked_rooms, asked_turn, blocks_became, blocks_more, blocks_none, count_after, home_new, rooms_blocks, want_after}
@@ -66,7 +66,7 @@ returns-clause-rooms c =
     let cpu = (c.args.actor + c.args.asked) % length shared.lists.items in
     let new = c.take_from.new.shared in let after = record hand { «data» = c.take_from.new.queue } in
     let left = running.wanted - c.take_from.result in
-    asked_rooms c.ask_on.result new (hold.Hand after) c.ask_on.new.running
+    asked_rooms c.ask_on.result new (reserved.Hand after) c.ask_on.new.running
     (record running { wanted = left; next = next.TakeBlocks (c.args.asked + 1) }) c.args.asked (length new.lists.items)
     c.ask_on.ensures.more c.ask_on.ensures.rooms
     (rooms_blocks shared new hand running c.take_from.new.queue shared.geometry.numbers.blocks cpu c.args.asked (list_at

@@ -3,25 +3,25 @@ use Rattle.nv_alloc.specs.declared.hand.Hand.{Hand}
 use Rattle.nv_calls.specs.declared.update.Update.{Update}
 use Rattle.nv_machine.specs.Reads.{has_last_page, pages_wanted, plan_by}
 use Rattle.nv_core.specs.Rooms.{CanWantPages, HasItsBlocks, HasMade, IsChecked, blocks_to_take, pages_to_take}
-use Rattle.nv_core.specs.Shown.{Told, hand_of, shared_of, shown, slots_in}
-use Rattle.nv_core.specs.Told.{IsChangeWith, IsToldOf}
+use Rattle.nv_core.specs.Shown.{GhostCall, hand_of, shared_of, shown, slots_in}
+use Rattle.nv_core.specs.GhostCalls.{IsChangeWith, IsGhostCallOf}
 use Rattle.nv_core.specs.declared.running.Running.{Running}
 use Rattle.nv_core.specs.declared.shared.Shared.{Shared}
 use Rattle.nv_core.proofs.Takes.{none_wanted, over_all, rooms_next, rooms_none, some_wanted, wanted_same}
 use Rattle.nv_core.proofs.kinds.take.want_pages.Goals as goal
 
-same : (shared : Shared) (hand : Hand) (running : Running) (pages : ℕ) (told : Told) → IsToldOf running told
+same : (shared : Shared) (hand : Hand) (running : Running) (pages : ℕ) (told : GhostCall) → IsGhostCallOf running told
     → CanWantPages shared hand running
-    → IsChangeWith (λ (u : Update). pages ≡ pages_to_take shared (slots_in running.slots) hand u) running.job
+    → IsChangeWith (λ (u : Update). pages ≡ pages_to_take shared (slots_in running.slots) hand u) running.request
     → let s = shared_of shared in let r = shown told running in
     pages_wanted s r.slots (plan_by shared.geometry.numbers.block s (hand_of hand) r) ≡ pages
 same shared hand running pages told is can wanted =
     let slots = slots_in running.slots in
-    wanted_same shared slots hand running.looked running.made running.job running.owed told.call
+    wanted_same shared slots hand running.looked running.made running.request running.owed told.call
     (has_last_page shared.geometry.numbers.block (shared_of shared) told.call) pages is
     (over_all (λ (u : Update). HasMade shared slots hand running.made u × IsChecked shared slots hand running.looked u × HasItsBlocks
     shared slots hand u)
-    (λ (u : Update). HasMade shared slots hand running.made u × IsChecked shared slots hand running.looked u) running.job
+    (λ (u : Update). HasMade shared slots hand running.made u × IsChecked shared slots hand running.looked u) running.request
     (λ u h. (h.0, h.1)) can)
     wanted
 
@@ -54,4 +54,4 @@ pages_by-running-requires-clause-can c =
     over_all (λ (u : Update). HasMade shared slots hand c.args.running.now.made u × IsChecked shared slots hand c.args.running.now.looked u
     × HasItsBlocks shared slots hand u)
     (λ (u : Update). IsChecked shared slots hand c.args.running.now.looked u
-    × (length hand.«data».blocks ≡ blocks_to_take shared slots u)) c.args.running.now.job (λ u h. (h.1, h.2.blocks)) c.requires.can
+    × (length hand.«data».blocks ≡ blocks_to_take shared slots u)) c.args.running.now.request (λ u h. (h.1, h.2.blocks)) c.requires.can

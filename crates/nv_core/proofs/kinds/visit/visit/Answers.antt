@@ -8,8 +8,8 @@ use Rattle.nv_machine.specs.World.{owner_at}
 use Rattle.nv_core.proofs.Looks.{nobody}
 use Rattle.nv_core.proofs.VisitTurns.{visit_turns}
 use Rattle.nv_core.specs.Shown.{shared_of, shown}
-use Rattle.nv_core.specs.Told.{IsJobOf}
-use Rattle.nv_core.specs.declared.job.Job.{Job}
+use Rattle.nv_core.specs.GhostCalls.{IsRequestOf}
+use Rattle.nv_core.specs.declared.request.Request.{Request}
 use Rattle.nv_core.proofs.kinds.visit.visit.Goals as goal
 
 pub returns-clause-turn : goal.returns-clause-turn
@@ -19,7 +19,7 @@ returns-clause-turn c told is =
     let visit = c.in-Visit-replace.call in
     let same : c.in-Visit.call ≡ visit = cc in
     let told_is : told.call ≡ visit =
-    subst (λ (j : Job). IsJobOf j c.args.running.now.owed told.call) (sym c.in-Visit-replace.ensures.value) is in
+    subst (λ (j : Request). IsRequestOf j c.args.running.now.owed told.call) (sym c.in-Visit-replace.ensures.value) is in
     let there : c.visited-ino.result ≡ handle_at (handles nothing_looked visit) 0 =
     c.visited-ino.ensures ∙ ap (λ (x : Call). handle_at (handles nothing_looked x) 0) same in
     let free : owner_at s (handle_at (handles nothing_looked visit) 0).ino ≡ None =

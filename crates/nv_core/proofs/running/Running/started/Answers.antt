@@ -9,6 +9,6 @@ pub returns-clause-shown : goal.returns-clause-shown
 returns-clause-shown c =
     let s = shared_of c.args.shared.now in
     let many = length-map c.args.shared.now.cells.items (λ (x : CellValue). x.state) ∙ sym c.inodes.ensures in
-    let first = c.first_step-next.ensures.first s c.job_of-job.result.1 c.args.call many c.job_of-job.ensures.of in
+    let first = c.first_step-next.ensures.first s c.request_of-request.result.1 c.args.call many c.request_of-request.ensures.of in
     rw c.new.ensures (rw c.new-2.ensures (starts s c.args.call (next_of c.first_step-next.result.0)
     (slots_in c.first_step-next.result.1) first.0 first.1))

@@ -8,6 +8,6 @@ use Rattle.nv_core.proofs.world.World.format.Goals as goal
 pub invariant_of-result : goal.invariant_of-result
 invariant_of-result c =
     let g = c.args.geometry.numbers in
-    let made = world_made g c.furnish.new.shared c.furnish.new.actors.items c.args.geometry.limits
-    (ap (λ (device : Geometry). device.numbers) c.furnish.ensures.geometry) c.in-Ok.ensures.shared c.in-Ok.ensures.actors in
+    let made = world_made g c.add_parts.new.shared c.add_parts.new.actors.items c.args.geometry.limits
+    (ap (λ (device : Geometry). device.numbers) c.add_parts.ensures.geometry) c.in-Ok.ensures.shared c.in-Ok.ensures.actors in
     (formatted g, new_run g, made)

@@ -15,7 +15,7 @@ pub go_on-requires-clause-rooms : goal.go_on-requires-clause-rooms
 go_on-requires-clause-rooms c =
     let at = c.in-Some.ensures.item in
     let own = c.in-Some.state.now in
-    subst (λ (a : Actor). HasActorRooms c.self.inside.shared a.hold a.running) (sym (at.3.1 own))
+    subst (λ (a : Actor). HasActorRooms c.self.inside.shared a.reserved a.running) (sym (at.3.1 own))
     (c.self.invariant.2.rooms c.args.actor own at.3.0)
 
 pub invariant_of-self : goal.invariant_of-self

@@ -1,6 +1,0 @@
-use Rattle.nv_alloc.proofs.GivingLemmas.{AreSized-kept}
-use Rattle.nv_alloc.proofs.queue.BlockQueue.give_home.Goals as goal
-
-pub invariant_of-self : goal.invariant_of-self
-invariant_of-self c = rw c.give_home.ensures.kept
-    (AreSized-kept c.self.inside.size c.args.list.now c.self.inside.blocks.items c.self.invariant)

@@ -1,0 +1,15 @@
+//! What a call has taken.
+
+use nv_base::{Handle, Items};
+use nv_entry::BlockRun;
+
+/// What the items of a call are made with.
+#[derive(Debug, Drop)]
+pub struct Allocation {
+    /// The handle of a new inode, where the call makes one.
+    pub made: Handle,
+    /// Fresh blocks for its pages, in the order in which they were taken.
+    pub runs: Items<BlockRun>,
+    /// Whether the page is present in which a size ends.
+    pub present: bool,
+}

@@ -1,9 +1,0 @@
-use Rattle.std.proofs.Common.{subst, sym}
-use Rattle.nv_core.proofs.Bounds.{bounded}
-use Rattle.nv_core.specs.Worlds.{Shows, WorldState}
-use Rattle.nv_core.proofs.world.World.bounded.Goals as goal
-
-pub returns : goal.returns
-returns c m shows =
-    let w : WorldState = record { shared = c.self.inside.shared; actors = c.self.inside.actors.items } in
-    bounded w m c.self.invariant (subst (λ (v : WorldState). Shows v m) (sym c.self.view_is) shows)

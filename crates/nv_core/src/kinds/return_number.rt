@@ -1,0 +1,38 @@
+//! The number in the hand goes back.
+
+ghost use Rattle.std.specs.Prelude.{◌≡◌, ◌≢◌, ◌<◌, false};
+ghost use Rattle.std.specs.Option.{ForSome};
+ghost use Rattle.nv_alloc.specs.Numbers.{has};
+ghost use Rattle.nv_machine.specs.Kinds.{return_number_turn};
+ghost use Rattle.nv_core.specs.Rooms.{CanDrain, CanEnd, HasRooms, HasRoomsAfter};
+ghost use Rattle.nv_core.specs.Shown.{GhostCall, hand_of, shared_of, shown, turn_of};
+ghost use Rattle.nv_core.specs.GhostCalls.{KeepsRequest, OwesAt};
+
+use crate::ending::last;
+use crate::reservation::Reservation;
+use crate::running::Running;
+use crate::shared::Shared;
+use crate::turn::Turn;
+use nv_alloc::Hand;
+
+/// Gives the number in the hand back, which is the call's last step, or that of a record of a drain.
+pub(crate) fn return_number(shared: &mut Shared, hand: &mut Hand, running: &mut Running) -> Turn
+    requires rooms { HasRooms shared.old (Reservation.Hand hand.old) running.old }
+    requires call { CanEnd running.old running.old.ending }
+    requires drains { CanDrain running.old.ending running.old.request hand.old }
+    requires inode { ForSome hand.old.ino (λ ino. ino < shared.old.pool.inodes) }
+    requires absent { ForSome hand.old.ino (λ ino. has shared.old.pool.numbers ino ≡ false) }
+    ensures turn { (told : GhostCall) → OwesAt running.old.ending running.old told
+        → let h = hand_of hand.old in
+        return_number_turn h.ino (shared_of shared.old) h (shown told running.old)
+        ≡ turn_of result (shared_of shared.new) (hand_of hand.new) (shown told running.new) }
+    ensures request { KeepsRequest running.old running.new }
+    ensures goes { result ≢ Turn.Waits }
+    ensures rooms { HasRoomsAfter result shared.new (Reservation.Hand hand.new) running.new }
+    ensures rest { shared.new ≡ record shared.old { pool = shared.new.pool } }
+{
+    if let Some(ino) = hand.take_ino() {
+        shared.pool.give(ino);
+    }
+    last(running)
+}

@@ -1,0 +1,102 @@
+//! What a call is to do.
+
+ghost use Rattle.std.specs.Prelude.{◌≡◌, true};
+ghost use Rattle.nv_calls.specs.Locked.{handles};
+ghost use Rattle.nv_machine.specs.Sequence.{nothing_looked};
+ghost use Rattle.nv_machine.specs.Step.{handle_at};
+ghost use Rattle.nv_core.specs.Shown.{answered};
+ghost use Rattle.nv_core.specs.GhostCalls.{IsAtStart, IsRequestOf, IsVisit, is_change};
+
+use nv_base::{Bytes, Handle};
+use nv_calls::{Answer, Call, MaintenanceCall, Plan, Update};
+use std::alloc::Global;
+
+/// What a call is to do.
+#[derive(Debug, Drop)]
+pub(crate) enum Request {
+    /// It changes nodes. The text is that of a write.
+    Change(Plan, Bytes),
+    /// It reads one node.
+    Visit(Call),
+    /// It is on snapshots.
+    Maintenance(MaintenanceCall),
+    /// Its commit has it.
+    Given,
+}
+
+/// What a call that changes nodes is answered, apart from the handle of the inode that it makes.
+#[derive(Clone, Copy, Debug, PartialEq, Eq)]
+pub(crate) enum PendingAnswer {
+    Made,
+    Count(u64),
+    Nothing,
+}
+
+impl PendingAnswer {
+    /// The answer, where a new inode has this handle.
+    pub(crate) fn answer(self, made: Handle) -> Answer
+        ensures { result ≡ answered self made }
+    {
+        match self {
+            PendingAnswer::Made => Answer::Made(made),
+            PendingAnswer::Count(count) => Answer::Count(count),
+            PendingAnswer::Nothing => Answer::Nothing,
+        }
+    }
+}
+
+/// The request of a call, and what it is answered. Takes no memory.
+pub(crate) fn request_of(alloc: Global, call: Call) -> (Request, PendingAnswer)
+    ensures of { IsRequestOf result.0 result.1 call }
+    ensures kind { IsAtStart result.0 }
+{
+    let (update, owed) = match call {
+        Call::Write { file, offset, text } => return request_of_write(file, offset, text),
+        Call::Create { dir, name, mode } => (
+            Update::Create { dir, name, mode },
+            PendingAnswer::Made,
+        ),
+        Call::Mkdir { dir, name, mode } => (Update::Mkdir { dir, name, mode }, PendingAnswer::Made),
+        Call::Size { file, size } => (Update::Size { file, size }, PendingAnswer::Nothing),
+        Call::Mode { handle, mode } => (Update::Mode { handle, mode }, PendingAnswer::Nothing),
+        Call::Unlink { dir, name } => (Update::Unlink { dir, name }, PendingAnswer::Nothing),
+        Call::Rmdir { dir, name } => (Update::Rmdir { dir, name }, PendingAnswer::Nothing),
+        Call::Rename { from, old, to, new } => {
+            (
+                Update::Rename { from, old, to, new },
+                PendingAnswer::Nothing,
+            )
+        }
+        Call::Maintenance(call) => return (Request::Maintenance(call), PendingAnswer::Nothing),
+        visit => return (Request::Visit(visit), PendingAnswer::Nothing),
+    };
+    let plan = Plan { update, blocks: 0 };
+    (Request::Change(plan, Bytes::empty(alloc)), owed)
+}
+
+fn request_of_write(file: Handle, offset: u64, text: Bytes) -> (Request, PendingAnswer)
+    ensures of { IsRequestOf result.0 result.1 (Call.Write file offset text) }
+    ensures kind { is_change result.0 ≡ true }
+{
+    let count = text.len() as u64;
+    let update = Update::Write {
+        file,
+        offset,
+        count,
+    };
+    let plan = Plan { update, blocks: 0 };
+    (Request::Change(plan, text), PendingAnswer::Count(count))
+}
+
+/// The handle of the node that a visit reads.
+pub(crate) fn visited(call: &Call) -> Handle
+    requires { IsVisit call.now }
+    ensures { result ≡ handle_at (handles nothing_looked call.now) 0 }
+{
+    match call {
+        Call::Read { file, .. } => *file,
+        Call::Stat { handle } => *handle,
+        Call::List { dir } | Call::Lookup { dir, .. } => *dir,
+        _ => unreachable!(),
+    }
+}
