@@ -1,6 +1,8 @@
 -- Free lists.
 use Rattle.std.specs.Prelude.{◌≡◌, ℕ, ◌+◌, ◌<◌, ◌≤◌, ◌^◌, ◌&&◌, Bool, is_some, nat_lt, nat_le, List, [], ◌∷◌, Option, Some, None, length, map}
 use Rattle.std.specs.List.{AllByRecursion}
+use Rattle.nv_base.specs.Homes.{home_start}
+use Rattle.nv_base.specs.declared.geometry.GeometryNumbers.{GeometryNumbers}
 use Rattle.nv_alloc.specs.Block.{AreSized, BlockValue, numbers_of}
 use Rattle.nv_alloc.specs.Numbers.{IsRising}
 use Rattle.nv_alloc.specs.Places.{present}
@@ -22,6 +24,13 @@ pub record IsFreeList (list : FreeBlocks) : Type 0 where
   pub from_start : AllByRecursion (λ n. list.start ≤ n) (numbers_of list.blocks)
   pub below_end : AllByRecursion (λ n. n < list.end) (numbers_of list.blocks)
   pub sized : AreSized list.size list.blocks
+
+-- the free list of a CPU: in rising order, of blocks at home there
+pub record IsHomeList (g : GeometryNumbers) (cpu : ℕ) (list : FreeBlocks) : Type 0 where
+  pub start : list.start ≡ home_start g.blocks g.cpus cpu
+  pub end : list.end ≡ home_start g.blocks g.cpus (cpu + 1)
+  pub size : list.size ≡ g.block
+  pub free : IsFreeList list
 
 -- each block is in the slot of its number, counted from `start`
 abbrev pub ArePlaced : ℕ → List (Option BlockValue) → Type 0

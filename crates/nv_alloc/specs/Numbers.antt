@@ -1,5 +1,5 @@
 -- Lists of numbers.
-use Rattle.std.specs.Prelude.{ℕ, ◌<◌, ◌==◌, Bool, not, nat_le, nat_lt, List, [], ◌∷◌, Option, Some, None, filter, fold, count_by, if◌then◌else◌}
+use Rattle.std.specs.Prelude.{◌≡◌, ℕ, ◌<◌, ◌==◌, Bool, not, nat_le, nat_lt, List, [], ◌∷◌, Option, Some, None, filter, fold, count_by, if◌then◌else◌}
 use Rattle.std.specs.List.{AllByRecursion, list_any, range_with_len}
 
 -- how often the number stands in the list
@@ -9,6 +9,10 @@ times n numbers = count_by (λ m. m == n) numbers
 -- whether the number stands in the list
 abbrev pub has : List ℕ → ℕ → Bool
 has numbers n = list_any (λ m. m == n) numbers
+
+-- each number below so many stands in the list once, and no other number does
+abbrev pub IsEachOnce : ℕ → List ℕ → Type 0
+IsEachOnce many numbers = (n : ℕ) → times n numbers ≡ (if nat_lt n many then 1 else 0)
 
 -- each number is above those before it
 abbrev pub IsRising : List ℕ → Type 0

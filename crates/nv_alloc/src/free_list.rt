@@ -1,11 +1,11 @@
 //! The free blocks of one CPU.
 
-ghost use Rattle.std.specs.Prelude.{◌≡◌, ℕ, ◌+◌, ◌-◌, ◌<◌, ◌≤◌, ◌++◌, ◌==◌, ◌^◌, IfOk, OnOk, Some, length, map, min, take, drop, ◌∷◌, true, vec_len, vec_capacity};
+ghost use Rattle.std.specs.Prelude.{◌≡◌, ℕ, ◌+◌, ◌-◌, ◌<◌, ◌≤◌, ◌++◌, ◌==◌, ◌^◌, ◌↔◌, IfOk, IsTrue, OnOk, Some, length, map, min, take, drop, ◌∷◌, true, vec_len, vec_capacity};
 ghost use Rattle.nv_base.specs.Homes.{home_start};
 ghost use Rattle.nv_base.specs.Refusals.{FailsOnly};
 ghost use Rattle.nv_alloc.specs.Block.{AreSized, numbers_of, put_block, zero_block, zero_blocks};
 ghost use Rattle.nv_alloc.specs.Numbers.{has};
-ghost use Rattle.nv_alloc.specs.FreeList.{is_home, IsFreeList};
+ghost use Rattle.nv_alloc.specs.FreeList.{is_home, IsFreeList, IsHomeList};
 ghost use Rattle.nv_alloc.specs.Giving.{takes};
 ghost use Rattle.nv_alloc.specs.Runs.{runs_of};
 ghost use Rattle.std.specs.List.{range_with_len};
@@ -95,6 +95,20 @@ impl FreeList {
         ensures sized { AreSized self.now.size self.now.blocks }
     {
         self.size
+    }
+
+    /// Whether this is a list of the CPU: its home range and the bytes of its blocks are those that the geometry gives
+    /// it. Takes constant time.
+    pub fn made_for(&self, geometry: &Geometry, cpu: u64) -> bool
+        requires { cpu < geometry.now.numbers.cpus }
+        ensures { IsTrue result ↔ IsHomeList geometry.now.numbers cpu self.now }
+    {
+        // It tells that the free blocks rise, and that each is at home.
+        let _count = self.len();
+        let end = self.start + self.slots.len() as u64;
+        self.start == geometry.home_start(cpu)
+            && end == geometry.home_start(cpu + 1)
+            && self.size as u64 == geometry.numbers.block
     }
 
     /// Whether the number is in the home range.

@@ -1,6 +1,6 @@
 //! The free inode numbers.
 
-ghost use Rattle.std.specs.Prelude.{◌≡◌, ℕ, ◌<◌, ◌==◌, IfOk, length, false, nat_lt, drop, slice_get};
+ghost use Rattle.std.specs.Prelude.{◌≡◌, ℕ, ◌<◌, ◌==◌, ◌↔◌, IfOk, IsTrue, length, false, nat_lt, drop, slice_get};
 ghost use Rattle.std.specs.List.{range_with_len};
 ghost use Rattle.nv_base.specs.Refusals.{FailsOnly};
 ghost use Rattle.nv_alloc.specs.InodePool.{IsPool};
@@ -60,6 +60,13 @@ impl InodePool {
         ensures { result ≡ (length self.now.numbers == 0) }
     {
         self.count == 0
+    }
+
+    /// Whether the pool is of as many inodes as the geometry has.
+    pub fn made_for(&self, geometry: &Geometry) -> bool
+        ensures { IsTrue result ↔ (self.now.inodes ≡ geometry.now.numbers.inodes) }
+    {
+        self.inodes == geometry.numbers.inodes
     }
 
     /// Whether the number is one of the pool's inodes, free or not.

@@ -1,5 +1,5 @@
 -- A book: the value behind the commit lock, and how each call changes it.
-use Rattle.std.specs.Prelude.{ℕ, ◌+◌, ◌-◌, ◌≤◌, List, [], ◌∷◌, ◌++◌, drop, replicate, slice_set, Option, Some, None}
+use Rattle.std.specs.Prelude.{◌≡◌, ℕ, ◌+◌, ◌-◌, ◌≤◌, List, [], ◌∷◌, ◌++◌, drop, length, replicate, slice_set, Option, Some, None}
 use Rattle.nv_base.specs.declared.geometry.GeometryNumbers.{GeometryNumbers}
 use Rattle.nv_base.specs.declared.limits.TheConstants.{NUMBER}
 use Rattle.nv_epoch.specs.Holders.{next_older}
@@ -42,6 +42,11 @@ empty_book numbers epoch commit = record {
   journals = replicate numbers.cpus [];
   history = record { base = record { epoch = epoch; commit = commit; living = [] }; latest = [] };
 }
+
+-- a book of a device: a journal for each of its CPUs, and as many snapshots at most
+pub record IsBookOf (g : GeometryNumbers) (b : BookState) : Type 0 where
+  pub journals : length b.journals ≡ g.cpus
+  pub most : b.snaps.most ≡ g.snaps
 
 abbrev pub with_event : Event → BookState → BookState
 with_event event b = record b { history = noted LATEST b.history event }

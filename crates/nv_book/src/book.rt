@@ -1,6 +1,6 @@
 //! The value behind the commit lock.
 
-ghost use Rattle.std.specs.Prelude.{◌≡◌, ◌+◌, ◌<◌, ◌≤◌, ◌↔◌, [], length, replicate, slice_get, slice_index_or, IfErr, IfOk, IsOk, IsSome, OnErr, OnOk, Some, None};
+ghost use Rattle.std.specs.Prelude.{◌≡◌, ◌+◌, ◌<◌, ◌≤◌, ◌↔◌, [], length, replicate, slice_get, slice_index_or, IfErr, IfOk, IsOk, IsSome, IsTrue, OnErr, OnOk, Some, None};
 ghost use Rattle.std.specs.Option.{ForSome, IsSomeAnd};
 ghost use Rattle.smallvec.specs.SmallVec.{small_vec_len};
 ghost use Rattle.nv_base.specs.declared.limits.TheConstants.{NUMBER, PINS};
@@ -8,7 +8,7 @@ ghost use Rattle.nv_base.specs.Refusals.{FailsEither, FailsOnly, IsRefusedBy, Ke
 ghost use Rattle.nv_epoch.specs.Holders.{next_older};
 ghost use Rattle.nv_epoch.specs.SnapList.{ids, pins_of};
 ghost use Rattle.nv_journal.specs.Journal.{AreDistinct};
-ghost use Rattle.nv_book.specs.Book.{BookState, BookValue, empty_book, after_enter, after_pick, after_retire, retired_as, room_after, after_drop_snapshot, after_make_snapshot, after_pin_snapshot, after_unpin_snapshot, with_journal};
+ghost use Rattle.nv_book.specs.Book.{BookState, BookValue, IsBookOf, empty_book, after_enter, after_pick, after_retire, retired_as, room_after, after_drop_snapshot, after_make_snapshot, after_pin_snapshot, after_unpin_snapshot, with_journal};
 ghost use Rattle.nv_book.specs.History.{IsLegal, now_of, state_now};
 ghost use Rattle.nv_book.specs.Manifests.{AreDead, AreFiled, gain_of, held_of, runs_of};
 ghost use Rattle.nv_book.specs.Records.{block_count, holder_of, run_count_of};
@@ -290,6 +290,13 @@ impl Book {
         ensures { result ≡ length self.now.state.journals }
     {
         self.journals.len() as u64
+    }
+
+    /// Whether the book has a journal for each CPU of the geometry, and room for as many snapshots.
+    pub fn made_for(&self, geometry: &Geometry) -> bool
+        ensures { IsTrue result ↔ IsBookOf geometry.now.numbers self.now.state }
+    {
+        self.cpus() == geometry.numbers.cpus && self.snaps.most() == geometry.numbers.snaps
     }
 
     /// How many blocks of recorded parts the living snapshot `s` holds; of any other number, how many of those in

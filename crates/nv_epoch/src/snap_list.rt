@@ -230,6 +230,13 @@ impl SnapList {
         self.living.is_empty()
     }
 
+    /// How many snapshots may live at most. Costs one read.
+    pub fn most(&self) -> u64
+        ensures { result ≡ self.now.most }
+    {
+        self.most
+    }
+
     /// How many more snapshots may live. Costs one read.
     pub fn room(&self) -> u64
         ensures { result + length self.now.living ≡ self.now.most }
