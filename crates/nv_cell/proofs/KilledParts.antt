@@ -1,7 +1,8 @@
 -- What a publish kills, and what is left of it while its parts are retired or released.
-use Rattle.std.proofs.Common.{◌≡◌, ℕ, zero, suc, ◌+◌, ◌<◌, ◌≤◌, Bool, true, false, List, [], ◌∷◌, length, map, Option, Some, None, arith, refl, ap, sym, ◌∙◌, subst, filter, slice_get, slice_set, slice_index_or}
-use Rattle.std.specs.Prelude.{option_and_then}
-use Rattle.std.specs.List.{AllByRecursion, range_with_len}
+use Rattle.std.proofs.Common.{◌≡◌, ℕ, zero, suc, ◌+◌, ◌<◌, ◌≤◌, Bool, true, false, List, [], ◌∷◌, ◌++◌, length, map, Option, Some, None, arith, refl, ap, sym, ◌∙◌, subst, filter, slice_get, slice_set, slice_index_or}
+use Rattle.std.specs.Prelude.{option_and_then, option_to_list}
+use Rattle.std.specs.List.{AllByRecursion, flat_map, range_with_len}
+use Rattle.std.proofs.lemmas.List.Concat.{flat_map-cons}
 use Rattle.std.proofs.lemmas.Option.{same_Some}
 use Rattle.nv_entry.specs.declared.item.Entry.{Entry}
 use Rattle.nv_entry.specs.declared.part.PartId.{PartId}
@@ -173,3 +174,17 @@ published_killed cell ks is told =
     mark : (n : ℕ) → dies cell.block cell.chain.entries cell.chain.tail n ≡ true
         → Some (published_mark cell.block cell.chain.entries cell.chain.tail cell.marks (0 + n)) ≡ Some Killed
     mark n dead = let z : 0 + n ≡ n = omega arith in rw (z, dead) refl
+
+-- ---- which parts these are
+
+pub killed_list : (f : ℕ → Option KilledPart) (ns : List ℕ) (ks : List KilledPart) → map Some ks ≡ map f ns
+    → ks ≡ flat_map (λ n. option_to_list (f n)) ns
+killed_list f [] [] h = refl
+killed_list f [] (k ∷ ks) h = cc
+killed_list f (n ∷ ns) [] h = cc
+killed_list f (n ∷ ns) (k ∷ ks) h =
+    let first : Some k ≡ f n = cc in
+    let rest : map Some ks ≡ map f ns = cc in
+    ap (λ (xs : List KilledPart). k ∷ xs) (killed_list f ns ks rest)
+    ∙ ap (λ (o : Option KilledPart). option_to_list o ++ flat_map (λ m. option_to_list (f m)) ns) first
+    ∙ sym (flat_map-cons (λ m. option_to_list (f m)) n ns)

@@ -58,3 +58,5 @@ pub mod CleanWalks
 pub mod CleanParts
 pub mod DeadPairs
 pub mod MarksKeep
+pub mod PartBlocks
+pub mod EarlierNames

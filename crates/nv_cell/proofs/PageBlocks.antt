@@ -143,7 +143,7 @@ page_sized cell page is sized =
 -- ---- the bytes of a file
 
 -- the bytes of a page are those of its block
-page_is : (cell : CellState) (bytes : ℕ → List ℕ) (page : ℕ) → IsCell cell → AreBytesOf cell bytes
+pub page_is : (cell : CellState) (bytes : ℕ → List ℕ) (page : ℕ) → IsCell cell → AreBytesOf cell bytes
     → page_bytes bytes cell.block (block_now cell.block (log_of cell) page) ≡ own_page cell page
 page_is cell bytes page is are =
     ap (page_bytes bytes cell.block) (sym (page_number_is cell page is.chain.rising is.marks is.blocks))

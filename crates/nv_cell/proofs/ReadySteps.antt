@@ -12,7 +12,7 @@ use Rattle.nv_entry.specs.Keys.{parts_of}
 use Rattle.nv_log.specs.Chain.{ChainState, IsChain, appended as appended_chain, last_epoch, last_id, room_of, with_page}
 use Rattle.nv_log.proofs.Chains.{appends_entry, room-page}
 use Rattle.nv_cell.specs.Append.{IsWithinFile, MayAppend, after_append, appended}
-use Rattle.nv_cell.specs.Cell.{CanPublish, CellState, CellValue, IsReady, fresh_of}
+use Rattle.nv_cell.specs.Cell.{CanPublish, CellState, CellValue, fresh_of}
 use Rattle.nv_cell.specs.Effects.{items_of}
 use Rattle.nv_cell.specs.Room.{AddsPage, CanAppend, IsReadyFor}
 use Rattle.nv_cell.proofs.Appending.{log_stays}
@@ -90,7 +90,7 @@ others_ready e blocks later old new is page state room h =
 
 -- ---- the first and the last
 
-pub none_left : (cell : CellValue) → IsReadyFor [] cell → IsReady cell
+pub none_left : (cell : CellValue) → IsReadyFor [] cell → CanPublish (items_of (fresh_of cell.state)) cell
 none_left cell h = subst (λ (items : List Item). CanPublish items cell) (append-nil (items_of (fresh_of cell.state))) h.publish
 
 -- where all entries are published none stands past the tail

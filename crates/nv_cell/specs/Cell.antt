@@ -1,8 +1,8 @@
 -- What contracts see of a cell, and what holds of each.
-use Rattle.std.specs.Prelude.{◌≡◌, ℕ, ◌+◌, ◌-◌, ◌<◌, ◌≤◌, drop, not, if◌then◌else◌, nat_lt, List, [], ◌∷◌, length, map, Option, Some, None, slice_get, slice_index_or, option_and_then, slice_set, unwrap_or, count_by, is_some}
-use Rattle.std.specs.List.{range_with_len, sum_by}
+use Rattle.std.specs.Prelude.{◌≡◌, ℕ, ◌+◌, ◌-◌, ◌<◌, ◌≤◌, drop, not, if◌then◌else◌, nat_lt, List, [], ◌∷◌, length, map, Option, Some, None, slice_get, slice_index_or, option_and_then, slice_set, unwrap_or, count_by, is_some, option_to_list, ◌++◌}
+use Rattle.std.specs.List.{flat_map, range_with_len, sum_by}
 use Rattle.std.specs.Option.{option_map}
-use Rattle.nv_alloc.specs.Block.{AreSized, BlockValue, number_of}
+use Rattle.nv_alloc.specs.Block.{AreSized, BlockValue, number_of, numbers_of}
 use Rattle.nv_entry.specs.declared.item.Entry.{Entry}
 use Rattle.nv_entry.specs.declared.item.Item.{Item}
 use Rattle.nv_entry.specs.declared.part.PartId.{PartId}
@@ -11,13 +11,14 @@ use Rattle.nv_entry.specs.Data.{block_in}
 use Rattle.nv_entry.specs.Keys.{sets}
 use Rattle.nv_entry.specs.Log.{value_of}
 use Rattle.nv_log.specs.Chain.{ChainState, IsChain, empty_chain, log}
+use Rattle.nv_cell.specs.declared.killed.KilledPart.{KilledPart}
 use Rattle.nv_cell.specs.declared.mark.Mark.{Mark}
 use Rattle.nv_cell.specs.declared.mark.Mark.TheVariants.{Current, Out}
 use Rattle.nv_cell.specs.Marks.{is_current, is_there, mark_at}
-use Rattle.nv_cell.specs.Effects.{NamesReady, items_of}
+use Rattle.nv_cell.specs.Effects.{NamesReady}
 use Rattle.nv_cell.specs.Index.{bindings_of}
 use Rattle.nv_cell.specs.Named.{number_named}
-use Rattle.nv_cell.specs.Numbers.{killed_numbers, published_mark}
+use Rattle.nv_cell.specs.Numbers.{killed_numbers, killed_part, published_mark}
 use Rattle.nv_cell.specs.Weights.{runs_of, weights_in}
 
 -- the size of blocks in bytes; the generation, which rises each time that the slot is emptied, and how many commits the
@@ -92,6 +93,13 @@ pub record HasMarks (cell : CellState) : Type 0 where
 abbrev pub held_count : List (Option BlockValue) → ℕ
 held_count places = count_by is_some places
 
+-- the blocks of a cell, by number: the pages of its chain, and the blocks of its parts
+abbrev pub of_part : Option BlockValue → List ℕ
+of_part block = numbers_of (option_to_list block)
+
+abbrev pub stored_in : CellState → List ℕ
+stored_in cell = numbers_of cell.chain.blocks ++ flat_map of_part cell.blocks
+
 -- how many blocks a cell has: the pages of its log, and the blocks of its parts
 abbrev pub block_total : CellState → ℕ
 block_total cell = length cell.chain.blocks + held_count cell.blocks
@@ -112,6 +120,10 @@ fresh_of cell = drop cell.chain.tail cell.chain.entries
 abbrev pub killed_of : CellState → List ℕ
 killed_of cell = killed_numbers cell.block cell.chain.entries cell.chain.tail
 
+-- these parts, in the same order
+abbrev pub killed_by : CellState → List KilledPart
+killed_by cell = flat_map (λ n. option_to_list (killed_part cell.chain.entries n)) (killed_of cell)
+
 -- all entries published: a part that dies is killed, one of a fresh entry is current, and each other one has its mark
 abbrev pub published : CellState → CellState
 published cell = record cell {
@@ -125,10 +137,6 @@ pub record CanPublish (items : List Item) (cell : CellValue) : Type 0 where
   pub runs : sum_by runs_of items ≤ cell.room.runs
   pub names : NamesReady items (record { names = bindings_of (log_of cell.state); reserved = cell.room.name })
   pub killed : weights_in cell.state.block (log_of cell.state) items ≤ cell.room.killed
-
--- the same for the entries past the tail
-abbrev pub IsReady : CellValue → Type 0
-IsReady cell = CanPublish (items_of (fresh_of cell.state)) cell
 
 -- there is room to append as much as before, and for no killed part
 pub record KeepsAppendRoom (old new : CellRoom) : Type 0 where

@@ -13,6 +13,7 @@ pub mod Pages
 pub mod PartEnds
 pub mod Slots
 pub mod Readers
+pub mod Shape
 pub mod Reading
 pub mod Weights
 pub mod Removal

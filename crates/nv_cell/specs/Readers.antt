@@ -1,7 +1,9 @@
 -- What callers ask of a cell.
-use Rattle.std.specs.Prelude.{ℕ, Bool, true, false, not, List, [], ◌∷◌, take, drop, count_by, map, slice_index_or, unwrap_or}
+use Rattle.std.specs.Prelude.{◌≡◌, ◌&&◌, ℕ, Bool, nat_le, true, false, not, List, [], ◌∷◌, take, drop, count_by, map, slice_index_or, unwrap_or}
 use Rattle.std.specs.List.{list_any}
 use Rattle.std.specs.Option.{option_map}
+use Rattle.nv_base.specs.declared.geometry.GeometryNumbers.{GeometryNumbers}
+use Rattle.nv_base.specs.declared.limits.TheConstants.{NUMBER}
 use Rattle.nv_entry.specs.declared.item.Entry.{Entry}
 use Rattle.nv_entry.specs.declared.item.Item.{Item}
 use Rattle.nv_entry.specs.declared.item.Item.TheVariants.{Gone}
@@ -11,6 +13,11 @@ use Rattle.nv_cell.specs.declared.mark.Mark.{Mark}
 use Rattle.nv_cell.specs.declared.tally.LogPageCounts.{LogPageCounts}
 use Rattle.nv_cell.specs.Cell.{CellState, log_of}
 use Rattle.nv_cell.specs.Marks.{is_current, is_killed, is_there}
+
+-- a cell of a device: its blocks and its log pages have the device's sizes
+pub record IsCellOf (g : GeometryNumbers) (cell : CellState) : Type 0 where
+  pub block : cell.block ≡ g.block
+  pub page : cell.chain.page ≡ g.page
 
 -- the marks of a log, entry by entry
 abbrev pub marks_by_entry : List Entry → List Mark → List (List Mark)
@@ -43,6 +50,22 @@ is_gone log = unwrap_or (option_map (λ e. is_last_word e.item) (last_of log)) f
 -- every part of the log is out
 abbrev pub keeps_nothing : CellState → Bool
 keeps_nothing cell = not (list_any is_there cell.marks)
+
+-- an inode is erased once it is gone and nothing is kept of it
+abbrev pub is_erased : CellState → Bool
+is_erased cell = is_gone (log_of cell) && keeps_nothing cell
+
+abbrev pub has_entry : List Entry → Bool
+has_entry [] = false
+has_entry (e ∷ log) = true
+
+-- a slot has an inode as long as its log has an entry
+abbrev pub has_inode : CellState → Bool
+has_inode cell = has_entry (log_of cell)
+
+-- a slot of the last generation gets no inode any more: its number is withheld
+abbrev pub is_withheld : CellState → Bool
+is_withheld cell = nat_le NUMBER cell.generation
 
 -- a part is killed
 abbrev pub has_killed : CellState → Bool

@@ -3,10 +3,10 @@
 ghost use Rattle.std.specs.Prelude.{◌≡◌, ◌+◌, ◌<◌, ◌≤◌, ◌^◌, ◌⊎◌, [], IfSome, None, Some, option_and_then, slice_index_or, length, map, vec_capacity, vec_len};
 ghost use Rattle.std.specs.List.{sum_by};
 ghost use Rattle.nv_base.specs.declared.limits.TheConstants.{LEAST_PAGE_ENTRIES, PAGE_ENTRIES};
-ghost use Rattle.nv_cell.specs.Cell.{IsCell, IsReady, KeepsAppendRoom, empty_cell, fresh_of, killed_of, log_of, mark_named, no_room, number_in, published, with_mark, without_part};
+ghost use Rattle.nv_cell.specs.Cell.{IsCell, KeepsAppendRoom, empty_cell, fresh_of, killed_by, log_of, mark_named, no_room, number_in, published, with_mark, without_part};
 ghost use Rattle.nv_cell.specs.Effects.{BindNone, items_of};
 ghost use Rattle.nv_cell.specs.Killed.{AreKilled};
-ghost use Rattle.nv_cell.specs.Numbers.{killed_part};
+ghost use Rattle.nv_cell.specs.Room.{IsReadyFor};
 ghost use Rattle.nv_cell.specs.Slots.{emptied};
 ghost use Rattle.nv_cell.specs.Weights.{runs_of, weights_in};
 
@@ -117,10 +117,9 @@ impl InodeCell {
     pub fn publish(&mut self) -> Vec<KilledPart>
         requires some { self.old.state.chain.tail < length self.old.state.chain.entries }
         requires version { self.old.state.version < 2 ^ 62 }
-        requires ready { IsReady self.old }
+        requires ready { IsReadyFor [] self.old }
         ensures state { self.new.state ≡ published self.old.state }
-        ensures killed { map Some result.items
-            ≡ map (killed_part self.old.state.chain.entries) (killed_of self.old.state) }
+        ensures killed { result.items ≡ killed_by self.old.state }
         ensures few { vec_len result ≤ weights_in self.old.state.block (log_of self.old.state)
             (items_of (fresh_of self.old.state)) }
         ensures marked { AreKilled (map (λ k. k.part) result.items) self.new.state }

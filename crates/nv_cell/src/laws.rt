@@ -15,7 +15,7 @@ ghost use Rattle.nv_entry.specs.declared.item.Item.{Item};
 ghost use Rattle.nv_entry.specs.declared.part.PartId.{PartId};
 ghost use Rattle.nv_log.specs.Chain.{ChainState, IsChain, last_epoch, last_id, log_pages, room_of, with_page};
 ghost use Rattle.nv_cell.specs.Append.{IsWithinFile, MayAppend, after_append, appended};
-ghost use Rattle.nv_cell.specs.Cell.{CellState, CellValue, IsCell, IsReady, log_of, mark_named, number_in, with_mark, without_part};
+ghost use Rattle.nv_cell.specs.Cell.{CellState, CellValue, IsCell, log_of, mark_named, number_in, with_mark, without_part};
 ghost use Rattle.nv_cell.specs.Killed.{AreKilled, AreNamesOfParts, ArePairs, DiesAt, IsMarkedAnew, IsWithoutBlock};
 ghost use Rattle.nv_cell.specs.Pages.{AreBytesOf, own_bytes};
 ghost use Rattle.nv_cell.specs.Removal.{ArePublished, MayGo, log_flags};
@@ -56,11 +56,6 @@ pub fn a_page_keeps_ready()
 pub fn a_page_gives_its_room()
     ensures { (block : BlockValue) (chain : ChainState) → IsChain chain
         → AddsPage chain (with_page block chain) }
-{}
-
-/// Once all are appended, the cell can publish them.
-pub fn ready_cells_can_publish()
-    ensures { (cell : CellValue) → IsReadyFor [] cell → IsReady cell }
 {}
 
 /// Each part of a log has a name of its own, by which its number is found.

@@ -1,8 +1,9 @@
-//! The index of a cell, lent to be judged beside its log.
+//! The index of a cell and the blocks of its parts, lent to be judged beside its log.
 
-ghost use Rattle.std.specs.Prelude.{◌≡◌, ℕ};
+ghost use Rattle.std.specs.Prelude.{◌≡◌, ℕ, option_to_list};
+ghost use Rattle.std.specs.List.{flat_map};
 ghost use Rattle.std.specs.Option.{option_map};
-ghost use Rattle.nv_cell.specs.Cell.{log_of};
+ghost use Rattle.nv_cell.specs.Cell.{log_of, of_part};
 ghost use Rattle.nv_cell.specs.Index.{bindings_of, page_part};
 ghost use Rattle.nv_entry.specs.Keys.{PageKey, key_named};
 ghost use Rattle.nv_entry.specs.Refs.{scan_ref};
@@ -10,6 +11,7 @@ ghost use Rattle.nv_findex.specs.Pages.{ref_at};
 ghost use Rattle.nv_nindex.specs.NameIndex.{HaveSameBindings};
 
 use crate::InodeCell;
+use nv_alloc::Block;
 use nv_entry::{Key, PartRef};
 use nv_findex::FileIndex;
 use nv_nindex::NameIndex;
@@ -36,5 +38,14 @@ impl InodeCell {
         ensures { HaveSameBindings (bindings_of (log_of self.now.state)) result.now.names }
     {
         &self.index.names
+    }
+
+    /// The blocks of the parts, those past the tail too, in the order of the log. Where a page is out there is none.
+    pub fn part_blocks(&self) -> &[Option<Block>]
+        ensures blocks { flat_map option_to_list result.now
+            ≡ flat_map option_to_list self.now.state.blocks }
+        ensures numbers { flat_map of_part result.now ≡ flat_map of_part self.now.state.blocks }
+    {
+        &self.blocks
     }
 }

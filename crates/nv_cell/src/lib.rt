@@ -5,6 +5,7 @@ mod append;
 mod cell;
 pub mod clean_laws;
 mod closing;
+mod earlier;
 mod effects;
 mod erase;
 mod found;

@@ -1,16 +1,16 @@
 //! What callers ask of a cell before they change it. None of these takes memory, and each costs the same at any size
 //! of the log.
 
-ghost use Rattle.std.specs.Prelude.{◌≡◌, ◌+◌, ◌*◌, ◌<◌, ◌≤◌, nat_le, length};
+ghost use Rattle.std.specs.Prelude.{◌≡◌, ◌+◌, ◌*◌, ◌<◌, ◌≤◌, ◌↔◌, IsTrue, nat_le, length};
 ghost use Rattle.nv_base.specs.declared.limits.TheConstants.{LEAST_PAGE_ENTRIES, NUMBER, PAGE_ENTRIES};
 ghost use Rattle.nv_entry.specs.Index.{names_of};
 ghost use Rattle.nv_log.specs.Chain.{last_id, pages_for, room_of};
 ghost use Rattle.nv_cell.specs.Cell.{block_total, log_of};
-ghost use Rattle.nv_cell.specs.Readers.{counts_of, is_gone, keeps_nothing};
+ghost use Rattle.nv_cell.specs.Readers.{IsCellOf, counts_of, is_gone, keeps_nothing};
 
 use crate::{InodeCell, LogPageCounts};
-use nv_base::EntryId;
 use nv_base::limits::NUMBER;
+use nv_base::{EntryId, Geometry};
 use nv_entry::Item;
 use nv_log::Chain;
 
@@ -48,6 +48,14 @@ impl InodeCell {
         // A chain has pages of a lawful size.
         let _ends = self.chain.ends();
         self.chain.entries_per_page()
+    }
+
+    /// Whether the cell's blocks and log pages have the sizes that the geometry gives them.
+    pub fn made_for(&self, geometry: &Geometry) -> bool
+        ensures { IsTrue result ↔ IsCellOf geometry.now.numbers self.now.state }
+    {
+        self.block == geometry.numbers.block
+            && self.chain.entries_per_page() as u64 == geometry.numbers.page
     }
 
     /// How many names are bound.

@@ -158,7 +158,7 @@ fn size_by(value: Option<Datum>) -> u64
 }
 
 /// The names with their handles, copied.
-fn copied(alloc: Global, bindings: &[(&[u8], Binding)]) -> Result<NameList, Fault>
+pub(crate) fn copied(alloc: Global, bindings: &[(&[u8], Binding)]) -> Result<NameList, Fault>
     requires { AreLawful (map lent bindings.now) }
     ensures names { IfOk result (λ names. names ≡ map named (map lent bindings.now)) }
     ensures err { IfErr result (λ fault. fault ≡ out_of_memory) }

@@ -1,10 +1,11 @@
-use Rattle.std.proofs.Common.{◌≡◌, ℕ, ◌+◌, List, None, Some, Bool, arith, refl, ap, sym, ◌∙◌, length, drop, cond, not}
+use Rattle.std.proofs.Common.{◌≡◌, ℕ, ◌+◌, List, [], None, Some, Bool, arith, refl, ap, sym, ◌∙◌, length, drop, cond, not}
 use Rattle.nv_entry.specs.declared.item.Entry.{Entry}
 use Rattle.nv_entry.specs.Covered.{part_total, is_covered}
 use Rattle.nv_entry.specs.Refs.{scan_ref}
 use Rattle.nv_cell.specs.declared.mark.Mark.{Mark}
 use Rattle.nv_cell.specs.declared.mark.Mark.TheVariants.{Out}
-use Rattle.nv_cell.specs.Cell.{log_of, killed_of, published, IsReady}
+use Rattle.nv_cell.specs.declared.cell.InodeCell.TheInside.{Inside}
+use Rattle.nv_cell.specs.Cell.{CanPublish, CellValue, fresh_of, log_of, killed_of, published}
 use Rattle.nv_cell.specs.Effects.{items_of}
 use Rattle.nv_cell.specs.Fields.{state_in}
 use Rattle.nv_cell.specs.Marks.{mark_at}
@@ -17,16 +18,23 @@ use Rattle.nv_cell.specs.Index.{bindings_of}
 use Rattle.nv_nindex.specs.NameIndex.{HaveSameBindings}
 use Rattle.nv_cell.proofs.Cells.{mark_now}
 use Rattle.nv_cell.proofs.Numbered.{length_numbers}
-use Rattle.nv_cell.proofs.KilledParts.{published_killed}
+use Rattle.nv_cell.specs.Room.{IsReadyFor}
+use Rattle.nv_cell.proofs.KilledParts.{killed_list, published_killed}
+use Rattle.nv_cell.proofs.ReadySteps.{none_left}
 use Rattle.nv_cell.proofs.Published.{list_from, names_ready, there_stays}
 use Rattle.nv_cell.proofs.Publishes.{filtered_low, first_base}
 use Rattle.nv_cell.proofs.Publishing.{take_whole}
 use Rattle.nv_cell.proofs.cell.InodeCell.publish.Goals as goal
 
+-- there is room for what is to be published
+ready_now : (inside : Inside) (seen : CellValue) → value_in inside ≡ seen → IsReadyFor [] seen
+    → CanPublish (items_of (fresh_of (state_in inside))) (value_in inside)
+ready_now inside seen is ready = none_left (value_in inside) (subst (λ v. IsReadyFor [] v) (sym is) ready)
+
 pub take_effect-self-inside-requires-clause-names : goal.take_effect-self-inside-requires-clause-names
 take_effect-self-inside-requires-clause-names c =
     let s = state_in c.self.inside in
-    let ready : IsReady (value_in c.self.inside) = subst (λ v. IsReady v) (sym c.self.view_is) c.requires.ready in
+    let ready = ready_now c.self.inside _ c.self.view_is c.requires.ready in
     rw c.tail-tail.ensures.value (names_ready (items_of (drop s.chain.tail s.chain.entries))
     (record { names = bindings_of (log_of s); reserved = c.self.inside.index.names.reserved }) c.self.inside.index.names
     c.self.invariant.names refl ready.names)
@@ -49,18 +57,18 @@ name_all-requires-clause-within c i d lt =
 pub name_all-requires-clause-room : goal.name_all-requires-clause-room
 name_all-requires-clause-room c =
     let s = state_in c.self.inside in
-    let ready : IsReady (value_in c.self.inside) = subst (λ v. IsReady v) (sym c.self.view_is) c.requires.ready in
+    let ready = ready_now c.self.inside _ c.self.view_is c.requires.ready in
     let few = rw c.tail-tail.ensures.value at c.take_effect-self-inside.ensures.few in
     rw (c.deref-2.ensures.value, c.replace-killed.ensures.value) (omega (arith, few, ready.killed))
 
 pub take_effect-self-inside-requires-clause-pages : goal.take_effect-self-inside-requires-clause-pages
 take_effect-self-inside-requires-clause-pages c =
-    let ready : IsReady (value_in c.self.inside) = subst (λ v. IsReady v) (sym c.self.view_is) c.requires.ready in
+    let ready = ready_now c.self.inside _ c.self.view_is c.requires.ready in
     rw c.tail-tail.ensures.value ready.runs
 
 pub take_effect-self-inside-requires-clause-room : goal.take_effect-self-inside-requires-clause-room
 take_effect-self-inside-requires-clause-room c =
-    let ready : IsReady (value_in c.self.inside) = subst (λ v. IsReady v) (sym c.self.view_is) c.requires.ready in
+    let ready = ready_now c.self.inside _ c.self.view_is c.requires.ready in
     rw c.tail-tail.ensures.value (omega (arith, ready.killed, ap length c.self.invariant.no_numbers))
 
 pub invariant_of-self : goal.invariant_of-self
@@ -138,6 +146,21 @@ marks_are c =
 pub returns-clause-state : goal.returns-clause-state
 returns-clause-state c = rw (← c.self.view_is, chain_is c, marks_are c) refl
 
+-- what is killed, by number
+killed_told : (c : goal.After-self-2-1)
+    → map Some c.name_all.new.killed.items ≡ map (killed_part c.self.inside.chain.state.entries) (killed_of (state_in c.self.inside))
+killed_told c =
+    let s = state_in c.self.inside in
+    let tail : c.tail-tail.result ≡ s.chain.tail = c.tail-tail.ensures.value in
+    c.name_all.ensures
+    ∙ ap (map (killed_part s.chain.entries)) (ap numbers_in c.deref-2.ensures.value ∙ c.take_effect-self-inside.ensures.killed
+    ∙ ap (killed_numbers s.block s.chain.entries) tail)
+
+pub returns-clause-killed : goal.returns-clause-killed
+returns-clause-killed c =
+    let s = state_in c.self.inside in
+    rw (← c.self.view_is) (killed_list (killed_part s.chain.entries) (killed_of s) c.name_all.new.killed.items (killed_told c))
+
 pub returns-clause-few : goal.returns-clause-few
 returns-clause-few c =
     let s = state_in c.self.inside in
@@ -151,10 +174,4 @@ returns-clause-few c =
 pub returns-clause-marked : goal.returns-clause-marked
 returns-clause-marked c =
     let s = state_in c.self.inside in
-    let es = s.chain.entries in
-    let tail : c.tail-tail.result ≡ s.chain.tail = c.tail-tail.ensures.value in
-    let told : map Some c.name_all.new.killed.items ≡ map (killed_part es) (killed_of s) =
-    c.name_all.ensures
-    ∙ ap (map (killed_part es)) (ap numbers_in c.deref-2.ensures.value ∙ c.take_effect-self-inside.ensures.killed
-    ∙ ap (killed_numbers s.block es) tail) in
-    rw (chain_is c, marks_are c) (published_killed s c.name_all.new.killed.items c.ends-ends.ensures.chain.rising told)
+    rw (chain_is c, marks_are c) (published_killed s c.name_all.new.killed.items c.ends-ends.ensures.chain.rising (killed_told c))
