@@ -19,7 +19,7 @@ use Rattle.nv_cell.specs.Append.{IsWithinFile, blocks_for}
 use Rattle.nv_cell.specs.Cell.{CellState, CellValue, HasMarks, IsCell, block_total, held_count, log_of, number_in}
 use Rattle.nv_cell.specs.Effects.{items_of}
 use Rattle.nv_cell.specs.Marks.{is_current, mark_at}
-use Rattle.nv_cell.specs.Readers.{is_gone, keeps_nothing}
+use Rattle.nv_cell.specs.Readers.{is_erased, is_gone, keeps_nothing}
 use Rattle.nv_cell.specs.declared.killed.KilledPart.{KilledPart}
 use Rattle.nv_cell.specs.declared.mark.Mark.TheVariants.{Kept, Out}
 use Rattle.nv_cell.proofs.Held.{count_appended, count_out}
@@ -29,7 +29,7 @@ use Rattle.nv_calls.specs.Cells.{no_cell, state_at, value_at}
 use Rattle.nv_calls.specs.Commit.{CommitValue, begun, stamp_of}
 use Rattle.nv_calls.specs.Committed.{ChangesPlanned, Killing, block_count, committed, grown, hand_after_killings, hand_before, hand_left, killing, page_count, place_before, place_of}
 use Rattle.nv_calls.specs.Ready.{CellCommitValue, ReadyValue, no_plan, plan_at}
-use Rattle.nv_calls.specs.Retiring.{erased, freed, freed_by, freed_one, hand_with, is_erased, keeper_of, number_back, retired, retired_one, settled, with_back}
+use Rattle.nv_calls.specs.Retiring.{erased, freed, freed_by, freed_one, hand_with, keeper_of, number_back, retired, retired_one, settled, with_back}
 use Rattle.nv_calls.specs.Steps.{numbers_in, pages_from, stamped_entries, with_entries, with_entry, with_pages, with_plan}
 use Rattle.nv_calls.specs.declared.stamp.Stamp.{Stamp}
 use Rattle.nv_calls.proofs.Appends.{numbers-cons}

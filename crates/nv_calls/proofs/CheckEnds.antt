@@ -1,7 +1,8 @@
 -- How the tests of a check end a call.
 use Rattle.std.proofs.Common.{◌≡◌, ℕ, ◌&&◌, ◌||◌, ◌==◌, ◌∙◌, Bool, true, false, not, List, [], ◌∷◌, length, Option, Some, None, refl, ap, ap₂, sym}
 use Rattle.std.specs.Prelude.{is_some, Ok, Err}
-use Rattle.std.proofs.lemmas.Bool.{eqb-true, eq-eqb}
+use Rattle.std.specs.Result.{result_err}
+use Rattle.std.proofs.lemmas.Bool.{and_parts, eqb-true, eq-eqb}
 use Rattle.nv_base.specs.Refusals.{IsRefusedBy}
 use Rattle.nv_base.specs.declared.fault.Fault.{Fault}
 use Rattle.nv_base.specs.declared.fault.Fault.TheVariants as fault
@@ -9,7 +10,7 @@ use Rattle.nv_base.specs.declared.numbers.Handle.{Handle}
 use Rattle.nv_cell.specs.Cell.{CellValue}
 use Rattle.nv_entry.specs.declared.node.NodeCopy.{NodeCopy}
 use Rattle.nv_calls.specs.AllCalls.{early, is_nothing, late, looked, refusal}
-use Rattle.nv_calls.specs.Checked.{check_ends, check_refusal, ends_over, lacks_number, overtaken_refusal, refusal_by, same_found, same_looked}
+use Rattle.nv_calls.specs.Checked.{check_ends, check_refusal, ends_over, overtaken_refusal, refusal_by, same_found, same_looked}
 use Rattle.nv_calls.specs.Nodes.{nodes_in}
 use Rattle.nv_calls.specs.Plain.{same_handle}
 use Rattle.nv_calls.specs.Prepared.{makes}
@@ -19,6 +20,7 @@ use Rattle.nv_calls.specs.declared.call.Call.{Call}
 use Rattle.nv_calls.specs.declared.looked.LookupResult.{LookupResult}
 use Rattle.nv_calls.specs.declared.update.Update.{Update}
 use Rattle.nv_calls.specs.declared.update.Update.TheVariants as update
+use Rattle.nv_calls.proofs.Commits.{handle-same}
 
 -- ---- what the looks found
 
@@ -29,18 +31,13 @@ found_self : (o : Option Handle) → same_found o o ≡ true
 found_self None = refl
 found_self (Some h) = handle_self h
 
-looked_self : (l : LookupResult) → same_looked l l ≡ true
+pub looked_self : (l : LookupResult) → same_looked l l ≡ true
 looked_self l = rw (found_self l.first) (found_self l.second)
-
-both : (a b : Bool) → (a && b) ≡ true → (a ≡ true) × (b ≡ true)
-both true b h = (refl, h)
-both false b h = cc
 
 pub handle_is : (a b : Handle) → same_handle a b ≡ true → a ≡ b
 handle_is a b h =
-    let parts = both (a.ino == b.ino) (a.generation == b.generation) h in
-    ap₂ (λ (ino generation : ℕ). let made : Handle = record { ino = ino; generation = generation } in made)
-    (eqb-true a.ino b.ino parts.0) (eqb-true a.generation b.generation parts.1)
+    let parts = and_parts (a.ino == b.ino) (a.generation == b.generation) h in
+    handle-same a b (eqb-true a.ino b.ino parts.0) (eqb-true a.generation b.generation parts.1)
 
 found_is : (a b : Option Handle) → same_found a b ≡ true → a ≡ b
 found_is None None h = refl
@@ -50,7 +47,7 @@ found_is (Some a) (Some b) h = ap Some (handle_is a b h)
 
 pub looked_is : (a b : LookupResult) → same_looked a b ≡ true → a ≡ b
 looked_is a b h =
-    let parts = both (same_found a.first b.first) (same_found a.second b.second) h in
+    let parts = and_parts (same_found a.first b.first) (same_found a.second b.second) h in
     ap₂ (λ (first second : Option Handle). let made : LookupResult = record { first = first; second = second } in made)
     (found_is a.first b.first parts.0) (found_is a.second b.second parts.1)
 
@@ -78,14 +75,11 @@ refuses_anew : (e l : Check) (numbered nothing : Bool) → refusal_by (check_end
 refuses_anew (Err f) l numbered nothing = refl
 refuses_anew (Ok passed) l numbered nothing = refl
 
--- or none does
-passed_by : (e l : Check) (same numbered nothing : Bool) → refusal_by (check_ends e same l numbered nothing) ≡ passes
-    → (same ≡ true) × ((and_then e l ≡ passes) × (numbered ≡ true))
+-- where none does, the names are as they were
+passed_by : (e l : Check) (same numbered nothing : Bool) → refusal_by (check_ends e same l numbered nothing) ≡ passes → same ≡ true
 passed_by (Err f) l same numbered nothing h = cc
 passed_by (Ok passed) l false numbered nothing h = cc
-passed_by (Ok passed) (Err f) true numbered nothing h = cc
-passed_by (Ok passed) (Ok all) true false nothing h = cc
-passed_by (Ok passed) (Ok all) true true nothing h = (refl, (refl, refl))
+passed_by (Ok passed) l true numbered nothing h = refl
 
 -- ---- over nodes
 
@@ -118,34 +112,38 @@ module _ (block : ℕ) (n : Handle → Option NodeCopy) (before : LookupResult) 
       ap (λ (b : Bool). refusal_by (check_ends (early n c) b (late block n before c) numbered (is_nothing c))) (anew (looked n c) before other)
       ∙ refuses_anew (early n c) (late block n before c) numbered (is_nothing c)
 
-  -- a call that passes
-  pub record Passes : Type 0 where
-    pub same : looked n c ≡ before
-    pub passed : refusal block n c ≡ passes
-    pub numbered : lacks_number number u ≡ false
-
-  pub passes_all : refused ≡ passes → Passes
-  passes_all h =
-      let is = passed_by (early n c) (late block n before c) (same_looked (looked n c) before) numbered (is_nothing c) h in
-      let same : looked n c ≡ before = looked_is (looked n c) before is.0 in
-      record {
-        same = same;
-        passed = ap (λ (l : LookupResult). and_then (early n c) (late block n l c)) same ∙ is.1.0;
-        numbered = sym (numbered_by (is_some number) (makes u)) ∙ ap not is.1.1;
-      }
+  -- names of a call that passes lead to what its looks found
+  pub passes_all : refused ≡ passes → looked n c ≡ before
+  passes_all h = looked_is (looked n c) before
+      (passed_by (early n c) (late block n before c) (same_looked (looked n c) before) numbered (is_nothing c) h)
 
 -- with no cells a handle leads nowhere
+pub stale_none : (block : ℕ) (u : Update) → refusal block (nodes_in []) (blank_call u) ≡ Err fault.Stale
+stale_none block (update.Create dir name mode) = refl
+stale_none block (update.Mkdir dir name mode) = refl
+stale_none block (update.Write file offset count) = refl
+stale_none block (update.Size file size) = refl
+stale_none block (update.Mode handle mode) = refl
+stale_none block (update.Unlink dir name) = refl
+stale_none block (update.Rmdir dir name) = refl
+stale_none block (update.Rename from old to new) = refl
+
 pub stale_by : (block : ℕ) (cells : List (ℕ × CellValue)) (number : Option ℕ) (u : Update) → length cells ≡ 0
     → check_refusal block (nodes_in cells) number u ≡ Err fault.Stale
 stale_by block (cell ∷ cells) number u none = cc
-stale_by block [] number (update.Create dir name mode) none = refl
-stale_by block [] number (update.Mkdir dir name mode) none = refl
-stale_by block [] number (update.Write file offset count) none = refl
-stale_by block [] number (update.Size file size) none = refl
-stale_by block [] number (update.Mode handle mode) none = refl
-stale_by block [] number (update.Unlink dir name) none = refl
-stale_by block [] number (update.Rmdir dir name) none = refl
-stale_by block [] number (update.Rename from old to new) none = refl
+stale_by block [] number u none =
+    ap (λ (tests : Check). and_then tests (refuse_if (makes u && not (is_some number)) fault.NoInode passes)) (stale_none block u)
+
+-- a test that passes with others passes alone
+pub passes_first : (test next : Check) → and_then test next ≡ passes → test ≡ passes
+passes_first (Ok passed) next h = refl
+passes_first (Err f) next h = cc
+
+-- and two that no fault refuses pass together
+pub passes_both : (test next : Check) → test ≡ passes → result_err next ≡ None → and_then test next ≡ passes
+passes_both (Ok passed) (Ok all) h none = refl
+passes_both (Ok passed) (Err f) h none = cc
+passes_both (Err f) next h none = cc
 
 -- two refusals by one fault, whatever an answer would be
 pub refused_so : {T : Type 0} {f g : Fault} → (let check : Check = Err f in check) ≡ Err g → IsRefusedBy {T = T} (Err f) g

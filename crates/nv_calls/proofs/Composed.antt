@@ -9,10 +9,10 @@ use Rattle.nv_alloc.specs.declared.hand.Hand.{Hand}
 use Rattle.nv_base.specs.declared.limits.TheConstants.{NUMBER}
 use Rattle.nv_book.specs.Book.{BookValue}
 use Rattle.nv_book.specs.declared.manifest.Manifest.{Manifest}
-use Rattle.nv_cell.specs.Cell.{CellRoom, CellState, CellValue, KeepsAppendRoom, fresh_of, log_of, published}
+use Rattle.nv_cell.specs.Cell.{CellRoom, CellState, CellValue, KeepsAppendRoom, fresh_of, killed_by, log_of, published}
 use Rattle.nv_cell.specs.Effects.{items_of}
 use Rattle.nv_cell.specs.Killed.{AreKilled}
-use Rattle.nv_cell.specs.Readers.{is_gone}
+use Rattle.nv_cell.specs.Readers.{is_erased, is_gone}
 use Rattle.nv_cell.specs.Room.{IsReadyFor}
 use Rattle.nv_cell.specs.Weights.{weights_in}
 use Rattle.nv_cell.specs.declared.killed.KilledPart.{KilledPart}
@@ -24,7 +24,7 @@ use Rattle.nv_calls.specs.Cells.{AreCells, ino_at, no_cell, state_at, value_at}
 use Rattle.nv_calls.specs.Commit.{CommitValue, ReceiptValue, begun, receipt_of, stamp_of}
 use Rattle.nv_calls.specs.Committed.{ChangesPlanned, HaveAppendRoom, HaveSamePlaces, Killing, committed, grown, hand_after_killings, hand_before, journaled, killed_count, killing, manifests_after, noted_killing, place_before, place_of, receipt_by, room_left, settled_cell, settled_room}
 use Rattle.nv_calls.specs.Ready.{ArePlaced, CellCommitValue, ReadyValue, kills_of, need_of, no_plan, old_tail, old_tails, plan_at}
-use Rattle.nv_calls.specs.Retiring.{hand_retired, is_erased, killed_by, part_in, retired, room_erased, with_records}
+use Rattle.nv_calls.specs.Retiring.{hand_retired, part_in, retired, room_erased, with_records}
 use Rattle.nv_calls.specs.Steps.{stamped_entries}
 use Rattle.nv_calls.proofs.Grown.{IsGrown, is_grown}
 

@@ -17,7 +17,7 @@ use Rattle.nv_entry.specs.Sound.{IsSound}
 use Rattle.nv_log.specs.Chain.{ChainState, log}
 use Rattle.nv_book.specs.Book.{BookValue}
 use Rattle.nv_cell.specs.Cell.{CellState, CellValue, empty_cell, log_of}
-use Rattle.nv_cell.specs.Readers.{is_gone, is_last_word, keeps_nothing}
+use Rattle.nv_cell.specs.Readers.{is_erased, is_gone, is_last_word, keeps_nothing}
 use Rattle.nv_calls.specs.Cells.{ino_at, state_at}
 use Rattle.nv_calls.specs.Commit.{CommitValue, begun, stamp_of}
 use Rattle.nv_calls.specs.Committed.{IsUnplanned, committed, killing, place_of}
@@ -25,7 +25,7 @@ use Rattle.nv_calls.specs.Plain.{Change, PlainNode, nodes_after, stamped}
 use Rattle.nv_calls.specs.declared.plan.InodePlan.{InodePlan}
 use Rattle.nv_calls.specs.PublishedSlots.{IsCommitted, IsOfNone, PublishAlike, PublishesPlans, planned_in, slots_after}
 use Rattle.nv_calls.specs.Ready.{CellCommitValue, ReadyValue}
-use Rattle.nv_calls.specs.Retiring.{is_erased, retired}
+use Rattle.nv_calls.specs.Retiring.{retired}
 use Rattle.nv_calls.specs.Slots.{IsPlan, InodeSlot, entries_of, last_commit, node_under}
 use Rattle.nv_calls.specs.Views.{slot_of}
 use Rattle.nv_calls.proofs.Commits.{commits}

@@ -1,5 +1,5 @@
 -- How many maximal runs numbers are, counted from the front.
-use Rattle.std.proofs.Common.{◌≡◌, ℕ, zero, suc, ◌+◌, ◌<◌, ◌≤◌, ◌^◌, ◌==◌, Bool, true, false, cond, nat_lt, List, [], ◌∷◌, ◌++◌, length, replicate, ◌/◌, Option, Some, None, arith, refl, ap, sym, ◌∙◌}
+use Rattle.std.proofs.Common.{◌≡◌, ℕ, zero, suc, ◌+◌, ◌<◌, ◌≤◌, ◌^◌, ◌==◌, Bool, true, false, cond, nat_lt, List, [], ◌∷◌, ◌++◌, length, ◌/◌, Option, Some, None, arith, refl, ap, sym, ◌∙◌}
 use Rattle.std.specs.List.{AllByRecursion, flat_map}
 use Rattle.std.proofs.lemmas.Bool.{eqb-true, lt-ltb}
 use Rattle.nv_entry.specs.declared.item.BlockRun.{BlockRun}
@@ -7,16 +7,13 @@ use Rattle.nv_entry.specs.declared.item.Item.{Item}
 use Rattle.nv_entry.specs.Sound.{write_items}
 use Rattle.std.proofs.lemmas.List.{length-append}
 use Rattle.nv_base.specs.declared.numbers.Handle.{Handle}
-use Rattle.nv_entry.specs.Bytes.{written}
 use Rattle.nv_entry.specs.declared.item.Item.TheVariants.{SetSize}
 use Rattle.nv_entry.specs.declared.node.NodeCopy.{NodeCopy}
 use Rattle.nv_calls.specs.AllCalls.{plan}
-use Rattle.nv_calls.specs.Refusals.{bytes_of}
-use Rattle.nv_calls.specs.Slots.{items_for}
 use Rattle.nv_calls.specs.Updates.{blank_call}
 use Rattle.nv_calls.specs.declared.allocation.Allocation.{Allocation}
 use Rattle.nv_calls.specs.declared.update.Update.TheVariants as update
-use Rattle.nv_calls.specs.PagesWanted.{goes_on}
+use Rattle.nv_calls.specs.PagesWanted.{entry_counts, goes_on}
 use Rattle.nv_calls.specs.Plan.{run_if, runs_of, stretches, with_number}
 
 -- how many runs begin among the numbers, where the one before them would go on with `next`
@@ -101,18 +98,18 @@ pub length-write : (first : ℕ) (runs : List BlockRun) (size : ℕ) → length 
 length-write first [] size = refl
 length-write first (run ∷ runs) size = ap suc (length-write (first + run.len) runs size)
 
-module _ (block : ℕ) (nodes : Handle → Option NodeCopy) (taken : Allocation) (n : ℕ) (is : length taken.runs ≡ n) where
-  pub write_count : (file : Handle) (offset count ino : ℕ) → (count == 0) ≡ false → (file.ino == ino) ≡ true
-      → n ≡ length (items_for (plan block nodes taken (blank_call (update.Write file offset count))) ino)
-  write_count file offset zero ino some same = cc
-  write_count file offset (suc m) ino some same =
-      let items : List Item = write_items (offset / block) taken.runs
-      (length (written offset (replicate (suc m) 0) (bytes_of (nodes file)))) in
-      sym is ∙ sym (length-write _ taken.runs _) ∙ ap (λ (b : Bool). length (cond b items [])) (sym same)
+-- ---- the entries of one inode
 
-  pub size_count : (file : Handle) (size ino : ℕ) → (file.ino == ino) ≡ true
-      → n + 1 ≡ length (items_for (plan block nodes taken (blank_call (update.Size file size))) ino)
-  size_count file size ino same =
+module _ (block : ℕ) (nodes : Handle → Option NodeCopy) (taken : Allocation) (n : ℕ) (is : length taken.runs ≡ n) where
+  pub write_count : (file : Handle) (offset count : ℕ) → (count == 0) ≡ false
+      → (file.ino, n) ∷ (0, 0) ∷ (0, 0) ∷ [] ≡ entry_counts (plan block nodes taken (blank_call (update.Write file offset count)))
+  write_count file offset zero some = cc
+  write_count file offset (suc m) some =
+      ap (λ (k : ℕ). (file.ino, k) ∷ (0, 0) ∷ (0, 0) ∷ []) (sym is ∙ sym (length-write _ taken.runs _))
+
+  pub size_count : (file : Handle) (size : ℕ)
+      → (file.ino, n + 1) ∷ (0, 0) ∷ (0, 0) ∷ [] ≡ entry_counts (plan block nodes taken (blank_call (update.Size file size)))
+  size_count file size =
       let items : List Item = write_items (size / block) taken.runs size in
       let len : n + 1 ≡ length (items ++ SetSize size ∷ []) = omega (
         arith,
@@ -120,4 +117,4 @@ module _ (block : ℕ) (nodes : Handle → Option NodeCopy) (taken : Allocation)
         length-write (size / block) taken.runs size,
         is,
       ) in
-      len ∙ ap (λ (b : Bool). length (cond b (items ++ SetSize size ∷ []) [])) (sym same)
+      ap (λ (k : ℕ). (file.ino, k) ∷ (0, 0) ∷ (0, 0) ∷ []) len

@@ -1,17 +1,15 @@
 -- Blocks that were taken and filled are what a call needs.
 use Rattle.std.proofs.Common.{◌≡◌, ℕ, zero, suc, ◌+◌, ◌/◌, ◌<◌, Bool, true, false, cond, List, [], ◌∷◌, ◌++◌, Option, length, slice_index_or, arith, refl, ap, subst, sym, ◌∙◌}
-use Rattle.std.specs.Prelude.{is_some}
 use Rattle.std.specs.List.{AllByRecursion, range_with_len}
 use Rattle.std.proofs.lemmas.List.{length-append, length-map}
 use Rattle.std.proofs.lemmas.List.FromFn.{get_or-map-range_with_len, length-map-range_with_len, length-range_with_len}
 use Rattle.nv_alloc.specs.Block.{BlockValue, number_of, numbers_of}
 use Rattle.nv_base.specs.declared.numbers.Handle.{Handle}
 use Rattle.nv_entry.specs.Bytes.{page_of, pages_touched, written}
-use Rattle.nv_entry.specs.Node.{block_now}
 use Rattle.nv_entry.specs.Sound.{HaveText, blocks_of}
 use Rattle.nv_entry.specs.declared.item.BlockRun.{BlockRun}
 use Rattle.nv_entry.specs.declared.node.NodeCopy.{NodeCopy}
-use Rattle.nv_calls.specs.AllCalls.{IsReady}
+use Rattle.nv_calls.specs.AllCalls.{IsReady, present_in}
 use Rattle.nv_calls.specs.FillPages.{filled, fresh_pages}
 use Rattle.nv_calls.specs.Filled.{AreFilled, AreRead}
 use Rattle.nv_calls.specs.Plan.{AreMaximal}
@@ -73,17 +71,16 @@ filled_at bytes (page ∷ pages) (b ∷ bs) zero lt same all = all.0
 filled_at bytes (page ∷ pages) (b ∷ bs) (suc place) lt same all =
     filled_at bytes pages bs place (omega (arith, lt)) (omega (arith, same)) all.1
 
--- a new inode has a free slot, and it is told whether the page that a size ends in is present
-abbrev pub IsTold : ℕ → (ℕ → InodeSlot) → Allocation → Call → Type 0
-IsTold block slots taken (call.Create dir name mode) = IsFree slots taken.made
-IsTold block slots taken (call.Mkdir dir name mode) = IsFree slots taken.made
-IsTold block slots taken (call.Size file size) = taken.present ≡ is_some (block_now block (slots file.ino).log (size / block))
-IsTold block slots taken other = Unit {0}
+-- a new inode has a free slot
+abbrev pub HasSlot : (ℕ → InodeSlot) → Allocation → Call → Type 0
+HasSlot slots taken (call.Create dir name mode) = IsFree slots taken.made
+HasSlot slots taken (call.Mkdir dir name mode) = IsFree slots taken.made
+HasSlot slots taken other = Unit {0}
 
 module _ (bytes : ℕ → List ℕ) (block : ℕ) (slots : ℕ → InodeSlot) (nodes : Handle → Option NodeCopy) (taken : Allocation) (fresh : List BlockValue)
     (read : AreRead bytes fresh) (maximal : AreMaximal taken.runs) (whole : blocks_of taken.runs ≡ numbers_of fresh) where
   abbrev Filled : Call → Type 0
-  Filled c = AreFilled block nodes taken.present c fresh
+  Filled c = AreFilled block nodes (present_in block slots c) c fresh
 
   module _ (c : Call) (f : Filled c) where
     as_before : length f.before ≡ length fresh
@@ -119,9 +116,9 @@ module _ (bytes : ℕ → List ℕ) (block : ℕ) (slots : ℕ → InodeSlot) (n
   HasCut block size node b = (length taken.runs ≡ cond b 1 0) × AllByRecursion (IsCutPage bytes block size (bytes_of node)) taken.runs
 
   cut_of : (file : Handle) (size : ℕ) → Filled (call.Size file size)
-      → HaveCut bytes block size taken.present (bytes_of (nodes file)) taken.runs
+      → HaveCut bytes block size (present_in block slots (call.Size file size)) (bytes_of (nodes file)) taken.runs
   cut_of file size f =
-      let k = go (cuts_page block size taken.present (bytes_of (nodes file))) fresh refl f.count in
+      let k = go (cuts_page block size (present_in block slots (call.Size file size)) (bytes_of (nodes file))) fresh refl f.count in
       record { count = k.0; filled = k.1 }
     where
       one : (b : BlockValue) → fresh ≡ b ∷ [] → HasCut block size (nodes file) true
@@ -148,17 +145,17 @@ module _ (bytes : ℕ → List ℕ) (block : ℕ) (slots : ℕ → InodeSlot) (n
       go false (b ∷ l) is count = absurd (omega (arith, count, ap (λ (bs : List BlockValue). length bs) is))
       go true (b ∷ x ∷ l) is count = absurd (omega (arith, count, ap (λ (bs : List BlockValue). length bs) is))
 
-  pub is_ready : (c : Call) → IsTold block slots taken c → Filled c → IsReady bytes block slots nodes taken c
-  is_ready (call.Create dir name mode) told f = told
-  is_ready (call.Mkdir dir name mode) told f = told
-  is_ready (call.Write file offset text) told f = record { maximal = maximal; filled = write_text file offset text f }
-  is_ready (call.Size file size) told f = record { present = told; cut = cut_of file size f }
-  is_ready (call.Read file offset count) told f = tt
-  is_ready (call.Mode handle mode) told f = tt
-  is_ready (call.Stat handle) told f = tt
-  is_ready (call.List dir) told f = tt
-  is_ready (call.Lookup dir name) told f = tt
-  is_ready (call.Maintenance c) told f = tt
-  is_ready (call.Unlink dir name) told f = tt
-  is_ready (call.Rmdir dir name) told f = tt
-  is_ready (call.Rename from old to new) told f = tt
+  pub is_ready : (c : Call) → HasSlot slots taken c → Filled c → IsReady bytes block slots nodes taken c
+  is_ready (call.Create dir name mode) free f = free
+  is_ready (call.Mkdir dir name mode) free f = free
+  is_ready (call.Write file offset text) free f = record { maximal = maximal; filled = write_text file offset text f }
+  is_ready (call.Size file size) free f = cut_of file size f
+  is_ready (call.Read file offset count) free f = tt
+  is_ready (call.Mode handle mode) free f = tt
+  is_ready (call.Stat handle) free f = tt
+  is_ready (call.List dir) free f = tt
+  is_ready (call.Lookup dir name) free f = tt
+  is_ready (call.Maintenance c) free f = tt
+  is_ready (call.Unlink dir name) free f = tt
+  is_ready (call.Rmdir dir name) free f = tt
+  is_ready (call.Rename from old to new) free f = tt

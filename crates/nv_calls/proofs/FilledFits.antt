@@ -13,7 +13,7 @@ use Rattle.nv_entry.specs.Node.{block_now, node_now}
 use Rattle.nv_entry.specs.Sound.{IsSound, MakesAll}
 use Rattle.nv_entry.specs.declared.node.NodeCopy.{NodeCopy}
 use Rattle.nv_entry.proofs.PageBytes.{pages_for-most}
-use Rattle.nv_calls.specs.AllCalls.{IsReady, effect, plan, refusal}
+use Rattle.nv_calls.specs.AllCalls.{IsReady, blocks_wanted, effect, ends_in_page, plan, present_in, refusal}
 use Rattle.nv_calls.specs.FillPages.{filled, fresh_pages, sourced}
 use Rattle.nv_calls.specs.Filled.{AreFilled, HavePages}
 use Rattle.nv_calls.specs.Filling.{text_part}
@@ -34,7 +34,7 @@ use Rattle.nv_calls.specs.declared.allocation.Allocation.{Allocation}
 use Rattle.nv_calls.specs.declared.update.Update.{Update}
 use Rattle.nv_calls.specs.declared.update.Update.TheVariants as update
 use Rattle.nv_calls.proofs.FillPages.{filled_numbers}
-use Rattle.nv_calls.proofs.Filled.{IsTold, is_ready}
+use Rattle.nv_calls.proofs.Filled.{HasSlot, is_ready}
 use Rattle.nv_calls.proofs.NodesHeld.{nodes_are, pages_are}
 use Rattle.nv_calls.proofs.Passed.{IsThere, file_passed}
 use Rattle.nv_calls.proofs.PlannedAlike.{IsNew, all_map, made_new}
@@ -177,17 +177,27 @@ module _ (bytes : ℕ → List ℕ) (cells now : List (ℕ × CellValue)) (hand 
     go true q = held
     go false q = past (ltb-false page 65536 q) (block_now block (slots file.ino).log page) refl
 
-  told : (v : Update) → v ≡ u → IsTold block slots (taken_by cells hand v) (sourced byte_at v)
-  told (update.Create dir name mode) e = free_by hand.ino (subst (λ (w : Update). HasNumberFor cells (makes w) hand.ino) (sym e) can.number)
-  told (update.Mkdir dir name mode) e = free_by hand.ino (subst (λ (w : Update). HasNumberFor cells (makes w) hand.ino) (sym e) can.number)
-  told (update.Size file size) e =
+  free : (v : Update) → v ≡ u → HasSlot slots (taken_by cells hand v) (sourced byte_at v)
+  free (update.Create dir name mode) e = free_by hand.ino (subst (λ (w : Update). HasNumberFor cells (makes w) hand.ino) (sym e) can.number)
+  free (update.Mkdir dir name mode) e = free_by hand.ino (subst (λ (w : Update). HasNumberFor cells (makes w) hand.ino) (sym e) can.number)
+  free (update.Size file size) e = tt
+  free (update.Write file offset count) e = tt
+  free (update.Mode handle mode) e = tt
+  free (update.Unlink dir name) e = tt
+  free (update.Rmdir dir name) e = tt
+  free (update.Rename dir name to other) e = tt
+
+  present : (v : Update) → v ≡ u → ends_in_page (has_page_in cells) block (blank_call v) ≡ present_in block slots (sourced byte_at v)
+  present (update.Size file size) e =
       let f = (file_passed (nodes file) _ (subst (λ (w : Update). refusal block nodes (blank_call w) ≡ passes) (sym e) can.passed)).0 in
       present_is file (size / block) (record { node = f.node; is = f.is })
-  told (update.Write file offset count) e = tt
-  told (update.Mode handle mode) e = tt
-  told (update.Unlink dir name) e = tt
-  told (update.Rmdir dir name) e = tt
-  told (update.Rename dir name to other) e = tt
+  present (update.Create dir name mode) e = refl
+  present (update.Mkdir dir name mode) e = refl
+  present (update.Write file offset count) e = refl
+  present (update.Mode handle mode) e = refl
+  present (update.Unlink dir name) e = refl
+  present (update.Rmdir dir name) e = refl
+  present (update.Rename dir name to other) e = refl
 
   -- ---- what was filled
 
@@ -197,7 +207,7 @@ module _ (bytes : ℕ → List ℕ) (cells now : List (ℕ × CellValue)) (hand 
       ∙ filled_numbers (fresh_pages ready.hand.«data».size (nodes_in now) (sourced byte_at ready.update)) ready.hand.«data».blocks
       ∙ is.hand_same.numbers
 
-  are_filled : AreFilled block nodes taken.present c blocks
+  are_filled : AreFilled block nodes (present_in block slots c) c blocks
   are_filled = record {
     before = ready.hand.«data».blocks;
     is = pages.filled
@@ -206,13 +216,15 @@ module _ (bytes : ℕ → List ℕ) (cells now : List (ℕ × CellValue)) (hand 
         ∙ ap₂ (λ (n : Handle → Option NodeCopy) (v : Update). filled (fresh_pages block n (sourced byte_at v)) ready.hand.«data».blocks)
         (same_nodes cells now more) is.update;
     count = as_many_blocks hand.«data».blocks blocks numbers_same ∙ can.count
-        ∙ sym (same_plan block nodes (has_page_in cells) taken u (text_part byte_at 0 (text_len u)) text_is).wanted;
+        ∙ sym ((same_plan block nodes (has_page_in cells) taken u (text_part byte_at 0 (text_len u)) text_is).wanted
+        (ends_in_page (has_page_in cells) block (blank_call u)))
+        ∙ ap (λ (b : Bool). blocks_wanted block nodes b c) (present u refl);
     small = small_same hand.«data».blocks blocks numbers_same can.small;
   }
 
   made_ready : IsReady bytes block slots nodes taken c
   made_ready =
-      is_ready bytes block slots nodes taken blocks pages.read is.maximal (is.whole ∙ sym numbers_same) c (told u refl) are_filled
+      is_ready bytes block slots nodes taken blocks pages.read is.maximal (is.whole ∙ sym numbers_same) c (free u refl) are_filled
 
   -- in the slots of the cells
   fits_own : IsPlan bytes block slots (planned_by cells hand u) (effect nodes taken.made c)

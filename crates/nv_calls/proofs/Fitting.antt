@@ -87,11 +87,11 @@ module _ (block : ℕ) (nodes : Handle → Option NodeCopy) (taken : Allocation)
   begin_fits : (kind : Kind) (dir : Handle) (name : List ℕ) (mode : ℕ) → AllFit blocks (begin_plan kind dir name mode taken.made)
   begin_fits kind dir name mode = (one_item _ tt refl, (one_item _ tt refl, tt))
 
-  write_fits : (file : Handle) (offset : ℕ) (text : List ℕ) → refusal block nodes (call.Write file offset text) ≡ passes
-      → length blocks ≡ blocks_wanted block nodes taken.present (call.Write file offset text)
+  write_fits : (present : Bool) (file : Handle) (offset : ℕ) (text : List ℕ) → refusal block nodes (call.Write file offset text) ≡ passes
+      → length blocks ≡ blocks_wanted block nodes present (call.Write file offset text)
       → AllFit blocks (plan block nodes taken (call.Write file offset text))
-  write_fits file offset [] h count = tt
-  write_fits file offset (byte ∷ rest) h count =
+  write_fits present file offset [] h count = tt
+  write_fits present file offset (byte ∷ rest) h count =
       let text : List ℕ = byte ∷ rest in
       let first : ℕ = offset / block in
       let size : ℕ = length (written offset text (bytes_of (nodes file))) in
@@ -112,14 +112,14 @@ module _ (block : ℕ) (nodes : Handle → Option NodeCopy) (taken : Allocation)
         tt,
       )
 
-  size_fits : (file : Handle) (size : ℕ) → refusal block nodes (call.Size file size) ≡ passes
-      → length blocks ≡ blocks_wanted block nodes taken.present (call.Size file size)
+  size_fits : (present : Bool) (file : Handle) (size : ℕ) → refusal block nodes (call.Size file size) ≡ passes
+      → length blocks ≡ blocks_wanted block nodes present (call.Size file size)
       → AllFit blocks (plan block nodes taken (call.Size file size))
-  size_fits file size h count =
+  size_fits present file size h count =
       let first : ℕ = size / block in
       let items : List Item = write_items first taken.runs size in
-      let fits = size_within block nodes some file size taken.present (length blocks) h count in
-      let few = few_wanted block nodes taken.present (call.Size file size) h in (
+      let fits = size_within block nodes some file size present (length blocks) h count in
+      let few = few_wanted block nodes present (call.Size file size) h in (
         record {
           one = writes_bind_none first size taken.runs (SetSize size ∷ []) (λ item. (tt, tt)) (tt, tt);
           few = omega (
@@ -159,19 +159,19 @@ module _ (block : ℕ) (nodes : Handle → Option NodeCopy) (taken : Allocation)
     bound_fits false None other is = tt
     bound_fits false (Some moved) other is = move_fits (same_handle from to) moved (replaced_plan other) is (replaced_fits other)
 
-  pub plan_fits : (c : Call) → refusal block nodes c ≡ passes → length blocks ≡ blocks_wanted block nodes taken.present c
+  pub plan_fits : (present : Bool) (c : Call) → refusal block nodes c ≡ passes → length blocks ≡ blocks_wanted block nodes present c
       → AllFit blocks (plan block nodes taken c)
-  plan_fits (call.Create dir name mode) h count = begin_fits File dir name mode
-  plan_fits (call.Mkdir dir name mode) h count = begin_fits Dir dir name mode
-  plan_fits (call.Write file offset text) h count = write_fits file offset text h count
-  plan_fits (call.Read file offset n) h count = tt
-  plan_fits (call.Size file size) h count = size_fits file size h count
-  plan_fits (call.Mode handle mode) h count = (one_item _ tt refl, tt)
-  plan_fits (call.Stat handle) h count = tt
-  plan_fits (call.List dir) h count = tt
-  plan_fits (call.Lookup dir name) h count = tt
-  plan_fits (call.Maintenance c) h count = tt
-  plan_fits (call.Unlink dir name) h count = leave_fits dir name (found nodes dir name)
-  plan_fits (call.Rmdir dir name) h count = leave_fits dir name (found nodes dir name)
-  plan_fits (call.Rename from old to new) h count =
+  plan_fits present (call.Create dir name mode) h count = begin_fits File dir name mode
+  plan_fits present (call.Mkdir dir name mode) h count = begin_fits Dir dir name mode
+  plan_fits present (call.Write file offset text) h count = write_fits present file offset text h count
+  plan_fits present (call.Read file offset n) h count = tt
+  plan_fits present (call.Size file size) h count = size_fits present file size h count
+  plan_fits present (call.Mode handle mode) h count = (one_item _ tt refl, tt)
+  plan_fits present (call.Stat handle) h count = tt
+  plan_fits present (call.List dir) h count = tt
+  plan_fits present (call.Lookup dir name) h count = tt
+  plan_fits present (call.Maintenance c) h count = tt
+  plan_fits present (call.Unlink dir name) h count = leave_fits dir name (found nodes dir name)
+  plan_fits present (call.Rmdir dir name) h count = leave_fits dir name (found nodes dir name)
+  plan_fits present (call.Rename from old to new) h count =
       bound_fits from old to new (own_place from old to new) (found nodes from old) (found nodes to new) refl

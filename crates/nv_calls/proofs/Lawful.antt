@@ -18,7 +18,7 @@ use Rattle.nv_entry.specs.Bytes.{written}
 use Rattle.nv_entry.specs.Sound.{IsSound, blocks_of, write_items}
 use Rattle.nv_entry.proofs.PageBytes.{length-written}
 use Rattle.nv_cell.specs.Effects.{BindOne, LeavesName}
-use Rattle.nv_calls.specs.AllCalls.{IsReady, plan, refusal}
+use Rattle.nv_calls.specs.AllCalls.{IsReady, plan, present_in, refusal}
 use Rattle.nv_calls.specs.declared.allocation.Allocation.{Allocation}
 use Rattle.nv_entry.specs.Shape.{AreLawful}
 use Rattle.nv_calls.specs.Lawful.{IsLawfulFor, IsLawfulPlan}
@@ -197,9 +197,9 @@ module _ (bytes : ℕ → List ℕ) (block : ℕ) (slots : ℕ → InodeSlot) (s
       → IsReady bytes block slots nodes taken (call.Size file size) → AllGood (plan block nodes taken (call.Size file size))
   size_good file size h r = (
     good file (write_items (size / block) taken.runs size ++ SetSize size ∷ []) (Some File) (kind_there File (nodes file) f.0)
-        (lawful taken.runs r.cut.filled r.cut.count)
+        (lawful taken.runs r.filled r.count)
         (writes_bind_none (size / block) size taken.runs (SetSize size ∷ []) (λ item. (tt, tt)) (tt, tt))
-        (short (cuts_page block size taken.present before) r.cut.count),
+        (short (cuts_page block size present before) r.count),
     tt,
   ) where
     f : HasKind File (nodes file) × (refuse_if (nat_lt (65536 * block) size) fault.FileTooBig passes ≡ passes)
@@ -211,6 +211,9 @@ module _ (bytes : ℕ → List ℕ) (block : ℕ) (slots : ℕ → InodeSlot) (s
     before : List ℕ
     before = bytes_of (nodes file)
 
+    present : Bool
+    present = present_in block slots (call.Size file size)
+
     short : (b : Bool) → length taken.runs ≡ cond b 1 0 → length (write_items (size / block) taken.runs size ++ SetSize size ∷ []) ≤ 1024
     short b is =
         let items : List Item = write_items (size / block) taken.runs size in
@@ -220,13 +223,13 @@ module _ (bytes : ℕ → List ℕ) (block : ℕ) (slots : ℕ → InodeSlot) (s
           most false h = omega arith
 
     lawful : (runs : List BlockRun) → AllByRecursion (IsCutPage bytes block size before) runs
-        → length runs ≡ cond (cuts_page block size taken.present before) 1 0
+        → length runs ≡ cond (cuts_page block size present before) 1 0
         → AreLawful block (write_items (size / block) runs size ++ SetSize size ∷ []) (Some File)
     lawful [] filled count = (few, tt)
     lawful (run ∷ []) filled count =
-        let within = cut_within block size taken.present before 1 some few count in
+        let within = cut_within block size present before 1 some few count in
         ((omega (arith, filled.0.0), omega (arith, filled.0.0, within), few), (few, tt))
-    lawful (run ∷ next ∷ runs) filled count = absurd (most (cuts_page block size taken.present before) (length runs) count) where
+    lawful (run ∷ next ∷ runs) filled count = absurd (most (cuts_page block size present before) (length runs) count) where
       most : (b : Bool) (n : ℕ) → suc (suc n) ≡ cond b 1 0 → ⊥
       most true n h = absurd (omega arith)
       most false n h = absurd (omega arith)

@@ -124,3 +124,8 @@ module _ (slots : List ℕ) (all : List CellValue) (k place : ℕ) (v : CellValu
 
         stays : (n : ℕ) → not (has slots n) ≡ true → cell_in now n ≡ cell_in all n
         stays n free = get_or-set_other all place n v (no_cell.1) (λ same. not_both n (ap (has slots) same ∙ in_slots) free)
+
+  -- nor do the names by which they are lent
+  pub frame_stays : (names : List ℕ)
+      → ◌≡◌ {A = List ℕ × List CellValue} (names, other_cells slots now) (names, other_cells slots all)
+  frame_stays names = ap (λ (others : List CellValue). (names, others)) others_stay

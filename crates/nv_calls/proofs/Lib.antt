@@ -11,7 +11,6 @@ pub mod CellCommits
 pub mod Commits
 pub mod Composed
 pub mod Effective
-pub mod FewPages
 pub mod FillChecked
 pub mod FillFresh
 pub mod FillPages
@@ -53,6 +52,7 @@ pub mod Same
 pub mod SlotLists
 pub mod Standing
 pub mod LentSlots
+pub mod PagesByInode
 pub mod Stretches
 pub mod Tails
 pub mod TextLengths

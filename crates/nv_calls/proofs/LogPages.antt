@@ -1,5 +1,5 @@
 -- How many log pages a plan needs, cell by cell.
-use Rattle.std.proofs.Common.{◌≡◌, ℕ, zero, suc, ◌+◌, ◌-◌, ◌*◌, ◌<◌, ◌≤◌, Bool, true, false, cond, List, [], ◌∷◌, Option, Some, None, length, replicate, get_or, drop, not, arith, refl, ap, ap₂, subst, sym, ◌∙◌, ◌^◌}
+use Rattle.std.proofs.Common.{◌≡◌, ℕ, zero, suc, ◌+◌, ◌<◌, ◌≤◌, Bool, true, false, cond, List, [], ◌∷◌, Option, Some, None, length, replicate, get_or, drop, not, arith, refl, ap, ap₂, subst, sym, ◌∙◌, ◌^◌}
 use Rattle.std.specs.List.{AllByRecursion, sum_by}
 use Rattle.std.specs.Prelude.{option_map, unwrap_or}
 use Rattle.std.proofs.Math.Seq.{drop-cons}
@@ -12,10 +12,10 @@ use Rattle.nv_cell.specs.Cell.{CellState, CellValue}
 use Rattle.nv_entry.specs.declared.item.Item.{Item}
 use Rattle.nv_entry.specs.declared.node.NodeCopy.{NodeCopy}
 use Rattle.nv_log.specs.Chain.{pages_for}
-use Rattle.nv_calls.specs.AllCalls.{blocks_wanted, refusal}
+use Rattle.nv_calls.specs.AllCalls.{blocks_wanted, ends_in_page, refusal}
 use Rattle.nv_calls.specs.Cells.{state_at}
 use Rattle.nv_calls.specs.Committed.{page_count}
-use Rattle.nv_calls.specs.Nodes.{block_in, nodes_in}
+use Rattle.nv_calls.specs.Nodes.{block_in, has_page_in, nodes_in}
 use Rattle.nv_calls.specs.PagesWanted.{goes_on, pages_needed, pages_wanted}
 use Rattle.nv_calls.specs.Prepared.{CanReady, HasNumberFor, HaveNoLessRoom, IsReadyBy, cell_plans, handle_in, if_items, makes, no_handle, planned_by, plans_by, taken_by}
 use Rattle.nv_calls.specs.Ready.{CellCommitValue, ReadyValue}
@@ -112,7 +112,8 @@ made_number cells hand u can = made_by_number cells (makes u) hand.ino can.numbe
 pub blocks_below : (cells : List (ℕ × CellValue)) (hand : Hand) (u : Update) → CanReady cells hand u
     → length hand.«data».blocks ≤ 1024
 blocks_below cells hand u can =
-    omega (arith, can.count, few_blocks (block_in cells) (nodes_in cells) (taken_by cells hand u).present u can.passed)
+    let present = ends_in_page (has_page_in cells) (block_in cells) (blank_call u) in
+    omega (arith, can.count, few_blocks (block_in cells) (nodes_in cells) present u can.passed)
 
 -- ---- one more block
 

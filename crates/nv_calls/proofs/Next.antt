@@ -17,7 +17,7 @@ use Rattle.nv_calls.specs.Committed.{ChangesPlanned, IsUnplanned, committed, gro
 use Rattle.nv_calls.specs.Next.{AreUpTo, IsUpTo}
 use Rattle.nv_calls.specs.Prepared.{IsStill}
 use Rattle.nv_calls.specs.Ready.{CellCommitValue, ReadyValue, no_plan, plan_at}
-use Rattle.nv_calls.specs.Retiring.{erased, is_erased, keeper_of, retired, retired_one, settled}
+use Rattle.nv_calls.specs.Retiring.{erased, keeper_of, retired, retired_one, settled}
 use Rattle.nv_calls.specs.Slots.{entries_of}
 use Rattle.nv_calls.specs.Steps.{stamped_entries}
 use Rattle.nv_calls.specs.declared.stamp.Stamp.{Stamp}
@@ -25,6 +25,7 @@ use Rattle.nv_cell.specs.Cell.{number_in}
 use Rattle.nv_calls.proofs.CellCommits.{all_at, all_by}
 use Rattle.nv_calls.proofs.Composed.{cells_stay, own_grown}
 use Rattle.nv_calls.proofs.Effective.{has_plan}
+use Rattle.nv_cell.specs.Readers.{is_erased}
 use Rattle.nv_calls.proofs.Grown.{IsGrown, entry_count_is, last_behind, last_step}
 
 -- ---- retiring and erasing

@@ -11,12 +11,13 @@ use Rattle.nv_calls.specs.Committed.{IsUnplanned, committed, killing, place_of}
 use Rattle.nv_calls.specs.Plain.{Change}
 use Rattle.nv_calls.specs.PublishedSlots.{IsCommitted, IsOfNone, PublishAlike, PublishesPlans, planned_in, slots_after}
 use Rattle.nv_calls.specs.Ready.{ReadyValue}
-use Rattle.nv_calls.specs.Retiring.{is_erased, retired}
+use Rattle.nv_calls.specs.Retiring.{retired}
 use Rattle.nv_calls.specs.Slots.{IsPlan, InodeSlot, entries_of}
 use Rattle.nv_calls.specs.Views.{slot_of}
 use Rattle.nv_calls.specs.declared.plan.InodePlan.{InodePlan}
 use Rattle.nv_calls.proofs.Commits.{commits}
 use Rattle.nv_calls.proofs.Effective.{has_number, has_plan, pick}
+use Rattle.nv_cell.specs.Readers.{is_erased}
 use Rattle.nv_calls.proofs.Published.{publishes}
 
 module _ (bytes : ℕ → List ℕ) (block : ℕ) (living : List ℕ) (cells : List (ℕ × CellValue)) (book : BookValue) (cpu : ℕ) (ready : ReadyValue)

@@ -10,15 +10,14 @@ use Rattle.nv_entry.specs.declared.item.Item.{Item}
 use Rattle.nv_entry.specs.Sound.{blocks_of}
 use Rattle.nv_cell.specs.Cell.{CellValue}
 use Rattle.nv_cell.specs.Effects.{BindOne}
-use Rattle.nv_calls.specs.AllCalls.{blocks_wanted}
 use Rattle.nv_calls.specs.Cells.{ino_at, no_cell, state_at}
-use Rattle.nv_calls.specs.Nodes.{block_in, nodes_in}
+use Rattle.nv_calls.specs.Nodes.{block_in, has_page_in, nodes_in}
 use Rattle.nv_calls.specs.Plan.{AreMaximal, runs_of}
 use Rattle.nv_calls.specs.Prepared.{AreReady, CanReady, HasLogPages, HasNoLessRoom, HaveNoLessRoom, HoldsTheSame, IsReadyBy, IsStill, made_by, planned_by, plans_by, taken_by}
 use Rattle.nv_calls.specs.Ready.{CellCommitValue, ReadyValue, need_of}
 use Rattle.nv_calls.specs.Slots.{items_for}
 use Rattle.nv_calls.specs.Steps.{HaveBlocks}
-use Rattle.nv_calls.specs.Updates.{blank_call}
+use Rattle.nv_calls.specs.Updates.{blank_call, blocks_taken}
 use Rattle.nv_calls.specs.declared.update.Update.{Update}
 use Rattle.nv_calls.proofs.CellCommits.{all_at}
 use Rattle.nv_calls.proofs.LogPages.{pages_by_plans}
@@ -33,7 +32,7 @@ module _ (cells : List (ℕ × CellValue)) (hand : Hand) (u : Update) (can : Can
     (maximal : AreMaximal (runs_of (numbers_of hand.«data».blocks)))
     (are : blocks_of (runs_of (numbers_of hand.«data».blocks)) ≡ numbers_of hand.«data».blocks) where
   wanted : length (blocks_of (taken_by cells hand u).runs)
-      ≡ blocks_wanted (block_in cells) (nodes_in cells) (taken_by cells hand u).present (blank_call u)
+      ≡ blocks_taken (block_in cells) (nodes_in cells) (has_page_in cells) u
   wanted = ap (λ (xs : List ℕ). length xs) are ∙ length-map hand.«data».blocks _ ∙ can.count
 
   items_fit : (ino : ℕ) → AreFit (numbers_of hand.«data».blocks) (items_for (planned_by cells hand u) ino)
@@ -41,7 +40,7 @@ module _ (cells : List (ℕ × CellValue)) (hand : Hand) (u : Update) (can : Can
       subst (λ (xs : List ℕ). AreFit xs (items_for (planned_by cells hand u) ino)) are
       (items_all (AreFit (blocks_of (taken_by cells hand u).runs)) (planned_by cells hand u) ino
       (none_fit (blocks_of (taken_by cells hand u).runs))
-      (plan_fits (block_in cells) (nodes_in cells) (taken_by cells hand u) some_bytes maximal (blank_call u) can.passed wanted))
+      (plan_fits (block_in cells) (nodes_in cells) (taken_by cells hand u) some_bytes maximal _ (blank_call u) can.passed wanted))
 
   pub planned_one : AllByRecursion (λ (p : CellCommitValue). BindOne p.items) (plans_by cells hand u)
   planned_one = plans_all (λ (n : ℕ) (items : List Item). BindOne items) (planned_by cells hand u) cells

@@ -4,7 +4,7 @@ use Rattle.std.specs.Prelude.{slice_get, slice_set}
 use Rattle.std.specs.Option.{option_map}
 use Rattle.std.proofs.lemmas.Option.{slice_get-get_or, slice_get-map}
 use Rattle.nv_book.specs.Book.{BookState}
-use Rattle.nv_cell.specs.Cell.{CellValue, KeepsAppendRoom, fresh_of, log_of, published}
+use Rattle.nv_cell.specs.Cell.{CellValue, KeepsAppendRoom, fresh_of, killed_by, log_of, published}
 use Rattle.nv_cell.specs.Effects.{items_of}
 use Rattle.nv_cell.specs.Killed.{AreKilled}
 use Rattle.nv_cell.specs.Weights.{weights_in}
@@ -15,7 +15,7 @@ use Rattle.nv_calls.specs.Commit.{CommitValue, HasJournal, NotesNext, after_publ
 use Rattle.nv_calls.specs.Committed.{place_of}
 use Rattle.nv_calls.specs.PlanByPlan.{PublishesTo, cell_of, published_of}
 use Rattle.nv_calls.specs.Ready.{ArePlaced, CellCommitValue, no_plan, old_tail, old_tails, plan_at}
-use Rattle.nv_calls.specs.Retiring.{killed_by, part_in}
+use Rattle.nv_calls.specs.Retiring.{part_in}
 use Rattle.nv_calls.proofs.CellLists.{other-only}
 use Rattle.nv_calls.proofs.Changes.{apart, none_changed, one_more, plan_other, plan_own, plans_more, plans_none}
 

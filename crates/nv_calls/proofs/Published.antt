@@ -17,10 +17,11 @@ use Rattle.nv_calls.specs.Committed.{entry_count, grown, killing, place_before, 
 use Rattle.nv_calls.specs.Plan.{planned}
 use Rattle.nv_calls.specs.PublishedSlots.{AreOfSlots, PublishesPlans, handle_at, planned_in, slots_after}
 use Rattle.nv_calls.specs.Ready.{ArePlaced, CellCommitValue, ReadyValue, no_plan, plan_at}
-use Rattle.nv_calls.specs.Retiring.{is_erased, retired}
+use Rattle.nv_calls.specs.Retiring.{retired}
 use Rattle.nv_calls.specs.Slots.{InodeSlot, entries_of, items_for, place_in}
 use Rattle.nv_calls.specs.Views.{slot_of}
 use Rattle.nv_calls.proofs.Composed.{own_grown, sums}
+use Rattle.nv_cell.specs.Readers.{is_erased}
 use Rattle.nv_calls.proofs.Retires.{chain_stays, generation_stays}
 
 -- ---- sums over plans

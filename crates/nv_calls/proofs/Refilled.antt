@@ -11,15 +11,16 @@ use Rattle.nv_base.specs.declared.numbers.Handle.{Handle}
 use Rattle.nv_entry.specs.declared.item.Item.{Item}
 use Rattle.nv_entry.specs.declared.node.NodeCopy.{NodeCopy}
 use Rattle.nv_cell.specs.Cell.{CellState, CellValue}
-use Rattle.nv_calls.specs.AllCalls.{blocks_wanted, ends_in_page, refusal}
+use Rattle.nv_cell.specs.Pages.{block_at_page, slot_bytes}
+use Rattle.nv_calls.specs.AllCalls.{refusal}
 use Rattle.nv_calls.specs.Cells.{no_cell}
-use Rattle.nv_calls.specs.FillPages.{CanFill, HasOtherBytes, with_blocks}
+use Rattle.nv_calls.specs.FillPages.{CanFill, HasOtherBytes, filled, filled_by, page_in, pages_over, sourced, with_blocks}
 use Rattle.nv_calls.specs.Nodes.{block_in, cell_has_page, cell_of, has_page_in, nodes_in, own_node, plain_nodes}
 use Rattle.nv_calls.specs.Plain.{PlainNode, node_in}
-use Rattle.nv_calls.specs.Prepared.{CanReady, HaveNoLessRoom, IsReadyBy, IsStill}
+use Rattle.nv_calls.specs.Prepared.{CanReady, HasNoLessRoom, HaveNoLessRoom, IsReadyBy, IsStill}
 use Rattle.nv_calls.specs.Ready.{CellCommitValue, ReadyValue}
 use Rattle.nv_calls.specs.Steps.{HaveBlocks, numbers_in}
-use Rattle.nv_calls.specs.Updates.{blank_call}
+use Rattle.nv_calls.specs.Updates.{blank_call, blocks_taken}
 use Rattle.nv_calls.specs.declared.update.Update.{Update}
 use Rattle.nv_calls.proofs.CellCommits.{all_at, all_by}
 use Rattle.nv_calls.proofs.PlannedAlike.{all_map}
@@ -87,6 +88,16 @@ module _ (old new : List (ℕ × CellValue)) (more : HaveNoLessRoom old new) whe
   pub same_pages : has_page_in new ≡ has_page_in old
   same_pages = fun_ext pages_of_one
 
+  bytes_of_page : (block : ℕ) (file : Handle) (page : ℕ) → page_in new block file page ≡ page_in old block file page
+  bytes_of_page block file page =
+      ap (slot_bytes block) (by_state (λ (s : CellState). block_at_page s page) (cell_of new file.ino)
+      ∙ ap (option_and_then (λ (s : CellState). block_at_page s page)) (found_same old new file.ino more)
+      ∙ sym (by_state (λ (s : CellState). block_at_page s page) (cell_of old file.ino)))
+
+  -- and the same bytes in the pages of their files
+  pub same_bytes : (block : ℕ) → page_in new block ≡ page_in old block
+  same_bytes block = fun_ext (λ (file : Handle). fun_ext (λ (page : ℕ). bytes_of_page block file page))
+
 -- ---- blocks with other bytes
 
 -- the front blocks have the numbers that they had
@@ -151,8 +162,21 @@ module _ (cells now : List (ℕ × CellValue)) (hand : Hand) (u : Update) (ready
       passed = ap₂ (λ (block : ℕ) (nodes : Handle → Option NodeCopy). refusal block nodes (blank_call u)) sized
           (same_nodes cells now more) ∙ can.passed;
       count = as_many_blocks hand.«data».blocks ready.hand.«data».blocks is.hand_same.numbers ∙ can.count
-          ∙ sym (ap (λ (has_page : Handle → ℕ → Bool). blocks_wanted ready.hand.«data».size (nodes_in now)
-          (ends_in_page has_page ready.hand.«data».size (blank_call u)) (blank_call u)) (same_pages cells now more)
-          ∙ ap₂ (λ (block : ℕ) (nodes : Handle → Option NodeCopy). blocks_wanted block nodes
-          (ends_in_page (has_page_in cells) block (blank_call u)) (blank_call u)) sized (same_nodes cells now more));
+          ∙ sym (ap (λ (has_page : Handle → ℕ → Bool). blocks_taken ready.hand.«data».size (nodes_in now) has_page u)
+          (same_pages cells now more)
+          ∙ ap₂ (λ (block : ℕ) (nodes : Handle → Option NodeCopy). blocks_taken block nodes (has_page_in cells) u) sized
+          (same_nodes cells now more));
     })
+
+-- ---- filled
+
+-- by the hand that a call was made ready with, it is filled with the same pages
+pub pages_filled : (hand : Hand) (u : Update) (ready : ReadyValue) → ready.update ≡ u → HasNoLessRoom hand ready.hand
+    → (cells now : List (ℕ × CellValue)) (byte_at : ℕ → ℕ) (blocks : List BlockValue) → HaveNoLessRoom cells now
+    → blocks ≡ filled_by now byte_at ready.update ready.hand.«data» → blocks ≡ filled_by cells byte_at u hand.«data»
+pages_filled hand u ready same more cells now byte_at blocks rooms pages =
+    pages
+    ∙ ap (λ (v : Update). filled_by now byte_at v ready.hand.«data») same
+    ∙ ap (λ (h : Hand). filled_by now byte_at u h.«data») more.same
+    ∙ ap (λ (old : Handle → ℕ → List ℕ). filled (pages_over hand.«data».size old (sourced byte_at u)) hand.«data».blocks)
+    (same_bytes cells now rooms hand.«data».size)

@@ -1,9 +1,7 @@
 -- One killed part after another is kept or goes out.
 use Rattle.std.proofs.Common.{◌≡◌, ℕ, ◌+◌, ◌-◌, ◌<◌, ◌≤◌, List, [], ◌∷◌, ◌++◌, length, map, drop, get_or, Bool, true, false, cond, Option, Some, None, add-one, append_assoc, arith, refl, ap, ap₂, subst, sym, ◌∙◌}
 use Rattle.std.specs.Prelude.{option_to_list, slice_index_or}
-use Rattle.std.specs.List.{flat_map}
 use Rattle.std.proofs.lemmas.List.{append-nil, length-append}
-use Rattle.std.proofs.lemmas.List.Concat.{flat_map-cons}
 use Rattle.std.proofs.Math.Seq.{drop-cons}
 use Rattle.nv_alloc.specs.Block.{BlockValue}
 use Rattle.nv_alloc.specs.Queue.{QueueValue}
@@ -11,13 +9,13 @@ use Rattle.nv_alloc.specs.declared.hand.Hand.{Hand}
 use Rattle.nv_base.specs.declared.limits.TheConstants.{NUMBER}
 use Rattle.nv_log.specs.Chain.{ChainState, log}
 use Rattle.nv_cell.specs.Cell.{CellState, log_of, number_in}
-use Rattle.nv_cell.specs.Readers.{is_gone}
+use Rattle.nv_cell.specs.Readers.{is_erased, is_gone}
 use Rattle.nv_cell.specs.Killed.{AreKilled}
 use Rattle.nv_cell.specs.declared.killed.KilledPart.{KilledPart}
 use Rattle.nv_cell.specs.declared.mark.Mark.TheVariants.{Killed, Kept, Out}
 use Rattle.nv_cell.proofs.KilledParts.{gone_out, marked_anew, others_killed}
 use Rattle.nv_calls.specs.Retired.{CanTakeGone}
-use Rattle.nv_calls.specs.Retiring.{freed, freed_by, freed_one, hand_with, is_erased, keeper_of, number_back, part_in, retired, retired_one, settled, with_back}
+use Rattle.nv_calls.specs.Retiring.{freed, freed_by, freed_one, hand_with, keeper_of, number_back, part_in, retired, retired_one, settled, with_back}
 
 -- the parts from a place on
 pub rest_is : (all : List KilledPart) (i : ℕ) (d : KilledPart) → i < length all → drop i all ≡ get_or all i d ∷ drop (i + 1) all
@@ -106,20 +104,6 @@ freed_within living ino epoch (killed ∷ later) cell =
       freed_few living ino epoch killed cell,
       freed_within living ino epoch later after,
     )
-
--- ---- the killed parts of a publish are told by their numbers
-
-pub killed_list : (f : ℕ → Option KilledPart) (ns : List ℕ) (ks : List KilledPart) → map Some ks ≡ map f ns
-    → ks ≡ flat_map (λ n. option_to_list (f n)) ns
-killed_list f [] [] h = refl
-killed_list f [] (k ∷ ks) h = cc
-killed_list f (n ∷ ns) [] h = cc
-killed_list f (n ∷ ns) (k ∷ ks) h =
-    let first : Some k ≡ f n = cc in
-    let rest : map Some ks ≡ map f ns = cc in
-    ap (λ (xs : List KilledPart). k ∷ xs) (killed_list f ns ks rest)
-    ∙ ap (λ (o : Option KilledPart). option_to_list o ++ flat_map (λ m. option_to_list (f m)) ns) first
-    ∙ sym (flat_map-cons (λ m. option_to_list (f m)) n ns)
 
 -- ---- an inode that is gone stays so, and can go to the hand still
 

@@ -122,7 +122,7 @@ module _ (block : ℕ) (plain others : Handle → Option PlainNode) (taken : All
         plan = write_same n o block taken file offset text e;
         answer = refl;
         handles = refl;
-        wanted = refl;
+        wanted = λ present. refl;
       }
   call_same (call.Maintenance c) h = record {
     found = refl;
@@ -132,7 +132,7 @@ module _ (block : ℕ) (plain others : Handle → Option PlainNode) (taken : All
     plan = refl;
     answer = refl;
     handles = refl;
-    wanted = refl;
+    wanted = λ present. refl;
   }
   call_same (call.Unlink dir name) h =
       let s = all_same (dir ∷ if_any (found n dir name)) h in
@@ -146,7 +146,7 @@ module _ (block : ℕ) (plain others : Handle → Option PlainNode) (taken : All
         plan = ap (leave_plan dir name) bound;
         answer = refl;
         handles = ap (λ (b : Option Handle). dir ∷ if_any b) bound;
-        wanted = refl;
+        wanted = λ present. refl;
       }
   call_same (call.Rmdir dir name) h =
       let s = all_same (dir ∷ if_any (found n dir name)) h in
@@ -160,7 +160,7 @@ module _ (block : ℕ) (plain others : Handle → Option PlainNode) (taken : All
         plan = ap (leave_plan dir name) bound;
         answer = refl;
         handles = ap (λ (b : Option Handle). dir ∷ if_any b) bound;
-        wanted = refl;
+        wanted = λ present. refl;
       }
   call_same (call.Rename from old to new) h =
       let c : Call = call.Rename from old to new in
@@ -175,7 +175,7 @@ module _ (block : ℕ) (plain others : Handle → Option PlainNode) (taken : All
         plan = ap (rename_plan from old to new) both;
         answer = refl;
         handles = ap (λ (l : LookupResult). handles l c) both;
-        wanted = refl;
+        wanted = λ present. refl;
       }
   -- any other call looks no name up before it locks, and its one handle tells what it reads
   call_same c h =
@@ -188,5 +188,5 @@ module _ (block : ℕ) (plain others : Handle → Option PlainNode) (taken : All
         plan = refl;
         answer = first_of (rw e, rw (h.0), cc);
         handles = refl;
-        wanted = first_of (rw e, cc);
+        wanted = λ present. first_of (rw e, cc);
       }

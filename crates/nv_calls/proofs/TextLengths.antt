@@ -74,20 +74,20 @@ same_plan block nodes has_page taken (update.Write file offset count) text h =
       handles = refl;
       nothing = empty_by text (replicate count 0) e;
       ends = refl;
-      wanted = blocks_by block offset text (replicate count 0) e;
+      wanted = λ present. blocks_by block offset text (replicate count 0) e;
       plan = plan_by block nodes file offset taken.runs text (replicate count 0) e;
     }
 same_plan block nodes has_page taken (update.Create dir name mode) text h =
-    record { found = refl; look_refusal = refl; refusal = refl; handles = refl; nothing = refl; ends = refl; wanted = refl; plan = refl }
+    record { found = refl; look_refusal = refl; refusal = refl; handles = refl; nothing = refl; ends = refl; wanted = λ present. refl; plan = refl }
 same_plan block nodes has_page taken (update.Mkdir dir name mode) text h =
-    record { found = refl; look_refusal = refl; refusal = refl; handles = refl; nothing = refl; ends = refl; wanted = refl; plan = refl }
+    record { found = refl; look_refusal = refl; refusal = refl; handles = refl; nothing = refl; ends = refl; wanted = λ present. refl; plan = refl }
 same_plan block nodes has_page taken (update.Size file size) text h =
-    record { found = refl; look_refusal = refl; refusal = refl; handles = refl; nothing = refl; ends = refl; wanted = refl; plan = refl }
+    record { found = refl; look_refusal = refl; refusal = refl; handles = refl; nothing = refl; ends = refl; wanted = λ present. refl; plan = refl }
 same_plan block nodes has_page taken (update.Mode handle mode) text h =
-    record { found = refl; look_refusal = refl; refusal = refl; handles = refl; nothing = refl; ends = refl; wanted = refl; plan = refl }
+    record { found = refl; look_refusal = refl; refusal = refl; handles = refl; nothing = refl; ends = refl; wanted = λ present. refl; plan = refl }
 same_plan block nodes has_page taken (update.Unlink dir name) text h =
-    record { found = refl; look_refusal = refl; refusal = refl; handles = refl; nothing = refl; ends = refl; wanted = refl; plan = refl }
+    record { found = refl; look_refusal = refl; refusal = refl; handles = refl; nothing = refl; ends = refl; wanted = λ present. refl; plan = refl }
 same_plan block nodes has_page taken (update.Rmdir dir name) text h =
-    record { found = refl; look_refusal = refl; refusal = refl; handles = refl; nothing = refl; ends = refl; wanted = refl; plan = refl }
+    record { found = refl; look_refusal = refl; refusal = refl; handles = refl; nothing = refl; ends = refl; wanted = λ present. refl; plan = refl }
 same_plan block nodes has_page taken (update.Rename from old to new) text h =
-    record { found = refl; look_refusal = refl; refusal = refl; handles = refl; nothing = refl; ends = refl; wanted = refl; plan = refl }
+    record { found = refl; look_refusal = refl; refusal = refl; handles = refl; nothing = refl; ends = refl; wanted = λ present. refl; plan = refl }

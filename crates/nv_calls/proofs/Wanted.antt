@@ -7,7 +7,7 @@ use Rattle.nv_base.specs.declared.numbers.Handle.{Handle}
 use Rattle.nv_entry.specs.declared.item.BlockRun.{BlockRun}
 use Rattle.nv_entry.specs.declared.node.NodeCopy.{NodeCopy}
 use Rattle.nv_entry.specs.Sound.{blocks_of}
-use Rattle.nv_calls.specs.AllCalls.{IsReady, blocks_wanted, plan}
+use Rattle.nv_calls.specs.AllCalls.{IsReady, blocks_wanted, plan, present_in}
 use Rattle.nv_calls.specs.declared.allocation.Allocation.{Allocation}
 use Rattle.nv_calls.specs.declared.call.Call.{Call}
 use Rattle.nv_calls.specs.declared.call.Call.TheVariants as call
@@ -29,14 +29,14 @@ single_runs bytes block size before (run ∷ runs) all =
     omega (arith, rest, long, length-range_with_len run.start run.len, all.0.0)
 
 pub blocks_used : (bytes : ℕ → List ℕ) (block : ℕ) (slots : ℕ → InodeSlot) (nodes : Handle → Option NodeCopy) (taken : Allocation) (c : Call)
-    → IsReady bytes block slots nodes taken c → length (plan_blocks (plan block nodes taken c)) ≡ blocks_wanted block nodes taken.present c
+    → IsReady bytes block slots nodes taken c → length (plan_blocks (plan block nodes taken c)) ≡ blocks_wanted block nodes (present_in block slots c) c
 blocks_used bytes block slots nodes taken (call.Write file offset []) ready = refl
 blocks_used bytes block slots nodes taken (call.Write file offset (byte ∷ rest)) ready =
     let has = ready.filled (omega arith) in
     ap length (append-nil _ ∙ write_blocks-are _ taken.runs _) ∙ has.count
 blocks_used bytes block slots nodes taken (call.Size file size) ready =
-    ap length (append-nil _ ∙ cut_blocks-are _ taken.runs size) ∙ single_runs bytes block size _ taken.runs ready.cut.filled
-    ∙ ready.cut.count
+    ap length (append-nil _ ∙ cut_blocks-are _ taken.runs size) ∙ single_runs bytes block size _ taken.runs ready.filled
+    ∙ ready.count
 blocks_used bytes block slots nodes taken (call.Create dir name mode) ready = refl
 blocks_used bytes block slots nodes taken (call.Mkdir dir name mode) ready = refl
 blocks_used bytes block slots nodes taken (call.Read file offset count) ready = refl

@@ -122,6 +122,11 @@ abbrev pub ends_in_page : (Handle → ℕ → Bool) → ℕ → Call → Bool
 ends_in_page has_page block (call.Size file size) = nat_lt (size / block) FILE_PAGES && has_page file (size / block)
 ends_in_page has_page block other = false
 
+-- the same by the logs of slots
+abbrev pub present_in : ℕ → (ℕ → InodeSlot) → Call → Bool
+present_in block slots (call.Size file size) = is_some (block_now block (slots file.ino).log (size / block))
+present_in block slots other = false
+
 -- how many data blocks a call takes
 abbrev pub blocks_wanted : ℕ → (Handle → Option NodeCopy) → Bool → Call → ℕ
 blocks_wanted block nodes present (call.Write file offset text) = write_blocks block offset text
@@ -152,16 +157,11 @@ pub record HasPages (bytes : ℕ → List ℕ) (block : ℕ) (taken : Allocation
   pub maximal : AreMaximal taken.runs
   pub filled : 0 < length text → HaveText bytes block offset text before (blocks_of taken.runs)
 
--- it is told whether the page that a size ends in is present, and where that page is cut, there is a block with it
-pub record HasCutPage (bytes : ℕ → List ℕ) (block : ℕ) (slots : ℕ → InodeSlot) (taken : Allocation) (file : Handle) (size : ℕ)
-    (before : List ℕ) : Type 0 where
-  pub present : taken.present ≡ is_some (block_now block (slots file.ino).log (size / block))
-  pub cut : HaveCut bytes block size taken.present before taken.runs
-
 -- what was taken is what the call needs, and the fresh blocks are filled
 abbrev pub IsReady : (ℕ → List ℕ) → ℕ → (ℕ → InodeSlot) → (Handle → Option NodeCopy) → Allocation → Call → Type 0
 IsReady bytes block slots nodes taken (call.Create dir name mode) = IsFree slots taken.made
 IsReady bytes block slots nodes taken (call.Mkdir dir name mode) = IsFree slots taken.made
 IsReady bytes block slots nodes taken (call.Write file offset text) = HasPages bytes block taken offset text (bytes_of (nodes file))
-IsReady bytes block slots nodes taken (call.Size file size) = HasCutPage bytes block slots taken file size (bytes_of (nodes file))
+IsReady bytes block slots nodes taken (call.Size file size) =
+    HaveCut bytes block size (present_in block slots (call.Size file size)) (bytes_of (nodes file)) taken.runs
 IsReady bytes block slots nodes taken other = Unit {0}

@@ -8,7 +8,7 @@ use Rattle.nv_base.specs.declared.limits.TheConstants.{NUMBER}
 use Rattle.nv_base.specs.declared.numbers.Handle.{Handle}
 use Rattle.nv_book.specs.Book.{BookState, BookValue, after_enter}
 use Rattle.nv_cell.specs.Append.{IsWithinFile}
-use Rattle.nv_cell.specs.Cell.{CellState, CellValue, fresh_of, log_of, published}
+use Rattle.nv_cell.specs.Cell.{CellState, CellValue, fresh_of, killed_by, log_of, published}
 use Rattle.nv_cell.specs.Effects.{items_of}
 use Rattle.nv_cell.specs.Killed.{AreKilled}
 use Rattle.nv_cell.specs.Readers.{is_gone, is_last_word}
@@ -21,7 +21,7 @@ use Rattle.nv_calls.specs.Cells.{AreCells, value_at, state_at}
 use Rattle.nv_calls.specs.Commit.{CommitValue, begun, stamp_of}
 use Rattle.nv_calls.specs.Committed.{entry_count, killed_count, page_count, place_of}
 use Rattle.nv_calls.specs.Ready.{ArePlaced, CellCommitValue, ReadyValue, need_of, plan_at}
-use Rattle.nv_calls.specs.Retiring.{killed_by, part_in}
+use Rattle.nv_calls.specs.Retiring.{part_in}
 use Rattle.nv_calls.specs.Steps.{IsLater, numbers_in}
 
 -- items can be appended to a cell in the commit of that number and epoch, with blocks and pages of a hand

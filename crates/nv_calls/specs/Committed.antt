@@ -3,14 +3,14 @@ use Rattle.std.specs.Prelude.{◌≡◌, ℕ, zero, suc, ◌<◌, if◌then◌el
 use Rattle.std.specs.List.{sum_by}
 use Rattle.nv_alloc.specs.declared.hand.Hand.{Hand}
 use Rattle.nv_book.specs.declared.manifest.Manifest.{Manifest}
-use Rattle.nv_cell.specs.Cell.{CellRoom, CellState, CellValue, KeepsAppendRoom, published}
+use Rattle.nv_cell.specs.Cell.{CellRoom, CellState, CellValue, KeepsAppendRoom, killed_by, published}
 use Rattle.nv_cell.specs.declared.killed.KilledPart.{KilledPart}
 use Rattle.nv_journal.specs.declared.old_tail.OldTail.{OldTail}
 use Rattle.nv_log.specs.Chain.{pages_for}
 use Rattle.nv_calls.specs.Cells.{ino_at, state_at, value_at}
 use Rattle.nv_calls.specs.Commit.{CommitValue, ReceiptValue, receipt_of}
 use Rattle.nv_calls.specs.Ready.{CellCommitValue, old_tails, plan_at}
-use Rattle.nv_calls.specs.Retiring.{erased, hand_retired, killed_by, retired, room_erased, with_records}
+use Rattle.nv_calls.specs.Retiring.{erased, hand_retired, retired, room_erased, with_records}
 use Rattle.nv_calls.specs.Steps.{numbers_in, with_plan, without_front}
 
 -- the place of the j-th plan's cell; and a place that no plan is for

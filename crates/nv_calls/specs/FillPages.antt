@@ -13,12 +13,12 @@ use Rattle.nv_calls.specs.declared.call.Call.{Call}
 use Rattle.nv_calls.specs.declared.call.Call.TheVariants as call
 use Rattle.nv_calls.specs.declared.update.Update.{Update}
 use Rattle.nv_calls.specs.declared.update.Update.TheVariants as update
-use Rattle.nv_calls.specs.AllCalls.{blocks_wanted, ends_in_page, refusal}
+use Rattle.nv_calls.specs.AllCalls.{refusal}
 use Rattle.nv_calls.specs.Filling.{overlaid, text_part}
 use Rattle.nv_calls.specs.Nodes.{cell_of, has_page_in, nodes_in}
 use Rattle.nv_calls.specs.Ready.{ReadyValue}
 use Rattle.nv_calls.specs.Refusals.{bytes_of, passes}
-use Rattle.nv_calls.specs.Updates.{blank_call, call_of, text_len}
+use Rattle.nv_calls.specs.Updates.{blank_call, blocks_taken, call_of, text_len}
 use Rattle.nv_calls.specs.calls.Size.{resized}
 
 -- ---- bytes
@@ -67,6 +67,10 @@ page_in cells block file page = slot_bytes block (block_for cells file page)
 abbrev pub sourced : (ℕ → ℕ) → Update → Call
 sourced byte_at u = call_of u (text_part byte_at 0 (text_len u))
 
+-- the blocks of a queue, with the pages of a call over these cells
+abbrev pub filled_by : List (ℕ × CellValue) → (ℕ → ℕ) → Update → QueueValue → List BlockValue
+filled_by cells byte_at u queue = filled (pages_over queue.size (page_in cells queue.size) (sourced byte_at u)) queue.blocks
+
 -- ---- what a source is asked
 
 -- for one page: the place in the text of the part that lies in it, and its bytes
@@ -91,8 +95,7 @@ pub record CanFill (cells : List (ℕ × CellValue)) (u : Update) (blocks : Queu
   pub few_bytes : blocks.size ≤ BLOCK_BYTES
   pub sizes : AllByRecursion (λ c. c.1.state.block ≡ blocks.size) cells
   pub passed : refusal blocks.size (nodes_in cells) (blank_call u) ≡ passes
-  pub count : length blocks.blocks ≡ blocks_wanted blocks.size (nodes_in cells)
-      (ends_in_page (has_page_in cells) blocks.size (blank_call u)) (blank_call u)
+  pub count : length blocks.blocks ≡ blocks_taken blocks.size (nodes_in cells) (has_page_in cells) u
 
 -- the same queue but for the bytes of its blocks
 pub record HasOtherBytes (old new : QueueValue) : Type 0 where

@@ -7,6 +7,7 @@ pub mod Committed
 pub mod FillPages
 pub mod Filled
 pub mod Filling
+pub mod HandRoom
 pub mod Lawful
 pub mod Locked
 pub mod Looks

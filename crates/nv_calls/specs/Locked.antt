@@ -1,5 +1,5 @@
 -- The handles that a call locks, and that it reads no others.
-use Rattle.std.specs.Prelude.{◌≡◌, ℕ, ◌<◌, ◌⊎◌, ◌==◌, if◌then◌else◌, nat_lt, List, [], ◌∷◌, ◌++◌, length, map, Option, Some, None, Contains}
+use Rattle.std.specs.Prelude.{◌≡◌, ℕ, ◌<◌, ◌⊎◌, ◌==◌, if◌then◌else◌, nat_lt, Bool, List, [], ◌∷◌, ◌++◌, length, map, Option, Some, None, Contains}
 use Rattle.std.specs.List.{AllByRecursion}
 use Rattle.nv_base.specs.declared.numbers.Handle.{Handle}
 use Rattle.nv_entry.specs.declared.node.NodeCopy.{NodeCopy}
@@ -63,7 +63,7 @@ pub record SameCall (block : ℕ) (nodes other : Handle → Option PlainNode) (t
   pub plan : plan block (node_in other) taken c ≡ plan block (node_in nodes) taken c
   pub answer : answer other taken.made c ≡ answer nodes taken.made c
   pub handles : handles (looked (node_in other) c) c ≡ handles (looked (node_in nodes) c) c
-  pub wanted : blocks_wanted block (node_in other) taken.present c ≡ blocks_wanted block (node_in nodes) taken.present c
+  pub wanted : (present : Bool) → blocks_wanted block (node_in other) present c ≡ blocks_wanted block (node_in nodes) present c
 
 -- a plan is of handles that the call locks, and uses the blocks taken alone; none where it is of several inodes
 pub record KeepsToIts (nodes : Handle → Option NodeCopy) (c : Call) (taken : Allocation) (plan : List InodePlan) : Type 0 where

@@ -1,5 +1,5 @@
 -- How many log pages a plan needs.
-use Rattle.std.specs.Prelude.{ℕ, ◌==◌, Bool, false, List, length, Option, Some, None}
+use Rattle.std.specs.Prelude.{ℕ, ◌==◌, Bool, false, List, ◌++◌, length, map, replicate, take, Option, Some, None}
 use Rattle.std.specs.List.{sum_by}
 use Rattle.nv_log.specs.Chain.{pages_for}
 use Rattle.nv_cell.specs.Cell.{CellValue}
@@ -12,6 +12,12 @@ pages_needed plan c = pages_for c.1.state.chain (length (items_for plan c.0))
 
 abbrev pub pages_wanted : List (ℕ × CellValue) → List InodePlan → ℕ
 pages_wanted cells plan = sum_by (pages_needed plan) cells
+
+-- ---- entries
+
+-- how many each inode of a plan gets, at three places, of which those that are left have none
+abbrev pub entry_counts : List InodePlan → List (ℕ × ℕ)
+entry_counts plan = take 3 (map (λ p. (p.handle.ino, length p.items)) plan ++ replicate 3 (0, 0))
 
 -- ---- runs
 

@@ -3,7 +3,7 @@ use Rattle.std.specs.Prelude.{◌≡◌, ℕ, ◌+◌, ◌<◌, ◌≤◌, true,
 use Rattle.std.specs.List.{sum_by}
 use Rattle.nv_alloc.specs.declared.hand.Hand.{Hand}
 use Rattle.nv_book.specs.Book.{BookState, BookValue}
-use Rattle.nv_cell.specs.Cell.{CellRoom, CellState, CellValue, KeepsAppendRoom, log_of, published}
+use Rattle.nv_cell.specs.Cell.{CellRoom, CellState, CellValue, KeepsAppendRoom, killed_by, log_of, published}
 use Rattle.nv_cell.specs.Readers.{is_gone}
 use Rattle.nv_cell.specs.Room.{IsReadyFor}
 use Rattle.nv_epoch.specs.SnapList.{ids}
@@ -12,7 +12,6 @@ use Rattle.nv_calls.specs.Cells.{ino_at, state_at, value_at}
 use Rattle.nv_calls.specs.Commit.{CommitValue}
 use Rattle.nv_calls.specs.Committed.{HaveSamePlaces, IsUnplanned, grown, hand_after_killings, hand_before, killed_count, manifests_after, noted_killing, place_before, place_of, settled_cell, settled_room}
 use Rattle.nv_calls.specs.Ready.{CellCommitValue, plan_at}
-use Rattle.nv_calls.specs.Retiring.{killed_by}
 
 -- ---- cells and plans
 

@@ -10,7 +10,7 @@ use Rattle.nv_entry.specs.declared.item.Item.{Item}
 use Rattle.nv_entry.specs.Sound.{blocks_of}
 use Rattle.nv_cell.specs.Cell.{CellState, CellValue}
 use Rattle.nv_cell.specs.Room.{HasNoLess, IsReadyToAppend}
-use Rattle.nv_calls.specs.AllCalls.{blocks_wanted, ends_in_page, is_nothing, plan, refusal}
+use Rattle.nv_calls.specs.AllCalls.{is_nothing, plan, refusal}
 use Rattle.nv_calls.specs.Cells.{AreCells, ino_at, state_at, value_at}
 use Rattle.nv_calls.specs.Committed.{page_count}
 use Rattle.nv_calls.specs.Nodes.{block_in, cell_of, has_page_in, nodes_in, slots_by}
@@ -20,7 +20,7 @@ use Rattle.nv_calls.specs.Ready.{CellCommitValue, ReadyValue, need_of}
 use Rattle.nv_calls.specs.Refusals.{passes}
 use Rattle.nv_calls.specs.Slots.{items_for}
 use Rattle.nv_calls.specs.Steps.{HaveBlocks}
-use Rattle.nv_calls.specs.Updates.{blank_call}
+use Rattle.nv_calls.specs.Updates.{blank_call, blocks_taken}
 use Rattle.nv_calls.specs.declared.plan.InodePlan.{InodePlan}
 use Rattle.nv_calls.specs.declared.allocation.Allocation.{Allocation}
 use Rattle.nv_calls.specs.declared.update.Update.{Update}
@@ -49,7 +49,6 @@ abbrev pub taken_by : List (ℕ × CellValue) → Hand → Update → Allocation
 taken_by cells hand u = record {
   made = unwrap_or (made_by cells hand.ino u) no_handle;
   runs = runs_of (numbers_of hand.data.blocks);
-  present = ends_in_page (has_page_in cells) (block_in cells) (blank_call u);
 }
 
 -- the items of a call, inode by inode
@@ -123,7 +122,7 @@ pub record CanReady (cells : List (ℕ × CellValue)) (hand : Hand) (u : Update)
   pub passed : refusal (block_in cells) (nodes_in cells) (blank_call u) ≡ passes
   pub something : is_nothing (blank_call u) ≡ false
   pub number : HasNumberFor cells (makes u) hand.ino
-  pub count : length hand.data.blocks ≡ blocks_wanted (block_in cells) (nodes_in cells) (taken_by cells hand u).present (blank_call u)
+  pub count : length hand.data.blocks ≡ blocks_taken (block_in cells) (nodes_in cells) (has_page_in cells) u
   pub size : hand.data.size ≡ block_in cells
   pub small : AllByRecursion (λ b. b.number < 2 ^ 32) hand.data.blocks
 

@@ -1,11 +1,10 @@
 -- What a commit makes of its cells by the publish of all its entries.
 use Rattle.std.specs.Prelude.{◌≡◌, ℕ, ◌<◌, List, length}
-use Rattle.nv_cell.specs.Cell.{CellValue, published}
+use Rattle.nv_cell.specs.Cell.{CellValue, killed_by, published}
 use Rattle.nv_calls.specs.CanCommit.{KillsAsTold}
 use Rattle.nv_calls.specs.Cells.{state_at, value_at}
 use Rattle.nv_calls.specs.Committed.{ChangesPlanned, HaveAppendRoom, HaveSamePlaces, place_of}
 use Rattle.nv_calls.specs.Ready.{CellCommitValue, plan_at}
-use Rattle.nv_calls.specs.Retiring.{killed_by}
 
 -- the entries of all plans are published, and the plans then note what that killed
 pub record PublishesAll (plans noted : List CellCommitValue) (old new : List (ℕ × CellValue)) : Type 0 where

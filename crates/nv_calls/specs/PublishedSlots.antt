@@ -10,8 +10,9 @@ use Rattle.nv_calls.specs.Commit.{CommitValue, begun, stamp_of}
 use Rattle.nv_calls.specs.Committed.{ChangesPlanned, IsUnplanned, committed, grown, killing, place_of}
 use Rattle.nv_calls.specs.Plan.{planned}
 use Rattle.nv_calls.specs.Ready.{CellCommitValue, ReadyValue}
-use Rattle.nv_calls.specs.Retiring.{is_erased, retired}
+use Rattle.nv_calls.specs.Retiring.{retired}
 use Rattle.nv_calls.specs.Slots.{InodeSlot, items_for, place_in, published as published_slots}
+use Rattle.nv_cell.specs.Readers.{is_erased}
 use Rattle.nv_calls.specs.Views.{slot_of}
 
 -- the cells are those of these slots

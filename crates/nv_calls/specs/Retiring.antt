@@ -1,7 +1,6 @@
 -- What becomes of the parts that a commit killed: a snapshot keeps a part, until its record is
 -- released, or its block is free.
-use Rattle.std.specs.Prelude.{ℕ, ◌+◌, ◌-◌, ◌&&◌, Bool, if◌then◌else◌, nat_le, List, [], ◌∷◌, ◌++◌, Option, Some, None, length, option_to_list, slice_index_or}
-use Rattle.std.specs.List.{flat_map}
+use Rattle.std.specs.Prelude.{ℕ, ◌+◌, ◌-◌, if◌then◌else◌, nat_le, List, [], ◌∷◌, ◌++◌, Option, Some, None, length, option_to_list, slice_index_or}
 use Rattle.nv_alloc.specs.Block.{BlockValue}
 use Rattle.nv_alloc.specs.Queue.{QueueValue}
 use Rattle.nv_alloc.specs.declared.hand.Hand.{Hand}
@@ -11,15 +10,10 @@ use Rattle.nv_book.specs.Records.{holder_of}
 use Rattle.nv_book.specs.declared.manifest.Manifest.{Manifest}
 use Rattle.nv_book.specs.declared.record.Record.{Record}
 use Rattle.nv_entry.specs.declared.part.PartId.{PartId}
-use Rattle.nv_cell.specs.Cell.{CellRoom, CellState, empty_cell, killed_of, log_of, no_room, number_in, with_mark, without_part}
-use Rattle.nv_cell.specs.Numbers.{killed_part}
-use Rattle.nv_cell.specs.Readers.{is_gone, keeps_nothing}
+use Rattle.nv_cell.specs.Cell.{CellRoom, CellState, empty_cell, no_room, number_in, with_mark, without_part}
+use Rattle.nv_cell.specs.Readers.{is_erased}
 use Rattle.nv_cell.specs.declared.killed.KilledPart.{KilledPart}
 use Rattle.nv_cell.specs.declared.mark.Mark.TheVariants.{Kept}
-
--- the parts that a publish of all entries of a cell kills
-abbrev pub killed_by : CellState → List KilledPart
-killed_by cell = flat_map (λ n. option_to_list (killed_part cell.chain.entries n)) (killed_of cell)
 
 abbrev pub part_in : KilledPart → PartId
 part_in killed = killed.part
@@ -78,10 +72,6 @@ abbrev pub released_blocks : Record → CellState → List BlockValue
 released_blocks d cell = freed None (number_in cell (name_of d)) cell
 
 -- ---- erasing
-
--- an inode is erased once it is gone and nothing is kept of it
-abbrev pub is_erased : CellState → Bool
-is_erased cell = is_gone (log_of cell) && keeps_nothing cell
 
 abbrev pub erased : CellState → CellState
 erased cell = if is_erased cell then empty_cell cell.block cell.chain.page (cell.generation + 1) cell.version else cell

@@ -4,13 +4,11 @@ use Rattle.nv_base.specs.declared.numbers.Handle.{Handle}
 use Rattle.nv_entry.specs.declared.node.NodeCopy.{NodeCopy}
 use Rattle.nv_calls.specs.declared.call.Call.{Call}
 use Rattle.nv_calls.specs.declared.call.Call.TheVariants as call
-use Rattle.nv_calls.specs.declared.plan.Plan.{Plan}
 use Rattle.nv_calls.specs.declared.allocation.Allocation.{Allocation}
 use Rattle.nv_calls.specs.declared.update.Update.{Update}
 use Rattle.nv_calls.specs.declared.update.Update.TheVariants as update
 use Rattle.nv_calls.specs.AllCalls.{blocks_wanted, ends_in_page, is_nothing, look_refusal, looked, plan, refusal}
 use Rattle.nv_calls.specs.Locked.{handles}
-use Rattle.nv_calls.specs.Refusals.{passes}
 
 -- the call, where a write has that text
 abbrev pub call_of : Update → List ℕ → Call
@@ -32,11 +30,9 @@ text_len other = 0
 abbrev pub blank_call : Update → Call
 blank_call u = call_of u (replicate (text_len u) 0)
 
--- a call that passes its check, with the blocks that it takes
-pub record IsPlanOf (block : ℕ) (nodes : Handle → Option NodeCopy) (has_page : Handle → ℕ → Bool) (u : Update) (p : Plan) : Type 0 where
-  pub passed : refusal block nodes (blank_call u) ≡ passes
-  pub update : p.update ≡ u
-  pub blocks : p.blocks ≡ blocks_wanted block nodes (ends_in_page has_page block (blank_call u)) (blank_call u)
+-- how many data blocks a call takes, by the nodes and by which pages are present
+abbrev pub blocks_taken : ℕ → (Handle → Option NodeCopy) → (Handle → ℕ → Bool) → Update → ℕ
+blocks_taken block nodes has_page u = let c = blank_call u in blocks_wanted block nodes (ends_in_page has_page block c) c
 
 -- two calls that look up the same, are refused alike, and plan alike
 pub record SamePlan (block : ℕ) (nodes : Handle → Option NodeCopy) (has_page : Handle → ℕ → Bool) (taken : Allocation) (one other : Call)
@@ -47,5 +43,5 @@ pub record SamePlan (block : ℕ) (nodes : Handle → Option NodeCopy) (has_page
   pub handles : handles (looked nodes other) other ≡ handles (looked nodes one) one
   pub nothing : is_nothing other ≡ is_nothing one
   pub ends : ends_in_page has_page block other ≡ ends_in_page has_page block one
-  pub wanted : blocks_wanted block nodes taken.present other ≡ blocks_wanted block nodes taken.present one
+  pub wanted : (present : Bool) → blocks_wanted block nodes present other ≡ blocks_wanted block nodes present one
   pub plan : plan block nodes taken other ≡ plan block nodes taken one

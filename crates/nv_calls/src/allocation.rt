@@ -10,6 +10,4 @@ pub struct Allocation {
     pub made: Handle,
     /// Fresh blocks for its pages, in the order in which they were taken.
     pub runs: Items<BlockRun>,
-    /// Whether the page is present in which a size ends.
-    pub present: bool,
 }

@@ -5,16 +5,16 @@ ghost use Rattle.nv_entry.specs.declared.item.Item.{Item as ItemValue};
 ghost use Rattle.nv_log.specs.Chain.{room_of};
 ghost use Rattle.nv_cell.specs.Room.{IsReadyFor};
 ghost use Rattle.nv_calls.specs.Cells.{state_at, value_at, with_value};
-ghost use Rattle.nv_calls.specs.Steps.{CanAppendPlan, HaveBlocks, MayFollow, hand_after, numbers_in, stamped_entries, stamped_entry, with_entries, with_pages, with_plan, without_front};
+ghost use Rattle.nv_calls.specs.Steps.{HaveBlocks, MayFollow, numbers_in, stamped_entries, stamped_entry, with_entries, with_pages, without_front};
 
 use crate::{Cells, Stamp};
-use nv_alloc::{BlockQueue, Hand};
+use nv_alloc::BlockQueue;
 use nv_base::EntryId;
 use nv_entry::{Entry, Item};
 use std::collections::VecDeque;
 
 /// Moves pages from the front of a queue to the log of a cell. What the cell is ready for, it stays ready for.
-fn add_pages<C: Cells>(cells: &mut C, k: usize, count: usize, pages: &mut BlockQueue)
+pub(crate) fn add_pages<C: Cells>(cells: &mut C, k: usize, count: usize, pages: &mut BlockQueue)
     requires within { k < length (C.cells cells.old) }
     requires reserved { count ≤ (value_at (C.cells cells.old) k).room.pages }
     requires there { count ≤ length pages.old.blocks }
@@ -27,8 +27,7 @@ fn add_pages<C: Cells>(cells: &mut C, k: usize, count: usize, pages: &mut BlockQ
         ≡ room_of (state_at (C.cells cells.old) k).chain
         + count * (state_at (C.cells cells.old) k).chain.page }
     ensures pages { pages.new ≡ without_front count pages.old }
-    ensures places { C.places cells.new ≡ C.places cells.old }
-    ensures beside { C.beside cells.new ≡ C.beside cells.old }
+    ensures frame { C.frame cells.new ≡ C.frame cells.old }
 {
     for _added in 0..count {
         // Each block of the queue has its size.
@@ -44,7 +43,7 @@ fn add_pages<C: Cells>(cells: &mut C, k: usize, count: usize, pages: &mut BlockQ
 
 /// Appends entries with these items to the log of a cell, from a place in their commit on, with the blocks of their
 /// pages from the front of a queue. The pages that are there take them.
-fn append_to_pages<C: Cells>(
+pub(crate) fn append_to_pages<C: Cells>(
     cells: &mut C,
     k: usize,
     stamp: &Stamp,
@@ -66,8 +65,7 @@ fn append_to_pages<C: Cells>(
         (value_at (C.cells cells.new) k) }
     ensures queue { blocks.new ≡ without_front (length (numbers_in left.old.items)) blocks.old }
     ensures left { left.new.items ≡ [] }
-    ensures places { C.places cells.new ≡ C.places cells.old }
-    ensures beside { C.beside cells.new ≡ C.beside cells.old }
+    ensures frame { C.frame cells.new ≡ C.frame cells.old }
 {
     let mut next = place;
     for _done in 0..left.len() {
@@ -89,33 +87,4 @@ fn entry_of(stamp: &Stamp, place: u32, item: Item) -> Entry
     let id = EntryId { commit, place };
     let epoch = stamp.epoch;
     Entry { id, epoch, item }
-}
-
-/// Appends entries with these items to the log of a cell, from a place in their commit on, with pages of the log and
-/// the blocks of their pages from a hand.
-pub(crate) fn append_entries<C: Cells>(
-    cells: &mut C,
-    k: usize,
-    stamp: &Stamp,
-    place: u32,
-    items: Vec<Item>,
-    hand: &mut Hand,
-)
-    requires within { k < length (C.cells cells.old) }
-    requires can { CanAppendPlan stamp.now place items.items hand.old
-        (value_at (C.cells cells.old) k) }
-    ensures cells { C.cells cells.new ≡ with_value (C.cells cells.old) k
-        (with_plan stamp.now place items.items hand.old (value_at (C.cells cells.old) k)) }
-    ensures ready { IsReadyFor [] (value_at (C.cells cells.new) k) }
-    ensures hand { hand.new
-        ≡ hand_after items.items (state_at (C.cells cells.old) k).chain hand.old }
-    ensures places { C.places cells.new ≡ C.places cells.old }
-    ensures beside { C.beside cells.new ≡ C.beside cells.old }
-{
-    let count = cells.cell(k).pages_for(items.len());
-    add_pages(cells, k, count, &mut hand.pages);
-    // The log is one, so that its pages take the entries.
-    cells.cell(k).use_invariant();
-    let mut left = VecDeque::from_vec(items);
-    append_to_pages(cells, k, stamp, place, &mut left, &mut hand.data);
 }

@@ -11,7 +11,7 @@ use nv_log::Chain;
 ///
 /// Each method that changes a cell does so as the cell's own method of that name.
 pub trait Cells {
-    ghost use Rattle.std.specs.Prelude.{◌≡◌, ℕ, ◌+◌, ◌-◌, ◌<◌, ◌≤◌, ◌^◌, ◌⊎◌, ◌∷◌, List, None, OnErr, OnOk, IsOk, Some, drop, length, map, slice_index_or, true, vec_len};
+    ghost use Rattle.std.specs.Prelude.{◌≡◌, ℕ, ◌+◌, ◌-◌, ◌<◌, ◌≤◌, ◌^◌, ◌⊎◌, ◌∷◌, List, [], None, OnErr, OnOk, IsOk, Some, drop, length, map, slice_index_or, true, vec_len};
     ghost use Rattle.std.specs.List.{sum_by};
     ghost use Rattle.nv_base.specs.Memory.{out_of_memory};
     ghost use Rattle.nv_base.specs.Refusals.{FailsOnly};
@@ -23,10 +23,9 @@ pub trait Cells {
     ghost use Rattle.nv_log.specs.Chain.{AppendsEntry, with_page};
     ghost use Rattle.nv_cell.specs.declared.mark.Mark.TheVariants as mark;
     ghost use Rattle.nv_cell.specs.Append.{MayAppend, after_append, appended, blocks_for};
-    ghost use Rattle.nv_cell.specs.Cell.{CellValue, IsReady, KeepsAppendRoom, empty_cell, fresh_of, killed_of, log_of, mark_named, no_room, number_in, published, with_mark, without_part};
+    ghost use Rattle.nv_cell.specs.Cell.{CellValue, KeepsAppendRoom, empty_cell, fresh_of, killed_by, log_of, mark_named, no_room, number_in, published, with_mark, without_part};
     ghost use Rattle.nv_cell.specs.Effects.{BindNone, BindOne, items_of};
     ghost use Rattle.nv_cell.specs.Killed.{AreKilled};
-    ghost use Rattle.nv_cell.specs.Numbers.{killed_part};
     ghost use Rattle.nv_cell.specs.Readers.{is_gone, keeps_nothing};
     ghost use Rattle.nv_cell.specs.Room.{AddsPage, HasNoLess, IsReadyFor, IsReadyToAppend};
     ghost use Rattle.nv_cell.specs.Weights.{runs_of, weights_in};
@@ -34,11 +33,8 @@ pub trait Cells {
 
     ghost cells: { Self → List (ℕ × CellValue) };
 
-    // The names of the places that are lent. They stay.
-    ghost places: { Self → List ℕ };
-
-    // What stands in these places beside the cells. It stays.
-    ghost beside: { Self → List CellValue };
+    // The names of the places that are lent, and what stands in them beside the cells. Both stay.
+    ghost frame: { Self → List ℕ × List CellValue };
 
     /// How many cells there are.
     fn count(&self) -> usize
@@ -70,8 +66,7 @@ pub trait Cells {
         ensures name { OnErr result ((value_at (cells self.new) k).room.name
             ≡ (value_at (cells self.old) k).room.name) }
         ensures err { FailsOnly out_of_memory result }
-        ensures places { places self.new ≡ places self.old }
-        ensures beside { beside self.new ≡ beside self.old };
+        ensures frame { frame self.new ≡ frame self.old };
 
     /// Adds a page of the log behind the others. What the cell is ready for, it stays ready for.
     fn add_page(&mut self, k: usize, block: Block)
@@ -90,8 +85,7 @@ pub trait Cells {
             (state_at (cells self.new) k).chain }
         ensures ready { (items : List ItemValue) → IsReadyFor items (value_at (cells self.old) k)
             → IsReadyFor items (value_at (cells self.new) k) }
-        ensures places { places self.new ≡ places self.old }
-        ensures beside { beside self.new ≡ beside self.old };
+        ensures frame { frame self.new ≡ frame self.old };
 
     /// Appends an entry past the tail, with the blocks of its pages from the front of the queue. A cell that is ready
     /// for items of which this is the first is then ready for the others.
@@ -116,8 +110,7 @@ pub trait Cells {
           blocks = drop (length (item_blocks entry.item)) queue.old.blocks;
           room = queue.old.room + length (item_blocks entry.item);
         } }
-        ensures places { places self.new ≡ places self.old }
-        ensures beside { beside self.new ≡ beside self.old };
+        ensures frame { frame self.new ≡ frame self.old };
 
     /// Publishes all entries past the tail, and gives the parts that this kills.
     fn publish(&mut self, k: usize) -> Vec<KilledPart>
@@ -125,12 +118,10 @@ pub trait Cells {
         requires some { (state_at (cells self.old) k).chain.tail
             < length (state_at (cells self.old) k).chain.entries }
         requires version { (state_at (cells self.old) k).version < 2 ^ 62 }
-        requires ready { IsReady (value_at (cells self.old) k) }
+        requires ready { IsReadyFor [] (value_at (cells self.old) k) }
         ensures cells { OnlyAt k (cells self.old) (cells self.new) }
         ensures state { state_at (cells self.new) k ≡ published (state_at (cells self.old) k) }
-        ensures killed { map Some result.items
-            ≡ map (killed_part (state_at (cells self.old) k).chain.entries)
-            (killed_of (state_at (cells self.old) k)) }
+        ensures killed { result.items ≡ killed_by (state_at (cells self.old) k) }
         ensures few { vec_len result ≤ weights_in (state_at (cells self.old) k).block
             (log_of (state_at (cells self.old) k))
             (items_of (fresh_of (state_at (cells self.old) k))) }
@@ -143,8 +134,7 @@ pub trait Cells {
             + sum_by runs_of (items_of (fresh_of (state_at (cells self.old) k))) }
         ensures name { BindNone (items_of (fresh_of (state_at (cells self.old) k)))
             → (value_at (cells self.new) k).room.name ≡ (value_at (cells self.old) k).room.name }
-        ensures places { places self.new ≡ places self.old }
-        ensures beside { beside self.new ≡ beside self.old };
+        ensures frame { frame self.new ≡ frame self.old };
 
     /// Marks a killed part kept.
     fn retire(&mut self, k: usize, part: PartId)
@@ -154,8 +144,7 @@ pub trait Cells {
         ensures state { state_at (cells self.new) k ≡ with_mark (state_at (cells self.old) k)
             (number_in (state_at (cells self.old) k) part) mark.Kept }
         ensures room { (value_at (cells self.new) k).room ≡ (value_at (cells self.old) k).room }
-        ensures places { places self.new ≡ places self.old }
-        ensures beside { beside self.new ≡ beside self.old };
+        ensures frame { frame self.new ≡ frame self.old };
 
     /// Puts a killed or kept part out, and hands out its block, if it has one.
     fn release(&mut self, k: usize, part: PartId) -> Option<Block>
@@ -168,8 +157,7 @@ pub trait Cells {
         ensures state { state_at (cells self.new) k ≡ without_part (state_at (cells self.old) k)
             (number_in (state_at (cells self.old) k) part) }
         ensures room { (value_at (cells self.new) k).room ≡ (value_at (cells self.old) k).room }
-        ensures places { places self.new ≡ places self.old }
-        ensures beside { beside self.new ≡ beside self.old };
+        ensures frame { frame self.new ≡ frame self.old };
 
     /// Hands out the chain of a gone inode of which nothing is kept, and leaves an empty slot of the next generation.
     fn erase(&mut self, k: usize) -> Chain
@@ -186,6 +174,5 @@ pub trait Cells {
             ((state_at (cells self.old) k).generation + 1) (state_at (cells self.old) k).version }
         ensures room { (value_at (cells self.new) k).room
             ≡ record no_room { killed = (value_at (cells self.old) k).room.killed } }
-        ensures places { places self.new ≡ places self.old }
-        ensures beside { beside self.new ≡ beside self.old };
+        ensures frame { frame self.new ≡ frame self.old };
 }

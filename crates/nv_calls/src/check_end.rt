@@ -1,9 +1,11 @@
 //! How the check of a call ends it, before it takes any block.
 
-ghost use Rattle.std.specs.Prelude.{◌≡◌, ◌<◌, ◌≤◌};
+ghost use Rattle.std.specs.Prelude.{◌≡◌, ◌<◌, ◌≤◌, IfOk};
+ghost use Rattle.std.specs.Result.{result_err};
 ghost use Rattle.nv_base.specs.declared.limits.TheConstants.{BLOCK_BYTES};
 ghost use Rattle.nv_calls.specs.Checked.{ends_over};
 ghost use Rattle.nv_calls.specs.Prepared.{makes};
+ghost use Rattle.nv_calls.specs.Updates.{blocks_taken};
 
 use crate::looked::is_as_looked;
 use crate::planning::is_nothing;
@@ -20,41 +22,38 @@ pub enum CheckEnd {
     Answers,
 }
 
-/// Whether the check ends a call, and how. It is given what the looks of the call found, and whether it has a number for
-/// a new inode.
+/// How the check ends a call, or how many blocks the call takes for its pages where it goes on. It is given what the
+/// looks of the call found, and whether it has a number for a new inode.
 ///
 /// The tests have one order: those that stand before the names are compared with what the looks found, then the names,
 /// then the other tests, then whether a call that makes an inode has a number, and last whether there is anything to
-/// commit. Costs a few look-ups of handles and names. Takes no memory.
+/// commit. Costs a few look-ups of handles, names and a page. Takes no memory.
 pub fn ends_at_check<N: Nodes>(
     block: u64,
     nodes: &N,
     before: &LookupResult,
     update: &Update,
     has_number: bool,
-) -> Option<CheckEnd>
+) -> Result<u64, CheckEnd>
     requires some_bytes { 0 < block }
     requires few_bytes { block ≤ BLOCK_BYTES }
-    ensures { result
+    ensures ends { result_err result
         ≡ ends_over block (N.nodes_of nodes.now) before.now has_number update.now }
+    ensures wanted { IfOk result (λ n. n
+        ≡ blocks_taken block (N.nodes_of nodes.now) (N.has_page nodes.now) update.now) }
 {
-    if let Err(fault) = check_early(nodes, update) {
-        return Some(CheckEnd::Refuses(fault));
-    }
+    check_early(nodes, update).map_err(CheckEnd::Refuses)?;
     if !is_as_looked(nodes, before, update) {
-        return Some(CheckEnd::Overtaken);
+        return Err(CheckEnd::Overtaken);
     }
-    if let Err(fault) = check_late(block, nodes, before, update) {
-        return Some(CheckEnd::Refuses(fault));
-    }
+    let wanted = check_late(block, nodes, before, update).map_err(CheckEnd::Refuses)?;
     if !has_number && makes_inode(update) {
-        return Some(CheckEnd::Refuses(Fault::NoInode));
+        return Err(CheckEnd::Refuses(Fault::NoInode));
     }
     if is_nothing(update) {
-        Some(CheckEnd::Answers)
-    } else {
-        None
+        return Err(CheckEnd::Answers);
     }
+    Ok(wanted)
 }
 
 fn makes_inode(update: &Update) -> bool

@@ -6,13 +6,13 @@ ghost use Rattle.nv_base.specs.declared.fault.Fault.TheVariants.{Stale};
 ghost use Rattle.nv_base.specs.declared.limits.TheConstants.{BLOCK_BYTES};
 ghost use Rattle.nv_calls.specs.AllCalls.{looked};
 ghost use Rattle.nv_calls.specs.Cells.{AreCells};
-ghost use Rattle.nv_calls.specs.Nodes.{block_in, has_page_in, nodes_in};
-ghost use Rattle.nv_calls.specs.Checked.{IsCheckedPlan, check_refusal, ends_over, overtaken_refusal, refusal_by};
+ghost use Rattle.nv_calls.specs.Nodes.{block_in, nodes_in};
+ghost use Rattle.nv_calls.specs.Checked.{check_refusal, ends_over, overtaken_refusal, refusal_by};
+ghost use Rattle.nv_calls.specs.Refusals.{passes};
 ghost use Rattle.nv_calls.specs.Updates.{blank_call};
 
 use crate::check_end::{CheckEnd, ends_at_check};
-use crate::planning::with_blocks;
-use crate::{Cells, HeldNodes, LookupResult, Nodes, Plan, Update};
+use crate::{Cells, HeldNodes, LookupResult, Plan, Update};
 use nv_base::{Fault, Ino};
 
 /// The bytes of a block, which are the same for all cells.
@@ -27,29 +27,28 @@ pub(crate) fn block_in<C: Cells>(cells: &C) -> u64
     cells.cell(0).block_bytes()
 }
 
-/// Why the check of a call refuses it over its nodes, if it does. One that is overtaken is `Contended`.
-fn test<N: Nodes>(
-    block: u64,
-    nodes: &N,
+/// Why the check of a call refuses it over its cells, if it does. One that is overtaken is `Contended`.
+fn test<C: Cells>(
+    cells: &C,
     before: &LookupResult,
     has_number: bool,
     update: &Update,
 ) -> Result<(), Fault>
-    requires some_bytes { 0 < block }
-    requires few_bytes { block ≤ BLOCK_BYTES }
-    ensures { result ≡ refusal_by
-        (ends_over block (N.nodes_of nodes.now) before.now has_number update.now) }
+    requires few { length (C.cells cells.now) ≤ 4 }
+    requires few_bytes { block_in (C.cells cells.now) ≤ BLOCK_BYTES }
+    ensures { let lent = C.cells cells.now in result ≡ refusal_by
+        (ends_over (block_in lent) (nodes_in lent) before.now has_number update.now) }
 {
-    match ends_at_check(block, nodes, before, update, has_number) {
-        Some(CheckEnd::Refuses(fault)) => Err(fault),
-        Some(CheckEnd::Overtaken) => Err(Fault::Contended),
-        Some(CheckEnd::Answers) | None => Ok(()),
+    let nodes = HeldNodes::new(cells);
+    match ends_at_check(block_in(cells), &nodes, before, update, has_number) {
+        Err(CheckEnd::Refuses(fault)) => Err(fault),
+        Err(CheckEnd::Overtaken) => Err(Fault::Contended),
+        Err(CheckEnd::Answers) | Ok(_) => Ok(()),
     }
 }
 
-/// The check of a call over its cells, which gives its plan: why the call is refused, in the order of its tests, or
-/// how many blocks it takes for its pages. It is given what the looks of the call found, and the number that it has
-/// for a new inode.
+/// The check of a call over its cells, which gives its plan, or why the call is refused, in the order of its tests. It
+/// is given what the looks of the call found, and the number that it has for a new inode.
 ///
 /// Where a name leads elsewhere than its look found, the call is `Contended`, and is to look again; the tests before
 /// that are those that stand before the names are compared. Behind all other tests a call that makes an inode and has
@@ -66,7 +65,8 @@ pub fn check_on<C: Cells>(
     requires few_bytes { block_in (C.cells cells.now) ≤ BLOCK_BYTES }
     ensures told { let lent = C.cells cells.now in
         looked (nodes_in lent) (blank_call update) ≡ before.now → MatchResult result
-        (IsCheckedPlan (block_in lent) (nodes_in lent) (has_page_in lent) number update)
+        (λ plan. (plan.update ≡ update)
+        × (check_refusal (block_in lent) (nodes_in lent) number update ≡ passes))
         (λ fault. check_refusal (block_in lent) (nodes_in lent) number update ≡ Err fault) }
     ensures overtaken { let lent = C.cells cells.now in
         (looked (nodes_in lent) (blank_call update) ≡ before.now → ⊥) → MatchResult result
@@ -75,10 +75,8 @@ pub fn check_on<C: Cells>(
         length lent ≡ 0 → looked (nodes_in lent) (blank_call update) ≡ before.now
         → IsRefusedBy result Stale }
 {
-    let nodes = HeldNodes::new(cells);
-    let block = block_in(cells);
-    match test(block, &nodes, before, number.is_some(), &update) {
-        Ok(()) => Ok(with_blocks(block, &nodes, update)),
+    match test(cells, before, number.is_some(), &update) {
+        Ok(()) => Ok(Plan { update }),
         Err(fault) => Err(fault),
     }
 }

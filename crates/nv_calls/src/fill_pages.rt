@@ -9,7 +9,7 @@ ghost use Rattle.nv_base.specs.declared.limits.TheConstants.{BLOCK_BYTES, FILE_P
 ghost use Rattle.nv_entry.specs.Sound.{IsSound};
 ghost use Rattle.nv_cell.specs.Pages.{slot_bytes};
 ghost use Rattle.nv_calls.specs.Filling.{text_part};
-ghost use Rattle.nv_calls.specs.FillPages.{CanFill, HasOtherBytes, ask_for, asks_by, asks_of, block_for, cut_page, filled, fresh_pages, page_in, page_with, pages_over, sourced, with_blocks};
+ghost use Rattle.nv_calls.specs.FillPages.{CanFill, HasOtherBytes, ask_for, asks_by, asks_of, block_for, cut_page, filled, filled_by, fresh_pages, page_in, page_with, sourced, with_blocks};
 ghost use Rattle.nv_calls.specs.Nodes.{HaveBytes, nodes_in, slots_by};
 
 use crate::filling::{cut_block, fill_block};
@@ -148,9 +148,7 @@ fn fill_blocks<C: Cells, S: Source>(
     requires can { CanFill (C.cells nodes.now.cells.now) update.now queue.old }
     requires failures { S.failed source.old < 2 ^ 64 - 1 }
     ensures pages { OnOk result (queue.new ≡ record queue.old {
-      blocks = filled (pages_over queue.old.size
-          (page_in (C.cells nodes.now.cells.now) queue.old.size)
-          (sourced (S.byte_at source.old) update.now)) queue.old.blocks;
+      blocks = filled_by (C.cells nodes.now.cells.now) (S.byte_at source.old) update.now queue.old;
     }) }
     ensures fresh { (bytes : ℕ → List ℕ)
         → HaveBytes bytes queue.old.size (C.cells nodes.now.cells.now)
@@ -194,10 +192,8 @@ fn fill_blocks<C: Cells, S: Source>(
 pub fn fill<C: Cells, S: Source>(ready: &mut Ready, cells: &C, source: &mut S) -> Result<(), Fault>
     requires can { CanFill (C.cells cells.now) ready.old.update ready.old.hand.data }
     requires failures { S.failed source.old < 2 ^ 64 - 1 }
-    ensures pages { OnOk result (ready.new.hand.data.blocks
-        ≡ filled (pages_over ready.old.hand.data.size
-        (page_in (C.cells cells.now) ready.old.hand.data.size)
-        (sourced (S.byte_at source.old) ready.old.update)) ready.old.hand.data.blocks) }
+    ensures pages { OnOk result (ready.new.hand.data.blocks ≡ filled_by (C.cells cells.now)
+        (S.byte_at source.old) ready.old.update ready.old.hand.data) }
     ensures fresh { (bytes : ℕ → List ℕ)
         → HaveBytes bytes ready.old.hand.data.size (C.cells cells.now)
         → ((ino : ℕ) → IsSound bytes ready.old.hand.data.size

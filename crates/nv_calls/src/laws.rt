@@ -15,7 +15,7 @@ ghost use Rattle.nv_entry.specs.Log.{IsLog};
 ghost use Rattle.nv_entry.specs.Node.{block_now};
 ghost use Rattle.nv_entry.specs.Sound.{IsSound};
 ghost use Rattle.nv_entry.specs.declared.node.NodeCopy.{NodeCopy};
-ghost use Rattle.nv_calls.specs.AllCalls.{IsReady, IsToldNothing, blocks_wanted, effect, look_refusal, looked, plan, refusal};
+ghost use Rattle.nv_calls.specs.AllCalls.{IsReady, IsToldNothing, blocks_wanted, effect, look_refusal, looked, plan, present_in, refusal};
 ghost use Rattle.nv_calls.specs.declared.allocation.Allocation.{Allocation};
 ghost use Rattle.nv_calls.specs.CanCommit.{AllowsCommit, CanCommit, IsClosed, TakesCommit, next_stamp};
 ghost use Rattle.nv_calls.specs.Cells.{AreCells, state_at, value_at};
@@ -128,7 +128,7 @@ pub fn plans_use_the_blocks_wanted()
     ensures { (bytes : ℕ → List ℕ) (block : ℕ) (slots : ℕ → InodeSlot) (nodes : Handle → Option NodeCopy)
         (taken : Allocation) (call : Call) → IsReady bytes block slots nodes taken call
         → length (plan_blocks (plan block nodes taken call))
-        ≡ blocks_wanted block nodes taken.present call }
+        ≡ blocks_wanted block nodes (present_in block slots call) call }
 {}
 
 /// The nodes that cells hold are those of their slots, whatever gives the bytes of their blocks.

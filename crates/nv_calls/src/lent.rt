@@ -27,9 +27,7 @@ impl Cells for LastCell<'_> {
 
     ghost cells = { λ lent. (lent.ino, lent.cell.now) ∷ [] };
 
-    ghost places = { λ lent. lent.cell.ghost_name ∷ [] };
-
-    ghost beside = { λ lent. [] };
+    ghost frame = { λ lent. (lent.cell.ghost_name ∷ [], []) };
 
     fn count(&self) -> usize {
         1
@@ -77,9 +75,8 @@ impl<C: Cells> Cells for LentCell<'_, C> {
 
     ghost cells = { λ lent. (lent.ino, lent.cell.now) ∷ C.cells lent.higher };
 
-    ghost places = { λ lent. lent.cell.ghost_name ∷ C.places lent.higher };
-
-    ghost beside = { λ lent. C.beside lent.higher };
+    ghost frame = { λ lent. let higher = C.frame lent.higher in
+        (lent.cell.ghost_name ∷ higher.0, higher.1) };
 
     fn count(&self) -> usize {
         1 + self.higher.count()
@@ -158,9 +155,7 @@ impl<C: Cells> Cells for Option<C> {
 
     ghost cells = { λ lent. unwrap_or (option_map (λ c. C.cells c) lent) [] };
 
-    ghost places = { λ lent. unwrap_or (option_map (λ c. C.places c) lent) [] };
-
-    ghost beside = { λ lent. unwrap_or (option_map (λ c. C.beside c) lent) [] };
+    ghost frame = { λ lent. unwrap_or (option_map (λ c. C.frame c) lent) ([], []) };
 
     fn count(&self) -> usize {
         match self {

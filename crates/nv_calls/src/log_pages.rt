@@ -1,15 +1,14 @@
 //! How many log pages a plan needs.
 
-ghost use Rattle.std.specs.Prelude.{◌≡◌, ◌+◌, ◌<◌, ◌≤◌, ◌^◌, ℕ, [], if◌then◌else◌, length, not};
-ghost use Rattle.std.specs.List.{AllByRecursion};
+ghost use Rattle.std.specs.Prelude.{◌≡◌, ◌+◌, ◌<◌, ◌≤◌, ◌^◌, ℕ, List, length, not};
+ghost use Rattle.std.specs.List.{AllByRecursion, sum_by};
 ghost use Rattle.nv_alloc.specs.Block.{numbers_of};
 ghost use Rattle.nv_calls.specs.declared.log_pages.TheConstants.{MORE_PAGES};
 ghost use Rattle.nv_calls.specs.declared.allocation.Allocation.{Allocation};
 ghost use Rattle.nv_calls.specs.AllCalls.{plan};
-ghost use Rattle.nv_calls.specs.PagesWanted.{goes_on, pages_wanted};
+ghost use Rattle.nv_calls.specs.PagesWanted.{entry_counts, goes_on, pages_wanted};
 ghost use Rattle.nv_calls.specs.Plan.{runs_of};
 ghost use Rattle.nv_calls.specs.Prepared.{CanReady, planned_by};
-ghost use Rattle.nv_calls.specs.Slots.{items_for};
 ghost use Rattle.nv_calls.specs.Updates.{blank_call};
 ghost use Rattle.nv_calls.specs.calls.Rename.{bound_plan};
 
@@ -23,59 +22,65 @@ use nv_base::{Handle, Ino};
 /// three logs grow, and each by at most seven pages more than it gets entries.
 pub const MORE_PAGES: u64 = 24;
 
-/// How many items a call appends to the log of an inode, where its blocks are so many runs.
-fn item_count<N: Nodes>(nodes: &N, made: Ino, runs: usize, update: &Update, ino: Ino) -> usize
+/// For each of at most three inodes how many entries its log gets: none at a place that is left.
+type EntryCounts = [(Ino, usize); 3];
+
+fn none() -> (Ino, usize)
+    ensures { result ≡ (0, 0) }
+{
+    (Ino::new(0), 0)
+}
+
+/// How many entries a call appends, inode by inode, where its blocks are so many runs.
+fn entries_of<N: Nodes>(nodes: &N, made: Ino, runs: usize, update: &Update) -> EntryCounts
     requires { runs < 2 ^ 63 }
-    ensures count { (block : ℕ) (taken : Allocation) → taken.made.ino ≡ made → length taken.runs ≡ runs
-        → result ≡ length
-        (items_for (plan block (N.nodes_of nodes.now) taken (blank_call update.now)) ino) }
-    ensures few { result ≤ runs + 2 }
+    ensures counts { (block : ℕ) (taken : Allocation) → taken.made.ino ≡ made
+        → length taken.runs ≡ runs → result
+        ≡ entry_counts (plan block (N.nodes_of nodes.now) taken (blank_call update.now)) }
+    ensures few { sum_by (λ entries. entries.1) result ≤ runs + 3 }
 {
     match update {
-        Update::Create { dir, .. } | Update::Mkdir { dir, .. } => {
-            usize::from(dir.ino == ino || made == ino)
-        }
+        Update::Create { dir, .. } | Update::Mkdir { dir, .. } => [(dir.ino, 1), (made, 1), none()],
         Update::Write { file, count, .. } => {
             if *count == 0 {
-                return 0;
+                return [none(); 3];
             }
-            if file.ino == ino { runs } else { 0 }
+            [(file.ino, runs), none(), none()]
         }
-        Update::Size { file, .. } => if file.ino == ino { runs + 1 } else { 0 },
-        Update::Mode { handle, .. } => usize::from(handle.ino == ino),
+        Update::Size { file, .. } => [(file.ino, runs + 1), none(), none()],
+        Update::Mode { handle, .. } => [(handle.ino, 1), none(), none()],
         Update::Unlink { dir, name } | Update::Rmdir { dir, name } => {
             match found(nodes, dir, name.as_slice()) {
-                Some(to) => usize::from(dir.ino == ino || to.ino == ino),
-                None => 0,
+                Some(to) => [(dir.ino, 1), (to.ino, 1), none()],
+                None => [none(); 3],
             }
         }
         Update::Rename { from, old, to, new } => {
-            let own = rename::is_own_place(from, old.as_slice(), to, new.as_slice());
-            let looked = look_all(nodes, update);
-            rename_count(own, from, to, &looked, ino)
+            if rename::is_own_place(from, old.as_slice(), to, new.as_slice()) {
+                return [none(); 3];
+            }
+            rename_entries(from, to, &look_all(nodes, update))
         }
     }
 }
 
-/// How many of them for a rename, which commits nothing onto its own place.
-fn rename_count(own: bool, from: &Handle, to: &Handle, looked: &LookupResult, ino: Ino) -> usize
-    ensures count { result ≡ (if own then 0
-        else length
-        (items_for (bound_plan from.now [] to.now [] looked.now.first looked.now.second) ino)) }
-    ensures few { result ≤ 2 }
+/// How many of them for a rename that is not onto its own place.
+fn rename_entries(from: &Handle, to: &Handle, looked: &LookupResult) -> EntryCounts
+    ensures counts { (old new : List ℕ) → result ≡ entry_counts
+        (bound_plan from.now old to.now new looked.now.first looked.now.second) }
+    ensures few { sum_by (λ entries. entries.1) result ≤ 3 }
 {
-    if own || looked.first.is_none() {
-        return 0;
+    if looked.first.is_none() {
+        return [none(); 3];
     }
-    if from.ino == ino && rename::is_same(from, to) {
-        return 2;
-    }
-    if from.ino == ino || to.ino == ino {
-        return 1;
-    }
-    match looked.second {
-        Some(other) => usize::from(other.ino == ino),
-        None => 0,
+    let replaced = match looked.second {
+        Some(other) => (other.ino, 1),
+        None => none(),
+    };
+    if rename::is_same(from, to) {
+        [(from.ino, 2), replaced, none()]
+    } else {
+        [(from.ino, 1), (to.ino, 1), replaced]
     }
 }
 
@@ -108,7 +113,7 @@ fn begins_run(next: Option<u64>, number: u64) -> bool
 
 /// How many log pages the items of a plan need, with the data blocks and the number of a new inode in the hand, beyond
 /// those that the logs of its cells have room in. Takes no memory. Costs the data blocks in the hand, and the look-ups
-/// of the plan for each cell.
+/// of the plan.
 pub fn pages_wanted<C: Cells>(cells: &C, plan: &Plan, hand: &Hand) -> u64
     requires can { CanReady (C.cells cells.now) hand.now plan.now.update }
     ensures wanted { result ≡ pages_wanted (C.cells cells.now)
@@ -118,10 +123,12 @@ pub fn pages_wanted<C: Cells>(cells: &C, plan: &Plan, hand: &Hand) -> u64
     let nodes = HeldNodes::new(cells);
     let made = hand.ino().unwrap_or(Ino::new(0));
     let runs = run_count(&hand.data);
+    let entries = entries_of(&nodes, made, runs, &plan.update);
     let mut wanted = 0;
-    for k in 0..cells.count() {
-        let items = item_count(&nodes, made, runs, &plan.update, cells.ino(k));
-        wanted += cells.cell(k).pages_for(items) as u64;
+    for (ino, count) in &entries {
+        if let Some(cell) = nodes.cell_of(*ino) {
+            wanted += cell.pages_for(*count) as u64;
+        }
     }
     wanted
 }

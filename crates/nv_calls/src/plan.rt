@@ -1,22 +1,20 @@
-//! Plans: what a call that passed its check needs, and the items that it appends to the logs of its inodes.
+//! Plans: a call that passed its check, and the items that it appends to the logs of its inodes.
 
-ghost use Rattle.std.specs.Prelude.{◌≡◌, ◌<◌, ◌^◌, ◌∷◌, [], IfOk};
+ghost use Rattle.std.specs.Prelude.{◌≡◌, ◌∷◌, [], IfOk};
 ghost use Rattle.nv_calls.specs.AllCalls.{is_nothing};
 ghost use Rattle.nv_calls.specs.Plan.{planned};
-ghost use Rattle.nv_calls.specs.Slots.{place_in};
 ghost use Rattle.nv_calls.specs.Updates.{blank_call};
 
 use crate::Update;
 use crate::planning::is_nothing;
-use nv_base::{Handle, Ino, Items};
+use nv_base::{Handle, Items};
 use nv_entry::Item;
 use std::alloc::{AllocError, Global};
 
-/// A call that passed its check, and how many blocks it needs for its pages.
+/// A call that passed its check.
 #[derive(Debug, Drop)]
 pub struct Plan {
     pub update: Update,
-    pub blocks: u64,
 }
 
 impl Plan {
@@ -33,20 +31,6 @@ impl Plan {
 pub struct InodePlan {
     pub handle: Handle,
     pub items: Items<Item>,
-}
-
-/// Where the entries of an inode begin among those of a commit, which go by rising inode number.
-pub fn place_in(plan: &[InodePlan], ino: Ino) -> u32
-    requires { place_in plan.now ino < 2 ^ 32 }
-    ensures { result ≡ place_in plan.now ino }
-{
-    let mut place = 0;
-    for planned in plan {
-        if planned.handle.ino < ino {
-            place += planned.items.len() as u32;
-        }
-    }
-    place
 }
 
 /// What a call appends, inode by inode.

@@ -17,7 +17,7 @@ ghost use Rattle.nv_calls.specs.Slots.{items_for};
 ghost use Rattle.nv_calls.specs.Steps.{HaveBlocks};
 
 use crate::checked::block_in;
-use crate::planning::{ends_in_page, plan_items};
+use crate::planning::plan_items;
 use crate::runs::runs_of;
 use crate::{Allocation, CellCommit, Cells, HeldNodes, InodePlan, Plan, Ready, Update};
 use nv_alloc::{BlockQueue, Hand};
@@ -69,12 +69,8 @@ fn planned_by<C: Cells>(
     let nodes = HeldNodes::new(cells);
     let numbers = numbers_of(alloc, &hand.data)?;
     let runs = Items::from_vec(runs_of(alloc, &numbers)?);
-    let present = ends_in_page(block, &nodes, update);
-    let taken = Allocation {
-        made: or_none(made),
-        runs,
-        present,
-    };
+    let made = or_none(made);
+    let taken = Allocation { made, runs };
     let planned = plan_items(alloc, block, &nodes, &taken, update)?;
     Ok(planned.into_vec())
 }
@@ -137,8 +133,7 @@ fn ready_cells<C: Cells>(cells: &mut C, plans: &[CellCommit]) -> Result<(), Faul
     ensures cells { HaveNoLessRoom (C.cells cells.old) (C.cells cells.new) }
     ensures ready { OnOk result (AreReady (C.cells cells.new) plans.now) }
     ensures err { FailsOnly out_of_memory result }
-    ensures places { C.places cells.new ≡ C.places cells.old }
-    ensures beside { C.beside cells.new ≡ C.beside cells.old }
+    ensures frame { C.frame cells.new ≡ C.frame cells.old }
 {
     for plan in plans {
         cells.ready(plan.at, &plan.items)?;
@@ -190,8 +185,7 @@ fn prepare<C: Cells>(
     ensures hand { HasNoLessRoom hand.old hand.new }
     ensures cells { HaveNoLessRoom (C.cells cells.old) (C.cells cells.new) }
     ensures err { FailsOnly out_of_memory result }
-    ensures places { C.places cells.new ≡ C.places cells.old }
-    ensures beside { C.beside cells.new ≡ C.beside cells.old }
+    ensures frame { C.frame cells.new ≡ C.frame cells.old }
 {
     // A block has a byte.
     let _block = block_in(cells);
@@ -223,10 +217,9 @@ pub fn ready_on<C: Cells>(
     ensures err { IfErr result
         (λ refused. (refused.0 ≡ out_of_memory) × HasNoLessRoom hand refused.1) }
     ensures cells { HaveNoLessRoom (C.cells cells.old) (C.cells cells.new) }
-    ensures places { C.places cells.new ≡ C.places cells.old }
-    ensures beside { C.beside cells.new ≡ C.beside cells.old }
+    ensures frame { C.frame cells.new ≡ C.frame cells.old }
 {
-    let Plan { update, blocks: _ } = plan;
+    let Plan { update } = plan;
     let made = made_by(cells, hand.ino(), &update);
     let mut hand = hand;
     let prepared = prepare(alloc, cells, &update, &made, &mut hand);

@@ -1,12 +1,12 @@
 //! The check of a call that changes nodes.
 
-ghost use Rattle.std.specs.Prelude.{◌≡◌, ◌<◌, ◌≤◌};
+ghost use Rattle.std.specs.Prelude.{◌≡◌, ◌<◌, ◌≤◌, IfOk};
+ghost use Rattle.std.specs.Result.{result_err};
 ghost use Rattle.nv_base.specs.declared.limits.TheConstants.{BLOCK_BYTES};
-ghost use Rattle.nv_calls.specs.AllCalls.{early, late, look_refusal, refusal};
-ghost use Rattle.nv_calls.specs.Updates.{blank_call};
+ghost use Rattle.nv_calls.specs.AllCalls.{early, late, look_refusal};
+ghost use Rattle.nv_calls.specs.Updates.{blank_call, blocks_taken};
 
 use crate::calls::{create, lookup, mkdir, mode, rename, rmdir, size, unlink, write};
-use crate::looked::look_all;
 use crate::{LookupResult, Nodes, Update};
 use nv_base::Fault;
 
@@ -38,42 +38,35 @@ pub fn check_early<N: Nodes>(nodes: &N, call: &Update) -> Result<(), Fault>
     }
 }
 
-/// Why a call is refused at its check behind that, by what its names lead to.
+/// Why a call is refused at its check behind that, by what its names lead to, or how many blocks it takes for its pages.
 pub fn check_late<N: Nodes>(
     block: u64,
     nodes: &N,
     looked: &LookupResult,
     call: &Update,
-) -> Result<(), Fault>
+) -> Result<u64, Fault>
     requires some_bytes { 0 < block }
     requires few_bytes { block ≤ BLOCK_BYTES }
-    ensures { result ≡ late block (N.nodes_of nodes.now) looked.now (blank_call call.now) }
+    ensures tests { result_err result
+        ≡ result_err (late block (N.nodes_of nodes.now) looked.now (blank_call call.now)) }
+    ensures wanted { IfOk result (λ n. n
+        ≡ blocks_taken block (N.nodes_of nodes.now) (N.has_page nodes.now) call.now) }
 {
     match call {
-        Update::Create { dir, name, .. } => create::check(nodes, dir, name.as_slice()),
-        Update::Mkdir { dir, name, .. } => mkdir::check(nodes, dir, name.as_slice()),
+        Update::Create { dir, name, .. } => create::check(nodes, dir, name.as_slice())?,
+        Update::Mkdir { dir, name, .. } => mkdir::check(nodes, dir, name.as_slice())?,
         Update::Write {
             file,
             offset,
             count,
-        } => write::check(block, nodes, file, *offset, *count),
-        Update::Size { file, size } => size::check(block, nodes, file, *size),
-        Update::Mode { handle, .. } => mode::check(nodes, handle),
-        Update::Unlink { .. } => unlink::check_late(nodes, looked.first),
-        Update::Rmdir { .. } => rmdir::check_late(nodes, looked.first),
+        } => return write::check(block, nodes, file, *offset, *count),
+        Update::Size { file, size } => return size::check(block, nodes, file, *size),
+        Update::Mode { handle, .. } => mode::check(nodes, handle)?,
+        Update::Unlink { .. } => unlink::check_late(nodes, looked.first)?,
+        Update::Rmdir { .. } => rmdir::check_late(nodes, looked.first)?,
         Update::Rename { from, old, to, new } => {
-            rename::check_late(nodes, from, old.as_slice(), to, new.as_slice(), looked)
+            rename::check_late(nodes, from, old.as_slice(), to, new.as_slice(), looked)?
         }
     }
-}
-
-/// Why a call is refused at its check, if it is, by the nodes that it names.
-pub fn check<N: Nodes>(block: u64, nodes: &N, call: &Update) -> Result<(), Fault>
-    requires some_bytes { 0 < block }
-    requires few_bytes { block ≤ BLOCK_BYTES }
-    ensures { result ≡ refusal block (N.nodes_of nodes.now) (blank_call call.now) }
-{
-    check_early(nodes, call)?;
-    let looked = look_all(nodes, call);
-    check_late(block, nodes, &looked, call)
+    Ok(0)
 }

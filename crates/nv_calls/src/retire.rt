@@ -58,8 +58,7 @@ fn retire_part<C: Cells>(
     ensures room { book.old.room ≤ book.new.room + 1 }
     ensures free { free.new ≡ with_back (freed_one (ids book.old.state.snaps)
         (ino_at (C.cells cells.old) k) epoch killed (state_at (C.cells cells.old) k)) free.old }
-    ensures lent { C.places cells.new ≡ C.places cells.old }
-    ensures beside { C.beside cells.new ≡ C.beside cells.old }
+    ensures frame { C.frame cells.new ≡ C.frame cells.old }
 {
     let part = killed.part;
     match book.retire(record_of(cells.ino(k), epoch, killed)) {
@@ -101,8 +100,7 @@ pub(crate) fn retire_parts<C: Cells>(
     ensures room { book.old.room ≤ book.new.room + length killed.now }
     ensures free { free.new ≡ with_back (freed_by (ids book.old.state.snaps)
         (ino_at (C.cells cells.old) k) epoch killed.now (state_at (C.cells cells.old) k)) free.old }
-    ensures lent { C.places cells.new ≡ C.places cells.old }
-    ensures beside { C.beside cells.new ≡ C.beside cells.old }
+    ensures frame { C.frame cells.new ≡ C.frame cells.old }
 {
     for part in killed {
         retire_part(book, cells, k, epoch, *part, free);
@@ -123,8 +121,7 @@ pub fn erase_gone<C: Cells>(cells: &mut C, k: usize, hand: &mut Hand)
         ≡ room_erased (state_at (C.cells cells.old) k) (value_at (C.cells cells.old) k).room }
     ensures hand { hand.new
         ≡ hand_with (ino_at (C.cells cells.old) k) (state_at (C.cells cells.old) k) hand.old }
-    ensures lent { C.places cells.new ≡ C.places cells.old }
-    ensures beside { C.beside cells.new ≡ C.beside cells.old }
+    ensures frame { C.frame cells.new ≡ C.frame cells.old }
 {
     let cell = cells.cell(k);
     if !cell.is_gone() || !cell.keeps_nothing() {

@@ -37,9 +37,10 @@ impl Cells for SlotCells<'_> {
 
     ghost cells = { λ lent. lent_cells lent.slots.now lent.cells.now };
 
-    ghost places = { λ lent. lent.cells.ghost_name ∷ lent.slots.now };
-
-    ghost beside = { λ lent. other_cells lent.slots.now lent.cells.now };
+    ghost frame = { λ lent. (
+      lent.cells.ghost_name ∷ lent.slots.now,
+      other_cells lent.slots.now lent.cells.now,
+    ) };
 
     fn count(&self) -> usize {
         self.slots.len()

@@ -5,7 +5,7 @@ ghost use Rattle.std.specs.List.{sum_by};
 ghost use Rattle.std.specs.Option.{option_map};
 ghost use Rattle.nv_base.specs.declared.numbers.Handle.{Handle};
 ghost use Rattle.nv_book.specs.Book.{with_journal};
-ghost use Rattle.nv_cell.specs.Cell.{KeepsAppendRoom, fresh_of, log_of, published};
+ghost use Rattle.nv_cell.specs.Cell.{KeepsAppendRoom, fresh_of, killed_by, log_of, published};
 ghost use Rattle.nv_cell.specs.Effects.{BindNone, items_of};
 ghost use Rattle.nv_cell.specs.Killed.{AreKilled};
 ghost use Rattle.nv_cell.specs.Room.{IsReadyFor};
@@ -15,14 +15,15 @@ ghost use Rattle.nv_calls.specs.Cells.{AreCells, OnlyAt, ino_at, state_at, value
 ghost use Rattle.nv_calls.specs.Commit.{HasJournal, NotesNext, after_append, after_close, after_open, after_publish, after_retire, to_append, to_publish, to_retire, without_journal};
 ghost use Rattle.nv_calls.specs.Ready.{ArePlaced, old_tails};
 ghost use Rattle.nv_calls.specs.Retired.{CanRetire};
-ghost use Rattle.nv_calls.specs.Retiring.{erased, killed_by, part_in, retired, room_erased, with_records};
+ghost use Rattle.nv_calls.specs.Retiring.{erased, part_in, retired, room_erased, with_records};
 ghost use Rattle.nv_calls.specs.Steps.{CanAppendPlan, with_plan};
 
-use crate::append::append_entries;
-use crate::publish::{open_journal, publish_cell};
+use crate::append::{add_pages, append_to_pages};
+use crate::journal::open_journal;
 use crate::retire::{erase_gone, retire_parts};
 use crate::{Cells, Commit};
 use nv_book::Book;
+use std::collections::VecDeque;
 
 /// Appends the entries of the next cell past its tail, with pages of the log and the blocks of their pages from the
 /// call's hand. Takes no memory; the time is that of these entries and of the blocks that they take.
@@ -39,22 +40,20 @@ pub fn append_on<C: Cells>(cells: &mut C, commit: &mut Commit)
     ensures commit { commit.new
         ≡ after_append (state_at (C.cells cells.old) (to_append commit.old).at).chain commit.old }
     ensures can_publish { IsReadyFor [] (value_at (C.cells cells.new) (to_append commit.old).at) }
-    ensures places { C.places cells.new ≡ C.places cells.old }
-    ensures beside { C.beside cells.new ≡ C.beside cells.old }
+    ensures frame { C.frame cells.new ≡ C.frame cells.old }
 {
     let j = commit.appended;
     let k = commit.place_of(j);
     let items = commit.take_items(j);
-    let count = items.len() as u32;
-    append_entries(
-        cells,
-        k,
-        &commit.stamp,
-        commit.place,
-        items,
-        &mut commit.hand,
-    );
-    commit.place += count;
+    let count = items.len();
+    let pages = cells.cell(k).pages_for(count);
+    add_pages(cells, k, pages, &mut commit.hand.pages);
+    // The log is one, so that its pages take the entries.
+    cells.cell(k).use_invariant();
+    let mut left = VecDeque::from_vec(items);
+    let blocks = &mut commit.hand.data;
+    append_to_pages(cells, k, &commit.stamp, commit.place, &mut left, blocks);
+    commit.place += count as u32;
     commit.appended += 1;
 }
 
@@ -113,11 +112,10 @@ pub fn publish_on<C: Cells>(_book: &Book, cells: &mut C, commit: &mut Commit)
     ensures name { let k = (to_publish commit.old).at in
         BindNone (items_of (fresh_of (state_at (C.cells cells.old) k)))
         → (value_at (C.cells cells.new) k).room.name ≡ (value_at (C.cells cells.old) k).room.name }
-    ensures places { C.places cells.new ≡ C.places cells.old }
-    ensures beside { C.beside cells.new ≡ C.beside cells.old }
+    ensures frame { C.frame cells.new ≡ C.frame cells.old }
 {
     let j = commit.published;
-    let killed = publish_cell(cells, commit.place_of(j));
+    let killed = cells.publish(commit.place_of(j));
     commit.keep_killed(j, killed);
     commit.published += 1;
 }
@@ -175,8 +173,7 @@ pub fn retire_on<C: Cells>(book: &mut Book, cells: &mut C, commit: &mut Commit)
     ensures commit { let plan = to_retire commit.old in
         commit.new ≡ after_retire (ids book.old.state.snaps) (ino_at (C.cells cells.old) plan.at)
         (state_at (C.cells cells.old) plan.at) commit.old }
-    ensures places { C.places cells.new ≡ C.places cells.old }
-    ensures beside { C.beside cells.new ≡ C.beside cells.old }
+    ensures frame { C.frame cells.new ≡ C.frame cells.old }
 {
     let j = commit.retired;
     let k = commit.place_of(j);

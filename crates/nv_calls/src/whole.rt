@@ -39,8 +39,7 @@ fn append_all<C: Cells>(cells: &mut C, commit: &mut Commit)
       place = place_before commit.old.plans count;
       appended = count;
     } }
-    ensures places { C.places cells.new ≡ C.places cells.old }
-    ensures beside { C.beside cells.new ≡ C.beside cells.old }
+    ensures frame { C.frame cells.new ≡ C.frame cells.old }
 {
     for _plan in 0..commit.planned() {
         append_on(cells, commit);
@@ -63,8 +62,7 @@ fn publish_all<C: Cells>(book: &Book, cells: &mut C, commit: &mut Commit)
       plans = commit.new.plans;
       published = length commit.old.plans;
     } }
-    ensures places { C.places cells.new ≡ C.places cells.old }
-    ensures beside { C.beside cells.new ≡ C.beside cells.old }
+    ensures frame { C.frame cells.new ≡ C.frame cells.old }
 {
     for _plan in 0..commit.planned() {
         publish_on(book, cells, commit);
@@ -94,8 +92,7 @@ fn publish_noted<C: Cells>(book: &mut Book, cells: &mut C, commit: &mut Commit, 
       published = length commit.old.plans;
       noted = journaled (C.cells cells.old) commit.old.plans;
     } }
-    ensures places { C.places cells.new ≡ C.places cells.old }
-    ensures beside { C.beside cells.new ≡ C.beside cells.old }
+    ensures frame { C.frame cells.new ≡ C.frame cells.old }
 {
     if commit.planned() < 2 {
         publish_all(book, cells, commit);
@@ -135,8 +132,7 @@ fn retire_all<C: Cells>(book: &mut Book, cells: &mut C, commit: &mut Commit)
           (noted_killing (C.cells cells.old) commit.old) (length commit.old.plans) commit.old.hand;
       retired = length commit.old.plans;
     } }
-    ensures places { C.places cells.new ≡ C.places cells.old }
-    ensures beside { C.beside cells.new ≡ C.beside cells.old }
+    ensures frame { C.frame cells.new ≡ C.frame cells.old }
 {
     for _plan in 0..commit.planned() {
         retire_on(book, cells, commit);
@@ -173,8 +169,7 @@ pub fn commit_on<C: Cells>(
         ≡ receipt_by (C.cells cells.old) (begun (stamp_of book.old.state) ready) }
     ensures hand { result.1 ≡ hand_left (ids book.old.state.snaps) (C.cells cells.old)
         (begun (stamp_of book.old.state) ready) }
-    ensures places { C.places cells.new ≡ C.places cells.old }
-    ensures beside { C.beside cells.new ≡ C.beside cells.old }
+    ensures frame { C.frame cells.new ≡ C.frame cells.old }
 {
     let mut commit = Commit::begin(ready, book);
     append_all(cells, &mut commit);

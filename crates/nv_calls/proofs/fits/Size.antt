@@ -17,8 +17,9 @@ use Rattle.nv_entry.specs.Stored.{Stored, block_after, stored, stored_after_all}
 use Rattle.nv_entry.proofs.Hiding.{run_from, run_parts}
 use Rattle.nv_entry.proofs.PageBytes.{page_of-past, pages_for-most}
 use Rattle.nv_entry.proofs.SoundLogs.{one_makes, suits_file}
-use Rattle.nv_calls.specs.AllCalls.{HasCutPage}
+use Rattle.nv_calls.specs.AllCalls.{present_in}
 use Rattle.nv_calls.specs.declared.allocation.Allocation.{Allocation}
+use Rattle.nv_calls.specs.declared.call.Call.TheVariants as call
 use Rattle.nv_calls.specs.Plain.{node_in}
 use Rattle.nv_calls.specs.Refusals.{bytes_of, passes, refuse_if}
 use Rattle.nv_calls.specs.Slots.{IsPlan, InodeSlot, node_under}
@@ -155,20 +156,22 @@ absent_page bytes block page log node present st told missing =
 pub size_fits : (bytes : ℕ → List ℕ) (block : ℕ) (slots : ℕ → InodeSlot) (file : Handle) (size : ℕ) (taken : Allocation)
     → 0 < block → IsSound bytes block (slots file.ino).log
     → size_refusal block (node_in (node_under bytes block slots)) file size ≡ passes
-    → HasCutPage bytes block slots taken file size (bytes_of (node_in (node_under bytes block slots) file))
+    → HaveCut bytes block size (present_in block slots (call.Size file size)) (bytes_of (node_in (node_under bytes block slots) file))
+    taken.runs
     → IsPlan bytes block slots (size_plan block file size taken.runs) (size_effect file size)
 size_fits bytes block slots file size taken some sound passed has =
     let runs : List BlockRun = taken.runs in
     let found : Option NodeCopy = node_in (node_under bytes block slots) file in
     let f = file_passed found (refuse_if (nat_lt (65536 * block) size) fault.FileTooBig passes) passed in
     let few = ltb-false (65536 * block) size (if_passed (nat_lt (65536 * block) size) fault.FileTooBig passes f.1).0 in
-    let ready = subst (λ (o : Option NodeCopy). HaveCut bytes block size taken.present (bytes_of o) runs) f.0.is has.cut in
+    let present : Bool = present_in block slots (call.Size file size) in
+    let ready = subst (λ (o : Option NodeCopy). HaveCut bytes block size present (bytes_of o) runs) f.0.is has in
     let own = own_handle bytes block slots file (there File found f.0) in
     let st = stands bytes block slots file (there File found f.0) sound in
-    let absent = absent_page bytes block (size / block) (slots file.ino).log f.0.node taken.present st has.present in
+    let absent = absent_page bytes block (size / block) (slots file.ino).log f.0.node present st refl in
     and_plan bytes block slots some file (write_items (size / block) runs size ++ SetSize size ∷ []) (option_map (resized_node size)) [] []
     (some_items (size / block) runs size) own
     (subst (λ (o : Option NodeCopy). MakesAll bytes block (write_items (size / block) runs size ++ SetSize size ∷ []) o
     (option_map (resized_node size) o))
-    (sym f.0.is) (size_makes bytes block size f.0.node some f.0.kind_is few taken.present runs ready absent))
+    (sym f.0.is) (size_makes bytes block size f.0.node some f.0.kind_is few present runs ready absent))
     (no_plan bytes block slots some)

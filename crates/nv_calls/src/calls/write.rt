@@ -1,6 +1,7 @@
 //! Writing into a file.
 
 ghost use Rattle.std.specs.Prelude.{◌≡◌, ◌+◌, ◌-◌, ◌*◌, ◌/◌, ◌<◌, ◌≤◌, ◌^◌, ℕ, List, IfOk, length, nat_lt, replicate};
+ghost use Rattle.std.specs.Result.{result_err};
 ghost use Rattle.nv_base.specs.declared.limits.TheConstants.{BLOCK_BYTES, FILE_PAGES};
 ghost use Rattle.nv_entry.specs.Bytes.{pages_touched, written};
 ghost use Rattle.nv_entry.specs.Sound.{blocks_of};
@@ -14,37 +15,40 @@ use nv_base::{Fault, Handle, Items, limits};
 use nv_entry::BlockRun;
 use std::alloc::{AllocError, Global};
 
-/// Why a write is refused.
+/// Why a write is refused, or how many blocks it takes: one for each page that the text touches.
 pub fn check<N: Nodes>(
     block: u64,
     nodes: &N,
     file: &Handle,
     offset: u64,
     count: u64,
-) -> Result<(), Fault>
+) -> Result<u64, Fault>
     requires some_bytes { 0 < block }
     requires few_bytes { block ≤ BLOCK_BYTES }
-    ensures { result ≡ write_refusal block (N.nodes_of nodes.now) file.now offset
-        (replicate count 0) }
+    ensures tests { let text = replicate count 0 in result_err result
+        ≡ result_err (write_refusal block (N.nodes_of nodes.now) file.now offset text) }
+    ensures wanted { IfOk result (λ n. n ≡ write_blocks block offset (replicate count 0)) }
 {
     want_file(nodes.kind(file))?;
     if count == 0 {
-        return Ok(());
+        return Ok(0);
     }
     check_count(block, offset, count)
 }
 
-/// Why a write of at least one byte is refused.
-fn check_count(block: u64, offset: u64, count: u64) -> Result<(), Fault>
+/// The same of a write of at least one byte to a file.
+fn check_count(block: u64, offset: u64, count: u64) -> Result<u64, Fault>
     requires some_bytes { 0 < block }
     requires few_bytes { block ≤ BLOCK_BYTES }
     requires some_text { 0 < count }
-    ensures { result ≡ count_refusal block offset count }
+    ensures tests { result_err result ≡ result_err (count_refusal block offset count) }
+    ensures wanted { IfOk result (λ n. n ≡ pages_touched block offset count) }
 {
     let pages = pages_touched(block, offset, count);
     refuse_if(pages > limits::WRITE_PAGES, Fault::WriteTooBig)?;
     let most = u64::from(limits::FILE_PAGES) * block;
-    refuse_if(ends_past(most, offset, count), Fault::FileTooBig)
+    refuse_if(ends_past(most, offset, count), Fault::FileTooBig)?;
+    Ok(pages)
 }
 
 /// Whether bytes from an offset on end past a size.
@@ -55,17 +59,6 @@ fn ends_past(size: u64, offset: u64, count: u64) -> bool
         return true;
     }
     count > size - offset
-}
-
-/// How many blocks a write takes: one for each page that the text touches.
-pub fn blocks_wanted(block: u64, offset: u64, count: u64) -> u64
-    requires { 0 < block }
-    ensures { result ≡ write_blocks block offset (replicate count 0) }
-{
-    if count == 0 {
-        return 0;
-    }
-    pages_touched(block, offset, count)
 }
 
 /// One item for each run of the blocks that have the text's pages, with the size of the file after

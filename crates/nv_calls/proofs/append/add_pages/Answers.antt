@@ -19,8 +19,7 @@ loop-added-init g c =
       ready = λ items h. h;
       room = omega arith;
       pages = none_front c.args.pages.now;
-      places = refl;
-      beside = refl;
+      frame = refl;
     }
 
 -- the cell has the front pages
@@ -52,8 +51,7 @@ loop-added-preserved g c =
           omega (arith, p.more, i.room, page);
       pages = one_front n c.args.pages.now l.pages c.take_next.new.self c.take_next.result c.in-Some.block c.in-Some.is i.pages
           c.take_next.ensures.rest;
-      places = c.add_page.ensures.places ∙ i.places;
-      beside = c.add_page.ensures.beside ∙ i.beside;
+      frame = c.add_page.ensures.frame ∙ i.frame;
     }
 
 pub add_page-requires-clause-sized : goal.add_page-requires-clause-sized

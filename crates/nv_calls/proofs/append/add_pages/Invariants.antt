@@ -15,6 +15,5 @@ invariant-loop-added g l = record {
   room : let old = (state_at (g.C.Cells.cells l.fn.cells) l.k).chain in
       room_of (state_at (g.C.Cells.cells l.cells) l.k).chain ≡ room_of old + l._added * old.page;
   pages : l.pages ≡ without_front l._added l.fn.pages;
-  places : g.C.Cells.places l.cells ≡ g.C.Cells.places l.fn.cells;
-  beside : g.C.Cells.beside l.cells ≡ g.C.Cells.beside l.fn.cells;
+  frame : g.C.Cells.frame l.cells ≡ g.C.Cells.frame l.fn.cells;
 }

@@ -60,6 +60,5 @@ loop-done-preserved g c =
       few = omega (arith, i.few, ap length items);
       queue = ap (without_front (length (numbers_in rest))) queue ∙ without_more item rest l.blocks
           ∙ sym (ap (λ (xs : List Item). without_front (length (numbers_in xs)) l.blocks) items) ∙ i.queue;
-      places = c.append.ensures.places ∙ i.places;
-      beside = c.append.ensures.beside ∙ i.beside;
+      frame = c.append.ensures.frame ∙ i.frame;
     }

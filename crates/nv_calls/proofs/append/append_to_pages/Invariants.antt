@@ -16,6 +16,5 @@ invariant-loop-done g l =
       count : l._done + length l.left.items ≡ length l.fn.left.items;
       few : l.next + length l.left.items ≡ l.place + length l.fn.left.items;
       queue : without_front (length (numbers_in l.left.items)) l.blocks ≡ without_front (length (numbers_in l.fn.left.items)) l.fn.blocks;
-      places : g.C.Cells.places l.cells ≡ g.C.Cells.places l.fn.cells;
-      beside : g.C.Cells.beside l.cells ≡ g.C.Cells.beside l.fn.cells;
+      frame : g.C.Cells.frame l.cells ≡ g.C.Cells.frame l.fn.cells;
     }

@@ -1,26 +1,18 @@
-use Rattle.std.proofs.Common.{◌≡◌, ◌<◌, ℕ, get_or, length, arith, ap, ap₂, subst, sym, take, take_all, sum_by, ◌∙◌}
+use Rattle.std.proofs.Common.{◌≡◌, ◌+◌, ◌≤◌, ℕ, List, get_or, length, arith, ap, subst, sym, take, take_all, sum_by, ◌∙◌}
+use Rattle.std.specs.Prelude.{option_map}
 use Rattle.std.proofs.lemmas.Grind.{common_steps}
-use Rattle.std.proofs.lemmas.List.Sums.{sum_by_more}
+use Rattle.std.proofs.lemmas.List.Sums.{sum_by-take-le, sum_by_more, sum_by_more_le}
 use Rattle.nv_cell.specs.Cell.{CellValue}
-use Rattle.nv_log.specs.Chain.{pages_for}
 use Rattle.nv_calls.specs.AllCalls.{plan}
-use Rattle.nv_calls.specs.Cells.{no_cell}
-use Rattle.nv_calls.specs.Nodes.{block_in, nodes_in}
-use Rattle.nv_calls.specs.PagesWanted.{pages_needed}
+use Rattle.nv_calls.specs.Nodes.{block_in, cell_of, nodes_in}
+use Rattle.nv_calls.specs.PagesWanted.{entry_counts}
 use Rattle.nv_calls.specs.Prepared.{planned_by, taken_by}
-use Rattle.nv_calls.specs.Slots.{items_for}
 use Rattle.nv_calls.specs.Updates.{blank_call}
-use Rattle.nv_calls.proofs.FewPages.{few_pages, most_for, needed_within}
 use Rattle.nv_calls.proofs.LogPages.{blocks_below, made_number}
+use Rattle.nv_calls.proofs.PagesByInode.{pages_at, pages_if, three_places, wanted_by_inode}
+use Rattle.nv_calls.proofs.log_pages.pages_wanted.Given as given
 use Rattle.nv_calls.proofs.log_pages.pages_wanted.Goals as goal
-
-pub item_count-items-requires : goal.item_count-items-requires
-item_count-items-requires g c =
-    omega (
-      arith,
-      c.run_count-runs.ensures.few,
-      blocks_below (g.C.Cells.cells c.args.cells.now) c.args.hand.now c.args.plan.now.update c.requires.can,
-    )
+use Rattle.nv_calls.proofs.log_pages.pages_wanted.Goals.{Joined-cell_of, in-Some, in_default}
 
 pub overflow_add-wanted : goal.overflow_add-wanted
 overflow_add-wanted g c =
@@ -28,59 +20,75 @@ overflow_add-wanted g c =
       arith,
       c.run_count-runs.ensures.few,
       blocks_below (g.C.Cells.cells c.args.cells.now) c.args.hand.now c.args.plan.now.update c.requires.can,
-      c.item_count-items.ensures.few,
+      c.entries_of-entries.ensures.few,
+      c.loop-ino.invariant.few,
+      c.loop-ino-test.true,
       c.pages_for.ensures.few,
-      c.loop-k.invariant.few,
-      c.loop-k-test.true,
-      c.count-k-end.ensures,
-      c.requires.can.lent.few,
+      sum_by_more_le (λ (entries : ℕ × ℕ). entries.1) c.entries_of-entries.result c.loop-ino.ino-index c.loop-ino-item.result
+          (omega (arith, c.loop-ino-test.true, c.type_inv.ino-items)),
     )
 
-pub loop-k-preserved : goal.loop-k-preserved
-loop-k-preserved g c =
+-- ---- one more inode
+
+module _ (g : given.Over) (c : goal.Joined-cell_of g) where
+  abbrev cells : List (ℕ × CellValue)
+  cells = g.C.Cells.cells c.args.cells.now
+
+  abbrev there : ℕ × ℕ
+  there = get_or c.entries_of-entries.result c.loop-ino.ino-index c.loop-ino-item.result
+
+  next : (f : ℕ × ℕ → ℕ) → sum_by f (take (c.loop-ino.ino-index + 1) c.entries_of-entries.result)
+      ≡ sum_by f (take c.loop-ino.ino-index c.entries_of-entries.result) + f there
+  next f =
+      sum_by_more f c.entries_of-entries.result c.loop-ino.ino-index c.loop-ino-item.result
+      (omega (arith, c.loop-ino-test.true, c.type_inv.ino-items))
+
+  found : option_map (λ cell. cell.now) c.cell_of.result ≡ cell_of cells there.0
+  found = c.cell_of.ensures ∙ ap (λ lent. cell_of (g.C.Cells.cells lent) there.0) c.new-nodes.ensures
+
+  pages : (c.match-cell_of.wanted ≡ c.loop-ino.wanted + pages_at cells there) × (pages_at cells there ≤ there.1 + 7)
+  pages = elim c.match-cell_of.branch [
+    | in-Some w ↦
+        let own : pages_at cells there ≡ w.pages_for.result =
+        ap (pages_if there.1) (sym found ∙ ap (option_map (λ cell. cell.now)) w.in-Some.is) ∙ sym w.pages_for.ensures.value in
+        (omega (arith, own, w.wanted-is), omega (arith, own, w.pages_for.ensures.few))
+    | in_default w ↦
+        let none : pages_at cells there ≡ 0 =
+        ap (pages_if there.1) (sym found ∙ ap (option_map (λ cell. cell.now)) w.in_default.is) in
+        (omega (arith, none, w.wanted-is), omega (arith, none))
+  ]
+
+pub loop-ino-preserved : goal.loop-ino-preserved
+loop-ino-preserved g c = record {
+  sum = omega (arith, pages g c, c.loop-ino.invariant.sum, next g c (pages_at (cells g c)));
+  few = omega (arith, pages g c, c.loop-ino.invariant.few, next g c (λ entries. entries.1));
+}
+
+-- ---- all of them
+
+pub returns-clause-wanted : goal.returns-clause-wanted
+returns-clause-wanted g c =
     let cells = g.C.Cells.cells c.args.cells.now in
     let hand = c.args.hand.now in
     let u = c.args.plan.now.update in
-    let k = c.loop-k.k in
-    let lt : k < length cells = omega (arith, c.loop-k-test.true, c.count-k-end.ensures) in
     let made : (taken_by cells hand u).made.ino ≡ c.unwrap_or-made.result =
     made_number cells hand u c.requires.can ∙ grind (arith, common_steps) in
-    let count = c.item_count-items.ensures.count (block_in cells) (taken_by cells hand u) made (sym c.run_count-runs.ensures.runs) in
-    let here : c.item_count-items.result ≡ length (items_for (planned_by cells hand u) c.ino-in-loop-k.result) =
-    subst (λ lent. c.item_count-items.result
-    ≡ length (items_for (plan (block_in cells) (nodes_in (g.C.Cells.cells lent)) (taken_by cells hand u) (blank_call u))
-    c.ino-in-loop-k.result))
-    c.new-nodes.ensures count in
-    let own : c.pages_for.result ≡ pages_needed (planned_by cells hand u) (get_or cells k no_cell) =
-    c.pages_for.ensures.value
-    ∙ ap₂ (λ (v : CellValue) (n : ℕ). pages_for v.state.chain n) c.cell.ensures
-    (here ∙ ap (λ (n : ℕ). length (items_for (planned_by cells hand u) n)) c.ino-in-loop-k.ensures) in
-    let plan = planned_by cells hand u in
-    let there = get_or cells k no_cell in
-    let items : c.item_count-items.result ≡ length (items_for plan there.0) =
-    here ∙ ap (λ (n : ℕ). length (items_for plan n)) c.ino-in-loop-k.ensures in
-    let most = needed_within plan there (omega (arith, own, items, c.pages_for.ensures.few)) in
-    record {
-      most = omega (arith, own, most, c.loop-k.invariant.most, sum_by_more (most_for plan) cells k no_cell lt);
-      sum = omega (arith, own, c.loop-k.invariant.sum, sum_by_more (pages_needed (planned_by cells hand u)) cells k no_cell lt);
-      few = omega (
-        arith,
-        c.run_count-runs.ensures.few,
-        blocks_below cells hand u c.requires.can,
-        c.item_count-items.ensures.few,
-        c.pages_for.ensures.few,
-        c.loop-k.invariant.few,
-      );
-    }
+    let counts : c.entries_of-entries.result ≡ entry_counts (planned_by cells hand u) =
+    subst (λ lent. c.entries_of-entries.result
+    ≡ entry_counts (plan (block_in cells) (nodes_in (g.C.Cells.cells lent)) (taken_by cells hand u) (blank_call u)))
+    c.new-nodes.ensures
+    (c.entries_of-entries.ensures.counts (block_in cells) (taken_by cells hand u) made (sym c.run_count-runs.ensures.runs)) in
+    let all = take_all c.loop-ino.ino-index c.entries_of-entries.result
+    (omega (arith, c.loop-ino-test.false, ap length counts, three_places (planned_by cells hand u))) in
+    c.loop-ino.invariant.sum ∙ ap (sum_by (pages_at cells)) (all ∙ counts) ∙ wanted_by_inode cells hand u c.requires.can
 
 pub returns-clause-few : goal.returns-clause-few
 returns-clause-few g c =
-    let cells = g.C.Cells.cells c.args.cells.now in
-    let plan = planned_by cells c.args.hand.now c.args.plan.now.update in
-    let all : take c.loop-k.k cells ≡ cells = take_all c.loop-k.k cells (omega (arith, c.loop-k-test.false, c.count-k-end.ensures)) in
     omega (
       arith,
-      c.loop-k.invariant.most,
-      ap (sum_by (most_for plan)) all,
-      few_pages cells c.args.hand.now c.args.plan.now.update c.requires.can,
+      c.loop-ino.invariant.few,
+      c.loop-ino.auto.ino-index-end,
+      sum_by-take-le (λ (entries : ℕ × ℕ). entries.1) c.entries_of-entries.result c.loop-ino.ino-index,
+      c.entries_of-entries.ensures.few,
+      c.run_count-runs.ensures.few,
     )

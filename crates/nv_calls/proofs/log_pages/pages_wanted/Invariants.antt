@@ -1,15 +1,10 @@
-use Rattle.std.proofs.Common.{◌≡◌, ◌*◌, ◌≤◌, take}
+use Rattle.std.proofs.Common.{◌≡◌, ◌+◌, ◌*◌, ◌≤◌, ℕ, take}
 use Rattle.std.specs.List.{sum_by}
-use Rattle.nv_calls.specs.PagesWanted.{pages_needed}
-use Rattle.nv_calls.specs.Prepared.{planned_by}
-use Rattle.nv_calls.proofs.FewPages.{most_for}
+use Rattle.nv_calls.proofs.PagesByInode.{pages_at}
 use Rattle.nv_calls.proofs.log_pages.pages_wanted.Given as goal
 
-abbrev pub invariant-loop-k : goal.invariant-loop-k
-invariant-loop-k g l =
-    let cells = g.C.Cells.cells l.cells in
-    record {
-      sum : l.wanted ≡ sum_by (pages_needed (planned_by cells l.hand l.plan.update)) (take l.k cells);
-      most : l.wanted ≤ sum_by (most_for (planned_by cells l.hand l.plan.update)) (take l.k cells);
-      few : l.wanted ≤ l.k * 1033;
-    }
+abbrev pub invariant-loop-ino : goal.invariant-loop-ino
+invariant-loop-ino g l = record {
+  sum : l.wanted ≡ sum_by (pages_at (g.C.Cells.cells l.cells)) (take l.ino-index l.ino-items);
+  few : l.wanted ≤ sum_by (λ (entries : ℕ × ℕ). entries.1) (take l.ino-index l.ino-items) + 7 * l.ino-index;
+}

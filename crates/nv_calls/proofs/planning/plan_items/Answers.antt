@@ -1,4 +1,4 @@
-use Rattle.std.proofs.Common.{ℕ, length, replicate, sym}
+use Rattle.std.proofs.Common.{ℕ, false, length, replicate, sym}
 use Rattle.std.proofs.lemmas.List.{length-replicate}
 use Rattle.nv_entry.specs.Sound.{blocks_of}
 use Rattle.nv_calls.proofs.Within.{new_lawful, size_within, write_within}
@@ -10,14 +10,14 @@ plan-requires-in-Write-clause-fits g c any =
     let wanted = rw c.in-Write.is at c.requires.wanted in
     let some = rw (sym (length-replicate {A = ℕ} c.in-Write.count 0)) at any in
     rw c.as_slice-runs.ensures (write_within c.args.block (g.N.Nodes.nodes_of c.args.nodes.now) c.requires.some_bytes c.in-Write.file
-    c.in-Write.offset (replicate c.in-Write.count 0) c.args.taken.now.present (length (blocks_of c.args.taken.now.runs)) passed wanted some)
+    c.in-Write.offset (replicate c.in-Write.count 0) false (length (blocks_of c.args.taken.now.runs)) passed wanted some)
 
 pub plan-requires-in-Size-clause-fits : goal.plan-requires-in-Size-clause-fits
 plan-requires-in-Size-clause-fits g c =
     let passed = rw c.in-Size.is at c.requires.passed in
     let wanted = rw c.in-Size.is at c.requires.wanted in
     rw c.as_slice-runs.ensures (size_within c.args.block (g.N.Nodes.nodes_of c.args.nodes.now) c.requires.some_bytes c.in-Size.file
-    c.in-Size.size c.args.taken.now.present (length (blocks_of c.args.taken.now.runs)) passed wanted)
+    c.in-Size.size _ (length (blocks_of c.args.taken.now.runs)) passed wanted)
 
 pub plan-requires-in-Rename-clause-new_lawful : goal.plan-requires-in-Rename-clause-new_lawful
 plan-requires-in-Rename-clause-new_lawful g c =

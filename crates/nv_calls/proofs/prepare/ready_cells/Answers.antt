@@ -29,8 +29,7 @@ loop-plan-preserved g c =
           c.ready.ensures.state c.ready.ensures.room;
       ready = ready_more plans now new index c.plan.inside.at c.loop-plan-test.true at c.requires.placed.rising c.ready.ensures.cells
           c.loop-plan.invariant.ready here;
-      places = c.ready.ensures.places ∙ c.loop-plan.invariant.places;
-      beside = c.ready.ensures.beside ∙ c.loop-plan.invariant.beside;
+      frame = c.ready.ensures.frame ∙ c.loop-plan.invariant.frame;
     }
 
 pub returns-clause-ready : goal.returns-clause-ready

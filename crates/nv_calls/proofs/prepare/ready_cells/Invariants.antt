@@ -11,6 +11,5 @@ invariant-loop-plan g l =
     record {
       more : HaveNoLessRoom (g.C.Cells.cells l.fn.cells) now;
       ready : (j : ℕ) → j < l.plan-index → IsReadyToAppend (plan_at l.plans j).items (value_at now (plan_at l.plans j).at);
-      places : g.C.Cells.places l.cells ≡ g.C.Cells.places l.fn.cells;
-      beside : g.C.Cells.beside l.cells ≡ g.C.Cells.beside l.fn.cells;
+      frame : g.C.Cells.frame l.cells ≡ g.C.Cells.frame l.fn.cells;
     }

@@ -90,8 +90,7 @@ loop-part-preserved g c =
           ∙ sym (ap (λ (xs : List KilledPart). with_back (freed_by living ino epoch xs s) l.free) rest) ∙ i.free;
       size = ap (λ (q : QueueValue). q.size) freed ∙ i.size;
       places = omega (arith, i.places, room, freed_few living ino epoch d s);
-      lent = c.retire_part.ensures.lent ∙ i.lent;
-      beside = c.retire_part.ensures.beside ∙ i.beside;
+      frame = c.retire_part.ensures.frame ∙ i.frame;
     }
 
 pub returns-clause-free : goal.returns-clause-free

@@ -27,6 +27,5 @@ invariant-loop-part g l =
           ≡ with_back (freed_by living ino l.epoch l.killed (state_at cells l.k)) l.fn.free;
       size : l.free.size ≡ l.fn.free.size;
       places : l.fn.free.room ≤ l.free.room + l.part-index;
-      lent : g.C.Cells.places l.cells ≡ g.C.Cells.places l.fn.cells;
-      beside : g.C.Cells.beside l.cells ≡ g.C.Cells.beside l.fn.cells;
+      frame : g.C.Cells.frame l.cells ≡ g.C.Cells.frame l.fn.cells;
     }

@@ -17,6 +17,5 @@ loop-plan-preserved g c =
     let e = c.append_on.ensures in
     record {
       way = goes_on _ _ _ _ _ c.requires.placed lt i.way _ _ e.cells e.commit e.can_publish;
-      places = e.places ∙ i.places;
-      beside = e.beside ∙ i.beside;
+      frame = e.frame ∙ i.frame;
     }

@@ -34,6 +34,5 @@ loop-plan-preserved g c =
     let e = c.publish_on.ensures in
     record {
       way = goes_on _ _ _ _ _ c.requires.placed lt i.way _ _ e.cells e.state e.commit e.few e.marked e.room;
-      places = e.places ∙ i.places;
-      beside = e.beside ∙ i.beside;
+      frame = e.frame ∙ i.frame;
     }

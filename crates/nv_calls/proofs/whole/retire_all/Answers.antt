@@ -26,6 +26,5 @@ loop-plan-preserved g c =
     let e = c.retire_on.ensures in
     record {
       way = goes_on _ _ _ _ _ _ _ c.requires.placed lt i.way _ _ _ e.cells e.state e.book e.room e.commit e.cell_room;
-      places = e.places ∙ i.places;
-      beside = e.beside ∙ i.beside;
+      frame = e.frame ∙ i.frame;
     }

@@ -1,14 +1,14 @@
 use Rattle.std.proofs.Common.{List}
 use Rattle.nv_cell.specs.Room.{IsReadyFor}
 use Rattle.nv_entry.specs.declared.item.Item.{Item}
-use Rattle.nv_calls.proofs.LentSlots.{lent_only, lent_step, others_stay}
+use Rattle.nv_calls.proofs.LentSlots.{lent_only, lent_step, frame_stays}
 use Rattle.nv_calls.proofs.slot_cells.SlotCellsCells.add_page.Goals as goal
 
 pub returns-clause-cells : goal.returns-clause-cells
 returns-clause-cells c = search (lent_only)
 
-pub returns-clause-beside : goal.returns-clause-beside
-returns-clause-beside c = search (others_stay)
+pub returns-clause-frame : goal.returns-clause-frame
+returns-clause-frame c = search (frame_stays)
 
 pub returns-clause-ready : goal.returns-clause-ready
 returns-clause-ready c =

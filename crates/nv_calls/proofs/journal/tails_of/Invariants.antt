@@ -1,6 +1,6 @@
 use Rattle.std.proofs.Common.{◌≡◌, map, take}
 use Rattle.nv_calls.specs.Ready.{old_tail}
-use Rattle.nv_calls.proofs.publish.tails_of.Given as goal
+use Rattle.nv_calls.proofs.journal.tails_of.Given as goal
 
 abbrev pub invariant-loop-plan : goal.invariant-loop-plan
 invariant-loop-plan g l = record {

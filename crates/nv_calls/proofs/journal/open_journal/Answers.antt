@@ -1,5 +1,5 @@
 use Rattle.nv_calls.proofs.Tails.{tails_differ}
-use Rattle.nv_calls.proofs.publish.open_journal.Goals as goal
+use Rattle.nv_calls.proofs.journal.open_journal.Goals as goal
 
 pub open_journal-requires-clause-distinct : goal.open_journal-requires-clause-distinct
 open_journal-requires-clause-distinct g c =

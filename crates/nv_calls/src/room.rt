@@ -1,0 +1,49 @@
+//! Room in the hand for the blocks that a call takes.
+
+ghost use Rattle.std.specs.Prelude.{◌≡◌, ◌⊎◌, ◌<◌, ◌^◌, OnErr, OnOk};
+ghost use Rattle.nv_base.specs.Memory.{out_of_memory};
+ghost use Rattle.nv_base.specs.Refusals.{FailsOnlyWhere};
+ghost use Rattle.nv_calls.specs.HandRoom.{pages_at_most, with_rooms};
+ghost use Rattle.nv_calls.specs.Prepared.{CanReady, HasNoLessRoom};
+
+use crate::{Cells, MORE_PAGES, Plan, pages_wanted};
+use nv_alloc::Hand;
+use nv_base::Fault;
+
+/// Makes room in the hand for what a call takes that passed its check: for so many data blocks, and for the log pages
+/// that it takes after them. Where it takes no data block, these are counted now, and where it takes no log page
+/// either, nothing grows.
+///
+/// `OutOfMemory` where a growth was refused: then nothing has changed but room. Costs the growths, and what
+/// [`pages_wanted`] costs where it takes no data block.
+pub fn make_room<C: Cells>(
+    cells: &C,
+    plan: &Plan,
+    hand: &mut Hand,
+    wanted: u64,
+) -> Result<(), Fault>
+    requires none { wanted ≡ 0 → CanReady (C.cells cells.now) hand.old plan.now.update }
+    requires few { wanted < 2 ^ 32 }
+    ensures ok { OnOk result (hand.new ≡ with_rooms wanted
+        (pages_at_most wanted (C.cells cells.now) hand.old plan.now.update) hand.old) }
+    ensures err { FailsOnlyWhere out_of_memory ((hand.old.data.room < wanted) ⊎ (hand.old.pages.room
+        < pages_at_most wanted (C.cells cells.now) hand.old plan.now.update)) result }
+    ensures same { OnErr result (HasNoLessRoom hand.old hand.new) }
+{
+    let pages = pages_at_most(cells, plan, hand, wanted);
+    hand.data.reserve(wanted)?;
+    hand.pages.reserve(pages)
+}
+
+/// How many log pages a call takes at most that takes so many data blocks. Where it takes none they can be counted
+/// before.
+fn pages_at_most<C: Cells>(cells: &C, plan: &Plan, hand: &Hand, wanted: u64) -> u64
+    requires none { wanted ≡ 0 → CanReady (C.cells cells.now) hand.now plan.now.update }
+    requires few { wanted < 2 ^ 32 }
+    ensures { result ≡ pages_at_most wanted (C.cells cells.now) hand.now plan.now.update }
+{
+    if wanted > 0 {
+        return wanted + MORE_PAGES;
+    }
+    pages_wanted(cells, plan, hand)
+}
