@@ -6,3 +6,4 @@ pub mod Blocks
 pub mod Writers
 pub mod Cells
 pub mod Nodes
+pub mod Showing

@@ -1,6 +1,6 @@
 //! The node that an inode is or was, by its cell.
 
-ghost use Rattle.std.specs.Prelude.{◌≡◌, ◌≤◌, ℕ, IfOk, List, Option};
+ghost use Rattle.std.specs.Prelude.{◌≡◌, ◌≤◌, ℕ, IfOk, List, Option, option_map};
 ghost use Rattle.std.specs.Option.{ForSome};
 ghost use Rattle.nv_base.specs.Refusals.{FailsOnly};
 ghost use Rattle.nv_cell.specs.Cell.{log_of};
@@ -8,12 +8,13 @@ ghost use Rattle.nv_cell.specs.Pages.{AreBytesOf};
 ghost use Rattle.nv_entry.specs.Log.{up_to};
 ghost use Rattle.nv_entry.specs.Node.{node_at, node_now};
 ghost use Rattle.nv_reader.specs.Cells.{NoneOut, own_node, part_bytes, settled};
+ghost use Rattle.nv_reader.specs.Nodes.{IsWhole, copy_in};
 ghost use Rattle.nv_base.specs.Memory.{out_of_memory};
 
 use crate::bytes::PartBlocks;
 use crate::epochs::entries_to;
 use crate::node::node_by;
-use nv_base::{Epoch, Fault};
+use nv_base::{Epoch, Fault, Handle};
 use nv_cell::InodeCell;
 use nv_entry::{NodeCopy, PartId};
 use std::alloc::Global;
@@ -45,6 +46,26 @@ pub fn show_on(alloc: Global, cell: &InodeCell, epoch: Epoch) -> Result<Option<N
     cell.use_invariant();
     let log = entries_to(cell.log().log(), epoch);
     Ok(node_by(alloc, cell.block_bytes(), log, cell)?)
+}
+
+/// The node under a handle at the end of an epoch, by the cell of its slot, as [`show_on`] gives it. None where there is
+/// no such slot, or the slot is of another generation. `OutOfMemory` where room for it was refused.
+pub fn copy_on(
+    alloc: Global,
+    cell: Option<&InodeCell>,
+    handle: &Handle,
+    epoch: Epoch,
+) -> Result<Option<NodeCopy>, Fault>
+    ensures ok { (bytes : ℕ → List ℕ)
+        → ForSome cell.entry (λ cell. IsWhole bytes epoch cell.now.state)
+        → IfOk result (λ node. node
+        ≡ copy_in bytes (option_map (λ cell. cell.now.state) cell.entry) epoch handle.now) }
+    ensures err { FailsOnly out_of_memory result }
+{
+    match cell {
+        Some(cell) if handle.generation == cell.generation() => show_on(alloc, cell, epoch),
+        _ => Ok(None),
+    }
 }
 
 /// The node now by the settled log: up to the tail that an open journal has noted, in entries, and else up to the log's

@@ -3,16 +3,27 @@
 ghost use Rattle.std.specs.Prelude.{◌≡◌, IfOk, IsSome, None, OnOk, Option, Some};
 ghost use Rattle.nv_base.specs.Refusals.{FailsOnly, KeepsOnErr};
 ghost use Rattle.nv_base.specs.declared.numbers.Handle.{Handle};
+ghost use Rattle.nv_entry.specs.Tree as tree;
 ghost use Rattle.nv_entry.specs.declared.node.NodeCopy.{NodeCopy};
 ghost use Rattle.nv_reader.specs.Walk.{GivesNext, given_for, next_handle, root_visit, visits_after, visits_below, wanted_node};
 ghost use Rattle.nv_reader.specs.Ways.{first_path};
 ghost use Rattle.nv_base.specs.Memory.{out_of_memory};
 
 use crate::way::{Way, names_copied, path_copied};
-use nv_base::{Fault, Handle, Name};
+use nv_base::{Fault, Gen, Handle, Ino, Name};
 use nv_entry::{NameList, NodeCopy, TreeNode};
 use std::alloc::{AllocError, Global};
 use std::marker::Model;
+
+/// The handle of the root directory, in every world.
+pub fn root() -> Handle
+    ensures { result ≡ tree.root }
+{
+    Handle {
+        ino: Ino::new(0),
+        generation: Gen::new(1),
+    }
+}
 
 /// A walk through a tree: a parent before its names, and these in their order. Contracts see the visits that are still
 /// to be made.

@@ -1,0 +1,41 @@
+-- A show that goes on: the visits that it may still make, and the nodes that it has seen.
+use Rattle.std.specs.Prelude.{ℕ, ◌-◌, ◌==◌, ◌||◌, ◌++◌, Bool, is_none, List, [], ◌∷◌, Option, Some, None}
+use Rattle.std.specs.Option.{option_to_list}
+use Rattle.nv_base.specs.declared.limits.TheConstants.{INODES}
+use Rattle.nv_base.specs.declared.numbers.Handle.{Handle}
+use Rattle.nv_entry.specs.Tree.{root}
+use Rattle.nv_entry.specs.declared.node.NodeCopy.{NodeCopy}
+use Rattle.nv_entry.specs.declared.tree.TreeNode.{TreeNode}
+use Rattle.nv_reader.specs.Walk.{Visit, given_for, next_handle, root_visit, visits_after}
+
+-- how many visits it may make yet, those that are to come, and the nodes that it has seen
+pub record Showing : Type 0 where
+  pub left : ℕ
+  pub visits : List Visit
+  pub seen : List TreeNode
+
+-- the root is visited first; a walk makes no more visits than there can be inodes
+abbrev pub new_showing : ℕ → Showing
+new_showing depth = record { left = INODES; visits = root_visit depth root; seen = [] }
+
+-- the visits to come: before the first of them, that of the root
+abbrev pub visits_from : ℕ → Option (List Visit) → List Visit
+visits_from depth None = root_visit depth root
+visits_from depth (Some walk) = walk
+
+-- whether all visits are made
+abbrev pub is_over : Showing → Bool
+is_over showing = (showing.left == 0) || is_none (next_handle showing.visits)
+
+-- the handle of the next visit
+abbrev pub visited : List Visit → Handle
+visited [] = root
+visited (visit ∷ visits) = visit.handle
+
+-- the node is seen, and what its names lead to comes next
+abbrev pub seen_on : Option NodeCopy → Showing → Showing
+seen_on found showing = record {
+  left = showing.left - 1;
+  visits = visits_after showing.visits found;
+  seen = showing.seen ++ option_to_list (given_for showing.visits found);
+}
