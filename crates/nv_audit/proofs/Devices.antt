@@ -8,8 +8,8 @@ use Rattle.nv_alloc.specs.FreeList.{FreeBlocks}
 use Rattle.nv_alloc.specs.Numbers.{has, unused}
 use Rattle.nv_book.specs.declared.record.Record.{Record}
 use Rattle.nv_epoch.specs.SnapList.{ids}
-use Rattle.nv_cell.specs.Cell.{CellState}
-use Rattle.nv_audit.specs.Lists.{AreFree, blocks_of_cell, used_from, used_of}
+use Rattle.nv_cell.specs.Cell.{CellState, stored_in}
+use Rattle.nv_audit.specs.Lists.{AreFree, used_from, used_of}
 use Rattle.nv_audit.specs.Pending.{retention_by}
 use Rattle.nv_audit.specs.Records.{IsRecorded}
 use Rattle.nv_audit.specs.Whole.{Agrees, AreFromScratch, Device, HasMarkedCells, HasRecords, IsMarkedCell}
@@ -19,7 +19,7 @@ use Rattle.nv_audit.proofs.PartBlocks.{blocks_are_used}
 
 all_used : (snapshots : List ℕ) (deferred : List Record) (in_hands : List InodePart) (from : ℕ) (cells : List CellState)
     → ((i : ℕ) (d : CellState) → i < length cells → IsMarkedCell snapshots deferred in_hands (from + i) (slice_index_or cells i d))
-    → used_from snapshots deferred in_hands from cells ≡ flat_map blocks_of_cell cells
+    → used_from snapshots deferred in_hands from cells ≡ flat_map stored_in cells
 all_used snapshots deferred in_hands from [] marked = refl
 all_used snapshots deferred in_hands from (cell ∷ cells) marked =
     let here : from + 0 ≡ from = omega arith in
@@ -31,7 +31,7 @@ all_used snapshots deferred in_hands from (cell ∷ cells) marked =
 
 -- the blocks in use are those that cells have, and those in hands
 pub used_are_had : (d : Device) → HasMarkedCells d
-    → used_of d.cells d.book d.in_hands d.blocks ≡ flat_map blocks_of_cell d.cells ++ d.blocks
+    → used_of d.cells d.book d.in_hands d.blocks ≡ flat_map stored_in d.cells ++ d.blocks
 used_are_had d marked =
     ap (λ (xs : List ℕ). xs ++ d.blocks) (all_used (ids d.book.snaps) d.book.deferred d.in_hands 0 d.cells (λ i default lt.
     let zeroth : i ≡ 0 + i = omega arith in
@@ -51,7 +51,7 @@ below u low (suc len) n lt = go (u low) (below u (low + 1) len n (omega (arith, 
   go true h = h
   go false h = rw other h
 
-within : (u : ℕ → Bool) (low len n : ℕ) → low ≤ n → n < low + len → has (unused u low len) n ≡ not (u n)
+pub within : (u : ℕ → Bool) (low len n : ℕ) → low ≤ n → n < low + len → has (unused u low len) n ≡ not (u n)
 within u low zero n from lt = absurd (omega (arith, from, lt))
 within u low (suc len) n from lt = go (nat_eq low n) refl (u low) refl (λ above. within u (low + 1) len n above (omega (arith, lt))) where
   go : (same : Bool) → nat_eq low n ≡ same → (b : Bool) → u low ≡ b → (low + 1 ≤ n → has (unused u (low + 1) len) n ≡ not (u n))
@@ -75,7 +75,7 @@ scratch_is_free g lists used are cpu lt n from under =
     ap (λ (xs : List ℕ). has xs n) (are cpu lt) ∙ within (has used) start (end - start) n from (omega (arith, from, under))
 
 -- marks that are those of the logs, lists from scratch and records leave nothing that differs
-pub marked_agree : (d : Device) → HasMarkedCells d → AreFromScratch d.numbers d.lists (flat_map blocks_of_cell d.cells ++ d.blocks)
+pub marked_agree : (d : Device) → HasMarkedCells d → AreFromScratch d.numbers d.lists (flat_map stored_in d.cells ++ d.blocks)
     → HasRecords d
     → Agrees d
 marked_agree d marked lists records = record {

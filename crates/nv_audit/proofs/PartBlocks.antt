@@ -16,7 +16,7 @@ use Rattle.nv_entry.specs.declared.held.Pair.{Pair}
 use Rattle.nv_entry.specs.declared.item.Entry.{Entry}
 use Rattle.nv_entry.specs.declared.part.Part.{Part}
 use Rattle.nv_entry.specs.declared.part.Part.TheVariants as part
-use Rattle.nv_cell.specs.Cell.{CellState, IsCell, fresh_of, log_of, mark_or_fresh, page_block}
+use Rattle.nv_cell.specs.Cell.{CellState, IsCell, fresh_of, log_of, mark_or_fresh, of_part, page_block}
 use Rattle.nv_cell.specs.Marks.{is_there}
 use Rattle.nv_cell.specs.declared.mark.Mark.TheVariants.{Current, Out}
 use Rattle.nv_cell.specs.Retained.{AreMarksOf}
@@ -24,7 +24,7 @@ use Rattle.nv_cell.proofs.Appending.{back_block}
 use Rattle.nv_cell.proofs.NamedParts.{pair_first, pair_later}
 use Rattle.nv_cell.proofs.Numbers.{total_append}
 use Rattle.nv_cell.proofs.PagesNow.{front_block}
-use Rattle.nv_audit.specs.Lists.{block_said, blocks_kept, blocks_said, had_of, blocks_had, kept_of, kept_pair, said_of, said_part, used_by}
+use Rattle.nv_audit.specs.Lists.{block_said, blocks_kept, blocks_said, blocks_had, kept_of, kept_pair, said_of, said_part, used_by}
 
 -- ---- lists by their places
 
@@ -38,7 +38,7 @@ by_place f g d (x ∷ xs) from same =
     ap (λ l. l ++ flat_map f xs) (same 0 (omega arith) ∙ ap g here)
     ∙ ap (λ l. g from ++ l) (by_place f g d xs (from + 1) (λ i lt. same (suc i) (omega (arith, lt)) ∙ ap g (later i)))
 
-range_split : (from c t : ℕ) → range_with_len from (c + t) ≡ range_with_len from c ++ range_with_len (from + c) t
+pub range_split : (from c t : ℕ) → range_with_len from (c + t) ≡ range_with_len from c ++ range_with_len (from + c) t
 range_split from zero t =
     let none : 0 + t ≡ t = omega arith in
     let same : from + 0 ≡ from = omega arith in
@@ -136,7 +136,7 @@ said_numbers block used says from (e ∷ later) all told =
 
 -- ---- a cell
 
-had_is : (o : Option BlockValue) → had_of o ≡ option_to_list (option_map number_of o)
+had_is : (o : Option BlockValue) → of_part o ≡ option_to_list (option_map number_of o)
 had_is None = refl
 had_is (Some b) = refl
 
@@ -175,7 +175,7 @@ blocks_are_used r cell is are =
     ap (λ (es : List Entry). page_block r.block es (0 + part_total log + n)) (sym whole)
     ∙ back_block r.block log fresh (0 + part_total log + n) (omega arith) ∙ ap (page_block r.block fresh) back) in
     let had : blocks_had cell ≡ flat_map G (range_with_len 0 (part_total cell.chain.entries)) =
-    by_place had_of G None cell.blocks 0
+    by_place of_part G None cell.blocks 0
     (λ i lt.
     let zeroth : i ≡ 0 + i = omega arith in
     had_is (slice_index_or cell.blocks i None)

@@ -3,11 +3,11 @@ use Rattle.std.specs.Prelude.{◌≡◌, ℕ, ◌+◌, ◌<◌, ◌≤◌, Bool,
 use Rattle.std.specs.List.{flat_map}
 use Rattle.nv_base.specs.Homes.{home_start}
 use Rattle.nv_base.specs.declared.geometry.GeometryNumbers.{GeometryNumbers}
-use Rattle.nv_alloc.specs.Block.{BlockValue, numbers_of}
+use Rattle.nv_alloc.specs.Block.{numbers_of}
 use Rattle.nv_alloc.specs.FreeList.{FreeBlocks}
 use Rattle.nv_alloc.specs.Numbers.{has}
 use Rattle.nv_book.specs.Book.{BookState}
-use Rattle.nv_cell.specs.Cell.{CellState, fresh_of, log_of}
+use Rattle.nv_cell.specs.Cell.{CellState, fresh_of, log_of, of_part}
 use Rattle.nv_entry.specs.Data.{block_in}
 use Rattle.nv_entry.specs.Held.{Retention, keeps}
 use Rattle.nv_entry.specs.Keys.{key_of, parts_of, sets}
@@ -55,14 +55,8 @@ abbrev pub used_by : Retention → CellState → List ℕ
 used_by r cell = numbers_of cell.chain.blocks ++ blocks_kept r (log_of cell) ++ blocks_said r.block (fresh_of cell)
 
 -- the blocks that a cell has for its parts
-abbrev pub had_of : Option BlockValue → List ℕ
-had_of block = numbers_of (option_to_list block)
-
 abbrev pub blocks_had : CellState → List ℕ
-blocks_had cell = flat_map had_of cell.blocks
-
-abbrev pub blocks_of_cell : CellState → List ℕ
-blocks_of_cell cell = numbers_of cell.chain.blocks ++ blocks_had cell
+blocks_had cell = flat_map of_part cell.blocks
 
 -- the same of all inodes from one on, where calls have some parts in their hands
 abbrev pub used_from : List ℕ → List Record → List InodePart → ℕ → List CellState → List ℕ

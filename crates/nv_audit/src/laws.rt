@@ -1,11 +1,15 @@
 //! Laws of the audit, each the contract of a function that does nothing.
 
-ghost use Rattle.nv_cell.specs.Cell.{CellState, IsCell};
+ghost use Rattle.nv_cell.specs.Cell.{CellState, IsCell, log_of, stored_in};
+ghost use Rattle.nv_cell.specs.Pages.{AreBytesOf};
 ghost use Rattle.nv_cell.specs.Retained.{AreMarksOf};
+ghost use Rattle.nv_cell.specs.Shape.{IsLeftShaped};
+ghost use Rattle.nv_entry.specs.Sound.{IsSound};
+ghost use Rattle.nv_audit.specs.Sound.{EndsAtSize};
 ghost use Rattle.nv_epoch.specs.SnapList.{ids};
 ghost use Rattle.nv_entry.specs.Held.{Retention};
 ghost use Rattle.nv_audit.specs.Counts.{AreCounted};
-ghost use Rattle.nv_audit.specs.Lists.{AreFree, blocks_had, blocks_of_cell, used_by, used_of};
+ghost use Rattle.nv_audit.specs.Lists.{AreFree, blocks_had, used_by, used_of};
 ghost use Rattle.nv_audit.specs.Whole.{Agrees, AreFromScratch, Device, HasCounts, HasMarkedCells, HasRecords};
 ghost use Rattle.nv_alloc.specs.FreeList.{FreeBlocks};
 ghost use Rattle.nv_base.specs.declared.geometry.GeometryNumbers.{GeometryNumbers};
@@ -29,7 +33,7 @@ pub fn marks_give_used_blocks()
 /// Where they are in all cells, the blocks in use are those that cells have, and those in hands.
 pub fn marks_give_all_used_blocks()
     ensures { (d : Device) → HasMarkedCells d → used_of d.cells d.book d.in_hands d.blocks
-        ≡ flat_map blocks_of_cell d.cells ++ d.blocks }
+        ≡ flat_map stored_in d.cells ++ d.blocks }
 {}
 
 /// So are the counts of all inodes those from scratch.
@@ -47,11 +51,19 @@ pub fn lists_from_scratch_are_free()
 /// logs, the whole device agrees: the audit finds nothing.
 pub fn marked_devices_agree()
     ensures { (d : Device) → HasMarkedCells d
-        → AreFromScratch d.numbers d.lists (flat_map blocks_of_cell d.cells ++ d.blocks)
+        → AreFromScratch d.numbers d.lists (flat_map stored_in d.cells ++ d.blocks)
         → HasRecords d → Agrees d }
 {}
 
 /// Where no snapshot lives, nothing is to be recorded.
 pub fn without_snapshots_nothing_is_recorded()
     ensures { (d : Device) → ids d.book.snaps ≡ [] → HasRecords d }
+{}
+
+/// A log of its shape whose file ends at its size is sound by the bytes of the cell's blocks: it stores the node that it
+/// gives.
+pub fn shaped_logs_are_sound()
+    ensures { (cell : CellState) (bytes : ℕ → List ℕ) → IsCell cell → AreBytesOf cell bytes
+        → IsLeftShaped cell.block (log_of cell) → EndsAtSize cell
+        → IsSound bytes cell.block (log_of cell) }
 {}

@@ -6,23 +6,39 @@
 #![tactic(auto)]
 
 mod audited;
+mod blocks;
 mod counts;
+mod device_parts;
 mod index;
 pub mod laws;
 mod lists;
+mod log_shape;
 mod names;
+mod nodes;
 mod part_list;
 mod parts;
 mod pending;
+mod pool;
 mod records;
+mod sound;
+mod tree;
 mod whole;
 
 pub use audited::Audited;
+pub use blocks::is_each_block_once;
 pub use counts::are_counted;
+pub use device_parts::{are_lists_of, are_slots_of, is_slot_of};
 pub use index::{are_pages_of, is_part_of};
 pub use lists::are_free;
+pub use log_shape::{
+    are_lawful_from, are_lawful_from_some, are_no_later, is_gone_last, is_left_shaped, is_shaped,
+};
 pub use names::are_names_of;
+pub use nodes::{form_a_tree_when, form_trees};
 pub use part_list::InodePart;
 pub use pending::{InHands, pending_of};
+pub use pool::is_pool_of;
 pub use records::are_recorded;
+pub use sound::{are_blocks_apart, ends_at_size, ends_at_tail};
+pub use tree::{NamedNode, form_a_tree};
 pub use whole::audit;

@@ -102,7 +102,7 @@ fn push_used(
 }
 
 /// Puts the pages of a log to the end.
-fn push_pages(used: &mut Vec<BlockNo>, pages: &[Block]) -> Result<(), AllocError>
+pub(crate) fn push_pages(used: &mut Vec<BlockNo>, pages: &[Block]) -> Result<(), AllocError>
     ensures { OnOk result (used.new.items ≡ used.old.items ++ numbers_of pages.now) }
 {
     for page in pages {
