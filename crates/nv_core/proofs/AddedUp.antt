@@ -5,7 +5,7 @@ use Rattle.std.specs.List.{sum_by}
 use Rattle.nv_base.specs.declared.geometry.GeometryNumbers.{GeometryNumbers}
 use Rattle.nv_book.specs.Records.{block_count}
 use Rattle.nv_machine.specs.Held.{pending_in}
-use Rattle.nv_machine.specs.Numbers.{IsEachOnce, all_blocks}
+use Rattle.nv_machine.specs.Numbers.{all_blocks}
 use Rattle.nv_machine.specs.World as machine
 use Rattle.nv_machine.proofs.WorldFacts.{each_once}
 use Rattle.nv_machine.proofs.WorldSizes.{IsOfNumbers, of_numbers}
@@ -15,6 +15,7 @@ use Rattle.nv_core.proofs.SpaceLaw.{adds_up}
 use Rattle.nv_core.specs.Reports.{AddsUp, kept_of, space_in, space_of}
 use Rattle.nv_core.specs.Picked.{picked_of}
 use Rattle.nv_core.specs.Shown.{shared_of}
+use Rattle.nv_alloc.specs.Numbers.{IsEachOnce}
 use Rattle.nv_core.specs.Worlds.{IsWorld, Shows, WorldState}
 
 pub world_adds_up : (w : WorldState) → IsWorld w → AddsUp w.shared.geometry.numbers.blocks (shared_of w.shared)

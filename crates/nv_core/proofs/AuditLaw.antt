@@ -5,12 +5,11 @@ use Rattle.std.specs.Prelude.{◌||◌}
 use Rattle.std.specs.List.{Contains}
 use Rattle.std.proofs.lemmas.List.{get_or_default}
 use Rattle.nv_base.specs.declared.geometry.GeometryNumbers.{GeometryNumbers}
-use Rattle.nv_audit.specs.Lists.{blocks_of_cell}
 use Rattle.nv_audit.specs.Pending.{retention_by}
 use Rattle.nv_audit.specs.Whole.{Agrees, AreFromScratch, HasMarkedCells, HasRecords, IsMarkedCell}
 use Rattle.nv_audit.proofs.Devices.{marked_agree}
 use Rattle.nv_book.specs.declared.record.Record.{Record}
-use Rattle.nv_cell.specs.Cell.{log_of}
+use Rattle.nv_cell.specs.Cell.{log_of, stored_in}
 use Rattle.nv_cell.specs.Marks.{is_there, mark_at}
 use Rattle.nv_entry.specs.Held.{is_needed, keeps}
 use Rattle.nv_entry.specs.Log.{pairs}
@@ -59,7 +58,7 @@ module _ (g : GeometryNumbers) (start : World) (records : List Record) (events :
       (get_or_default w.shared.cells ino no_cell default lt)
       (are_cells g start records events ino is_start lt, record { block = refl; there = there ino })
 
-  scratch : AreFromScratch g w.shared.lists (flat_map blocks_of_cell w.shared.cells ++ flat_map held_by_actor w.actors)
+  scratch : AreFromScratch g w.shared.lists (flat_map stored_in w.shared.cells ++ flat_map held_by_actor w.actors)
   scratch cpu inside = scanned g start records events cpu is_start inside
 
   recorded : HasRecords (device_of g w)

@@ -24,13 +24,13 @@ use Rattle.nv_machine.specs.Step.{is_numbered, made_in, same_looked}
 use Rattle.nv_machine.specs.World.{Overtaken}
 use Rattle.nv_machine.specs.World as machine
 use Rattle.nv_core.proofs.PassesSome.{some_cell}
-use Rattle.nv_core.proofs.Checks.{ends_same, few_wanted, overtaken_looks, passes_over, wanted_same}
+use Rattle.nv_core.proofs.Checks.{ends_same, passes_over, wanted_same}
 use Rattle.nv_core.proofs.Nodes.{cell_is, lent_has, lent_of}
 use Rattle.nv_core.specs.Nodes.{CanRead, check_ends, ends_over}
-use Rattle.nv_core.specs.Rooms.{CanDrain, HasMade, IsChecked, IsNoVisit, LooksAsTold, WantsBlocks, blocks_to_take}
+use Rattle.nv_core.specs.Rooms.{CanDrain, HasMade, IsChecked, IsNoVisit, WantsBlocks, blocks_to_take}
 use Rattle.nv_core.specs.Shown.{ending_of, shared_of, slots_in}
 use Rattle.nv_core.specs.Steps.{CanBeChecked}
-use Rattle.nv_core.specs.GhostCalls.{IsChangeWith, IsRequestOf, IsLookAt, IsOwed, is_change}
+use Rattle.nv_core.specs.GhostCalls.{IsChangeWith, IsRequestOf, IsOwed, is_change}
 use Rattle.nv_calls.specs.Refusals.{Check}
 use Rattle.nv_core.specs.declared.next.Ending.{Ending as Ended}
 use Rattle.nv_core.specs.declared.next.Ending.TheVariants as ending
@@ -61,7 +61,7 @@ pub ending_told : (shared : Shared) (slots : List ℕ) (before : LookupResult) (
 ending_told shared slots before number made (request.Change plan text) owed c found change is can ends =
     ap (λ (x : Call). check_ending (early n x) (same_looked (looked n x) before) (refusal shared.geometry.numbers.block n x)
     (is_numbered (beginning x) number) (effect n made x)) is.0
-    ∙ ends_same shared slots plan.update text before (record { made = made; runs = []; present = false }) number can is.1
+    ∙ ends_same shared slots plan.update text before (record { made = made; runs = [] }) number can is.1
     ∙ sym ends where
       n : Handle → Option NodeCopy
       n = copies (shared_of shared)
@@ -85,29 +85,6 @@ wanted_by_job shared slots before number wanted (request.Change plan text) owed 
 wanted_by_job shared slots before number wanted (request.Visit visit) owed c change is can ends over = cc
 wanted_by_job shared slots before number wanted (request.Maintenance on) owed c change is can ends over = cc
 wanted_by_job shared slots before number wanted request.Given owed c change is can ends over = cc
-
--- which are no more than a file has pages
-pub few_by_job : (shared : Shared) (slots : List ℕ) (before : LookupResult) (numbered : Bool) (wanted : ℕ) (j : Request)
-    → 0 < shared.geometry.numbers.block → is_change j ≡ true → IsChangeWith (Ends shared slots before numbered None) j
-    → IsChangeWith (λ u. wanted ≡ blocks_to_take shared slots u) j → wanted ≤ 65536
-few_by_job shared slots before numbered wanted (request.Change plan text) some change ends over =
-    let block = shared.geometry.numbers.block in
-    let o = nodes_in (lent_cells slots shared.cells.items) in
-    let passed = passes_over block o before numbered plan.update (sym ends) in
-    subst (λ (k : ℕ). k ≤ 65536) (sym over) (few_wanted block o _ (blank_call plan.update) some passed.passed)
-few_by_job shared slots before numbered wanted (request.Visit visit) some change ends over = cc
-few_by_job shared slots before numbered wanted (request.Maintenance on) some change ends over = cc
-few_by_job shared slots before numbered wanted request.Given some change ends over = cc
-
--- a call can be overtaken where it looks names up
-pub overtaken_by_job : (shared : Shared) (slots : List ℕ) (before : LookupResult) (numbered : Bool) (j : Request) → is_change j ≡ true
-    → LooksAsTold j before → IsChangeWith (Ends shared slots before numbered (Some Overtaken)) j → IsLookAt 0 j
-overtaken_by_job shared slots before numbered (request.Change plan text) change looks ends =
-    overtaken_looks shared.geometry.numbers.block (nodes_in (lent_cells slots shared.cells.items)) before numbered plan.update looks
-    (sym ends)
-overtaken_by_job shared slots before numbered (request.Visit visit) change looks ends = cc
-overtaken_by_job shared slots before numbered (request.Maintenance on) change looks ends = cc
-overtaken_by_job shared slots before numbered request.Given change looks ends = cc
 
 -- whose answer is owed
 pub owed_by : (j : Request) (owed : PendingAnswer) (c : Call) → is_change j ≡ true → IsRequestOf j owed c → IsOwed owed c

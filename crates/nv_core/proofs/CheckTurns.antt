@@ -17,10 +17,10 @@ use Rattle.nv_machine.specs.Step.{ending_at, made_in, with_made}
 use Rattle.nv_machine.specs.World.{HandState}
 use Rattle.nv_machine.specs.World as machine
 use Rattle.nv_calls.specs.declared.log_pages.TheConstants.{MORE_PAGES}
-use Rattle.nv_core.proofs.CheckRequests.{Ends, drains_by_job, ending_told, few_by_job, no_visit, overtaken_by_job, owed_by, wanted_by_job, wants_by_job}
+use Rattle.nv_core.proofs.CheckRequests.{Ends, drains_by_job, ending_told, owed_by, wanted_by_job, wants_by_job}
 use Rattle.nv_core.proofs.Takes.{is_changed, over_all, wanted_same, with_both}
 use Rattle.nv_core.specs.Parts.{AreHome}
-use Rattle.nv_core.specs.Rooms.{CanCountPages, CanDrain, CanEnd, CanWantPages, FitsCall, HasItsBlocks, HasMade, HasRooms, IsChecked, IsHandOf, TakesBlocks, WantsBlocks, blocks_to_take, pages_to_take}
+use Rattle.nv_core.specs.Rooms.{CanCountPages, CanDrain, CanWantPages, FitsCall, HasItsBlocks, HasMade, HasRooms, IsChecked, IsHandOf, TakesBlocks, WantsBlocks, blocks_to_take, pages_to_take}
 use Rattle.nv_core.specs.Shown.{GhostCall, ending_of, hand_of, shared_of, shown, slots_in}
 use Rattle.nv_core.specs.Steps.{CanBeChecked}
 use Rattle.nv_core.specs.GhostCalls.{IsChangeWith, IsOwed, IsGhostCallOf, OwesAt, is_change}
@@ -28,6 +28,7 @@ use Rattle.nv_core.specs.declared.reservation.Reservation.TheVariants as reserve
 use Rattle.nv_core.specs.declared.next.Ending.{Ending as Ended}
 use Rattle.nv_core.specs.declared.next.Next.TheVariants as next
 use Rattle.nv_core.specs.declared.request.Request.{Request}
+use Rattle.nv_core.specs.declared.request.Request.TheVariants as asked
 use Rattle.nv_core.specs.declared.running.Running.{Running}
 use Rattle.nv_core.specs.declared.shared.Shared.{Shared}
 use Rattle.nv_base.specs.Memory.{out_of_memory}
@@ -44,7 +45,7 @@ pub no_chain : (hand : Hand) → blocks_of hand ≡ [] → hand.chain ≡ []
 no_chain hand empty = (none_in hand.«data».blocks hand.pages.blocks hand.chain empty).1.1
 
 -- a call is checked, and takes so many data blocks
-abbrev IsWanted : Shared → Hand → Running → ℕ → Update → Type 0
+abbrev pub IsWanted : Shared → Hand → Running → ℕ → Update → Type 0
 IsWanted shared hand running wanted u =
     HasMade shared (slots_in running.slots) hand running.made u
     × IsChecked shared (slots_in running.slots) hand running.looked u × (wanted ≡ blocks_to_take shared (slots_in running.slots) u)
@@ -82,19 +83,13 @@ has_its_blocks shared hand running wanted nil empty room has =
       none : (hand.«data».blocks ≡ []) × ((hand.pages.blocks ≡ []) × (hand.chain ≡ []))
       none = none_in hand.«data».blocks hand.pages.blocks hand.chain empty
 
--- the room that was made for them is in the hand
-pub made_room : (shared now : Shared) (hand more : Hand) (running after : Running) (n : ℕ) → now ≡ shared
-    → more ≡ record hand { «data» = record hand.«data» { room = more.«data».room }; pages = record hand.pages { room = more.pages.room } }
-    → after ≡ running → n ≤ more.pages.room
-    → IsChangeWith (λ u. n ≡ pages_to_take shared (slots_in running.slots) hand u) running.request
-    → IsChangeWith (λ u. pages_to_take now (slots_in after.slots) more u ≤ more.pages.room) after.request
-made_room shared now hand more running after n same held is room has =
-    rw (is, same)
-    (over_all (λ u. n ≡ pages_to_take shared (slots_in running.slots) hand u)
-    (λ u. pages_to_take shared (slots_in running.slots) more u ≤ more.pages.room) running.request
-    (λ u count. (let pages : pages_to_take shared (slots_in running.slots) more u ≡ pages_to_take shared (slots_in running.slots) hand u =
-    ap (λ (h : Hand). pages_to_take shared (slots_in running.slots) h u) held in
-    omega (arith, pages, count, room))) has)
+-- a number that is told of a request
+counted : (f : Update → ℕ) (j : Request) → IsChangeWith (λ u. 0 < f u) j
+    → (n : ℕ) × (0 < n) × IsChangeWith (λ u. n ≡ f u) j
+counted f (asked.Change plan text) some = (f plan.update, some, refl)
+counted f (asked.Visit visit) some = elim some [ ]
+counted f (asked.Maintenance on) some = elim some [ ]
+counted f asked.Given some = elim some [ ]
 
 -- one that takes some has room for them
 pub takes_blocks : (shared : Shared) (hand : Hand) (running : Running) (wanted : ℕ) → IsWithinLimits shared.geometry.numbers
@@ -173,21 +168,8 @@ module _ (shared : Shared) (hand : Hand) (running now : Running) (numbered : Boo
   no_end : found ≡ None → EndsAs shared running (is_some hand.ino) None
   no_end none = subst (λ (x : Option Ended). EndsAs shared running (is_some hand.ino) (option_map ending_of x)) none own_ends
 
-  own_wanted : (new : Shared) (wanted : ℕ) → new ≡ shared → WantsAs new now wanted → WantsAs shared running wanted
-  own_wanted new wanted same wants =
-      subst (λ (x : Running). WantsAs shared x wanted) is (subst (λ (x : Shared). WantsAs x now wanted) same wants)
-
-  -- a call that it overtakes looks names up
-  pub can_end : (how : Ended) → FitsCall running → found ≡ Some how → CanEnd now how
-  can_end how call some =
-      subst (λ (x : Running). CanEnd x how) (sym is) (record {
-        request = no_visit running.request change;
-        looks = call.looks;
-        overtaken = λ over.
-            overtaken_by_job shared own_slots running.looked (is_some hand.ino) running.request change call.looks
-            (subst (λ (x : Option Ended). EndsAs shared running (is_some hand.ino) (option_map ending_of x))
-            (some ∙ ap Some over) own_ends);
-      })
+  own_wanted : (wanted : ℕ) → WantsAs shared now wanted → WantsAs shared running wanted
+  own_wanted wanted wants = subst (λ (x : Running). WantsAs shared x wanted) is wants
 
   -- and it makes no drain go on
   pub drains : (how : Ended) (any : Request) (h : Hand) → found ≡ Some how → CanDrain how any h
@@ -195,17 +177,12 @@ module _ (shared : Shared) (hand : Hand) (running now : Running) (numbered : Boo
       drains_by_job shared own_slots running.looked (is_some hand.ino) running.request any how h change
       (subst (λ (x : Option Ended). EndsAs shared running (is_some hand.ino) (option_map ending_of x)) some own_ends)
 
-  pub few : (new : Shared) (wanted : ℕ) → new ≡ shared → 0 < size → found ≡ None → WantsAs new now wanted → wanted ≤ 65536
-  few new wanted same some none wants =
-      few_by_job shared own_slots running.looked (is_some hand.ino) wanted running.request some change (no_end none)
-      (own_wanted new wanted same wants)
-
-  pub wants : (new after : Shared) (more : Hand) (wanted : ℕ) → AreCells (lent_cells own_slots shared.cells.items) → new ≡ shared
-      → after ≡ shared → more.ino ≡ hand.ino → more.chain ≡ [] → found ≡ None → WantsAs new now wanted → WantsBlocks wanted after more now
-  wants new after more wanted cells same stays ino chain none wanted_is =
+  pub wants : (after : Shared) (more : Hand) (wanted : ℕ) → AreCells (lent_cells own_slots shared.cells.items) → after ≡ shared
+      → more.ino ≡ hand.ino → more.chain ≡ [] → found ≡ None → WantsAs shared now wanted → WantsBlocks wanted after more now
+  wants after more wanted cells stays ino chain none wanted_is =
       subst (λ (x : Shared). WantsBlocks wanted x more now) (sym stays)
       (subst (λ (x : Running). WantsBlocks wanted shared more x) (sym is)
-      (wants_by_job shared hand more running wanted cells can change ino chain (no_end none) (own_wanted new wanted same wanted_is)))
+      (wants_by_job shared hand more running wanted cells can change ino chain (no_end none) (own_wanted wanted wanted_is)))
 
   pub owes : (told : GhostCall) (how : Ended) → IsGhostCallOf running told → OwesAt how now told
   owes told how request answers =
@@ -243,49 +220,50 @@ module _ (shared : Shared) (hand : Hand) (running now : Running) (numbered : Boo
         ∙ ended
 
     -- it grows where it takes data blocks or log pages
-    grows_by : (n m wanted pages : ℕ) → n ≡ wanted → (wanted ≡ 0 → m ≡ pages) → 0 < wanted + pages → wants_room n m ≡ true
-    grows_by n m zero pages is own some = rw (is, own refl) (lt-ltb 0 pages (omega (arith, some)))
-    grows_by n m (suc wanted) pages is own some = rw is refl
+    grows_by : (n m wanted : ℕ) → n ≡ wanted → (wanted ≡ 0 → 0 < m) → wants_room n m ≡ true
+    grows_by n m zero is some = rw is (lt-ltb 0 m (some refl))
+    grows_by n m (suc wanted) is some = rw is refl
 
     is_now : IsGhostCallOf now told
     is_now = subst (λ (x : Running). IsGhostCallOf x told) (sym is) request
 
-    own_pages : (pages wanted : ℕ) → WantsBlocks wanted shared hand now
-        → IsChangeWith (λ u. pages ≡ pages_to_take shared (slots_in now.slots) hand u) now.request
-        → pages_wanted s r.slots (plan_by size s (hand_of hand) r) ≡ pages
-    own_pages pages wanted has count =
-        ap (λ (x : Running). pages_wanted s (slots_in x.slots) (plan_by size s (hand_of hand) (shown told x))) (sym is)
-        ∙ wanted_same shared (slots_in now.slots) hand now.looked now.made now.request now.owed told.call (has_last_page size s told.call) pages is_now
+    own_pages : (wanted : ℕ) → WantsBlocks wanted shared hand now
+        → IsChangeWith (λ u. 0 < pages_to_take shared (slots_in now.slots) hand u) now.request
+        → 0 < pages_wanted s r.slots (plan_by size s (hand_of hand) r)
+    own_pages wanted has some =
+        let at = counted (pages_to_take shared (slots_in now.slots) hand) now.request some in
+        let pages = ap (λ (x : Running). pages_wanted s (slots_in x.slots) (plan_by size s (hand_of hand) (shown told x))) (sym is)
+        ∙ wanted_same shared (slots_in now.slots) hand now.looked now.made now.request now.owed told.call at.0 is_now
         (over_all (IsWanted shared hand now wanted)
         (λ u. HasMade shared (slots_in now.slots) hand now.made u × IsChecked shared (slots_in now.slots) hand now.looked u) now.request
         (λ u h. (h.0, h.1)) has)
-        count
+        at.2 in
+        omega (arith, pages, at.1)
 
-    pub turn_refuses : (new after : Shared) (more : machine.HandState) (why : Fault) (t : machine.Turn) (wanted pages : ℕ) → new ≡ shared
-        → after ≡ shared → more ≡ hand_of hand → why ≡ out_of_memory → found ≡ None → WantsAs new now wanted
+    pub turn_refuses : (after : Shared) (more : machine.HandState) (why : Fault) (t : machine.Turn) (wanted : ℕ)
+        → after ≡ shared → more ≡ hand_of hand → why ≡ out_of_memory → found ≡ None → WantsAs shared now wanted
         → WantsBlocks wanted shared hand now
-        → (wanted ≡ 0 → IsChangeWith (λ u. pages ≡ pages_to_take shared (slots_in now.slots) hand u) now.request)
-        → 0 < wanted + pages
+        → (wanted ≡ 0 → IsChangeWith (λ u. 0 < pages_to_take shared (slots_in now.slots) hand u) now.request)
         → refuse why (shared_of after) more (shown told now) ≡ t → turn false ≡ t
-    turn_refuses new after more why t wanted pages same stays held memory none wanted_is has own some refused =
+    turn_refuses after more why t wanted stays held memory none wanted_is has some refused =
         turn_by None false none
         ∙ ap (λ (b : Bool). grown (false || not b) (wants_blocks count size s (hand_of hand) r) s (hand_of hand) r)
-        (grows_by count (pages_wanted s r.slots (plan_by size s (hand_of hand) r)) wanted pages
+        (grows_by count (pages_wanted s r.slots (plan_by size s (hand_of hand) r)) wanted
         (wanted_by_job shared own_slots running.looked hand.ino wanted running.request running.owed told.call change request can.read (no_end none)
-        (own_wanted new wanted same wanted_is))
-        (λ nil. own_pages pages wanted has (own nil)) some)
+        (own_wanted wanted wanted_is))
+        (λ nil. own_pages wanted has (some nil)))
         ∙ ap₂ (λ (x : Shared) (y : Running). refuse out_of_memory (shared_of x) (hand_of hand) (shown told y)) (sym stays) (sym is)
         ∙ ap₂ (λ (h : machine.HandState) (f : Fault). refuse f (shared_of after) h (shown told now)) (sym held) (sym memory)
         ∙ refused
 
-    pub turn_goes : (new after : Shared) (more : machine.HandState) (wanted : ℕ) (t : machine.Turn) → new ≡ shared → after ≡ shared
-        → more ≡ hand_of hand → found ≡ None → WantsAs new now wanted
+    pub turn_goes : (after : Shared) (more : machine.HandState) (wanted : ℕ) (t : machine.Turn) → after ≡ shared
+        → more ≡ hand_of hand → found ≡ None → WantsAs shared now wanted
         → wants_blocks wanted after.geometry.numbers.block (shared_of after) more (shown told now) ≡ t → turn true ≡ t
-    turn_goes new after more wanted t same stays held none wanted_is goes =
+    turn_goes after more wanted t stays held none wanted_is goes =
         turn_by None true none
         ∙ ap (λ (n : ℕ). wants_blocks n size s (hand_of hand) r)
         (wanted_by_job shared own_slots running.looked hand.ino wanted running.request running.owed told.call change request can.read (no_end none)
-        (own_wanted new wanted same wanted_is))
+        (own_wanted wanted wanted_is))
         ∙ ap₂ (λ (x : Shared) (y : Running). wants_blocks wanted x.geometry.numbers.block (shared_of x) (hand_of hand) (shown told y))
         (sym stays) (sym is)
         ∙ ap (λ (h : machine.HandState). wants_blocks wanted after.geometry.numbers.block (shared_of after) h (shown told now)) (sym held)

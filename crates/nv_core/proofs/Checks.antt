@@ -10,11 +10,10 @@ use Rattle.nv_calls.proofs.CheckEnds.{looked_is}
 use Rattle.nv_calls.proofs.Nothing.{told_nothing}
 use Rattle.nv_calls.proofs.Passed.{file_passed, if_passed}
 use Rattle.nv_calls.proofs.TextLengths.{same_plan}
-use Rattle.nv_calls.proofs.Within.{size_within, write_within}
 use Rattle.nv_calls.specs.AllCalls.{blocks_wanted, early, effect, ends_in_page, is_nothing, late, looked, refusal}
 use Rattle.nv_calls.specs.Locked.{SameCall, handles}
 use Rattle.nv_calls.specs.Nodes.{has_page_in, nodes_in, plain_nodes}
-use Rattle.nv_calls.specs.Plain.{Change, same_handle}
+use Rattle.nv_calls.specs.Plain.{Change}
 use Rattle.nv_calls.specs.Prepared.{makes}
 use Rattle.nv_calls.specs.Refusals.{Check, and_then, bytes_of, passes, refuse_if}
 use Rattle.nv_calls.specs.SlotCells.{lent_cells}
@@ -31,9 +30,8 @@ use Rattle.nv_entry.specs.Tree.{root}
 use Rattle.nv_entry.specs.declared.node.NodeCopy.{NodeCopy}
 use Rattle.nv_machine.specs.Kinds.{check_ending}
 use Rattle.nv_machine.specs.Reads.{copies, has_last_page, nodes}
-use Rattle.nv_machine.specs.Sequence.{beginning, directories, nothing_looked}
+use Rattle.nv_machine.specs.Sequence.{beginning, nothing_looked}
 use Rattle.nv_machine.specs.Step.{is_numbered, same_looked}
-use Rattle.nv_machine.specs.World.{Overtaken}
 use Rattle.nv_core.proofs.Nodes.{lent_call_same, nodes_agree, page_same}
 use Rattle.nv_core.proofs.Plans.{looks_same}
 use Rattle.nv_core.specs.Nodes.{CanRead, check_ends, ends_over, wanted_over}
@@ -149,45 +147,6 @@ wanted_told shared slots n (update.Unlink dir name) text before can passed = ref
 wanted_told shared slots n (update.Rmdir dir name) text before can passed = refl
 wanted_told shared slots n (update.Rename from old to new) text before can passed = refl
 
--- a call that passes its check takes no more than a file has pages
-pub few_wanted : (block : ℕ) (n : Handle → Option NodeCopy) (present : Bool) (c : Call) → 0 < block → refusal block n c ≡ passes
-    → blocks_wanted block n present c ≤ 65536
-few_wanted block n present (call.Create dir name mode) some passed = omega arith
-few_wanted block n present (call.Mkdir dir name mode) some passed = omega arith
-few_wanted block n present (call.Write file offset []) some passed = omega arith
-few_wanted block n present (call.Write file offset (byte ∷ rest)) some passed =
-    let within = write_within block n some file offset (byte ∷ rest) present _ passed refl (omega arith) in omega (arith, within)
-few_wanted block n present (call.Read file offset count) some passed = omega arith
-few_wanted block n present (call.Size file size) some passed =
-    let within = size_within block n some file size present _ passed refl in omega (arith, within)
-few_wanted block n present (call.Mode handle mode) some passed = omega arith
-few_wanted block n present (call.Stat handle) some passed = omega arith
-few_wanted block n present (call.List dir) some passed = omega arith
-few_wanted block n present (call.Lookup dir name) some passed = omega arith
-few_wanted block n present (call.Unlink dir name) some passed = omega arith
-few_wanted block n present (call.Rmdir dir name) some passed = omega arith
-few_wanted block n present (call.Rename from old to new) some passed = omega arith
-few_wanted block n present (call.Maintenance on) some passed = omega arith
-
--- ---- a call whose names were bound anew
-
-no_looks : (before : LookupResult) → before ≡ nothing_looked → same_looked nothing_looked before ≡ false → ⊥
-no_looks before none anew = let e : true ≡ false = ap (same_looked nothing_looked) (sym none) ∙ anew in cc
-
-looks_anew : (n : Handle → Option NodeCopy) (before : LookupResult) (u : Update) → (directories (blank_call u) ≡ [] → before ≡ nothing_looked)
-    → same_looked (looked n (blank_call u)) before ≡ false → 0 < length (directories (blank_call u))
-looks_anew n before (update.Create dir name mode) none anew = absurd (no_looks before (none refl) anew)
-looks_anew n before (update.Mkdir dir name mode) none anew = absurd (no_looks before (none refl) anew)
-looks_anew n before (update.Write file offset count) none anew = absurd (no_looks before (none refl) anew)
-looks_anew n before (update.Size file size) none anew = absurd (no_looks before (none refl) anew)
-looks_anew n before (update.Mode handle mode) none anew = absurd (no_looks before (none refl) anew)
-looks_anew n before (update.Unlink dir name) none anew = omega arith
-looks_anew n before (update.Rmdir dir name) none anew = omega arith
-looks_anew n before (update.Rename from old to new) none anew = go (same_handle from to) where
-  go : (same : Bool) → 0 < length (cond same (from ∷ []) (from ∷ to ∷ []))
-  go true = omega arith
-  go false = omega arith
-
 -- ---- how the check ends
 
 -- tests that end alike, where the later ones are compared only behind those that pass
@@ -285,9 +244,10 @@ module _ (shared : Shared) (slots : List ℕ) (u : Update) (text : List ℕ) (be
   pub wanted_same : IsRead → HasText → looked o b ≡ before → refusal block o b ≡ passes
       → blocks_wanted block n (has_last_page block (shared_of shared) c) c ≡ wanted_over block lent u
   wanted_same can len found passed =
-      let taken : Allocation = record { made = root; runs = []; present = has_last_page block (shared_of shared) c } in
-      sym (same_over taken can (sym (found_over taken can len) ∙ found)).wanted
-      ∙ (blank_over taken len).wanted
+      let taken : Allocation = record { made = root; runs = [] } in
+      let present : Bool = has_last_page block (shared_of shared) c in
+      sym ((same_over taken can (sym (found_over taken can len) ∙ found)).wanted present)
+      ∙ (blank_over taken len).wanted present
       ∙ wanted_told shared slots o u text before can passed
 
 -- ---- what is told by how the check ends
@@ -321,18 +281,3 @@ passes_over block n before numbered u h =
       number = parts.1.1.1.0;
       something = parts.1.1.1.1;
     }
-
-overtakes : (t l : Check) (same numbered nothing : Bool) → check_ends t same l numbered nothing ≡ Some Overtaken → same ≡ false
-overtakes (Err fault) l same numbered nothing h = cc
-overtakes (Ok passed) l false numbered nothing h = refl
-overtakes (Ok passed) (Err fault) true numbered nothing h = cc
-overtakes (Ok passed) (Ok all) true false nothing h = cc
-overtakes (Ok passed) (Ok all) true true true h = cc
-overtakes (Ok passed) (Ok all) true true false h = cc
-
-pub overtaken_looks : (block : ℕ) (n : Handle → Option NodeCopy) (before : LookupResult) (numbered : Bool) (u : Update)
-    → (directories (blank_call u) ≡ [] → before ≡ nothing_looked) → ends_over block n before numbered u ≡ Some Overtaken
-    → 0 < length (directories (blank_call u))
-overtaken_looks block n before numbered u none h =
-    looks_anew n before u none (overtakes (early n (blank_call u)) (late block n before (blank_call u))
-    (same_looked (looked n (blank_call u)) before) (numbered || not (makes u)) (is_nothing (blank_call u)) h)

@@ -12,13 +12,11 @@ use Rattle.nv_entry.specs.Sound.{IsSound}
 use Rattle.nv_entry.specs.declared.node.NodeCopy.{NodeCopy}
 use Rattle.nv_calls.proofs.FillFresh.{fresh_are}
 use Rattle.nv_calls.proofs.Passed.{file_passed}
-use Rattle.nv_calls.proofs.Refilled.{found_same, state_found}
 use Rattle.nv_calls.specs.FillPages.{cut_page, fresh_pages, page_in, page_with, pages_over, sourced}
 use Rattle.nv_calls.specs.Filling.{text_part}
 use Rattle.nv_calls.specs.Locked.{handles}
 use Rattle.nv_calls.specs.Nodes.{alone, cell_of, nodes_in, own_node, slots_by}
 use Rattle.nv_calls.specs.Plain.{PlainNode}
-use Rattle.nv_calls.specs.Prepared.{HaveNoLessRoom}
 use Rattle.nv_calls.specs.Refusals.{bytes_of, kind_of, passes, want_file}
 use Rattle.nv_calls.specs.SlotCells.{lent_cells}
 use Rattle.nv_calls.specs.Updates.{blank_call}
@@ -72,24 +70,10 @@ module _ (block : ℕ) (lent : List (ℕ × CellValue)) (file : Handle) (c : Cel
     go true e = rw e (subst (λ (n : ℕ). IsSound (bytes_among c.state.blocks) n (log_of c.state)) own.size sound)
     go false e = rw e (empty_sound (bytes_among c.state.blocks) block)
 
--- ---- cells with more room
-
-by_state : {X : Type 0} (f : CellState → Option X) (found : Option CellValue)
-    → option_and_then (λ (c : CellValue). f c.state) found ≡ option_and_then f (state_found found)
-by_state f None = refl
-by_state f (Some c) = refl
-
-more_page : (block : ℕ) (old new : List (ℕ × CellValue)) → HaveNoLessRoom old new → (file : Handle) (page : ℕ)
-    → page_in new block file page ≡ page_in old block file page
-more_page block old new more file page =
-    ap (slot_bytes block) (by_state (λ (s : CellState). block_at_page s page) (cell_of new file.ino)
-    ∙ ap (option_and_then (λ (s : CellState). block_at_page s page)) (found_same old new file.ino more)
-    ∙ sym (by_state (λ (s : CellState). block_at_page s page) (cell_of old file.ino)))
-
 -- ---- the pages
 
-module _ (shared : Shared) (slots : List ℕ) (hand : Hand) (looked : LookupResult) (now : List (ℕ × CellValue)) (byte_at : ℕ → ℕ)
-    (some : 0 < shared.geometry.numbers.block) (more : HaveNoLessRoom (lent_cells slots shared.cells.items) now)
+module _ (shared : Shared) (slots : List ℕ) (hand : Hand) (looked : LookupResult) (byte_at : ℕ → ℕ)
+    (some : 0 < shared.geometry.numbers.block)
     (sound : AllByRecursion (λ (c : ℕ × CellValue). IsSoundIn c.1.state (log_of c.1.state)) (lent_cells slots shared.cells.items)) where
   abbrev block : ℕ
   block = shared.geometry.numbers.block
@@ -104,13 +88,13 @@ module _ (shared : Shared) (slots : List ℕ) (hand : Hand) (looked : LookupResu
       (node_same shared slots file (subst (λ (l : List Handle). CanRead shared slots l) named is.read))
 
   pub pages_are : (u : Update) → IsChecked shared slots hand looked u
-      → pages_over block (page_in now block) (sourced byte_at u) ≡ fresh_pages block (copies (shared_of shared)) (sourced byte_at u)
+      → pages_over block (page_in lent block) (sourced byte_at u) ≡ fresh_pages block (copies (shared_of shared)) (sourced byte_at u)
   pages_are (update.Write file offset count) is = go (cell_of lent file.ino) refl where
     u : Update
     u = update.Write file offset count
 
     go : (o : Option CellValue) → cell_of lent file.ino ≡ o
-        → pages_over block (page_in now block) (sourced byte_at (update.Write file offset count))
+        → pages_over block (page_in lent block) (sourced byte_at (update.Write file offset count))
         ≡ fresh_pages block (copies (shared_of shared)) (sourced byte_at (update.Write file offset count))
     go None q =
         let f = (file_passed (nodes_in lent file) (text_refusal block offset (replicate count 0)) is.passed).0 in
@@ -123,7 +107,7 @@ module _ (shared : Shared) (slots : List ℕ) (hand : Hand) (looked : LookupResu
         let text = text_part byte_at 0 count in
         let range = range_with_len (offset / block) (pages_touched block offset (length text)) in
         ap (λ (f : ℕ → List ℕ). map (λ (page : ℕ). page_with block offset text page (f page)) range)
-        (fun_ext (λ (page : ℕ). more_page block lent now more file page ∙ sym (one_page block lent file c q page)))
+        (fun_ext (λ (page : ℕ). sym (one_page block lent file c q page)))
         ∙ fresh_are (bytes_among c.state.blocks) block (alone file.ino c) (own, tt)
         (one_sound block lent file c q own (found_all (λ (s : CellState). IsSoundIn s (log_of s)) lent file.ino c q sound))
         (update.Write file offset count) byte_at some
@@ -133,7 +117,7 @@ module _ (shared : Shared) (slots : List ℕ) (hand : Hand) (looked : LookupResu
         (one_node block lent file c q ∙ machine_node file (update.Write file offset count) refl is)
   pages_are (update.Size file size) is = go (cell_of lent file.ino) refl where
     go : (o : Option CellValue) → cell_of lent file.ino ≡ o
-        → pages_over block (page_in now block) (sourced byte_at (update.Size file size))
+        → pages_over block (page_in lent block) (sourced byte_at (update.Size file size))
         ≡ fresh_pages block (copies (shared_of shared)) (sourced byte_at (update.Size file size))
     go None q =
         let f = (file_passed (nodes_in lent file) _ is.passed).0 in
@@ -144,7 +128,7 @@ module _ (shared : Shared) (slots : List ℕ) (hand : Hand) (looked : LookupResu
     go (Some c) q =
         let own = found_all (HasOwn block) lent file.ino c q is.read.own in
         ap (λ (bytes : List ℕ). cut_page block (size % block) bytes ∷ [])
-        (more_page block lent now more file (size / block) ∙ sym (one_page block lent file c q (size / block)))
+        (sym (one_page block lent file c q (size / block)))
         ∙ fresh_are (bytes_among c.state.blocks) block (alone file.ino c) (own, tt)
         (one_sound block lent file c q own (found_all (λ (s : CellState). IsSoundIn s (log_of s)) lent file.ino c q sound))
         (update.Size file size) byte_at some

@@ -20,7 +20,7 @@ use Rattle.nv_machine.specs.Sequence.{beginning}
 use Rattle.nv_machine.specs.World as machine
 use Rattle.nv_core.specs.Nodes.{CanRead, HoldHandles}
 use Rattle.nv_core.specs.Rooms.{FitsNext}
-use Rattle.nv_core.specs.Shown.{GhostCall, draining_of, ending_of, hand_of, next_of, shared_of, showing_of, shown, slots_in}
+use Rattle.nv_core.specs.Shown.{GhostCall, draining_of, ending_of, hand_of, next_of, shared_of, shown, slots_in}
 use Rattle.nv_core.specs.Steps.{CanBeChecked, Given, GivenOn}
 use Rattle.nv_core.specs.GhostCalls.{IsChangeWith, IsRequestOf, IsGhostCallOf, is_change}
 use Rattle.nv_core.specs.declared.request.Request.{Request}
@@ -141,8 +141,8 @@ module _ (shared : Shared) (actor : ℕ) (told : GhostCall) (hand : Hand) (runni
   maintain (on.Drop snapshot) e = tt
   maintain (on.Pin snapshot) e = given.snapshots (machine.Pin snapshot) (ap next_of e)
   maintain (on.Show snapshot showing) e =
-      record { own = given_bytes shared given.apart; pages = given.snapshots (machine.Show snapshot (showing_of showing)) (ap next_of e) }
-  maintain (on.Unpin snapshot seen) e = given.snapshots (machine.Unpin snapshot seen.items) (ap next_of e)
+      record { own = given_bytes shared given.apart; pages = given.snapshots (machine.Show snapshot showing) (ap next_of e) }
+  maintain (on.Unpin snapshot seen) e = given.snapshots (machine.Unpin snapshot seen) (ap next_of e)
   maintain (on.Pick draining) e = tt
   maintain (on.LockPicked draining picked) e =
       let slot = own_slot picked.ino (inside (next.Maintenance (on.LockPicked draining picked)) e) in

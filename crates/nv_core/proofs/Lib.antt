@@ -18,6 +18,7 @@ pub mod Cleanings
 pub mod Closes
 pub mod CommitTurns
 pub mod Consistent
+pub mod Copies
 pub mod Ends
 pub mod Enters
 pub mod Formats
@@ -33,6 +34,9 @@ pub mod GivenReady
 pub mod Gives
 pub mod HeldPages
 pub mod Homes
+pub mod JudgedLogs
+pub mod JudgedNodes
+pub mod JudgedTrees
 pub mod Kept
 pub mod LastTurns
 pub mod LawsHold
@@ -55,6 +59,7 @@ pub mod Releases
 pub mod RetirePhase
 pub mod Retires
 pub mod RoomsAfter
+pub mod RoomsMade
 pub mod Runs
 pub mod SameCells
 pub mod ScannedParts

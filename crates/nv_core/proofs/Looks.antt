@@ -37,7 +37,7 @@ bytes_in None = λ number. []
 bytes_in (Some cell) = bytes_among cell.state.blocks
 
 -- its cell, where there is such a slot
-abbrev IsCellOf : {A : Type 0} → Shared → ℕ → (A → CellValue) → Option A → Type 0
+abbrev pub IsCellOf : {A : Type 0} → Shared → ℕ → (A → CellValue) → Option A → Type 0
 IsCellOf s ino value cell = MatchOption cell (cell_at s ino ≡ no_cell) (λ c. cell_at s ino ≡ (value c).state)
 
 node_alone : {A : Type 0} (s : Shared) (dir : Handle) (value : A → CellValue) (cell : Option A) → IsCellOf s dir.ino value cell

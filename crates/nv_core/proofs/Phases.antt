@@ -4,7 +4,7 @@ use Rattle.std.specs.Option.{IsSome, option_map}
 use Rattle.std.proofs.lemmas.Bool.{le-ltb, lt-ltb}
 use Rattle.nv_base.specs.declared.numbers.Handle.{Handle}
 use Rattle.nv_book.specs.Book.{BookValue, with_journal}
-use Rattle.nv_cell.specs.Cell.{CellValue, published}
+use Rattle.nv_cell.specs.Cell.{CellValue, killed_by, published}
 use Rattle.nv_cell.specs.Room.{IsReadyFor}
 use Rattle.nv_journal.specs.declared.old_tail.OldTail.{OldTail}
 use Rattle.nv_calls.specs.CanCommit.{CanBePublished, CanCommit, CanRetireAll, KillsAsTold}
@@ -14,7 +14,6 @@ use Rattle.nv_calls.specs.Committed.{ChangesPlanned, HaveAppendRoom, HaveSamePla
 use Rattle.nv_calls.specs.PlanByPlan.{AppendsTo, PublishesTo, published_of}
 use Rattle.nv_calls.specs.Progress.{is_open}
 use Rattle.nv_calls.specs.Ready.{ArePlaced, CellCommitValue, ReadyValue, old_tails, plan_at}
-use Rattle.nv_calls.specs.Retiring.{killed_by}
 use Rattle.nv_calls.specs.Steps.{CanAppendPlan, with_plan}
 use Rattle.nv_calls.proofs.AppendAll as append_all
 use Rattle.nv_calls.proofs.Changes.{all_changed}

@@ -100,14 +100,14 @@ plan_taken block n one other (update.Rmdir dir name) runs made = refl
 plan_taken block n one other (update.Rename from old to new) runs made = refl
 
 -- the plan of a call over the lent cells is the machine's, whatever its text
-pub planned_same : (shared : Shared) (slots : List ℕ) (hand : Hand) (u : Update) (text : List ℕ) (made : Handle) (present : Bool)
+pub planned_same : (shared : Shared) (slots : List ℕ) (hand : Hand) (u : Update) (text : List ℕ) (made : Handle)
     → CanRead shared slots (handles (looked (copies (shared_of shared)) (call_of u text)) (call_of u text)) → 0 < length slots
     → text_len u ≡ length text
     → (makes u ≡ true → made ≡ unwrap_or (made_by (lent_cells slots shared.cells.items) hand.ino u) no_handle)
     → plan shared.geometry.numbers.block (copies (shared_of shared))
-    (record { made = made; runs = runs_of (numbers_of hand.«data».blocks); present = present }) (call_of u text)
+    (record { made = made; runs = runs_of (numbers_of hand.«data».blocks) }) (call_of u text)
     ≡ planned_by (lent_cells slots shared.cells.items) hand u
-planned_same shared slots hand u text made present can some len is =
+planned_same shared slots hand u text made can some len is =
     with_blank.plan
     ∙ sym (lent_call_same block shared slots taken (blank_call u) (subst (CanRead shared slots) with_blank.handles can)).plan
     ∙ plan_taken block (nodes_in lent) taken (taken_by lent hand u) u refl is
@@ -119,7 +119,7 @@ planned_same shared slots hand u text made present can some len is =
       lent = lent_cells slots shared.cells.items
 
       taken : Allocation
-      taken = record { made = made; runs = runs_of (numbers_of hand.«data».blocks); present = present }
+      taken = record { made = made; runs = runs_of (numbers_of hand.«data».blocks) }
 
       with_blank : SamePlan block (copies (shared_of shared)) (has_page_in lent) taken (blank_call u) (call_of u text)
       with_blank = same_plan block (copies (shared_of shared)) (has_page_in lent) taken u text (sym len)

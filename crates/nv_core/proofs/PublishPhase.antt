@@ -3,7 +3,7 @@ use Rattle.std.proofs.Common.{◌≡◌, ℕ, ◌+◌, ◌<◌, ◌≤◌, ◌�
 use Rattle.std.specs.Prelude.{is_some, slice_index_or}
 use Rattle.std.proofs.lemmas.Bool.{ltb-false, ltb-true}
 use Rattle.nv_book.specs.Book.{BookValue, with_journal}
-use Rattle.nv_cell.specs.Cell.{CellValue, KeepsAppendRoom, fresh_of, log_of, published}
+use Rattle.nv_cell.specs.Cell.{CellValue, KeepsAppendRoom, fresh_of, killed_by, log_of, published}
 use Rattle.nv_cell.specs.Effects.{items_of}
 use Rattle.nv_cell.specs.Killed.{AreKilled}
 use Rattle.nv_cell.specs.Weights.{weights_in}
@@ -13,7 +13,7 @@ use Rattle.nv_calls.specs.Commit.{CommitValue, NotesNext, after_open, after_publ
 use Rattle.nv_calls.specs.PlanByPlan.{AppendsTo, PublishesTo}
 use Rattle.nv_calls.specs.Progress.{is_open}
 use Rattle.nv_calls.specs.Ready.{ArePlaced, CellCommitValue, old_tails}
-use Rattle.nv_calls.specs.Retiring.{killed_by, part_in}
+use Rattle.nv_calls.specs.Retiring.{part_in}
 use Rattle.nv_calls.proofs.PublishAll as publish_all
 use Rattle.nv_core.specs.Committing.{IsAppending, IsCommitting, IsPublishing, IsRetiring, first_of, noted_by}
 use Rattle.nv_core.proofs.Opens.{open_way}

@@ -6,9 +6,8 @@ use Rattle.std.proofs.lemmas.List.{get_or-map, length-map, length-set}
 use Rattle.nv_calls.specs.Progress.{is_open}
 use Rattle.nv_calls.specs.Commit.{CommitValue, after_publish, to_publish}
 use Rattle.nv_calls.specs.Ready.{CellCommitValue, no_plan, plan_at}
-use Rattle.nv_calls.specs.Retiring.{killed_by}
 use Rattle.nv_calls.specs.SlotCells.{cell_in}
-use Rattle.nv_cell.specs.Cell.{CellState, CellValue, published}
+use Rattle.nv_cell.specs.Cell.{CellState, CellValue, killed_by, published}
 use Rattle.nv_cell.specs.declared.killed.KilledPart.{KilledPart}
 use Rattle.nv_machine.specs.Kinds.{publish_turn, with_killed}
 use Rattle.nv_machine.specs.Reads.{slot_at, written_slots}

@@ -1,8 +1,8 @@
 -- A call that is made ready: its hand, its plan, and the bytes of its pages.
-use Rattle.std.proofs.Common.{◌≡◌, ℕ, suc, ◌+◌, ◌<◌, ◌==◌, ◌∙◌, Bool, true, false, List, [], ◌∷◌, filter, length, map, nat_lt, ap, ap₂, arith, refl, slice_index_or, subst, sym, ext_get_or}
+use Rattle.std.proofs.Common.{◌≡◌, ℕ, suc, ◌+◌, ◌<◌, ◌==◌, ◌∙◌, Bool, true, false, List, [], ◌∷◌, filter, length, map, nat_lt, ap, ap₂, arith, refl, slice_index_or, subst, sym, ext_get_or, inl, inr}
 use Rattle.std.proofs.lemmas.Bool.{eqb-true, eq-eqb, lt-ltb, ltb-true}
 use Rattle.std.proofs.lemmas.Grind.{get_or_default_zero}
-use Rattle.std.proofs.lemmas.List.{get_or-map, length-map}
+use Rattle.std.proofs.lemmas.List.{get_or-map, length-map, with_items_is}
 use Rattle.std.proofs.lemmas.List.Folds.{Any-from_list_any, list_any_at}
 use Rattle.nv_alloc.specs.Numbers.{has}
 use Rattle.nv_calls.proofs.Places.{placed}
@@ -17,7 +17,7 @@ use Rattle.nv_entry.specs.declared.item.Item.{Item}
 use Rattle.nv_calls.specs.AllCalls.{plan}
 use Rattle.nv_calls.specs.Plan.{runs_of}
 use Rattle.nv_calls.specs.declared.call.Call.{Call}
-use Rattle.nv_machine.specs.Reads.{copies, has_last_page, is_written, plan_by, slot_at}
+use Rattle.nv_machine.specs.Reads.{copies, is_written, plan_by, slot_at}
 use Rattle.nv_machine.specs.World as machine
 use Rattle.nv_calls.proofs.LentSlots.{lent_at}
 use Rattle.nv_core.proofs.Others.{others_stay}
@@ -35,8 +35,8 @@ use Rattle.nv_core.specs.declared.running.Running.{Running}
 use Rattle.nv_core.specs.declared.shared.Shared.{Shared}
 use Rattle.nv_alloc.specs.Block.{BlockValue, numbers_of}
 use Rattle.nv_alloc.specs.declared.hand.Hand.{Hand}
-use Rattle.nv_calls.specs.FillPages.{filled, fresh_pages, page_in, pages_over, sourced, with_blocks}
-use Rattle.nv_calls.specs.Prepared.{CanReady, HasNoLessRoom, HaveNoLessRoom, IsReadyBy, cell_plans, if_items, planned_by, plans_by}
+use Rattle.nv_calls.specs.FillPages.{filled, filled_by, fresh_pages, page_in, pages_over, sourced}
+use Rattle.nv_calls.specs.Prepared.{CanReady, HasNoLessRoom, HaveNoLessRoom, HoldsTheSame, IsReadyBy, cell_plans, if_items, planned_by, plans_by}
 use Rattle.nv_calls.specs.Ready.{CellCommitValue, ReadyValue}
 use Rattle.nv_calls.specs.declared.update.Update.{Update}
 use Rattle.nv_cell.specs.Cell.{CellState, CellValue, log_of}
@@ -45,28 +45,33 @@ use Rattle.nv_calls.specs.Updates.{call_of, text_len}
 use Rattle.nv_calls.specs.declared.looked.LookupResult.{LookupResult}
 use Rattle.std.specs.List.{AllByRecursion}
 use Rattle.nv_core.proofs.FreshPages.{pages_are, text_whole}
+use Rattle.nv_base.specs.Memory.{out_of_memory}
+use Rattle.nv_base.specs.declared.fault.Fault.{Fault}
+use Rattle.nv_base.specs.declared.fault.Fault.TheVariants.{Read}
+use Rattle.std.specs.Prelude.{◌⊎◌, IfErr, IfOk, Result, Ok, Err}
+use Rattle.std.specs.Vec.{with_items}
 use Rattle.nv_core.specs.Readied.{filled_hand}
 use Rattle.nv_core.specs.Shown.{GhostCall, hand_of, shared_of, shown, slots_in}
 
 -- ---- the hand
 
--- what a fill leaves, of a hand that has got room
-pub filled_is : (cells : List (ℕ × CellValue)) (text : List ℕ) (u : Update) (hand : Hand) (ready new : ReadyValue) → ready.update ≡ u
-    → HasNoLessRoom hand ready.hand → new ≡ with_blocks new.hand.«data» ready
-    → new.hand.«data».blocks ≡ filled (pages_over ready.hand.«data».size (page_in cells ready.hand.«data».size)
-    (sourced (λ i. slice_index_or text i 0) ready.update)) ready.hand.«data».blocks
-    → hand_of new.hand ≡ filled_hand cells text u hand
-filled_is cells text u hand ready new same more with pages =
-    ap (λ (r : ReadyValue). hand_of r.hand) with
-    ∙ ap (λ (h : Hand). hand_of (record h { «data» = new.hand.«data» })) more.same
-    ∙ ap (λ (bs : List BlockValue). record (hand_of hand) { blocks = bs }) pages
-    ∙ ap (λ (v : Update). record (hand_of hand) {
-      blocks = filled (pages_over ready.hand.«data».size (page_in cells ready.hand.«data».size) (sourced
-          (λ i. slice_index_or text i 0) v)) ready.hand.«data».blocks;
-    }) same
-    ∙ ap (λ (h : Hand). record (hand_of hand) {
-      blocks = filled (pages_over h.«data».size (page_in cells h.«data».size) (sourced (λ i. slice_index_or text i 0) u)) h.«data».blocks;
-    }) more.same
+-- what is made ready with a text has its pages
+pub filled_text : (cells now : List (ℕ × CellValue)) (text : List ℕ) (u : Update) (hand : Hand) (result : Result ReadyValue (Fault × Hand))
+    → IfOk result (λ ready. IsReadyBy cells hand u now ready)
+    → IfOk result (λ ready. ready.hand.«data».blocks ≡ filled_by cells (λ i. slice_index_or text i 0) u hand.«data»)
+    → IfOk result (λ ready. hand_of ready.hand ≡ filled_hand cells text u hand)
+filled_text cells now text u hand (Ok ready) is pages =
+    ap hand_of is.hand_same.same ∙ ap (λ (bs : List BlockValue). record (hand_of hand) { blocks = bs }) pages
+filled_text cells now text u hand (Err refused) is pages = is
+
+-- a source that never fails leaves want of memory alone
+pub only_memory : {S : Type 0} (old new : S) (hand : Hand) (result : Result ReadyValue (Fault × Hand))
+    → IfErr result (λ refused. ((refused.0 ≡ out_of_memory) × HasNoLessRoom hand refused.1 × (new ≡ old))
+    ⊎ ((refused.0 ≡ Read) × HoldsTheSame hand refused.1 × (0 ≡ 0 + 1)))
+    → IfErr result (λ refused. (refused.0 ≡ out_of_memory) × HasNoLessRoom hand refused.1)
+only_memory old new hand (Ok ready) is = is
+only_memory old new hand (Err refused) (inl want) = (want.0, want.1)
+only_memory old new hand (Err refused) (inr failed) = absurd (omega (arith, failed.2))
 
 -- ---- what is shared
 
@@ -100,6 +105,17 @@ states_same slots old new many more rest =
             ∙ more.states at.0
             ∙ ap (λ (c : ℕ × CellValue). c.1.state) (lent_at slots old at.0 at.2)
             ∙ ap (λ (n : ℕ). (cell_in old n).state) here
+
+-- and what is shared then shows the same
+pub shared_same : (shared : Shared) (slots : List ℕ) (new : List CellValue) → length new ≡ length shared.cells.items
+    → HaveNoLessRoom (lent_cells slots shared.cells.items) (lent_cells slots new)
+    → other_cells slots new ≡ other_cells slots shared.cells.items
+    → shared_of (record shared { cells = with_items shared.cells new }) ≡ shared_of shared
+shared_same shared slots new many more rest =
+    ap (λ (xs : List CellState). record (shared_of shared) { cells = xs })
+    (ap (λ (xs : List CellValue). map (λ (c : CellValue). c.state) xs) (with_items_is shared.cells new
+    (omega (arith, many, shared.cells.ok.0)))
+    ∙ states_same slots shared.cells.items new many more rest)
 
 -- ---- the call
 
@@ -199,31 +215,26 @@ plan_ready shared hand running told by text at is made checked =
     let block = shared.geometry.numbers.block in
     let s = shared_of shared in
     let of = subst (λ (j : Request). IsRequestOf j running.owed told.call) at is in
-    let present = has_last_page block s told.call in
-    ap (λ (c : Call). plan block (copies s) (record {
-      made = running.made;
-      runs = runs_of (numbers_of hand.«data».blocks);
-      present = present;
-    }) c) of.0
-    ∙ plan_same shared (slots_in running.slots) hand running.looked by.update text running.made present checked made of.1
+    ap (λ (c : Call). plan block (copies s) (record { made = running.made; runs = runs_of (numbers_of hand.«data».blocks) }) c) of.0
+    ∙ plan_same shared (slots_in running.slots) hand running.looked by.update text running.made checked made of.1
 
 -- ---- the bytes of its pages
 
-pub filled_same : (shared : Shared) (slots : List ℕ) (hand : Hand) (looked : LookupResult) (now : List (ℕ × CellValue)) (u : Update)
-    (text : List ℕ)
-    → 0 < shared.geometry.numbers.block → HaveNoLessRoom (lent_cells slots shared.cells.items) now
+pub filled_same : (shared : Shared) (slots : List ℕ) (hand : Hand) (looked : LookupResult) (u : Update) (text : List ℕ)
+    → 0 < shared.geometry.numbers.block
     → AllByRecursion (λ (c : ℕ × CellValue). IsSoundIn c.1.state (log_of c.1.state)) (lent_cells slots shared.cells.items)
     → IsHandOf shared.geometry.numbers hand → IsChecked shared slots hand looked u → text_len u ≡ length text
-    → filled_hand now text u hand ≡ record (hand_of hand) {
+    → filled_hand (lent_cells slots shared.cells.items) text u hand ≡ record (hand_of hand) {
       blocks = filled (fresh_pages shared.geometry.numbers.block (copies (shared_of shared)) (call_of u text)) hand.«data».blocks;
     }
-filled_same shared slots hand looked now u text some more sound sizes is len =
+filled_same shared slots hand looked u text some sound sizes is len =
+    let lent = lent_cells slots shared.cells.items in
     let byte_at = λ (i : ℕ). slice_index_or text i 0 in
     ap (λ (n : ℕ). record (hand_of hand) {
-      blocks = filled (pages_over n (page_in now n)
+      blocks = filled (pages_over n (page_in lent n)
           (sourced byte_at u)) hand.«data».blocks;
     }) sizes.blocks
     ∙ ap (λ (pages : List (List ℕ)). record (hand_of hand) { blocks = filled pages hand.«data».blocks })
-    (pages_are shared slots hand looked now byte_at some more sound u is
+    (pages_are shared slots hand looked byte_at some sound u is
     ∙ ap (λ (t : List ℕ). fresh_pages shared.geometry.numbers.block (copies (shared_of shared)) (call_of u t)) (text_whole text
     (text_len u) len))

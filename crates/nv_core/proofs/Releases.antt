@@ -7,6 +7,7 @@ use Rattle.nv_alloc.specs.declared.hand.Hand.{Hand}
 use Rattle.nv_book.specs.declared.record.Record.{Record}
 use Rattle.nv_calls.specs.Retiring as calls
 use Rattle.nv_cell.specs.Cell.{CellState, CellValue, number_in}
+use Rattle.nv_cell.specs.Readers.{is_erased}
 use Rattle.nv_machine.specs.Kinds.{blocks_in, end_turn, with_erased}
 use Rattle.nv_machine.specs.Maintenance.{one_more, release_turn}
 use Rattle.nv_machine.specs.World as machine
@@ -69,7 +70,7 @@ module _ (blocks : ℕ) where
 
   in_hand : (ino : ℕ) (mid : CellState) (free : List BlockValue) → AllBelow free → AllBelow mid.chain.blocks
       → AllBelow (blocks_in (with_erased ino mid (record empty_hand { blocks = free })))
-  in_hand ino mid free one chain = go (calls.is_erased mid) where
+  in_hand ino mid free one chain = go (is_erased mid) where
     go : (b : Bool) → AllBelow (blocks_in (if b then record empty_hand {
       blocks = free;
       chain = mid.chain.blocks;

@@ -12,11 +12,11 @@ use Rattle.nv_calls.specs.Progress.{is_open, opens}
 use Rattle.nv_calls.specs.Ready.{CellCommitValue, no_plan, plan_at}
 use Rattle.nv_calls.specs.Retired.{CanRetire}
 use Rattle.nv_calls.specs.Retiring as calls
-use Rattle.nv_calls.specs.Retiring.{is_erased, number_back, with_back}
+use Rattle.nv_calls.specs.Retiring.{number_back, with_back}
 use Rattle.nv_calls.specs.SlotCells.{cell_in}
 use Rattle.nv_calls.specs.declared.progress.CommitStep.TheVariants as step
 use Rattle.nv_cell.specs.Cell.{CellState, CellValue, log_of}
-use Rattle.nv_cell.specs.Readers.{is_gone, keeps_nothing}
+use Rattle.nv_cell.specs.Readers.{is_erased, is_gone, keeps_nothing}
 use Rattle.nv_cell.specs.declared.killed.KilledPart.{KilledPart}
 use Rattle.nv_epoch.specs.SnapList.{ids}
 use Rattle.nv_log.specs.Chain.{ChainState, log}

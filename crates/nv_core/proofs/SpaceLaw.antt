@@ -6,11 +6,11 @@ use Rattle.std.proofs.lemmas.List.Sums.{sum_by-cons}
 use Rattle.std.specs.List.{flat_map, sum_by}
 use Rattle.nv_alloc.specs.Block.{BlockValue, number_of, numbers_of}
 use Rattle.nv_alloc.specs.FreeList.{FreeBlocks}
-use Rattle.nv_alloc.specs.Numbers.{times}
+use Rattle.nv_alloc.specs.Numbers.{IsEachOnce, times}
 use Rattle.nv_book.specs.Book.{BookState}
-use Rattle.nv_cell.specs.Cell.{CellState, log_of}
+use Rattle.nv_cell.specs.Cell.{CellState, log_of, of_part, stored_in}
 use Rattle.nv_cell.specs.declared.mark.Mark.{Mark}
-use Rattle.nv_machine.specs.Numbers.{IsEachOnce, all_blocks, free_of as free_numbers, held_by_actor, of_part, stored_in, used_blocks}
+use Rattle.nv_machine.specs.Numbers.{all_blocks, free_of as free_numbers, held_by_actor, used_blocks}
 use Rattle.nv_machine.specs.World.{World}
 use Rattle.nv_machine.proofs.Reached.{most_once}
 use Rattle.nv_core.proofs.SumsTo.{sum_to}

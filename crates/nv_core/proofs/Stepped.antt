@@ -28,7 +28,7 @@ at_step next shared running commit actor is can rooms =
 
 -- ---- cells that are written back in the place of those that were lent
 
-written_is : (shared : Shared) (new : List CellValue) → length new ≡ length shared.cells.items
+pub written_is : (shared : Shared) (new : List CellValue) → length new ≡ length shared.cells.items
     → (with_items shared.cells new).items ≡ new
 written_is shared new many = with_items_is shared.cells new (omega (arith, many, shared.cells.ok.0))
 

@@ -137,35 +137,34 @@ found_same shared slots hand looked u is =
 
 -- the plan of a checked call over its lent cells is the machine's
 pub plan_same : (shared : Shared) (slots : List ℕ) (hand : Hand) (looked : LookupResult) (u : Update) (text : List ℕ) (made : Handle)
-    (present : Bool)
     → IsChecked shared slots hand looked u → HasMade shared slots hand made u → text_len u ≡ length text
     → plan shared.geometry.numbers.block (copies (shared_of shared))
-    (record { made = made; runs = runs_of (numbers_of hand.«data».blocks); present = present }) (call_of u text)
+    (record { made = made; runs = runs_of (numbers_of hand.«data».blocks) }) (call_of u text)
     ≡ planned_by (lent_cells slots shared.cells.items) hand u
-plan_same shared slots hand looked u text made present is has len =
-    let taken : Allocation = record { made = made; runs = runs_of (numbers_of hand.«data».blocks); present = present } in
+plan_same shared slots hand looked u text made is has len =
+    let taken : Allocation = record { made = made; runs = runs_of (numbers_of hand.«data».blocks) } in
     let all = copies (shared_of shared) in
     let blank = same_plan shared.geometry.numbers.block all (has_page_in (lent_cells slots shared.cells.items)) taken u text (sym len) in
     let here : handles looked (blank_call u) ≡ handles (found_in all (call_of u text)) (call_of u text) =
     ap (λ (l : LookupResult). handles l (blank_call u)) (sym (found_same shared slots hand looked u is)) ∙ sym blank.handles in
-    planned_same shared slots hand u text made present (subst (CanRead shared slots) here is.read) is.some len has
+    planned_same shared slots hand u text made (subst (CanRead shared slots) here is.read) is.some len has
 
 -- a request's call wants as many log pages as in the machine
 pub wanted_same : (shared : Shared) (slots : List ℕ) (hand : Hand) (looked : LookupResult) (made : Handle) (j : Request) (owed : PendingAnswer) (c : Call)
-    (present : Bool) (n : ℕ) → IsRequestOf j owed c → IsChangeWith (λ
+    (n : ℕ) → IsRequestOf j owed c → IsChangeWith (λ
     (u : Update). HasMade shared slots hand made u × IsChecked shared slots hand looked u) j
     → IsChangeWith (λ (u : Update). n ≡ pages_to_take shared slots hand u) j
     → pages_wanted (shared_of shared) slots (plan shared.geometry.numbers.block (copies (shared_of shared))
-    (record { made = made; runs = runs_of (numbers_of hand.«data».blocks); present = present }) c) ≡ n
-wanted_same shared slots hand looked made (request.Change by text) owed c present n is has wants =
-    let taken : Allocation = record { made = made; runs = runs_of (numbers_of hand.«data».blocks); present = present } in
+    (record { made = made; runs = runs_of (numbers_of hand.«data».blocks) }) c) ≡ n
+wanted_same shared slots hand looked made (request.Change by text) owed c n is has wants =
+    let taken : Allocation = record { made = made; runs = runs_of (numbers_of hand.«data».blocks) } in
     ap (λ (d : Call). pages_wanted (shared_of shared) slots (plan shared.geometry.numbers.block (copies (shared_of shared)) taken d)) is.0
-    ∙ ap (pages_wanted (shared_of shared) slots) (plan_same shared slots hand looked by.update text made present has.1 has.0 is.1)
+    ∙ ap (pages_wanted (shared_of shared) slots) (plan_same shared slots hand looked by.update text made has.1 has.0 is.1)
     ∙ sym (pages_same shared slots (planned_by (lent_cells slots shared.cells.items) hand by.update) has.1.read.there)
     ∙ sym wants
-wanted_same shared slots hand looked made (request.Visit visit) owed c present n is has wants = elim has [ ]
-wanted_same shared slots hand looked made (request.Maintenance on) owed c present n is has wants = elim has [ ]
-wanted_same shared slots hand looked made request.Given owed c present n is has wants = elim has [ ]
+wanted_same shared slots hand looked made (request.Visit visit) owed c n is has wants = elim has [ ]
+wanted_same shared slots hand looked made (request.Maintenance on) owed c n is has wants = elim has [ ]
+wanted_same shared slots hand looked made request.Given owed c n is has wants = elim has [ ]
 
 -- ---- the turn
 

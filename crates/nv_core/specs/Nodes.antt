@@ -4,11 +4,10 @@ use Rattle.std.specs.List.{AllByRecursion}
 use Rattle.nv_alloc.specs.Numbers.{has}
 use Rattle.nv_base.specs.declared.numbers.Handle.{Handle}
 use Rattle.nv_entry.specs.declared.node.NodeCopy.{NodeCopy}
-use Rattle.nv_calls.specs.AllCalls.{blocks_wanted, ends_in_page}
 use Rattle.nv_calls.specs.Checked as checked
 use Rattle.nv_calls.specs.Nodes.{HasBytes, has_page_in, nodes_in}
 use Rattle.nv_calls.specs.Refusals.{Check}
-use Rattle.nv_calls.specs.Updates.{blank_call}
+use Rattle.nv_calls.specs.Updates.{blocks_taken}
 use Rattle.nv_calls.specs.declared.check_end.CheckEnd.{CheckEnd}
 use Rattle.nv_calls.specs.declared.check_end.CheckEnd.TheVariants as ends
 use Rattle.nv_calls.specs.declared.looked.LookupResult.{LookupResult}
@@ -55,4 +54,4 @@ ends_over block n before numbered u = option_map ended_by (checked.ends_over blo
 
 -- how many data blocks a call takes over these cells
 abbrev pub wanted_over : ℕ → List (ℕ × CellValue) → Update → ℕ
-wanted_over block cells u = blocks_wanted block (nodes_in cells) (ends_in_page (has_page_in cells) block (blank_call u)) (blank_call u)
+wanted_over block cells u = blocks_taken block (nodes_in cells) (has_page_in cells) u

@@ -22,10 +22,11 @@ use Rattle.nv_calls.specs.declared.looked.LookupResult.{LookupResult}
 use Rattle.nv_calls.specs.declared.update.Update.{Update}
 use Rattle.nv_cell.specs.Cell.{CellValue}
 use Rattle.nv_machine.specs.Sequence.{directories, nothing_looked}
+use Rattle.nv_reader.specs.Showing.{is_over}
 use Rattle.nv_core.specs.Cleaning.{CanCompact, CanUnlink, TakesFresh}
 use Rattle.nv_core.specs.Committing.{IsCommitting}
 use Rattle.nv_core.specs.Nodes.{CanRead, wanted_over}
-use Rattle.nv_core.specs.Shown.{is_over, showing_of, slots_in}
+use Rattle.nv_core.specs.Shown.{slots_in}
 use Rattle.nv_core.specs.GhostCalls.{IsChangeWith, IsLookAt, IsMaintenance, IsVisitOf, is_change, makes_inode}
 use Rattle.nv_core.specs.declared.reservation.Reservation.{Reservation}
 use Rattle.nv_core.specs.declared.reservation.Reservation.TheVariants as reserved
@@ -216,6 +217,12 @@ WantsBlocks wanted shared hand running =
     × IsChecked shared (slots_in running.slots) hand running.looked u ×
     (wanted ≡ blocks_to_take shared (slots_in running.slots) u)) running.request
 
+-- the hand has room for so many data blocks, and for the log pages that the call takes after them
+pub record HasRoomFor (wanted : ℕ) (shared : Shared) (hand : Hand) (running : Running) : Type 0 where
+  pub blocks : wanted ≤ hand.«data».room
+  pub most : 0 < wanted → wanted + MORE_PAGES ≤ hand.pages.room
+  pub own : wanted ≡ 0 → IsChangeWith (λ u. pages_to_take shared (slots_in running.slots) hand u ≤ hand.pages.room) running.request
+
 -- ---- calls on snapshots, and cleaners
 
 -- a hand has room for a block once what it holds is given back
@@ -225,7 +232,7 @@ HoldsOne hand = 0 < hand.«data».room + length hand.«data».blocks
 -- a show has another visit to make; a drain releases no more than it may, and behind its first pick it has room for
 -- the block of a record; a cleaner has the walk of the cell that it holds, and room for the pages that move
 abbrev pub HasStepRoom : MaintenanceStep → Shared → Hand → Type 0
-HasStepRoom (on.Show snapshot showing) shared hand = is_over (showing_of showing) ≡ false
+HasStepRoom (on.Show snapshot showing) shared hand = is_over showing ≡ false
 HasStepRoom (on.Pick draining) shared hand =
     (draining.released + draining.left < DRAIN) × (0 < draining.released → HoldsOne hand)
 HasStepRoom (on.LockPicked draining picked) shared hand = (draining.released + draining.left < DRAIN) × HoldsOne hand

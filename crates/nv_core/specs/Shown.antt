@@ -1,6 +1,6 @@
 -- What the parts of a world are in the machine of steps, whatever room they have.
 pub use Rattle.nv_calls.specs.SlotList.{slots_in}
-use Rattle.std.specs.Prelude.{ℕ, ◌==◌, ◌||◌, Bool, is_none, List, [], drop, map, take, Option, Some, None}
+use Rattle.std.specs.Prelude.{ℕ, List, [], drop, map, take}
 use Rattle.nv_alloc.specs.declared.hand.Hand.{Hand}
 use Rattle.nv_base.specs.declared.numbers.Handle.{Handle}
 use Rattle.nv_calls.specs.declared.answer.Answer.{Answer}
@@ -18,9 +18,8 @@ use Rattle.nv_core.specs.declared.reservation.Reservation.{Reservation}
 use Rattle.nv_core.specs.declared.reservation.Reservation.TheVariants as reserved
 use Rattle.nv_core.specs.declared.request.PendingAnswer.{PendingAnswer}
 use Rattle.nv_core.specs.declared.request.PendingAnswer.TheVariants as owed
-use Rattle.nv_entry.specs.Tree.{root}
 use Rattle.nv_entry.specs.declared.tree.TreeNode.{TreeNode}
-use Rattle.nv_reader.specs.Walk.{Visit, next_handle, root_visit}
+use Rattle.nv_reader.specs.Showing.{Showing}
 use Rattle.nv_core.specs.declared.next.Draining.{Draining}
 use Rattle.nv_core.specs.declared.next.Ending.{Ending}
 use Rattle.nv_core.specs.declared.next.Ending.TheVariants as ending
@@ -32,7 +31,6 @@ use Rattle.nv_core.specs.declared.next.MaintenanceStep.{MaintenanceStep}
 use Rattle.nv_core.specs.declared.next.MaintenanceStep.TheVariants as on
 use Rattle.nv_core.specs.declared.running.Running.{Running}
 use Rattle.nv_core.specs.declared.shared.Shared.{Shared}
-use Rattle.nv_core.specs.declared.showing.Showing.{Showing}
 use Rattle.nv_core.specs.declared.turn.Turn.{Turn}
 use Rattle.nv_core.specs.declared.turn.Turn.TheVariants as turn
 
@@ -79,18 +77,6 @@ pub record GhostCall : Type 0 where
   pub commit : ℕ
   pub epoch : ℕ
 
--- the visits that a show is to make: before the first of them, that of the root
-abbrev pub visits_of : ℕ → Option (List Visit) → List Visit
-visits_of depth None = root_visit depth root
-visits_of depth (Some walk) = walk
-
-abbrev pub showing_of : Showing → machine.Showing
-showing_of showing = record { left = showing.left; visits = visits_of showing.depth showing.walk; seen = showing.seen.items }
-
--- whether all visits are made
-abbrev pub is_over : machine.Showing → Bool
-is_over showing = (showing.left == 0) || is_none (next_handle showing.visits)
-
 abbrev pub draining_of : Draining → machine.Draining
 draining_of draining = record { released = draining.released; left = draining.left }
 
@@ -103,8 +89,8 @@ abbrev pub step_on : MaintenanceStep → machine.MaintenanceStep
 step_on on.Make = machine.Make
 step_on (on.Drop snapshot) = machine.Drop snapshot
 step_on (on.Pin snapshot) = machine.Pin snapshot
-step_on (on.Show snapshot showing) = machine.Show snapshot (showing_of showing)
-step_on (on.Unpin snapshot seen) = machine.Unpin snapshot seen.items
+step_on (on.Show snapshot showing) = machine.Show snapshot showing
+step_on (on.Unpin snapshot seen) = machine.Unpin snapshot seen
 step_on (on.Pick draining) = machine.Pick (draining_of draining)
 step_on (on.LockPicked draining picked) = machine.LockPicked (draining_of draining) picked
 step_on (on.Release draining picked) = machine.Release (draining_of draining) picked
@@ -134,12 +120,12 @@ snapshot_in (next.Maintenance (on.Show snapshot showing)) = snapshot
 snapshot_in (next.Maintenance (on.Unpin snapshot seen)) = snapshot
 snapshot_in other = 0
 
-abbrev pub showing_in : Next → machine.Showing
-showing_in (next.Maintenance (on.Show snapshot showing)) = showing_of showing
+abbrev pub showing_in : Next → Showing
+showing_in (next.Maintenance (on.Show snapshot showing)) = showing
 showing_in other = record { left = 0; visits = []; seen = [] }
 
 abbrev pub seen_in : Next → List TreeNode
-seen_in (next.Maintenance (on.Unpin snapshot seen)) = seen.items
+seen_in (next.Maintenance (on.Unpin snapshot seen)) = seen
 seen_in other = []
 
 abbrev pub ending_of : Ending → machine.Ending

@@ -4,7 +4,6 @@ ghost use Rattle.std.specs.Prelude.{◌≡◌, ◌∷◌, ◌<◌, [], IfOk, OnO
 ghost use Rattle.std.specs.List.{range_with_len};
 ghost use Rattle.nv_base.specs.Refusals.{FailsOnly};
 ghost use Rattle.nv_base.specs.Memory.{out_of_memory};
-ghost use Rattle.nv_entry.specs.Tree as tree;
 ghost use Rattle.nv_machine.specs.Format.{formatted, full_list};
 ghost use Rattle.nv_core.specs.Formats.{idle_actor, new_cell, rootless};
 ghost use Rattle.nv_core.specs.Shown.{shared_of};
@@ -15,20 +14,10 @@ use crate::reservation::Reservation;
 use crate::shared::Shared;
 use crate::world::{Actor, dismantle};
 use nv_alloc::{Block, BlockQueue, FreeList, Hand, InodePool};
-use nv_base::{Epoch, Fault, Gen, Geometry, Handle, Ino, Kind, Mode};
+use nv_base::{Epoch, Fault, Gen, Geometry, Kind, Mode};
 use nv_book::Book;
 use nv_cell::InodeCell;
 use std::alloc::Global;
-
-/// The handle of the root directory, in every world.
-pub fn root() -> Handle
-    ensures { result ≡ tree.root }
-{
-    Handle {
-        ino: Ino::new(0),
-        generation: Gen::new(1),
-    }
-}
 
 impl World {
     /// An empty world: the root alone, a directory of mode 493 (octal 755). The only error is `OutOfMemory`.

@@ -14,10 +14,6 @@ mod format;
 mod kinds;
 pub mod laws;
 mod lent;
-mod lent_open;
-mod lent_ready;
-mod lent_retire;
-mod lent_take;
 mod next;
 mod parts;
 mod reports;
@@ -26,9 +22,9 @@ mod reservation;
 mod running;
 pub mod scan_laws;
 mod shared;
-mod showing;
 mod sink;
 mod snaps;
+pub mod start_laws;
 mod step;
 mod tree;
 mod tree_to;
@@ -38,7 +34,6 @@ mod world;
 
 pub use calls_end::MOST_STEPS;
 pub use event::{Event, Reply};
-pub use format::root;
 pub use nv_audit::Audited;
 pub use nv_base::{
     Bytes, CommitNo, Epoch, Fault, Gen, Geometry, GeometryField, GeometryNumbers, Handle, Ino,
@@ -46,6 +41,7 @@ pub use nv_base::{
 };
 pub use nv_calls::{Answer, Call, MaintenanceCall};
 pub use nv_entry::{NodeCopy, Path, Tree, TreeNode};
+pub use nv_reader::root;
 pub use parts::Parts;
 pub use reports::{Lists, LogCounts, Space};
 pub use sink::{Sink, SinkFault};

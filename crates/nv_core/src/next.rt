@@ -1,10 +1,10 @@
 //! The steps of a call that stand before it is ready and after its commit, and how it is to end.
 
-use crate::showing::Showing;
 use nv_base::{Fault, Ino};
 use nv_book::Record;
 use nv_clean::{Cleaned, Unlinkable, Wanted};
-use nv_entry::TreeNode;
+use nv_entry::Tree;
+use nv_reader::Showing;
 
 /// The step of a call that comes next, while its hand is with the actor alone. In a loop with its place: of a
 /// directory, of a slot that the call locks, of how many lists were asked.
@@ -82,7 +82,7 @@ pub(crate) enum MaintenanceStep {
     Drop(u64),
     Pin(u64),
     Show(u64, Showing),
-    Unpin(u64, Vec<TreeNode>),
+    Unpin(u64, Tree),
     Pick(Draining),
     LockPicked(Draining, Record),
     Release(Draining, Record),

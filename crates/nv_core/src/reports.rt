@@ -7,7 +7,7 @@ ghost use Rattle.nv_alloc.specs.Runs.{runs_of};
 ghost use Rattle.nv_base.specs.Refusals.{FailsOnly};
 ghost use Rattle.nv_base.specs.declared.fault.Fault.TheVariants.{Stale};
 ghost use Rattle.nv_base.specs.Memory.{out_of_memory};
-ghost use Rattle.nv_machine.specs.Numbers.{IsEachOnce, all_blocks};
+ghost use Rattle.nv_machine.specs.Numbers.{all_blocks};
 ghost use Rattle.nv_machine.specs.World as machine;
 ghost use Rattle.nv_cell.specs.Cell.{log_of};
 ghost use Rattle.nv_cell.specs.Marks.{is_there};
@@ -16,6 +16,7 @@ ghost use Rattle.nv_book.specs.Records.{block_count, is_page};
 ghost use Rattle.nv_core.specs.Reports.{AddsUp, block_at, chain_in, counts_in, free_in, is_kept, kept_at, kept_in, kept_of, lists_of, log_at, mark_of, one_of, space_in, space_of};
 ghost use Rattle.nv_core.specs.Picked.{picked_at, picked_of};
 ghost use Rattle.nv_core.specs.Shown.{shared_of};
+ghost use Rattle.nv_alloc.specs.Numbers.{IsEachOnce};
 ghost use Rattle.nv_core.specs.Worlds.{Shows};
 
 use crate::World;

@@ -70,7 +70,7 @@ pub(crate) fn request_of(alloc: Global, call: Call) -> (Request, PendingAnswer)
         Call::Maintenance(call) => return (Request::Maintenance(call), PendingAnswer::Nothing),
         visit => return (Request::Visit(visit), PendingAnswer::Nothing),
     };
-    let plan = Plan { update, blocks: 0 };
+    let plan = Plan { update };
     (Request::Change(plan, Bytes::empty(alloc)), owed)
 }
 
@@ -84,7 +84,7 @@ fn request_of_write(file: Handle, offset: u64, text: Bytes) -> (Request, Pending
         offset,
         count,
     };
-    let plan = Plan { update, blocks: 0 };
+    let plan = Plan { update };
     (Request::Change(plan, text), PendingAnswer::Count(count))
 }
 

@@ -87,7 +87,7 @@ fn first_step(inodes: u64, request: &Request, looked: &LookupResult) -> (Next, L
 {
     let none = LockedSlots::none();
     match request {
-        Request::Change(Plan { update, .. }, _) => first_of_change(inodes, update, looked),
+        Request::Change(Plan { update }, _) => first_of_change(inodes, update, looked),
         Request::Maintenance(call) => {
             let (step, slots) = first_of_maintenance(inodes, call);
             (Next::Maintenance(step), slots)

@@ -14,11 +14,10 @@ ghost use Rattle.nv_core.specs.Steps.{CanShow};
 ghost use Rattle.nv_core.specs.Worlds.{Shows};
 
 use crate::World;
-use crate::format::root;
 use crate::shared::Shared;
 use nv_base::{Epoch, Fault, Handle, Ino};
 use nv_entry::{NodeCopy, Tree};
-use nv_reader::{Walk, settled_on, show_on};
+use nv_reader::{Walk, copy_on, root, settled_on};
 use std::alloc::Global;
 
 impl World {
@@ -109,15 +108,7 @@ impl Shared {
         ensures ok { IfOk result (λ node. node ≡ copies_at (shared_of self.now) epoch handle.now) }
         ensures err { FailsOnly out_of_memory result }
     {
-        let place = handle.ino.number() as usize;
-        if place >= self.cells.len() {
-            return Ok(None);
-        }
-        let cell = &self.cells[place];
-        if handle.generation != cell.generation() {
-            return Ok(None);
-        }
-        show_on(alloc, cell, epoch)
+        copy_on(alloc, self.cell(handle.ino), handle, epoch)
     }
 
     /// The node under a handle by its settled log; none where the handle is stale.

@@ -14,12 +14,11 @@ ghost use Rattle.nv_core.specs.Steps.{CanShow};
 ghost use Rattle.nv_core.specs.Worlds.{Shows};
 
 use crate::World;
-use crate::format::root;
 use crate::shared::Shared;
 use crate::sink::Sink;
 use nv_base::{Epoch, Fault};
 use nv_entry::NodeCopy;
-use nv_reader::Walk;
+use nv_reader::{Walk, root};
 use std::alloc::Global;
 
 impl World {

@@ -21,7 +21,8 @@ use Rattle.nv_machine.specs.Starts.{IsStart}
 use Rattle.nv_machine.specs.Step.{after, ending_at, handle_at, is_numbered, kind_turn, made_in, same_looked, turn}
 use Rattle.nv_machine.specs.World.{Actor, Answers, Check, Ending, Ends, Event, Go, HandState, Lock, Look, Moves, Next, Number, Overtaken, Running, Shared, MaintenanceStep, Maintenance, Turn, Waits, World, actor_at, go_to, owner_at}
 use Rattle.nv_machine.proofs.EveryWorld.{all_known}
-use Rattle.nv_machine.proofs.AloneLooks.{FoundBy, HasFound, IsLate, OnFound, call_sees, check_same, late_turn, locking_found, looked_self, on_found, refused_found}
+use Rattle.nv_calls.proofs.CheckEnds.{looked_self}
+use Rattle.nv_machine.proofs.AloneLooks.{FoundBy, HasFound, IsLate, OnFound, call_sees, check_same, late_turn, locking_found, on_found, refused_found}
 use Rattle.nv_machine.proofs.NextSteps.{KnowsNext, Untold}
 use Rattle.nv_machine.proofs.LoopSteps.{is_on_files}
 use Rattle.nv_machine.proofs.StepWays.{noted}

@@ -1,7 +1,7 @@
 -- What the looks of a call find that is made alone is what its check finds, so that it is never overtaken.
 use Rattle.std.proofs.Common.{◌≡◌, ◌∙◌, ℕ, zero, suc, ◌+◌, ◌<◌, Bool, true, false, List, [], ◌∷◌, Option, Some, None, ap, arith, if◌then◌else◌, length, nat_lt, refl, subst, sym}
 use Rattle.std.specs.Prelude.{Ok, Err}
-use Rattle.std.proofs.lemmas.Bool.{eq-eqb, false≢true}
+use Rattle.std.proofs.lemmas.Bool.{false≢true}
 use Rattle.nv_base.specs.declared.fault.Fault.{Fault}
 use Rattle.nv_base.specs.declared.numbers.Handle.{Handle}
 use Rattle.nv_calls.specs.AllCalls.{looked}
@@ -14,9 +14,9 @@ use Rattle.nv_entry.specs.declared.node.NodeCopy.{NodeCopy}
 use Rattle.nv_machine.specs.Kinds.{check_ending, seen_at}
 use Rattle.nv_machine.specs.Reads.{written_slots}
 use Rattle.nv_machine.specs.Sequence.{directories, locking, sequel}
-use Rattle.nv_machine.specs.Step.{ending_at, handle_at, kind_turn, same_found, same_looked}
+use Rattle.nv_machine.specs.Step.{ending_at, handle_at, kind_turn}
 use Rattle.nv_machine.specs.World.{Append, Check, Close, Ending, Ends, Enter, HandState, Lock, Look, Moves, Next, Number, Open, Overtaken, Publish, Ready, Refuses, Retire, Running, Shared, Maintenance, Turn, Waits}
-use Rattle.nv_machine.proofs.FitsCalls.{handles_same}
+use Rattle.nv_calls.proofs.CheckEnds.{handle_is}
 use Rattle.nv_machine.proofs.NextSteps.{Known, KnowsNext, OnKnown, Untold}
 use Rattle.nv_machine.proofs.LoopSteps.{Commits, appending_any, goes_on, locking_any, publishing_any, retiring_any}
 use Rattle.nv_machine.proofs.StepWays.{Closes, EndsBy, StopsBy, any_ends, is_last, is_taking, noted, noted_ending, by_last, by_taking}
@@ -189,7 +189,7 @@ module _ (copied plain : Handle → Option NodeCopy) (before : LookupResult) whe
   rename_sees : (from : Handle) (old : List ℕ) (to : Handle) (new : List ℕ) (b : Bool) → same_handle from to ≡ b → (place : ℕ)
       → Sees (if b then from ∷ [] else from ∷ to ∷ []) (call.Rename from old to new) copied plain before place
   rename_sees from old to new true e zero slots q is low upto same =
-      let one : copied to ≡ plain to = subst (λ (h : Handle). copied h ≡ plain h) (handles_same from to e) same in
+      let one : copied to ≡ plain to = subst (λ (h : Handle). copied h ≡ plain h) (handle_is from to e) same in
       one_found from (looked plain (call.Rename from old to new)) (looked copied (call.Rename from old to new)) before zero slots q is low
       (ap (λ (a : Option Handle). let l : LookupResult = record { first = a; second = found copied to new } in l)
       (found_same copied plain from old same)
@@ -211,16 +211,6 @@ module _ (copied plain : Handle → Option NodeCopy) (before : LookupResult) whe
   call_sees other place = λ slots q is low upto same. absurd (omega (arith, low))
 
 -- ---- a check that finds what the looks found
-
-handle_self : (a : Handle) → same_handle a a ≡ true
-handle_self a = rw (eq-eqb a.ino a.ino refl, eq-eqb a.generation a.generation refl) refl
-
-same_self : (o : Option Handle) → same_found o o ≡ true
-same_self None = refl
-same_self (Some a) = handle_self a
-
-pub looked_self : (l : LookupResult) → same_looked l l ≡ true
-looked_self l = rw (same_self l.first, same_self l.second) refl
 
 pub check_same : (first : Tests) (b : Bool) (rest : Tests) (numbered : Bool) (changes : List Change) → b ≡ true
     → check_ending first b rest numbered changes ≡ Some Overtaken → ⊥

@@ -28,7 +28,8 @@ use Rattle.nv_machine.specs.World.{Actor, Answers, ReturnNumber, Check, Ending, 
 use Rattle.nv_machine.proofs.EveryWorld.{all_numbers}
 use Rattle.nv_machine.proofs.AloneEndings.{Fine, FineOf, OnFine, after_fine, caused_fine, ends_fine, reply_fine}
 use Rattle.nv_machine.proofs.AloneFinds.{FoundOf, found_more, unchanged}
-use Rattle.nv_machine.proofs.AloneLooks.{HasFound, IsLate, locking_found, looked_self, upto_none}
+use Rattle.nv_calls.proofs.CheckEnds.{looked_self}
+use Rattle.nv_machine.proofs.AloneLooks.{HasFound, IsLate, locking_found, upto_none}
 use Rattle.nv_machine.proofs.AloneRuns.{IsAlone, begins, more, starts}
 use Rattle.nv_machine.proofs.CallsStay.{IsCallOf}
 use Rattle.nv_machine.proofs.CopiesAll.{after_one}

@@ -5,7 +5,7 @@ use Rattle.std.specs.List.{AllByRecursion}
 use Rattle.nv_alloc.specs.Block.{BlockValue}
 use Rattle.nv_alloc.specs.Numbers.{has}
 use Rattle.nv_book.specs.Book.{BookState}
-use Rattle.nv_calls.specs.Retiring.{erased, is_erased}
+use Rattle.nv_calls.specs.Retiring.{erased}
 use Rattle.nv_calls.proofs.Places.{log_rises}
 use Rattle.nv_calls.specs.Slots.{IsBefore, entries_of}
 use Rattle.nv_cell.specs.Cell.{CellState, empty_cell}
@@ -18,6 +18,7 @@ use Rattle.nv_machine.specs.Sequence.{closing, opening, publishing, retiring}
 use Rattle.nv_machine.specs.World.{Append, Close, Ending, Ends, HandState, Leave, Moves, Next, Open, Publish, Retire, Running, Shared, Turn, Waits, cell_at}
 use Rattle.nv_machine.proofs.LocksAlongCalls.{OnLocks}
 use Rattle.nv_machine.proofs.WorkKeeps.{AfterTurn, end_keeps}
+use Rattle.nv_cell.specs.Readers.{is_erased}
 use Rattle.nv_machine.proofs.EachElement.{all_append, all_weaker}
 
 -- ---- entries of one commit

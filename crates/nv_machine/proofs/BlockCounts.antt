@@ -9,16 +9,16 @@ use Rattle.nv_alloc.specs.Giving.{after_giving, kept_of, takes}
 use Rattle.nv_alloc.specs.Numbers.{times}
 use Rattle.nv_alloc.proofs.GivingLemmas.{kept_of-append, times-blocks, times-given}
 use Rattle.nv_alloc.proofs.Lists.{times-append, times-cons}
-use Rattle.nv_calls.specs.Retiring.{erased, is_erased}
+use Rattle.nv_calls.specs.Retiring.{erased}
 use Rattle.nv_cell.specs.Append.{appended, blocks_for, part_blocks}
-use Rattle.nv_cell.specs.Cell.{CellState, published}
+use Rattle.nv_cell.specs.Cell.{CellState, of_part, published, stored_in}
 use Rattle.nv_entry.specs.Blocks.{item_blocks}
 use Rattle.nv_entry.specs.declared.item.Entry.{Entry}
 use Rattle.nv_entry.specs.declared.item.Item.{Item}
 use Rattle.nv_entry.specs.declared.item.Item.TheVariants.{Write}
 use Rattle.nv_machine.specs.Frame.{lent}
 use Rattle.nv_machine.specs.Kinds.{asked_list, blocks_in, blocks_left, entries_for, given, less_list, with_bytes, with_entries, with_erased, with_given, with_pages}
-use Rattle.nv_machine.specs.Numbers.{free_of, held_in, of_part, stored_in}
+use Rattle.nv_machine.specs.Numbers.{free_of, held_in}
 use Rattle.nv_calls.proofs.FillPages.{filled_numbers}
 use Rattle.nv_calls.specs.FillPages.{fresh_pages}
 use Rattle.nv_machine.specs.Reads.{copies, pages_needed, slot_at, written_slots}
@@ -28,6 +28,7 @@ use Rattle.nv_machine.proofs.StepWork.{append_work, by_back, by_number, work, ma
 use Rattle.nv_machine.proofs.CellChanges.{IsRemoval, Removal, hand_freed, is_removal, is_removed, lent_removal, on_step, removal, removal_on, removed, stored_times, clean_cell, clean_slot, is_clean, is_clean_on, clean_slot_on, clean_cell_on, lent_clean}
 use Rattle.nv_machine.specs.Cleaning.{with_fresh, compacted_cell, unlinked, with_old_chain, with_unlinked}
 use Rattle.nv_clean.specs.Plans.{unlinkable_of}
+use Rattle.nv_cell.specs.Readers.{is_erased}
 use Rattle.nv_log.specs.Chain.{gone_of, left_of}
 
 -- how often a number stands in what is shared and in one hand

@@ -5,7 +5,7 @@ use Rattle.std.specs.List.{flat_map}
 use Rattle.std.proofs.lemmas.Bool.{cases_lt, eqb-false, eqb-true, false≢true, le-ltb}
 use Rattle.std.proofs.lemmas.Option.{none-some}
 use Rattle.nv_alloc.specs.Block.{BlockValue, numbers_of}
-use Rattle.nv_alloc.specs.Numbers.{has, times}
+use Rattle.nv_alloc.specs.Numbers.{IsEachOnce, has, times}
 use Rattle.nv_alloc.proofs.Lists.{times-append, times-cons, times-yes}
 use Rattle.nv_base.specs.declared.geometry.GeometryNumbers.{GeometryNumbers}
 use Rattle.nv_log.specs.Chain.{ChainState}
@@ -13,14 +13,14 @@ use Rattle.nv_machine.specs.Frame.{lent}
 use Rattle.nv_machine.specs.Hands.{AreNumbers, AreTailsLast, IsParted, unpublished_at, unpublished_by}
 use Rattle.nv_machine.specs.Kinds.{blocks_in}
 use Rattle.nv_machine.specs.Locks.{AreLocks}
-use Rattle.nv_machine.specs.Numbers.{IsEachOnce, all_blocks, free_of, held_by_actor, stored_in, used_blocks}
+use Rattle.nv_machine.specs.Numbers.{all_blocks, free_of, held_by_actor, used_blocks}
 use Rattle.nv_machine.specs.Reads.{written_slots}
 use Rattle.nv_machine.specs.World.{Actor, Give, HandState, Next, Running, Shared, World, actor_at, cell_at, idle, no_list, owner_at}
 use Rattle.nv_machine.proofs.Cleanable.{IsCleanable}
 use Rattle.nv_machine.proofs.CleanedCells.{Cleans, cleaned_numbers, cleaned_parted}
 use Rattle.nv_machine.proofs.CleanSteps.{clean_sized, cleans_own, cleans_published, stays_at}
 use Rattle.nv_cell.specs.Retained.{retention_by_marks}
-use Rattle.nv_machine.specs.Numbers.{of_part}
+use Rattle.nv_cell.specs.Cell.{stored_in, of_part}
 use Rattle.nv_machine.proofs.BlockCounts.{CanCount, LeavesNone, count}
 use Rattle.nv_machine.proofs.Occurrences.{set_times}
 use Rattle.nv_machine.proofs.OverEvents.{set_one}

@@ -12,13 +12,12 @@ use Rattle.nv_alloc.proofs.Lists.{times-append}
 use Rattle.nv_book.specs.Book.{BookState}
 use Rattle.nv_calls.specs.Retiring.{erased, freed, freed_by, freed_one, keeper_of, name_of, released, released_blocks, retired, retired_one, settled}
 use Rattle.nv_calls.proofs.Next.{Keeps, keeps}
-use Rattle.nv_cell.specs.Cell.{CellState, number_in, published}
+use Rattle.nv_cell.specs.Cell.{CellState, number_in, of_part, published, stored_in}
 use Rattle.nv_cell.specs.declared.killed.KilledPart.{KilledPart}
 use Rattle.nv_epoch.specs.SnapList.{ids}
 use Rattle.nv_machine.specs.Frame.{lent}
 use Rattle.nv_machine.specs.Hands.{IsParted, unpublished_at}
 use Rattle.nv_machine.specs.Kinds.{entries_for, first_killed, retired_book, retired_cell, with_entries, with_erased, with_pages}
-use Rattle.nv_machine.specs.Numbers.{of_part, stored_in}
 use Rattle.nv_machine.specs.Reads.{pages_needed, slot_at, written_slots}
 use Rattle.nv_machine.specs.World.{Append, ReturnNumber, Close, Enter, HandState, Leave, Make, Next, Number, Open, Publish, Release, Retire, Running, Shared, MaintenanceStep, Maintenance, cell_at, no_cell, owner_at, with_book, with_cell, Compact, Fresh, Unlink}
 use Rattle.nv_machine.proofs.Occurrences.{set_times}

@@ -8,7 +8,7 @@ use Rattle.std.proofs.lemmas.List.FromFn.{get_or-map-range_with_len, length-map-
 use Rattle.nv_alloc.specs.Block.{AreSized, BlockValue, numbers_of}
 use Rattle.nv_book.specs.Listed.{with_retired}
 use Rattle.nv_book.specs.declared.record.Record.{Record}
-use Rattle.nv_calls.specs.Retiring.{erased, is_erased, keeper_of, name_of, record_of, released, retired, settled}
+use Rattle.nv_calls.specs.Retiring.{erased, keeper_of, name_of, record_of, released, retired, settled}
 use Rattle.nv_calls.proofs.Appends.{front, map-drop, map-take}
 use Rattle.nv_cell.specs.Append.{IsWithinFile, appended, blocks_for}
 use Rattle.nv_cell.specs.Cell.{CellState, empty_cell, log_of, number_in, page_block, published, with_mark, without_part}
@@ -33,6 +33,7 @@ use Rattle.nv_machine.proofs.FiledLists.{count, one}
 use Rattle.nv_machine.proofs.FiledMarks.{filed_number, is_so, kept_not_current, kept_so, killed_not_current, low, low_filed}
 use Rattle.nv_machine.proofs.FiledSteps.{MarksOf, number_is_its, settled_is_log, settled_marks}
 use Rattle.nv_machine.proofs.Pairs.{IsRecordOf}
+use Rattle.nv_cell.specs.Readers.{is_erased}
 use Rattle.nv_machine.proofs.PartPlaces.{entry_blocks, sized_first, sized_later}
 
 -- ---- more log pages, and more entries

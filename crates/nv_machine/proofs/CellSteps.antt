@@ -7,13 +7,13 @@ use Rattle.std.proofs.lemmas.Bool.{and_parts, true≢false}
 use Rattle.std.proofs.lemmas.List.{take-append-le}
 use Rattle.nv_alloc.specs.Block.{BlockValue, number_of, numbers_of}
 use Rattle.nv_calls.specs.Plain.{stamped}
-use Rattle.nv_calls.specs.Retiring.{is_erased, keeper_of, retired, retired_one, settled as settled_part, killed_by}
+use Rattle.nv_calls.specs.Retiring.{keeper_of, retired, retired_one, settled as settled_part}
 use Rattle.nv_calls.specs.Slots.{last_commit}
 use Rattle.nv_cell.specs.Append.{IsWithinFile, appended, blocks_for}
-use Rattle.nv_cell.specs.Cell.{CellState, empty_cell, log_of, number_in, published}
+use Rattle.nv_cell.specs.Cell.{CellState, empty_cell, killed_by, log_of, number_in, published}
 use Rattle.nv_cell.specs.Named.{number_named}
 use Rattle.nv_cell.specs.Numbers.{dies, killed_part}
-use Rattle.nv_cell.specs.Readers.{is_gone, is_last_word, keeps_nothing}
+use Rattle.nv_cell.specs.Readers.{is_erased, is_gone, is_last_word, keeps_nothing}
 use Rattle.nv_cell.specs.declared.killed.KilledPart.{KilledPart}
 use Rattle.nv_cell.proofs.NamedParts.{names_of_parts}
 use Rattle.nv_cell.proofs.Publishing.{take_whole}

@@ -16,7 +16,7 @@ use Rattle.nv_entry.specs.declared.item.Entry.{Entry}
 use Rattle.nv_log.specs.Chain.{IsChain, compacted, with_pages_left}
 use Rattle.nv_log.proofs.Chains.{IsChain-compacted, has_pages_left}
 use Rattle.nv_machine.specs.Cleaning.{compacted_cell, unlinked}
-use Rattle.nv_machine.specs.Shapes.{IsLeftShaped}
+use Rattle.nv_cell.specs.Shape.{IsLeftShaped}
 use Rattle.nv_machine.specs.World.{HandState, Compact, Maintenance, MaintenanceStep, Next, Running, Shared, Unlink, cell_at}
 use Rattle.nv_machine.proofs.CleanedCells.{Cleans, taken_cleans}
 use Rattle.nv_machine.proofs.LeftKinds.{left_shaped}

@@ -7,10 +7,10 @@ use Rattle.std.proofs.Math.Path.{fun_ext}
 use Rattle.std.proofs.lemmas.Bool.{cases_lt, false≢true}
 use Rattle.std.proofs.lemmas.List.{get_or_past}
 use Rattle.nv_alloc.specs.Block.{AreSized, BlockValue, number_of, numbers_of}
-use Rattle.nv_cell.specs.Cell.{CellState, HasBlocks, HasMarks, IsCell, log_of, mark_or_fresh, page_block}
+use Rattle.nv_cell.specs.Cell.{CellState, HasBlocks, HasMarks, IsCell, log_of, mark_or_fresh, of_part, page_block}
 use Rattle.nv_cell.specs.Cleaned.{KeepsNodes, KeepsRecords, was_number}
 use Rattle.nv_cell.specs.Marks.{is_current, is_there, mark_at}
-use Rattle.nv_cell.specs.Readers.{is_gone, is_last_word}
+use Rattle.nv_cell.specs.Readers.{has_entry, is_gone, is_last_word}
 use Rattle.nv_cell.specs.Removal.{KeepsTheLast, left_in, part_flags, source}
 use Rattle.nv_cell.specs.declared.mark.Mark.{Mark}
 use Rattle.nv_cell.specs.declared.mark.Mark.TheVariants.{Current}
@@ -32,10 +32,8 @@ use Rattle.nv_calls.specs.Slots.{last_commit}
 use Rattle.nv_machine.specs.Effects.{IsSoundIn}
 use Rattle.nv_machine.specs.Hands.{IsParted}
 use Rattle.nv_machine.specs.Kept.{HasPages}
-use Rattle.nv_machine.specs.Numbers.{of_part}
 use Rattle.nv_machine.specs.Reads.{bytes_among}
 use Rattle.nv_machine.specs.Settled.{node_by}
-use Rattle.nv_machine.specs.PoolScan.{has_entry}
 use Rattle.nv_machine.specs.Whole.{HasItsParts}
 use Rattle.nv_machine.proofs.PoolCells.{IsLike}
 

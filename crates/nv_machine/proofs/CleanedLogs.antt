@@ -2,10 +2,9 @@
 use Rattle.std.proofs.Common.{◌≡◌, ◌∙◌, ℕ, zero, suc, ◌<◌, ◌||◌, Bool, true, false, List, [], ◌∷◌, Some, ap, length, not, refl, sym}
 use Rattle.std.specs.List.{list_any}
 use Rattle.std.proofs.lemmas.Bool.{and_from, and_parts, false≢true}
-use Rattle.nv_calls.specs.Retiring.{is_erased}
 use Rattle.nv_cell.specs.Cell.{CellState, log_of}
 use Rattle.nv_cell.specs.Marks.{is_there, mark_at}
-use Rattle.nv_cell.specs.Readers.{is_gone, keeps_nothing}
+use Rattle.nv_cell.specs.Readers.{is_erased, is_gone, keeps_nothing}
 use Rattle.nv_cell.specs.Retained.{retention_by_marks}
 use Rattle.nv_cell.specs.declared.mark.Mark.{Mark}
 use Rattle.nv_entry.specs.Held.{Retention}

@@ -18,7 +18,7 @@ use Rattle.nv_machine.specs.CleanerAnswers.{IsCleanedBy, IsRefusedInOrder, Clean
 use Rattle.nv_machine.specs.Cleaning.{compacted_cell, inode_turn, is_thorough, unlinked}
 use Rattle.nv_machine.specs.Kinds.{blocks_in, result_by, with_given}
 use Rattle.nv_machine.specs.OwnSteps.{OwnStep}
-use Rattle.nv_machine.specs.PoolScan.{has_inode}
+use Rattle.nv_cell.specs.Readers.{has_inode}
 use Rattle.nv_machine.specs.Reads.{home_from, slot_at}
 use Rattle.nv_machine.specs.Step.{kind_turn}
 use Rattle.nv_machine.specs.World.{Cleans, Compact, Ending, Fresh, Give, HandState, Judge, LockCleaned, Maintenance, MaintenanceStep, Manner, Next, Refuses, Running, Shared, Thorough, Fast, Auto, Turn, Unlink, Unlock, actor_at, cell_at, no_cell, with_cell, with_owner}

@@ -6,7 +6,7 @@ use Rattle.nv_alloc.specs.Block.{BlockValue}
 use Rattle.nv_alloc.specs.Numbers.{IsRising, has}
 use Rattle.nv_book.specs.Book.{BookState, with_journal}
 use Rattle.nv_calls.proofs.Retires.{chain_stays}
-use Rattle.nv_calls.specs.Retiring.{erased, is_erased}
+use Rattle.nv_calls.specs.Retiring.{erased}
 use Rattle.nv_cell.specs.Cell.{CellState, empty_cell, published}
 use Rattle.nv_cell.specs.declared.killed.KilledPart.{KilledPart}
 use Rattle.nv_cell.proofs.Publishing.{take_whole}
@@ -28,6 +28,7 @@ use Rattle.nv_machine.proofs.UnsettledLogs.{CellsLeft, OnGrown}
 use Rattle.nv_machine.proofs.Journals.{closed_tail, open_same}
 use Rattle.nv_machine.proofs.Lists.{has_drop, has_later, has_take, rising_filter, take_apart, written_inside}
 use Rattle.nv_machine.proofs.LogsKept.{cell_set}
+use Rattle.nv_cell.specs.Readers.{is_erased}
 use Rattle.nv_machine.proofs.AppendsToCome.{entries_more, pages_keep}
 
 -- ---- small facts

@@ -6,10 +6,10 @@ use Rattle.std.specs.Prelude.{slice_index_or}
 use Rattle.std.proofs.lemmas.Bool.{and_parts, false≢true}
 use Rattle.std.proofs.lemmas.Option.{same_Some}
 use Rattle.nv_alloc.specs.Block.{BlockValue}
-use Rattle.nv_calls.specs.Retiring.{erased, is_erased, keeper_of, name_of, retired, retired_one, settled as settled_part}
+use Rattle.nv_calls.specs.Retiring.{erased, keeper_of, name_of, retired, retired_one, settled as settled_part}
 use Rattle.nv_calls.specs.Slots.{entries_of}
 use Rattle.nv_cell.specs.Cell.{CellState, empty_cell, log_of, number_in}
-use Rattle.nv_cell.specs.Readers.{is_gone, keeps_nothing}
+use Rattle.nv_cell.specs.Readers.{is_erased, is_gone, keeps_nothing}
 use Rattle.nv_cell.specs.declared.killed.KilledPart.{KilledPart}
 use Rattle.nv_cell.specs.declared.mark.Mark.TheVariants.{Kept, Out}
 use Rattle.nv_cell.proofs.Publishing.{take_whole}

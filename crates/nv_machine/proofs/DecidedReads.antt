@@ -25,7 +25,7 @@ use Rattle.nv_machine.specs.Sequence.{beginning, directories, nothing_looked}
 use Rattle.nv_machine.specs.Settled.{settled, settled_nodes}
 use Rattle.nv_machine.specs.Step.{ending_at, handle_at, is_numbered, made_in, same_looked}
 use Rattle.nv_machine.specs.World.{Ending, HandState, Running, Shared, World, actor_at, cell_at}
-use Rattle.nv_machine.proofs.FitsCalls.{looked_is}
+use Rattle.nv_calls.proofs.CheckEnds.{looked_is}
 use Rattle.nv_machine.proofs.FitsOwn.{cover_each, has_back, inos, same_then}
 use Rattle.nv_machine.proofs.FitsStages.{IsLocked}
 use Rattle.nv_machine.proofs.UnsettledLogs.{is_settled, not_appended, not_behind}
@@ -167,7 +167,7 @@ module _ (block : ℕ) (s : Shared) (h : HandState) (r : Running) where
         (effect plain made r.call)
     either false e = anew (early plain r.call) _ _ _ _ _
     either true e =
-        let c = same_then_all e (record { made = made; runs = []; present = false }) in
+        let c = same_then_all e (record { made = made; runs = [] }) in
         ap₂ (λ (tests : Tests) (changes : List Change). check_ending (early plain r.call) true tests
         (is_numbered (beginning r.call) h.ino) changes) c.refusal c.effect
 

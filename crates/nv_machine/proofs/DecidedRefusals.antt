@@ -40,7 +40,7 @@ module _ (block a cpu : ℕ) (s : Shared) (h : HandState) (r : Running) (going :
       (is_numbered (beginning r.call) h.ino)) (sym (ending_settled block s h r (st.logs refl) st.fits))
       (check_told (early plain r.call) (same_looked (looked plain r.call) r.looked) (refusal block plain r.call)
       (is_numbered (beginning r.call) h.ino) (effect plain (made_in s h.ino r.made) r.call))
-  reads Visit st stage = λ none. sym (st.visit (stage refl) none (record { made = r.made; runs = []; present = false })).refusal
+  reads Visit st stage = λ none. sym (st.visit (stage refl) none (record { made = r.made; runs = [] })).refusal
   reads other st stage = tt
 
   pub settled_caused : (k : Next) (granted : Bool) → Relied k block a cpu s h r

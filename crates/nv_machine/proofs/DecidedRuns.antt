@@ -305,7 +305,7 @@ module _ (g : GeometryNumbers) (start : World) (records : List Record) (events :
       → deed_of w (Go actor granted) ≡ Commits → 0 < length (effect (node_in (settled_nodes w.shared)) r.made r.call)
   commits_something granted r there is e =
       let block = w.numbers.block in
-      let taken : Allocation = record { made = r.made; runs = []; present = false } in
+      let taken : Allocation = record { made = r.made; runs = [] } in
       let fits : FitsAt r.next block w.shared (actor_at w actor).hand r =
       subst (λ (o : Option Running). FitsOf o block w.shared (actor_at w actor).hand) is
       ((all_fit g start records is_start events).each actor) in

@@ -91,8 +91,8 @@ nothing_is (change ∷ changes) e = absurd (false≢true e)
 some_call : (block : ℕ) (nodes : Handle → Option NodeCopy) (made : Handle) (c : Call) → refusal block nodes c ≡ passes
     → 0 < length (effect nodes made c) → is_nothing c ≡ false
 some_call block nodes made c pass some = go (is_nothing c) refl where
-  told : IsToldNothing block nodes (record { made = made; runs = []; present = false }) c
-  told = told_nothing block nodes (record { made = made; runs = []; present = false }) c pass
+  told : IsToldNothing block nodes (record { made = made; runs = [] }) c
+  told = told_nothing block nodes (record { made = made; runs = [] }) c pass
 
   go : (b : Bool) → is_nothing c ≡ b → b ≡ false
   go false e = refl
@@ -330,6 +330,6 @@ module _ (block a cpu : ℕ) (s : Shared) (h : HandState) (r : Running) where
       visit_told (owner_at s (handle_at (handles nothing_looked r.call) 0).ino) (refusal block plain r.call)
       (refusal block (copies s) r.call) (granted || not (visit_grows r.call)) (answer (settled_nodes s) r.made r.call)
       (answer (nodes s) r.made r.call) before (plain_visit r.call d.stage) d.told
-      (λ free. let c = st.visit d.stage free (record { made = r.made; runs = []; present = false }) in (sym c.refusal, sym c.answer))
+      (λ free. let c = st.visit d.stage free (record { made = r.made; runs = [] }) in (sym c.refusal, sym c.answer))
   kind_told (Maintenance step) granted before st d = absurd d.stage
   kind_told other granted before st d = walked granted before other st d refl refl

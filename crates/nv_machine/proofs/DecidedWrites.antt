@@ -10,7 +10,7 @@ use Rattle.nv_entry.specs.declared.item.Item.{Item}
 use Rattle.nv_entry.specs.declared.item.Item.TheVariants.{SetSize}
 use Rattle.nv_entry.specs.declared.item.BlockRun.{BlockRun}
 use Rattle.nv_entry.specs.declared.node.NodeCopy.{NodeCopy}
-use Rattle.nv_calls.specs.AllCalls.{blocks_wanted, is_nothing, plan, refusal}
+use Rattle.nv_calls.specs.AllCalls.{blocks_wanted, is_nothing, plan, present_in, refusal}
 use Rattle.nv_calls.specs.Plain.{node_in, same_handle}
 use Rattle.nv_calls.specs.Refusals.{bytes_of, found, passes}
 use Rattle.nv_calls.specs.Slots.{items_for}
@@ -30,7 +30,7 @@ use Rattle.nv_machine.specs.Settled.{settled_nodes}
 use Rattle.nv_machine.specs.World.{Enter, HandState, Running, World}
 use Rattle.nv_machine.proofs.FitsBytes.{written as are_written}
 use Rattle.nv_machine.proofs.FitsEvents.{IsKnown, is_read}
-use Rattle.nv_machine.proofs.FitsRuns.{present_in, taken_of}
+use Rattle.nv_machine.proofs.FitsRuns.{taken_of}
 use Rattle.nv_machine.proofs.FitsStages.{FitsAt}
 use Rattle.nv_machine.proofs.Lists.{self}
 use Rattle.nv_machine.proofs.PlansOfBlocks.{length_numbers, runs_are, small_numbers}
@@ -71,27 +71,27 @@ rename_has false from old to new None other some = absurd (omega (arith, some))
 rename_has false from old to new (Some moved) other some = move_has (same_handle from to) from old to new moved (replaced_plan other)
 
 module _ (block : ℕ) (nodes : Handle → Option NodeCopy) (taken : Allocation) (positive : 0 < block) where
-  pub plan_has : (c : Call) → refusal block nodes c ≡ passes → is_nothing c ≡ false
-      → length (blocks_of taken.runs) ≡ blocks_wanted block nodes taken.present c → HasItems (plan block nodes taken c)
-  plan_has (call.Create dir name mode) h some count = first_has _ _ (omega arith)
-  plan_has (call.Mkdir dir name mode) h some count = first_has _ _ (omega arith)
-  plan_has (call.Write file offset (byte ∷ rest)) h some count =
+  pub plan_has : (present : Bool) (c : Call) → refusal block nodes c ≡ passes → is_nothing c ≡ false
+      → length (blocks_of taken.runs) ≡ blocks_wanted block nodes present c → HasItems (plan block nodes taken c)
+  plan_has present (call.Create dir name mode) h some count = first_has _ _ (omega arith)
+  plan_has present (call.Mkdir dir name mode) h some count = first_has _ _ (omega arith)
+  plan_has present (call.Write file offset (byte ∷ rest)) h some count =
       let size = length (written offset (byte ∷ rest) (bytes_of (nodes file))) in
       let one = one_item_a_run (offset / block) size taken.runs in
       let runs = has_runs taken.runs (omega (arith, count, touches block offset (length (byte ∷ rest)) positive (omega arith))) in
       first_has _ _ (omega (arith, one, runs))
-  plan_has (call.Size file size) h some count =
+  plan_has present (call.Size file size) h some count =
       first_has _ _ (let n = length-append (write_items (size / block) taken.runs size) (SetSize size ∷ []) in omega (arith, n))
-  plan_has (call.Mode handle mode) h some count = first_has _ _ (omega arith)
-  plan_has (call.Unlink dir name) h some count =
+  plan_has present (call.Mode handle mode) h some count = first_has _ _ (omega arith)
+  plan_has present (call.Unlink dir name) h some count =
       let t = told_nothing block nodes taken (call.Unlink dir name) h in leave_has dir name (found nodes dir name) (t.some_plan some)
-  plan_has (call.Rmdir dir name) h some count =
+  plan_has present (call.Rmdir dir name) h some count =
       let t = told_nothing block nodes taken (call.Rmdir dir name) h in leave_has dir name (found nodes dir name) (t.some_plan some)
-  plan_has (call.Rename from old to new) h some count =
+  plan_has present (call.Rename from old to new) h some count =
       let t = told_nothing block nodes taken (call.Rename from old to new) h in
       rename_has (own_place from old to new) from old to new (found nodes from old) (found nodes to new) (t.some_plan some)
-  plan_has (call.Read file offset count) h some wanted = cc
-  plan_has other h some count = cc
+  plan_has present (call.Read file offset count) h some wanted = cc
+  plan_has present other h some count = cc
 
 -- so the slots that are written are not none
 pub some_written : (slots : List ℕ) (plan : List InodePlan) → ((ino : ℕ) → has slots ino ≡ false → items_for plan ino ≡ [])
@@ -112,9 +112,9 @@ module _ (g : GeometryNumbers) (w : World) (known : IsKnown g w) (r : Running) (
       let s = w.shared in
       let k = known.reached in
       let d = f.1 in
-      let taken = taken_of r.made (present_in block (settled_slots s) r.call) d.fresh in
+      let taken = taken_of r.made d.fresh in
       let runs = runs_are (numbers_of d.fresh) (small_numbers d.fresh d.drawn.filled.small) in
       some_written (written_slots r) r.plan
       (are_written (bytes_in s) block s (is_read g w known) known.fit.sound r k.kept.some f.0 (λ (fresh : List BlockValue). h.blocks ≡ fresh) d)
-      (subst HasItems (sym d.drawn.plan) (plan_has block (node_in (settled_nodes s)) taken k.kept.some r.call f.0.passes some
+      (subst HasItems (sym d.drawn.plan) (plan_has block (node_in (settled_nodes s)) taken k.kept.some (present_in block (settled_slots s) r.call) r.call f.0.passes some
       (ap (λ (l : List ℕ). length l) runs ∙ length_numbers d.fresh ∙ d.drawn.filled.count)))

@@ -13,7 +13,7 @@ use Rattle.nv_entry.specs.declared.names.BoundName.{BoundName}
 use Rattle.nv_entry.specs.declared.node.NodeCopy.{NodeCopy}
 use Rattle.nv_machine.proofs.DirectoriesReached.{IsReached, IsReachedFrom, IsUnbound, alone_aside, directory_reached, leads_no_more, reached_but_bare, reached_by_name, reached_or_aside, reached_still, unbound_fewer}
 use Rattle.nv_machine.proofs.DirectoriesStay.{IsBare, IsBound, bare_names, bound_names, fewer_names, same_or, same_self, some_by_kind, still_leads}
-use Rattle.nv_machine.proofs.FitsCalls.{handles_same}
+use Rattle.nv_calls.proofs.CheckEnds.{handle_is}
 use Rattle.nv_machine.specs.Directories.{AreTree, HasName, HaveOneName}
 
 -- ---- one node changed
@@ -28,7 +28,7 @@ changed_here at f nodes = rw (same_self at) refl
 pub other_handle : (a b : Handle) → a ≢ b → same_handle a b ≡ false
 other_handle a b differ = go (same_handle a b) refl where
   go : (s : Bool) → same_handle a b ≡ s → s ≡ false
-  go true is = absurd (differ (handles_same a b is))
+  go true is = absurd (differ (handle_is a b is))
   go false is = refl
 
 pub changed_elsewhere : (at : Handle) (f : Option NodeCopy → Option NodeCopy) (nodes : Handle → Option NodeCopy) (handle : Handle)

@@ -15,7 +15,7 @@ use Rattle.nv_machine.proofs.DirectoriesChanged.{changed_at, changed_elsewhere, 
 use Rattle.nv_machine.proofs.DirectoriesKept.{apart_by_kind, changed_by, filter_more, filter_twice, first_change, joined, left_none, no_names, same_names, still_none, swapped}
 use Rattle.nv_machine.proofs.DirectoriesReached.{one_of_handle}
 use Rattle.nv_machine.proofs.DirectoriesStay.{filter_contains, same_or, same_self}
-use Rattle.nv_machine.proofs.FitsCalls.{handles_same}
+use Rattle.nv_calls.proofs.CheckEnds.{handle_is}
 use Rattle.nv_machine.specs.Directories.{AreTree, HasName}
 
 module _ (from : Handle) (old : List ℕ) (to : Handle) (new : List ℕ) (moved : Handle) where
@@ -53,7 +53,7 @@ module _ (from : Handle) (old : List ℕ) (to : Handle) (new : List ℕ) (moved 
 
       place : (same_handle from to ≡ true) ⊎ ((is_directory (kind_of (nodes moved)) ≡ false) × (same_handle from to ≡ false))
           → (to ≡ from) ⊎ ((names_under nodes moved ≡ []) × (to ≢ moved))
-      place (inl same) = inl (sym (handles_same from to same))
+      place (inl same) = inl (sym (handle_is from to same))
       place (inr (file, other)) = inr (no_names nodes tree.one_name moved file, apart_by_kind nodes to moved can.directory file)
 
   -- ---- nothing stands there

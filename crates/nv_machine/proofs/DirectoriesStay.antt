@@ -10,7 +10,7 @@ use Rattle.nv_calls.specs.Refusals.{is_directory, kind_of}
 use Rattle.nv_entry.specs.Tree.{names_of_node, names_under, root}
 use Rattle.nv_entry.specs.declared.names.BoundName.{BoundName}
 use Rattle.nv_entry.specs.declared.node.NodeCopy.{NodeCopy}
-use Rattle.nv_machine.proofs.FitsCalls.{handles_same}
+use Rattle.nv_calls.proofs.CheckEnds.{handle_is}
 use Rattle.nv_machine.specs.Directories.{AreApart, HasName, HaveOneName, LeadsTo}
 
 -- ---- elements
@@ -110,7 +110,7 @@ bare_leads nodes after bare is dir handle (bound, has, to) = (bound, bare_has no
 pub same_or : (a b : Handle) → (a ≡ b) ⊎ (a ≢ b)
 same_or a b = go (same_handle a b) refl where
   go : (s : Bool) → same_handle a b ≡ s → (a ≡ b) ⊎ (a ≢ b)
-  go true is = inl (handles_same a b is)
+  go true is = inl (handle_is a b is)
   go false is = inr (λ same. let self = same_self b in let z : true ≡ false = sym self ∙ ap (λ h. same_handle h b) (sym same) ∙ is in cc)
 
 pub bare_names : (nodes after : Handle → Option NodeCopy) (bare : Handle) → IsBare nodes after bare → HaveOneName nodes → HaveOneName after

@@ -32,7 +32,7 @@ use Rattle.nv_machine.proofs.DirectoriesChanged.{found_in}
 use Rattle.nv_machine.proofs.DirectoriesKept.{begin_kept, changed_by, changed_nodes, directory_of, file_of, found_there, leave_kept, no_names, none_there, one_kept}
 use Rattle.nv_machine.proofs.DirectoriesMoved.{CanMove, moves, other_effect, other_replaced, replaces, same_effect, same_replaced}
 use Rattle.nv_machine.proofs.DirectoriesStay.{same_self}
-use Rattle.nv_machine.proofs.FitsCalls.{handles_same}
+use Rattle.nv_calls.proofs.CheckEnds.{handle_is}
 use Rattle.nv_machine.proofs.CommitEffects.{point_effect}
 use Rattle.nv_machine.proofs.OverEvents.{by_points, events_by}
 use Rattle.nv_machine.proofs.FitsEvents.{IsKnown, fits_now, passes_now}
@@ -123,7 +123,7 @@ module _ (block : ℕ) (nodes : Handle → Option NodeCopy) (tree : AreTree node
         can = record { has = has; directory = directory; free = free; crosses = crosses }
 
         go : (same : Bool) → same_handle from to ≡ same → AreTree (changed_by (move_effect same from old to new moved []) nodes)
-        go true is = subst AreTree (same_effect from old to new moved nodes (sym (handles_same from to is)))
+        go true is = subst AreTree (same_effect from old to new moved nodes (sym (handle_is from to is)))
             (moves from old to new moved nodes tree can)
         go false is = subst AreTree (other_effect from old to new moved nodes (differs from to is))
             (moves from old to new moved nodes tree can)
@@ -139,7 +139,7 @@ module _ (block : ℕ) (nodes : Handle → Option NodeCopy) (tree : AreTree node
         go : (same : Bool) → same_handle from to ≡ same → AreTree
             (changed_by (move_effect same from old to new moved (replaced_effect (Some there))) nodes)
         go true one =
-            subst AreTree (same_replaced from old to new moved nodes tree there has had file own crosses (sym (handles_same from to one)))
+            subst AreTree (same_replaced from old to new moved nodes tree there has had file own crosses (sym (handle_is from to one)))
             (replaces from old to new moved nodes tree there has had file own crosses)
         go false other =
             subst AreTree (other_replaced from old to new moved nodes tree there has had file own crosses (differs from to other))
@@ -261,7 +261,7 @@ pub root_tree : AreTree (λ handle. if same_handle handle root then Some (empty_
 root_tree = record { one_name = one_name; reached = λ handle some. ([], only handle (same_handle handle root) refl some) } where
   only : (handle : Handle) (same : Bool) → same_handle handle root ≡ same
       → IsSome (if same_handle handle root then Some (empty_node Dir 493) else None) → handle ≡ root
-  only handle true is some = handles_same handle root is
+  only handle true is some = handle_is handle root is
   only handle false is some = absurd (let none : IsSome {T = NodeCopy} None = rw is at some in let z : false ≡ true = none in cc)
 
   bare : (handle : Handle) (b : BoundName) → HasName (λ h. if same_handle h root then Some (empty_node Dir 493) else None) handle b → ⊥

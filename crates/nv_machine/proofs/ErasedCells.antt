@@ -5,15 +5,14 @@ use Rattle.std.specs.List.{list_any}
 use Rattle.nv_alloc.specs.Block.{BlockValue, numbers_of}
 use Rattle.nv_alloc.specs.Numbers.{has, times}
 use Rattle.nv_alloc.proofs.Lists.{times-append, times-yes}
-use Rattle.nv_calls.specs.Retiring.{erased, is_erased, keeper_of, retired, retired_one, settled}
-use Rattle.nv_cell.specs.Cell.{CellState, log_of, number_in}
+use Rattle.nv_calls.specs.Retiring.{erased, keeper_of, retired, retired_one, settled}
+use Rattle.nv_cell.specs.Cell.{CellState, log_of, number_in, of_part, stored_in}
 use Rattle.nv_cell.specs.Marks.{is_there, mark_at}
-use Rattle.nv_cell.specs.Readers.{is_gone, keeps_nothing}
+use Rattle.nv_cell.specs.Readers.{is_erased, is_gone, keeps_nothing}
 use Rattle.nv_cell.specs.declared.killed.KilledPart.{KilledPart}
 use Rattle.nv_cell.specs.declared.mark.Mark.{Mark}
 use Rattle.nv_log.specs.Chain.{ChainState}
 use Rattle.nv_machine.specs.Erasing.{emptied}
-use Rattle.nv_machine.specs.Numbers.{of_part, stored_in}
 use Rattle.nv_machine.proofs.FromScratch.{not_counted}
 use Rattle.nv_machine.proofs.Lists.{or_right, self}
 

@@ -11,10 +11,10 @@ use Rattle.nv_base.specs.declared.geometry.GeometryNumbers.{GeometryNumbers}
 use Rattle.nv_base.specs.declared.limits.TheConstants.{NUMBER}
 use Rattle.nv_book.specs.declared.record.Record.{Record}
 use Rattle.nv_book.specs.Listed.{all_records}
-use Rattle.nv_calls.specs.Retiring.{erased, freed_by, is_erased, name_of, number_back}
+use Rattle.nv_calls.specs.Retiring.{erased, freed_by, name_of, number_back}
 use Rattle.nv_calls.proofs.Retires.{chain_stays, generation_stays}
 use Rattle.nv_cell.specs.Cell.{CellState, log_of}
-use Rattle.nv_cell.specs.Readers.{is_gone}
+use Rattle.nv_cell.specs.Readers.{is_erased, is_gone, is_withheld}
 use Rattle.nv_cell.specs.declared.killed.KilledPart.{KilledPart}
 use Rattle.nv_cell.specs.Marks.{bit, is_there, mark_at}
 use Rattle.nv_cell.proofs.Publishing.{take_whole}
@@ -35,7 +35,6 @@ use Rattle.nv_machine.specs.Locks.{commits_at}
 use Rattle.nv_machine.specs.Recorded.{is_kept, with_parts}
 use Rattle.nv_machine.specs.Kept.{AreClosed, Knows}
 use Rattle.nv_machine.specs.Kinds.{first_killed, retired_book, retired_cell, with_erased, with_freed}
-use Rattle.nv_machine.specs.PoolScan.{is_withheld}
 use Rattle.nv_machine.specs.Reads.{slot_at, written_slots}
 use Rattle.nv_machine.specs.Sequence.{retiring}
 use Rattle.nv_machine.specs.Settled.{settled}

@@ -4,7 +4,7 @@ use Rattle.std.proofs.lemmas.Bool.{false≢true}
 use Rattle.nv_base.specs.declared.geometry.GeometryNumbers.{GeometryNumbers}
 use Rattle.nv_base.specs.Limits.{IsWithinLimits}
 use Rattle.nv_book.specs.declared.record.Record.{Record}
-use Rattle.nv_calls.specs.Retiring.{erased, is_erased}
+use Rattle.nv_calls.specs.Retiring.{erased}
 use Rattle.nv_cell.specs.Cell.{CellState, empty_cell, published}
 use Rattle.nv_entry.specs.declared.item.Entry.{Entry}
 use Rattle.nv_machine.specs.Erasing.{emptied}
@@ -14,7 +14,7 @@ use Rattle.nv_machine.specs.Grown.{HasGrownBy}
 use Rattle.nv_machine.specs.Hands.{makes_inode}
 use Rattle.nv_machine.specs.Kinds.{entries_for}
 use Rattle.nv_machine.specs.PlainRun.{Commits, deed_of}
-use Rattle.nv_machine.specs.PoolScan.{has_entry, has_inode}
+use Rattle.nv_cell.specs.Readers.{is_erased, has_entry, has_inode}
 use Rattle.nv_machine.specs.Reached.{IsReached}
 use Rattle.nv_machine.specs.Reads.{pages_needed, slot_at, written_slots}
 use Rattle.nv_machine.specs.Sequence.{beginning}

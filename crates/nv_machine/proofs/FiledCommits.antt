@@ -4,9 +4,9 @@ use Rattle.std.specs.List.{AllByRecursion}
 use Rattle.nv_alloc.specs.Numbers.{IsRising}
 use Rattle.nv_book.specs.Records.{holder_of}
 use Rattle.nv_book.specs.declared.record.Record.{Record}
-use Rattle.nv_calls.specs.Retiring.{erased, killed_by}
+use Rattle.nv_calls.specs.Retiring.{erased}
 use Rattle.nv_calls.specs.Slots.{entries_of, items_for, place_in}
-use Rattle.nv_cell.specs.Cell.{CellState, log_of, published}
+use Rattle.nv_cell.specs.Cell.{CellState, killed_by, log_of, published}
 use Rattle.nv_cell.specs.declared.killed.KilledPart.{KilledPart}
 use Rattle.nv_cell.proofs.ValuesNow.{IsLog-take}
 use Rattle.nv_entry.specs.Log.{IsLog}

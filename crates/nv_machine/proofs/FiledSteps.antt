@@ -8,11 +8,11 @@ use Rattle.nv_alloc.specs.Block.{BlockValue}
 use Rattle.nv_book.specs.Listed.{with_retired}
 use Rattle.nv_book.specs.Records.{holder_of}
 use Rattle.nv_book.specs.declared.record.Record.{Record}
-use Rattle.nv_calls.specs.Retiring.{erased, is_erased, keeper_of, killed_by, name_of, record_of, released, retired, settled}
+use Rattle.nv_calls.specs.Retiring.{erased, keeper_of, name_of, record_of, released, retired, settled}
 use Rattle.nv_cell.specs.Append.{appended, blocks_for}
-use Rattle.nv_cell.specs.Cell.{CellState, empty_cell, log_of, number_in, published}
+use Rattle.nv_cell.specs.Cell.{CellState, empty_cell, killed_by, log_of, number_in, published}
 use Rattle.nv_cell.specs.Marks.{is_there, mark_at}
-use Rattle.nv_cell.specs.Readers.{is_gone, keeps_nothing}
+use Rattle.nv_cell.specs.Readers.{is_erased, is_gone, keeps_nothing}
 use Rattle.nv_cell.specs.declared.killed.KilledPart.{KilledPart}
 use Rattle.nv_cell.specs.declared.mark.Mark.{Mark}
 use Rattle.nv_cell.specs.declared.mark.Mark.TheVariants.{Kept, Out}

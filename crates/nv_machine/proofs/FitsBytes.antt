@@ -7,7 +7,7 @@ use Rattle.std.proofs.Math.Path.{fun_ext}
 use Rattle.std.proofs.lemmas.Bool.{cases_lt, eqb-true, ltb-false, ltb-true, true≢false}
 use Rattle.std.proofs.lemmas.List.Concat.{flat_map-append}
 use Rattle.nv_alloc.specs.Block.{BlockValue, numbers_of}
-use Rattle.nv_alloc.specs.Numbers.{has, times}
+use Rattle.nv_alloc.specs.Numbers.{IsEachOnce, has, times}
 use Rattle.nv_alloc.proofs.Lists.{times-append}
 use Rattle.nv_base.specs.declared.numbers.Handle.{Handle}
 use Rattle.nv_calls.proofs.Keeps.{keeps_to_its}
@@ -22,7 +22,7 @@ use Rattle.nv_calls.specs.Refusals.{passes}
 use Rattle.nv_calls.specs.Slots.{IsPlan, items_for, last_commit, node_under}
 use Rattle.nv_calls.specs.declared.plan.InodePlan.{InodePlan}
 use Rattle.nv_calls.specs.declared.allocation.Allocation.{Allocation}
-use Rattle.nv_cell.specs.Cell.{CellState}
+use Rattle.nv_cell.specs.Cell.{CellState, of_part, stored_in}
 use Rattle.nv_entry.specs.Node.{node_now}
 use Rattle.nv_entry.specs.Sound.{IsSound}
 use Rattle.nv_entry.specs.declared.item.Entry.{Entry}
@@ -34,7 +34,7 @@ use Rattle.nv_machine.specs.FitsNow.{all_parts, bytes_in}
 use Rattle.nv_machine.specs.Hands.{makes_inode}
 use Rattle.nv_machine.specs.Kept.{AreApart}
 use Rattle.nv_machine.specs.Locks.{commits_at}
-use Rattle.nv_machine.specs.Numbers.{IsEachOnce, all_blocks, free_of, held_by_actor, of_part, stored_in, used_blocks}
+use Rattle.nv_machine.specs.Numbers.{all_blocks, free_of, held_by_actor, used_blocks}
 use Rattle.nv_machine.specs.PlainRun.{Commits, deed}
 use Rattle.nv_machine.specs.Reads.{bytes_among, is_written, written_slots}
 use Rattle.nv_machine.specs.Sequence.{beginning}
@@ -48,7 +48,7 @@ use Rattle.nv_machine.proofs.CommitEffects.{IsRead, outside, read_nodes, read_pa
 use Rattle.nv_machine.proofs.FitsCalls.{IsOfNode, planned_there}
 use Rattle.nv_machine.proofs.FitsCells.{behind, longer}
 use Rattle.nv_calls.specs.Filled.{AreRead}
-use Rattle.nv_machine.proofs.FitsRuns.{is_ready, present_in, taken_of}
+use Rattle.nv_machine.proofs.FitsRuns.{is_ready, taken_of}
 use Rattle.nv_machine.proofs.FitsStages.{Drawn, FitsAt, IsLocked, IsStored, Passed}
 use Rattle.nv_machine.proofs.PoolSlots.{filter_has}
 use Rattle.nv_machine.proofs.Reached.{most_once, twice}
@@ -131,7 +131,7 @@ module _ (bytes : ℕ → List ℕ) (block : ℕ) (s : Shared) (is : IsRead byte
 
   module _ (r : Running) (some : 0 < block) (p : Passed block s r) (At : List BlockValue → Type 0) (d : Drawn block s r At) where
     abbrev taken : Allocation
-    taken = taken_of r.made (present_in block (settled_slots s) r.call) d.fresh
+    taken = taken_of r.made d.fresh
 
     passed : refusal block (node_in (node_under bytes block (settled_slots s))) r.call ≡ passes
     passed = subst (λ (nodes : Handle → Option PlainNode). refusal block (node_in nodes) r.call ≡ passes) (sym nodes_are) p.passes
@@ -200,7 +200,7 @@ module _ (bytes : ℕ → List ℕ) (block : ℕ) (s : Shared) (is : IsRead byte
     Stored = AllByRecursion (IsStored s r.slots)
 
     abbrev mine : Allocation
-    mine = taken_of r.made (present_in block (settled_slots s) r.call) d.fresh
+    mine = taken_of r.made d.fresh
 
     stored_read : (bs : List BlockValue) → AllByRecursion (IsStored s r.slots) bs → AreRead bytes bs
     stored_read [] all = tt

@@ -1,7 +1,6 @@
 -- What a call that passes its check plans, of which nodes, and when what it has taken is what it needs.
-use Rattle.std.proofs.Common.{◌≡◌, ◌⊎◌, ℕ, ◌<◌, ◌==◌, ◌∙◌, Bool, true, false, cond, List, [], ◌∷◌, Option, Some, None, ap, inl, inr, length, refl, sym}
+use Rattle.std.proofs.Common.{◌≡◌, ◌⊎◌, ℕ, ◌<◌, ◌∙◌, Bool, true, false, cond, List, [], ◌∷◌, Option, Some, None, inl, inr, length, refl, sym}
 use Rattle.std.specs.List.{AllByRecursion}
-use Rattle.std.proofs.lemmas.Bool.{and_parts, eqb-true}
 use Rattle.nv_base.specs.declared.node.Kind.TheVariants.{File, Dir}
 use Rattle.nv_base.specs.declared.numbers.Handle.{Handle}
 use Rattle.nv_calls.specs.AllCalls.{blocks_wanted, plan, refusal}
@@ -13,10 +12,8 @@ use Rattle.nv_calls.specs.calls.Rename.{bound_plan, move_plan, moved_refusal, ow
 use Rattle.nv_calls.specs.calls.Unlink.{leave_plan}
 use Rattle.nv_calls.specs.declared.call.Call.{Call}
 use Rattle.nv_calls.specs.declared.call.Call.TheVariants as call
-use Rattle.nv_calls.specs.declared.looked.LookupResult.{LookupResult}
 use Rattle.nv_calls.specs.declared.plan.InodePlan.{InodePlan}
 use Rattle.nv_calls.specs.declared.allocation.Allocation.{Allocation}
-use Rattle.nv_calls.proofs.Commits.{handle-same}
 use Rattle.nv_calls.proofs.Keeps.{bound_none, cut_blocks-are, leave_none, write_blocks-are}
 use Rattle.nv_calls.proofs.Passed.{IsThere, both_passed, directory_passed, elsewhere, file_passed, look_passed, moved_passed, names_passed, node_passed, there}
 use Rattle.nv_entry.specs.Sound.{blocks_of}
@@ -24,30 +21,6 @@ use Rattle.std.proofs.lemmas.List.{append-nil}
 use Rattle.nv_entry.specs.declared.node.NodeCopy.{NodeCopy}
 use Rattle.nv_machine.specs.Hands.{makes_inode}
 use Rattle.nv_machine.specs.Sequence.{beginning}
-use Rattle.nv_machine.specs.Step.{same_found, same_looked}
-
--- ---- looks that found the same
-
-pub handles_same : (a b : Handle) → same_handle a b ≡ true → a ≡ b
-handles_same a b e =
-    let both = and_parts (a.ino == b.ino) (a.generation == b.generation) e in
-    handle-same a b (eqb-true a.ino b.ino both.0) (eqb-true a.generation b.generation both.1)
-
-found_is : (now before : Option Handle) → same_found now before ≡ true → now ≡ before
-found_is None None e = refl
-found_is None (Some other) e = cc
-found_is (Some handle) None e = cc
-found_is (Some handle) (Some other) e = ap (λ (h : Handle). Some h) (handles_same handle other e)
-
-two_found : (a b c d : Option Handle) → a ≡ c → b ≡ d
-    → (let x : LookupResult = record { first = a; second = b } in x) ≡ (let y : LookupResult = record { first = c; second = d } in y)
-two_found a b c d e f = rw (e, f) refl
-
-pub looked_is : (now before : LookupResult) → same_looked now before ≡ true → now ≡ before
-looked_is now before e =
-    let both = and_parts (same_found now.first before.first) (same_found now.second before.second) e in
-    two_found now.first now.second before.first before.second (found_is now.first before.first both.0)
-    (found_is now.second before.second both.1)
 
 -- ---- plans are of nodes that are there, and of the new one
 
@@ -117,16 +90,16 @@ no_length : (xs : List ℕ) → length xs ≡ 0 → xs ≡ []
 no_length [] e = refl
 no_length (x ∷ xs) e = cc
 
-pub plan_all : (block : ℕ) (nodes : Handle → Option NodeCopy) (taken : Allocation) (c : Call)
-    → length (blocks_of taken.runs) ≡ blocks_wanted block nodes taken.present c
+pub plan_all : (block : ℕ) (nodes : Handle → Option NodeCopy) (taken : Allocation) (present : Bool) (c : Call)
+    → length (blocks_of taken.runs) ≡ blocks_wanted block nodes present c
     → plan_blocks (plan block nodes taken c) ≡ blocks_of taken.runs
-plan_all block nodes taken (call.Write file offset (byte ∷ rest)) e = append-nil _ ∙ write_blocks-are _ taken.runs _
-plan_all block nodes taken (call.Size file size) e = append-nil _ ∙ cut_blocks-are _ taken.runs size
-plan_all block nodes taken (call.Unlink dir name) e =
+plan_all block nodes taken present (call.Write file offset (byte ∷ rest)) e = append-nil _ ∙ write_blocks-are _ taken.runs _
+plan_all block nodes taken present (call.Size file size) e = append-nil _ ∙ cut_blocks-are _ taken.runs size
+plan_all block nodes taken present (call.Unlink dir name) e =
     leave_none block nodes taken dir name (found nodes dir name) ∙ sym (no_length (blocks_of taken.runs) e)
-plan_all block nodes taken (call.Rmdir dir name) e =
+plan_all block nodes taken present (call.Rmdir dir name) e =
     leave_none block nodes taken dir name (found nodes dir name) ∙ sym (no_length (blocks_of taken.runs) e)
-plan_all block nodes taken (call.Rename from old to new) e =
+plan_all block nodes taken present (call.Rename from old to new) e =
     bound_none block nodes taken from old to new (own_place from old to new) (found nodes from old) (found nodes to new)
     ∙ sym (no_length (blocks_of taken.runs) e)
-plan_all block nodes taken other e = sym (no_length (blocks_of taken.runs) e)
+plan_all block nodes taken present other e = sym (no_length (blocks_of taken.runs) e)

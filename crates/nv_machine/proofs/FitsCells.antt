@@ -4,7 +4,7 @@ use Rattle.std.specs.List.{AllByRecursion}
 use Rattle.std.proofs.lemmas.List.{take-append-drop, take-append-le}
 use Rattle.nv_alloc.specs.Block.{BlockValue, numbers_of}
 use Rattle.nv_alloc.specs.Numbers.{has}
-use Rattle.nv_calls.specs.Retiring.{erased, is_erased}
+use Rattle.nv_calls.specs.Retiring.{erased}
 use Rattle.nv_cell.specs.Append.{appended, blocks_for, part_blocks}
 use Rattle.nv_cell.specs.Cell.{CellState, empty_cell, published}
 use Rattle.nv_entry.specs.Blocks.{item_blocks}
@@ -20,6 +20,7 @@ use Rattle.nv_machine.proofs.AppendsToCome.{entries_more, pages_keep}
 use Rattle.nv_machine.proofs.Journals.{closed_tail}
 use Rattle.nv_machine.proofs.LogsKept.{cell_set}
 use Rattle.nv_machine.proofs.CommitPoints.{paged_tail, tail_keeps}
+use Rattle.nv_cell.specs.Readers.{is_erased}
 use Rattle.nv_machine.proofs.EachElement.{all_append}
 
 -- ---- a cell that has what it had, and more

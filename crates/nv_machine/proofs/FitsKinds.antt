@@ -7,8 +7,7 @@ use Rattle.nv_base.specs.declared.geometry.GeometryNumbers.{GeometryNumbers}
 use Rattle.nv_base.specs.declared.numbers.Handle.{Handle}
 use Rattle.nv_book.specs.Book.{with_journal}
 use Rattle.nv_calls.specs.Locked.{handles}
-use Rattle.nv_calls.specs.Retiring.{killed_by}
-use Rattle.nv_cell.specs.Cell.{CellState, log_of, published}
+use Rattle.nv_cell.specs.Cell.{CellState, killed_by, log_of, published}
 use Rattle.nv_cell.proofs.Publishing.{take_whole}
 use Rattle.nv_machine.specs.Grown.{HasGrown, is_appended, is_behind}
 use Rattle.nv_machine.specs.Hands.{HandAt}

@@ -9,7 +9,7 @@ use Rattle.nv_alloc.specs.Numbers.{has}
 use Rattle.nv_base.specs.declared.numbers.Handle.{Handle}
 use Rattle.nv_calls.proofs.Commits.{entries-items}
 use Rattle.nv_calls.proofs.Keeps.{keeps_to_its}
-use Rattle.nv_calls.specs.AllCalls.{blocks_wanted, early, effect, looked, plan, refusal}
+use Rattle.nv_calls.specs.AllCalls.{blocks_wanted, early, effect, looked, plan, present_in, refusal}
 use Rattle.nv_calls.specs.Locked.{KeepsToIts, handles, made_by}
 use Rattle.nv_calls.specs.Plain.{Change, node_in}
 use Rattle.nv_calls.specs.Plan.{plan_blocks, runs_of}
@@ -34,9 +34,10 @@ use Rattle.nv_machine.specs.Step.{ending_at, is_numbered, made_in, same_looked}
 use Rattle.nv_machine.specs.World.{HandState, Running, Shared, cell_at, no_cell, with_cell}
 use Rattle.nv_machine.proofs.CellSteps.{items_in}
 use Rattle.nv_machine.proofs.CommitEffects.{take_none}
-use Rattle.nv_machine.proofs.FitsCalls.{looked_is, plan_all}
+use Rattle.nv_calls.proofs.CheckEnds.{looked_is}
+use Rattle.nv_machine.proofs.FitsCalls.{plan_all}
 use Rattle.nv_machine.proofs.FitsCells.{IsIn, IsWider, entries_stored}
-use Rattle.nv_machine.proofs.FitsRuns.{present_in, taken_of}
+use Rattle.nv_machine.proofs.FitsRuns.{taken_of}
 use Rattle.nv_machine.proofs.FitsStages.{HasDrawn, IsDrawn, IsLocked, IsPassed, IsStored, Passed, SameFor, SameStored, View, drawn_still, passed_still, view, wanted_in, wanted_still}
 use Rattle.nv_machine.proofs.Lists.{or_left, or_right, self}
 use Rattle.nv_machine.proofs.PoolSlots.{filtered, in_range}
@@ -198,9 +199,9 @@ module _ (block : ℕ) (s : Shared) (h : HandState) (r : Running)
 
     drawn_now : IsDrawn block (now s) r.call r.made (plan_by block s h r) fresh
     drawn_now = record {
-      plan = ap₂ (λ (numbers : List ℕ) (b : Bool).
-          plan block (copies s) (let t : Allocation = record { made = r.made; runs = runs_of numbers; present = b } in t) r.call)
-          (sym (filled_numbers (fresh_pages block (copies s) r.call) h.blocks)) (last_page block s r.call);
+      plan = ap (λ (numbers : List ℕ).
+          plan block (copies s) (let t : Allocation = record { made = r.made; runs = runs_of numbers } in t) r.call)
+          (sym (filled_numbers (fresh_pages block (copies s) r.call) h.blocks));
       filled = record {
         before = h.blocks;
         is = refl;
@@ -236,14 +237,14 @@ module _ (block : ℕ) (s : Shared) (r : Running) (slot : ℕ) (there : has (wri
   new = with_entries (entries_for r slot) blocks old
 
   abbrev taken : Allocation
-  taken = taken_of r.made (present_in block (view s).slots r.call) blocks
+  taken = taken_of r.made blocks
 
   has_runs : blocks_of taken.runs ≡ numbers_of blocks
   has_runs = runs_are (numbers_of blocks) (small_numbers blocks d.filled.small)
 
   plan_has : plan_blocks r.plan ≡ numbers_of blocks
   plan_has = ap plan_blocks d.plan
-      ∙ plan_all block (node_in (settled_nodes s)) taken r.call (ap length has_runs ∙ length_numbers blocks ∙ d.filled.count) ∙ has_runs
+      ∙ plan_all block (node_in (settled_nodes s)) taken (present_in block (view s).slots r.call) r.call (ap length has_runs ∙ length_numbers blocks ∙ d.filled.count) ∙ has_runs
 
   several : 1 < length r.plan → plan_blocks r.plan ≡ []
   several lt =

@@ -6,7 +6,7 @@ use Rattle.nv_alloc.proofs.Lists.{times-yes}
 use Rattle.nv_base.specs.declared.geometry.GeometryNumbers.{GeometryNumbers}
 use Rattle.nv_cell.specs.Cell.{log_of}
 use Rattle.nv_entry.specs.declared.item.Entry.{Entry}
-use Rattle.nv_machine.specs.PoolScan.{has_entry}
+use Rattle.nv_cell.specs.Readers.{has_entry}
 use Rattle.nv_machine.specs.Reads.{written_slots}
 use Rattle.nv_machine.specs.World.{Check, Next, Running, World, actor_at, cell_at}
 use Rattle.nv_machine.proofs.FitsOwn.{IsNumberFree}

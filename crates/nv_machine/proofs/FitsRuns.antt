@@ -1,11 +1,10 @@
 -- Blocks that were taken and filled are what a call needs: their runs are maximal.
 use Rattle.std.proofs.Common.{◌≡◌, ℕ, ◌+◌, ◌^◌, ◌/◌, ◌<◌, ◌≤◌, ◌==◌, ◌++◌, ◌∙◌, Bool, true, false, cond, nat_lt, List, [], ◌∷◌, Option, ap, arith, flat_map, refl, subst, sym}
 use Rattle.std.specs.List.{AllByRecursion}
-use Rattle.std.specs.Prelude.{is_some}
 use Rattle.std.proofs.lemmas.Bool.{eqb-false, eqb-true, lt-ltb}
 use Rattle.nv_alloc.specs.Block.{BlockValue, numbers_of}
 use Rattle.nv_base.specs.declared.numbers.Handle.{Handle}
-use Rattle.nv_calls.specs.AllCalls.{IsReady}
+use Rattle.nv_calls.specs.AllCalls.{IsReady, present_in}
 use Rattle.nv_calls.specs.Locked.{Agree, handles}
 use Rattle.nv_calls.specs.Plain.{PlainNode, node_in}
 use Rattle.nv_calls.specs.Plan.{AreMaximal, run_if, runs_of, stretches, with_number}
@@ -14,13 +13,12 @@ use Rattle.nv_calls.specs.declared.call.Call.{Call}
 use Rattle.nv_calls.specs.declared.call.Call.TheVariants as call
 use Rattle.nv_calls.specs.declared.looked.LookupResult.{LookupResult}
 use Rattle.nv_calls.specs.declared.allocation.Allocation.{Allocation}
-use Rattle.nv_entry.specs.Node.{block_now}
 use Rattle.nv_entry.specs.declared.item.BlockRun.{BlockRun}
 use Rattle.nv_entry.specs.declared.node.NodeCopy.{NodeCopy}
 use Rattle.nv_machine.specs.Hands.{makes_inode}
 use Rattle.nv_calls.specs.FillPages.{fresh_pages}
 use Rattle.nv_calls.specs.Filled.{AreFilled, AreRead}
-use Rattle.nv_calls.proofs.Filled.{IsTold, is_ready as filled_is_ready}
+use Rattle.nv_calls.proofs.Filled.{HasSlot, is_ready as filled_is_ready}
 use Rattle.nv_machine.specs.Sequence.{beginning}
 use Rattle.nv_machine.proofs.PlansOfBlocks.{all_end, runs_are, small_numbers}
 
@@ -85,31 +83,25 @@ runs_maximal numbers small = made_maximal (stretches numbers) (all_end (2 ^ 32) 
 
 -- ---- what a call needs
 
--- whether the page that a size ends in is present in its log
-abbrev pub present_in : ℕ → (ℕ → InodeSlot) → Call → Bool
-present_in block slots (call.Size file size) = is_some (block_now block (slots file.ino).log (size / block))
-present_in block slots other = false
-
-abbrev pub taken_of : Handle → Bool → List BlockValue → Allocation
-taken_of new present fresh = record { made = new; runs = runs_of (numbers_of fresh); present = present }
+abbrev pub taken_of : Handle → List BlockValue → Allocation
+taken_of new fresh = record { made = new; runs = runs_of (numbers_of fresh) }
 
 module _ (bytes : ℕ → List ℕ) (block : ℕ) (slots : ℕ → InodeSlot) (nodes : Handle → Option NodeCopy) (new : Handle) (fresh : List BlockValue)
     (read : AreRead bytes fresh) where
-  abbrev Taken_ : Call → Allocation
-  Taken_ c = taken_of new (present_in block slots c) fresh
+  abbrev taken : Allocation
+  taken = taken_of new fresh
 
-  told : (c : Call) → (makes_inode (beginning c) ≡ true → IsFree slots new) → IsTold block slots (Taken_ c) c
-  told (call.Create dir name mode) free = free refl
-  told (call.Mkdir dir name mode) free = free refl
-  told (call.Size file size) free = refl
-  told other free = tt
+  has_slot : (c : Call) → (makes_inode (beginning c) ≡ true → IsFree slots new) → HasSlot slots taken c
+  has_slot (call.Create dir name mode) free = free refl
+  has_slot (call.Mkdir dir name mode) free = free refl
+  has_slot other free = tt
 
   pub is_ready : (c : Call) → (makes_inode (beginning c) ≡ true → IsFree slots new)
-      → AreFilled block nodes (present_in block slots c) c fresh → IsReady bytes block slots nodes (Taken_ c) c
+      → AreFilled block nodes (present_in block slots c) c fresh → IsReady bytes block slots nodes taken c
   is_ready c free f =
       let small = small_numbers fresh f.small in
-      filled_is_ready bytes block slots nodes (Taken_ c) fresh read (runs_maximal (numbers_of fresh) small)
-      (runs_are (numbers_of fresh) small) c (told c free) f
+      filled_is_ready bytes block slots nodes taken fresh read (runs_maximal (numbers_of fresh) small)
+      (runs_are (numbers_of fresh) small) c (has_slot c free) f
 
 -- the pages that a call fills are the same in worlds that agree on the handles that it locks
 pub fresh_same : (block : ℕ) (nodes other : Handle → Option PlainNode) (l : LookupResult) (c : Call) → Agree nodes other (handles l c)

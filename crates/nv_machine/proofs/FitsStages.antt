@@ -5,7 +5,7 @@ use Rattle.std.specs.List.{AllByRecursion}
 use Rattle.nv_alloc.specs.Block.{BlockValue}
 use Rattle.nv_alloc.specs.Numbers.{has}
 use Rattle.nv_base.specs.declared.numbers.Handle.{Handle}
-use Rattle.nv_calls.specs.AllCalls.{blocks_wanted, looked, plan, refusal}
+use Rattle.nv_calls.specs.AllCalls.{blocks_wanted, looked, plan, present_in, refusal}
 use Rattle.nv_calls.specs.Locked.{Agree, SameCall, handles, locks, made_by}
 use Rattle.nv_calls.specs.Plain.{PlainNode, node_in}
 use Rattle.nv_calls.specs.Refusals.{passes}
@@ -24,7 +24,7 @@ use Rattle.nv_machine.specs.Sequence.{beginning}
 use Rattle.nv_machine.specs.Settled.{settled_nodes}
 use Rattle.nv_machine.specs.World.{Append, Check, Close, Enter, HandState, Lock, Next, Open, Publish, Ready, Running, Shared, TakeBlocks, TakeLogPages, cell_at}
 use Rattle.nv_calls.specs.Filled.{AreFilled}
-use Rattle.nv_machine.proofs.FitsRuns.{fresh_same, present_in, taken_of}
+use Rattle.nv_machine.proofs.FitsRuns.{fresh_same, taken_of}
 use Rattle.nv_machine.proofs.EachElement.{all_back}
 
 -- ---- what a call reads
@@ -56,7 +56,7 @@ wanted_in block v c = blocks_wanted block (node_in v.nodes) (present_in block v.
 
 -- its plan is that of blocks that it has filled
 pub record IsDrawn (block : ℕ) (v : View) (c : Call) (new : Handle) (planned : List InodePlan) (fresh : List BlockValue) : Type 0 where
-  pub plan : planned ≡ plan block (node_in v.nodes) (taken_of new (present_in block v.slots c) fresh) c
+  pub plan : planned ≡ plan block (node_in v.nodes) (taken_of new fresh) c
   pub filled : AreFilled block (node_in v.nodes) (present_in block v.slots c) c fresh
 
 -- ---- where the slots that a call locks are the same
@@ -88,7 +88,7 @@ module _ (block : ℕ) (v w : View) (c : Call) (seen : LookupResult) (new : Hand
       (sym p.found) agree)
 
   abbrev nothing_taken : Allocation
-  nothing_taken = record { made = new; runs = []; present = false }
+  nothing_taken = record { made = new; runs = [] }
 
   new_slot : makes_inode (beginning c) ≡ true → w.slots new.ino ≡ v.slots new.ino
   new_slot e = same.slots new (made_locked v.many locked seen new c e p.covers)
@@ -114,14 +114,11 @@ module _ (block : ℕ) (v w : View) (c : Call) (seen : LookupResult) (new : Hand
   pub wanted_still : wanted_in block w c ≡ wanted_in block v c
   wanted_still =
       ap (λ (b : Bool). blocks_wanted block (node_in w.nodes) b c) present_same
-      ∙ (same_call (record nothing_taken { present = present_in block v.slots c })).wanted
+      ∙ (same_call nothing_taken).wanted (present_in block v.slots c)
 
   pub plan_still : (fresh : List BlockValue)
-      → plan block (node_in w.nodes) (taken_of new (present_in block w.slots c) fresh) c
-      ≡ plan block (node_in v.nodes) (taken_of new (present_in block v.slots c) fresh) c
-  plan_still fresh =
-      ap (λ (b : Bool). plan block (node_in w.nodes) (taken_of new b fresh) c) present_same
-      ∙ (same_call (taken_of new (present_in block v.slots c) fresh)).plan
+      → plan block (node_in w.nodes) (taken_of new fresh) c ≡ plan block (node_in v.nodes) (taken_of new fresh) c
+  plan_still fresh = (same_call (taken_of new fresh)).plan
 
   pub drawn_still : (planned : List InodePlan) (fresh : List BlockValue) → IsDrawn block v c new planned fresh
       → IsDrawn block w c new planned fresh

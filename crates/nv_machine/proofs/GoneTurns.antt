@@ -4,7 +4,7 @@ use Rattle.std.proofs.Common.{◌≡◌, ◌≢◌, ℕ, ◌+◌, ◌<◌, ◌�
 use Rattle.std.specs.Prelude.{◌||◌}
 use Rattle.std.proofs.lemmas.Bool.{eqb-true, false≢true, true≢false}
 use Rattle.nv_alloc.specs.Numbers.{has}
-use Rattle.nv_calls.specs.Retiring.{erased, is_erased}
+use Rattle.nv_calls.specs.Retiring.{erased}
 use Rattle.nv_cell.specs.Cell.{CellState, published}
 use Rattle.nv_machine.specs.Erasing.{emptied}
 use Rattle.nv_machine.specs.Grown.{HasGrown}
@@ -24,6 +24,7 @@ use Rattle.nv_machine.proofs.Lists.{has_drop, has_take, or_left, or_right, self}
 use Rattle.nv_machine.proofs.LocksHeld.{Before}
 use Rattle.nv_machine.proofs.LogsKept.{cell_set}
 use Rattle.nv_machine.proofs.BlockNumbers.{lent_inside}
+use Rattle.nv_cell.specs.Readers.{is_erased}
 use Rattle.nv_machine.proofs.PartsFor.{publishing_slots, retiring_slots}
 
 -- ---- what is gone

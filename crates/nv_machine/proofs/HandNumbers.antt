@@ -11,7 +11,7 @@ use Rattle.nv_machine.specs.Grown.{AreGrown}
 use Rattle.nv_machine.specs.Hands.{AreNumbers}
 use Rattle.nv_machine.specs.Kinds.{blocks_in}
 use Rattle.nv_machine.specs.Locks.{AreLocks}
-use Rattle.nv_machine.specs.Numbers.{all_blocks, of_part, stored_in}
+use Rattle.nv_machine.specs.Numbers.{all_blocks}
 use Rattle.nv_machine.specs.World.{Give, World, actor_at, cell_at, list_at, no_cell}
 use Rattle.nv_machine.proofs.ErasedCells.{block_times}
 use Rattle.nv_machine.proofs.FromScratch.{counted, none_true}
@@ -19,6 +19,7 @@ use Rattle.nv_machine.proofs.BlockNumbers.{all_times, can_give, each_below, goes
 use Rattle.nv_machine.proofs.PoolCells.{with_inode}
 use Rattle.nv_machine.proofs.PoolHands.{counts, once}
 use Rattle.nv_machine.proofs.PoolRuns.{ArePooled, own_loose, past_of}
+use Rattle.nv_cell.specs.Cell.{of_part, stored_in}
 use Rattle.nv_machine.proofs.PoolSlots.{inode_inside}
 
 -- ---- blocks

@@ -7,7 +7,7 @@ use Rattle.std.proofs.lemmas.List.{drop-drop}
 use Rattle.nv_alloc.specs.Block.{AreSized, BlockValue, numbers_of}
 use Rattle.nv_alloc.specs.Numbers.{times}
 use Rattle.nv_base.specs.declared.geometry.GeometryNumbers.{GeometryNumbers}
-use Rattle.nv_calls.specs.Retiring.{is_erased, number_back}
+use Rattle.nv_calls.specs.Retiring.{number_back}
 use Rattle.nv_calls.specs.Slots.{entries_of, items_for, place_in}
 use Rattle.nv_calls.proofs.Appends.{front, map-drop}
 use Rattle.nv_cell.specs.Cell.{CellState}
@@ -33,6 +33,7 @@ use Rattle.nv_machine.proofs.StepWays.{is_overtaken, noted, take_sum}
 use Rattle.nv_machine.proofs.StepWalk.{WaysOf, counted, walk_of}
 use Rattle.nv_machine.proofs.MaintenanceWalk.{goes_next, next_on, slots_next, maintenance_walk, tells, ends_apart, step_walk_by, LeadsTo, goes_plain, is_cleaning}
 use Rattle.nv_machine.proofs.MaintenanceAlone.{denied_empty}
+use Rattle.nv_cell.specs.Readers.{is_erased}
 use Rattle.nv_machine.specs.Lenders.{takes_fresh}
 
 -- ---- along a commit

@@ -10,13 +10,13 @@ use Rattle.nv_alloc.specs.Block.{BlockValue, number_of, numbers_of}
 use Rattle.nv_alloc.specs.Numbers.{has, unused}
 use Rattle.nv_base.specs.Homes.{home_start}
 use Rattle.nv_base.specs.declared.geometry.GeometryNumbers.{GeometryNumbers}
-use Rattle.nv_cell.specs.Cell.{CellState, log_of, page_block}
+use Rattle.nv_cell.specs.Cell.{CellState, log_of, of_part, page_block, stored_in}
 use Rattle.nv_entry.specs.Covered.{part_total}
 use Rattle.nv_entry.specs.Held.{Retention, keeps}
 use Rattle.nv_entry.specs.Log.{pairs}
 use Rattle.nv_entry.specs.declared.held.Pair.{Pair}
 use Rattle.nv_machine.specs.Held.{block_in_use, blocks_in_use, free_by_logs, in_use_by, is_in_use, retention_at, used_by_logs, used_by_slot}
-use Rattle.nv_machine.specs.Numbers.{free_of, held_by_actor, of_part, stored_in, used_blocks}
+use Rattle.nv_machine.specs.Numbers.{free_of, held_by_actor, used_blocks}
 use Rattle.nv_machine.specs.Starts.{IsStart}
 use Rattle.nv_machine.specs.Step.{after}
 use Rattle.nv_machine.specs.World.{Event, World, cell_at, list_at, no_cell}

@@ -4,14 +4,14 @@ use Rattle.std.specs.Prelude.{◌||◌, nat_le, slice_index_or}
 use Rattle.std.specs.List.{AllByRecursion, list_any}
 use Rattle.std.proofs.lemmas.Bool.{le-leb, ltb-false, ltb-true, false≢true}
 use Rattle.nv_alloc.specs.Block.{AreSized, BlockValue, numbers_of}
-use Rattle.nv_alloc.specs.FreeList.{FreeBlocks, is_home}
+use Rattle.nv_alloc.specs.FreeList.{FreeBlocks, IsHomeList, is_home}
 use Rattle.nv_alloc.specs.Giving.{kept_of}
 use Rattle.nv_alloc.specs.Numbers.{times}
 use Rattle.nv_alloc.proofs.GivingLemmas.{goes_home}
 use Rattle.nv_base.specs.Homes.{home_start}
 use Rattle.nv_base.specs.declared.geometry.GeometryNumbers.{GeometryNumbers}
 use Rattle.nv_base.proofs.HomeRanges.{cuts}
-use Rattle.nv_machine.specs.Hands.{AreGiven, AreLists, IsHomeList}
+use Rattle.nv_machine.specs.Hands.{AreGiven, AreLists}
 use Rattle.nv_machine.specs.Reads.{home_from}
 use Rattle.nv_machine.specs.World.{Shared, no_list}
 

@@ -10,7 +10,7 @@ use Rattle.nv_entry.specs.Shape.{AreLawful, IsGoneLast, IsLawful, items_of, kind
 use Rattle.nv_entry.specs.declared.item.Entry.{Entry}
 use Rattle.nv_entry.specs.declared.item.Item.{Item}
 use Rattle.nv_entry.specs.declared.item.Item.TheVariants.{Gone, Init}
-use Rattle.nv_machine.specs.Shapes.{IsLeftShaped}
+use Rattle.nv_cell.specs.Shape.{IsLeftShaped}
 use Rattle.nv_machine.proofs.CleanedCells.{gone_step}
 use Rattle.nv_machine.proofs.LeftShapes.{first_kind, first_left, kind_stays, left_last, left_nothing, left_some}
 use Rattle.nv_machine.proofs.Shapes.{kinds_after}

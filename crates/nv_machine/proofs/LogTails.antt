@@ -6,10 +6,10 @@ use Rattle.std.proofs.lemmas.Bool.{and_parts, eqb-true, false≢true, ltb-false,
 use Rattle.std.proofs.lemmas.Option.{none-some}
 use Rattle.nv_alloc.specs.Block.{BlockValue}
 use Rattle.nv_alloc.specs.Numbers.{has}
-use Rattle.nv_calls.specs.Retiring.{erased, is_erased}
-use Rattle.nv_cell.specs.Cell.{CellState, empty_cell, log_of, mark_or_fresh, published}
+use Rattle.nv_calls.specs.Retiring.{erased}
+use Rattle.nv_cell.specs.Cell.{CellState, empty_cell, log_of, mark_or_fresh, of_part, published}
 use Rattle.nv_cell.specs.Marks.{is_there}
-use Rattle.nv_cell.specs.Readers.{is_gone, keeps_nothing}
+use Rattle.nv_cell.specs.Readers.{is_erased, is_gone, keeps_nothing}
 use Rattle.nv_cell.specs.declared.mark.Mark.{Mark}
 use Rattle.nv_cell.proofs.Publishing.{take_whole}
 use Rattle.nv_entry.specs.Covered.{part_total}
@@ -18,7 +18,6 @@ use Rattle.nv_log.specs.Chain.{ChainState}
 use Rattle.nv_machine.specs.Frame.{lent}
 use Rattle.nv_machine.specs.Hands.{IsParted, unpublished_at, unpublished_by}
 use Rattle.nv_machine.specs.Locks.{HoldsIts, held_at, is_owner}
-use Rattle.nv_machine.specs.Numbers.{of_part}
 use Rattle.nv_machine.specs.Reads.{is_written, slot_at, written_slots}
 use Rattle.nv_machine.specs.Sequence.{appending, closing, opening, publishing}
 use Rattle.nv_machine.specs.Step.{kind_turn}

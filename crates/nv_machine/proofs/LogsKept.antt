@@ -11,7 +11,8 @@ use Rattle.nv_machine.specs.Effects.{AreSound, IsSoundIn}
 use Rattle.nv_machine.specs.Kept.{AreClosed, AreLogsKept, HasPages}
 use Rattle.nv_machine.specs.Locks.{is_owner}
 use Rattle.nv_machine.specs.Settled.{node_by, settled, settled_nodes, settled_tail}
-use Rattle.nv_machine.specs.Shapes.{AreShaped, IsLeftShaped}
+use Rattle.nv_cell.specs.Shape.{IsLeftShaped}
+use Rattle.nv_machine.specs.Shapes.{AreShaped}
 use Rattle.nv_machine.specs.World.{Shared, cell_at, no_cell, with_book, with_cell, owner_at}
 
 -- ---- nodes

@@ -8,7 +8,7 @@ use Rattle.nv_calls.specs.Plain.{PlainNode}
 use Rattle.nv_machine.specs.Effects.{IsSoundIn}
 use Rattle.nv_machine.specs.Kept.{AreLogsKept, HasPages}
 use Rattle.nv_machine.specs.Settled.{settled, settled_tail}
-use Rattle.nv_machine.specs.Shapes.{IsLeftShaped}
+use Rattle.nv_cell.specs.Shape.{IsLeftShaped}
 use Rattle.nv_machine.specs.World.{Shared, cell_at, owner_at, with_cell}
 use Rattle.nv_machine.proofs.CleanSteps.{cleaned_shape}
 use Rattle.nv_machine.proofs.CleanedCells.{Cleans, cleaned_node, cleaned_pages, cleaned_sound}

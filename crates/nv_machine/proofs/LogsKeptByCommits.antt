@@ -7,10 +7,10 @@ use Rattle.nv_alloc.specs.Numbers.{IsRising, has}
 use Rattle.nv_book.specs.Book.{with_journal}
 use Rattle.nv_calls.proofs.Commits.{entries-items}
 use Rattle.nv_calls.specs.Plain.{PlainNode}
-use Rattle.nv_calls.specs.Retiring.{erased, is_erased, killed_by}
+use Rattle.nv_calls.specs.Retiring.{erased}
 use Rattle.nv_calls.specs.Slots.{items_for, place_in}
 use Rattle.nv_cell.specs.Append.{IsWithinFile}
-use Rattle.nv_cell.specs.Cell.{CellState, empty_cell, log_of, published}
+use Rattle.nv_cell.specs.Cell.{CellState, empty_cell, killed_by, log_of, published}
 use Rattle.nv_cell.specs.declared.killed.KilledPart.{KilledPart}
 use Rattle.nv_entry.specs.Log.{IsLog}
 use Rattle.nv_entry.specs.declared.item.Entry.{Entry}
@@ -32,7 +32,8 @@ use Rattle.nv_machine.proofs.Journals.{closed_again, closed_tail, open_free, ope
 use Rattle.nv_machine.proofs.Lists.{drop_apart, rising_filter, take_all, take_apart, take_more, written_inside}
 use Rattle.nv_machine.proofs.WrittenSlots.{front_of, many_planned, within_of, written_there}
 use Rattle.nv_machine.proofs.LogsKept.{IsSameOrEmpty, KeptLeft, SameLogs, cell_left, cell_nodes, cell_set, node_at, still_shaped}
-use Rattle.nv_machine.specs.Shapes.{IsLeftShaped}
+use Rattle.nv_cell.specs.Readers.{is_erased}
+use Rattle.nv_cell.specs.Shape.{IsLeftShaped}
 
 -- what a turn owes: settled logs are kept, nodes stay but at a commit point, and the call knows what it is to know
 abbrev pub OnKept : Bool → ℕ → ℕ → Shared → Turn → Type 0

@@ -3,7 +3,7 @@ use Rattle.std.proofs.Common.{Bool, List, None, Option, Some, [], ap, cond, fals
 use Rattle.std.specs.Prelude.{unwrap_or}
 use Rattle.nv_book.specs.declared.record.Record.{Record}
 use Rattle.nv_calls.specs.Plain.{PlainNode}
-use Rattle.nv_calls.specs.Retiring.{erased, is_erased, name_of, released}
+use Rattle.nv_calls.specs.Retiring.{erased, name_of, released}
 use Rattle.nv_cell.specs.Cell.{CellState, empty_cell, log_of, number_in}
 use Rattle.nv_entry.specs.Covered.{is_covered}
 use Rattle.nv_entry.specs.declared.item.Entry.{Entry}
@@ -14,6 +14,7 @@ use Rattle.nv_machine.specs.Settled.{node_by, settled, settled_tail}
 use Rattle.nv_machine.specs.World.{Shared, cell_at, owner_at, with_cell}
 use Rattle.nv_machine.proofs.CellSteps.{Retires, empty_pages, erased_none, one_retires, retired_node, retired_pages, retired_sound}
 use Rattle.nv_machine.proofs.LogsKept.{IsSameOrEmpty, KeptLeft, SameLogs, cell_nodes, cell_set, node_at, still_shaped}
+use Rattle.nv_cell.specs.Readers.{is_erased}
 use Rattle.nv_entry.proofs.SoundLogs.{empty_sound}
 
 -- what gives up covered parts alone, and is erased where nothing is kept of it; no journal notes its slot

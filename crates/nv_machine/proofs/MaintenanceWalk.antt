@@ -16,7 +16,7 @@ use Rattle.nv_clean.specs.Plans.{wanted_of}
 use Rattle.nv_machine.specs.Causes.{IsCauseOn, IsShort, is_cleanable}
 use Rattle.nv_machine.specs.Cleaning.{chosen_turn, compacted_cell, fresh_turn, inode_turn, is_thorough, judge_turn, lock_cleaned_turn, nothing_cleaned, thorough_turn, unlinked}
 use Rattle.nv_machine.specs.Kinds.{asked_list}
-use Rattle.nv_machine.specs.PoolScan.{has_inode}
+use Rattle.nv_cell.specs.Readers.{has_inode}
 use Rattle.nv_machine.specs.Sequence.{slots_on}
 use Rattle.nv_machine.specs.Maintenance.{copies_at, drop_tests, drop_turn, first_showing, if_free, is_first, lock_picked_turn, make_tests, make_turn, one_more, picked_turn, pin_turn, seen_on, show_turn, showing_on, shown_by, maintenance_turn, visited, show_or_unpin}
 use Rattle.nv_machine.specs.World.{Cleans, Compact, Draining, Drains, Drop, Ending, Fresh, HandState, Judge, LockCleaned, LockPicked, Make, Manner, Overtaken, Pick, Pin, Refuses, Release, Running, Shared, Show, Showing, MaintenanceStep, Maintenance, Turn, Unlink, Unpin, cell_at, go_to, list_at, owner_at}

@@ -35,7 +35,7 @@ use Rattle.nv_machine.proofs.OverEvents.{by_points}
 use Rattle.nv_machine.proofs.FitsEvents.{IsKnown, drawn_now, passed_now}
 use Rattle.nv_machine.proofs.FitsStages.{Passed, made_locked}
 use Rattle.nv_machine.proofs.UnsettledTurns.{point_shared}
-use Rattle.nv_machine.proofs.FitsRuns.{present_in, taken_of}
+use Rattle.nv_machine.proofs.FitsRuns.{taken_of}
 use Rattle.nv_machine.proofs.Lists.{or_left, or_right}
 use Rattle.nv_machine.proofs.PoolSlots.{filter_has}
 use Rattle.nv_machine.proofs.HandlesStayUsed.{IsUsed, IsUsedAt, events_used}
@@ -89,7 +89,7 @@ module _ (g : GeometryNumbers) (w : World) (known : IsKnown g w) (actor : ℕ) (
       let now = drawn_now g w known actor granted r is there e in
       subst (λ (p : List InodePlan). 0 < length (items_for p r.made.ino)) (sym now.drawn.plan)
       (made_items w.numbers.block (node_in (settled_nodes w.shared))
-      (taken_of r.made (present_in w.numbers.block (settled_slots w.shared) r.call) now.fresh) r.call makes)
+      (taken_of r.made now.fresh) r.call makes)
 
   written_now : has (written_slots r) r.made.ino ≡ true
   written_now = filter_has (is_written r.plan) r.slots r.made.ino

@@ -8,17 +8,17 @@ use Rattle.std.proofs.lemmas.Nat.{le-div}
 use Rattle.std.proofs.lemmas.List.{length-replicate}
 use Rattle.std.proofs.lemmas.List.FromFn.{get_or-map-range_with_len, length-map-range_with_len}
 use Rattle.nv_alloc.specs.Block.{AreSized, numbers_of, zero_block, zero_blocks}
-use Rattle.nv_alloc.specs.FreeList.{FreeBlocks}
-use Rattle.nv_alloc.specs.Numbers.{IsRising, times}
+use Rattle.nv_alloc.specs.FreeList.{FreeBlocks, IsHomeList}
+use Rattle.nv_alloc.specs.Numbers.{IsEachOnce, IsRising, times}
 use Rattle.nv_alloc.proofs.Lists.{times-append, times-cons, times-no, times-yes}
 use Rattle.nv_base.specs.Homes.{home_start}
 use Rattle.nv_base.specs.Limits.{IsWithinLimits}
 use Rattle.nv_base.specs.declared.geometry.GeometryNumbers.{GeometryNumbers}
 use Rattle.nv_base.proofs.HomeRanges.{cuts}
-use Rattle.nv_cell.specs.Cell.{empty_cell}
+use Rattle.nv_cell.specs.Cell.{empty_cell, stored_in}
 use Rattle.nv_machine.specs.Format.{formatted, full_list, without_lowest}
-use Rattle.nv_machine.specs.Hands.{AreLists, IsHomeList}
-use Rattle.nv_machine.specs.Numbers.{IsEachOnce, all_blocks, free_of, held_by_actor, stored_in}
+use Rattle.nv_machine.specs.Hands.{AreLists}
+use Rattle.nv_machine.specs.Numbers.{all_blocks, free_of, held_by_actor}
 use Rattle.nv_machine.specs.World.{idle, no_list}
 use Rattle.nv_machine.proofs.BlockNumbers.{all_times}
 use Rattle.nv_machine.proofs.SortedLists.{less_free}

@@ -11,7 +11,7 @@ use Rattle.nv_cell.specs.Marks.{bit, is_killed, mark_at}
 use Rattle.nv_machine.specs.Directories.{AreTree}
 use Rattle.nv_machine.specs.Format.{formatted, root_cell}
 use Rattle.nv_machine.specs.Held.{picked_by_actor}
-use Rattle.nv_machine.specs.PoolScan.{has_inode, is_number_used, is_withheld, number_held, pool_from_scratch}
+use Rattle.nv_machine.specs.PoolScan.{is_number_used, number_held, pool_from_scratch}
 use Rattle.nv_machine.specs.Recorded.{is_kept, recorded_in}
 use Rattle.nv_machine.specs.Starts.{IsStart}
 use Rattle.nv_machine.specs.World.{World, cell_at, idle}
@@ -29,6 +29,7 @@ use Rattle.nv_machine.proofs.NewWorld.{each_cell, new_cell, new_tails, none_clos
 use Rattle.nv_machine.proofs.PageEvents.{new_all}
 use Rattle.nv_machine.proofs.PartsFor.{none_of}
 use Rattle.nv_machine.proofs.ShapeEvents.{new_shaped}
+use Rattle.nv_cell.specs.Readers.{has_inode, is_withheld}
 use Rattle.nv_machine.proofs.Versions.{new_versions}
 
 -- ---- the pool

@@ -18,7 +18,8 @@ use Rattle.nv_machine.specs.Starts.{IsStart}
 use Rattle.nv_machine.specs.Step.{after, is_numbered, kind_turn, same_looked, step}
 use Rattle.nv_machine.specs.World.{Actor, Check, Ends, Event, Go, HandState, Lock, Look, Moves, Next, Number, Overtaken, Running, Shared, MaintenanceStep, Maintenance, Start, Started, Turn, Waits, World, actor_at}
 use Rattle.nv_machine.proofs.AloneRefusals.{nothing_to_look}
-use Rattle.nv_machine.proofs.AloneLooks.{IsLate, OnLate, check_same, late_turn, looked_self}
+use Rattle.nv_calls.proofs.CheckEnds.{looked_self}
+use Rattle.nv_machine.proofs.AloneLooks.{IsLate, OnLate, check_same, late_turn}
 use Rattle.nv_machine.proofs.StepWork.{number_work}
 use Rattle.nv_machine.proofs.NextSteps.{Known, KnowsNext, OnKnown, Untold}
 use Rattle.nv_machine.proofs.LoopSteps.{locking_any}

@@ -7,7 +7,7 @@ use Rattle.std.proofs.lemmas.Option.{none-some}
 use Rattle.nv_alloc.specs.Numbers.{has, put_by, times}
 use Rattle.nv_alloc.proofs.Lists.{times-put_by, times-yes}
 use Rattle.nv_base.specs.declared.geometry.GeometryNumbers.{GeometryNumbers}
-use Rattle.nv_calls.specs.Retiring.{is_erased, number_back}
+use Rattle.nv_calls.specs.Retiring.{number_back}
 use Rattle.nv_cell.specs.Cell.{CellState}
 use Rattle.nv_machine.specs.Erasing.{IsOnItsWay, IsOnItsWayOrBack, is_done_with, is_late}
 use Rattle.nv_machine.specs.Hands.{HandOf, is_going}
@@ -28,6 +28,7 @@ use Rattle.nv_machine.proofs.PoolRuns.{standing}
 use Rattle.nv_machine.proofs.PoolTurns.{Standing}
 use Rattle.nv_machine.proofs.StepWork.{return_number_work}
 use Rattle.nv_machine.proofs.StepWays.{After, Going, Overs, Rests, Telling, is_overtaken}
+use Rattle.nv_cell.specs.Readers.{is_erased}
 use Rattle.nv_machine.proofs.StepWalk.{walk_of}
 
 -- ---- a turn

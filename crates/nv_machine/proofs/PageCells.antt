@@ -5,7 +5,7 @@ use Rattle.std.proofs.lemmas.Bool.{false≢true}
 use Rattle.std.proofs.lemmas.List.{length-take-le, length_push}
 use Rattle.nv_alloc.specs.Block.{BlockValue}
 use Rattle.nv_base.specs.declared.limits.TheConstants.{LEAST_PAGE_ENTRIES, PAGE_ENTRIES}
-use Rattle.nv_calls.specs.Retiring.{erased, is_erased}
+use Rattle.nv_calls.specs.Retiring.{erased}
 use Rattle.nv_cell.specs.Append.{appended, blocks_for}
 use Rattle.nv_cell.specs.Cell.{CellState, IsCell, empty_cell, published}
 use Rattle.nv_cell.proofs.ReadySteps.{adds_page}
@@ -21,6 +21,7 @@ use Rattle.nv_machine.specs.Cleaning.{unlinked, compacted_cell}
 use Rattle.nv_machine.specs.Pages.{AreOnPages, HasLogPages}
 use Rattle.nv_machine.specs.World.{Compact, HandState, Maintenance, Next, Running, Shared, Unlink, cell_at}
 use Rattle.nv_machine.proofs.CellChanges.{clean_cell, clean_slot, is_clean}
+use Rattle.nv_cell.specs.Readers.{is_erased}
 use Rattle.nv_machine.proofs.CleanSteps.{compact_chain, unlink_chain}
 
 -- ---- a log at the front of another

@@ -9,7 +9,7 @@ use Rattle.nv_base.specs.declared.geometry.GeometryNumbers.{GeometryNumbers}
 use Rattle.nv_base.specs.declared.numbers.Handle.{Handle}
 use Rattle.nv_calls.specs.AllCalls.{plan}
 use Rattle.nv_calls.specs.Plain.{node_in}
-use Rattle.nv_calls.specs.Retiring.{is_erased}
+use Rattle.nv_cell.specs.Readers.{is_erased}
 use Rattle.nv_calls.specs.Slots.{InodeSlot, entries_of, items_for, place_in}
 use Rattle.nv_cell.specs.Cell.{CellState, IsCell, log_of}
 use Rattle.nv_entry.specs.Log.{IsLog}
@@ -27,8 +27,7 @@ use Rattle.nv_machine.specs.Step.{kind_turn}
 use Rattle.nv_machine.specs.Wanted.{log_pages_wanted}
 use Rattle.nv_machine.specs.World.{Append, Check, Close, Enter, HandState, Lock, Look, Next, Number, Open, Publish, Ready, Retire, Running, Shared, TakeBlocks, TakeLogPages, cell_at, go_to, list_at, no_cell, owner_at, with_cell, Maintenance, Fresh, Compact, Judge}
 use Rattle.nv_machine.proofs.FitsKinds.{logs_of}
-use Rattle.nv_machine.proofs.FitsOwn.{last_page, now, same_then}
-use Rattle.nv_machine.proofs.FitsRuns.{present_in, taken_of}
+use Rattle.nv_machine.proofs.FitsOwn.{now, same_then}
 use Rattle.nv_machine.proofs.FitsStages.{FitsAt, IsLocked, IsPassed, Passed, SameFor, passed_still, plan_still, view}
 use Rattle.nv_machine.proofs.StepWork.{work}
 use Rattle.nv_machine.proofs.Lists.{drop_apart, has_filter, has_later, or_left, rising_filter, self, written_inside}
@@ -212,11 +211,6 @@ module _ (block b : ℕ) (s t : Shared) (h : HandState) (r : Running) (many : le
         (cell_same handle is);
   }
 
-  -- the plan that would be made of what the hand has
-  now_plan : (u : Shared) → plan_by block u h r
-      ≡ plan block (node_in (now u).nodes) (taken_of r.made (present_in block (now u).slots r.call) h.blocks) r.call
-  now_plan u = ap (λ (p : Bool). plan block (node_in (now u).nodes) (taken_of r.made p h.blocks) r.call) (last_page block u r.call)
-
   module _ (k : Next) (none : (ino : ℕ) → is_appended k (written_slots r) ino ≡ false)
       (behind : (ino : ℕ) → is_behind k (written_slots r) ino ≡ false) (grown : HasGrown k s b r)
       (mine : (ino : ℕ) → has r.slots ino ≡ true → owner_at s ino ≡ Some b) (p : Passed block s r) where
@@ -226,7 +220,7 @@ module _ (block b : ℕ) (s t : Shared) (h : HandState) (r : Running) (many : le
 
     same_plan : plan_by block t h r ≡ plan_by block s h r
     same_plan =
-        now_plan t ∙ plan_still block (now s) (now t) r.call r.looked r.made r.slots same_nows passed_here h.blocks ∙ sym (now_plan s)
+        plan_still block (now s) (now t) r.call r.looked r.made r.slots same_nows passed_here h.blocks
 
     pub wanted_same : log_pages_wanted block t h r ≡ log_pages_wanted block s h r
     wanted_same = same_want s t (plan_by block t h r) r.slots own ∙ ap (pages_wanted s r.slots) same_plan

@@ -7,7 +7,7 @@ use Rattle.std.specs.List.{AllByRecursion, flat_map, range_with_len}
 use Rattle.std.specs.Prelude.{option_to_list, slice_index_or, ◌==◌}
 use Rattle.std.specs.Option.{option_map}
 use Rattle.nv_alloc.specs.Block.{AreSized, BlockValue, number_of, numbers_of}
-use Rattle.nv_calls.specs.Retiring.{erased, freed, freed_by, freed_one, is_erased, keeper_of, retired, retired_one, settled}
+use Rattle.nv_calls.specs.Retiring.{erased, freed, freed_by, freed_one, keeper_of, retired, retired_one, settled}
 use Rattle.nv_cell.specs.Append.{IsWithinFile, appended, blocks_for, part_blocks}
 use Rattle.nv_cell.specs.Cell.{AreSlotsSized, CellState, HasBlocks, empty_cell, mark_or_fresh, number_in, page_block, published}
 use Rattle.nv_cell.specs.Marks.{is_there, mark_at}
@@ -27,6 +27,7 @@ use Rattle.nv_entry.specs.declared.item.Item.{Item}
 use Rattle.nv_entry.specs.declared.item.Item.TheVariants.{Gone, Init, Unbind, Write}
 use Rattle.nv_calls.proofs.Appends.{front, map-drop, map-take}
 use Rattle.nv_machine.specs.Hands.{ArePagesTold, IsParted}
+use Rattle.nv_cell.specs.Readers.{is_erased}
 use Rattle.nv_machine.specs.Kinds.{with_entries, with_pages}
 
 -- ---- sizes

@@ -6,14 +6,14 @@ use Rattle.std.proofs.lemmas.Bool.{and_parts, false≢true}
 use Rattle.std.proofs.lemmas.List.{take-append-le}
 use Rattle.nv_alloc.specs.Block.{BlockValue}
 use Rattle.nv_base.specs.declared.limits.TheConstants.{NUMBER}
-use Rattle.nv_calls.specs.Retiring.{is_erased, retired}
+use Rattle.nv_calls.specs.Retiring.{retired}
 use Rattle.nv_calls.specs.Slots.{entries_of, items_for, place_in}
 use Rattle.nv_calls.proofs.Grown.{last_step}
 use Rattle.nv_calls.proofs.Next.{Keeps}
 use Rattle.nv_calls.proofs.Retires.{chain_stays, generation_stays}
 use Rattle.nv_cell.specs.Append.{appended, blocks_for}
 use Rattle.nv_cell.specs.Cell.{CellState, log_of, published}
-use Rattle.nv_cell.specs.Readers.{is_gone, is_last_word, keeps_nothing}
+use Rattle.nv_cell.specs.Readers.{has_entry, has_inode, is_erased, is_gone, is_last_word, is_withheld, keeps_nothing}
 use Rattle.nv_cell.specs.declared.killed.KilledPart.{KilledPart}
 use Rattle.nv_cell.proofs.Publishing.{take_whole}
 use Rattle.nv_entry.specs.Blocks.{item_blocks}
@@ -21,7 +21,6 @@ use Rattle.nv_entry.specs.declared.item.Entry.{Entry}
 use Rattle.nv_entry.specs.declared.item.Item.{Item}
 use Rattle.nv_log.specs.Chain.{log}
 use Rattle.nv_machine.specs.Kinds.{entries_for, with_entries, with_pages}
-use Rattle.nv_machine.specs.PoolScan.{has_entry, has_inode, is_withheld}
 use Rattle.nv_machine.specs.Reads.{is_written}
 use Rattle.nv_machine.specs.World.{Running}
 use Rattle.nv_machine.proofs.AppendsToCome.{entries_more, pages_keep}

@@ -25,7 +25,7 @@ use Rattle.nv_entry.specs.declared.node.NodeCopy.{NodeCopy}
 use Rattle.nv_base.specs.declared.node.Kind.{Kind}
 use Rattle.nv_base.specs.declared.node.Kind.TheVariants.{Dir, File}
 use Rattle.nv_base.specs.declared.fault.Fault.TheVariants as fault
-use Rattle.nv_machine.specs.PoolScan.{has_inode}
+use Rattle.nv_cell.specs.Readers.{has_inode}
 use Rattle.nv_machine.specs.Reads.{bytes_among, copies}
 use Rattle.nv_machine.specs.Step.{same_found, same_looked}
 use Rattle.nv_machine.specs.World.{Shared, cell_at}

@@ -6,18 +6,17 @@ use Rattle.std.proofs.lemmas.Option.{none-some}
 use Rattle.nv_alloc.specs.Numbers.{IsRising, has}
 use Rattle.nv_alloc.proofs.Lists.{has-below}
 use Rattle.nv_base.specs.declared.geometry.GeometryNumbers.{GeometryNumbers}
-use Rattle.nv_calls.specs.Retiring.{erased, is_erased, number_back}
+use Rattle.nv_calls.specs.Retiring.{erased, number_back}
 use Rattle.nv_calls.specs.Slots.{place_in}
 use Rattle.nv_calls.proofs.Retires.{chain_stays}
 use Rattle.nv_cell.specs.Cell.{CellState, log_of, published}
-use Rattle.nv_cell.specs.Readers.{is_gone}
+use Rattle.nv_cell.specs.Readers.{has_entry, has_inode, is_erased, is_gone}
 use Rattle.nv_cell.proofs.Publishing.{take_whole}
 use Rattle.nv_epoch.specs.SnapList.{ids}
 use Rattle.nv_log.specs.Chain.{ChainState, log}
 use Rattle.nv_machine.specs.Grown.{fresh_entries, is_appended, is_behind}
 use Rattle.nv_machine.specs.Kinds.{entries_for, first_killed, retired_book, retired_cell, with_erased, with_freed}
 use Rattle.nv_machine.specs.Locks.{AreSlots, held_at}
-use Rattle.nv_machine.specs.PoolScan.{has_entry, has_inode}
 use Rattle.nv_machine.specs.Reads.{is_written, pages_needed, slot_at, written_slots}
 use Rattle.nv_machine.specs.Settled.{settled}
 use Rattle.nv_machine.specs.World.{Append, Close, HandState, Next, Publish, Retire, Running, Shared, cell_at, owner_at, with_book, with_cell}

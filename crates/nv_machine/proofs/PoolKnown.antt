@@ -7,10 +7,9 @@ use Rattle.nv_base.specs.declared.numbers.Handle.{Handle}
 use Rattle.nv_calls.specs.declared.call.Call.{Call}
 use Rattle.nv_calls.specs.declared.plan.InodePlan.{InodePlan}
 use Rattle.nv_cell.specs.Cell.{log_of}
-use Rattle.nv_cell.specs.Readers.{is_gone}
+use Rattle.nv_cell.specs.Readers.{has_inode, is_gone}
 use Rattle.nv_machine.specs.Hands.{makes_inode}
 use Rattle.nv_machine.specs.Kinds.{entries_for}
-use Rattle.nv_machine.specs.PoolScan.{has_inode}
 use Rattle.nv_machine.specs.Reads.{slots_of, written_slots}
 use Rattle.nv_machine.specs.Sequence.{appending, beginning, closing, locking, looking, opening, publishing, retiring}
 use Rattle.nv_machine.specs.World.{Append, Check, Close, Enter, HandState, Leave, Lock, Next, Open, Publish, Ready, Retire, Running, Shared, TakeBlocks, TakeLogPages, Turn, cell_at, go_to}

@@ -11,13 +11,14 @@ use Rattle.nv_base.specs.declared.geometry.GeometryNumbers.{GeometryNumbers}
 use Rattle.nv_machine.specs.Grown.{AreGrown}
 use Rattle.nv_machine.specs.Hands.{AreNumbers}
 use Rattle.nv_machine.specs.Locks.{AreLocks}
-use Rattle.nv_machine.specs.PoolScan.{has_inode, is_number_used, is_withheld, number_held, numbers_held, pool_from_scratch}
+use Rattle.nv_machine.specs.PoolScan.{is_number_used, number_held, numbers_held, pool_from_scratch}
 use Rattle.nv_machine.specs.Reads.{if_number, written_slots}
 use Rattle.nv_machine.specs.World.{Actor, Running, World, actor_at, cell_at, idle}
 use Rattle.nv_machine.proofs.FromScratch.{counted, none_true, not_counted}
 use Rattle.nv_machine.proofs.PoolCells.{no_inode, not_taken, taken_once}
 use Rattle.nv_machine.proofs.PoolCommits.{begun_inode}
 use Rattle.nv_machine.proofs.PoolRuns.{ArePooled, own_loose, standing}
+use Rattle.nv_cell.specs.Readers.{has_inode, is_withheld}
 use Rattle.nv_machine.proofs.PoolTally.{is_begun, loose, loose_by, loose_of, tally}
 
 -- ---- what stands in a list of lists

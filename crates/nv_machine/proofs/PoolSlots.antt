@@ -5,7 +5,7 @@ use Rattle.std.proofs.lemmas.Bool.{cases_lt, eqb-true, false≢true, lt-ltb, or_
 use Rattle.std.proofs.lemmas.List.{get_or_past}
 use Rattle.nv_alloc.specs.Numbers.{has}
 use Rattle.nv_base.specs.declared.numbers.Handle.{Handle}
-use Rattle.nv_machine.specs.PoolScan.{has_inode}
+use Rattle.nv_cell.specs.Readers.{has_inode}
 use Rattle.nv_machine.specs.Reads.{if_number, slots_in, with_slot}
 use Rattle.nv_machine.specs.World.{Shared, cell_at, no_cell}
 use Rattle.nv_machine.proofs.Lists.{or_right}

@@ -6,7 +6,7 @@ use Rattle.std.proofs.lemmas.List.{map-id}
 use Rattle.nv_alloc.specs.Numbers.{has, put_by, times}
 use Rattle.nv_alloc.proofs.Lists.{times-cons, times-no, times-put_by, times-yes}
 use Rattle.nv_base.specs.declared.limits.TheConstants.{NUMBER}
-use Rattle.nv_calls.specs.Retiring.{erased, is_erased, number_back}
+use Rattle.nv_calls.specs.Retiring.{erased, number_back}
 use Rattle.nv_cell.specs.Cell.{CellState, empty_cell}
 use Rattle.nv_machine.specs.Kinds.{entries_for, with_erased}
 use Rattle.nv_machine.specs.Cleaning.{compacted_cell, unlinked}
@@ -16,6 +16,7 @@ use Rattle.nv_machine.proofs.StepWork.{return_number_work, maintenance_work, wor
 use Rattle.nv_machine.proofs.Lists.{self}
 use Rattle.nv_machine.proofs.LogsKept.{cell_set}
 use Rattle.nv_machine.proofs.PoolCells.{IsLike, appended_like, erased_gone, gone_inode, like_taken, one_if, keeps_like, taken_once, with_inode}
+use Rattle.nv_cell.specs.Readers.{is_erased}
 use Rattle.nv_machine.proofs.CellChanges.{clean_cell_on, clean_slot_on, is_clean_on, IsRemoval, Removal, hand_freed, is_removal_on, is_removed, on_step, removal, removal_on, removed}
 
 -- ---- how often a number stands

@@ -13,7 +13,7 @@ use Rattle.nv_calls.specs.declared.call.Call.TheVariants as call
 use Rattle.nv_cell.specs.Cell.{CellState}
 use Rattle.nv_machine.specs.Grown.{HasGrown}
 use Rattle.nv_machine.specs.Hands.{HandAt, makes_inode}
-use Rattle.nv_machine.specs.PoolScan.{has_inode}
+use Rattle.nv_cell.specs.Readers.{has_inode}
 use Rattle.nv_machine.specs.Reads.{copies, is_written, plan_by, slots_in, slots_of, taken_by, written_slots}
 use Rattle.nv_machine.specs.Sequence.{beginning}
 use Rattle.nv_machine.specs.Step.{ending_at, is_numbered, made_in, same_looked}

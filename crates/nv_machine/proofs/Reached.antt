@@ -5,15 +5,15 @@ use Rattle.std.specs.List.{AllByRecursion, flat_map}
 use Rattle.std.proofs.lemmas.Bool.{cases_lt, eq-eqb, ltb-true, true≢false}
 use Rattle.std.proofs.lemmas.List.{get_or_past}
 use Rattle.nv_alloc.specs.Block.{BlockValue, numbers_of}
-use Rattle.nv_alloc.specs.Numbers.{times}
+use Rattle.nv_alloc.specs.Numbers.{IsEachOnce, times}
 use Rattle.nv_alloc.proofs.GivingLemmas.{times-blocks}
 use Rattle.nv_alloc.proofs.Lists.{times-append, times-cons, times-yes}
 use Rattle.nv_base.specs.declared.geometry.GeometryNumbers.{GeometryNumbers}
-use Rattle.nv_cell.specs.Cell.{CellState}
+use Rattle.nv_cell.specs.Cell.{CellState, of_part, stored_in}
 use Rattle.nv_machine.specs.Hands.{AreNumbers}
 use Rattle.nv_machine.specs.Kept.{AreApart, AreBlocksApart, AreCleanable, IsReleaseCoveredBy}
 use Rattle.nv_machine.specs.Locks.{AreLocks}
-use Rattle.nv_machine.specs.Numbers.{IsEachOnce, all_blocks, free_of, held_by_actor, held_in, of_part, stored_in, used_blocks}
+use Rattle.nv_machine.specs.Numbers.{all_blocks, free_of, held_by_actor, held_in, used_blocks}
 use Rattle.nv_machine.specs.PlainRun.{deed_of, keeps_nodes}
 use Rattle.nv_machine.specs.Reached.{IsReached}
 use Rattle.nv_machine.specs.Settled.{settled_nodes}
@@ -87,7 +87,7 @@ held_most w k actor lt =
       times-append k (flat_map free_of w.shared.lists) (used_blocks w),
     )
 
-cells_apart : (many : ℕ) (w : World) → IsEachOnce many (all_blocks w) → (ino : ℕ) → AreApart (cell_at w.shared ino).blocks
+pub cells_apart : (many : ℕ) (w : World) → IsEachOnce many (all_blocks w) → (ino : ℕ) → AreApart (cell_at w.shared ino).blocks
 cells_apart many w each ino n m b c e f same = elim (cases_lt ino (length w.shared.cells)) [
   | inl lt ↦ within lt
   | inr ge ↦ absurd (none ge)

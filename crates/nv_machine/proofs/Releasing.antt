@@ -11,10 +11,10 @@ use Rattle.nv_base.specs.declared.geometry.GeometryNumbers.{GeometryNumbers}
 use Rattle.nv_book.specs.Listed.{all_records}
 use Rattle.nv_book.specs.Records.{holder_of}
 use Rattle.nv_book.specs.declared.record.Record.{Record}
-use Rattle.nv_calls.specs.Retiring.{erased, is_erased, name_of, number_back, released, released_blocks}
+use Rattle.nv_calls.specs.Retiring.{erased, name_of, number_back, released, released_blocks}
 use Rattle.nv_cell.specs.Cell.{CellState, log_of, number_in}
 use Rattle.nv_cell.specs.Marks.{bit, is_there, mark_at}
-use Rattle.nv_cell.specs.Readers.{is_gone}
+use Rattle.nv_cell.specs.Readers.{is_erased, is_gone, is_withheld}
 use Rattle.nv_cell.proofs.Publishing.{take_whole}
 use Rattle.nv_cell.proofs.ValuesNow.{IsLog-take}
 use Rattle.nv_entry.specs.Covered.{part_total}
@@ -31,7 +31,6 @@ use Rattle.nv_machine.specs.Grown.{HasGrown, HasGrownBy}
 use Rattle.nv_machine.specs.Hands.{IsParted}
 use Rattle.nv_machine.specs.Held.{is_of_slot, killed_by_call, killed_in, killed_slots, parts_for, pending_in, picked_at, picked_by_actor, picked_by_call}
 use Rattle.nv_machine.specs.Kinds.{end_turn, with_erased}
-use Rattle.nv_machine.specs.PoolScan.{is_withheld}
 use Rattle.nv_machine.specs.Reads.{written_slots}
 use Rattle.nv_machine.specs.Recorded.{is_kept}
 use Rattle.nv_machine.specs.Settled.{settled}

@@ -13,7 +13,8 @@ use Rattle.nv_machine.specs.PlainRun.{deed_of, keeps_nodes}
 use Rattle.nv_machine.specs.Reads.{written_slots}
 use Rattle.nv_machine.specs.Settled.{settled}
 use Rattle.nv_entry.specs.Shape.{AreLawful, IsShaped, items_of, kind_after}
-use Rattle.nv_machine.specs.Shapes.{AreShaped, IsLeftShaped}
+use Rattle.nv_cell.specs.Shape.{IsLeftShaped}
+use Rattle.nv_machine.specs.Shapes.{AreShaped}
 use Rattle.nv_machine.specs.Starts.{IsStart}
 use Rattle.nv_machine.specs.Step.{after, step}
 use Rattle.nv_machine.specs.World.{Event, Running, World}

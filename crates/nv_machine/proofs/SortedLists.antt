@@ -4,12 +4,12 @@ use Rattle.std.specs.Prelude.{nat_le, not, slice_index_or, ◌&&◌}
 use Rattle.std.specs.List.{AllByRecursion}
 use Rattle.std.proofs.lemmas.Bool.{and_parts, eqb-false, eqb-true, leb-true, ltb-false, ltb-true}
 use Rattle.nv_alloc.specs.Block.{AreSized, BlockValue, numbers_of, put_block}
-use Rattle.nv_alloc.specs.FreeList.{FreeBlocks, is_home}
+use Rattle.nv_alloc.specs.FreeList.{FreeBlocks, IsHomeList, is_home}
 use Rattle.nv_alloc.specs.Giving.{after_giving, after_offer, takes}
 use Rattle.nv_alloc.specs.Numbers.{IsRising, has}
 use Rattle.nv_base.specs.declared.geometry.GeometryNumbers.{GeometryNumbers}
 use Rattle.nv_machine.proofs.Lists.{all_over}
-use Rattle.nv_machine.specs.Hands.{AreLists, IsHomeList}
+use Rattle.nv_machine.specs.Hands.{AreLists}
 use Rattle.nv_machine.specs.World.{Shared, no_list, with_list}
 use Rattle.nv_machine.proofs.PartPlaces.{sized_later}
 

@@ -10,7 +10,7 @@ use Rattle.nv_alloc.specs.FreeList.{FreeBlocks}
 use Rattle.nv_alloc.specs.Giving.{after_giving}
 use Rattle.nv_alloc.proofs.GivingLemmas.{AreSized-kept}
 use Rattle.nv_base.specs.declared.geometry.GeometryNumbers.{GeometryNumbers}
-use Rattle.nv_calls.specs.Retiring.{erased, is_erased, number_back}
+use Rattle.nv_calls.specs.Retiring.{erased, number_back}
 use Rattle.nv_calls.specs.Slots.{entries_of, items_for, place_in}
 use Rattle.nv_calls.specs.declared.call.Call.{Call}
 use Rattle.nv_cell.specs.Append.{IsWithinFile}
@@ -34,6 +34,7 @@ use Rattle.nv_calls.specs.declared.call.Call.TheVariants as call
 use Rattle.nv_clean.specs.Plans.{unlinkable_of}
 use Rattle.nv_log.proofs.Flags.{all_gone}
 use Rattle.nv_log.specs.Chain.{gone_of}
+use Rattle.nv_cell.specs.Readers.{is_erased}
 use Rattle.nv_machine.specs.Cleaning.{compacted_cell, unlinked, with_fresh, with_old_chain, with_unlinked}
 
 -- ---- all cells, where one is another

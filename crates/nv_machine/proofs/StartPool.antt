@@ -8,7 +8,7 @@ use Rattle.nv_alloc.specs.Numbers.{IsRising, has, times}
 use Rattle.nv_alloc.proofs.Lists.{times-cons, times-no}
 use Rattle.nv_base.specs.declared.geometry.GeometryNumbers.{GeometryNumbers}
 use Rattle.nv_book.specs.declared.record.Record.{Record}
-use Rattle.nv_machine.specs.PoolScan.{has_inode, is_number_used, is_withheld, number_held, numbers_held}
+use Rattle.nv_machine.specs.PoolScan.{is_number_used, number_held, numbers_held}
 use Rattle.nv_machine.specs.Starts.{IsStart}
 use Rattle.nv_machine.specs.World.{Actor, World, cell_at, no_cell}
 use Rattle.nv_machine.proofs.Lists.{rising_filter}
@@ -17,6 +17,7 @@ use Rattle.nv_machine.proofs.PartsFor.{none_of}
 use Rattle.nv_machine.proofs.PoolCells.{one_if, taken_once}
 use Rattle.nv_machine.proofs.PoolKnown.{SeesOf}
 use Rattle.nv_machine.proofs.PoolRuns.{ArePooled}
+use Rattle.nv_cell.specs.Readers.{has_inode, is_withheld}
 use Rattle.nv_machine.proofs.PoolTally.{loose_by, tally}
 
 -- of the numbers that pass a test each stands as often as among all, and no other does

@@ -4,8 +4,8 @@ use Rattle.std.specs.Prelude.{◌%◌}
 use Rattle.nv_alloc.specs.Numbers.{put_by}
 use Rattle.nv_book.specs.Book.{after_drop_snapshot, after_enter, after_make_snapshot, after_pick, after_pin_snapshot, after_unpin_snapshot, with_journal}
 use Rattle.nv_book.specs.declared.record.Record.{Record}
-use Rattle.nv_calls.specs.Retiring.{erased, killed_by, released}
-use Rattle.nv_cell.specs.Cell.{published}
+use Rattle.nv_calls.specs.Retiring.{erased, released}
+use Rattle.nv_cell.specs.Cell.{killed_by, published}
 use Rattle.nv_cell.specs.declared.killed.KilledPart.{KilledPart}
 use Rattle.nv_machine.specs.Cleaning.{compacted_cell, unlinked, with_fresh, with_old_chain, with_unlinked}
 use Rattle.nv_machine.specs.Kinds.{asked_list, blocks_left, entries_for, first_killed, given, less_list, old_tails, retired_book, retired_cell, with_bytes, with_entries, with_erased, with_freed, with_given, with_killed, with_pages}

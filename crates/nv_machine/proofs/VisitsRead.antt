@@ -92,4 +92,4 @@ visit_answers w actor granted r told logs there is next begins e =
     let both = answered w.shared r (turn w.numbers.block actor granted w.shared h r) actor w told
     (subst (λ (k : Next). After Goes (Tells w.shared r) (kind_turn k w.numbers.block actor granted w.shared h r)) (sym next)
     (visit_told w.numbers.block actor granted w.shared h r)) (sym (ap (λ x. x.reply) same) ∙ e) in
-    both.1 ∙ (visit_same w logs (record { made = r.made; runs = []; present = false }) r.call begins both.0).answer
+    both.1 ∙ (visit_same w logs (record { made = r.made; runs = [] }) r.call begins both.0).answer

@@ -9,7 +9,7 @@ use Rattle.nv_cell.specs.Cell.{HasMarks, IsCell, log_of}
 use Rattle.nv_entry.specs.Log.{IsLog}
 use Rattle.nv_epoch.specs.SnapList.{ids}
 use Rattle.nv_machine.specs.Hands.{AreLists, ArePagesTold}
-use Rattle.nv_machine.specs.Numbers.{IdleHaveNothing, IsEachOnce, all_blocks, free_from_scratch, free_of}
+use Rattle.nv_machine.specs.Numbers.{IdleHaveNothing, all_blocks, free_from_scratch, free_of}
 use Rattle.nv_machine.specs.Pages.{AreOnPages, HasLogPages, PagesOf}
 use Rattle.nv_machine.specs.PoolScan.{pool_from_scratch}
 use Rattle.nv_machine.specs.Reads.{bytes_among}
@@ -24,6 +24,7 @@ use Rattle.nv_machine.proofs.FiledWorlds.{picked_in}
 use Rattle.nv_machine.proofs.FromScratch.{has_nothing, is_scanned}
 use Rattle.nv_machine.proofs.MarksInUse.{each_recorded, once_of}
 use Rattle.nv_machine.proofs.PoolLaw.{is_pool_scanned}
+use Rattle.nv_alloc.specs.Numbers.{IsEachOnce}
 use Rattle.nv_machine.proofs.SlotsBeforeCheck.{own_bytes}
 
 module _ (g : GeometryNumbers) (start : World) (records : List Record) (events : List Event) where

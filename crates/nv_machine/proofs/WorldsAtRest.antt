@@ -5,7 +5,7 @@ use Rattle.std.proofs.lemmas.Bool.{eq-eqb, false≢true}
 use Rattle.nv_alloc.specs.Numbers.{has}
 use Rattle.nv_base.specs.declared.geometry.GeometryNumbers.{GeometryNumbers}
 use Rattle.nv_book.specs.declared.record.Record.{Record}
-use Rattle.nv_calls.specs.Retiring.{is_erased}
+use Rattle.nv_cell.specs.Readers.{is_erased}
 use Rattle.nv_cell.specs.Cell.{log_of}
 use Rattle.nv_cell.specs.Marks.{bit, is_killed, mark_at}
 use Rattle.nv_cell.specs.declared.killed.KilledPart.{KilledPart}

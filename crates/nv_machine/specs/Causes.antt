@@ -11,7 +11,7 @@ use Rattle.nv_calls.specs.Refusals.{passes}
 use Rattle.nv_calls.specs.declared.answer.Answer.{Answer}
 use Rattle.nv_machine.specs.Answered.{IsEnding}
 use Rattle.nv_machine.specs.Kinds.{asked_list}
-use Rattle.nv_machine.specs.PoolScan.{has_inode}
+use Rattle.nv_cell.specs.Readers.{has_inode}
 use Rattle.nv_machine.specs.Sequence.{beginning}
 use Rattle.nv_epoch.specs.SnapList.{pins_of}
 use Rattle.nv_machine.specs.Maintenance.{drop_tests, is_first, make_tests}

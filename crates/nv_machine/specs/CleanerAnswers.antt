@@ -11,7 +11,7 @@ use Rattle.nv_calls.specs.declared.maintenance_call.MaintenanceCall.TheVariants 
 use Rattle.nv_cell.specs.Cell.{CellState}
 use Rattle.nv_clean.specs.Plans.{wanted_of}
 use Rattle.nv_machine.specs.OwnSteps.{OwnStep, turn_of}
-use Rattle.nv_machine.specs.PoolScan.{has_inode}
+use Rattle.nv_cell.specs.Readers.{has_inode}
 use Rattle.nv_machine.specs.World.{Auto, Compact, Ends, Fast, Fresh, Judge, Maintenance, Manner, Moves, Next, Shared, Thorough, Turn, Unlink, Waits, cell_at}
 
 -- the call that cleans the log of an inode so

@@ -8,7 +8,7 @@ use Rattle.nv_clean.specs.Plans.{unlinkable_of, wanted_of}
 use Rattle.nv_clean.specs.declared.cleaned.Cleaned.{Cleaned}
 use Rattle.nv_log.specs.Chain.{compacted, gone_of}
 use Rattle.nv_machine.specs.Kinds.{end_turn, grown, less_list, refuse}
-use Rattle.nv_machine.specs.PoolScan.{has_inode}
+use Rattle.nv_cell.specs.Readers.{has_inode}
 use Rattle.nv_machine.specs.World.{Auto, Cleans, Compact, Fast, Fresh, HandState, Judge, Maintenance, Manner, Moves, Running, Shared, Thorough, Turn, Unlink, Waits, cell_at, go_to, list_at, with_cell, with_owner}
 
 -- ---- lock

@@ -5,14 +5,13 @@ use Rattle.nv_alloc.specs.Block.{BlockValue, numbers_of}
 use Rattle.nv_alloc.specs.Numbers.{has}
 use Rattle.nv_book.specs.declared.record.Record.{Record}
 use Rattle.nv_cell.specs.Cell.{CellState, empty_cell}
-use Rattle.nv_cell.specs.Readers.{is_gone}
+use Rattle.nv_cell.specs.Readers.{is_gone, is_withheld}
 use Rattle.nv_entry.specs.Held.{Retention, keeps}
 use Rattle.nv_entry.specs.Log.{pairs}
 use Rattle.nv_entry.specs.declared.held.Pair.{Pair}
 use Rattle.nv_epoch.specs.SnapList.{ids}
 use Rattle.nv_calls.specs.Retiring.{name_of}
 use Rattle.nv_machine.specs.Held.{is_of_slot, pending_in}
-use Rattle.nv_machine.specs.PoolScan.{is_withheld}
 use Rattle.nv_machine.specs.Settled.{settled}
 use Rattle.nv_machine.specs.Step.{changed}
 use Rattle.nv_machine.specs.World.{ReturnNumber, Give, Leave, Next, Pick, Retire, Running, Shared, Maintenance, Unlock, World, actor_at, cell_at, empty_hand}

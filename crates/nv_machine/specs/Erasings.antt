@@ -1,7 +1,7 @@
 -- How often the inode of a slot was erased.
 use Rattle.std.specs.Prelude.{ℕ, ◌+◌, ◌&&◌, not, if◌then◌else◌, List, [], ◌∷◌}
 use Rattle.nv_cell.specs.Cell.{CellState}
-use Rattle.nv_machine.specs.PoolScan.{has_inode}
+use Rattle.nv_cell.specs.Readers.{has_inode}
 use Rattle.nv_machine.specs.Step.{step}
 use Rattle.nv_machine.specs.World.{Event, World, cell_at}
 

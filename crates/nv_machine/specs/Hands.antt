@@ -2,8 +2,8 @@
 use Rattle.std.specs.Prelude.{◌≡◌, ℕ, ◌+◌, ◌/◌, ◌<◌, ◌≤◌, Bool, true, false, List, [], drop, length, slice_index_or, take, Option, Some, None}
 use Rattle.std.specs.List.{AllByRecursion, flat_map}
 use Rattle.nv_alloc.specs.Block.{AreSized, BlockValue, numbers_of}
-use Rattle.nv_alloc.specs.FreeList.{FreeBlocks, IsFreeList}
-use Rattle.nv_alloc.specs.Numbers.{has}
+use Rattle.nv_alloc.specs.FreeList.{IsHomeList}
+use Rattle.nv_alloc.specs.Numbers.{IsEachOnce, has}
 use Rattle.nv_base.specs.Homes.{home_start}
 use Rattle.nv_base.specs.declared.geometry.GeometryNumbers.{GeometryNumbers}
 use Rattle.nv_base.specs.declared.limits.TheConstants.{FILE_PAGES}
@@ -17,19 +17,12 @@ use Rattle.nv_cell.specs.Marks.{is_there}
 use Rattle.nv_entry.specs.Blocks.{item_blocks}
 use Rattle.nv_entry.specs.Covered.{part_total}
 use Rattle.nv_machine.specs.Kinds.{blocks_in}
-use Rattle.nv_machine.specs.Numbers.{IsEachOnce, all_blocks}
+use Rattle.nv_machine.specs.Numbers.{all_blocks}
 use Rattle.nv_machine.specs.Reads.{written_slots}
 use Rattle.nv_machine.specs.Sequence.{Beginning, Looks, Locks, Numbers, Maintains, Visits, beginning, nothing_looked}
 use Rattle.nv_machine.specs.World.{Answers, Append, ReturnNumber, Check, Close, Compact, Enter, Fresh, Give, HandState, Leave, Lock, Look, Next, Number, Open, Overtaken, Publish, Ready, Retire, Running, Shared, MaintenanceStep, Maintenance, TakeBlocks, TakeLogPages, Unlock, Unpin, Visit, World, actor_at, cell_at, empty_hand, list_at}
 
 -- ---- lists and cells
-
--- the free list of a CPU: in rising order, of blocks at home there
-pub record IsHomeList (g : GeometryNumbers) (cpu : ℕ) (list : FreeBlocks) : Type 0 where
-  pub start : list.start ≡ home_start g.blocks g.cpus cpu
-  pub end : list.end ≡ home_start g.blocks g.cpus (cpu + 1)
-  pub size : list.size ≡ g.block
-  pub free : IsFreeList list
 
 pub record AreLists (g : GeometryNumbers) (s : Shared) : Type 0 where
   pub cpus : length s.lists ≡ g.cpus

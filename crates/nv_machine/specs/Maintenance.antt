@@ -1,10 +1,10 @@
 -- The steps of calls on snapshots, one function a kind, and of maintenance in all. What decides a step is an argument.
-use Rattle.std.specs.Prelude.{ℕ, zero, suc, ◌+◌, ◌-◌, ◌==◌, ◌++◌, ◌||◌, Bool, true, false, if◌then◌else◌, nat_le, not, List, [], ◌∷◌, length, Option, Some, None, Result, Ok, Err}
-use Rattle.std.specs.Option.{option_to_list}
+pub use Rattle.nv_reader.specs.Showing.{seen_on, visited}
+use Rattle.std.specs.Prelude.{ℕ, zero, suc, ◌+◌, ◌==◌, ◌++◌, ◌||◌, Bool, true, false, if◌then◌else◌, nat_le, not, List, [], ◌∷◌, length, Option, Some, None, Result, Ok, Err}
 use Rattle.nv_base.specs.declared.fault.Fault.{Fault}
 use Rattle.nv_base.specs.declared.fault.Fault.TheVariants.{EpochLimit, NoSnapshot, Pinned, TooManySnapshots}
 use Rattle.nv_base.specs.Memory.{out_of_memory}
-use Rattle.nv_base.specs.declared.limits.TheConstants.{INODES, NUMBER}
+use Rattle.nv_base.specs.declared.limits.TheConstants.{NUMBER}
 use Rattle.nv_base.specs.declared.numbers.Handle.{Handle}
 use Rattle.nv_book.specs.Book.{after_drop_snapshot, after_make_snapshot, after_pick, after_pin_snapshot, after_unpin_snapshot}
 use Rattle.nv_book.specs.declared.record.Record.{Record}
@@ -12,13 +12,12 @@ use Rattle.nv_calls.specs.Refusals.{Check as Tests}
 use Rattle.nv_calls.specs.Retiring.{erased, released, released_blocks}
 use Rattle.nv_calls.specs.declared.answer.Answer.{Answer}
 use Rattle.nv_calls.specs.declared.answer.Answer.TheVariants as answers
-use Rattle.nv_cell.specs.Cell.{log_of}
-use Rattle.nv_entry.specs.Node.{node_at}
-use Rattle.nv_entry.specs.Tree.{root}
 use Rattle.nv_entry.specs.declared.node.NodeCopy.{NodeCopy}
 use Rattle.nv_entry.specs.declared.tree.TreeNode.{TreeNode}
 use Rattle.nv_epoch.specs.SnapList.{Snapshots as Living, pins_of}
-use Rattle.nv_reader.specs.Walk as walk
+use Rattle.nv_reader.specs.Nodes.{copy_in}
+use Rattle.nv_reader.specs.Showing.{new_showing}
+use Rattle.nv_reader.specs.Walk.{Visit}
 use Rattle.nv_machine.specs.Cleaning.{compact_turn, judge_turn, lock_cleaned_turn, take_fresh_turn, unlink_turn}
 use Rattle.nv_machine.specs.Kinds.{asked_list, end_turn, grown, refuse, with_erased}
 use Rattle.nv_machine.specs.Reads.{bytes_among}
@@ -53,12 +52,12 @@ drop_turn snapshot (Ok passed) s h r = Ends (Ok answers.Nothing) (with_book (aft
 
 -- ---- pin, show and unpin
 
--- the root is visited first; a walk makes no more visits than there can be inodes
+-- before the first visit
 abbrev pub first_showing : Shared → Showing
-first_showing s = record { left = INODES; visits = walk.root_visit (length s.cells) root; seen = [] }
+first_showing s = new_showing (length s.cells)
 
 -- the next visit, or the end where there is none
-abbrev pub show_or_unpin : ℕ → List walk.Visit → ℕ → Showing → MaintenanceStep
+abbrev pub show_or_unpin : ℕ → List Visit → ℕ → Showing → MaintenanceStep
 show_or_unpin zero visits snapshot showing = Unpin snapshot showing.seen
 show_or_unpin (suc left) [] snapshot showing = Unpin snapshot showing.seen
 show_or_unpin (suc left) (visit ∷ visits) snapshot showing = Show snapshot showing
@@ -71,25 +70,9 @@ pin_turn snapshot None s h r = refuse NoSnapshot s h r
 pin_turn snapshot (Some pins) s h r =
     Moves (with_book (after_pin_snapshot snapshot s.book) s) h (go_to (Maintenance (showing_on snapshot (first_showing s))) r)
 
--- the slot and the node of the next visit
-abbrev pub visited : List walk.Visit → Handle
-visited [] = root
-visited (visit ∷ visits) = visit.handle
-
 -- the node under a handle at the end of an epoch, by the log of its cell
 abbrev pub copies_at : Shared → ℕ → Handle → Option NodeCopy
-copies_at s epoch handle =
-    if handle.generation == (cell_at s handle.ino).generation
-    then node_at (bytes_among (cell_at s handle.ino).blocks) (cell_at s handle.ino).block epoch (log_of (cell_at s handle.ino))
-    else None
-
--- the node is seen, and what its names lead to comes next
-abbrev pub seen_on : Option NodeCopy → Showing → Showing
-seen_on found showing = record {
-  left = showing.left - 1;
-  visits = walk.visits_after showing.visits found;
-  seen = showing.seen ++ option_to_list (walk.given_for showing.visits found);
-}
+copies_at s epoch handle = copy_in (bytes_among (cell_at s handle.ino).blocks) (Some (cell_at s handle.ino)) epoch handle
 
 -- a show whose memory is refused takes its pin off
 abbrev pub show_turn : Option ℕ → Bool → Option NodeCopy → ℕ → Showing → Shared → HandState → Running → Turn

@@ -1,12 +1,12 @@
 -- Where each block number stands, and that each stands once.
-use Rattle.std.specs.Prelude.{◌≡◌, ℕ, ◌+◌, ◌-◌, false, if◌then◌else◌, nat_lt, List, ◌++◌, Option, None, option_to_list}
+use Rattle.std.specs.Prelude.{◌≡◌, ℕ, ◌+◌, ◌-◌, false, List, ◌++◌, None}
 use Rattle.std.specs.List.{flat_map}
-use Rattle.nv_alloc.specs.Block.{BlockValue, numbers_of}
+use Rattle.nv_alloc.specs.Block.{numbers_of}
 use Rattle.nv_alloc.specs.FreeList.{FreeBlocks}
-use Rattle.nv_alloc.specs.Numbers.{has, times, unused}
+use Rattle.nv_alloc.specs.Numbers.{has, unused}
 use Rattle.nv_base.specs.Homes.{home_start}
 use Rattle.nv_base.specs.declared.geometry.GeometryNumbers.{GeometryNumbers}
-use Rattle.nv_cell.specs.Cell.{CellState}
+use Rattle.nv_cell.specs.Cell.{stored_in}
 use Rattle.nv_machine.specs.Kinds.{blocks_in}
 use Rattle.nv_machine.specs.Locks.{is_owner}
 use Rattle.nv_machine.specs.World.{Actor, HandState, World, actor_at, empty_hand, owner_at}
@@ -16,13 +16,6 @@ use Rattle.nv_machine.specs.World.{Actor, HandState, World, actor_at, empty_hand
 -- the blocks of a free list, by number
 abbrev pub free_of : FreeBlocks → List ℕ
 free_of list = numbers_of list.blocks
-
--- those of a cell: the pages of its chain, and the blocks of its parts
-abbrev pub of_part : Option BlockValue → List ℕ
-of_part block = numbers_of (option_to_list block)
-
-abbrev pub stored_in : CellState → List ℕ
-stored_in cell = numbers_of cell.chain.blocks ++ flat_map of_part cell.blocks
 
 -- those of a hand: data blocks, log pages, and the pages of an erased chain
 abbrev pub held_in : HandState → List ℕ
@@ -38,10 +31,6 @@ used_blocks w = flat_map stored_in w.shared.cells ++ flat_map held_by_actor w.ac
 -- EVERY BLOCK, as often as it stands in a free list, in a cell or in a hand
 abbrev pub all_blocks : World → List ℕ
 all_blocks w = flat_map free_of w.shared.lists ++ used_blocks w
-
--- each number below so many stands in the list once, and no other number does
-abbrev pub IsEachOnce : ℕ → List ℕ → Type 0
-IsEachOnce many numbers = (n : ℕ) → times n numbers ≡ (if nat_lt n many then 1 else 0)
 
 -- AN IDLE ACTOR has an empty hand and no lock
 pub record HoldsNothing (w : World) (actor : ℕ) : Type 0 where

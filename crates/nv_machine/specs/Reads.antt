@@ -67,7 +67,7 @@ has_last_page block s other = false
 
 -- what a plan is made with: the new handle, and the data blocks in the hand
 abbrev pub taken_by : ℕ → Shared → HandState → Running → Allocation
-taken_by block s h r = record { made = r.made; runs = runs_of (numbers_of h.blocks); present = has_last_page block s r.call }
+taken_by block s h r = record { made = r.made; runs = runs_of (numbers_of h.blocks) }
 
 abbrev pub plan_by : ℕ → Shared → HandState → Running → List InodePlan
 plan_by block s h r = plan block (copies s) (taken_by block s h r) r.call

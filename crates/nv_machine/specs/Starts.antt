@@ -7,7 +7,7 @@ use Rattle.nv_base.specs.declared.limits.TheConstants.{NUMBER}
 use Rattle.nv_book.specs.Listed.{IsRecordList}
 use Rattle.nv_book.specs.declared.record.Record.{Record}
 use Rattle.nv_calls.specs.Plain.{node_in}
-use Rattle.nv_calls.specs.Retiring.{is_erased}
+use Rattle.nv_cell.specs.Readers.{is_erased, has_inode}
 use Rattle.nv_cell.specs.Cell.{IsCell, log_of}
 use Rattle.nv_cell.specs.Marks.{is_killed, mark_at}
 use Rattle.nv_cell.specs.declared.mark.Mark.TheVariants.{Out}
@@ -20,15 +20,16 @@ use Rattle.nv_machine.specs.Directories.{AreTree}
 use Rattle.nv_machine.specs.Effects.{AreSound}
 use Rattle.nv_machine.specs.Hands.{AreLists}
 use Rattle.nv_machine.specs.Kept.{AreClosed}
-use Rattle.nv_machine.specs.Numbers.{IsEachOnce, all_blocks}
+use Rattle.nv_machine.specs.Numbers.{all_blocks}
 use Rattle.nv_machine.specs.Order.{AreLogsOrdered}
 use Rattle.nv_machine.specs.Pages.{AreOnPages}
-use Rattle.nv_machine.specs.PoolScan.{has_inode, pool_from_scratch}
+use Rattle.nv_machine.specs.PoolScan.{pool_from_scratch}
 use Rattle.nv_machine.specs.Reading.{ArePins}
 use Rattle.nv_machine.specs.Recorded.{AreRecordedOnce, IsOfPair}
 use Rattle.nv_machine.specs.Settled.{settled_copies, settled_nodes}
 use Rattle.nv_machine.specs.Shapes.{AreShaped}
 use Rattle.nv_machine.specs.Versions.{AreVersions}
+use Rattle.nv_alloc.specs.Numbers.{IsEachOnce}
 use Rattle.nv_machine.specs.World.{World, actor_at, cell_at, idle, owner_at}
 
 -- no call runs, and every hand is empty

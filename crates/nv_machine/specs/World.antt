@@ -1,4 +1,5 @@
 -- The world of atomic steps: what is shared, and what is each actor's own.
+pub use Rattle.nv_reader.specs.Showing.{Showing}
 use Rattle.std.specs.Prelude.{ℕ, Bool, List, [], Option, None, Result, slice_index_or, slice_set}
 use Rattle.nv_calls.specs.declared.looked.LookupResult.{LookupResult}
 use Rattle.nv_alloc.specs.Block.{BlockValue}
@@ -16,7 +17,6 @@ use Rattle.nv_cell.specs.Cell.{CellState, empty_cell}
 use Rattle.nv_cell.specs.declared.killed.KilledPart.{KilledPart}
 use Rattle.nv_clean.specs.declared.cleaned.Cleaned.{Cleaned}
 use Rattle.nv_entry.specs.declared.tree.TreeNode.{TreeNode}
-use Rattle.nv_reader.specs.Walk as walk
 
 -- ---- what is shared
 
@@ -40,12 +40,6 @@ pub record HandState : Type 0 where
   pub chain : List BlockValue
   pub ino : Option ℕ
   pub killed : List (List KilledPart)
-
--- a show that goes on: how many visits it may make yet, those that are to come, and the nodes that it has seen
-pub record Showing : Type 0 where
-  pub left : ℕ
-  pub visits : List walk.Visit
-  pub seen : List TreeNode
 
 -- a drain that goes on: how many records it has released, and how many more it may release behind the next one
 pub record Draining : Type 0 where

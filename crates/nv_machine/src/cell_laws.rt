@@ -12,7 +12,7 @@ ghost use Rattle.nv_machine.specs.Format.{formatted};
 ghost use Rattle.nv_machine.specs.Hands.{makes_inode};
 ghost use Rattle.nv_machine.specs.Locks.{commits_at};
 ghost use Rattle.nv_machine.specs.PlainRun.{Commits, deed_of};
-ghost use Rattle.nv_machine.specs.PoolScan.{has_inode};
+ghost use Rattle.nv_cell.specs.Readers.{has_inode};
 ghost use Rattle.nv_machine.specs.Reads.{slot_at, written_slots};
 ghost use Rattle.nv_machine.specs.Sequence.{beginning};
 ghost use Rattle.nv_machine.specs.Starts.{IsStart};

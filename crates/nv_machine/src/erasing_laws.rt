@@ -5,7 +5,7 @@ ghost use Rattle.nv_base.specs.declared.geometry.GeometryNumbers.{GeometryNumber
 ghost use Rattle.nv_book.specs.declared.record.Record.{Record};
 ghost use Rattle.nv_machine.specs.Erasing.{IsErasedWhole, IsOnItsWay, IsOnItsWayOrBack, IsOver, pending_but};
 ghost use Rattle.nv_machine.specs.Held.{pending_in};
-ghost use Rattle.nv_machine.specs.PoolScan.{is_withheld};
+ghost use Rattle.nv_cell.specs.Readers.{is_withheld};
 ghost use Rattle.nv_machine.specs.Reads.{slot_at, written_slots};
 ghost use Rattle.nv_machine.specs.Starts.{IsStart};
 ghost use Rattle.nv_machine.specs.Step.{after, step};

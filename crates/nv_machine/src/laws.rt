@@ -5,7 +5,7 @@
 ghost use Rattle.std.specs.Prelude.{◌≡◌, ◌≢◌, ◌+◌, ◌<◌, ◌≤◌, ◌↔◌, ℕ, Bool, List, Some, None, length, true, slice_get, slice_index_or, false};
 ghost use Rattle.std.specs.Option.{option_map};
 ghost use Rattle.nv_alloc.specs.Block.{number_of};
-ghost use Rattle.nv_alloc.specs.Numbers.{IsRising};
+ghost use Rattle.nv_alloc.specs.Numbers.{IsEachOnce, IsRising};
 ghost use Rattle.nv_base.specs.declared.fault.Fault.TheVariants.{ActorBusy, ActorIdle, NoActor};
 ghost use Rattle.nv_base.specs.declared.geometry.GeometryNumbers.{GeometryNumbers};
 ghost use Rattle.nv_book.specs.declared.record.Record.{Record};
@@ -23,7 +23,7 @@ ghost use Rattle.nv_machine.specs.Kinds.{asked_list};
 ghost use Rattle.nv_machine.specs.Locks.{AreLocks, HasLent, WaitsFor};
 ghost use Rattle.nv_machine.specs.Held.{block_in_use, free_by_logs, is_in_use, retention_at};
 ghost use Rattle.nv_machine.specs.Hands.{AreLists, ArePagesTold};
-ghost use Rattle.nv_machine.specs.Numbers.{IdleHaveNothing, IsEachOnce, all_blocks, free_from_scratch, free_of};
+ghost use Rattle.nv_machine.specs.Numbers.{IdleHaveNothing, all_blocks, free_from_scratch, free_of};
 ghost use Rattle.nv_machine.specs.Order.{IsInOrder};
 ghost use Rattle.nv_machine.specs.PoolScan.{pool_from_scratch};
 ghost use Rattle.nv_machine.specs.Reads.{pages_needed, slot_at, written_slots};

@@ -1,7 +1,8 @@
 //! The check of a call over the cells that it holds.
 
-ghost use Rattle.std.specs.Prelude.{◌≢◌, ◌≡◌, ◌+◌, ◌<◌, ◌≤◌, ◌^◌, IfOk, OnErr, [], length, option_map, true};
+ghost use Rattle.std.specs.Prelude.{◌≢◌, ◌≡◌, ◌<◌, ◌≤◌, ◌^◌, IfOk, OnErr, OnOk, [], length, option_map, true};
 ghost use Rattle.std.specs.Option.{ForSome};
+ghost use Rattle.std.specs.Result.{result_err};
 ghost use Rattle.nv_alloc.specs.Hand.{blocks_of};
 ghost use Rattle.nv_base.specs.Limits.{IsWithinLimits};
 ghost use Rattle.nv_base.specs.Refusals.{FailsOnly};
@@ -10,19 +11,20 @@ ghost use Rattle.nv_base.specs.declared.limits.TheConstants.{BLOCK_BYTES};
 ghost use Rattle.nv_calls.specs.AllCalls.{blocks_wanted};
 ghost use Rattle.nv_calls.specs.Nodes.{nodes_in};
 ghost use Rattle.nv_calls.specs.SlotCells.{lent_cells};
-ghost use Rattle.nv_calls.specs.declared.log_pages.TheConstants.{MORE_PAGES};
+ghost use Rattle.nv_calls.specs.Updates.{blocks_taken};
 ghost use Rattle.nv_machine.specs.Kinds.{check_turn, wants_blocks};
 ghost use Rattle.nv_machine.specs.Reads.{copies, has_last_page};
 ghost use Rattle.nv_machine.specs.Step.{ending_at, made_in, with_made};
 ghost use Rattle.nv_core.specs.Nodes.{ends_over, wanted_over};
 ghost use Rattle.nv_core.specs.Parts.{AreHome, AreSlots, HaveSlots, IsOfDevice};
-ghost use Rattle.nv_core.specs.Rooms.{FitsCall, HasRoomsAfter, IsHandOf, WantsBlocks, pages_to_take};
+ghost use Rattle.nv_core.specs.Rooms.{FitsCall, HasRoomFor, HasRoomsAfter, IsHandOf, WantsBlocks, pages_to_take};
 ghost use Rattle.nv_core.specs.Shown.{GhostCall, ending_of, hand_of, shared_of, shown, slots_in, turn_of};
 ghost use Rattle.nv_core.specs.Steps.{CanBeChecked};
 ghost use Rattle.nv_core.specs.GhostCalls.{IsChangeWith, IsEither, IsGhostCallOf, KeepsRequest, is_change};
 
 use crate::ending::{end, refuse};
-use crate::kinds::take::{pages_by, want_pages};
+use crate::kinds::take::want_pages;
+use crate::lent::room_in;
 use crate::next::{Ending, Next};
 use crate::reservation::Reservation;
 use crate::running::Running;
@@ -31,8 +33,7 @@ use crate::turn::Turn;
 use nv_alloc::Hand;
 use nv_base::Fault;
 use nv_calls::{
-    CheckEnd, HeldNodes, LockedSlots, LookupResult, MORE_PAGES, Nodes, SlotCells, Update,
-    blocks_wanted, ends_at_check, ends_in_page,
+    CheckEnd, HeldNodes, LockedSlots, LookupResult, Nodes, SlotCells, Update, ends_at_check,
 };
 use nv_cell::InodeCell;
 
@@ -58,12 +59,11 @@ pub(crate) fn check(shared: &mut Shared, hand: &mut Hand, running: &mut Running)
     ensures rooms { HasRoomsAfter result shared.new (Reservation.Hand hand.new) running.new }
 {
     note_made(shared, hand, running);
-    if let Some(ending) = ending_of(shared, running, hand.ino().is_some()) {
-        return end(shared, hand, running, ending);
-    }
-    let wanted = wanted_by(shared, running);
-    let pages = most_pages(shared, hand, running, wanted);
-    if let Err(fault) = make_room(hand, wanted, pages) {
+    let wanted = match test(shared, running, hand.ino().is_some()) {
+        Ok(wanted) => wanted,
+        Err(ending) => return end(shared, hand, running, ending),
+    };
+    if let Err(fault) = make_room(shared, hand, running, wanted) {
         return refuse(shared, hand, running, fault);
     }
     want_blocks(shared, hand, running, wanted)
@@ -81,8 +81,8 @@ fn note_made(shared: &Shared, hand: &Hand, running: &mut Running)
     }
 }
 
-/// Whether the check ends the call, and how.
-fn ending_of(shared: &mut Shared, running: &Running, has_number: bool) -> Option<Ending>
+/// How many data blocks the call takes, or how the check ends it.
+fn test(shared: &mut Shared, running: &Running, has_number: bool) -> Result<u64, Ending>
     requires slots { AreSlots shared.old (slots_in running.now.slots) }
     requires some_bytes { 0 < shared.old.geometry.numbers.block }
     requires few_bytes { shared.old.geometry.numbers.block ≤ BLOCK_BYTES }
@@ -90,12 +90,15 @@ fn ending_of(shared: &mut Shared, running: &Running, has_number: bool) -> Option
     ensures same { shared.new ≡ shared.old }
     ensures ends { let lent = lent_cells (slots_in running.now.slots) shared.old.cells.items in
         let block = shared.old.geometry.numbers.block in
-        IsChangeWith (λ u. option_map ending_of result
+        IsChangeWith (λ u. option_map ending_of (result_err result)
         ≡ ends_over block (nodes_in lent) running.now.looked has_number u) running.now.request }
+    ensures wanted { let lent = lent_cells (slots_in running.now.slots) shared.old.cells.items in
+        let block = shared.old.geometry.numbers.block in
+        IsChangeWith (λ u. IfOk result (λ n. n ≡ wanted_over block lent u)) running.now.request }
 {
     let block = shared.block();
     let update = &running.plan().update;
-    ending_in(
+    test_in(
         block,
         &mut shared.cells,
         &running.slots,
@@ -106,115 +109,77 @@ fn ending_of(shared: &mut Shared, running: &Running, has_number: bool) -> Option
 }
 
 /// The same over the cells of the call's slots.
-fn ending_in(
+fn test_in(
     block: u64,
     cells: &mut [InodeCell],
     slots: &LockedSlots,
     before: &LookupResult,
     update: &Update,
     has_number: bool,
-) -> Option<Ending>
+) -> Result<u64, Ending>
     requires slots { HaveSlots cells.old (slots_in slots.now) }
     requires some_bytes { 0 < block }
     requires few_bytes { block ≤ BLOCK_BYTES }
     ensures same { cells.new ≡ cells.old }
     ensures ends { let lent = lent_cells (slots_in slots.now) cells.old in
-        option_map ending_of result
+        option_map ending_of (result_err result)
         ≡ ends_over block (nodes_in lent) before.now has_number update.now }
+    ensures wanted { IfOk result (λ n. n
+        ≡ wanted_over block (lent_cells (slots_in slots.now) cells.old) update.now) }
 {
     let slots = slots.as_slice();
     let lent = SlotCells { cells, slots };
-    ending_over(block, &HeldNodes::new(&lent), before, update, has_number)
+    test_over(block, &HeldNodes::new(&lent), before, update, has_number)
 }
 
 /// The same over nodes.
-fn ending_over<N: Nodes>(
+fn test_over<N: Nodes>(
     block: u64,
     nodes: &N,
     before: &LookupResult,
     update: &Update,
     has_number: bool,
-) -> Option<Ending>
+) -> Result<u64, Ending>
     requires some_bytes { 0 < block }
     requires few_bytes { block ≤ BLOCK_BYTES }
-    ensures { option_map ending_of result
+    ensures ends { option_map ending_of (result_err result)
         ≡ ends_over block (N.nodes_of nodes.now) before.now has_number update.now }
+    ensures wanted { IfOk result (λ n. n
+        ≡ blocks_taken block (N.nodes_of nodes.now) (N.has_page nodes.now) update.now) }
 {
-    match ends_at_check(block, nodes, before, update, has_number)? {
-        CheckEnd::Refuses(fault) => Some(Ending::Refuses(fault)),
-        CheckEnd::Overtaken => Some(Ending::Overtaken),
-        CheckEnd::Answers => Some(Ending::Answers),
+    match ends_at_check(block, nodes, before, update, has_number) {
+        Ok(wanted) => Ok(wanted),
+        Err(CheckEnd::Refuses(fault)) => Err(Ending::Refuses(fault)),
+        Err(CheckEnd::Overtaken) => Err(Ending::Overtaken),
+        Err(CheckEnd::Answers) => Err(Ending::Answers),
     }
 }
 
-/// How many data blocks the call takes.
-fn wanted_by(shared: &mut Shared, running: &Running) -> u64
-    requires slots { AreSlots shared.old (slots_in running.now.slots) }
-    requires some_bytes { 0 < shared.old.geometry.numbers.block }
-    requires few_bytes { shared.old.geometry.numbers.block ≤ BLOCK_BYTES }
-    requires change { is_change running.now.request ≡ true }
-    ensures same { shared.new ≡ shared.old }
-    ensures wanted { let lent = lent_cells (slots_in running.now.slots) shared.old.cells.items in
-        let block = shared.old.geometry.numbers.block in
-        IsChangeWith (λ u. result ≡ wanted_over block lent u) running.now.request }
-{
-    let block = shared.block();
-    wanted_in(
-        block,
-        &mut shared.cells,
-        &running.slots,
-        &running.plan().update,
-    )
-}
-
-/// The same over the cells of the call's slots.
-fn wanted_in(block: u64, cells: &mut [InodeCell], slots: &LockedSlots, update: &Update) -> u64
-    requires slots { HaveSlots cells.old (slots_in slots.now) }
-    requires some_bytes { 0 < block }
-    requires few_bytes { block ≤ BLOCK_BYTES }
-    ensures same { cells.new ≡ cells.old }
-    ensures wanted { result
-        ≡ wanted_over block (lent_cells (slots_in slots.now) cells.old) update.now }
-{
-    let slots = slots.as_slice();
-    let lent = SlotCells { cells, slots };
-    let nodes = HeldNodes::new(&lent);
-    let present = ends_in_page(block, &nodes, update);
-    blocks_wanted(block, &nodes, present, update)
-}
-
-/// How many log pages the call takes at most. Where it takes no data they can be counted before.
-fn most_pages(shared: &mut Shared, hand: &Hand, running: &Running, wanted: u64) -> u64
+/// Makes room in the hand for so many data blocks, and for the log pages that the call takes after them.
+fn make_room(
+    shared: &mut Shared,
+    hand: &mut Hand,
+    running: &Running,
+    wanted: u64,
+) -> Result<(), Fault>
     requires limits { IsWithinLimits shared.old.geometry.numbers }
-    requires device { IsOfDevice shared.old.geometry.numbers hand.now }
-    requires sized { IsHandOf shared.old.geometry.numbers hand.now }
-    requires empty { blocks_of hand.now ≡ [] }
+    requires device { IsOfDevice shared.old.geometry.numbers hand.old }
+    requires sized { IsHandOf shared.old.geometry.numbers hand.old }
+    requires empty { blocks_of hand.old ≡ [] }
     requires few { wanted < 2 ^ 32 }
-    requires can { WantsBlocks wanted shared.old hand.now running.now }
+    requires can { WantsBlocks wanted shared.old hand.old running.now }
     ensures same { shared.new ≡ shared.old }
-    ensures none { let slots = slots_in running.now.slots in wanted ≡ 0 → IsChangeWith
-        (λ u. result ≡ pages_to_take shared.old slots hand.now u) running.now.request }
-    ensures some { 0 < wanted → result ≡ wanted + MORE_PAGES }
-{
-    if wanted > 0 {
-        return wanted + MORE_PAGES;
-    }
-    pages_by(shared, hand, running)
-}
-
-/// Makes room in the hand for what is to be taken: for data blocks, and for log pages.
-fn make_room(hand: &mut Hand, blocks: u64, pages: u64) -> Result<(), Fault>
     ensures hand { hand.new ≡ record hand.old {
       «data» = record hand.old.data { room = hand.new.data.room };
       pages = record hand.old.pages { room = hand.new.pages.room };
     } }
-    ensures ok { IfOk result
-        (λ _. (blocks ≤ hand.new.data.room) × (pages ≤ hand.new.pages.room)) }
-    ensures some { OnErr result (0 < blocks + pages) }
+    ensures ok { OnOk result (HasRoomFor wanted shared.old hand.new running.now) }
+    ensures some { let slots = slots_in running.now.slots in OnErr result (wanted ≡ 0
+        → IsChangeWith (λ u. 0 < pages_to_take shared.old slots hand.old u) running.now.request) }
     ensures err { FailsOnly out_of_memory result }
 {
-    hand.data.reserve(blocks)?;
-    hand.pages.reserve(pages)
+    let plan = running.plan();
+    room_in(&mut shared.cells, &running.slots, plan, hand, wanted)
 }
 
 /// The call wants data blocks, and log pages after them. A taking of nothing has no step.
@@ -225,10 +190,7 @@ fn want_blocks(shared: &mut Shared, hand: &Hand, running: &mut Running, wanted: 
     requires sized { IsHandOf shared.old.geometry.numbers hand.now }
     requires call { FitsCall running.old }
     requires empty { blocks_of hand.now ≡ [] }
-    requires room { wanted ≤ hand.now.data.room }
-    requires pages { 0 < wanted → wanted + MORE_PAGES ≤ hand.now.pages.room }
-    requires own { let slots = slots_in running.old.slots in wanted ≡ 0 → IsChangeWith
-        (λ u. pages_to_take shared.old slots hand.now u ≤ hand.now.pages.room) running.old.request }
+    requires room { HasRoomFor wanted shared.old hand.now running.old }
     requires can { WantsBlocks wanted shared.old hand.now running.old }
     ensures turn { (told : GhostCall) → IsGhostCallOf running.old told
         → let s = shared_of shared.old in let h = hand_of hand.now in

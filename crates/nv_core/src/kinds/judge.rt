@@ -7,7 +7,7 @@ ghost use Rattle.nv_base.specs.Memory.{out_of_memory};
 ghost use Rattle.nv_base.specs.Refusals.{FailsOnly};
 ghost use Rattle.nv_clean.specs.Plans.{wanted_of};
 ghost use Rattle.nv_machine.specs.Cleaning.{chosen_turn, inode_turn, is_thorough, judge_turn, thorough_turn};
-ghost use Rattle.nv_machine.specs.PoolScan.{has_inode};
+ghost use Rattle.nv_cell.specs.Readers.{has_inode};
 ghost use Rattle.nv_machine.specs.World.{cell_at};
 ghost use Rattle.nv_core.specs.Cleaning.{HasRoomFor, IsFoundIn, IsMaintaining, IsNoSmaller, compacts};
 ghost use Rattle.nv_core.specs.Parts.{AreHome, IsOfDevice};

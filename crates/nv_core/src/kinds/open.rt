@@ -8,7 +8,7 @@ ghost use Rattle.nv_core.specs.Rooms.{committing_cpu};
 ghost use Rattle.nv_core.specs.Shown.{GhostCall, hand_in, shared_of, shown_commit, slots_in};
 ghost use Rattle.nv_core.specs.GhostCalls.{IsCommitOf, IsPlaceOf};
 
-use crate::lent_open::open_in;
+use crate::lent::open_in;
 use crate::running::Running;
 use crate::shared::Shared;
 use nv_calls::{Commit, CommitStep};

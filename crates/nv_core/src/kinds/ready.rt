@@ -1,22 +1,19 @@
 //! All growths of a call, and the bytes of its pages.
 
-ghost use Rattle.std.specs.Prelude.{◌≡◌, ◌≢◌, IfErr, IfOk};
+ghost use Rattle.std.specs.Prelude.{◌≡◌, ◌≢◌};
 ghost use Rattle.nv_base.specs.Limits.{IsWithinLimits};
-ghost use Rattle.nv_base.specs.Memory.{out_of_memory};
-ghost use Rattle.nv_calls.specs.Prepared.{CanReady, HasLogPages, HasNoLessRoom, HaveNoLessRoom, IsReadyBy};
-ghost use Rattle.nv_calls.specs.SlotCells.{lent_cells};
 ghost use Rattle.nv_machine.specs.Kinds.{ready_turn};
 ghost use Rattle.nv_core.specs.Appends.{IsPlacedBy};
 ghost use Rattle.nv_core.specs.Frames.{LeavesCells};
-ghost use Rattle.nv_core.specs.Parts.{AreHome, AreSlots, IsOfDevice};
-ghost use Rattle.nv_core.specs.Readied.{IsFilledBy, planned_by};
+ghost use Rattle.nv_core.specs.Parts.{AreHome, IsOfDevice};
+ghost use Rattle.nv_core.specs.Readied.{planned_by};
 ghost use Rattle.nv_core.specs.Rooms.{HasRooms, HasRoomsAfter};
 ghost use Rattle.nv_core.specs.Shown.{GhostCall, hand_of, held_by, shared_of, shown, shown_by, slots_in, turn_of};
 ghost use Rattle.nv_core.specs.Steps.{CanGetReady};
 ghost use Rattle.nv_core.specs.GhostCalls.{IsEither, IsReservationOf, IsGhostCallOf};
 
 use crate::ending::refuse;
-use crate::lent_ready::ready_in;
+use crate::lent::ready_in;
 use crate::next::Next;
 use crate::request::Request;
 use crate::reservation::Reservation;
@@ -24,8 +21,7 @@ use crate::running::Running;
 use crate::shared::Shared;
 use crate::turn::Turn;
 use nv_alloc::Hand;
-use nv_base::Fault;
-use nv_calls::{LockedSlots, Plan, Ready};
+use nv_calls::Plan;
 use std::alloc::Global;
 use std::mem;
 
@@ -63,42 +59,19 @@ pub(crate) fn ready(
     let Request::Change(plan, text) = mem::replace(&mut running.request, Request::Given) else {
         unreachable!()
     };
-    match ready_of(alloc, shared, &running.slots, plan, hand, text.as_slice()) {
+    let ready = ready_in(
+        alloc,
+        &mut shared.cells,
+        &running.slots,
+        plan,
+        hand,
+        text.as_slice(),
+    );
+    match ready {
         Ok(ready) => (Reservation::Ready(ready), Turn::Moves),
         Err((fault, hand)) => {
             let turn = refuse(shared, &hand, running, fault);
             (Reservation::Hand(hand), turn)
         }
     }
-}
-
-/// The same of a call and its slots. Where a growth is refused, nothing has changed but room.
-fn ready_of(
-    alloc: Global,
-    shared: &mut Shared,
-    slots: &LockedSlots,
-    plan: Plan,
-    hand: Hand,
-    text: &[u8],
-) -> Result<Ready, (Fault, Hand)>
-    requires slots { AreSlots shared.old (slots_in slots.now) }
-    requires can { CanReady (lent_cells (slots_in slots.now) shared.old.cells.items) hand
-        plan.update }
-    requires pages { HasLogPages (lent_cells (slots_in slots.now) shared.old.cells.items) hand
-        plan.update }
-    ensures ok { IfOk result (λ ready. IsReadyBy
-        (lent_cells (slots_in slots.now) shared.old.cells.items) hand plan.update
-        (lent_cells (slots_in slots.now) shared.new.cells.items) ready) }
-    ensures hand { IfOk result (λ ready. IsFilledBy
-        (lent_cells (slots_in slots.now) shared.new.cells.items) text.now plan.update hand
-        ready.hand) }
-    ensures err { IfErr result (λ refused. (refused.0 ≡ out_of_memory)
-        × HasNoLessRoom hand refused.1) }
-    ensures cells { HaveNoLessRoom (lent_cells (slots_in slots.now) shared.old.cells.items)
-        (lent_cells (slots_in slots.now) shared.new.cells.items) }
-    ensures rest { LeavesCells (slots_in slots.now) shared.old shared.new }
-    ensures same { shared_of shared.new ≡ shared_of shared.old }
-    ensures book { shared.new.book ≡ shared.old.book }
-{
-    ready_in(alloc, &mut shared.cells, slots, plan, hand, text)
 }

@@ -8,7 +8,7 @@ ghost use Rattle.nv_core.specs.CommitSteps.{HasStepped, IsAtStep};
 ghost use Rattle.nv_core.specs.Shown.{GhostCall, hand_in, killed_in, shared_of, shown_commit, slots_in};
 ghost use Rattle.nv_core.specs.GhostCalls.{IsCommitOf, IsPlaceOf};
 
-use crate::lent_retire::retire_in;
+use crate::lent::retire_in;
 use crate::running::Running;
 use crate::shared::Shared;
 use nv_calls::{Commit, CommitStep};

@@ -9,8 +9,9 @@ ghost use Rattle.nv_epoch.specs.SnapList.{pins_of};
 ghost use Rattle.nv_machine.specs.Maintenance.{copies_at, pin_turn, seen_on, show_turn, showing_on, unpin_turn, visited};
 ghost use Rattle.nv_machine.specs.World as machine;
 ghost use Rattle.nv_machine.specs.World.{HandState, empty_hand, owner_at};
+ghost use Rattle.nv_reader.specs.Showing.{is_over};
 ghost use Rattle.nv_core.specs.Rooms.{HasRooms, HasRoomsAfter, HasStepRoom, IsShow, IsUnpin};
-ghost use Rattle.nv_core.specs.Shown.{GhostCall, is_over, seen_in, shared_of, showing_in, showing_of, shown, slots_in, snapshot_in, step_on, turn_of};
+ghost use Rattle.nv_core.specs.Shown.{GhostCall, seen_in, shared_of, showing_in, shown, slots_in, snapshot_in, step_on, turn_of};
 ghost use Rattle.nv_core.specs.Steps.{CanShow};
 ghost use Rattle.nv_core.specs.GhostCalls.{IsEither, KeepsRequest};
 
@@ -18,12 +19,12 @@ use crate::next::{Ending, MaintenanceStep, Next};
 use crate::reservation::Reservation;
 use crate::running::Running;
 use crate::shared::Shared;
-use crate::showing::Showing;
 use crate::turn::Turn;
 use nv_alloc::Hand;
 use nv_base::{Epoch, Fault};
 use nv_calls::Answer;
-use nv_entry::{Tree, TreeNode};
+use nv_entry::Tree;
+use nv_reader::Showing;
 use std::alloc::Global;
 use std::mem;
 
@@ -44,19 +45,18 @@ pub(crate) fn pin(alloc: Global, shared: &mut Shared, running: &mut Running, sna
     if let Err(fault) = shared.book.pin(Epoch::new(snapshot)) {
         return Turn::Ends(Err(fault));
     }
-    let showing = Showing::first(alloc, shared.cells.len());
+    let showing = Showing::new(alloc, shared.cells.len());
     running.next = Next::Maintenance(showing_on(snapshot, showing));
     Turn::Moves
 }
 
 /// The next visit, or the end where there is none.
 fn showing_on(snapshot: u64, showing: Showing) -> MaintenanceStep
-    ensures step { step_on result ≡ showing_on snapshot (showing_of showing) }
+    ensures step { step_on result ≡ showing_on snapshot showing }
     ensures room { (shared : Shared) (hand : Hand) → HasStepRoom result shared hand }
 {
     if showing.is_over() {
-        let Showing { seen, .. } = showing;
-        return MaintenanceStep::Unpin(snapshot, seen);
+        return MaintenanceStep::Unpin(snapshot, showing.into_seen());
     }
     MaintenanceStep::Show(snapshot, showing)
 }
@@ -92,7 +92,7 @@ pub(crate) fn show(alloc: Global, shared: &Shared, running: &mut Running) -> Tur
         Ok(showing) => running.next = Next::Maintenance(showing_on(snapshot, showing)),
         Err(fault) => {
             running.ending = Ending::Refuses(fault);
-            running.next = Next::Maintenance(MaintenanceStep::Unpin(snapshot, Vec::new(alloc)));
+            running.next = Next::Maintenance(MaintenanceStep::Unpin(snapshot, Tree::empty(alloc)));
         }
     }
     Turn::Moves
@@ -101,15 +101,13 @@ pub(crate) fn show(alloc: Global, shared: &Shared, running: &mut Running) -> Tur
 /// Makes the next visit of a show.
 fn see(alloc: Global, shared: &Shared, snapshot: u64, showing: Showing) -> Result<Showing, Fault>
     requires can { CanShow shared.now snapshot }
-    requires more { is_over (showing_of showing) ≡ false }
-    ensures ok { IfOk result (λ after. let s = shared_of shared.now in
-        let to = showing_of showing in
-        showing_of after ≡ seen_on (copies_at s snapshot (visited to.visits)) to) }
+    requires more { is_over showing ≡ false }
+    ensures ok { IfOk result (λ after. after
+        ≡ seen_on (copies_at (shared_of shared.now) snapshot (visited showing.visits)) showing) }
     ensures err { FailsOnly out_of_memory result }
 {
-    let handle = showing.visited();
-    let node = shared.node_at(alloc, &handle, Epoch::new(snapshot))?;
-    showing.see(alloc, node)
+    let cell = shared.cell(showing.visited().ino);
+    showing.visit(alloc, cell, Epoch::new(snapshot))
 }
 
 /// Takes the pin off, and answers the nodes that were seen. This is the call's last step.
@@ -133,6 +131,6 @@ pub(crate) fn unpin(shared: &mut Shared, running: &mut Running) -> Turn
     shared.book.unpin(Epoch::new(snapshot));
     match running.ending {
         Ending::Refuses(fault) => Turn::Ends(Err(fault)),
-        _ => Turn::Ends(Ok(Answer::Tree(Tree::from_vec(seen)))),
+        _ => Turn::Ends(Ok(Answer::Tree(seen))),
     }
 }

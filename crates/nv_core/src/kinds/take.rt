@@ -14,7 +14,7 @@ ghost use Rattle.nv_core.specs.Takings.{IsTaken};
 ghost use Rattle.nv_core.specs.GhostCalls.{IsChangeWith, IsGhostCallOf, KeepsRequest};
 
 use crate::ending::refuse;
-use crate::lent_take::pages_in;
+use crate::lent::pages_in;
 use crate::next::{Ending, Next};
 use crate::reservation::Reservation;
 use crate::running::Running;
@@ -50,7 +50,7 @@ pub(crate) fn want_pages(shared: &mut Shared, hand: &Hand, running: &mut Running
 }
 
 /// How many log pages the call wants.
-pub(crate) fn pages_by(shared: &mut Shared, hand: &Hand, running: &Running) -> u64
+fn pages_by(shared: &mut Shared, hand: &Hand, running: &Running) -> u64
     requires limits { IsWithinLimits shared.old.geometry.numbers }
     requires device { IsOfDevice shared.old.geometry.numbers hand.now }
     requires sizes { IsHandOf shared.old.geometry.numbers hand.now }

@@ -5,7 +5,7 @@ use Rattle.nv_core.proofs.kinds.check.want_blocks.Goals as goal
 pub want_pages-requires-clause-can : goal.want_pages-requires-clause-can
 want_pages-requires-clause-can c =
     has_its_blocks c.args.shared.now c.args.hand.now c.args.running.now c.args.wanted c.if-wanted-eq0.true c.requires.empty
-    (c.requires.own c.if-wanted-eq0.true) c.requires.can
+    (c.requires.room.own c.if-wanted-eq0.true) c.requires.can
 
 pub returns-then-wanted-eq0-clause-turn : goal.returns-then-wanted-eq0-clause-turn
 returns-then-wanted-eq0-clause-turn c told is =
@@ -14,4 +14,4 @@ returns-then-wanted-eq0-clause-turn c told is =
 pub returns-clause-rooms : goal.returns-clause-rooms
 returns-clause-rooms c =
     takes_blocks c.args.shared.now c.args.hand.now c.args.running.now c.args.wanted c.requires.limits c.requires.home c.requires.sized
-    c.requires.call c.requires.empty c.requires.room (c.requires.pages (omega (arith, c.if-wanted-eq0.false))) c.requires.can
+    c.requires.call c.requires.empty c.requires.room.blocks (c.requires.room.most (omega (arith, c.if-wanted-eq0.false))) c.requires.can

@@ -2,9 +2,9 @@ use Rattle.std.proofs.Common.{◌≡◌, ◌<◌, ◌≤◌, ◌∙◌, List, ap
 use Rattle.nv_calls.specs.CanCommit.{CanBePublished}
 use Rattle.nv_calls.specs.Cells.{OnlyAt, state_at, value_at}
 use Rattle.nv_calls.specs.Commit.{CommitValue, after_publish, to_publish}
-use Rattle.nv_calls.specs.Retiring.{killed_by, part_in}
+use Rattle.nv_calls.specs.Retiring.{part_in}
 use Rattle.nv_calls.specs.SlotCells.{cell_in, lent_cells}
-use Rattle.nv_cell.specs.Cell.{CellState, CellValue, KeepsAppendRoom, fresh_of, log_of, published}
+use Rattle.nv_cell.specs.Cell.{CellState, CellValue, KeepsAppendRoom, fresh_of, killed_by, log_of, published}
 use Rattle.nv_cell.specs.Effects.{items_of}
 use Rattle.nv_cell.specs.Killed.{AreKilled}
 use Rattle.nv_cell.specs.Weights.{weights_in}

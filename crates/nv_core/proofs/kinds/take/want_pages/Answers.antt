@@ -1,7 +1,7 @@
 use Rattle.std.proofs.Common.{◌≡◌, ℕ, length}
 use Rattle.nv_alloc.specs.declared.hand.Hand.{Hand}
 use Rattle.nv_calls.specs.declared.update.Update.{Update}
-use Rattle.nv_machine.specs.Reads.{has_last_page, pages_wanted, plan_by}
+use Rattle.nv_machine.specs.Reads.{pages_wanted, plan_by}
 use Rattle.nv_core.specs.Rooms.{CanWantPages, HasItsBlocks, HasMade, IsChecked, blocks_to_take, pages_to_take}
 use Rattle.nv_core.specs.Shown.{GhostCall, hand_of, shared_of, shown, slots_in}
 use Rattle.nv_core.specs.GhostCalls.{IsChangeWith, IsGhostCallOf}
@@ -17,8 +17,7 @@ same : (shared : Shared) (hand : Hand) (running : Running) (pages : ℕ) (told :
     pages_wanted s r.slots (plan_by shared.geometry.numbers.block s (hand_of hand) r) ≡ pages
 same shared hand running pages told is can wanted =
     let slots = slots_in running.slots in
-    wanted_same shared slots hand running.looked running.made running.request running.owed told.call
-    (has_last_page shared.geometry.numbers.block (shared_of shared) told.call) pages is
+    wanted_same shared slots hand running.looked running.made running.request running.owed told.call pages is
     (over_all (λ (u : Update). HasMade shared slots hand running.made u × IsChecked shared slots hand running.looked u × HasItsBlocks
     shared slots hand u)
     (λ (u : Update). HasMade shared slots hand running.made u × IsChecked shared slots hand running.looked u) running.request
