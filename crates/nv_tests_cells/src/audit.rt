@@ -1,7 +1,10 @@
 //! The audit: of devices after calls, as they are and with one part of them changed, and of indexes that are made by
 //! hand. Where a growth is refused it is asked again.
 
+mod cells;
 mod indexes;
+mod lists;
+mod shapes;
 
 ghost use Rattle.std.specs.Prelude.{◌≤◌};
 

@@ -3,10 +3,11 @@
 ghost use Rattle.std.specs.Prelude.{◌<◌, ◌≡◌, ◌≤◌, [], IfErr, IfOk, IsTrue, false, length, slice_index_or};
 ghost use Rattle.nv_base.specs.declared.limits.TheConstants.{BLOCK_BYTES};
 ghost use Rattle.nv_book.specs.Book.{after_enter};
-ghost use Rattle.nv_calls.specs.AllCalls.{is_nothing};
+ghost use Rattle.nv_calls.specs.AllCalls.{is_nothing, refusal};
 ghost use Rattle.nv_calls.specs.Cells.{AreCells};
-ghost use Rattle.nv_calls.specs.Nodes.{block_in, has_page_in, nodes_in};
-ghost use Rattle.nv_calls.specs.Updates.{IsPlanOf, blank_call};
+ghost use Rattle.nv_calls.specs.Nodes.{block_in, nodes_in};
+ghost use Rattle.nv_calls.specs.Refusals.{passes};
+ghost use Rattle.nv_calls.specs.Updates.{blank_call};
 
 use crate::compare::{refused_memory, same};
 use crate::conditions::{all_take_commit, can_ready, has_log_pages};
@@ -32,8 +33,8 @@ pub fn checked<C: Cells>(
     requires cells { AreCells (C.cells cells.now) }
     requires some { 0 < length (C.cells cells.now) }
     ensures few_bytes { block_in (C.cells cells.now) ≤ BLOCK_BYTES }
-    ensures plan { let lent = C.cells cells.now in IfOk result (λ plan.
-        IsPlanOf (block_in lent) (nodes_in lent) (has_page_in lent) plan.update plan) }
+    ensures passed { let lent = C.cells cells.now in IfOk result (λ plan.
+        refusal (block_in lent) (nodes_in lent) (blank_call plan.update) ≡ passes) }
 {
     assert!(rt; cells.cell(0).block_bytes() <= BLOCK_BYTES);
     let before = look_all(&HeldNodes::new(cells), &update);
@@ -81,8 +82,8 @@ pub fn committed<C: Cells, S: Source>(
     requires cells { AreCells (C.cells cells.old) }
     requires some { 0 < length (C.cells cells.old) }
     requires few_bytes { block_in (C.cells cells.old) ≤ BLOCK_BYTES }
-    requires plan { let lent = C.cells cells.old in
-        IsPlanOf (block_in lent) (nodes_in lent) (has_page_in lent) plan.update plan }
+    requires passed { let lent = C.cells cells.old in
+        refusal (block_in lent) (nodes_in lent) (blank_call plan.update) ≡ passes }
     requires something { is_nothing (blank_call plan.update) ≡ false }
     ensures given_up { IfErr result (λ _. length (C.cells cells.new) ≡ length (C.cells cells.old)) }
 {

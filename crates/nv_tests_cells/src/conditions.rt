@@ -4,19 +4,20 @@ ghost use Rattle.std.specs.Prelude.{◌≡◌, ◌<◌, ◌≤◌, ◌^◌, ◌&
 ghost use Rattle.std.specs.List.{AllByRecursion};
 ghost use Rattle.std.specs.VecDeque.Iter.{deque_iter_rest};
 ghost use Rattle.nv_base.specs.declared.limits.TheConstants.{BLOCK_BYTES};
-ghost use Rattle.nv_calls.specs.AllCalls.{is_nothing};
+ghost use Rattle.nv_calls.specs.AllCalls.{is_nothing, refusal};
 ghost use Rattle.nv_calls.specs.CanCommit.{TakesCommit};
 ghost use Rattle.nv_calls.specs.Cells.{AreCells, value_at};
 ghost use Rattle.nv_calls.specs.Commit.{stamp_of};
 ghost use Rattle.nv_calls.specs.Nodes.{block_in, cell_of, has_page_in, nodes_in};
 ghost use Rattle.nv_calls.specs.Prepared.{CanReady, HasLogPages, HasNumberFor, IsEmptySlot, IsStill, makes};
-ghost use Rattle.nv_calls.specs.Updates.{IsPlanOf, blank_call};
+ghost use Rattle.nv_calls.specs.Refusals.{passes};
+ghost use Rattle.nv_calls.specs.Updates.{blank_call, blocks_taken};
 
 use nv_alloc::{Block, BlockQueue, Hand};
 use nv_base::limits::NUMBER;
 use nv_base::{BlockNo, Ino};
 use nv_book::Book;
-use nv_calls::{Cells, Plan, Ready, Update, pages_wanted};
+use nv_calls::{Cells, HeldNodes, Plan, Ready, Update, ends_at_check, look_all, pages_wanted};
 use nv_cell::InodeCell;
 use std::collections::vec_deque;
 
@@ -96,13 +97,30 @@ fn has_number<C: Cells>(cells: &C, update: &Update, number: Option<Ino>) -> bool
     }
 }
 
+/// Whether a hand has as many blocks as a call takes.
+fn has_its_blocks<C: Cells>(cells: &C, update: &Update, hand: &Hand) -> bool
+    requires cells { AreCells (C.cells cells.now) }
+    requires some { 0 < length (C.cells cells.now) }
+    requires few_bytes { block_in (C.cells cells.now) ≤ BLOCK_BYTES }
+    ensures { let lent = C.cells cells.now in IsTrue result → length hand.now.data.blocks
+        ≡ blocks_taken (block_in lent) (nodes_in lent) (has_page_in lent) update.now }
+{
+    let block = cells.cell(0).block_bytes();
+    let nodes = HeldNodes::new(cells);
+    let before = look_all(&nodes, update);
+    match ends_at_check(block, &nodes, &before, update, true) {
+        Ok(wanted) => hand.data.len() == wanted,
+        Err(_) => false,
+    }
+}
+
 /// Whether a call that passed its check can be made ready with a hand.
 pub fn can_ready<C: Cells>(cells: &C, plan: &Plan, hand: &Hand) -> bool
     requires cells { AreCells (C.cells cells.now) }
     requires some { 0 < length (C.cells cells.now) }
     requires few_bytes { block_in (C.cells cells.now) ≤ BLOCK_BYTES }
-    requires plan { let lent = C.cells cells.now in
-        IsPlanOf (block_in lent) (nodes_in lent) (has_page_in lent) plan.now.update plan.now }
+    requires passed { let lent = C.cells cells.now in
+        refusal (block_in lent) (nodes_in lent) (blank_call plan.now.update) ≡ passes }
     requires something { is_nothing (blank_call plan.now.update) ≡ false }
     ensures { IsTrue result → CanReady (C.cells cells.now) hand.now plan.now.update }
 {
@@ -110,7 +128,7 @@ pub fn can_ready<C: Cells>(cells: &C, plan: &Plan, hand: &Hand) -> bool
     are_still(cells, block)
         && are_small(&hand.data)
         && hand.data.block_bytes() as u64 == block
-        && hand.data.len() == plan.blocks
+        && has_its_blocks(cells, &plan.update, hand)
         && has_number(cells, &plan.update, hand.ino())
 }
 

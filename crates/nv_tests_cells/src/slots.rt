@@ -13,7 +13,6 @@ use nv_alloc::{BlockQueue, Hand};
 use nv_base::limits::NUMBER;
 use nv_base::{Epoch, Gen, Geometry, Kind, Mode};
 use nv_cell::InodeCell;
-use nv_cell::laws::ready_cells_can_publish;
 use nv_entry::{Entry, Item};
 use nv_scenes::id;
 use std::alloc::Global;
@@ -41,7 +40,6 @@ fn append_first(rt: &impl Abort, cell: &mut InodeCell, hand: &mut Hand) {
     add_page(rt, cell, &mut hand.pages);
     let [item] = items;
     append(rt, cell, item, &mut hand.data);
-    ready_cells_can_publish();
     assert!(rt; cell.version() < NUMBER && cell.tail() < cell.len());
     let _killed = cell.publish();
 }

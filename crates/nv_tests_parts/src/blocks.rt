@@ -273,6 +273,36 @@ fn give_back(rt: &impl Abort, pool: &mut InodePool, ino: Ino) {
     pool.give(ino);
 }
 
+/// Whether a list is that of a CPU of a device.
+fn list_fits(rt: &impl Abort, list: &FreeList, row: Row, cpu: u64, want: bool) {
+    let device = geometry(row).expect(rt, "a geometry");
+    assert!(rt; cpu < device.numbers.cpus);
+    same(rt, list.made_for(&device, cpu), want);
+}
+
+/// Whether a pool is that of a device.
+fn pool_fits(rt: &impl Abort, pool: &InodePool, row: Row, want: bool) {
+    let device = geometry(row).expect(rt, "a geometry");
+    same(rt, pool.made_for(&device), want);
+}
+
+#[test]
+fn lists_and_pools_are_made_for_a_device(rt: HostRuntime) {
+    let list = list_of(&rt, rt.alloc(), 1);
+    list_fits(&rt, &list, DEVICE, 1, true);
+    list_fits(&rt, &list, DEVICE, 0, false);
+    list_fits(&rt, &list, [16, 2, 4, 9, 9, 9, 9], 1, true);
+    list_fits(&rt, &list, [17, 2, 4, 3, 3, 2, 2], 1, false);
+    list_fits(&rt, &list, [16, 4, 4, 3, 3, 2, 2], 2, false);
+    list_fits(&rt, &list, [16, 2, 5, 3, 3, 2, 2], 1, false);
+    list.dismantle();
+    let pool = pool_of(&rt, rt.alloc());
+    pool_fits(&rt, &pool, DEVICE, true);
+    pool_fits(&rt, &pool, [9, 9, 9, 9, 3, 9, 9], true);
+    pool_fits(&rt, &pool, [16, 2, 4, 3, 2, 2, 2], false);
+    pool_fits(&rt, &pool, [16, 2, 4, 3, 4, 2, 2], false);
+}
+
 #[test]
 fn lists_pools_and_hands_cross_threads(rt: HostRuntime) {
     let list = list_of(&rt, rt.alloc(), 0);

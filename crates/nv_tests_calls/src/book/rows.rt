@@ -7,6 +7,7 @@ use nv_base::{CommitNo, Epoch, Fault, Ino, limits};
 use nv_book::{Base, Book, Event, LATEST, Record, Retired};
 use nv_entry::Part;
 use nv_journal::{OldTail, are_distinct};
+use nv_scenes::{Row, geometry};
 use smallvec::{SmallVec, smallvec};
 use std::alloc::Global;
 use std::process::Abort;
@@ -282,6 +283,23 @@ fn opens_the_journal_of_a_cpu(rt: HostRuntime) -> Result<(), Fail> {
     book.close_journal(1);
     assert!(rt; !book.journal(1).is_open());
     Ok(())
+}
+
+/// Whether a book is that of a device.
+fn fits(rt: &impl Abort, book: &Book, row: Row, want: bool) {
+    let device = geometry(row).expect(rt, "a geometry");
+    same(rt, book.made_for(&device), want);
+}
+
+#[test]
+fn a_book_is_made_for_a_device(rt: HostRuntime) {
+    let mut book = new_book(&rt, rt.alloc());
+    makes(&rt, &mut book, Ok(Epoch::new(1)));
+    fits(&rt, &book, [16, 2, 4, 4, 8, 4, 3], true);
+    fits(&rt, &book, [9, 2, 9, 9, 9, 4, 9], true);
+    fits(&rt, &book, [16, 3, 4, 4, 8, 4, 3], false);
+    fits(&rt, &book, [16, 2, 4, 4, 8, 3, 3], false);
+    fits(&rt, &book, [16, 2, 4, 4, 8, 5, 3], false);
 }
 
 #[test]

@@ -5,8 +5,8 @@ use super::refusals::known;
 use super::says::{Says, update};
 use crate::compare::{holds_for, same, same_for};
 use Says::{Create, Mkdir, Rename, Rmdir, Unlink};
-use nv_base::{Fault, Ino};
-use nv_calls::{LookupResult, Update, found, is_as_looked, laws, look, look_all, place_in};
+use nv_base::Fault;
+use nv_calls::{LookupResult, Update, found, is_as_looked, laws, look, look_all};
 use nv_scenes::handle;
 use std::process::Abort;
 use std::test::Fail;
@@ -66,11 +66,6 @@ fn a_look_is_refused(rt: HostRuntime) -> Result<(), Fail> {
     same(&rt, look(&nodes, &handle(0), b"f"), Ok(Some(handle(3))));
     same(&rt, found(&nodes, &handle(0), b"."), None);
     Ok(())
-}
-
-#[test]
-fn nothing_stands_before_the_first_entry(rt: HostRuntime) {
-    same(&rt, place_in(&[], Ino::new(7)), 0);
 }
 
 #[test]

@@ -1,12 +1,18 @@
 //! The order in which calls are refused.
 
+ghost use Rattle.std.specs.Prelude.{◌≡◌, ◌<◌, ◌≤◌, IfOk};
+ghost use Rattle.nv_base.specs.declared.limits.TheConstants.{BLOCK_BYTES};
+ghost use Rattle.nv_calls.specs.AllCalls.{refusal};
+ghost use Rattle.nv_calls.specs.Refusals.{passes};
+ghost use Rattle.nv_calls.specs.Updates.{blank_call, blocks_taken};
+
 use super::known::{Known, KnownNode};
 use super::says::{Says, update};
 use crate::compare::{holds_for, same_for};
 use Says::{Create, List, Lookup, Mkdir, Mode, Read, Rename, Rmdir, Size, Stat, Unlink, Write};
 use nv_base::{Bytes, Fault, Kind, Name};
 use nv_calls::{
-    Nodes, Update, calls, check, check_early, check_late, check_look, look_all, plan_of,
+    CheckEnd, Nodes, Update, calls, check_early, check_late, check_look, ends_at_check, look_all,
 };
 use nv_entry::{BoundName, NameList, NodeCopy};
 use nv_scenes::handle;
@@ -147,9 +153,25 @@ pub fn known(alloc: Global) -> Result<Known, Fail> {
 }
 
 /// The check in its parts: before names are compared with what the looks found, and behind it.
-fn in_parts(nodes: &Known, call: &Update) -> Result<(), Fault> {
+pub fn in_parts<N: Nodes>(block: u64, nodes: &N, call: &Update) -> Result<u64, Fault>
+    requires some_bytes { 0 < block }
+    requires few_bytes { block ≤ BLOCK_BYTES }
+    ensures passed { IfOk result (λ _.
+        refusal block (N.nodes_of nodes.now) (blank_call call.now) ≡ passes) }
+    ensures wanted { IfOk result (λ n. n
+        ≡ blocks_taken block (N.nodes_of nodes.now) (N.has_page nodes.now) call.now) }
+{
     check_early(nodes, call)?;
-    check_late(BLOCK, nodes, &look_all(nodes, call), call)
+    check_late(block, nodes, &look_all(nodes, call), call)
+}
+
+/// Why the check refuses a call that has a number for a new inode.
+fn refused(nodes: &Known, call: &Update) -> Option<Fault> {
+    match ends_at_check(BLOCK, nodes, &look_all(nodes, call), call, true) {
+        Err(CheckEnd::Refuses(fault)) => Some(fault),
+        Err(CheckEnd::Overtaken) => Some(Fault::Contended),
+        Err(CheckEnd::Answers) | Ok(_) => None,
+    }
 }
 
 /// The check of a call that only reads.
@@ -186,12 +208,11 @@ fn is_refused(
         return Ok(());
     }
     let call = update(alloc, says)?;
-    let found = check(BLOCK, nodes, &call).err();
-    same_for(rt, &row, in_parts(nodes, &call).err(), found);
+    let found = refused(nodes, &call);
+    same_for(rt, &row, in_parts(BLOCK, nodes, &call).err(), found);
     // what a look refuses, the check refuses alike
     let at_look = check_look(nodes, &call).err();
     holds_for(rt, row, at_look.is_none() || at_look == found);
-    same_for(rt, &row, plan_of(BLOCK, nodes, call).err(), found);
     same_for(rt, &row, found, wanted);
     Ok(())
 }

@@ -3,13 +3,13 @@
 ghost use Rattle.std.specs.Prelude.{◌≡◌, IfOk};
 
 use super::known::{Known, KnownNode};
-use super::refusals::of_a_read;
+use super::refusals::{in_parts, of_a_read};
 use super::says::{Says, update};
 use crate::compare::same_for;
 use nv_base::{BlockNo, Epoch, Fault, Handle, Ino, Items};
 use nv_calls::{
-    Allocation, InodePlan, InodePlans, Plan, Update, blocks_wanted, check, ends_in_page,
-    plan_items, plan_of, runs_of,
+    Allocation, CheckEnd, InodePlan, InodePlans, Update, ends_at_check, look_all, plan_items,
+    runs_of,
 };
 use nv_entry::{Entry, Item, When, node_when, page_source};
 use nv_scenes::logs::{Device, Says as LogSays, log_of};
@@ -81,34 +81,31 @@ impl World {
         row: &Row,
     ) -> Result<(), Fail> {
         let (says, epoch, blocks, wanted) = *row;
-        let (outcome, plan) = self.outcome(rt, alloc, says)?;
+        let outcome = self.outcome(rt, alloc, says)?;
         same_for(rt, &number, outcome, wanted);
-        let Some(plan) = plan else {
+        if outcome != Outcome::Commits {
             return Ok(());
-        };
-        same_for(rt, &number, plan.blocks, blocks.len() as u64);
-        let planned = self.planned(rt, alloc, &plan.update, blocks)?;
+        }
+        let planned = self.planned(rt, alloc, &update(alloc, says)?, blocks)?;
         self.fill(rt, alloc, says, blocks)?;
         self.append(alloc, planned, epoch)?;
         self.read_all(rt, alloc)
     }
 
-    /// What a call comes to, and its plan where it commits.
-    fn outcome(
-        &self,
-        rt: &impl Abort,
-        alloc: Global,
-        says: Says,
-    ) -> Result<(Outcome, Option<Plan>), Fail> {
+    /// What a call comes to.
+    fn outcome(&self, rt: &impl Abort, alloc: Global, says: Says) -> Result<Outcome, Fail> {
         if let Some(found) = of_a_read(&self.nodes, says) {
-            return Ok((of_a_check(found), None));
+            return Ok(of_a_check(found));
         }
         let block = self.block;
         assert!(rt; 0 < block && block <= 4_096);
-        match plan_of(block, &self.nodes, update(alloc, says)?) {
-            Ok(plan) if plan.nothing() => Ok((Outcome::Nothing, None)),
-            Ok(plan) => Ok((Outcome::Commits, Some(plan))),
-            Err(fault) => Ok((Outcome::Refused(fault), None)),
+        let call = update(alloc, says)?;
+        let before = look_all(&self.nodes, &call);
+        match ends_at_check(block, &self.nodes, &before, &call, true) {
+            Ok(_) => Ok(Outcome::Commits),
+            Err(CheckEnd::Answers) => Ok(Outcome::Nothing),
+            Err(CheckEnd::Refuses(fault)) => Ok(Outcome::Refused(fault)),
+            Err(CheckEnd::Overtaken) => Err("names that were not bound anew")?,
         }
     }
 
@@ -123,17 +120,12 @@ impl World {
         let block = self.block;
         assert!(rt; 0 < block && block <= 4_096);
         assert!(rt; blocks.len() < 100);
-        if let Err(_) = check(block, &self.nodes, call) {
-            return Err("a call that is not refused")?;
-        }
-        let present = ends_in_page(block, &self.nodes, call);
-        let wanted = blocks_wanted(block, &self.nodes, present, call);
+        let wanted = in_parts(block, &self.nodes, call)?;
         assert!(rt; wanted == blocks.len() as u64);
         let numbers = numbers(alloc, blocks)?;
         let taken = Allocation {
             made: handle(self.logs.len() as u64),
             runs: Items::from_vec(runs_of(alloc, &numbers)?),
-            present,
         };
         match plan_items(alloc, block, &self.nodes, &taken, call) {
             Ok(planned) => Ok(planned),

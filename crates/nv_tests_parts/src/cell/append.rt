@@ -14,7 +14,6 @@ use crate::compare::{refused_memory, same};
 use nv_alloc::BlockQueue;
 use nv_base::limits::NUMBER;
 use nv_base::{EntryId, Epoch};
-use nv_cell::laws::ready_cells_can_publish;
 use nv_cell::{InodeCell, KilledPart, Stat};
 use nv_entry::{BlockRun, Entry, Item, Key};
 use std::process::Abort;
@@ -32,7 +31,6 @@ pub fn commit(
 ) -> Vec<KilledPart> {
     make_ready(rt, cell, &items);
     append_all(rt, cell, device, at, items);
-    ready_cells_can_publish();
     assert!(rt; cell.version() < NUMBER);
     assert!(rt; cell.tail() < cell.len());
     cell.publish()

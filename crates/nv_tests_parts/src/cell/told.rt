@@ -5,7 +5,7 @@ use crate::compare::{refused_memory, same, same_for};
 use nv_base::{Bytes, Fault, Gen};
 use nv_cell::{InodeCell, LogPageCounts, Stat};
 use nv_entry::NameList;
-use nv_scenes::handle;
+use nv_scenes::{Row, geometry, handle};
 use std::process::Abort;
 
 /// Reads, and asserts that no more entries were read than pages.
@@ -96,4 +96,20 @@ pub fn is_empty(rt: &impl Abort, cell: &InodeCell) {
     tells(rt, cell, None);
     reads(rt, cell, b"");
     has_names(rt, cell, &[]);
+}
+
+/// Whether a cell has the sizes of a device.
+fn fits(rt: &impl Abort, cell: &InodeCell, row: Row, want: bool) {
+    let device = geometry(row).expect(rt, "a geometry");
+    same(rt, cell.made_for(&device), want);
+}
+
+#[test]
+fn a_cell_is_made_for_a_device(rt: HostRuntime) {
+    let cell = InodeCell::new(rt.alloc(), BLOCK, 3, Gen::new(1), 0);
+    fits(&rt, &cell, [16, 2, BLOCK, 3, 3, 2, 2], true);
+    fits(&rt, &cell, [9, 9, BLOCK, 3, 9, 9, 9], true);
+    fits(&rt, &cell, [16, 2, BLOCK + 1, 3, 3, 2, 2], false);
+    fits(&rt, &cell, [16, 2, BLOCK, 4, 3, 2, 2], false);
+    cell.dismantle();
 }

@@ -7,10 +7,10 @@ use crate::cell::entries::Says;
 use crate::cell::scene::Scene;
 use crate::compare::{refused_memory, same, same_for};
 use Says::{Bind, BindTo, Directory, File, Gone, Mode, Unbind, Write};
-use nv_base::{Epoch, Kind};
+use nv_base::{Epoch, Fault, Kind};
 use nv_cell::InodeCell;
-use nv_entry::{NodeCopy, TreeNode};
-use nv_reader::Walk;
+use nv_entry::{NodeCopy, Tree, TreeNode};
+use nv_reader::{Showing, Walk};
 use nv_scenes::{handle_of, id};
 use std::alloc::Global;
 use std::process::Abort;
@@ -321,6 +321,68 @@ fn trees(rt: HostRuntime) {
         let cells = Cells::new(&rt, alloc, world.slots);
         for (when, visits) in world.trees {
             has_tree(&rt, alloc, &cells, when, visits);
+        }
+        cells.dismantle();
+    }
+}
+
+/// Shows a tree at the end of an epoch, in which these are the visits.
+fn shown(
+    rt: &impl Abort,
+    alloc: Global,
+    cells: &Cells,
+    epoch: u64,
+    visits: &[Visit],
+) -> Result<Tree, Fault> {
+    let mut showing = Showing::new(alloc, 3);
+    for row in visits {
+        let ((ino, generation), _, _) = *row;
+        if showing.is_over() {
+            panic!(rt; "{row:?} is to come")
+        }
+        same_for(rt, row, showing.visited(), handle_of(ino, generation));
+        let cell = match cells.cell(ino, NONE_NOTED) {
+            Some((cell, _)) => Some(cell),
+            None => None,
+        };
+        showing = showing.visit(alloc, cell, Epoch::new(epoch))?;
+    }
+    same(rt, showing.is_over(), true);
+    Ok(showing.into_seen())
+}
+
+/// These are the nodes that a show has seen.
+fn are_seen(rt: &impl Abort, tree: Tree, visits: &[Visit]) {
+    let mut seen = tree.into_vec();
+    seen.reverse();
+    for row in visits {
+        let (_, _, found) = *row;
+        let given = match found {
+            VisitResult::Nothing => None,
+            _ => seen.pop(),
+        };
+        is_found(rt, row, given);
+    }
+    same(rt, seen.len(), 0);
+}
+
+#[test]
+fn shows(rt: HostRuntime) {
+    let alloc = rt.alloc();
+    for world in WORLDS {
+        let cells = Cells::new(&rt, alloc, world.slots);
+        for (when, visits) in world.trees {
+            let When::At(epoch) = *when else {
+                continue;
+            };
+            let tree = match shown(&rt, alloc, &cells, epoch, visits) {
+                Ok(tree) => tree,
+                Err(fault) => {
+                    refused_memory(&rt, fault);
+                    shown(&rt, alloc, &cells, epoch, visits).expect(&rt, "memory for a show")
+                }
+            };
+            are_seen(&rt, tree, visits);
         }
         cells.dismantle();
     }
