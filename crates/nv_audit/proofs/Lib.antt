@@ -1,5 +1,6 @@
 pub mod BoundNames
 pub mod Apart
+pub mod AtRest
 pub mod Counting
 pub mod CutPages
 pub mod DeviceParts
@@ -7,8 +8,11 @@ pub mod Devices
 pub mod Differs
 pub mod EachOnce
 pub mod LogShapes
+pub mod GatheredParts
+pub mod Holding
 pub mod Loops
 pub mod Marks
+pub mod NumberedPairs
 pub mod PageEntries
 pub mod Pages
 pub mod PartBlocks
@@ -17,8 +21,11 @@ pub mod PartNames
 pub mod Pools
 pub mod Pushing
 pub mod Reaching
+pub mod FirstAtRest
 pub mod States
+pub mod TakenAway
 pub mod TreeNames
 pub mod SizeEnds
+pub mod SlotRecords
 pub mod SoundCells
 pub mod Trees

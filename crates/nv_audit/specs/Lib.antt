@@ -1,7 +1,9 @@
+pub mod AtRest
 pub mod Blocks
 pub mod Counts
 pub mod DeviceParts
 pub mod Index
+pub mod KeptParts
 pub mod Lists
 pub mod LogShape
 pub mod Names
@@ -10,6 +12,7 @@ pub mod PartLists
 pub mod Pending
 pub mod Pool
 pub mod Records
+pub mod Resting
 pub mod Sound
 pub mod Tree
 pub mod Whole

@@ -1,7 +1,10 @@
 -- Lists of parts of all inodes.
-use Rattle.std.specs.Prelude.{◌≡◌, ℕ, ◌==◌, ◌&&◌, Bool, List, All, count_by}
+use Rattle.std.specs.Prelude.{◌≡◌, ℕ, ◌==◌, ◌&&◌, Bool, List, count_by}
 use Rattle.nv_base.specs.Ids.{is_same_id}
+use Rattle.nv_base.specs.declared.numbers.EntryId.{EntryId}
 use Rattle.nv_entry.specs.Held.{same_part}
+use Rattle.nv_entry.specs.declared.part.Part.{Part}
+use Rattle.nv_entry.specs.declared.part.Part.TheVariants as part
 use Rattle.nv_audit.specs.declared.part_list.InodePart.{InodePart}
 
 -- the second part is the first
@@ -16,6 +19,16 @@ times part parts = count_by (is_same part) parts
 abbrev pub HaveSameParts : List InodePart → List InodePart → Type 0
 HaveSameParts one other = (part : InodePart) → times part one ≡ times part other
 
--- the same for some parts alone
-abbrev pub HaveSameOf : List InodePart → List InodePart → List InodePart → Type 0
-HaveSameOf parts one other = All (λ part. times part one ≡ times part other) parts
+-- ---- the order of parts
+
+-- where a key stands among the keys of an entry
+abbrev pub place_of : Part → ℕ × ℕ
+place_of part.Kind = (0, 0)
+place_of part.Mode = (1, 0)
+place_of part.Size = (2, 0)
+place_of part.Bound = (3, 0)
+place_of (part.Page page) = (4, page)
+
+-- parts stand by inode, by entry, and within one entry by their keys
+abbrev pub order_of : InodePart → ℕ × EntryId × (ℕ × ℕ)
+order_of of = (of.ino, of.part.entry, place_of of.part.part)

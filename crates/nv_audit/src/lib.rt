@@ -5,11 +5,13 @@
 //! read the entries of the logs alone; of the parts that they judge they take no more than what these show.
 #![tactic(auto)]
 
+mod at_rest;
 mod audited;
 mod blocks;
 mod counts;
 mod device_parts;
 mod index;
+mod kept_parts;
 pub mod laws;
 mod lists;
 mod log_shape;
@@ -20,15 +22,19 @@ mod parts;
 mod pending;
 mod pool;
 mod records;
+mod resting;
+mod slot_records;
 mod sound;
 mod tree;
 mod whole;
 
+pub use at_rest::{has_none_killed, is_at_rest, is_up_to};
 pub use audited::Audited;
 pub use blocks::is_each_block_once;
 pub use counts::are_counted;
 pub use device_parts::{are_lists_of, are_slots_of, is_slot_of};
 pub use index::{are_pages_of, is_part_of};
+pub use kept_parts::are_records_of;
 pub use lists::are_free;
 pub use log_shape::{
     are_lawful_from, are_lawful_from_some, are_no_later, is_gone_last, is_left_shaped, is_shaped,
@@ -39,6 +45,8 @@ pub use part_list::InodePart;
 pub use pending::{InHands, pending_of};
 pub use pool::is_pool_of;
 pub use records::are_recorded;
+pub use resting::rest_differs;
+pub use slot_records::are_all_records_of;
 pub use sound::{are_blocks_apart, ends_at_size, ends_at_tail};
 pub use tree::{NamedNode, form_a_tree};
 pub use whole::audit;

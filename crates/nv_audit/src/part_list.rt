@@ -1,10 +1,10 @@
 //! Lists of parts of all inodes.
 
 ghost use Rattle.std.specs.Prelude.{◌≡◌, ◌↔◌, IsTrue};
-ghost use Rattle.nv_audit.specs.PartLists.{HaveSameParts, HaveSameOf, is_same, times};
+ghost use Rattle.nv_audit.specs.PartLists.{HaveSameParts, order_of, place_of};
 
-use nv_base::Ino;
-use nv_entry::PartId;
+use nv_base::{EntryId, Ino};
+use nv_entry::{Part, PartId};
 
 /// A part of the log of an inode.
 #[derive(Clone, Copy, Debug, PartialEq, Eq)]
@@ -14,44 +14,33 @@ pub struct InodePart {
 }
 
 impl InodePart {
-    fn is(&self, other: &InodePart) -> bool
-        ensures { result ≡ is_same other.now self.now }
+    /// Where this part stands in a sorted list: by inode, by entry, and within one entry by its key. No two parts stand
+    /// at one place.
+    fn order(&self) -> (Ino, EntryId, (u32, u32))
+        ensures { result ≡ order_of self.now }
     {
-        self.ino == other.ino
-            && self.part.entry == other.part.entry
-            && self.part.part == other.part.part
+        (self.ino, self.part.entry, place_of(self.part.part))
     }
 }
 
-/// Whether each part stands in one list as often as in the other. Costs the product of their lengths.
-pub(crate) fn have_same_parts(one: &[InodePart], other: &[InodePart]) -> bool
-    ensures { IsTrue result ↔ HaveSameParts one.now other.now }
+/// Where a key stands among the keys of an entry: the number of its kind, and for a page the page's number.
+fn place_of(part: Part) -> (u32, u32)
+    ensures { result ≡ place_of part }
 {
-    have_same_of(one, one, other) && have_same_of(other, one, other)
-}
-
-/// Whether each of some parts stands in one list as often as in the other.
-fn have_same_of(parts: &[InodePart], one: &[InodePart], other: &[InodePart]) -> bool
-    ensures { IsTrue result ↔ HaveSameOf parts.now one.now other.now }
-{
-    for part in parts {
-        if !is_alike(part, one, other) {
-            return false;
-        }
+    match part {
+        Part::Kind => (0, 0),
+        Part::Mode => (1, 0),
+        Part::Size => (2, 0),
+        Part::Bound => (3, 0),
+        Part::Page(page) => (4, page),
     }
-    true
 }
 
-/// Whether a part stands in one list as often as in the other.
-fn is_alike(part: &InodePart, one: &[InodePart], other: &[InodePart]) -> bool
-    ensures { IsTrue result ↔ (times part.now one.now ≡ times part.now other.now) }
+/// Whether each part stands in one list as often as in the other. Costs their lengths, times a logarithm.
+pub(crate) fn have_same_parts(mut one: Vec<InodePart>, mut other: Vec<InodePart>) -> bool
+    ensures { IsTrue result ↔ HaveSameParts one.items other.items }
 {
-    times(part, one) == times(part, other)
-}
-
-/// How often a part stands in a list.
-fn times(part: &InodePart, parts: &[InodePart]) -> usize
-    ensures { result ≡ times part.now parts.now }
-{
-    parts.iter().filter(|other| other.is(part)).count()
+    one.sort_unstable_by_key(|part| part.order());
+    other.sort_unstable_by_key(|part| part.order());
+    one == other
 }

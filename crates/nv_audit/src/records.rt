@@ -16,8 +16,9 @@ use nv_entry::{Entry, Pair, PartId};
 use std::alloc::{AllocError, Global};
 
 /// Whether for each living snapshot the recorded parts that it holds are those that the logs say: of the pairs that it
-/// holds those that are neither current nor in a hand. Costs for each snapshot one pass over all records, for each part
-/// of each log a walk over the entries behind it, and the square of the parts that the snapshot holds.
+/// holds those that are neither current nor in a hand. Costs for each snapshot one pass over all records, for each inode
+/// one over the parts in hands, for each part of each log a walk over the entries behind it, and the number of the parts
+/// that the snapshot holds, times a logarithm.
 pub fn are_recorded(
     alloc: Global,
     cells: &[InodeCell],
@@ -66,7 +67,7 @@ fn is_recorded(
 {
     let recorded = recorded_as(alloc, book, snapshot)?;
     let owed = owed_to(alloc, cells, in_hands, snapshot)?;
-    Ok(have_same_parts(&recorded, &owed))
+    Ok(have_same_parts(recorded, owed))
 }
 
 /// The recorded parts that a snapshot holds, by the records.

@@ -121,30 +121,50 @@ fn inode_differs(
         × (¬ IsCountedBy snapshots.now deferred.now in_hands.now ino cell.now.state))) }
     ensures err { FailsOnly out_of_memory result }
 {
+    if !is_indexed(cell) {
+        return Ok(Some(MismatchPart::Index));
+    }
+    if !are_names_of(cell.log().log(), cell.name_index()) {
+        return Ok(Some(MismatchPart::Names));
+    }
+    counts_differ(alloc, ino, cell, snapshots, deferred, in_hands)
+}
+
+/// `Counts` where the counts of an inode differ. It costs what [`are_counted`] does, and a pass over the deferred
+/// records and the parts in hands.
+pub(crate) fn counts_differ(
+    alloc: Global,
+    ino: Ino,
+    cell: &InodeCell,
+    snapshots: &[Epoch],
+    deferred: &[Record],
+    in_hands: &[InodePart],
+) -> Result<Option<MismatchPart>, Fault>
+    ensures ok { IfOk result (λ part. MatchOption part
+        (IsCountedBy snapshots.now deferred.now in_hands.now ino cell.now.state)
+        (λ part. (part ≡ Counts)
+        × (¬ IsCountedBy snapshots.now deferred.now in_hands.now ino cell.now.state))) }
+    ensures err { FailsOnly out_of_memory result }
+{
     let pending = pending_of(alloc, ino, deferred, in_hands)?;
     let retention = Retention {
         block: cell.block_bytes(),
         snapshots,
         pending: &pending,
     };
-    Ok(cell_differs(cell, &retention))
+    Ok(miscounted(cell, &retention))
 }
 
-/// The same for a cell whose pairs are kept so.
-fn cell_differs(cell: &InodeCell, retention: &Retention<'_>) -> Option<MismatchPart>
+/// The same where its pairs are kept so.
+fn miscounted(cell: &InodeCell, retention: &Retention<'_>) -> Option<MismatchPart>
     ensures { MatchOption result (AreCounted (retention_of retention.now) cell.now.state)
         (λ part. (part ≡ Counts) × (¬ AreCounted (retention_of retention.now) cell.now.state)) }
 {
-    if !is_indexed(cell) {
-        return Some(MismatchPart::Index);
+    if are_counted(retention, cell) {
+        None
+    } else {
+        Some(MismatchPart::Counts)
     }
-    if !are_names_of(cell.log().log(), cell.name_index()) {
-        return Some(MismatchPart::Names);
-    }
-    if !are_counted(retention, cell) {
-        return Some(MismatchPart::Counts);
-    }
-    None
 }
 
 /// Whether the index of a cell is the scan of its log, as it is at all times.

@@ -1,0 +1,37 @@
+-- What is at rest between two calls: the book, and each cell beside it.
+use Rattle.std.specs.Prelude.{◌≡◌, ℕ, ◌≤◌, false, [], List, All}
+use Rattle.nv_base.specs.declared.limits.TheConstants.{NUMBER}
+use Rattle.nv_book.specs.Book.{BookState}
+use Rattle.nv_book.specs.Manifests.{AreDead, AreFiled}
+use Rattle.nv_cell.specs.Cell.{CellState, log_of}
+use Rattle.nv_cell.specs.Marks.{is_killed, mark_at}
+use Rattle.nv_epoch.specs.SnapList.{IsSound, ids}
+use Rattle.nv_epoch.specs.declared.snapshot.Snapshot.{Snapshot}
+use Rattle.nv_journal.specs.declared.old_tail.OldTail.{OldTail}
+use Rattle.nv_audit.specs.LogShape.{AreNoLater}
+
+-- no journal has noted anything
+abbrev pub AreAllClosed : List (List OldTail) → Type 0
+AreAllClosed journals = All (λ (tails : List OldTail). tails ≡ []) journals
+
+-- A BOOK AT REST: no snapshot is pinned, and no journal is open
+pub record IsAtRest (book : BookState) : Type 0 where
+  pub unpinned : All (λ (s : Snapshot). s.pins ≡ 0) book.snaps.living
+  pub closed : AreAllClosed book.journals
+
+-- no part is marked killed
+abbrev pub HasNoneKilled : CellState → Type 0
+HasNoneKilled cell = (n : ℕ) → is_killed (mark_at cell.marks n) ≡ false
+
+-- a cell has seen no more commits, and no entry of its log is of a later commit or epoch
+pub record IsUpTo (commit epoch : ℕ) (cell : CellState) : Type 0 where
+  pub version : cell.version ≤ commit
+  pub entries : AreNoLater commit epoch (log_of cell)
+
+-- A BOOK IS ONE, as each is at all times: its snapshots are of earlier epochs, each record stands with its youngest
+-- living holder, and its commits are not past the last
+pub record IsOneBook (book : BookState) : Type 0 where
+  pub snaps : IsSound book.snaps
+  pub filed : AreFiled (ids book.snaps) book.manifests book.deferred
+  pub dead : AreDead book.snaps.epoch book.manifests book.deferred
+  pub commit : book.commit ≤ NUMBER

@@ -1,0 +1,273 @@
+//! The parts of a device at rest, and the first of them that differs.
+
+ghost use Rattle.std.specs.Prelude.{◌≡◌, ◌↔◌, ◌<◌, ℕ, [], All, IfOk, IsTrue, MatchOption};
+ghost use Rattle.nv_base.specs.Refusals.{FailsOnly};
+ghost use Rattle.nv_base.specs.Memory.{out_of_memory};
+ghost use Rattle.nv_cell.specs.Cell.{CellValue};
+ghost use Rattle.nv_epoch.specs.SnapList.{ids};
+ghost use Rattle.nv_audit.specs.AtRest.{IsOneBook};
+ghost use Rattle.nv_audit.specs.Nodes.{AreTrees};
+ghost use Rattle.nv_audit.specs.Records.{states_of};
+ghost use Rattle.nv_audit.specs.Resting.{AreAtRest, AreInodesAtRest, HasIndex, HasShape, HaveLists, HaveRecords, IsFirstAtRest, IsFirstOfInode, IsFirstOfInodes, IsInodeAtRest, IsOfPast};
+
+use crate::pending::{listed, living};
+use crate::whole::counts_differ;
+use crate::{
+    InHands, InodePart, are_all_records_of, are_blocks_apart, are_lists_of, are_recorded,
+    are_slots_of, ends_at_size, ends_at_tail, form_trees, has_none_killed, is_at_rest,
+    is_each_block_once, is_left_shaped, is_pool_of, is_up_to,
+};
+use nv_alloc::{FreeList, InodePool};
+use nv_base::{Epoch, Fault, Geometry, Ino, MismatchPart};
+use nv_book::{Book, Record};
+use nv_cell::InodeCell;
+use std::alloc::Global;
+
+/// The first part of a device at rest that differs, if one does: inode by inode the index, the names and the counts, then
+/// the names of all directories, the records and the lists. The only error is `OutOfMemory`. It costs what the questions
+/// cost that it asks.
+pub fn rest_differs(
+    alloc: Global,
+    geometry: &Geometry,
+    cells: &[InodeCell],
+    lists: &[FreeList],
+    pool: &InodePool,
+    book: &Book,
+) -> Result<Option<MismatchPart>, Fault>
+    ensures ok { IfOk result (λ part. MatchOption part
+        (AreAtRest geometry.now.numbers (states_of cells.now) lists.now pool.now book.now.state)
+        (λ part. IsFirstAtRest part geometry.now.numbers (states_of cells.now)
+        lists.now pool.now book.now.state)) }
+    ensures err { FailsOnly out_of_memory result }
+{
+    let hands = no_hands(alloc);
+    let differs = inodes_differ(alloc, cells, book, &hands)?;
+    if differs.is_some() {
+        return Ok(differs);
+    }
+    let trees = have_trees(alloc, cells, book)?;
+    if !trees {
+        return Ok(Some(MismatchPart::Names));
+    }
+    let records = have_records(alloc, cells, book, &hands)?;
+    if !records {
+        return Ok(Some(MismatchPart::Records));
+    }
+    let parts = have_lists(alloc, geometry, cells, lists, pool, book)?;
+    if !parts {
+        return Ok(Some(MismatchPart::Lists));
+    }
+    Ok(None)
+}
+
+/// The hands of no call.
+fn no_hands(alloc: Global) -> InHands
+    ensures blocks { result.blocks.items ≡ [] }
+    ensures parts { result.parts.items ≡ [] }
+{
+    InHands {
+        blocks: Vec::new(alloc),
+        parts: Vec::new(alloc),
+    }
+}
+
+/// The first part of the first inode that differs.
+fn inodes_differ(
+    alloc: Global,
+    cells: &[InodeCell],
+    book: &Book,
+    hands: &InHands,
+) -> Result<Option<MismatchPart>, Fault>
+    requires { hands.now.parts.items ≡ [] }
+    ensures ok { IfOk result (λ part. MatchOption part
+        (AreInodesAtRest book.now.state (states_of cells.now))
+        (λ part. IsFirstOfInodes part book.now.state (states_of cells.now))) }
+    ensures err { FailsOnly out_of_memory result }
+{
+    let snapshots = living(alloc, book)?;
+    let deferred = listed(alloc, book.deferred())?;
+    first_at_rest(alloc, cells, book, &snapshots, &deferred, &hands.parts)
+}
+
+/// The same, where these snapshots live, these records are deferred, and nothing is in hands.
+fn first_at_rest(
+    alloc: Global,
+    cells: &[InodeCell],
+    book: &Book,
+    snapshots: &[Epoch],
+    deferred: &[Record],
+    in_hands: &[InodePart],
+) -> Result<Option<MismatchPart>, Fault>
+    requires snapshots { snapshots.now ≡ ids book.now.state.snaps }
+    requires deferred { deferred.now ≡ book.now.state.deferred }
+    requires hands { in_hands.now ≡ [] }
+    ensures ok { IfOk result (λ part. MatchOption part
+        (AreInodesAtRest book.now.state (states_of cells.now))
+        (λ part. IsFirstOfInodes part book.now.state (states_of cells.now))) }
+    ensures err { FailsOnly out_of_memory result }
+{
+    for place in 0..cells.len() {
+        let ino = Ino::new(place as u64);
+        let differs = at_rest_differs(
+            alloc,
+            ino,
+            &cells[place],
+            book,
+            snapshots,
+            deferred,
+            in_hands,
+        )?;
+        if differs.is_some() {
+            return Ok(differs);
+        }
+    }
+    Ok(None)
+}
+
+/// The first part of an inode that differs.
+fn at_rest_differs(
+    alloc: Global,
+    ino: Ino,
+    cell: &InodeCell,
+    book: &Book,
+    snapshots: &[Epoch],
+    deferred: &[Record],
+    in_hands: &[InodePart],
+) -> Result<Option<MismatchPart>, Fault>
+    requires snapshots { snapshots.now ≡ ids book.now.state.snaps }
+    requires deferred { deferred.now ≡ book.now.state.deferred }
+    requires hands { in_hands.now ≡ [] }
+    ensures ok { IfOk result (λ part. MatchOption part
+        (IsInodeAtRest book.now.state ino cell.now.state)
+        (λ part. IsFirstOfInode part book.now.state ino cell.now.state)) }
+    ensures err { FailsOnly out_of_memory result }
+{
+    // Of the book its snapshots and deferred records are given.
+    let _commit = book.commit();
+    let indexed = has_index(alloc, cell)?;
+    if !indexed {
+        return Ok(Some(MismatchPart::Index));
+    }
+    if !has_shape(cell) {
+        return Ok(Some(MismatchPart::Names));
+    }
+    counts_differ(alloc, ino, cell, snapshots, deferred, in_hands)
+}
+
+/// Whether the log of a cell is of its shape.
+fn has_shape(cell: &InodeCell) -> bool
+    ensures { IsTrue result ↔ HasShape cell.now.state }
+{
+    is_left_shaped(cell.block_bytes(), cell.log().log())
+}
+
+/// Whether the directories form a tree now and at each living snapshot.
+fn have_trees(alloc: Global, cells: &[InodeCell], book: &Book) -> Result<bool, Fault>
+    ensures ok { IfOk result (λ trees. IsTrue trees
+        ↔ AreTrees (ids book.now.state.snaps) (states_of cells.now)) }
+    ensures err { FailsOnly out_of_memory result }
+{
+    let snapshots = living(alloc, book)?;
+    form_trees(alloc, &snapshots, cells)
+}
+
+/// Whether a cell has no entry past its tail, no block of two parts, and a file that ends at its size.
+fn has_index(alloc: Global, cell: &InodeCell) -> Result<bool, Fault>
+    ensures ok { IfOk result (λ has. IsTrue has ↔ HasIndex cell.now.state) }
+    ensures err { FailsOnly out_of_memory result }
+{
+    // The cell is one.
+    cell.use_invariant();
+    if !ends_at_tail(cell) {
+        return Ok(false);
+    }
+    if !ends_at_size(cell) {
+        return Ok(false);
+    }
+    let apart = are_blocks_apart(alloc, cell)?;
+    Ok(apart)
+}
+
+/// Whether the book is at rest, no cell is later than it, and its records are those of all cells.
+fn have_records(
+    alloc: Global,
+    cells: &[InodeCell],
+    book: &Book,
+    hands: &InHands,
+) -> Result<bool, Fault>
+    requires { hands.now.parts.items ≡ [] }
+    ensures ok { IfOk result (λ have. IsTrue have
+        ↔ HaveRecords (states_of cells.now) book.now.state) }
+    ensures err { FailsOnly out_of_memory result }
+{
+    use_book(book);
+    if !is_at_rest(book) {
+        return Ok(false);
+    }
+    if !are_all_of_past(cells, book) {
+        return Ok(false);
+    }
+    let kept = are_all_records_of(alloc, book, cells)?;
+    if !kept {
+        return Ok(false);
+    }
+    let scanned = are_recorded(alloc, cells, book, hands)?;
+    Ok(scanned)
+}
+
+/// What holds of each book.
+fn use_book(book: &Book)
+    ensures { IsOneBook book.now.state }
+{
+    // The snapshots tell that their numbers rise and that records are filed, the last commit that it fits.
+    let _epoch = book.snaps().epoch();
+    let _commit = book.commit();
+}
+
+/// Whether no cell has a part that is marked killed, or anything later than the book.
+fn are_all_of_past(cells: &[InodeCell], book: &Book) -> bool
+    ensures { IsTrue result ↔ All (IsOfPast book.now.state) (states_of cells.now) }
+{
+    are_of_past(cells, book)
+}
+
+/// The same, cell by cell.
+fn are_of_past(cells: &[InodeCell], book: &Book) -> bool
+    ensures { IsTrue result ↔ All (λ (c : CellValue). IsOfPast book.now.state c.state) cells.now }
+{
+    for cell in cells {
+        if !is_of_past(cell, book) {
+            return false;
+        }
+    }
+    true
+}
+
+fn is_of_past(cell: &InodeCell, book: &Book) -> bool
+    ensures { IsTrue result ↔ IsOfPast book.now.state cell.now.state }
+{
+    has_none_killed(cell) && is_up_to(book.commit(), book.epoch(), cell)
+}
+
+/// Whether each part was made for the device at its place, and each block stands once.
+fn have_lists(
+    alloc: Global,
+    geometry: &Geometry,
+    cells: &[InodeCell],
+    lists: &[FreeList],
+    pool: &InodePool,
+    book: &Book,
+) -> Result<bool, Fault>
+    ensures ok { IfOk result (λ have. IsTrue have ↔ HaveLists geometry.now.numbers
+        (states_of cells.now) lists.now pool.now book.now.state) }
+    ensures err { FailsOnly out_of_memory result }
+{
+    let once = is_each_block_once(alloc, geometry, lists, cells)?;
+    Ok(
+        book.made_for(geometry)
+            && are_lists_of(geometry, lists)
+            && are_slots_of(geometry, cells)
+            && is_pool_of(geometry, cells, pool)
+            && once,
+    )
+}
