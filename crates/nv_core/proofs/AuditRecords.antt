@@ -56,7 +56,7 @@ use Rattle.nv_core.proofs.AuditNamed.{hands_so, in_killed, in_record}
 -- ---- by the records, and by the logs
 
 module _ (s : ℕ) (p : InodePart) where
-  abbrev recorded : Record → Bool
+  abbrev pub recorded : Record → Bool
   recorded d = is_held_by s d && is_same p (inode_part d)
 
   in_records : (rs : List Record) → count (is_same p) (audit.recorded_in s rs) ≡ count recorded rs
@@ -71,7 +71,7 @@ module _ (s : ℕ) (p : InodePart) where
       ∙ ap₂ (λ (a b : ℕ). a + b) (in_records m.records) (in_manifests ms)
       ∙ sym (count_append recorded m.records (all_records ms))
 
-  by_records : (book : BookState)
+  pub by_records : (book : BookState)
       → times p (recorded_as s book) ≡ count recorded (all_records book.manifests) + count recorded book.deferred
   by_records book =
       sym (length-filter (is_same p) (recorded_as s book))
@@ -79,7 +79,7 @@ module _ (s : ℕ) (p : InodePart) where
       (audit.recorded_in s book.deferred)
       ∙ ap₂ (λ (a b : ℕ). a + b) (in_manifests book.manifests) (in_records book.deferred)
 
-  in_pairs : (named : List PartId) (ino : ℕ) (ps : List Pair)
+  pub in_pairs : (named : List PartId) (ino : ℕ) (ps : List Pair)
       → count (is_same p) (flat_map (owed_pair s named ino) ps)
       ≡ count (λ pair. is_owed s named pair && is_same p (part_in ino pair)) ps
   in_pairs named ino [] = refl
@@ -108,7 +108,7 @@ module _ (s : ℕ) (p : InodePart) where
         before hands (i + 1) cells (omega (arith, lt)),
       )
 
-  owed_at : (hands : List InodePart) (k i : ℕ) (cells : List CellState) → p.ino ≡ i + k
+  pub owed_at : (hands : List InodePart) (k i : ℕ) (cells : List CellState) → p.ino ≡ i + k
       → count (is_same p) (owed_from s hands i cells)
       ≡ count (is_same p) (owed_by s (of_inode p.ino hands) p.ino (slice_index_or cells k no_cell))
   owed_at hands k i [] e = refl
@@ -136,7 +136,7 @@ swapped true false c = refl
 swapped false true c = refl
 swapped false false c = refl
 
-both : (a b : Bool) → a ≡ true → b ≡ true → (a && b) ≡ true
+pub both : (a b : Bool) → a ≡ true → b ≡ true → (a && b) ≡ true
 both true b e f = f
 both false b e f = e
 

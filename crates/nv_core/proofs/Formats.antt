@@ -141,14 +141,14 @@ states_alike (suc n) cell = ap (λ (l : List CellState). cell.state ∷ l) (stat
 -- ---- the world
 
 -- an actor of many that are idle
-idle_at : (g : GeometryNumbers) (n k : ℕ) (d : Actor) → k < length (replicate n (idle_actor g))
+pub idle_at : (g : GeometryNumbers) (n k : ℕ) (d : Actor) → k < length (replicate n (idle_actor g))
     → slice_index_or (replicate n (idle_actor g)) k d ≡ idle_actor g
 idle_at g n k d inside = get_or-replicate n k (idle_actor g) d (omega (arith, length-replicate n (idle_actor g)))
 
 shows_idle : (g : GeometryNumbers) → ShowsActor (idle_actor g) idle
 shows_idle g = record { hand = refl; running = tt }
 
-each_shown : (g : GeometryNumbers) (k : ℕ) (d : Actor) → k < length (replicate g.actors (idle_actor g))
+pub each_shown : (g : GeometryNumbers) (k : ℕ) (d : Actor) → k < length (replicate g.actors (idle_actor g))
     → ShowsActor (slice_index_or (replicate g.actors (idle_actor g)) k d) (actor_at (formatted g) k)
 each_shown g k d inside =
     let less : k < g.actors = omega (arith, length-replicate g.actors (idle_actor g)) in

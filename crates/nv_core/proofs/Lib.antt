@@ -56,6 +56,9 @@ pub mod PublishPhase
 pub mod Publishes
 pub mod Readies
 pub mod Releases
+pub mod FromParts
+pub mod RestingParts
+pub mod RestStarts
 pub mod RetirePhase
 pub mod Retires
 pub mod RoomsAfter

@@ -1,5 +1,9 @@
--- A world taken apart, and the world at rest that parts make.
+-- A world taken apart, and the world at rest that parts make, where they are judged so.
 use Rattle.std.specs.Prelude.{◌≡◌, ℕ, Bool, true, is_some, length, map, replicate, None}
+use Rattle.nv_audit.specs.Records.{states_of}
+use Rattle.nv_audit.specs.Resting.{AreAtRest, IsFirstAtRest}
+use Rattle.nv_base.specs.declared.fault.Fault.{Fault}
+use Rattle.nv_base.specs.declared.fault.Fault.TheVariants.{Mismatch}
 use Rattle.nv_cell.specs.Cell.{CellValue}
 use Rattle.nv_machine.specs.World as machine
 use Rattle.nv_core.specs.declared.parts.Parts.{Parts}
@@ -37,3 +41,12 @@ IsBusy m = (actor : ℕ) × (is_some (machine.actor_at m actor).running ≡ true
 
 abbrev pub has_call : Actor → Bool
 has_call actor = is_some actor.running
+
+-- the parts are at rest, and the first of them that is not
+abbrev pub AreJudged : Parts → Type 0
+AreJudged parts = AreAtRest parts.geometry.numbers (states_of parts.cells) parts.lists parts.pool parts.book.state
+
+abbrev pub IsMismatchOf : Parts → Fault → Type 0
+IsMismatchOf parts (Mismatch part) =
+    IsFirstAtRest part parts.geometry.numbers (states_of parts.cells) parts.lists parts.pool parts.book.state
+IsMismatchOf parts fault = ⊥

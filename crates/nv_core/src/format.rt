@@ -109,6 +109,22 @@ fn add_cells(alloc: Global, geometry: &Geometry, cells: &mut Vec<InodeCell>) -> 
     Ok(())
 }
 
+/// The actors of a device, which have no calls. The only error is `OutOfMemory`.
+pub(crate) fn idle_actors(alloc: Global, geometry: &Geometry) -> Result<Vec<Actor>, Fault>
+    ensures ok { IfOk result (λ actors. actors.items
+        ≡ replicate geometry.now.numbers.actors (idle_actor geometry.now.numbers)) }
+    ensures err { FailsOnly out_of_memory result }
+{
+    let mut actors = Vec::new(alloc);
+    match add_actors(alloc, geometry, &mut actors) {
+        Ok(()) => Ok(actors),
+        Err(fault) => {
+            dismantle(actors);
+            Err(fault)
+        }
+    }
+}
+
 /// The actors, which have no calls.
 fn add_actors(alloc: Global, geometry: &Geometry, actors: &mut Vec<Actor>) -> Result<(), Fault>
     requires { actors.old.items ≡ [] }

@@ -1,19 +1,25 @@
-//! The parts of a world, and how a world comes apart.
+//! The parts of a world, how a world comes apart, and how parts become one.
 
-ghost use Rattle.std.specs.Prelude.{◌≡◌, IfErr, IfOk};
+ghost use Rattle.std.specs.Prelude.{◌≡◌, ◌⊎◌, IfErr, IfOk, None, OnOk, length, replicate};
 ghost use Rattle.std.specs.List.{list_any};
+ghost use Rattle.nv_base.specs.Memory.{out_of_memory};
+ghost use Rattle.nv_base.specs.Refusals.{FailsOnly};
 ghost use Rattle.nv_base.specs.declared.fault.Fault.TheVariants.{ActorBusy};
 ghost use Rattle.nv_machine.specs.World as machine;
-ghost use Rattle.nv_core.specs.AtRest.{IsBusy, at_rest, has_call, parts_of};
+ghost use Rattle.nv_core.specs.AtRest.{AreJudged, IsBusy, IsMismatchOf, at_rest, has_call, parts_of};
+ghost use Rattle.nv_core.specs.Formats.{idle_actor};
 ghost use Rattle.nv_core.specs.Worlds.{Shows};
 
 use crate::World;
+use crate::format::idle_actors;
 use crate::shared::{Shared, dismantle_cells, dismantle_lists};
-use crate::world::Actor;
+use crate::world::{Actor, dismantle};
 use nv_alloc::{FreeList, InodePool};
+use nv_audit::rest_differs;
 use nv_base::{Fault, Geometry, Items};
 use nv_book::Book;
 use nv_cell::InodeCell;
+use std::alloc::Global;
 
 /// What a world has beside its actors: the numbers that it was made for, the cell of each inode slot, the free list of
 /// each CPU, the pool of inode numbers, and the book. Cells and lists own blocks, which end with them.
@@ -95,6 +101,104 @@ impl Shared {
             pool,
             book,
         }
+    }
+}
+
+impl World {
+    /// Makes a world of these parts, in which no actor has a call.
+    ///
+    /// `Mismatch` with the first part that differs from those of a world at rest: inode by inode the index, the names and
+    /// the counts, then the names of all directories, the records and the lists. `OutOfMemory` where room was refused, that
+    /// of the actors before anything is judged. The very parts come back. It costs what [`nv_audit::rest_differs`] does.
+    pub fn from_parts(alloc: Global, parts: Parts) -> Result<World, (Fault, Parts)>
+        ensures ok { IfOk result (λ world. Shows world (at_rest parts)) }
+        ensures parts { IfOk result (λ world. parts_of world.shared ≡ parts) }
+        ensures judged { OnOk result (AreJudged parts) }
+        ensures err { IfErr result (λ refused.
+            (refused.0 ≡ out_of_memory) ⊎ IsMismatchOf parts refused.0) }
+        ensures same { IfErr result (λ refused. refused.1 ≡ parts) }
+    {
+        let (owners, actors) = match idle(alloc, &parts) {
+            Ok(idle) => idle,
+            Err(fault) => return Err((fault, parts)),
+        };
+        match judge(alloc, &parts) {
+            Ok(()) => Ok(World::at_rest(alloc, parts, owners, actors)),
+            Err(fault) => {
+                dismantle(actors);
+                Err((fault, parts))
+            }
+        }
+    }
+
+    /// The world of parts that were judged, with nobody's locks and actors without calls.
+    fn at_rest(alloc: Global, parts: Parts, owners: Vec<Option<u64>>, actors: Vec<Actor>) -> World
+        requires judged { AreJudged parts }
+        requires owners { owners.items ≡ replicate (length parts.cells) None }
+        requires actors { actors.items
+            ≡ replicate parts.geometry.numbers.actors (idle_actor parts.geometry.numbers) }
+        ensures shows { Shows result (at_rest parts) }
+        ensures parts { parts_of result.shared ≡ parts }
+    {
+        let shared = parts.into_shared(owners);
+        World {
+            alloc,
+            shared,
+            actors,
+        }
+    }
+}
+
+impl Parts {
+    /// What actors share, where nobody holds the commit lock.
+    fn into_shared(self, owners: Vec<Option<u64>>) -> Shared
+        ensures parts { parts_of result ≡ self }
+        ensures owners { result.owners ≡ owners }
+        ensures holder { result.holder ≡ None }
+    {
+        let (geometry, cells, lists, pool, book) = self.into_fields();
+        Shared {
+            geometry,
+            lists: lists.into_vec(),
+            pool,
+            cells: cells.into_vec(),
+            owners,
+            book,
+            holder: None,
+        }
+    }
+}
+
+/// The locks of all slots, which nobody holds, and the actors.
+fn idle(alloc: Global, parts: &Parts) -> Result<(Vec<Option<u64>>, Vec<Actor>), Fault>
+    ensures owners { IfOk result (λ idle.
+        idle.0.items ≡ replicate (length parts.now.cells) None) }
+    ensures actors { IfOk result (λ idle. idle.1.items ≡ replicate
+        parts.now.geometry.numbers.actors (idle_actor parts.now.geometry.numbers)) }
+    ensures err { FailsOnly out_of_memory result }
+{
+    let owners = vec![in alloc; None; parts.cells.len()]?;
+    let actors = idle_actors(alloc, &parts.geometry)?;
+    Ok((owners, actors))
+}
+
+/// Whether these are the parts of a world at rest.
+fn judge(alloc: Global, parts: &Parts) -> Result<(), Fault>
+    ensures ok { OnOk result (AreJudged parts.now) }
+    ensures err { IfErr result (λ fault.
+        (fault ≡ out_of_memory) ⊎ IsMismatchOf parts.now fault) }
+{
+    let differs = rest_differs(
+        alloc,
+        &parts.geometry,
+        parts.cells.as_slice(),
+        parts.lists.as_slice(),
+        &parts.pool,
+        &parts.book,
+    )?;
+    match differs {
+        Some(part) => Err(Fault::Mismatch(part)),
+        None => Ok(()),
     }
 }
 

@@ -3,6 +3,7 @@
 ghost use Rattle.std.specs.Prelude.{ℕ, ◌<◌, length};
 ghost use Rattle.std.specs.List.{Contains};
 ghost use Rattle.nv_alloc.specs.Numbers.{IsEachOnce};
+ghost use Rattle.nv_audit.specs.KeptParts.{records_in};
 ghost use Rattle.nv_audit.specs.Nodes.{AreTrees};
 ghost use Rattle.nv_audit.specs.Sound.{EndsAtSize};
 ghost use Rattle.nv_calls.specs.Plain.{node_in};
@@ -15,7 +16,10 @@ ghost use Rattle.nv_machine.specs.Kept.{AreClosed};
 ghost use Rattle.nv_machine.specs.Numbers.{all_blocks};
 ghost use Rattle.nv_machine.specs.Settled.{settled_copies, settled_nodes};
 ghost use Rattle.nv_machine.specs.Shapes.{AreShaped};
+ghost use Rattle.nv_machine.specs.Starts.{IsStart};
 ghost use Rattle.nv_machine.specs.World.{Shared, World, cell_at};
+ghost use Rattle.nv_core.specs.AtRest.{AreJudged, at_rest};
+ghost use Rattle.nv_core.specs.declared.parts.Parts.{Parts};
 
 /// Where no journal is open, and the nodes of the cells form trees now and at each living snapshot, so do the settled
 /// nodes and the copies of each snapshot.
@@ -43,4 +47,10 @@ pub fn judged_logs_are_sound()
         → IsLeftShaped (cell_at w.shared ino).block (log_of (cell_at w.shared ino)))
         → ((ino : ℕ) → ino < length w.shared.cells → EndsAtSize (cell_at w.shared ino))
         → AreSound w.shared }
+{}
+
+/// Parts at rest make, with actors that have no calls, a world where a run may start, with the records of the book.
+pub fn parts_at_rest_are_a_start()
+    ensures { (parts : Parts) → AreJudged parts
+        → IsStart parts.geometry.numbers (at_rest parts) (records_in parts.book.state) }
 {}
