@@ -9,6 +9,7 @@
 
 mod blocks;
 mod lost;
+mod pairs;
 mod same;
 mod says;
 mod scene;

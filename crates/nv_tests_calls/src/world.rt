@@ -1,13 +1,20 @@
 //! Worlds: a first path by events and replies, and each call while the runner refuses memory once.
 
 mod audits;
+mod changes;
+mod devices;
 mod growths;
 mod handed;
-mod parts;
+mod judging;
+pub mod parts;
 mod playing;
+mod queues;
 mod reports;
+mod seen;
 mod snapshots;
 mod words;
+mod wrong_books;
+mod wrong_parts;
 
 use crate::compare::{holds_for, last_reply, push, refused_memory, same};
 use Words::{Create, List, Lookup, Mkdir, Read, Rename, Size, Stat, Unlink, Write};

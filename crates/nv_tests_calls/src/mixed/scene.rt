@@ -2,6 +2,7 @@
 
 use super::says::{PREPARED, Says, call};
 use crate::compare::last_reply;
+use crate::world::parts;
 use nv_core::{Event, Reply, World};
 use nv_scenes::{Row, geometry};
 use std::alloc::Global;
@@ -32,7 +33,7 @@ impl Scene {
     }
 
     /// One event. No clause says here what it does, so that no test carries that along.
-    fn step(&mut self, event: Event) -> Reply {
+    pub fn step(&mut self, event: Event) -> Reply {
         self.world.step(event)
     }
 
@@ -56,5 +57,18 @@ impl Scene {
             Reply::Moved | Reply::Waits => None,
             reply => Some(reply),
         }
+    }
+    /// The world comes apart, and its parts become one that reports what that of a twin does.
+    pub fn put_together(self, rt: &impl Abort, twin: &Scene) -> Scene {
+        let Scene { alloc, row, world } = self;
+        let world = parts::put_together(rt, alloc, world, &twin.world, row[4]);
+        Scene { alloc, row, world }
+    }
+
+    /// The world has a call, and does not come apart.
+    pub fn comes_back(self, rt: &impl Abort, event: usize) -> Scene {
+        let Scene { alloc, row, world } = self;
+        let world = parts::comes_back(rt, event, world);
+        Scene { alloc, row, world }
     }
 }

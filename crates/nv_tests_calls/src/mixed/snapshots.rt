@@ -21,13 +21,13 @@ use std::process::Abort;
 use std::test::Fail;
 
 /// With room for all calls at once, and for one snapshot more than are prepared.
-const ROW: Row = [56, 2, BLOCK, 2, 10, SNAPS, 3];
+pub(super) const ROW: Row = [56, 2, BLOCK, 2, 10, SNAPS, 3];
 
 const SNAPS: u64 = 3;
 
 /// Calls behind what is prepared: snapshots 1 and 2 live then and hold what is no longer current, a whole file among
 /// it, and what 3 held besides is deferred. In four logs there are entries that nothing needs.
-const SNAPPED: &[Says] = &[
+pub(super) const SNAPPED: &[Says] = &[
     Create(0, b"f"),
     Write(6, 0, b"before"),
     Snap,

@@ -37,7 +37,7 @@ const ONE: (u64, u64) = (1, 1);
 const TWO: (u64, u64) = (2, 1);
 
 /// Four slots. A page of a log has four entries.
-const ROOMY: scenes::Row = [24, 2, 4, 4, 4, 2, 2];
+pub(super) const ROOMY: scenes::Row = [24, 2, 4, 4, 4, 2, 2];
 
 /// The actor that makes the calls before, and the one whose call may be refused: its blocks are the upper half.
 const EARLIER: u64 = 0;
@@ -323,7 +323,7 @@ fn is_refused(reply: &Reply) -> bool {
 }
 
 /// A new world in which these calls were made, once more where they were refused memory.
-fn prepared(rt: &impl Abort, alloc: Global, before: &[Words]) -> World {
+pub(super) fn prepared(rt: &impl Abort, alloc: Global, before: &[Words]) -> World {
     let mut world = new_world(rt, alloc, ROOMY);
     for words in before {
         let (_, reply) = alone(rt, alloc, &mut world, EARLIER, words);
