@@ -1,0 +1,240 @@
+-- THE CLEANERS of the law of calls that are made one at a time: their last replies, and what they leave.
+use Rattle.std.proofs.Common.{◌≡◌, ◌≢◌, ◌∙◌, ℕ, ◌<◌, ◌≤◌, ◌++◌, Bool, true, false, List, [], ◌∷◌, Option, None, ap, append_assoc, arith, get_or-set_same, if◌then◌else◌, inl, inr, length, lt-ltb, map, nat_lt, refl, replicate, subst, sym}
+use Rattle.std.proofs.lemmas.Bool.{le-ltb, ltb-false, ltb-true}
+use Rattle.nv_base.specs.declared.fault.Fault.TheVariants.{NoActor}
+use Rattle.nv_base.specs.declared.geometry.GeometryNumbers.{GeometryNumbers}
+use Rattle.nv_book.specs.declared.record.Record.{Record}
+use Rattle.nv_calls.specs.declared.call.Call.{Call}
+use Rattle.nv_calls.specs.declared.call.Call.TheVariants as call
+use Rattle.nv_calls.specs.declared.maintenance_call.MaintenanceCall.TheVariants as on
+use Rattle.nv_machine.specs.Alone.{goes}
+use Rattle.nv_machine.specs.CleanerAnswers.{cleaner}
+use Rattle.nv_machine.specs.Needed.{IsAtRest}
+use Rattle.nv_machine.specs.PlainRun.{Plain, plain_of}
+use Rattle.nv_machine.specs.Recorded.{records_after}
+use Rattle.nv_machine.specs.Sequence.{Beginning, Numbers, beginning, begun, first_clean, slots_on, started}
+use Rattle.nv_machine.specs.Starts.{IsStart}
+use Rattle.nv_machine.specs.Step.{Step, after, replies, start_step, stays, step}
+use Rattle.nv_machine.specs.World.{Actor, Auto, Event, Fast, HandState, Judge, LockCleaned, Maintenance, Manner, Moved, Refused, Reply, Running, Shared, Start, Started, Thorough, World, actor_at, empty_hand, idle}
+use Rattle.nv_machine.proofs.CallsStay.{IsCallOf}
+use Rattle.nv_machine.proofs.CopiesAll.{after_one}
+use Rattle.nv_machine.proofs.OverEvents.{begun_at, others_stay}
+use Rattle.nv_machine.proofs.WorldsAtRest.{start_again}
+use Rattle.nv_serial.specs.Law.{AreRepliesTo, IsMadeAlone, IsOutcome, IsSerialCall, alone, serial_after}
+use Rattle.nv_serial.specs.OneCall.{serial_call}
+use Rattle.nv_serial.specs.Serial.{Outcome, Serial, refused}
+use Rattle.nv_serial.specs.Shown.{slot_told}
+use Rattle.nv_serial.proofs.AloneStages.{Beside, beside_after, beside_more}
+use Rattle.nv_serial.proofs.AtRestLogs.{told_by}
+use Rattle.nv_serial.proofs.AtRestPlain.{plain_is, serial_is}
+use Rattle.nv_serial.proofs.CleanRuns.{IsRunOut, IsUnder, run}
+use Rattle.nv_serial.proofs.CleanStages.{IsBare, Stands}
+
+begun_call : (b : Beginning) (s : Shared) (c : Call) → (begun b s c).call ≡ c
+begun_call Numbers s c = refl
+begun_call other s c = refl
+
+module _ (g : GeometryNumbers) (start : World) (records : List Record) (is_start : IsStart g start records) (before : List Event)
+    (at_rest : IsAtRest (after start before)) (actor : ℕ) (manner : Manner) (ino : ℕ) where
+  abbrev v : World
+  v = after start before
+
+  abbrev ds : List Record
+  ds = records_after start before records
+
+  abbrev at : IsStart g v ds
+  at = start_again g start records before is_start at_rest
+
+  abbrev c : Call
+  c = cleaner manner ino
+
+  abbrev Both : List Event → Type 0
+  Both events = beside_after start events (record { records = records; plain = plain_of start })
+      ≡ beside_after start before (record { records = records; plain = plain_of start })
+
+  abbrev begin : Event
+  begin = Start actor c
+
+  -- ---- it begins
+
+  module _ (there : actor < g.actors) where
+    abbrev x : World
+    x = (start_step true None actor c v).world
+
+    inside : actor < length v.actors
+    inside = omega (arith, there, at.actors)
+
+    started_is : step v (Start actor c) ≡ start_step true None actor c v
+    started_is =
+        ap (λ (b : Bool). start_step b (actor_at v actor).running actor c v) (lt-ltb actor (length v.actors) inside)
+        ∙ ap (λ (o : Option Running). start_step true o actor c v) (at_rest actor)
+
+    abbrev StandsAt : HandState → Running → Type 0
+    StandsAt h r = Stands g v ds at actor there manner ino v.shared h r
+
+    first_stage : (m : Manner) → m ≡ manner → (d : Call) → let k = first_clean (length v.shared.cells) m ino in
+        StandsAt empty_hand (started d (Maintenance k) (slots_on k))
+    first_stage m same d = go (nat_lt ino (length v.shared.cells)) refl where
+      bare : IsBare g v ds at actor there manner ino v.shared empty_hand
+      bare = record { cells_are = refl; lists_are = refl; pages_are = refl }
+
+      go : (b : Bool) → nat_lt ino (length v.shared.cells) ≡ b → let k = if b then LockCleaned m ino else Judge m None in
+          StandsAt empty_hand (started d (Maintenance k) (slots_on k))
+      go true low =
+          let lt = ltb-true ino (length v.shared.cells) low in
+          record { by = (same, refl, omega (arith, lt, at.slots), bare, at.unlocked ino); number = refl }
+      go false past =
+          let ge = ltb-false ino (length v.shared.cells) past in
+          record { by = (same, omega (arith, ge, at.slots), bare); number = refl }
+
+    begun_stage : (m : Manner) → m ≡ manner → StandsAt empty_hand (begun (beginning (cleaner m ino)) v.shared (cleaner m ino))
+    begun_stage Fast same = first_stage Fast same (cleaner Fast ino)
+    begun_stage Thorough same = first_stage Thorough same (cleaner Thorough ino)
+    begun_stage Auto same = first_stage Auto same (cleaner Auto ino)
+
+    first_under : IsUnder g start records is_start before at_rest actor there manner ino x
+    first_under =
+        let r = begun (beginning c) v.shared c in
+        let own : actor_at x actor ≡ begun_at v actor c = get_or-set_same v.actors actor (begun_at v actor c) idle inside in
+        let hand : (actor_at v actor).hand ≡ empty_hand = ap (λ (a : Actor). a.hand) (at.idle_all actor) in
+        record {
+          running = r;
+          runs = ap (λ (a : Actor). a.running) own;
+          stands = subst (λ (a : Actor). Stands g v ds at actor there manner ino v.shared a.hand r) (sym own)
+              (subst (λ (h : HandState). StandsAt h r) (sym hand) (begun_stage manner refl));
+          its = subst (λ (a : Actor). IsCallOf c a.running) (sym own) (begun_call (beginning c) v.shared c);
+          others = λ b ne.
+              ap (λ (a : Actor). a.running) (sym (ap (λ (made : Step). actor_at made.world b) started_is)
+              ∙ others_stay v b (Start actor c) ne) ∙ at_rest b;
+        }
+
+  began : Both (before ++ begin ∷ [])
+  began = beside_more before start begin (record { records = records; plain = plain_of start })
+
+  -- ---- the worlds with numbers
+
+  abbrev old : Serial
+  old = told_by g v ds
+
+  old_is : serial_after g start records before ≡ old
+  old_is = serial_is g start records before is_start
+
+  new_is : (events : List Event) → Both events
+      → serial_after g start records events ≡ record old { slots = map slot_told (after start events).shared.cells }
+  new_is events same =
+      ap (λ (b : Beside). let s : Serial = record {
+        numbers = g;
+        plain = b.plain;
+        slots = map slot_told (after start events).shared.cells;
+        records = b.records;
+      } in s) same
+      ∙ ap (λ (p : Plain). let s : Serial = record old { plain = p; slots = map slot_told (after start events).shared.cells } in s)
+      (plain_is g start records before is_start)
+
+  outcome_is : (events : List Event) (last : Reply) → Both events
+      → IsOutcome c old (serial_call old actor c) last (record old { slots = map slot_told (after start events).shared.cells })
+      → IsOutcome c (serial_after g start records before) (serial_call (serial_after g start records before) actor c) last
+      (serial_after g start records events)
+  outcome_is events last same told =
+      subst (λ (s : Serial). IsOutcome c s (serial_call s actor c) last (serial_after g start records events)) (sym old_is)
+      (subst (IsOutcome c old (serial_call old actor c) last) (sym (new_is events same)) told)
+
+  -- ---- the cases
+
+  abbrev Law : List Bool → Reply → Type 0
+  Law grants last = IsSerialCall g start records before actor c grants last
+
+  abbrev first_of : List Reply → Reply
+  first_of [] = Moved
+  first_of (y ∷ told) = y
+
+  abbrev rest_of : List Reply → List Reply
+  rest_of [] = []
+  rest_of (y ∷ told) = told
+
+  -- the events of the call, step by step
+  abbrev events_of : List Bool → List Event
+  events_of grants = (before ++ begin ∷ []) ++ goes actor grants
+
+  same_events : (grants : List Bool) → events_of grants ≡ before ++ alone actor c grants
+  same_events grants = append_assoc before (begin ∷ []) (goes actor grants)
+
+  module _ (there : actor < g.actors) where
+    runs_out : (grants : List Bool) (last : Reply) → IsRunOut g start records is_start before at_rest actor there manner ino (events_of grants) last
+        → Law grants last
+    runs_out grants last out = record {
+      outcome = subst (λ (events : List Event). IsOutcome c (serial_after g start records before)
+          (serial_call (serial_after g start records before) actor c) last (serial_after g start records events)) (same_events grants)
+          (outcome_is (events_of grants) last out.stays out.over.outcome);
+      rest = subst (λ (events : List Event). IsAtRest (after start events)) (same_events grants) out.over.rest;
+    }
+
+    there_law : (grants : List Bool) (last : Reply) → AreRepliesTo grants (replies v (alone actor c grants)) last → Law grants last
+    there_law grants last (inl (none, told, not_started)) =
+        absurd (not_started (sym (ap first_of told) ∙ ap (λ (made : Step). made.reply) (started_is there)))
+    there_law grants last (inr (count, told, ended)) =
+        let on : x there ≡ after start (before ++ begin ∷ []) =
+        sym (ap (λ (made : Step). made.world) (started_is there)) ∙ after_one before start begin in
+        let more : replies (after start (before ++ begin ∷ [])) (goes actor grants) ≡ replicate count Moved ++ last ∷ [] =
+        ap (λ (y : World). replies y (goes actor grants)) (sym (after_one before start begin)) ∙ ap rest_of told in
+        runs_out grants last
+        (run g start records is_start before at_rest actor there manner ino grants (before ++ begin ∷ []) count last
+        (subst (IsUnder g start records is_start before at_rest actor there manner ino) on (first_under there)) began more ended)
+
+  module _ (past : g.actors ≤ actor) where
+    outside : nat_lt actor (length v.actors) ≡ false
+    outside = le-ltb actor (length v.actors) (omega (arith, past, at.actors))
+
+    refused_is : step v (Start actor c) ≡ stays (Refused NoActor) v
+    refused_is = ap (λ (b : Bool). start_step b (actor_at v actor).running actor c v) outside
+
+    made_is : serial_call old actor c ≡ refused NoActor old
+    made_is = rw (le-ltb actor g.actors past) refl
+
+    past_law : (grants : List Bool) (last : Reply) → AreRepliesTo grants (replies v (alone actor c grants)) last → Law grants last
+    past_law grants last (inr (count, told, ended)) =
+        absurd (not_both (sym (ap (λ (made : Step). made.reply) refused_is) ∙ ap first_of told)) where
+          not_both : Refused NoActor ≢ Started
+          not_both e = cc
+    past_law grants last (inl (none, told, not_started)) =
+        let is : last ≡ Refused NoActor = sym (ap first_of told) ∙ ap (λ (made : Step). made.reply) refused_is in
+        let on : v ≡ after start (before ++ begin ∷ []) =
+        sym (ap (λ (made : Step). made.world) refused_is) ∙ after_one before start begin in
+        subst (λ (gs : List Bool). Law gs last) (sym none) (record {
+          outcome = outcome_is (before ++ begin ∷ []) last began
+              (inl (
+                is ∙ sym (ap (λ (o : Outcome). o.reply) made_is),
+                ap (λ (y : World). let s : Serial = record old { slots = map slot_told y.shared.cells } in s) (sym on)
+                    ∙ sym (ap (λ (o : Outcome). o.world) made_is),
+              ));
+          rest = subst IsAtRest on at_rest;
+        })
+
+  cleaner_law : (grants : List Bool) (last : Reply) → AreRepliesTo grants (replies v (alone actor c grants)) last → Law grants last
+  cleaner_law grants last told = go (nat_lt actor g.actors) refl where
+    go : (b : Bool) → nat_lt actor g.actors ≡ b → Law grants last
+    go true is = there_law (ltb-true actor g.actors is) grants last told
+    go false is = past_law (ltb-false actor g.actors is) grants last told
+
+-- A CLEANER that is made alone is told what the world with numbers says, and leaves what it says; and then no call runs
+pub clean_serial : (g : GeometryNumbers) (start : World) (records : List Record) (before : List Event) (actor : ℕ) (manner : Manner)
+    (ino : ℕ) (grants : List Bool) (last : Reply) → IsMadeAlone g start records before actor (cleaner manner ino) grants last
+    → IsSerialCall g start records before actor (cleaner manner ino) grants last
+clean_serial g start records before actor manner ino grants last made =
+    cleaner_law g start records made.start_is before made.rest actor manner ino grants last made.replies_are
+
+-- and so of each of the three calls
+pub fast_serial : (g : GeometryNumbers) (start : World) (records : List Record) (before : List Event) (actor ino : ℕ)
+    (grants : List Bool) (last : Reply) → IsMadeAlone g start records before actor (call.Maintenance (on.Fast ino)) grants last
+    → IsSerialCall g start records before actor (call.Maintenance (on.Fast ino)) grants last
+fast_serial g start records before actor ino = clean_serial g start records before actor Fast ino
+
+pub thorough_serial : (g : GeometryNumbers) (start : World) (records : List Record) (before : List Event) (actor ino : ℕ)
+    (grants : List Bool) (last : Reply) → IsMadeAlone g start records before actor (call.Maintenance (on.Thorough ino)) grants last
+    → IsSerialCall g start records before actor (call.Maintenance (on.Thorough ino)) grants last
+thorough_serial g start records before actor ino = clean_serial g start records before actor Thorough ino
+
+pub auto_serial : (g : GeometryNumbers) (start : World) (records : List Record) (before : List Event) (actor ino : ℕ)
+    (grants : List Bool) (last : Reply) → IsMadeAlone g start records before actor (call.Maintenance (on.Auto ino)) grants last
+    → IsSerialCall g start records before actor (call.Maintenance (on.Auto ino)) grants last
+auto_serial g start records before actor ino = clean_serial g start records before actor Auto ino

@@ -1,0 +1,77 @@
+-- The calls on files and directories of a world with numbers: one definition for all.
+use Rattle.std.specs.Prelude.{ℕ, ◌+◌, Bool, true, false, nat_le, List, [], ◌∷◌, drop, length, take, Option, Some, None, Ok, Err}
+use Rattle.nv_base.specs.declared.fault.Fault.TheVariants.{CommitLimit, NoInode, NoSpace}
+use Rattle.nv_base.specs.declared.limits.TheConstants.{NUMBER}
+use Rattle.nv_base.specs.declared.numbers.Handle.{Handle}
+use Rattle.nv_calls.specs.AllCalls.{answer, blocks_wanted, is_nothing, plan, present_in, refusal}
+use Rattle.nv_calls.specs.Plan.{runs_of}
+use Rattle.nv_calls.specs.Refusals.{Check}
+use Rattle.nv_calls.specs.Slots.{InodeSlot}
+use Rattle.nv_calls.specs.declared.allocation.Allocation.{Allocation}
+use Rattle.nv_calls.specs.declared.call.Call.{Call}
+use Rattle.nv_calls.specs.declared.call.Call.TheVariants as call
+use Rattle.nv_calls.specs.declared.plan.InodePlan.{InodePlan}
+use Rattle.nv_entry.specs.Tree.{root}
+use Rattle.nv_serial.specs.Committed.{committed, needs}
+use Rattle.nv_serial.specs.Free.{pool_of, row_of}
+use Rattle.nv_serial.specs.Serial.{Outcome, Serial, copies_now, log_in, refused, slot_of, told}
+
+-- ---- what a call takes
+
+abbrev pub makes_inode : Call → Bool
+makes_inode (call.Create dir name mode) = true
+makes_inode (call.Mkdir dir name mode) = true
+makes_inode other = false
+
+-- the lowest free number, with its slot's generation; a call that makes no inode needs none, and has the root's
+abbrev pub made_by : Bool → List ℕ → Serial → Option Handle
+made_by false numbers s = Some root
+made_by true [] s = None
+made_by true (ino ∷ numbers) s = Some (record { ino = ino; generation = (slot_of s ino).generation })
+
+abbrev pub inode_slots : Serial → ℕ → InodeSlot
+inode_slots s ino = record { generation = (slot_of s ino).generation; log = log_in s ino }
+
+-- how many data blocks
+abbrev pub wanted : Serial → Call → ℕ
+wanted s c = blocks_wanted s.numbers.block (copies_now s) (present_in s.numbers.block (inode_slots s) c) c
+
+-- its data are the first of the row
+abbrev pub taken_for : Serial → ℕ → Handle → Call → Allocation
+taken_for s actor made c = record { made = made; runs = runs_of (take (wanted s c) (row_of s actor)) }
+
+abbrev pub plan_for : Serial → ℕ → Handle → Call → List InodePlan
+plan_for s actor made c = plan s.numbers.block (copies_now s) (taken_for s actor made c) c
+
+-- its log pages are the next ones
+abbrev pub log_pages_for : Serial → ℕ → Call → List ℕ
+log_pages_for s actor c = drop (wanted s c) (row_of s actor)
+
+-- the row is long enough for both
+abbrev pub fits : Serial → ℕ → Handle → Call → Bool
+fits s actor made c = nat_le (wanted s c + needs s (plan_for s actor made c)) (length (row_of s actor))
+
+-- ---- want of an inode number, of blocks or of a commit number; or a commit
+
+abbrev pub commit_if : (fits limit : Bool) → Serial → ℕ → Handle → Call → Outcome
+commit_if false limit s actor made c = refused NoSpace s
+commit_if true true s actor made c = refused CommitLimit s
+commit_if true false s actor made c =
+    told (answer s.plain.nodes made c) (committed s made c (plan_for s actor made c) (log_pages_for s actor c))
+
+abbrev pub commit_with : Option Handle → Serial → ℕ → Call → Outcome
+commit_with None s actor c = refused NoInode s
+commit_with (Some made) s actor c = commit_if (fits s actor made c) (nat_le NUMBER s.plain.commit) s actor made c
+
+-- a call that commits nothing is answered at once
+abbrev pub pass : Bool → Serial → ℕ → Call → Outcome
+pass true s actor c = told (answer s.plain.nodes root c) s
+pass false s actor c = commit_with (made_by (makes_inode c) (pool_of s) s) s actor c
+
+-- the refusals of the plain world come first
+abbrev pub if_passes : Check → Serial → ℕ → Call → Outcome
+if_passes (Err fault) s actor c = refused fault s
+if_passes (Ok passed) s actor c = pass (is_nothing c) s actor c
+
+abbrev pub on_files : Serial → ℕ → Call → Outcome
+on_files s actor c = if_passes (refusal s.numbers.block (copies_now s) c) s actor c

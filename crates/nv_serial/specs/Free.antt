@@ -1,0 +1,52 @@
+-- Which numbers are free, by the logs of a world with numbers: blocks in the order in which an actor takes them, and slots.
+use Rattle.std.specs.Prelude.{ℕ, ◌+◌, ◌-◌, ◌%◌, ◌||◌, ◌++◌, Bool, if◌then◌else◌, nat_le, List, length, map, Option, None, option_to_list, slice_get}
+use Rattle.std.specs.List.{flat_map, range_with_len}
+use Rattle.nv_alloc.specs.Numbers.{has, unused}
+use Rattle.nv_base.specs.Homes.{home_start}
+use Rattle.nv_base.specs.declared.limits.TheConstants.{NUMBER}
+use Rattle.nv_cell.specs.Cell.{page_block}
+use Rattle.nv_cell.specs.Readers.{has_entry}
+use Rattle.nv_entry.specs.Covered.{part_total}
+use Rattle.nv_entry.specs.Held.{Retention}
+use Rattle.nv_entry.specs.Log.{pairs}
+use Rattle.nv_entry.specs.declared.item.Entry.{Entry}
+use Rattle.nv_machine.specs.Held.{in_use_by}
+use Rattle.nv_serial.specs.LogPages.{Page}
+use Rattle.nv_serial.specs.Serial.{Serial, keepers, log_in, slot_of}
+
+-- ---- blocks
+
+-- the block of the part n of a log, where its pair is kept
+abbrev pub block_kept : Retention → List Entry → ℕ → Option ℕ
+block_kept r log n = if in_use_by r (slice_get (pairs r.block log) n) then page_block r.block log n else None
+
+abbrev pub blocks_kept : Retention → List Entry → List ℕ
+blocks_kept r log = flat_map (λ n. option_to_list (block_kept r log n)) (range_with_len 0 (part_total log))
+
+-- the blocks of a slot: its log pages, and the data of pairs that are kept
+abbrev pub used_by : Serial → ℕ → List ℕ
+used_by s ino = map (λ (p : Page). p.number) (slot_of s ino).pages ++ blocks_kept (keepers s ino) (log_in s ino)
+
+abbrev pub used_in : Serial → List ℕ
+used_in s = flat_map (used_by s) (range_with_len 0 (length s.slots))
+
+-- the free blocks of a CPU, lowest first
+abbrev pub free_on : Serial → ℕ → List ℕ
+free_on s cpu =
+    unused (has (used_in s)) (home_start s.numbers.blocks s.numbers.cpus cpu)
+    (home_start s.numbers.blocks s.numbers.cpus (cpu + 1) - home_start s.numbers.blocks s.numbers.cpus cpu)
+
+-- THE ROW of an actor, all free blocks in the order in which it takes them: its own CPU's first, and then the next ones',
+-- in a circle
+abbrev pub row_of : Serial → ℕ → List ℕ
+row_of s actor = flat_map (λ k. free_on s ((actor + k) % s.numbers.cpus)) (range_with_len 0 s.numbers.cpus)
+
+-- ---- slots
+
+-- a slot that has an inode, or whose generation has reached the last number
+abbrev pub is_taken : Serial → ℕ → Bool
+is_taken s ino = has_entry (log_in s ino) || nat_le NUMBER (slot_of s ino).generation
+
+-- the numbers of free slots, lowest first
+abbrev pub pool_of : Serial → List ℕ
+pool_of s = unused (is_taken s) 0 (length s.slots)

@@ -1,0 +1,12 @@
+pub mod Cleaning
+pub mod Committed
+pub mod FileCalls
+pub mod Free
+pub mod Law
+pub mod LogPages
+pub mod OneCall
+pub mod Reports
+pub mod Row
+pub mod Serial
+pub mod Shown
+pub mod Snapshots

@@ -1,0 +1,68 @@
+-- What a world with numbers reports: counts over its logs, snapshots and records.
+pub use Rattle.nv_serial.specs.Snapshots.{first_of, snapshot_tree_told}
+use Rattle.std.specs.Prelude.{ℕ, ◌&&◌, ◌++◌, is_none, List, [], ◌∷◌, filter, length, map}
+use Rattle.std.specs.List.{range_with_len, sum_by}
+use Rattle.nv_book.specs.Records.{block_count, holder_of, is_held_by, is_page}
+use Rattle.nv_book.specs.declared.record.Record.{Record}
+use Rattle.nv_cell.specs.declared.tally.LogPageCounts.{LogPageCounts}
+use Rattle.nv_entry.specs.Counts.{live_of, valid_of}
+use Rattle.nv_entry.specs.Held.{Retention, is_needed}
+use Rattle.nv_entry.specs.Log.{pairs}
+use Rattle.nv_entry.specs.Tree.{root, tree_from}
+use Rattle.nv_entry.specs.declared.held.Pair.{Pair}
+use Rattle.nv_entry.specs.declared.tree.TreeNode.{TreeNode}
+use Rattle.nv_epoch.specs.Holders.{without}
+use Rattle.nv_serial.specs.Free.{free_on}
+use Rattle.nv_serial.specs.LogPages.{Page, entries_in}
+use Rattle.nv_serial.specs.Serial.{NumberedSlot, Serial, copies_now, deferred_in, keepers, living, log_in, slot_of}
+
+-- ---- lists: the free blocks of each CPU
+
+abbrev pub lists_told : Serial → List (List ℕ)
+lists_told s = map (free_on s) (range_with_len 0 s.numbers.cpus)
+
+-- ---- space: free blocks, log pages, data blocks that are needed, and those that are deferred; none is in a hand
+
+abbrev pub free_count : Serial → ℕ
+free_count s = sum_by (λ cpu. length (free_on s cpu)) (range_with_len 0 s.numbers.cpus)
+
+abbrev pub chain_count : Serial → ℕ
+chain_count s = sum_by (λ (slot : NumberedSlot). length slot.pages) s.slots
+
+abbrev pub needed_in : Serial → ℕ → ℕ
+needed_in s ino = length (filter (λ (p : Pair). is_page p.part && is_needed (living s) p) (pairs s.numbers.block (log_in s ino)))
+
+abbrev pub data_count : Serial → ℕ
+data_count s = sum_by (needed_in s) (range_with_len 0 (length s.slots))
+
+abbrev pub pending_count : Serial → ℕ
+pending_count s = block_count (deferred_in s)
+
+-- ---- log: the entries of a slot, and of each page how many have a current pair, and how many one that is kept
+
+abbrev pub entry_count : Serial → ℕ → ℕ
+entry_count s ino = length (log_in s ino)
+
+abbrev pub pages_counted : Retention → List Page → List LogPageCounts
+pages_counted r [] = []
+pages_counted r (p ∷ pages) = record {
+  live = live_of r.block (length p.entries) (p.entries ++ entries_in pages);
+  valid = valid_of r (length p.entries) (p.entries ++ entries_in pages);
+} ∷ pages_counted r pages
+
+abbrev pub log_told : Serial → ℕ → List LogPageCounts
+log_told s ino = pages_counted (keepers s ino) (slot_of s ino).pages
+
+-- ---- snaps: the recorded blocks that a snapshot holds, and those that nothing would hold without it
+
+abbrev pub held_by : Serial → ℕ → ℕ
+held_by s snapshot = block_count (filter (is_held_by snapshot) s.records)
+
+abbrev pub gain_by : Serial → ℕ → ℕ
+gain_by s snapshot =
+    block_count (filter (λ (r : Record). is_held_by snapshot r && is_none (holder_of (without snapshot (living s)) r)) s.records)
+
+-- ---- the tree now; that of a snapshot is what a show is answered
+
+abbrev pub tree_told : Serial → List TreeNode
+tree_told s = tree_from (copies_now s) (length s.slots) [] root

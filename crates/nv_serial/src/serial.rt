@@ -1,0 +1,74 @@
+//! Laws of calls that are made alone, from any start on and whatever events came before.
+
+ghost use Rattle.std.specs.Prelude.{◌≡◌, ◌⊎◌, ◌++◌, ℕ, Bool, List, [], ◌∷◌, Some, false};
+ghost use Rattle.nv_base.specs.Memory.{out_of_memory};
+ghost use Rattle.nv_base.specs.declared.fault.Fault.{Fault};
+ghost use Rattle.nv_base.specs.declared.geometry.GeometryNumbers.{GeometryNumbers};
+ghost use Rattle.nv_book.specs.declared.record.Record.{Record};
+ghost use Rattle.nv_calls.specs.declared.answer.Answer.{Answer};
+ghost use Rattle.nv_calls.specs.declared.call.Call.{Call};
+ghost use Rattle.nv_machine.specs.Alone.{goes};
+ghost use Rattle.nv_machine.specs.EndsDecided.{is_maintenance};
+ghost use Rattle.nv_machine.specs.Needed.{IsAtRest};
+ghost use Rattle.nv_machine.specs.Starts.{IsStart};
+ghost use Rattle.nv_machine.specs.Step.{after, step};
+ghost use Rattle.nv_machine.specs.World.{Done, Enter, Event, Go, Refused, Running, Start, Started, World, actor_at};
+ghost use Rattle.nv_serial.specs.Law.{CallsAreSerial, grows_nothing, serial_after};
+ghost use Rattle.nv_serial.specs.OneCall.{serial_call};
+ghost use Rattle.nv_serial.specs.Row.{IsPlannedByRow};
+ghost use Rattle.nv_serial.specs.Serial.{refused, told};
+
+/// A call on files and directories that is made alone has, once it is ready, the plan of the first numbers of the row of
+/// free blocks that stood at its start, from its own CPU on, as its data; and as its log pages it has the next ones.
+pub fn calls_alone_take_the_row()
+    ensures { (g : GeometryNumbers) (start : World) (records : List Record) (before : List Event)
+        (actor : ℕ) (c : Call) (grants : List Bool) (r : Running) → IsStart g start records
+        → is_maintenance c ≡ false → (step (after start before) (Start actor c)).reply ≡ Started
+        → let w = after start (before ++ Start actor c ∷ goes actor grants) in
+        (actor_at w actor).running ≡ Some r → r.next ≡ Enter
+        → IsPlannedByRow g.block (after start before).shared actor c w.shared.lists
+        (actor_at w actor).hand.pages r.made r.plan }
+{}
+
+/// A call on files and directories that is made alone, where no call runs before it, is answered as the world with numbers
+/// says, and leaves that world as it says: with the lowest free inode number, the first blocks of the row as its data and
+/// the next ones as its log pages, its entries on these pages, what it kills on record, and erased what is over. One that
+/// is refused leaves that world as it was. It is refused as that world says, or for want of memory where it grows anything.
+/// So want of an inode comes exactly where no number is free, want of blocks where the row is shorter than data and log
+/// pages together, and the commit limit behind both. Then no call runs again.
+pub fn file_calls_alone_are_serial()
+    ensures answered { (g : GeometryNumbers) (start : World) (records : List Record)
+        (before : List Event) (actor : ℕ) (c : Call) (grants : List Bool) (granted : Bool)
+        (r : Running) (found : Answer) → IsStart g start records
+        → IsAtRest (after start before) → is_maintenance c ≡ false
+        → (step (after start before) (Start actor c)).reply ≡ Started
+        → let ran = before ++ Start actor c ∷ goes actor grants in
+        (actor_at (after start ran) actor).running ≡ Some r
+        → (step (after start ran) (Go actor granted)).reply ≡ Done found
+        → (serial_call (serial_after g start records before) actor c
+        ≡ told found (serial_after g start records (ran ++ Go actor granted ∷ [])))
+        × IsAtRest (after start (ran ++ Go actor granted ∷ [])) }
+    ensures refused { (g : GeometryNumbers) (start : World) (records : List Record)
+        (before : List Event) (actor : ℕ) (c : Call) (grants : List Bool) (granted : Bool)
+        (r : Running) (fault : Fault) → IsStart g start records
+        → IsAtRest (after start before) → is_maintenance c ≡ false
+        → (step (after start before) (Start actor c)).reply ≡ Started
+        → let ran = before ++ Start actor c ∷ goes actor grants in
+        (actor_at (after start ran) actor).running ≡ Some r
+        → (step (after start ran) (Go actor granted)).reply ≡ Refused fault
+        → ((serial_call (serial_after g start records before) actor c
+        ≡ refused fault (serial_after g start records before)) ⊎
+        ((fault ≡ out_of_memory) × (grows_nothing c ≡ false)))
+        × (serial_after g start records (ran ++ Go actor granted ∷ [])
+        ≡ serial_after g start records before)
+        × IsAtRest (after start (ran ++ Go actor granted ∷ [])) }
+{}
+
+/// THE LAW of calls that are made one at a time: a call that is made alone, where no call runs before it, is replied what
+/// the world with numbers says of the one before it, and leaves that world as it says, from any start on and whatever
+/// events came before. So which numbers of blocks and inodes it takes, and whether it is refused for want of them, is told
+/// by that world alone. A call that grows something may be refused memory instead, and then nothing has changed: a stat, a
+/// lookup, a making and a drop never are. An actor that is not there is refused as such. Then no call runs again.
+pub fn calls_are_serial()
+    ensures { CallsAreSerial }
+{}
