@@ -3,7 +3,7 @@ use Rattle.std.proofs.Common.{◌≡◌, ℕ, ◌<◌, ◌≤◌, inl, inr, List
 use Rattle.std.proofs.lemmas.Bool.{cases_lt}
 use Rattle.nv_machine.specs.World.{World}
 use Rattle.nv_script.specs.Lines.{IsCutOff, IsLine}
-use Rattle.nv_script.specs.Play.{Plays, PlaysAll}
+use Rattle.nv_script.specs.Play.{Plays, PlaysAll, machine_player}
 
 -- where two splits of a text are, the one that ends first is a front of the other's front
 shorter : (a b c d : List ℕ) → a ++ b ≡ c ++ d → length c < length a → IsCutOff c a
@@ -36,9 +36,9 @@ pub record BreaksAt (old : Option World) (lines : List (List ℕ)) (front : List
   pub new : Option World
   pub split : lines ≡ before ++ line ∷ after
   pub front_is : front ≡ text ++ sent
-  pub played : PlaysAll old before text world
+  pub played : PlaysAll machine_player old before text world
   pub lawful : IsLine line
-  pub plays : Plays world line own new
+  pub plays : Plays machine_player world line own new
   pub cut_off : IsCutOff sent own
 
 none_of : (front : List ℕ) → IsCutOff front [] → ⊥
@@ -46,7 +46,7 @@ none_of [] cut = let same = cut.1 in let some = cut.2 in omega (arith, ap length
 none_of (byte ∷ front) cut = let same = cut.1 in cc
 
 pub breaks_at : (old : Option World) (lines : List (List ℕ)) (text front : List ℕ) (new : Option World)
-    → PlaysAll old lines text new → IsCutOff front text → BreaksAt old lines front
+    → PlaysAll machine_player old lines text new → IsCutOff front text → BreaksAt old lines front
 breaks_at old [] text front new all cut = absurd (none_of front (cut.0, sym all.0 ∙ cut.1, cut.2))
 breaks_at old (line ∷ lines) text front new all cut =
     let same : all.0 ++ all.1 ≡ front ++ cut.0 = sym all.6 ∙ cut.1 in

@@ -16,7 +16,7 @@ use Rattle.nv_script.specs.declared.fault.LineFault.TheVariants as line_fault
 use Rattle.nv_script.specs.declared.feed.LineResult.{LineResult}
 use Rattle.nv_script.specs.declared.feed.LineResult.TheVariants as taken
 use Rattle.nv_script.specs.Lines.{IsLine, LineResultIs, WritesFront, WritesSome, ended}
-use Rattle.nv_script.specs.Play.{Ends, EndsBy, EndsWell, IsFault, ListsWords, Played, Plays, PlaysAll, Stops, most_lines, nodes_listed}
+use Rattle.nv_script.specs.Play.{Ends, EndsBy, EndsWell, IsFault, ListsWords, Played, Plays, PlaysAll, Stops, machine_player, most_lines}
 use Rattle.nv_script.specs.Grammar.{is_skipped}
 use Rattle.nv_script.specs.Texts.{line_of, node_line, tree_lines}
 use Rattle.nv_script.specs.Words.{words_of}
@@ -58,7 +58,7 @@ none_left (Some rest) [] end = end
 none_left (Some rest) (first ∷ ahead) end = cc
 
 -- no room for lines
-pub no_room : (input left old : Option (List ℕ)) → EndsBy out_of_memory input left (λ text. Appends old old text)
+pub no_room : (input left old : Option (List ℕ)) → EndsBy machine_player out_of_memory input left (λ text. Appends old old text)
 no_room input left old =
     let all = whole input in
     ([], all.0, [], [], None, record { split = all.1; few = omega arith; plays = (refl, refl) }, inl (refl, refl), Appends-nil old)
@@ -69,13 +69,14 @@ no_room input left old =
 
 plays-push : (old : Option World) (lines : List (List ℕ)) (text : List ℕ) (mid : Option World) (line more : List ℕ)
     (new : Option World)
-    → PlaysAll old lines text mid → IsLine line → Plays mid line more new → PlaysAll old (lines ++ line ∷ []) (text ++ more) new
+    → PlaysAll machine_player old lines text mid → IsLine line → Plays machine_player mid line more new
+    → PlaysAll machine_player old (lines ++ line ∷ []) (text ++ more) new
 plays-push old [] text mid line more new all lawful one = (
   more,
   [],
   new,
   lawful,
-  subst (λ (world : Option World). Plays world line more new) all.1 one,
+  subst (λ (world : Option World). Plays machine_player world line more new) all.1 one,
   (refl, refl),
   ap (λ front. front ++ more) all.0 ∙ sym (append-nil more),
 )
@@ -121,8 +122,8 @@ split-push input lines line rest is =
     if_same input _ _ same is
 
 -- a tree of which lines were sent is the text of the line that asks for it
-lists_plays : (world : Option World) (line sent : List ℕ) → is_skipped line ≡ false → ListsWords world (words_of line) sent
-    → (own : List ℕ) × Plays world line (sent ++ own) world
+lists_plays : (world : Option World) (line sent : List ℕ) → is_skipped line ≡ false → ListsWords machine_player world (words_of line) sent
+    → (own : List ℕ) × Plays machine_player world line (sent ++ own) world
 lists_plays None line sent skipped lists = absurd lists
 lists_plays (Some old) line sent skipped lists =
     let front = lists.2 in
@@ -132,13 +133,14 @@ lists_plays (Some old) line sent skipped lists =
     ∙ ap (λ t. t ++ line_of (codes "end")) (sym (flat_map-append node_line front.0 front.1)) in (
       own,
       plays_listed old line (sent ++ own) lists.0 skipped lists.1 (is_list_of old lists.0 (front.0 ++ front.1) front.2)
-          (lists_text (nodes_listed old lists.0) (front.0 ++ front.1) (sent ++ own) front.2 text),
+          (lists_text (machine_player.listed old lists.0) (front.0 ++ front.1) (sent ++ own) front.2 text),
     )
 
 -- the fault of the next line where not all of the text of some lines was written
 broken : (input left old new : Option (List ℕ)) (lines : List (List ℕ)) (rest text : List ℕ) (world : Option World)
     → IfSome input (λ bytes. bytes ≡ ended lines ++ rest) → length lines ≤ most_lines + 1
-    → PlaysAll None lines text world → WritesSome old new text → EndsBy fault.Write input left (λ text. Appends old new text)
+    → PlaysAll machine_player None lines text world → WritesSome old new text
+    → EndsBy machine_player fault.Write input left (λ text. Appends old new text)
 broken input left old new lines rest text world split few all some =
     let at = breaks_at None lines text some.0 world all some.1 in
     let ending : ended lines ≡ ended at.before ++ ((at.line ++ 10 ∷ []) ++ ended at.after) = ap ended at.split
@@ -160,7 +162,7 @@ broken input left old new lines rest text world split few all some =
 
 -- the same end, where what is said of the text was turned into something else
 pub ends_on : (result : Result (Unit {0}) Fault) (input left : Option (List ℕ)) (Old New : List ℕ → Type 0)
-    → ((text : List ℕ) → Old text → New text) → Ends result input left Old → Ends result input left New
+    → ((text : List ℕ) → Old text → New text) → Ends machine_player result input left Old → Ends machine_player result input left New
 ends_on (Ok done) input left Old New turn e = (e.0, e.1, e.2, e.3, e.4, turn e.1 e.5)
 ends_on (Err (fault.ScriptFault why number)) input left Old New turn e = (e.0, e.1, e.2, e.3, e.4, e.5, turn e.2 e.6)
 ends_on (Err fault.Read) input left Old New turn e = (e.0, e.1, e.2, e.3, e.4, e.5, turn e.2 e.6)
@@ -170,7 +172,8 @@ ends_on (Err _) input left Old New turn e = absurd e
 
 -- nothing is gathered, so all is written
 pub ends_unheld : (result : Result (Unit {0}) Fault) (input left old new : Option (List ℕ)) (gathered : List ℕ) → gathered ≡ []
-    → Ends result input left (λ text. WritesFront old new text gathered) → Ends result input left (λ text. Appends old new text)
+    → Ends machine_player result input left (λ text. WritesFront old new text gathered)
+    → Ends machine_player result input left (λ text. Appends old new text)
 ends_unheld result input left old new gathered none e =
     let rest = subst (λ (bytes : List ℕ). Appends new new bytes) (sym none) (Appends-nil new) in
     ends_on result input left (λ text. WritesFront old new text gathered) (λ text. Appends old new text)
@@ -178,8 +181,9 @@ ends_unheld result input left old new gathered none e =
 
 -- the same where some of what was gathered was written
 broken_played : (input left old mid new : Option (List ℕ)) (gathered : List ℕ) (lines : List (List ℕ)) (rest text : List ℕ)
-    (world : Option World) → Played input lines rest text world
-    → WritesFront old mid text gathered → WritesSome mid new gathered → EndsBy fault.Write input left (λ text. Appends old new text)
+    (world : Option World) → Played machine_player input lines rest text world
+    → WritesFront old mid text gathered → WritesSome mid new gathered
+    → EndsBy machine_player fault.Write input left (λ text. Appends old new text)
 broken_played input left old mid new gathered lines rest text world played front some =
     let few = played.few in
     broken input left old new lines rest text world played.split (omega (arith, few)) played.plays
@@ -187,10 +191,10 @@ broken_played input left old mid new gathered lines rest text world played front
 
 -- the same where some of the next line's text was sent too
 broken_line : (input left old mid new : Option (List ℕ)) (gathered : List ℕ) (lines : List (List ℕ)) (rest text sent : List ℕ)
-    (world : Option World) → Played input lines rest text world → (line after own : List ℕ) (n : Option World)
-    → IsLine line → rest ≡ (line ++ 10 ∷ []) ++ after → Plays world line (sent ++ own) n
+    (world : Option World) → Played machine_player input lines rest text world → (line after own : List ℕ) (n : Option World)
+    → IsLine line → rest ≡ (line ++ 10 ∷ []) ++ after → Plays machine_player world line (sent ++ own) n
     → WritesFront old mid (text ++ sent) gathered → WritesSome mid new gathered
-    → EndsBy fault.Write input left (λ text. Appends old new text)
+    → EndsBy machine_player fault.Write input left (λ text. Appends old new text)
 broken_line input left old mid new gathered lines rest text sent world played line after own n lawful rest_is plays front some =
     let part = writes_some_of old new (text ++ sent) own (writes_some old mid new (text ++ sent) gathered front some) in
     let split = split-push input lines line after (if_same input _ _ (ap (λ bytes. ended lines ++ bytes) rest_is) played.split) in
@@ -202,15 +206,15 @@ broken_line input left old mid new gathered lines rest text sent world played li
 
 -- the same where memory was refused
 broken_stop : (input left old mid new : Option (List ℕ)) (gathered : List ℕ) (lines : List (List ℕ)) (rest text sent : List ℕ)
-    (world : Option World) → Played input lines rest text world → Stops lines rest world sent
+    (world : Option World) → Played machine_player input lines rest text world → Stops machine_player lines rest world sent
     → WritesFront old mid (text ++ sent) gathered → WritesSome mid new gathered
-    → EndsBy fault.Write input left (λ text. Appends old new text)
+    → EndsBy machine_player fault.Write input left (λ text. Appends old new text)
 broken_stop input left old mid new gathered lines rest text sent world played stops front some = by stops where
-  unsent : sent ≡ [] → EndsBy fault.Write input left (λ text. Appends old new text)
+  unsent : sent ≡ [] → EndsBy machine_player fault.Write input left (λ text. Appends old new text)
   unsent none = broken_played input left old mid new gathered lines rest text world played
       (subst (λ (t : List ℕ). WritesFront old mid t gathered) (ap (λ t. text ++ t) none ∙ append-nil text) front) some
 
-  by : Stops lines rest world sent → EndsBy fault.Write input left (λ text. Appends old new text)
+  by : Stops machine_player lines rest world sent → EndsBy machine_player fault.Write input left (λ text. Appends old new text)
   by (inl first) = unsent first.1
   by (inr (line, after, lawful, is, (skipped, inl none))) = unsent none
   by (inr (line, after, lawful, is, (skipped, inr lists))) =
@@ -219,8 +223,8 @@ broken_stop input left old mid new gathered lines rest text sent world played st
 
 -- not all of what was gathered at the end was written
 pub broken_off : (result : Result (Unit {0}) Fault) (input left old mid new : Option (List ℕ)) (gathered : List ℕ)
-    → Ends result input left (λ text. WritesFront old mid text gathered) → WritesSome mid new gathered
-    → EndsBy fault.Write input left (λ text. Appends old new text)
+    → Ends machine_player result input left (λ text. WritesFront old mid text gathered) → WritesSome mid new gathered
+    → EndsBy machine_player fault.Write input left (λ text. Appends old new text)
 broken_off (Ok done) input left old mid new gathered e some = broken_played input left old mid new gathered e.0 [] e.1 e.2 e.3 e.5 some
 broken_off (Err (fault.ScriptFault why number)) input left old mid new gathered e some = broken_played input left old mid new gathered e.0
     e.1 e.2 e.3 e.4 e.6 some
@@ -230,7 +234,7 @@ broken_off (Err (fault.OutOfMemory _)) input left old mid new gathered e some =
     broken_stop input left old mid new gathered e.0 e.1 e.2 e.3 e.4 e.5 e.6 e.7 some
 broken_off (Err fault.Write) input left old mid new gathered e some =
     let next = e.6 in
-    let plays = subst (λ (t : List ℕ). Plays e.4 next.0 t next.3) next.7.1 next.6 in
+    let plays = subst (λ (t : List ℕ). Plays machine_player e.4 next.0 t next.3) next.7.1 next.6 in
     broken_line input left old mid new gathered e.0 e.1 e.2 e.3 e.4 e.5 next.0 next.1 next.7.0 next.3 next.4 next.5 plays e.7 some
 broken_off (Err _) input left old mid new gathered e some = absurd e
 
@@ -283,8 +287,8 @@ some_with (first ∷ bytes) byte is = cc
 
 -- after a failed write nothing is gathered
 pub none_gathered : (input left old new : Option (List ℕ)) (gathered : List ℕ) → gathered ≡ []
-    → EndsBy fault.Write input left (λ text. Appends old new text)
-    → EndsBy fault.Write input left (λ text. WritesFront old new text gathered)
+    → EndsBy machine_player fault.Write input left (λ text. Appends old new text)
+    → EndsBy machine_player fault.Write input left (λ text. WritesFront old new text gathered)
 none_gathered input left old new gathered none e =
     ends_on (Err fault.Write) input left (λ text. Appends old new text) (λ text. WritesFront old new text gathered)
     (λ text all. subst (λ (rest : List ℕ). WritesFront old new text rest) (sym none) (writes_all old new text all)) e
@@ -298,7 +302,7 @@ module _ (input known old new : Option (List ℕ)) (gathered : List ℕ) (number
   lines_fit = let count = at.count in omega (arith, few, count)
 
   played : (after : Option (List ℕ)) (piece : List ℕ) → Consumes known after piece
-      → (rest : List ℕ) × Played input at.lines (piece ++ rest) at.text world
+      → (rest : List ℕ) × Played machine_player input at.lines (piece ++ rest) at.text world
   played after piece more = let c = cut input known after at.lines piece at.taken more in
       (c.0, record { split = c.1; few = lines_fit; plays = at.plays })
 
@@ -316,14 +320,14 @@ module _ (input known old new : Option (List ℕ)) (gathered : List ℕ) (number
       }
 
   pub written_some : (left new' : Option (List ℕ)) → WritesSome new new' gathered
-      → EndsBy fault.Write input left (λ text. Appends old new' text)
+      → EndsBy machine_player fault.Write input left (λ text. Appends old new' text)
   written_some left new' some =
       let p = played known [] (Consumes-nil known) in
       broken_played input left old new new' gathered at.lines p.0 at.text world p.1 at.written some
 
   -- a failed read
   pub reads_fail : (left : Option (List ℕ)) (ahead piece : List ℕ) → Consumes known (prepend_known ahead left) piece → IsLine piece
-      → ahead ≡ [] → EndsBy fault.Read input left Written
+      → ahead ≡ [] → EndsBy machine_player fault.Read input left Written
   reads_fail left ahead piece more lawful none =
       let p = played (prepend_known ahead left) piece more in
       let gone = Consumes-trans input known (prepend_known ahead left) (ended at.lines) piece at.taken more in (
@@ -338,7 +342,7 @@ module _ (input known old new : Option (List ℕ)) (gathered : List ℕ) (number
 
   -- the end of the input
   pub ends : (t : LineResult) (left : Option (List ℕ)) (ahead line : List ℕ) → is_line number t ≡ Ok false
-      → LineResultIs t known (prepend_known ahead left) line → EndsWell input left Written
+      → LineResultIs t known (prepend_known ahead left) line → EndsWell machine_player input left Written
   ends t left ahead line is took =
       let end = end_taken number t known (prepend_known ahead left) line is took in (
         at.lines,
@@ -355,22 +359,22 @@ module _ (input known old new : Option (List ℕ)) (gathered : List ℕ) (number
 
   faulty : (after left : Option (List ℕ)) (piece : List ℕ) (why : ScriptFaultKind) → Consumes known after piece
       → ((rest : List ℕ) → IsFault number (is_some world) (piece ++ rest) why)
-      → EndsBy (fault.ScriptFault why number) input left Written
+      → EndsBy machine_player (fault.ScriptFault why number) input left Written
   faulty after left piece why more is = let p = played after piece more in
       (at.lines, piece ++ p.0, at.text, world, p.1, (sym at.count, is p.0), at.written)
 
   too_many : (after left : Option (List ℕ)) (piece : List ℕ) → most_lines < number → piece ≢ [] → Consumes known after piece
-      → EndsBy (fault.ScriptFault kind.Lines number) input left Written
+      → EndsBy machine_player (fault.ScriptFault kind.Lines number) input left Written
   too_many after left piece many some more = faulty after left piece kind.Lines more
       (λ rest. past number (is_some world) (piece ++ rest) many (some_after piece rest some))
 
   too_long : (after left : Option (List ℕ)) (line : List ℕ) → number ≤ most_lines → IsLine line → LineResultIs taken.Long known after line
-      → EndsBy (fault.ScriptFault kind.Long number) input left Written
+      → EndsBy machine_player (fault.ScriptFault kind.Long number) input left Written
   too_long after left line inside lawful is = faulty after left (line ++ is.0 ∷ []) kind.Long is.1
       (λ rest. within number (is_some world) _ kind.Long inside (inl (refl, (line, rest, is.0, lawful, is.3, is.2, refl))))
 
   unended : (after left : Option (List ℕ)) (line : List ℕ) → number ≤ most_lines → IsLine line → LineResultIs taken.Unended known after line
-      → EndsBy (fault.ScriptFault kind.Unended number) input left Written
+      → EndsBy machine_player (fault.ScriptFault kind.Unended number) input left Written
   unended after left line inside lawful is = (
     at.lines,
     line,
@@ -381,13 +385,14 @@ module _ (input known old new : Option (List ℕ)) (gathered : List ℕ) (number
     at.written,
   )
 
-  ends_as : (told why : Fault) (left : Option (List ℕ)) → ◌≡◌ {A = Result Bool Fault} (Err told) (Err why) → EndsBy why input left Written
-      → EndsBy told input left Written
-  ends_as told why left same is = let e : told ≡ why = cc in subst (λ (f : Fault). EndsBy f input left Written) (sym e) is
+  ends_as : (told why : Fault) (left : Option (List ℕ)) → ◌≡◌ {A = Result Bool Fault} (Err told) (Err why)
+      → EndsBy machine_player why input left Written
+      → EndsBy machine_player told input left Written
+  ends_as told why left same is = let e : told ≡ why = cc in subst (λ (f : Fault). EndsBy machine_player f input left Written) (sym e) is
 
   -- no line to play was taken
   pub not_line : (t : LineResult) (why : Fault) (after left : Option (List ℕ)) (line : List ℕ) → is_line number t ≡ Err why → IsLine line
-      → LineResultIs t known after line → EndsBy why input left Written
+      → LineResultIs t known after line → EndsBy machine_player why input left Written
   not_line taken.End why after left line is lawful took = cc
   not_line taken.Line why after left line is lawful took =
       elim (answered number _ _ is) [
@@ -414,7 +419,7 @@ module _ (input known old new : Option (List ℕ)) (gathered : List ℕ) (number
     within_last = (line_taken number t known after line is took).1
 
     -- a line that was played, and its text gathered, or written in part
-    pub next : (new' : Option (List ℕ)) (more gathered' : List ℕ) (world' : Option World) → Plays world line more world'
+    pub next : (new' : Option (List ℕ)) (more gathered' : List ℕ) (world' : Option World) → Plays machine_player world line more world'
         → WritesFront new new' (gathered ++ more) gathered' → AtLine input after old new' gathered' (number + 1) world'
     next new' more gathered' world' plays wrote = record {
       lines = at.lines ++ line ∷ [];
@@ -427,8 +432,8 @@ module _ (input known old new : Option (List ℕ)) (gathered : List ℕ) (number
           (writes_grown old new at.text gathered more at.written) wrote;
     }
 
-    pub breaks_off : (left new' : Option (List ℕ)) (more : List ℕ) (world' : Option World) → Plays world line more world'
-        → WritesSome new new' (gathered ++ more) → EndsBy fault.Write input left (λ text. Appends old new' text)
+    pub breaks_off : (left new' : Option (List ℕ)) (more : List ℕ) (world' : Option World) → Plays machine_player world line more world'
+        → WritesSome new new' (gathered ++ more) → EndsBy machine_player fault.Write input left (λ text. Appends old new' text)
     breaks_off left new' more world' plays wrote =
         let p = played after (line ++ 10 ∷ []) here in
         let part = writes_some old new new' (at.text ++ more) (gathered ++ more)
@@ -440,7 +445,7 @@ module _ (input known old new : Option (List ℕ)) (gathered : List ℕ) (number
     -- a line that is not played to its end
     pub not_played : (left : Option (List ℕ)) (why : LineFault) (to : Sent)
         → LineFaultIs why (record { written = new; gathered = gathered }) to world line
-        → EndsBy (ending_of number why) input left (λ text. WritesFront old to.written text to.gathered)
+        → EndsBy machine_player (ending_of number why) input left (λ text. WritesFront old to.written text to.gathered)
     not_played left (line_fault.OutOfMemory _) to why =
         let p = played after (line ++ 10 ∷ []) here in (
           at.lines,
@@ -456,17 +461,18 @@ module _ (input known old new : Option (List ℕ)) (gathered : List ℕ) (number
     not_played left line_fault.Write to why =
         none_gathered input left old to.written to.gathered why.3.1 (breaks_off left to.written why.0 why.1 why.2 why.3.0)
     not_played left (line_fault.Faulty reason) to why =
-        subst (λ (s : Sent). EndsBy (fault.ScriptFault reason number) input left (λ text. WritesFront old s.written text s.gathered))
+        subst
+        (λ (s : Sent). EndsBy machine_player (fault.ScriptFault reason number) input left (λ text. WritesFront old s.written text s.gathered))
         (sym why.1)
         (faulty after left (line ++ 10 ∷ []) reason here
         (λ rest. within number (is_some world) _ reason within_last (inr (inr (line, rest, lawful, refl, why.0)))))
 
 -- the same end, told by an equation
 pub ends_told : (told why : Fault) (input left : Option (List ℕ)) (Writes : List ℕ → Type 0) (gathered : List ℕ) → told ≡ why
-    → EndsBy why input left Writes × HoldsNone {A = Bool} (Err why) gathered
-    → EndsBy told input left Writes × HoldsNone {A = Bool} (Err told) gathered
+    → EndsBy machine_player why input left Writes × HoldsNone {A = Bool} (Err why) gathered
+    → EndsBy machine_player told input left Writes × HoldsNone {A = Bool} (Err told) gathered
 ends_told told why input left Writes gathered same e =
-    subst (λ (f : Fault). EndsBy f input left Writes × HoldsNone {A = Bool} (Err f) gathered) (sym same) e
+    subst (λ (f : Fault). EndsBy machine_player f input left Writes × HoldsNone {A = Bool} (Err f) gathered) (sym same) e
 
 -- a fault of a slice is one of its bytes
 pub why_at : (why : LineFault) (from to : Sent) (m : Option World) (slice line : List ℕ) → slice ≡ line → LineFaultIs why from to m slice
@@ -474,5 +480,5 @@ pub why_at : (why : LineFault) (from to : Sent) (m : Option World) (slice line :
 why_at why from to m slice line same is = subst (λ (bytes : List ℕ). LineFaultIs why from to m bytes) same is
 
 pub plays_at : (world : Option World) (slice line text : List ℕ) (world' : Option World) → slice ≡ line
-    → Plays world slice text world' → Plays world line text world'
-plays_at world slice line text world' same is = subst (λ (bytes : List ℕ). Plays world bytes text world') same is
+    → Plays machine_player world slice text world' → Plays machine_player world line text world'
+plays_at world slice line text world' same is = subst (λ (bytes : List ℕ). Plays machine_player world bytes text world') same is

@@ -1,4 +1,5 @@
 pub mod Ahead
+pub mod Alike
 pub mod Breaks
 pub mod Commands
 pub mod Endings
@@ -14,3 +15,5 @@ pub mod Plain
 pub mod Played
 pub mod Printed
 pub mod RunsPlayed
+pub mod SerialAlike
+pub mod SerialReports

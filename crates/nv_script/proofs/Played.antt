@@ -1,5 +1,5 @@
 -- A line that is played on what a world shows.
-use Rattle.std.proofs.Common.{◌≡◌, ◌⊎◌, ℕ, ◌++◌, Bool, false, true, List, [], Option, Some, None, Result, Ok, Err, inl, inr, option_map, is_some, refl, subst, sym}
+use Rattle.std.proofs.Common.{◌≡◌, ◌⊎◌, ℕ, ◌++◌, Bool, false, true, List, [], Option, Some, None, Result, Ok, Err, inl, inr, is_some, refl, subst, sym}
 use Rattle.std.proofs.lemmas.Bool.{false≢true}
 use Rattle.std.specs.Prelude.{MatchBool, codes}
 use Rattle.nv_base.specs.Limits.{first_bad_field}
@@ -8,7 +8,6 @@ use Rattle.nv_base.specs.declared.fault.GeometryField.{GeometryField}
 use Rattle.nv_base.specs.declared.fault.ScriptFaultKind.{ScriptFaultKind}
 use Rattle.nv_base.specs.declared.geometry.GeometryNumbers.{GeometryNumbers}
 use Rattle.nv_entry.specs.declared.tree.TreeNode.{TreeNode}
-use Rattle.nv_epoch.specs.SnapList.{pins_of}
 use Rattle.nv_machine.specs.Format.{formatted}
 use Rattle.nv_machine.specs.World as machine
 use Rattle.nv_script.specs.declared.command.Command.{Command}
@@ -16,11 +15,10 @@ use Rattle.nv_script.specs.declared.command.Command.TheVariants as command
 use Rattle.nv_script.specs.declared.fault.LineFault.{LineFault}
 use Rattle.nv_script.specs.declared.fault.LineFault.TheVariants as line_fault
 use Rattle.nv_script.specs.Grammar.{IsLineFault, Parsed, command_of, format_of, is_skipped}
-use Rattle.nv_script.specs.Play.{Acts, ActsBy, LineFails, ListsFront, ListsWords, Plays, PlaysWords, ShowsTree, WordsFail, is_list, nodes_listed, reports_of}
+use Rattle.nv_script.specs.Play.{Acts, ActsBy, LineFails, ListsFront, ListsWords, Plays, PlaysWords, ShowsTree, WordsFail, is_list, machine_player, nodes_at, reports_of}
 use Rattle.nv_script.specs.Results.{HasAnyRun, IsNewWorld, LineFaultIs, LineIs, ListIs, ListsText, MakesWorld, PlaysShown, SendsBut, Sent}
 use Rattle.nv_script.specs.Texts.{line_of}
 use Rattle.nv_script.specs.Words.{words_of}
-use Rattle.nv_core.specs.Settled.{snapshot_tree}
 use Rattle.nv_core.specs.Worlds.{WorldState}
 use Rattle.nv_core.specs.Worlds.{Leads, Shows, ShowsAny}
 use Rattle.nv_script.proofs.Handed.{sends_none}
@@ -35,36 +33,36 @@ made None numbers text world shows is = (Some (formatted numbers), inl (is, refl
 
 -- ---- a line that asks for a tree
 
-acts_snapshot : (pins : Option ℕ) (snapshot : ℕ) (old : machine.World) (text : List ℕ)
-    → ListsText (option_map (λ (p : ℕ). snapshot_tree old snapshot) pins) text → ShowsTree (is_some pins) snapshot old text old
-acts_snapshot None snapshot old text is = (is, refl)
-acts_snapshot (Some pins) snapshot old text is = (is, refl)
+acts_tree : (nodes : Option (List TreeNode)) (old : machine.World) (text : List ℕ) → ListsText nodes text → ShowsTree nodes old text old
+acts_tree None old text is = (is, refl)
+acts_tree (Some nodes) old text is = (is, refl)
 
-acts_listed : (old : machine.World) (c : Command) (text : List ℕ) → is_list c ≡ true → ListsText (nodes_listed old c) text
+acts_listed : (old : machine.World) (c : Command) (text : List ℕ) → is_list c ≡ true → ListsText (machine_player.listed old c) text
     → Acts old c text old
 acts_listed old command.Tree text lists is = (is, refl)
-acts_listed old (command.SnapTree snapshot) text lists is = acts_snapshot (pins_of old.shared.book.snaps snapshot) snapshot old text is
+acts_listed old (command.SnapTree snapshot) text lists is = acts_tree (nodes_at old (Some snapshot)) old text is
 acts_listed old _ text lists is = absurd (false≢true lists)
 
-pub is_list_of : (old : machine.World) (c : Command) (nodes : List TreeNode) → nodes_listed old c ≡ Some nodes → is_list c ≡ true
+pub is_list_of : (old : machine.World) (c : Command) (nodes : List TreeNode) → machine_player.listed old c ≡ Some nodes → is_list c ≡ true
 is_list_of old command.Tree nodes is = refl
 is_list_of old (command.SnapTree snapshot) nodes is = refl
 is_list_of old _ nodes is = cc
 
-plays_words : (old new : Option machine.World) (line text : List ℕ) → is_skipped line ≡ false → PlaysWords old (words_of line) text new
-    → Plays old line text new
+plays_words : (old new : Option machine.World) (line text : List ℕ) → is_skipped line ≡ false
+    → PlaysWords machine_player old (words_of line) text new → Plays machine_player old line text new
 plays_words old new line text skipped plays =
-    subst (λ (b : Bool). MatchBool b ((text ≡ []) × (new ≡ old)) (PlaysWords old (words_of line) text new)) (sym skipped) plays
+    subst (λ (b : Bool). MatchBool b ((text ≡ []) × (new ≡ old)) (PlaysWords machine_player old (words_of line) text new))
+    (sym skipped) plays
 
 pub plays_listed : (old : machine.World) (line text : List ℕ) (c : Command) → is_skipped line ≡ false → command_of (words_of line) ≡ Ok c
-    → is_list c ≡ true → ListsText (nodes_listed old c) text → Plays (Some old) line text (Some old)
+    → is_list c ≡ true → ListsText (machine_player.listed old c) text → Plays machine_player (Some old) line text (Some old)
 plays_listed old line text c skipped read lists is =
     plays_words (Some old) (Some old) line text skipped (c, old, read, acts_listed old c text lists is, refl)
 
 -- what a tree's line is answered is the answer of the line
 pub lists_line : (result : Result (Unit {0}) LineFault) (from to : Sent) (old : Option WorldState) (world : WorldState) (line rest : List ℕ)
     (c : Command) → old ≡ Some world → is_skipped line ≡ false → command_of (words_of line) ≡ Ok c → is_list c ≡ true
-    → ((m : machine.World) → Shows world m → ListIs result from to rest (nodes_listed m c))
+    → ((m : machine.World) → Shows world m → ListIs result from to rest (machine_player.listed m c))
     → LineIs result from to old line rest (Some world)
 lists_line result from to old world line rest c there skipped read lists given = by result given where
   shown_at : (P : Option machine.World → Type 0) → ((m : machine.World) → Shows world m → P (Some m))
@@ -74,15 +72,17 @@ lists_line result from to old world line rest c there skipped read lists given =
     go None shown = absurd shown
     go (Some m) shown = each m shown
 
-  stops : (m : machine.World) (text : List ℕ) → (text ≡ []) ⊎ ListsFront (nodes_listed m c) text
-      → (text ≡ []) ⊎ ListsWords (Some m) (words_of line) text
+  stops : (m : machine.World) (text : List ℕ) → (text ≡ []) ⊎ ListsFront (machine_player.listed m c) text
+      → (text ≡ []) ⊎ ListsWords machine_player (Some m) (words_of line) text
   stops m text (inl none) = inl none
   stops m text (inr front) = inr (c, read, front)
 
-  by : (r : Result (Unit {0}) LineFault) → ((m : machine.World) → Shows world m → ListIs r from to rest (nodes_listed m c))
+  by : (r : Result (Unit {0}) LineFault) → ((m : machine.World) → Shows world m → ListIs r from to rest (machine_player.listed m c))
       → LineIs r from to old line rest (Some world)
   by (Ok done) given =
-      shown_at (λ m. (n : Option machine.World) × (text : List ℕ) × Plays m line text n × ShowsAny (Some world) n × SendsBut rest from to text)
+      shown_at
+      (λ m. (n : Option machine.World) × (text : List ℕ) × Plays machine_player m line text n × ShowsAny (Some world) n
+      × SendsBut rest from to text)
       (λ m shown. let it = given m shown in (Some m, it.0, plays_listed m line it.0 c skipped read lists it.1, shown, it.2))
   by (Err (line_fault.OutOfMemory witness)) given =
       shown_at (λ m. LineFaultIs (line_fault.OutOfMemory witness) from to m line)
@@ -122,7 +122,8 @@ pub played : (old : Option WorldState) (world new : WorldState) (line text : Lis
 played old world new line text from command there skipped read leads m shows has =
     go m (subst (λ (w : Option WorldState). ShowsAny w m) there shows) has where
       go : (m : Option machine.World) → ShowsAny (Some world) m → HasAnyRun m
-          → (n : Option machine.World) × (text' : List ℕ) × Plays m line text' n × ShowsAny (Some new) n × SendsBut text from from text'
+          → (n : Option machine.World) × (text' : List ℕ) × Plays machine_player m line text' n × ShowsAny (Some new) n
+          × SendsBut text from from text'
       go None shown has = absurd shown
       go (Some m) shown has =
           let by = leads m shown in (
@@ -139,7 +140,8 @@ pub skips : (old : Option WorldState) (line rest : List ℕ) (from : Sent) → i
 skips old line rest from skipped empty m shown run = (
   m,
   rest,
-  subst (λ (b : Bool). MatchBool b ((rest ≡ []) × (m ≡ m)) (PlaysWords m (words_of line) rest m)) (sym skipped) (empty, refl),
+  subst (λ (b : Bool). MatchBool b ((rest ≡ []) × (m ≡ m)) (PlaysWords machine_player m (words_of line) rest m))
+      (sym skipped) (empty, refl),
   shown,
   writes_none from.written (from.gathered ++ rest),
 )
@@ -150,7 +152,8 @@ pub formats : (old new : Option WorldState) (line text : List ℕ) (from : Sent)
 formats old new line text from numbers none skipped read makes m shown run =
     go m (subst (λ (w : Option WorldState). ShowsAny w m) none shown) where
       go : (m : Option machine.World) → ShowsAny None m
-          → (n : Option machine.World) × (text' : List ℕ) × Plays m line text' n × ShowsAny new n × SendsBut text from from text'
+          → (n : Option machine.World) × (text' : List ℕ) × Plays machine_player m line text' n × ShowsAny new n
+          × SendsBut text from from text'
       go None shown = (
         makes.0,
         text,

@@ -1,6 +1,6 @@
 -- Events lead to each world that a script plays on, so that its reports are what a scan counts.
 use Rattle.std.proofs.Common.{◌≡◌, ◌∙◌, ℕ, ◌++◌, ◌≤◌, Bool, true, false, List, [], ◌∷◌, Option, Some, None, ap, arith, inl, inr, refl, subst, sym}
-use Rattle.std.specs.Prelude.{MatchBool, min, nat_le, nat_lt, is_some, length}
+use Rattle.std.specs.Prelude.{MatchBool, min, nat_le, nat_lt, length}
 use Rattle.std.specs.List.{AllByRecursion}
 use Rattle.std.proofs.lemmas.Bool.{and_parts, leb-true}
 use Rattle.nv_alloc.specs.declared.runs.FreeRun.{FreeRun}
@@ -9,7 +9,7 @@ use Rattle.nv_base.specs.declared.fault.GeometryField.{GeometryField}
 use Rattle.nv_base.specs.declared.fault.GeometryField.TheVariants as field
 use Rattle.nv_base.specs.declared.geometry.GeometryNumbers.{GeometryNumbers}
 use Rattle.nv_base.specs.declared.limits.TheConstants.{ACTORS, BLOCKS, BLOCK_BYTES, CPUS, INODES, LEAST_BLOCKS, LEAST_PAGE_ENTRIES, PAGE_ENTRIES, SNAPS}
-use Rattle.nv_epoch.specs.SnapList.{pins_of}
+use Rattle.nv_entry.specs.declared.tree.TreeNode.{TreeNode}
 use Rattle.nv_machine.specs.Format.{formatted}
 use Rattle.nv_machine.specs.Starts.{IsStart}
 use Rattle.nv_machine.specs.Step.{after, step}
@@ -26,7 +26,7 @@ use Rattle.nv_core.proofs.ScannedReports.{lists_scanned, logs_scanned, snaps_sca
 use Rattle.nv_script.specs.declared.command.Command.{Command}
 use Rattle.nv_script.specs.declared.command.Command.TheVariants as command
 use Rattle.nv_script.specs.Grammar.{is_skipped}
-use Rattle.nv_script.specs.Play.{Acts, ActsBy, Formats, Plays, PlaysAll, PlaysWords, Reports, ShowsLog, ShowsTree, reports_by_scan, reports_of}
+use Rattle.nv_script.specs.Play.{Acts, ActsBy, Formats, Plays, PlaysAll, PlaysWords, Reports, ShowsLog, ShowsTree, machine_player, nodes_at, reports_by_scan, reports_of}
 use Rattle.nv_script.specs.Results.{HasAnyRun}
 use Rattle.nv_script.specs.Texts.{lists_lines, log_line, snaps_lines, space_line}
 use Rattle.nv_script.specs.Words.{words_of}
@@ -62,9 +62,9 @@ run_log : (b : Bool) (ino : ℕ) (m : World) (text : List ℕ) (n : World) → S
 run_log true ino m text n shows = shows.1
 run_log false ino m text n shows = shows.1
 
-run_tree : (b : Bool) (snapshot : ℕ) (m : World) (text : List ℕ) (n : World) → ShowsTree b snapshot m text n → n ≡ m
-run_tree true snapshot m text n shows = shows.1
-run_tree false snapshot m text n shows = shows.1
+run_tree : (nodes : Option (List TreeNode)) (m : World) (text : List ℕ) (n : World) → ShowsTree nodes m text n → n ≡ m
+run_tree (Some nodes) m text n shows = shows.1
+run_tree None m text n shows = shows.1
 
 run_acts : (m : World) (c : Command) (text : List ℕ) (n : World) → Acts m c text n → HasRun m → HasRun n
 run_acts m (command.Start actor call) text n acts has = subst HasRun (sym acts.1) (run_more m (Start actor call) has)
@@ -76,7 +76,7 @@ run_acts m (command.Do actor call) text n acts has =
     (run_more m (Start actor call) has)
 run_acts m command.Tree text n acts has = subst HasRun (sym acts.1) has
 run_acts m (command.SnapTree snapshot) text n acts has =
-    subst HasRun (sym (run_tree (is_some (pins_of m.shared.book.snaps snapshot)) snapshot m text n acts)) has
+    subst HasRun (sym (run_tree (nodes_at m (Some snapshot)) m text n acts)) has
 run_acts m command.Snaps text n acts has = subst HasRun (sym acts.1) has
 run_acts m command.Space text n acts has = subst HasRun (sym acts.1) has
 run_acts m command.Lists text n acts has = subst HasRun (sym acts.1) has
@@ -95,7 +95,7 @@ between : (least most n : ℕ) → is_between least most n ≡ true → (least �
 between least most n e =
     let both = and_parts (nat_le least n) (nat_le n most) e in (leb-true least n both.0, leb-true n most both.1)
 
-within : (numbers : GeometryNumbers) → first_bad_field numbers ≡ None → IsWithinLimits numbers
+pub within : (numbers : GeometryNumbers) → first_bad_field numbers ≡ None → IsWithinLimits numbers
 within numbers e =
     let tests : List (Bool × GeometryField) =
     (is_between LEAST_BLOCKS BLOCKS numbers.blocks, field.Blocks) ∷ (is_between 1 (min numbers.blocks CPUS) numbers.cpus, field.Cpus)
@@ -130,7 +130,7 @@ within numbers e =
     }
 
 run_formats : (field : Option GeometryField) (numbers : GeometryNumbers) (text : List ℕ) (n : Option World)
-    → first_bad_field numbers ≡ field → Formats field numbers text n → HasAnyRun n
+    → first_bad_field numbers ≡ field → Formats machine_player field numbers text n → HasAnyRun n
 run_formats (Some field) numbers text n is formats = subst HasAnyRun (sym formats.1) tt
 run_formats None numbers text n is (inl made) =
     subst HasAnyRun (sym made.1)
@@ -139,25 +139,25 @@ run_formats None numbers text n is (inr none) = subst HasAnyRun (sym none.1) tt
 
 -- ---- lines
 
-run_words : (m : Option World) (words : List (List ℕ)) (text : List ℕ) (n : Option World) → PlaysWords m words text n → HasAnyRun m
-    → HasAnyRun n
+run_words : (m : Option World) (words : List (List ℕ)) (text : List ℕ) (n : Option World)
+    → PlaysWords machine_player m words text n → HasAnyRun m → HasAnyRun n
 run_words None words text n plays has = run_formats (first_bad_field plays.0) plays.0 text n refl plays.2
 run_words (Some m) words text n plays has =
     subst HasAnyRun (sym plays.4) (run_acts m plays.0 text plays.1 plays.3 has)
 
-run_line : (m : Option World) (line text : List ℕ) (n : Option World) → Plays m line text n → HasAnyRun m → HasAnyRun n
+run_line : (m : Option World) (line text : List ℕ) (n : Option World) → Plays machine_player m line text n → HasAnyRun m → HasAnyRun n
 run_line m line text n plays has = go (is_skipped line) plays where
-  go : (b : Bool) → MatchBool b ((text ≡ []) × (n ≡ m)) (PlaysWords m (words_of line) text n) → HasAnyRun n
+  go : (b : Bool) → MatchBool b ((text ≡ []) × (n ≡ m)) (PlaysWords machine_player m (words_of line) text n) → HasAnyRun n
   go true skips = subst HasAnyRun (sym skips.1) has
   go false words = run_words m (words_of line) text n words has
 
-run_lines : (m : Option World) (lines : List (List ℕ)) (text : List ℕ) (n : Option World) → PlaysAll m lines text n → HasAnyRun m
-    → HasAnyRun n
+run_lines : (m : Option World) (lines : List (List ℕ)) (text : List ℕ) (n : Option World)
+    → PlaysAll machine_player m lines text n → HasAnyRun m → HasAnyRun n
 run_lines m [] text n plays has = subst HasAnyRun (sym plays.1) has
 run_lines m (line ∷ lines) text n plays has =
     run_lines plays.2 lines plays.1 n plays.5 (run_line m line plays.0 plays.2 plays.4 has)
 
-pub plays_run : (lines : List (List ℕ)) (text : List ℕ) (n : Option World) → PlaysAll None lines text n → HasAnyRun n
+pub plays_run : (lines : List (List ℕ)) (text : List ℕ) (n : Option World) → PlaysAll machine_player None lines text n → HasAnyRun n
 plays_run lines text n plays = run_lines None lines text n plays tt
 
 -- ---- reports

@@ -6,3 +6,5 @@ pub mod Results
 pub mod Texts
 pub mod Words
 pub mod Outcomes
+pub mod Serially
+pub mod SerialPlayer

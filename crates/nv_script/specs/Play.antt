@@ -30,45 +30,54 @@ use Rattle.nv_script.specs.Texts.{line_of, lists_lines, log_line, node_line, ref
 use Rattle.nv_script.specs.Words.{words_of}
 use Rattle.nv_base.specs.Memory.{out_of_memory}
 
--- a `format` makes an empty world; or it is refused, for a number or for want of memory, and there is still none
-abbrev pub Formats : Option GeometryField → GeometryNumbers → List ℕ → Option World → Type 0
-Formats (Some field) numbers text new = (text ≡ refused_line (fault.BadGeometry field)) × (new ≡ None)
-Formats None numbers text new =
-    ((text ≡ line_of (codes "formatted")) × (new ≡ Some (formatted numbers)))
-    ⊎ ((text ≡ refused_line out_of_memory) × (new ≡ None))
+-- WHO PLAYS A SCRIPT: the kind of its worlds, the empty one of a geometry, what a command on a world writes and leaves,
+-- and the nodes of the tree that a command lists
+pub record Player : Type 1 where
+  pub World : Type 0
+  pub empty : GeometryNumbers → World
+  pub Acts : World → Command → List ℕ → World → Type 0
+  pub listed : World → Command → Option (List TreeNode)
+
+-- ---- commands on a world of any kind
 
 -- the last reply is written
-abbrev pub Answers : (Reply → World → Type 0) → List ℕ → World → Type 0
+abbrev pub Answers : {W : Type 0} → (Reply → W → Type 0) → List ℕ → W → Type 0
 Answers Replies text new = (last : Reply) × Replies last new × (text ≡ reply_line last)
 
 -- a report of the world now, or a refusal for want of memory; nothing changes
-abbrev pub Reports : List ℕ → World → List ℕ → World → Type 0
+abbrev pub Reports : {W : Type 0} → List ℕ → W → List ℕ → W → Type 0
 Reports lines old text new = ((text ≡ lines) ⊎ (text ≡ refused_line out_of_memory)) × (new ≡ old)
 
--- what a world reports, of its blocks, its free lists, each log and its snapshots
+-- what a world reports, of its blocks, its free lists, the log of each of so many slots and its snapshots; and the
+-- nodes of the tree now, or of a snapshot, where it lives
 pub record WorldReports : Type 0 where
   pub space : Space
   pub lists : List (List FreeRun)
+  pub slots : ℕ
   pub log : ℕ → LogCounts
   pub snaps : Snaps
-
--- by what stands in it, and BY ONE SCAN of all logs, which is the same for each world that events lead to
-abbrev pub reports_of : World → WorldReports
-reports_of w = record { space = space_of w; lists = lists_of w.shared; log = log_at w.shared; snaps = snaps_of w.shared.book }
-
-abbrev pub reports_by_scan : World → WorldReports
-reports_by_scan w =
-    record { space = space_by_scan w; lists = lists_by_scan w; log = log_by_scan w; snaps = snaps_by_scan w }
+  pub nodes : Option ℕ → Option (List TreeNode)
 
 -- the log of a slot, or a refusal where there is none
-abbrev pub ShowsLog : Bool → WorldReports → ℕ → World → List ℕ → World → Type 0
+abbrev pub ShowsLog : {W : Type 0} → Bool → WorldReports → ℕ → W → List ℕ → W → Type 0
 ShowsLog true told ino old text new = Reports (log_line ino (told.log ino)) old text new
 ShowsLog false told ino old text new = (text ≡ refused_line fault.Stale) × (new ≡ old)
 
--- the nodes of the tree now, or of a snapshot, where it lives
-abbrev pub nodes_at : World → Option ℕ → Option (List TreeNode)
-nodes_at old None = Some (tree_of old)
-nodes_at old (Some snapshot) = option_map (λ pins. snapshot_tree old snapshot) (pins_of old.shared.book.snaps snapshot)
+-- a tree, or a refusal where its snapshot does not live
+abbrev pub ShowsTree : {W : Type 0} → Option (List TreeNode) → W → List ℕ → W → Type 0
+ShowsTree (Some nodes) old text new = Reports (tree_lines nodes) old text new
+ShowsTree None old text new = (text ≡ refused_line fault.NoSnapshot) × (new ≡ old)
+
+-- what a command that asks for a report writes, where the world reports this; nothing changes
+abbrev pub Tells : {W : Type 0} → WorldReports → W → Command → List ℕ → W → Type 0
+Tells told old command.Tree text new = ShowsTree (told.nodes None) old text new
+Tells told old (command.SnapTree snapshot) text new = ShowsTree (told.nodes (Some snapshot)) old text new
+Tells told old command.Snaps text new = Reports (snaps_lines told.snaps) old text new
+Tells told old command.Space text new = (text ≡ space_line told.space) × (new ≡ old)
+Tells told old command.Lists text new = Reports (lists_lines told.lists) old text new
+Tells told old (command.Log ino) text new = ShowsLog (nat_lt ino told.slots) told ino old text new
+Tells told old command.Audit text new = Reports (line_of (codes "audit ok")) old text new
+Tells told old _ text new = ⊥
 
 -- a command lists a tree
 abbrev pub is_list : Command → Bool
@@ -77,66 +86,20 @@ is_list (command.SnapTree snapshot) = true
 is_list _ = false
 
 -- the nodes that a command lists
-abbrev pub nodes_listed : World → Command → Option (List TreeNode)
-nodes_listed old command.Tree = nodes_at old None
-nodes_listed old (command.SnapTree snapshot) = nodes_at old (Some snapshot)
-nodes_listed old _ = None
+abbrev pub nodes_listed : WorldReports → Command → Option (List TreeNode)
+nodes_listed told command.Tree = told.nodes None
+nodes_listed told (command.SnapTree snapshot) = told.nodes (Some snapshot)
+nodes_listed told _ = None
 
 -- the lines of the first of these nodes
 abbrev pub ListsFront : Option (List TreeNode) → List ℕ → Type 0
 ListsFront nodes sent = (front rest : List TreeNode) × (nodes ≡ Some (front ++ rest)) × (sent ≡ flat_map node_line front)
 
--- the tree of a snapshot, or a refusal where it does not live
-abbrev pub ShowsTree : Bool → ℕ → World → List ℕ → World → Type 0
-ShowsTree true snapshot old text new = Reports (tree_lines (snapshot_tree old snapshot)) old text new
-ShowsTree false snapshot old text new = (text ≡ refused_line fault.NoSnapshot) × (new ≡ old)
-
--- what a command writes and leaves, where the world reports this
-abbrev pub ActsBy : WorldReports → World → Command → List ℕ → World → Type 0
-ActsBy told old (command.Start actor call) text new =
-    (text ≡ reply_line ((step old (Start actor call)).reply)) × (new ≡ (step old (Start actor call)).world)
-ActsBy told old (command.Go actor more) text new = Answers (GoesOn (more + 1) old actor) text new
-ActsBy told old (command.Run actor) text new = Answers (Runs old actor) text new
-ActsBy told old (command.Do actor call) text new = Answers (Calls old actor call) text new
-ActsBy told old command.Tree text new = Reports (tree_lines (tree_of old)) old text new
-ActsBy told old (command.SnapTree snapshot) text new = ShowsTree (is_some (pins_of old.shared.book.snaps snapshot)) snapshot old text new
-ActsBy told old command.Snaps text new = Reports (snaps_lines told.snaps) old text new
-ActsBy told old command.Space text new = (text ≡ space_line told.space) × (new ≡ old)
-ActsBy told old command.Lists text new = Reports (lists_lines told.lists) old text new
-ActsBy told old (command.Log ino) text new = ShowsLog (nat_lt ino (length old.shared.cells)) told ino old text new
-ActsBy told old command.Audit text new = Reports (line_of (codes "audit ok")) old text new
-
--- reports are those of a scan
-abbrev pub Acts : World → Command → List ℕ → World → Type 0
-Acts old command text new = ActsBy (reports_by_scan old) old command text new
-
--- the words of a line without a fault: a `format` where no world is made, and else a command on the world
-abbrev pub PlaysWords : Option World → List (List ℕ) → List ℕ → Option World → Type 0
-PlaysWords None words text new =
-    (numbers : GeometryNumbers) × (format_of words ≡ Ok numbers) × Formats (first_bad_field numbers) numbers text new
-PlaysWords (Some old) words text new =
-    (command : Command) × (world : World) × (command_of words ≡ Ok command) × Acts old command text world × (new ≡ Some world)
-
--- one line without a fault; one that is skipped writes and changes nothing
-abbrev pub Plays : Option World → List ℕ → List ℕ → Option World → Type 0
-Plays old line text new = MatchBool (is_skipped line) ((text ≡ []) × (new ≡ old)) (PlaysWords old (words_of line) text new)
-
--- some lines, one after another
-abbrev pub PlaysAll : Option World → List (List ℕ) → List ℕ → Option World → Type 0
-PlaysAll old [] text new = (text ≡ []) × (new ≡ old)
-PlaysAll old (line ∷ lines) text new =
-    (first rest : List ℕ) × (mid : Option World) × IsLine line × Plays old line first mid × PlaysAll mid lines rest new
-    × (text ≡ first ++ rest)
+-- ---- the lines of a script
 
 -- the most lines of a script
 abbrev pub most_lines : ℕ
 most_lines = 1048576
-
--- the first lines of what the reader had, what they wrote, the world after them, and the bytes past them
-pub record Played (input : Option (List ℕ)) (lines : List (List ℕ)) (rest : List ℕ) (text : List ℕ) (world : Option World) : Type 0 where
-  pub split : IfSome input (λ bytes. bytes ≡ ended lines ++ rest)
-  pub few : length lines ≤ most_lines
-  pub plays : PlaysAll None lines text world
 
 -- more than 4,096 bytes come before the next line end, or before the end of the bytes
 abbrev pub IsLong : List ℕ → Type 0
@@ -164,58 +127,92 @@ IsFault number made bytes fault = MatchBool (nat_lt most_lines number)
     ((fault ≡ kind.Lines) × (bytes ≢ []))
     (((fault ≡ kind.Long) × IsLong bytes) ⊎ (((fault ≡ kind.Unended) × IsUnended bytes) ⊎ IsFaulty made bytes fault))
 
+-- a `format` makes an empty world; or it is refused, for a number or for want of memory, and there is still none
+abbrev pub Formats : (player : Player) → Option GeometryField → GeometryNumbers → List ℕ → Option player.World → Type 0
+Formats player (Some field) numbers text new = (text ≡ refused_line (fault.BadGeometry field)) × (new ≡ None)
+Formats player None numbers text new =
+    ((text ≡ line_of (codes "formatted")) × (new ≡ Some (player.empty numbers)))
+    ⊎ ((text ≡ refused_line out_of_memory) × (new ≡ None))
+
+-- the words of a line without a fault: a `format` where no world is made, and else a command on the world
+abbrev pub PlaysWords : (player : Player) → Option player.World → List (List ℕ) → List ℕ → Option player.World → Type 0
+PlaysWords player None words text new =
+    (numbers : GeometryNumbers) × (format_of words ≡ Ok numbers) × Formats player (first_bad_field numbers) numbers text new
+PlaysWords player (Some old) words text new =
+    (command : Command) × (world : player.World) × (command_of words ≡ Ok command) × player.Acts old command text world
+    × (new ≡ Some world)
+
+-- one line without a fault; one that is skipped writes and changes nothing
+abbrev pub Plays : (player : Player) → Option player.World → List ℕ → List ℕ → Option player.World → Type 0
+Plays player old line text new =
+    MatchBool (is_skipped line) ((text ≡ []) × (new ≡ old)) (PlaysWords player old (words_of line) text new)
+
+-- some lines, one after another
+abbrev pub PlaysAll : (player : Player) → Option player.World → List (List ℕ) → List ℕ → Option player.World → Type 0
+PlaysAll player old [] text new = (text ≡ []) × (new ≡ old)
+PlaysAll player old (line ∷ lines) text new =
+    (first rest : List ℕ) × (mid : Option player.World) × IsLine line × Plays player old line first mid
+    × PlaysAll player mid lines rest new × (text ≡ first ++ rest)
+
+-- the first lines of what the reader had, what they wrote, the world after them, and the bytes past them
+pub record Played (player : Player) (input : Option (List ℕ)) (lines : List (List ℕ)) (rest text : List ℕ)
+    (world : Option player.World) : Type 0 where
+  pub split : IfSome input (λ bytes. bytes ≡ ended lines ++ rest)
+  pub few : length lines ≤ most_lines
+  pub plays : PlaysAll player None lines text world
+
 -- the first lines of the tree that these words ask for
-abbrev pub ListsWords : Option World → List (List ℕ) → List ℕ → Type 0
-ListsWords None words sent = ⊥
-ListsWords (Some old) words sent = (command : Command) × (command_of words ≡ Ok command) × ListsFront (nodes_listed old command) sent
+abbrev pub ListsWords : (player : Player) → Option player.World → List (List ℕ) → List ℕ → Type 0
+ListsWords player None words sent = ⊥
+ListsWords player (Some old) words sent =
+    (command : Command) × (command_of words ≡ Ok command) × ListsFront (player.listed old command) sent
 
 -- the next line was played, and of its text these bytes alone were written
-abbrev pub BreaksOff : List ℕ → Option World → List ℕ → Type 0
-BreaksOff bytes world sent = (line rest text : List ℕ) × (new : Option World) × IsLine line × (bytes ≡ (line ++ 10 ∷ []) ++ rest)
-    × Plays world line text new × IsCutOff sent text
+abbrev pub BreaksOff : (player : Player) → List ℕ → Option player.World → List ℕ → Type 0
+BreaksOff player bytes world sent = (line rest text : List ℕ) × (new : Option player.World) × IsLine line
+    × (bytes ≡ (line ++ 10 ∷ []) ++ rest) × Plays player world line text new × IsCutOff sent text
 
 -- memory is refused at a command: nothing of its text is written, or whole lines of a tree
-abbrev pub StopsAt : Option World → (line sent : List ℕ) → Type 0
-StopsAt world line sent = (is_skipped line ≡ false) × ((sent ≡ []) ⊎ ListsWords world (words_of line) sent)
+abbrev pub StopsAt : (player : Player) → Option player.World → (line sent : List ℕ) → Type 0
+StopsAt player world line sent = (is_skipped line ≡ false) × ((sent ≡ []) ⊎ ListsWords player world (words_of line) sent)
 
 -- memory is refused before the first line, or at the next one
-abbrev pub Stops : List (List ℕ) → List ℕ → Option World → List ℕ → Type 0
-Stops lines bytes world sent = ((lines ≡ []) × (sent ≡ []))
-    ⊎ ((line rest : List ℕ) × IsLine line × (bytes ≡ (line ++ 10 ∷ []) ++ rest) × StopsAt world line sent)
+abbrev pub Stops : (player : Player) → List (List ℕ) → List ℕ → Option player.World → List ℕ → Type 0
+Stops player lines bytes world sent = ((lines ≡ []) × (sent ≡ []))
+    ⊎ ((line rest : List ℕ) × IsLine line × (bytes ≡ (line ++ 10 ∷ []) ++ rest) × StopsAt player world line sent)
 
 -- all lines were played and their text was written, and nothing is left
-abbrev pub EndsWell : (input left : Option (List ℕ)) → (List ℕ → Type 0) → Type 0
-EndsWell input left Writes =
-    (lines : List (List ℕ)) × (text : List ℕ) × (world : Option World) × Played input lines [] text world × IsAtEnd left × Writes text
+abbrev pub EndsWell : (player : Player) → (input left : Option (List ℕ)) → (List ℕ → Type 0) → Type 0
+EndsWell player input left Writes =
+    (lines : List (List ℕ)) × (text : List ℕ) × (world : Option player.World) × Played player input lines [] text world
+    × IsAtEnd left × Writes text
 
 -- the first lines were played and their text was written
-abbrev pub EndsAfter : (input : Option (List ℕ)) → (List ℕ → Type 0) → (List (List ℕ) → List ℕ → Option World → Type 0) → Type 0
-EndsAfter input Writes Also = (lines : List (List ℕ)) × (rest text : List ℕ) × (world : Option World) × Played input lines rest text world
-    × Also lines rest world × Writes text
+abbrev pub EndsAfter : (player : Player) → (input : Option (List ℕ)) → (List ℕ → Type 0)
+    → (List (List ℕ) → List ℕ → Option player.World → Type 0) → Type 0
+EndsAfter player input Writes Also = (lines : List (List ℕ)) × (rest text : List ℕ) × (world : Option player.World)
+    × Played player input lines rest text world × Also lines rest world × Writes text
 
 -- how a script ends early: by a fault of the next line, with the number of that line; by a failed read, of whose
 -- reader no more than a piece of the next line is gone; for want of memory, before the first line or at a command,
 -- of whose tree the first lines may be written; by a failed write, which leaves a front of the text of the line after
 -- them
-abbrev pub EndsBy : Fault → (input left : Option (List ℕ)) → (List ℕ → Type 0) → Type 0
-EndsBy (fault.ScriptFault why number) input left Writes =
-    EndsAfter input Writes (λ lines rest world. (number ≡ length lines + 1) × IsFault number (is_some world) rest why)
-EndsBy fault.Read input left Writes =
-    EndsAfter input Writes (λ lines rest world. (piece : List ℕ) × IsLine piece × Consumes input left (ended lines ++ piece))
-EndsBy (fault.OutOfMemory _) input left Writes = (lines : List (List ℕ)) × (rest text sent : List ℕ) × (world : Option World)
-    × Played input lines rest text world × Stops lines rest world sent × Writes (text ++ sent)
-EndsBy fault.Write input left Writes = (lines : List (List ℕ)) × (rest text sent : List ℕ) × (world : Option World)
-    × Played input lines rest text world × BreaksOff rest world sent × Writes (text ++ sent)
-EndsBy _ input left Writes = ⊥
+abbrev pub EndsBy : (player : Player) → Fault → (input left : Option (List ℕ)) → (List ℕ → Type 0) → Type 0
+EndsBy player (fault.ScriptFault why number) input left Writes =
+    EndsAfter player input Writes (λ lines rest world. (number ≡ length lines + 1) × IsFault number (is_some world) rest why)
+EndsBy player fault.Read input left Writes =
+    EndsAfter player input Writes (λ lines rest world. (piece : List ℕ) × IsLine piece × Consumes input left (ended lines ++ piece))
+EndsBy player (fault.OutOfMemory _) input left Writes =
+    (lines : List (List ℕ)) × (rest text sent : List ℕ) × (world : Option player.World) × Played player input lines rest text world
+    × Stops player lines rest world sent × Writes (text ++ sent)
+EndsBy player fault.Write input left Writes = (lines : List (List ℕ)) × (rest text sent : List ℕ) × (world : Option player.World)
+    × Played player input lines rest text world × BreaksOff player rest world sent × Writes (text ++ sent)
+EndsBy player _ input left Writes = ⊥
 
 -- how a script ends: what the reader has at first and is left with, and what is written
-abbrev pub Ends : Result (Unit {0}) Fault → (input left : Option (List ℕ)) → (List ℕ → Type 0) → Type 0
-Ends (Ok done) input left Writes = EndsWell input left Writes
-Ends (Err why) input left Writes = EndsBy why input left Writes
-
--- the same, where the writer has this at first and is left with that
-abbrev pub PlaysScript : Result (Unit {0}) Fault → (input left old new : Option (List ℕ)) → Type 0
-PlaysScript result input left old new = Ends result input left (λ text. Appends old new text)
+abbrev pub Ends : (player : Player) → Result (Unit {0}) Fault → (input left : Option (List ℕ)) → (List ℕ → Type 0) → Type 0
+Ends player (Ok done) input left Writes = EndsWell player input left Writes
+Ends player (Err why) input left Writes = EndsBy player why input left Writes
 
 -- how many reads fail in a script that ends so: one where it ends by a failed read, and else none
 abbrev pub failed_reads : {A : Type 0} → Result A Fault → ℕ
@@ -226,3 +223,52 @@ failed_reads _ = 0
 abbrev pub failed_writes : {A : Type 0} → Result A Fault → ℕ
 failed_writes (Err fault.Write) = 1
 failed_writes _ = 0
+
+-- ---- the machine of steps
+
+-- the nodes of the tree now, or of a snapshot, where it lives
+abbrev pub nodes_at : World → Option ℕ → Option (List TreeNode)
+nodes_at old None = Some (tree_of old)
+nodes_at old (Some snapshot) = option_map (λ pins. snapshot_tree old snapshot) (pins_of old.shared.book.snaps snapshot)
+
+-- what a world reports by what stands in it, and BY ONE SCAN of all logs, which is the same for each world that events
+-- lead to
+abbrev pub reports_of : World → WorldReports
+reports_of w = record {
+  space = space_of w;
+  lists = lists_of w.shared;
+  slots = length w.shared.cells;
+  log = log_at w.shared;
+  snaps = snaps_of w.shared.book;
+  nodes = nodes_at w;
+}
+
+abbrev pub reports_by_scan : World → WorldReports
+reports_by_scan w = record {
+  space = space_by_scan w;
+  lists = lists_by_scan w;
+  slots = length w.shared.cells;
+  log = log_by_scan w;
+  snaps = snaps_by_scan w;
+  nodes = nodes_at w;
+}
+
+-- what a command writes and leaves, where the world reports this
+abbrev pub ActsBy : WorldReports → World → Command → List ℕ → World → Type 0
+ActsBy told old (command.Start actor call) text new =
+    (text ≡ reply_line ((step old (Start actor call)).reply)) × (new ≡ (step old (Start actor call)).world)
+ActsBy told old (command.Go actor more) text new = Answers (GoesOn (more + 1) old actor) text new
+ActsBy told old (command.Run actor) text new = Answers (Runs old actor) text new
+ActsBy told old (command.Do actor call) text new = Answers (Calls old actor call) text new
+ActsBy told old report text new = Tells told old report text new
+
+-- reports are those of a scan
+abbrev pub Acts : World → Command → List ℕ → World → Type 0
+Acts old command text new = ActsBy (reports_by_scan old) old command text new
+
+abbrev pub machine_player : Player
+machine_player = record { World = World; empty = formatted; Acts = Acts; listed = λ w. nodes_listed (reports_by_scan w) }
+
+-- HOW THE MACHINE ENDS A SCRIPT, where the writer has this at first and is left with that
+abbrev pub PlaysScript : Result (Unit {0}) Fault → (input left old new : Option (List ℕ)) → Type 0
+PlaysScript result input left old new = Ends machine_player result input left (λ text. Appends old new text)

@@ -18,7 +18,7 @@ use Rattle.nv_script.specs.declared.fault.LineFault.TheVariants as line_fault
 use Rattle.nv_script.specs.declared.feed.LineResult.{LineResult}
 use Rattle.nv_script.specs.declared.feed.LineResult.TheVariants as taken
 use Rattle.nv_script.specs.Lines.{WritesFront, WritesSome, ended}
-use Rattle.nv_script.specs.Play.{EndsBy, EndsWell, Formats, LineFails, ListsFront, Plays, PlaysAll, StopsAt, most_lines}
+use Rattle.nv_script.specs.Play.{EndsBy, EndsWell, Formats, LineFails, ListsFront, Plays, PlaysAll, StopsAt, machine_player, most_lines}
 use Rattle.nv_script.specs.Texts.{line_of, node_line, refused_line, tree_lines}
 use Rattle.nv_base.specs.Memory.{out_of_memory}
 
@@ -31,7 +31,7 @@ HasAnyRun (Some m) = HasRun m
 abbrev pub PlaysShown : Option WorldState → List ℕ → (List ℕ → Type 0) → Option WorldState → Type 0
 PlaysShown old line Writes new =
     (m : Option machine.World) → ShowsAny old m → HasAnyRun m
-    → (n : Option machine.World) × (text : List ℕ) × Plays m line text n × ShowsAny new n × Writes text
+    → (n : Option machine.World) × (text : List ℕ) × Plays machine_player m line text n × ShowsAny new n × Writes text
 
 -- where a text goes: the writer's bytes and what is gathered
 pub record Sent : Type 0 where
@@ -53,8 +53,9 @@ Fails old new text = WritesSome old.written new.written (old.gathered ++ text) �
 -- what became of one line that was not played to its end: memory was refused at a command, a write failed, or
 -- the line has a fault, and then nothing has changed
 abbrev pub LineFaultIs : LineFault → Sent → Sent → Option machine.World → List ℕ → Type 0
-LineFaultIs (line_fault.OutOfMemory _) old new m line = (text : List ℕ) × StopsAt m line text × Sends old new text
-LineFaultIs line_fault.Write old new m line = (text : List ℕ) × (n : Option machine.World) × Plays m line text n × Fails old new text
+LineFaultIs (line_fault.OutOfMemory _) old new m line = (text : List ℕ) × StopsAt machine_player m line text × Sends old new text
+LineFaultIs line_fault.Write old new m line =
+    (text : List ℕ) × (n : Option machine.World) × Plays machine_player m line text n × Fails old new text
 LineFaultIs (line_fault.Faulty fault) old new m line = LineFails (is_some m) line fault × (new ≡ old)
 
 -- what became of one line, and of the text that it writes
@@ -103,7 +104,7 @@ HandsLines result begun why nodes old new = MatchResult result
 
 -- a world is made, or there is none
 abbrev pub MakesWorld : Option GeometryField → GeometryNumbers → List ℕ → Option WorldState → Type 0
-MakesWorld field numbers text new = (n : Option machine.World) × Formats field numbers text n × ShowsAny new n
+MakesWorld field numbers text new = (n : Option machine.World) × Formats machine_player field numbers text n × ShowsAny new n
 
 -- a test holds, or words are miscounted
 abbrev pub Counts : Result (Unit {0}) ScriptFaultKind → Bool → Type 0
@@ -159,7 +160,7 @@ pub record AtLine (input known old new : Option (List ℕ)) (gathered : List ℕ
   pub text : List ℕ
   pub count : length lines + 1 ≡ number
   pub taken : Consumes input known (ended lines)
-  pub plays : PlaysAll None lines text world
+  pub plays : PlaysAll machine_player None lines text world
   pub written : WritesFront old new text gathered
 
 -- once a read or a write failed, nothing is gathered
@@ -172,6 +173,7 @@ HoldsNone _ gathered = Unit {0}
 abbrev pub TurnIs : Result Bool Fault → (input left known old new : Option (List ℕ)) → List ℕ → ℕ → Option WorldState → Type 0
 TurnIs (Ok true) input left known old new gathered number world =
     (number ≤ most_lines) × (n : Option machine.World) × AtLine input known old new gathered (number + 1) n × ShowsAny world n
-TurnIs (Ok false) input left known old new gathered number world = EndsWell input left (λ text. WritesFront old new text gathered)
+TurnIs (Ok false) input left known old new gathered number world =
+    EndsWell machine_player input left (λ text. WritesFront old new text gathered)
 TurnIs (Err why) input left known old new gathered number world =
-    EndsBy why input left (λ text. WritesFront old new text gathered) × HoldsNone {A = Bool} (Err why) gathered
+    EndsBy machine_player why input left (λ text. WritesFront old new text gathered) × HoldsNone {A = Bool} (Err why) gathered

@@ -7,8 +7,10 @@ ghost use Rattle.std.specs.Vec.{vec_capacity};
 ghost use Rattle.nv_machine.specs.World as machine;
 ghost use Rattle.nv_core.specs.Worlds.{ShowsAny};
 ghost use Rattle.nv_script.specs.Lines.{WritesFront, WritesSome};
-ghost use Rattle.nv_script.specs.Play.{Ends, PlaysScript, failed_reads, failed_writes};
+ghost use Rattle.nv_script.specs.Play.{Ends, PlaysScript, failed_reads, failed_writes, machine_player};
 ghost use Rattle.nv_script.specs.Results.{AtLine, HoldsNone, TurnIs, ending_of, is_line};
+ghost use Rattle.nv_script.specs.SerialPlayer.{serial_player};
+ghost use Rattle.nv_script.specs.Serially.{PlaysAlone};
 
 use crate::act::play_line;
 use crate::counted::{CountedRead, CountedWrite, ReadCounter, WriteCounter, WriteFailed};
@@ -41,11 +43,16 @@ const TEXT_BYTES: usize = 4096;
 /// read takes one write. Bytes are read ahead, so some of those past a fault may be gone from the reader. The
 /// writer is not flushed.
 ///
+/// A script whose lines make no single steps of calls is played by a plain world with numbers, which has no steps, hands,
+/// locks or marks.
+///
 /// The library's reader and writer do not tell which calls failed. [`play_counted`] is played over counters of both,
 /// and says of them what `Read` and `Write` stand for.
 pub fn play<R: Read, W: Write>(alloc: Global, reader: &mut R, writer: &mut W) -> Result<(), Fault>
-    ensures { PlaysScript result (R.remaining reader.old) (R.remaining reader.new)
+    ensures script { PlaysScript result (R.remaining reader.old) (R.remaining reader.new)
         (W.contents writer.old) (W.contents writer.new) }
+    ensures serial { PlaysAlone serial_player result (R.remaining reader.old)
+        (R.remaining reader.new) (W.contents writer.old) (W.contents writer.new) }
 {
     let mut reader = ReadCounter::new(reader);
     let mut writer = WriteCounter::new(writer);
@@ -59,8 +66,10 @@ pub fn play_and_leave<R: Read, W: Write>(
     reader: &mut R,
     writer: &mut W,
 ) -> Result<(), Fault>
-    ensures { PlaysScript result (R.remaining reader.old) (R.remaining reader.new)
+    ensures script { PlaysScript result (R.remaining reader.old) (R.remaining reader.new)
         (W.contents writer.old) (W.contents writer.new) }
+    ensures serial { PlaysAlone serial_player result (R.remaining reader.old)
+        (R.remaining reader.new) (W.contents writer.old) (W.contents writer.new) }
 {
     let mut reader = ReadCounter::new(reader);
     let mut writer = WriteCounter::new(writer);
@@ -81,6 +90,8 @@ pub fn play_counted<R: CountedRead, W: CountedWrite>(
     requires writes { W.failed writer.old < 2 ^ 64 - 1 }
     ensures script { PlaysScript result (R.remaining reader.old) (R.remaining reader.new)
         (W.contents writer.old) (W.contents writer.new) }
+    ensures serial { PlaysAlone serial_player result (R.remaining reader.old)
+        (R.remaining reader.new) (W.contents writer.old) (W.contents writer.new) }
     ensures reads { R.failed reader.new ≡ R.failed reader.old + failed_reads result }
     ensures writes { W.failed writer.new ≡ W.failed writer.old + failed_writes result }
     ensures same_reader { R.place reader.new ≡ R.place reader.old }
@@ -100,6 +111,8 @@ pub fn play_counted_and_leave<R: CountedRead, W: CountedWrite>(
     requires writes { W.failed writer.old < 2 ^ 64 - 1 }
     ensures script { PlaysScript result (R.remaining reader.old) (R.remaining reader.new)
         (W.contents writer.old) (W.contents writer.new) }
+    ensures serial { PlaysAlone serial_player result (R.remaining reader.old)
+        (R.remaining reader.new) (W.contents writer.old) (W.contents writer.new) }
     ensures reads { R.failed reader.new ≡ R.failed reader.old + failed_reads result }
     ensures writes { W.failed writer.new ≡ W.failed writer.old + failed_writes result }
     ensures same_reader { R.place reader.new ≡ R.place reader.old }
@@ -182,7 +195,7 @@ impl Player {
         requires world { self.old.world ≡ None }
         requires reads { R.failed reader.old < 2 ^ 64 - 1 }
         requires writes { W.failed writer.old < 2 ^ 64 - 1 }
-        ensures script { Ends result (R.remaining reader.old) (R.remaining reader.new)
+        ensures script { Ends machine_player result (R.remaining reader.old) (R.remaining reader.new)
             (λ text. WritesFront (W.contents writer.old) (W.contents writer.new)
             text self.new.outbox) }
         ensures unheld { HoldsNone result self.new.outbox }
