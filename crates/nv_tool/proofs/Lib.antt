@@ -1,0 +1,2 @@
+pub mod SerialLines
+pub mod SerialRows
