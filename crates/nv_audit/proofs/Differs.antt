@@ -23,3 +23,9 @@ all_agree d found none told records lists = record {
   records = records;
   lists = lists;
 }
+
+-- the same, of what is the same
+pub told_alike : (A B : Type 0) (o : Option MismatchPart) → (A → B) → (B → A) → MatchOption o A (λ p. (p ≡ Counts) × (¬ A))
+    → MatchOption o B (λ p. (p ≡ Counts) × (¬ B))
+told_alike A B None to back told = to told
+told_alike A B (Some p) to back told = (told.0, λ b. told.1 (back b))

@@ -1,9 +1,8 @@
 -- The first part that differs of parts at rest.
 use Rattle.std.proofs.Common.{◌≡◌, ℕ, List, Option, Some, None, inl, sym, subst}
-use Rattle.std.specs.Prelude.{IfOk, MatchOption, Result, Ok, Err}
+use Rattle.std.specs.Prelude.{MatchOption}
 use Rattle.nv_alloc.specs.FreeList.{FreeBlocks}
 use Rattle.nv_alloc.specs.InodePool.{FreeInodes}
-use Rattle.nv_base.specs.declared.fault.Fault.{Fault}
 use Rattle.nv_base.specs.declared.fault.MismatchPart.{MismatchPart}
 use Rattle.nv_base.specs.declared.fault.MismatchPart.TheVariants.{Index, Names, Counts, Records, Lists}
 use Rattle.nv_base.specs.declared.geometry.GeometryNumbers.{GeometryNumbers}
@@ -12,14 +11,12 @@ use Rattle.nv_cell.specs.Cell.{CellState}
 use Rattle.nv_audit.specs.Resting.{HasCounts, HasIndex, HasShape, IsFirstAtRest, IsFirstOfInode, IsFirstOfInodes, IsInodeAtRest}
 
 -- what an audit finds of an inode whose index and names do not differ
-pub counts_told : (book : BookState) (ino : ℕ) (cell : CellState) (r : Result (Option MismatchPart) Fault) → HasIndex cell
-    → HasShape cell
-    → IfOk r (λ part. MatchOption part (HasCounts book ino cell) (λ p. (p ≡ Counts) × (¬ HasCounts book ino cell)))
-    → IfOk r (λ part. MatchOption part (IsInodeAtRest book ino cell) (λ p. IsFirstOfInode p book ino cell))
-counts_told book ino cell (Ok None) index names told = record { index = index; names = names; counts = told }
-counts_told book ino cell (Ok (Some p)) index names told =
+pub counts_told : (book : BookState) (ino : ℕ) (cell : CellState) (o : Option MismatchPart) → HasIndex cell → HasShape cell
+    → MatchOption o (HasCounts book ino cell) (λ p. (p ≡ Counts) × (¬ HasCounts book ino cell))
+    → MatchOption o (IsInodeAtRest book ino cell) (λ p. IsFirstOfInode p book ino cell)
+counts_told book ino cell None index names told = record { index = index; names = names; counts = told }
+counts_told book ino cell (Some p) index names told =
     subst (λ (q : MismatchPart). IsFirstOfInode q book ino cell) (sym told.0) (index, names, told.1)
-counts_told book ino cell (Err fault) index names told = told
 
 -- what differs first in an inode does so of all parts
 pub first_inode : (part : MismatchPart) (g : GeometryNumbers) (cells : List CellState) (lists : List FreeBlocks) (pool : FreeInodes)

@@ -1,15 +1,14 @@
 -- The parts of a log, entry by entry.
-use Rattle.std.proofs.Common.{◌≡◌, ℕ, zero, suc, ◌+◌, ◌<◌, ◌≤◌, Bool, false, List, [], ◌∷◌, ◌++◌, length, map, take, drop, get_or, arith, refl, ap, sym, ◌∙◌, inl, inr, slice_index_or}
+use Rattle.std.proofs.Common.{◌≡◌, ℕ, zero, suc, ◌+◌, ◌<◌, ◌≤◌, Bool, List, [], ◌∷◌, ◌++◌, length, map, take, drop, arith, refl, ap, sym, ◌∙◌, inl, inr, slice_index_or}
 use Rattle.std.proofs.lemmas.Bool.{cases_lt}
 use Rattle.std.proofs.lemmas.List.{append_assoc, length-append, length-map, length-take-le, map-append, take_all}
 use Rattle.nv_cell.specs.Cell.{CellState, IsCell, log_of}
-use Rattle.nv_cell.specs.Marks.{mark_at}
 use Rattle.nv_cell.specs.Numbers.{part_base}
 use Rattle.nv_cell.specs.Readers.{marks_by_entry}
 use Rattle.nv_cell.specs.declared.mark.Mark.{Mark}
 use Rattle.nv_entry.specs.Covered.{part_count, part_total}
 use Rattle.nv_entry.specs.declared.item.Entry.{Entry}
-use Rattle.nv_audit.specs.KeptParts.{AreFirsts, ArePartsOf, is_kept}
+use Rattle.nv_audit.specs.KeptParts.{ArePartsOf, is_kept}
 use Rattle.nv_audit.specs.declared.kept_parts.KeptParts.{KeptParts}
 
 take_nil : {X : Type 0} (n : ℕ) → take {A = X} n [] ≡ []

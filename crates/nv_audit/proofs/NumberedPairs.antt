@@ -2,7 +2,7 @@
 use Rattle.std.proofs.Common.{◌≡◌, ℕ, zero, suc, ◌+◌, ◌-◌, ◌<◌, ◌≤◌, List, [], ◌∷◌, length, take, drop, Option, Some, None, arith, refl, ap, sym, ◌∙◌, slice_index_or}
 use Rattle.std.specs.Prelude.{option_and_then, slice_get}
 use Rattle.std.specs.Option.{option_map}
-use Rattle.std.proofs.lemmas.List.{length-drop, take-take, take_all}
+use Rattle.std.proofs.lemmas.List.{take-take}
 use Rattle.std.proofs.lemmas.Option.{same_Some, slice_get-get_or, slice_get-map}
 use Rattle.nv_book.specs.declared.record.Record.{Record}
 use Rattle.nv_cell.specs.Cell.{CellState, log_of}
@@ -76,16 +76,6 @@ pair_at_number block (x ∷ log) (suc i) p e lt is within =
     let rest : drop (suc i + 1) (x ∷ log) ≡ drop (i + 1) log = ap (λ (n : ℕ). drop n (x ∷ log)) next in
     rw rest (pair_later block x log (part_base (x ∷ log) (suc i) + p) past ∙ ap (slice_get (pairs block log)) back
     ∙ pair_at_number block log i p e (omega (arith, lt)) is within)
-
--- so they do by the entries that a slice of the log has behind it
-pub pair_here : (block : ℕ) (log : List Entry) (i p : ℕ) (e : Entry) (pair : Option Pair) → i < length log
-    → e ≡ slice_index_or log i e → p < part_count e
-    → pair ≡ slice_get (pairs_of block e (take (length log - (i + 1)) (drop (i + 1) log))) p
-    → pair ≡ slice_get (pairs block log) (part_base log i + p)
-pair_here block log i p e pair lt is within got =
-    let rest : take (length log - (i + 1)) (drop (i + 1) log) ≡ drop (i + 1) log =
-    take_all (length log - (i + 1)) (drop (i + 1) log) (omega (arith, length-drop (i + 1) log)) in
-    got ∙ ap (λ (l : List Entry). slice_get (pairs_of block e l) p) rest ∙ sym (pair_at_number block log i p e lt is within)
 
 -- the numbers of the parts of an entry
 pub below_total : (log : List Entry) (i p : ℕ) (e : Entry) → slice_get log i ≡ Some e → p < part_count e

@@ -1,7 +1,6 @@
 -- A file ends at its size.
 use Rattle.std.proofs.Common.{◌≡◌, ◌≢◌, ◌⊎◌, inl, inr, ℕ, ◌+◌, ◌-◌, ◌*◌, ◌/◌, ◌%◌, ◌<◌, ◌≤◌, ◌==◌, if◌then◌else◌, zero, suc, Bool, true, false, List, length, drop, replicate, min, is_some, Option, Some, None, arith, refl, ap, sym, ◌∙◌, subst}
 use Rattle.std.specs.Prelude.{◌↔◌, All, IfSome, IsTrue, not, option_and_then, slice_index_or}
-use Rattle.std.specs.Int.{div_ceil}
 use Rattle.std.specs.Option.{option_map}
 use Rattle.std.proofs.Math.Nat.{mul-le-mul_right}
 use Rattle.std.proofs.lemmas.Bool.{cases_lt, eqb-false, eqb-true}
@@ -18,7 +17,7 @@ use Rattle.nv_entry.specs.declared.key.Setting.TheVariants.{Untouched, Absent, P
 use Rattle.nv_entry.specs.declared.part_ref.PartRef.{PartRef}
 use Rattle.nv_entry.specs.Data.{block_in}
 use Rattle.nv_entry.specs.Index.{last_cover}
-use Rattle.nv_entry.specs.Keys.{Key, PageKey, in_run, is_page, is_past, pages_for, sets}
+use Rattle.nv_entry.specs.Keys.{PageKey, in_run, is_page, is_past, pages_for, sets}
 use Rattle.nv_entry.specs.Log.{value_of}
 use Rattle.nv_entry.specs.Node.{block_now}
 use Rattle.nv_entry.specs.Refs.{left_by, ref_after, scan_ref}

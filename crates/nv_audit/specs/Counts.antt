@@ -1,5 +1,5 @@
 -- Counts of pages that are the scan of a log.
-use Rattle.std.specs.Prelude.{◌≡◌, ℕ, ◌<◌, drop, length}
+use Rattle.std.specs.Prelude.{◌≡◌, ℕ, ◌<◌, Bool, List, drop, length}
 use Rattle.nv_entry.specs.Counts.{live_of, valid_of}
 use Rattle.nv_entry.specs.Held.{Retention}
 use Rattle.nv_log.specs.Chain.{start_of}
@@ -7,6 +7,7 @@ use Rattle.nv_cell.specs.Cell.{CellState, log_of}
 use Rattle.nv_cell.specs.Readers.{counts_of}
 use Rattle.nv_cell.specs.Retained.{published_on}
 use Rattle.nv_cell.specs.declared.tally.LogPageCounts.{LogPageCounts}
+use Rattle.nv_audit.specs.Retained.{marked_on}
 
 -- the counts of a page from scratch: of its published entries, in the log from its first one on
 abbrev pub scanned_counts : Retention → CellState → ℕ → LogPageCounts
@@ -18,3 +19,7 @@ scanned_counts r cell page = record {
 -- each page with entries has these
 abbrev pub AreCounted : Retention → CellState → Type 0
 AreCounted r cell = (page : ℕ) → page < length cell.chain.ends → counts_of cell page ≡ scanned_counts r cell page
+
+-- of each page so many entries are valid as are marked
+abbrev pub AreValidAs : CellState → List Bool → Type 0
+AreValidAs cell entries = (page : ℕ) → page < length cell.chain.ends → (counts_of cell page).valid ≡ marked_on cell entries page

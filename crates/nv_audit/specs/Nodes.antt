@@ -1,5 +1,5 @@
 -- The nodes of all slots by their cells, now and at each living snapshot.
-use Rattle.std.specs.Prelude.{ℕ, All, List, map, Option}
+use Rattle.std.specs.Prelude.{◌≡◌, ℕ, All, List, [], map, Option}
 use Rattle.std.specs.Option.{option_map}
 use Rattle.nv_base.specs.declared.node.Kind.{Kind}
 use Rattle.nv_cell.specs.Cell.{CellState, log_of}
@@ -30,3 +30,7 @@ slots_when when cells = map (node_when when) cells
 pub record AreTrees (snapshots : List ℕ) (cells : List CellState) : Type 0 where
   pub now : IsTree (slots_when Now cells)
   pub at : All (λ (snapshot : ℕ). IsTree (slots_when (At snapshot) cells)) snapshots
+
+-- the logs of these cells have no entries
+abbrev pub AreUnused : List CellState → Type 0
+AreUnused cells = All (λ (c : CellState). log_of c ≡ []) cells

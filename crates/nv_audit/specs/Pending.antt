@@ -1,5 +1,6 @@
 -- What is on its way: in hands, or deferred.
-use Rattle.std.specs.Prelude.{ℕ, ◌==◌, List, ◌++◌, filter, map}
+use Rattle.std.specs.Prelude.{◌≡◌, ℕ, ◌<◌, ◌==◌, List, [], ◌++◌, filter, length, map, slice_index_or}
+use Rattle.std.specs.Global.{Vec}
 use Rattle.nv_entry.specs.declared.part.PartId.{PartId}
 use Rattle.nv_entry.specs.Held.{Retention}
 use Rattle.nv_book.specs.declared.record.Record.{Record}
@@ -29,3 +30,19 @@ retention_by snapshots deferred in_hands ino cell = record {
   snapshots = snapshots;
   pending = pending_of ino deferred in_hands;
 }
+
+-- ---- by slot
+
+-- the list of a slot
+abbrev pub parts_at : List (Vec PartId) → ℕ → List PartId
+parts_at lists ino = slice_index_or (map (λ (v : Vec PartId). v.items) lists) ino []
+
+-- each list has more at its end: that of a slot these parts
+pub record HaveMore (more : ℕ → List PartId) (old new : List (Vec PartId)) : Type 0 where
+  pub len : length new ≡ length old
+  pub each : (ino : ℕ) → ino < length old → parts_at new ino ≡ parts_at old ino ++ more ino
+
+-- the pending parts of each of so many slots
+pub record ArePendingOf (slots : ℕ) (deferred : List Record) (in_hands : List InodePart) (lists : List (Vec PartId)) : Type 0 where
+  pub len : length lists ≡ slots
+  pub each : (ino : ℕ) → ino < slots → parts_at lists ino ≡ pending_of ino deferred in_hands

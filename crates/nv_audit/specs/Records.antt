@@ -5,7 +5,7 @@ use Rattle.nv_entry.specs.declared.held.Pair.{Pair}
 use Rattle.nv_entry.specs.declared.item.Entry.{Entry}
 use Rattle.nv_entry.specs.declared.part.PartId.{PartId}
 use Rattle.nv_entry.specs.Held.{holds, is_current, is_named, pair_name}
-use Rattle.nv_entry.specs.Log.{pairs, pairs_of}
+use Rattle.nv_entry.specs.Log.{pairs}
 use Rattle.nv_epoch.specs.SnapList.{ids}
 use Rattle.nv_cell.specs.Cell.{CellState, CellValue, log_of}
 use Rattle.nv_book.specs.Book.{BookState}
@@ -44,10 +44,7 @@ part_in ino pair = record { ino = ino; part = pair_name pair }
 abbrev pub owed_pair : ℕ → List PartId → ℕ → Pair → List InodePart
 owed_pair s named ino pair = if is_owed s named pair then part_in ino pair ∷ [] else []
 
--- those of an entry, where `later` are the entries behind it, and those of an inode's log
-abbrev pub owed_of : ℕ → List PartId → ℕ → ℕ → Entry → List Entry → List InodePart
-owed_of s named ino block e later = flat_map (owed_pair s named ino) (pairs_of block e later)
-
+-- those of an inode's log
 abbrev pub owed_in : ℕ → List PartId → ℕ → ℕ → List Entry → List InodePart
 owed_in s named ino block log = flat_map (owed_pair s named ino) (pairs block log)
 

@@ -1,5 +1,6 @@
 -- The parts of a device at rest, and the first of them that differs.
 use Rattle.std.specs.Prelude.{◌≡◌, ℕ, ◌<◌, ◌⊎◌, All, List, [], length, slice_index_or}
+use Rattle.std.specs.Global.{Vec}
 use Rattle.nv_alloc.specs.FreeList.{FreeBlocks}
 use Rattle.nv_alloc.specs.InodePool.{FreeInodes}
 use Rattle.nv_alloc.specs.Numbers.{IsEachOnce}
@@ -7,9 +8,9 @@ use Rattle.nv_base.specs.declared.fault.MismatchPart.{MismatchPart}
 use Rattle.nv_base.specs.declared.fault.MismatchPart.TheVariants.{Index, Names, Counts, Records, Lists}
 use Rattle.nv_base.specs.declared.geometry.GeometryNumbers.{GeometryNumbers}
 use Rattle.nv_book.specs.Book.{BookState, IsBookOf}
-use Rattle.nv_book.specs.declared.record.Record.{Record}
 use Rattle.nv_cell.specs.Cell.{CellState, IsCell, log_of}
 use Rattle.nv_cell.specs.Shape.{IsLeftShaped}
+use Rattle.nv_entry.specs.declared.part.PartId.{PartId}
 use Rattle.nv_epoch.specs.SnapList.{ids}
 use Rattle.nv_audit.specs.AtRest.{HasNoneKilled, IsAtRest, IsOneBook, IsUpTo}
 use Rattle.nv_audit.specs.Blocks.{all_blocks}
@@ -17,6 +18,7 @@ use Rattle.nv_audit.specs.DeviceParts.{AreListsOf, AreSlotsOf}
 use Rattle.nv_audit.specs.KeptParts.{AreAllRecordsOf, cell_in}
 use Rattle.nv_audit.specs.Lists.{blocks_had}
 use Rattle.nv_audit.specs.Nodes.{AreTrees}
+use Rattle.nv_audit.specs.Pending.{ArePendingOf}
 use Rattle.nv_audit.specs.Pool.{IsPoolOf}
 use Rattle.nv_audit.specs.Records.{AreRecorded}
 use Rattle.nv_audit.specs.Sound.{EndsAtSize}
@@ -49,6 +51,11 @@ pub record IsInodeAtRest (book : BookState) (ino : ℕ) (cell : CellState) : Typ
 abbrev pub AreInodesAtRest : BookState → List CellState → Type 0
 AreInodesAtRest book cells =
     (ino : ℕ) (default : CellState) → ino < length cells → IsInodeAtRest book ino (slice_index_or cells ino default)
+
+-- in a book these snapshots live, and these are the pending parts of each slot where nothing is in hands
+pub record IsBookWith (snapshots : List ℕ) (lists : List (Vec PartId)) (book : BookState) : Type 0 where
+  pub living : snapshots ≡ ids book.snaps
+  pub pending : ArePendingOf (length lists) book.deferred [] lists
 
 -- the first part of an inode that differs
 abbrev pub IsFirstOfInode : MismatchPart → BookState → ℕ → CellState → Type 0

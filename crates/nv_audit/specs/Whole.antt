@@ -1,5 +1,6 @@
 -- A device between two steps, and the first part of it that differs from one scan of all logs.
 use Rattle.std.specs.Prelude.{◌≡◌, ℕ, ◌+◌, ◌-◌, ◌<◌, List, length, slice_index_or}
+use Rattle.std.specs.Global.{Vec}
 use Rattle.nv_base.specs.declared.fault.Fault.{Fault}
 use Rattle.nv_base.specs.declared.fault.Fault.TheVariants.{Mismatch}
 use Rattle.nv_base.specs.declared.fault.MismatchPart.{MismatchPart}
@@ -13,10 +14,11 @@ use Rattle.nv_book.specs.Book.{BookState}
 use Rattle.nv_book.specs.declared.record.Record.{Record}
 use Rattle.nv_cell.specs.Cell.{CellState, CellValue, IsCell}
 use Rattle.nv_cell.specs.Retained.{AreMarksOf}
+use Rattle.nv_entry.specs.declared.part.PartId.{PartId}
 use Rattle.nv_epoch.specs.SnapList.{ids}
 use Rattle.nv_audit.specs.Counts.{AreCounted}
 use Rattle.nv_audit.specs.Lists.{AreFree, no_list, used_of}
-use Rattle.nv_audit.specs.Pending.{retention_by}
+use Rattle.nv_audit.specs.Pending.{parts_at, retention_by}
 use Rattle.nv_audit.specs.Records.{AreRecorded, states_of}
 use Rattle.nv_audit.specs.declared.part_list.InodePart.{InodePart}
 use Rattle.nv_audit.specs.declared.pending.InHands.{InHands}
@@ -42,8 +44,17 @@ device_with numbers cells lists book hands = record {
   blocks = hands.blocks.items;
 }
 
--- the counts of an inode are those of its log, where these snapshots live, these records are deferred, and calls have
--- these parts in their hands
+-- the counts of an inode are those of its log, where these snapshots live, and these parts of it are pending
+abbrev pub IsCountedWith : List ℕ → List PartId → CellState → Type 0
+IsCountedWith snapshots pending cell = AreCounted (record { block = cell.block; snapshots = snapshots; pending = pending }) cell
+
+-- so are those of each inode, where each slot has such a list
+abbrev pub CountsAgreeWith : List ℕ → List (Vec PartId) → List CellState → Type 0
+CountsAgreeWith snapshots pending cells =
+    (ino : ℕ) (default : CellState) → ino < length cells
+    → IsCountedWith snapshots (parts_at pending ino) (slice_index_or cells ino default)
+
+-- so they are where these records are deferred, and calls have these parts in their hands
 abbrev pub IsCountedBy : List ℕ → List Record → List InodePart → ℕ → CellState → Type 0
 IsCountedBy snapshots deferred in_hands ino cell = AreCounted (retention_by snapshots deferred in_hands ino cell) cell
 

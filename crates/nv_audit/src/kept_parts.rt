@@ -1,6 +1,6 @@
 //! The parts of a log that are marked kept, beside their records.
 
-ghost use Rattle.std.specs.Prelude.{◌≡◌, ◌↔◌, ℕ, ◌+◌, ◌<◌, ◌++◌, All, IfOk, IfSome, IsTrue, OnOk, Some, false, length, map, slice_get, slice_index_or};
+ghost use Rattle.std.specs.Prelude.{◌≡◌, ◌↔◌, ℕ, ◌+◌, ◌<◌, ◌++◌, All, IfOk, IfSome, IsTrue, OnOk, Option, Some, false, length, map, slice_get, slice_index_or};
 ghost use Rattle.std.specs.Option.{option_map};
 ghost use Rattle.nv_base.specs.Refusals.{FailsOnly};
 ghost use Rattle.nv_base.specs.Memory.{out_of_memory};
@@ -10,9 +10,11 @@ ghost use Rattle.nv_cell.specs.Numbers.{part_base};
 ghost use Rattle.nv_entry.specs.Covered.{part_count};
 ghost use Rattle.nv_entry.specs.declared.item.Entry.{Entry as EntryValue};
 ghost use Rattle.nv_epoch.specs.SnapList.{ids};
+ghost use Rattle.nv_audit.specs.Deaths.{deaths_of};
 ghost use Rattle.nv_audit.specs.Pending.{part_of};
 ghost use Rattle.nv_audit.specs.KeptParts.{AreOnceRecorded, ArePartsOf, AreRecordsOf, IsRecordOf, TellsOf, is_kept, is_left, pair_named, taken_from};
 
+use crate::deaths::deaths_of;
 use nv_base::limits::FILE_PAGES;
 use nv_base::{Epoch, Fault};
 use nv_book::Record;
@@ -30,15 +32,15 @@ struct FoundPart {
 
 /// The parts of a log by number: where those of each entry begin, and which are marked kept and have no record yet.
 #[derive(Debug, Drop)]
-struct KeptParts {
+pub(crate) struct KeptParts {
     firsts: Vec<usize>,
     left: Vec<bool>,
 }
 
 /// Whether these are the records of a cell: each is of a part of its log that is no longer current, with its birth and
 /// the living snapshots that hold it, and each part that is marked kept has one, and no other part has any. Costs one
-/// pass over the log, for each record a look-up of its entry and a walk from there to the entry that covers the part,
-/// and memory for each part of the log.
+/// pass over the log from its end with a look-up for each part and for each entry, for each record a look-up of its entry
+/// and two of snapshots, and memory for each part of the log.
 pub fn are_records_of(
     alloc: Global,
     snaps: &SnapList,
@@ -49,31 +51,48 @@ pub fn are_records_of(
         ↔ AreRecordsOf (ids snaps.now) cell.now.state records.now) }
     ensures err { FailsOnly out_of_memory result }
 {
-    if !are_of_parts(snaps, records, cell) {
+    let parts = kept_parts(alloc, cell)?;
+    let deaths = deaths_of(alloc, cell)?;
+    if !are_of_parts(snaps, records, cell, &parts, &deaths) {
         return Ok(false);
     }
-    let once = are_once_recorded(alloc, records, cell)?;
-    Ok(once)
+    Ok(are_once_recorded(records, cell, parts))
 }
 
 /// Whether each record is of a part of a log.
-fn are_of_parts(snaps: &SnapList, records: &[Record], cell: &InodeCell) -> bool
+fn are_of_parts(
+    snaps: &SnapList,
+    records: &[Record],
+    cell: &InodeCell,
+    parts: &KeptParts,
+    deaths: &[Option<Epoch>],
+) -> bool
+    requires parts { ArePartsOf cell.now.state parts.now }
+    requires deaths { deaths.now ≡ deaths_of cell.now.state }
     ensures { IsTrue result ↔ All (IsRecordOf (ids snaps.now) cell.now.state) records.now }
 {
     for record in records {
-        if !is_record_of(snaps, record, cell) {
+        if !is_record_of(snaps, record, cell, parts, deaths) {
             return false;
         }
     }
     true
 }
 
-fn is_record_of(snaps: &SnapList, record: &Record, cell: &InodeCell) -> bool
+fn is_record_of(
+    snaps: &SnapList,
+    record: &Record,
+    cell: &InodeCell,
+    parts: &KeptParts,
+    deaths: &[Option<Epoch>],
+) -> bool
+    requires parts { ArePartsOf cell.now.state parts.now }
+    requires deaths { deaths.now ≡ deaths_of cell.now.state }
     ensures { IsTrue result ↔ IsRecordOf (ids snaps.now) cell.now.state record.now }
 {
     // The log is one, so that each part has a name of its own.
     cell.use_invariant();
-    match pair_named(cell, part_of(record)) {
+    match pair_named(cell, parts, deaths, part_of(record)) {
         Some(pair) => tells_of(snaps, record, &pair),
         None => false,
     }
@@ -114,13 +133,41 @@ fn is_same(one: Option<Epoch>, other: Option<Epoch>) -> bool
 }
 
 /// The pair of a log that has a name.
-fn pair_named(cell: &InodeCell, id: PartId) -> Option<Pair>
+fn pair_named(
+    cell: &InodeCell,
+    parts: &KeptParts,
+    deaths: &[Option<Epoch>],
+    id: PartId,
+) -> Option<Pair>
+    requires parts { ArePartsOf cell.now.state parts.now }
+    requires deaths { deaths.now ≡ deaths_of cell.now.state }
     ensures { result ≡ pair_named cell.now.state id }
 {
     let found = find_part(cell, id)?;
     let log = cell.log().log();
-    let later = &log[found.entry + 1..];
-    Pair::at(cell.block_bytes(), &log[found.entry], later, found.place)
+    let entry = &log[found.entry];
+    let number = number_at(cell, parts, found);
+    Some(pair_from(&id, entry.epoch, death_at(deaths, number)))
+}
+
+/// When the part of that number died.
+pub(crate) fn death_at(deaths: &[Option<Epoch>], number: usize) -> Option<Epoch>
+    requires { number < length deaths.now }
+    ensures { (other : Option ℕ) → result ≡ slice_index_or deaths.now number other }
+{
+    deaths[number]
+}
+
+/// The pair of a part, from its birth to its death.
+pub(crate) fn pair_from(id: &PartId, birth: Epoch, death: Option<Epoch>) -> Pair
+    ensures { result ≡ record { entry = id.now.entry; part = id.now.part; birth = birth; death = death } }
+{
+    Pair {
+        entry: id.entry,
+        part: id.part,
+        birth,
+        death,
+    }
 }
 
 /// A part of a log by its name.
@@ -161,35 +208,44 @@ fn place_of(item: &Item, part: Part) -> Option<u32>
     }
 }
 
-/// Whether each part that is marked kept has one of these records, and no other part has any.
-fn are_once_recorded(
-    alloc: Global,
-    records: &[Record],
-    cell: &InodeCell,
-) -> Result<bool, AllocError>
-    ensures { IfOk result (λ are. IsTrue are ↔ AreOnceRecorded cell.now.state records.now) }
+/// Whether each part that is marked kept has one of these records, and no other part has any. No part is taken away yet.
+fn are_once_recorded(records: &[Record], cell: &InodeCell, mut parts: KeptParts) -> bool
+    requires parts { ArePartsOf cell.now.state parts }
+    requires left { parts.left.items ≡ map is_kept cell.now.state.marks }
+    ensures { IsTrue result ↔ AreOnceRecorded cell.now.state records.now }
 {
-    let mut parts = kept_parts(alloc, cell)?;
     for record in records {
         let number = number_of(cell, &parts, part_of(record));
         if !take_away(&mut parts.left, number) {
-            return Ok(false);
+            return false;
         }
     }
-    Ok(are_none_left(&parts.left))
+    are_none_left(&parts.left)
 }
 
 /// The number of a part of a log by its name.
-fn number_of(cell: &InodeCell, parts: &KeptParts, id: PartId) -> Option<usize>
+pub(crate) fn number_of(cell: &InodeCell, parts: &KeptParts, id: PartId) -> Option<usize>
     requires { ArePartsOf cell.now.state parts.now }
     ensures number { result ≡ number_named (log_of cell.now.state) id }
     ensures within { IfSome result (λ n. n < length cell.now.state.marks) }
 {
+    let found = find_part(cell, id)?;
+    Some(number_at(cell, parts, found))
+}
+
+/// The number of a part of a log by its place.
+fn number_at(cell: &InodeCell, parts: &KeptParts, found: FoundPart) -> usize
+    requires parts { ArePartsOf cell.now.state parts.now }
+    requires entry { found.entry < length (log_of cell.now.state) }
+    requires place { (e : EntryValue) → slice_get (log_of cell.now.state) found.entry ≡ Some e
+        → found.place < part_count e }
+    ensures number { result ≡ part_base (log_of cell.now.state) found.entry + found.place }
+    ensures within { result < length cell.now.state.marks }
+{
     // Each part has a mark, and so many there are.
     cell.use_invariant();
     let _count = parts.left.len();
-    let found = find_part(cell, id)?;
-    Some(parts.firsts[found.entry] + found.place as usize)
+    parts.firsts[found.entry] + found.place as usize
 }
 
 /// Takes away what a part has on a list of those that are left, and says whether it was there. A number that no part
@@ -208,7 +264,7 @@ fn take_away(left: &mut Vec<bool>, number: Option<usize>) -> bool
 }
 
 /// The parts of a log before any record.
-fn kept_parts(alloc: Global, cell: &InodeCell) -> Result<KeptParts, AllocError>
+pub(crate) fn kept_parts(alloc: Global, cell: &InodeCell) -> Result<KeptParts, AllocError>
     ensures parts { IfOk result (ArePartsOf cell.now.state) }
     ensures left { IfOk result (λ parts. parts.left.items ≡ map is_kept cell.now.state.marks) }
 {

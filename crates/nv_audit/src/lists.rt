@@ -11,10 +11,10 @@ ghost use Rattle.nv_audit.specs.Records.{states_of};
 ghost use Rattle.std.specs.Option.{option_copied};
 
 use crate::parts::{pair_at, part_at};
-use crate::pending::{listed, living, pending_of};
+use crate::pending::{listed, living, pending_by_slot};
 use crate::{InHands, InodePart};
 use nv_alloc::{Block, FreeList};
-use nv_base::{BlockNo, Epoch, Fault, Geometry, Ino};
+use nv_base::{BlockNo, Epoch, Fault, Geometry};
 use nv_book::{Book, Record};
 use nv_cell::InodeCell;
 use nv_entry::{Entry, Item, Pair, Part, Retention};
@@ -22,9 +22,9 @@ use std::alloc::{AllocError, Global};
 
 /// Whether the free list of each CPU has the numbers of its home range that are not used: neither by a page of a
 /// log, nor by a pair that is needed, pending or killed, nor by what is appended and not yet published, nor by a
-/// hand. Costs one pass over all numbers; for each inode one over the deferred records and the parts in hands; and
-/// for each part of each log a walk over the entries behind it and, where it is no longer current, over the
-/// snapshots and that inode's pending parts.
+/// hand. Costs one pass over all numbers, one over the deferred records and the parts in hands, and for each part of
+/// each log a walk over the entries behind it and, where it is no longer current, over the snapshots and that inode's
+/// pending parts.
 pub fn are_free(
     alloc: Global,
     geometry: &Geometry,
@@ -72,14 +72,14 @@ fn used_from(
         ≡ used_from snapshots.now deferred.now in_hands.now 0 (states_of cells.now)) }
     ensures err { FailsOnly out_of_memory result }
 {
+    let pending = pending_by_slot(alloc, cells.len(), deferred, in_hands)?;
     let mut used = Vec::new(alloc);
     for place in 0..cells.len() {
         let cell = &cells[place];
-        let pending = pending_of(alloc, Ino::new(place as u64), deferred, in_hands)?;
         let retention = Retention {
             block: cell.block_bytes(),
             snapshots,
-            pending: &pending,
+            pending: &pending[place],
         };
         push_used(&mut used, &retention, cell)?;
     }

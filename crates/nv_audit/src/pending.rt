@@ -1,13 +1,11 @@
 //! What is on its way: in hands, or deferred.
 
-ghost use Rattle.std.specs.Prelude.{◌≡◌, ◌++◌, IfOk, OnOk};
-ghost use Rattle.nv_base.specs.Refusals.{FailsOnly};
-ghost use Rattle.nv_base.specs.Memory.{out_of_memory};
+ghost use Rattle.std.specs.Prelude.{◌≡◌, ◌==◌, ◌++◌, ℕ, [], ◌∷◌, IfOk, OnOk, if◌then◌else◌};
 ghost use Rattle.nv_epoch.specs.SnapList.{ids};
-ghost use Rattle.nv_audit.specs.Pending.{deferred_of, of_inode, pending_of};
+ghost use Rattle.nv_audit.specs.Pending.{ArePendingOf, HaveMore, deferred_of, of_inode};
 
 use crate::InodePart;
-use nv_base::{BlockNo, Epoch, Fault, Ino};
+use nv_base::{BlockNo, Epoch, Ino};
 use nv_book::{Book, Record, Records};
 use nv_entry::PartId;
 use std::alloc::{AllocError, Global};
@@ -20,20 +18,71 @@ pub struct InHands {
     pub parts: Vec<InodePart>,
 }
 
-/// The parts of an inode that are deferred or in hands. Costs the lengths of both lists.
-pub fn pending_of(
+/// The parts of each of so many slots that are deferred or in hands. Costs the lengths of both lists, and memory for each
+/// slot and each of their parts.
+pub(crate) fn pending_by_slot(
     alloc: Global,
-    ino: Ino,
+    slots: usize,
     deferred: &[Record],
-    parts: &[InodePart],
-) -> Result<Vec<PartId>, Fault>
-    ensures ok { IfOk result (λ pending. pending.items ≡ pending_of ino deferred.now parts.now) }
-    ensures err { FailsOnly out_of_memory result }
+    in_hands: &[InodePart],
+) -> Result<Vec<Vec<PartId>>, AllocError>
+    ensures { IfOk result (λ lists. ArePendingOf slots deferred.now in_hands.now lists.items) }
 {
-    let mut pending = Vec::new(alloc);
-    push_deferred(&mut pending, ino, deferred)?;
-    push_of_inode(&mut pending, ino, parts)?;
-    Ok(pending)
+    let mut lists = none_pending(alloc, slots)?;
+    put_deferred(&mut lists, deferred)?;
+    put_in_hands(&mut lists, in_hands)?;
+    Ok(lists)
+}
+
+/// An empty list for each of so many slots.
+fn none_pending(alloc: Global, slots: usize) -> Result<Vec<Vec<PartId>>, AllocError>
+    ensures { IfOk result (λ lists. ArePendingOf slots [] [] lists.items) }
+{
+    let mut lists = Vec::new(alloc);
+    for _slot in 0..slots {
+        lists.push(Vec::new(alloc))?;
+    }
+    Ok(lists)
+}
+
+/// Puts the part of each record to the list of its slot.
+fn put_deferred(lists: &mut Vec<Vec<PartId>>, deferred: &[Record]) -> Result<(), AllocError>
+    ensures { OnOk result (HaveMore (λ (ino : ℕ). deferred_of ino deferred.now)
+        lists.old.items lists.new.items) }
+{
+    for gone in deferred {
+        let part = PartId {
+            entry: gone.entry,
+            part: gone.part,
+        };
+        put_part(lists, gone.ino, part)?;
+    }
+    Ok(())
+}
+
+/// Puts each part to the list of its slot.
+fn put_in_hands(lists: &mut Vec<Vec<PartId>>, parts: &[InodePart]) -> Result<(), AllocError>
+    ensures { OnOk result (HaveMore (λ (ino : ℕ). of_inode ino parts.now)
+        lists.old.items lists.new.items) }
+{
+    for part in parts {
+        put_part(lists, part.ino, part.part)?;
+    }
+    Ok(())
+}
+
+/// Puts a part to the list of its slot, if there is one.
+fn put_part(lists: &mut Vec<Vec<PartId>>, ino: Ino, part: PartId) -> Result<(), AllocError>
+    ensures { OnOk result (HaveMore (λ (slot : ℕ). if ino == slot then part ∷ [] else [])
+        lists.old.items lists.new.items) }
+{
+    let place = ino.number() as usize;
+    if place >= lists.len() {
+        return Ok(());
+    }
+    let list = &mut lists[place];
+    list.push(part)?;
+    Ok(())
 }
 
 /// The living snapshots.
@@ -48,21 +97,6 @@ pub(crate) fn listed(alloc: Global, records: &Records) -> Result<Vec<Record>, Al
     ensures { IfOk result (λ list. list.items ≡ records.now) }
 {
     records.iter().collect(alloc)
-}
-
-/// Puts the parts of an inode among these records to the end of a list.
-fn push_deferred(named: &mut Vec<PartId>, ino: Ino, deferred: &[Record]) -> Result<(), AllocError>
-    ensures { OnOk result (named.new.items ≡ named.old.items ++ deferred_of ino deferred.now) }
-{
-    for gone in deferred {
-        if gone.ino == ino {
-            named.push(PartId {
-                entry: gone.entry,
-                part: gone.part,
-            })?;
-        }
-    }
-    Ok(())
 }
 
 /// Puts the parts of an inode among these to the end of a list.

@@ -1,26 +1,29 @@
 //! The parts of a device at rest, and the first of them that differs.
 
-ghost use Rattle.std.specs.Prelude.{◌≡◌, ◌↔◌, ◌<◌, ℕ, [], All, IfOk, IsTrue, MatchOption};
+ghost use Rattle.std.specs.Prelude.{◌≡◌, ◌↔◌, ℕ, [], All, IfOk, IsTrue, MatchOption, length};
 ghost use Rattle.nv_base.specs.Refusals.{FailsOnly};
 ghost use Rattle.nv_base.specs.Memory.{out_of_memory};
+ghost use Rattle.nv_book.specs.Book.{BookState};
 ghost use Rattle.nv_cell.specs.Cell.{CellValue};
 ghost use Rattle.nv_epoch.specs.SnapList.{ids};
 ghost use Rattle.nv_audit.specs.AtRest.{IsOneBook};
 ghost use Rattle.nv_audit.specs.Nodes.{AreTrees};
+ghost use Rattle.nv_audit.specs.Pending.{pending_of};
 ghost use Rattle.nv_audit.specs.Records.{states_of};
-ghost use Rattle.nv_audit.specs.Resting.{AreAtRest, AreInodesAtRest, HasIndex, HasShape, HaveLists, HaveRecords, IsFirstAtRest, IsFirstOfInode, IsFirstOfInodes, IsInodeAtRest, IsOfPast};
+ghost use Rattle.nv_audit.specs.Resting.{AreAtRest, AreInodesAtRest, HasIndex, HasShape, HaveLists, HaveRecords, IsBookWith, IsFirstAtRest, IsFirstOfInode, IsFirstOfInodes, IsInodeAtRest, IsOfPast};
 
-use crate::pending::{listed, living};
+use crate::pending::{listed, living, pending_by_slot};
 use crate::whole::counts_differ;
 use crate::{
-    InHands, InodePart, are_all_records_of, are_blocks_apart, are_lists_of, are_recorded,
-    are_slots_of, ends_at_size, ends_at_tail, form_trees, has_none_killed, is_at_rest,
-    is_each_block_once, is_left_shaped, is_pool_of, is_up_to,
+    InHands, are_all_records_of, are_blocks_apart, are_lists_of, are_recorded, are_slots_of,
+    ends_at_size, ends_at_tail, form_trees, has_none_killed, is_at_rest, is_each_block_once,
+    is_left_shaped, is_pool_of, is_up_to,
 };
 use nv_alloc::{FreeList, InodePool};
-use nv_base::{Epoch, Fault, Geometry, Ino, MismatchPart};
-use nv_book::{Book, Record};
+use nv_base::{Epoch, Fault, Geometry, MismatchPart};
+use nv_book::Book;
 use nv_cell::InodeCell;
+use nv_entry::PartId;
 use std::alloc::Global;
 
 /// The first part of a device at rest that differs, if one does: inode by inode the index, the names and the counts, then
@@ -86,37 +89,27 @@ fn inodes_differ(
 {
     let snapshots = living(alloc, book)?;
     let deferred = listed(alloc, book.deferred())?;
-    first_at_rest(alloc, cells, book, &snapshots, &deferred, &hands.parts)
+    let pending = pending_by_slot(alloc, cells.len(), &deferred, &hands.parts)?;
+    let first = first_resting(alloc, cells, &snapshots, &pending)?;
+    Ok(first)
 }
 
-/// The same, where these snapshots live, these records are deferred, and nothing is in hands.
-fn first_at_rest(
+/// The same for each book that has these snapshots, and these pending parts of each slot where nothing is in hands.
+fn first_resting(
     alloc: Global,
     cells: &[InodeCell],
-    book: &Book,
     snapshots: &[Epoch],
-    deferred: &[Record],
-    in_hands: &[InodePart],
+    pending: &[Vec<PartId>],
 ) -> Result<Option<MismatchPart>, Fault>
-    requires snapshots { snapshots.now ≡ ids book.now.state.snaps }
-    requires deferred { deferred.now ≡ book.now.state.deferred }
-    requires hands { in_hands.now ≡ [] }
-    ensures ok { IfOk result (λ part. MatchOption part
-        (AreInodesAtRest book.now.state (states_of cells.now))
-        (λ part. IsFirstOfInodes part book.now.state (states_of cells.now))) }
+    requires { length pending.now ≡ length cells.now }
+    ensures ok { IfOk result (λ part. (book : BookState)
+        → IsBookWith snapshots.now pending.now book
+        → MatchOption part (AreInodesAtRest book (states_of cells.now))
+        (λ part. IsFirstOfInodes part book (states_of cells.now))) }
     ensures err { FailsOnly out_of_memory result }
 {
     for place in 0..cells.len() {
-        let ino = Ino::new(place as u64);
-        let differs = at_rest_differs(
-            alloc,
-            ino,
-            &cells[place],
-            book,
-            snapshots,
-            deferred,
-            in_hands,
-        )?;
+        let differs = at_rest_differs(alloc, &cells[place], snapshots, &pending[place])?;
         if differs.is_some() {
             return Ok(differs);
         }
@@ -124,26 +117,20 @@ fn first_at_rest(
     Ok(None)
 }
 
-/// The first part of an inode that differs.
+/// The first part of an inode that differs, for each book and number of which these are the snapshots and the pending
+/// parts.
 fn at_rest_differs(
     alloc: Global,
-    ino: Ino,
     cell: &InodeCell,
-    book: &Book,
     snapshots: &[Epoch],
-    deferred: &[Record],
-    in_hands: &[InodePart],
+    pending: &[PartId],
 ) -> Result<Option<MismatchPart>, Fault>
-    requires snapshots { snapshots.now ≡ ids book.now.state.snaps }
-    requires deferred { deferred.now ≡ book.now.state.deferred }
-    requires hands { in_hands.now ≡ [] }
-    ensures ok { IfOk result (λ part. MatchOption part
-        (IsInodeAtRest book.now.state ino cell.now.state)
-        (λ part. IsFirstOfInode part book.now.state ino cell.now.state)) }
+    ensures ok { IfOk result (λ part. (book : BookState) (ino : ℕ) → snapshots.now ≡ ids book.snaps
+        → pending.now ≡ pending_of ino book.deferred []
+        → MatchOption part (IsInodeAtRest book ino cell.now.state)
+        (λ part. IsFirstOfInode part book ino cell.now.state)) }
     ensures err { FailsOnly out_of_memory result }
 {
-    // Of the book its snapshots and deferred records are given.
-    let _commit = book.commit();
     let indexed = has_index(alloc, cell)?;
     if !indexed {
         return Ok(Some(MismatchPart::Index));
@@ -151,7 +138,8 @@ fn at_rest_differs(
     if !has_shape(cell) {
         return Ok(Some(MismatchPart::Names));
     }
-    counts_differ(alloc, ino, cell, snapshots, deferred, in_hands)
+    let counts = counts_differ(alloc, cell, snapshots, pending)?;
+    Ok(counts)
 }
 
 /// Whether the log of a cell is of its shape.

@@ -32,7 +32,7 @@ pub fn are_all_records_of(alloc: Global, book: &Book, cells: &[InodeCell]) -> Re
 }
 
 /// All records of a book: those of its manifests, and the deferred ones.
-fn all_records(alloc: Global, book: &Book) -> Result<Vec<Record>, AllocError>
+pub(crate) fn all_records(alloc: Global, book: &Book) -> Result<Vec<Record>, AllocError>
     ensures { IfOk result (λ records. records.items ≡ records_in book.now.state) }
 {
     let mut all = Vec::new(alloc);

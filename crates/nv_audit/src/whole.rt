@@ -1,24 +1,22 @@
 //! The whole audit.
 
-ghost use Rattle.std.specs.Prelude.{◌≡◌, ◌⊎◌, IfErr, IfOk, IsTrue, MatchOption, OnOk};
+ghost use Rattle.std.specs.Prelude.{◌≡◌, ◌⊎◌, IfErr, IfOk, IsTrue, MatchOption, OnOk, length};
 ghost use Rattle.nv_base.specs.Refusals.{FailsOnly};
 ghost use Rattle.nv_base.specs.Memory.{out_of_memory};
 ghost use Rattle.nv_base.specs.declared.fault.MismatchPart.TheVariants.{Counts};
-ghost use Rattle.nv_entry.specs.Held.{retention_of};
-ghost use Rattle.nv_audit.specs.Counts.{AreCounted};
 ghost use Rattle.nv_audit.specs.Records.{states_of};
-ghost use Rattle.nv_audit.specs.Whole.{Agrees, CountsAgree, CountsAgreeBy, IsCountedBy, IsMismatch, device_with};
+ghost use Rattle.nv_audit.specs.Whole.{Agrees, CountsAgree, CountsAgreeBy, CountsAgreeWith, IsCountedWith, IsMismatch, device_with};
 
-use crate::pending::{listed, living};
+use crate::pending::{listed, living, pending_by_slot};
 use crate::{
     Audited, InHands, InodePart, are_counted, are_free, are_names_of, are_pages_of, are_recorded,
-    is_part_of, pending_of,
+    is_part_of,
 };
 use nv_alloc::FreeList;
-use nv_base::{Epoch, Fault, Geometry, Ino, MismatchPart};
+use nv_base::{Epoch, Fault, Geometry, MismatchPart};
 use nv_book::{Book, Record};
 use nv_cell::InodeCell;
-use nv_entry::{Key, Retention};
+use nv_entry::{Key, PartId, Retention};
 use std::alloc::Global;
 
 /// Judges a device between two steps, of which the hands of all calls have some blocks and parts.
@@ -26,8 +24,8 @@ use std::alloc::Global;
 /// `Mismatch` with the first part that differs from one scan of all logs: inode by inode the index, the names and the
 /// counts, and then the records and the free lists. What a cell keeps as its index and names is at all times the scan
 /// of its log, so that these two never differ. `OutOfMemory` where room was refused. It costs what [`are_pages_of`],
-/// [`are_names_of`], [`are_counted`], [`are_recorded`] and [`are_free`] cost, the first three for each inode, and for
-/// each inode a pass over the deferred records and the parts in hands.
+/// [`are_names_of`], [`are_counted`], [`are_recorded`] and [`are_free`] cost, the first three for each inode, and a
+/// pass over the deferred records and the parts in hands.
 pub fn audit<'a>(
     alloc: Global,
     geometry: &'a Geometry,
@@ -96,9 +94,27 @@ fn first_different(
         × (¬ CountsAgreeBy snapshots.now deferred.now in_hands.now (states_of cells.now)))) }
     ensures err { FailsOnly out_of_memory result }
 {
+    let pending = pending_by_slot(alloc, cells.len(), deferred, in_hands)?;
+    let first = first_with(alloc, cells, snapshots, &pending)?;
+    Ok(first)
+}
+
+/// The same, where each slot has a list of its pending parts.
+fn first_with(
+    alloc: Global,
+    cells: &[InodeCell],
+    snapshots: &[Epoch],
+    pending: &[Vec<PartId>],
+) -> Result<Option<MismatchPart>, Fault>
+    requires { length pending.now ≡ length cells.now }
+    ensures ok { IfOk result (λ part. MatchOption part
+        (CountsAgreeWith snapshots.now pending.now (states_of cells.now))
+        (λ part. (part ≡ Counts)
+        × (¬ CountsAgreeWith snapshots.now pending.now (states_of cells.now)))) }
+    ensures err { FailsOnly out_of_memory result }
+{
     for place in 0..cells.len() {
-        let ino = Ino::new(place as u64);
-        let differs = inode_differs(alloc, ino, &cells[place], snapshots, deferred, in_hands)?;
+        let differs = inode_differs(alloc, &cells[place], snapshots, &pending[place])?;
         if differs.is_some() {
             return Ok(differs);
         }
@@ -109,16 +125,14 @@ fn first_different(
 /// The first part of an inode that differs.
 fn inode_differs(
     alloc: Global,
-    ino: Ino,
     cell: &InodeCell,
     snapshots: &[Epoch],
-    deferred: &[Record],
-    in_hands: &[InodePart],
+    pending: &[PartId],
 ) -> Result<Option<MismatchPart>, Fault>
     ensures ok { IfOk result (λ part. MatchOption part
-        (IsCountedBy snapshots.now deferred.now in_hands.now ino cell.now.state)
+        (IsCountedWith snapshots.now pending.now cell.now.state)
         (λ part. (part ≡ Counts)
-        × (¬ IsCountedBy snapshots.now deferred.now in_hands.now ino cell.now.state))) }
+        × (¬ IsCountedWith snapshots.now pending.now cell.now.state))) }
     ensures err { FailsOnly out_of_memory result }
 {
     if !is_indexed(cell) {
@@ -127,44 +141,32 @@ fn inode_differs(
     if !are_names_of(cell.log().log(), cell.name_index()) {
         return Ok(Some(MismatchPart::Names));
     }
-    counts_differ(alloc, ino, cell, snapshots, deferred, in_hands)
+    counts_differ(alloc, cell, snapshots, pending)
 }
 
-/// `Counts` where the counts of an inode differ. It costs what [`are_counted`] does, and a pass over the deferred
-/// records and the parts in hands.
+/// `Counts` where the counts of an inode differ. It costs what [`are_counted`] does.
 pub(crate) fn counts_differ(
     alloc: Global,
-    ino: Ino,
     cell: &InodeCell,
     snapshots: &[Epoch],
-    deferred: &[Record],
-    in_hands: &[InodePart],
+    pending: &[PartId],
 ) -> Result<Option<MismatchPart>, Fault>
     ensures ok { IfOk result (λ part. MatchOption part
-        (IsCountedBy snapshots.now deferred.now in_hands.now ino cell.now.state)
+        (IsCountedWith snapshots.now pending.now cell.now.state)
         (λ part. (part ≡ Counts)
-        × (¬ IsCountedBy snapshots.now deferred.now in_hands.now ino cell.now.state))) }
+        × (¬ IsCountedWith snapshots.now pending.now cell.now.state))) }
     ensures err { FailsOnly out_of_memory result }
 {
-    let pending = pending_of(alloc, ino, deferred, in_hands)?;
     let retention = Retention {
         block: cell.block_bytes(),
         snapshots,
-        pending: &pending,
+        pending,
     };
-    Ok(miscounted(cell, &retention))
-}
-
-/// The same where its pairs are kept so.
-fn miscounted(cell: &InodeCell, retention: &Retention<'_>) -> Option<MismatchPart>
-    ensures { MatchOption result (AreCounted (retention_of retention.now) cell.now.state)
-        (λ part. (part ≡ Counts) × (¬ AreCounted (retention_of retention.now) cell.now.state)) }
-{
-    if are_counted(retention, cell) {
-        None
-    } else {
-        Some(MismatchPart::Counts)
+    let counted = are_counted(alloc, &retention, cell)?;
+    if !counted {
+        return Ok(Some(MismatchPart::Counts));
     }
+    Ok(None)
 }
 
 /// Whether the index of a cell is the scan of its log, as it is at all times.

@@ -1,4 +1,4 @@
-use Rattle.std.proofs.Common.{◌≡◌, ℕ, ◌+◌, ◌<◌, Bool, true, false, List, Option, length, ap, refl, sym, ◌∙◌, subst, slice_index_or}
+use Rattle.std.proofs.Common.{◌≡◌, ℕ, ◌+◌, ◌<◌, Bool, true, false, List, Option, length, ap, sym, ◌∙◌, subst, slice_index_or}
 use Rattle.std.specs.Prelude.{IfSome}
 use Rattle.std.proofs.lemmas.Bool.{false≢true}
 use Rattle.nv_cell.specs.Cell.{log_of}
@@ -10,9 +10,9 @@ use Rattle.nv_audit.proofs.kept_parts.are_once_recorded.Goals as goal
 
 pub loop-record-init : goal.loop-record-init
 loop-record-init c = (
-  c.in_ok-parts.ensures.parts.firsts,
-  taken_none (log_of c.args.cell.now.state) c.args.cell.now.state.marks c.args.records.now c.in_ok-parts.parts.left.items
-      c.in_ok-parts.ensures.left,
+  c.requires.parts.firsts,
+  taken_none (log_of c.args.cell.now.state) c.args.cell.now.state.marks c.args.records.now c.args.parts.left.items
+      c.requires.left,
 )
 
 pub take_away-requires : goal.take_away-requires

@@ -1,7 +1,6 @@
-use Rattle.std.proofs.Common.{◌≡◌, ◌+◌, ◌<◌, List, None, Some, arith, ap, sym, ◌∙◌, subst, length, slice_index_or}
+use Rattle.std.proofs.Common.{◌≡◌, ◌+◌, ◌<◌, List, None, Some, arith, ap, sym, ◌∙◌, length, slice_index_or}
 use Rattle.std.specs.Option.{option_map}
 use Rattle.std.proofs.lemmas.Option.{get_or_from_slice_get}
-use Rattle.nv_cell.specs.Cell.{log_of}
 use Rattle.nv_cell.specs.Named.{place_of}
 use Rattle.nv_cell.specs.Numbers.{part_base}
 use Rattle.nv_cell.proofs.Naming.{named_nowhere, named_past, place_low}

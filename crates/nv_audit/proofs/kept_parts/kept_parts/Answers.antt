@@ -1,4 +1,4 @@
-use Rattle.std.proofs.Common.{◌≡◌, ◌<◌, ◌++◌, Bool, List, length, map, arith, ap, sym, ◌∙◌}
+use Rattle.std.proofs.Common.{◌≡◌, ◌<◌, ◌++◌, List, length, map, arith, ap, ◌∙◌}
 use Rattle.nv_cell.specs.Cell.{log_of}
 use Rattle.nv_cell.specs.declared.mark.Mark.{Mark}
 use Rattle.nv_audit.specs.KeptParts.{is_kept}

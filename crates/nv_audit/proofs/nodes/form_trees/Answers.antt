@@ -1,13 +1,17 @@
-use Rattle.std.proofs.Common.{ℕ}
-use Rattle.nv_entry.specs.declared.value.When.TheVariants.{At}
-use Rattle.nv_audit.specs.Nodes.{slots_when}
+use Rattle.std.proofs.Common.{List, subst, sym, take, ◌≡◌}
+use Rattle.std.specs.Prelude.{IfOk, IsTrue, ◌↔◌}
+use Rattle.std.proofs.lemmas.List.{take-map}
+use Rattle.nv_cell.specs.Cell.{CellState, CellValue}
+use Rattle.nv_audit.specs.Nodes.{AreTrees}
 use Rattle.nv_audit.specs.Records.{states_of}
-use Rattle.nv_audit.specs.Tree.{IsTree}
-use Rattle.nv_audit.proofs.Loops.{one_more}
+use Rattle.nv_audit.proofs.UsedSlots.{told_of_all}
 use Rattle.nv_audit.proofs.nodes.form_trees.Goals as goal
 
-pub loop-snapshot-preserved : goal.loop-snapshot-preserved
-loop-snapshot-preserved c =
-    one_more (λ (s : ℕ). IsTree (slots_when (At s) (states_of c.args.cells.now))) c.args.snapshots.now c.loop-snapshot.snapshot-index
-    c.snapshot-item.result c.in_ok-form_a_tree_when-2.field-0 c.loop-snapshot-test.true c.snapshot-item.is
-    c.in_ok-form_a_tree_when-2.ensures.ok.0 c.if-not-branch-2.false c.loop-snapshot.invariant
+pub returns-clause-ok : goal.returns-clause-ok
+returns-clause-ok c =
+    let cells = c.args.cells.now in
+    let used = c.slots_in_use-used.result in
+    let front : take used (states_of cells) ≡ states_of (take used cells) = take-map (λ (x : CellValue). x.state) used cells in
+    told_of_all (states_of cells) used c.args.snapshots.now c.form_trees_of_used.result c.slots_in_use-used.ensures.unused
+    (subst (λ (cs : List CellState). IfOk c.form_trees_of_used.result (λ form. IsTrue form ↔ AreTrees c.args.snapshots.now cs))
+    (sym front) c.form_trees_of_used.ensures.ok)

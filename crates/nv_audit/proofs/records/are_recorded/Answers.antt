@@ -1,14 +1,18 @@
-use Rattle.std.proofs.Common.{ℕ, List, subst, ◌∙◌}
-use Rattle.std.specs.Prelude.{All, IsTrue, ◌↔◌}
-use Rattle.nv_epoch.specs.SnapList.{ids}
-use Rattle.nv_audit.specs.Records.{IsRecorded, states_of}
+use Rattle.std.proofs.Common.{List, ap₂, ◌∙◌}
+use Rattle.nv_epoch.specs.SnapList.{Snapshots, ids}
+use Rattle.nv_audit.specs.Owed.{owed_records_from}
+use Rattle.nv_audit.specs.Records.{states_of}
 use Rattle.nv_audit.specs.declared.part_list.InodePart.{InodePart}
+use Rattle.nv_audit.proofs.Owing.{all_told}
 use Rattle.nv_audit.proofs.records.are_recorded.Goals as goal
 
 pub returns-clause-ok : goal.returns-clause-ok
 returns-clause-ok c =
-    let recorded = IsRecorded (states_of c.args.cells.now) c.args.book.now.state in
-    subst (λ (ps : List InodePart). IsTrue c.in_ok-agree.agree ↔ All (recorded ps) (ids c.args.book.now.state.snaps))
-    c.deref.ensures.value
-    (subst (λ (ss : List ℕ). IsTrue c.in_ok-agree.agree ↔ All (recorded c.deref.result.now) ss)
-    (c.deref-2.ensures.value ∙ c.in_ok-snapshots.ensures) c.in_ok-agree.ensures)
+    let states = states_of c.args.cells.now in
+    let told = all_told c.args.book.now.state states c.args.hands.now.parts.items c.deref-2.result.now c.deref-3.result.now
+    c.deref-4.result.now
+    (c.deref-2.ensures.value ∙ c.in_ok-snapshots.ensures)
+    (c.deref-3.ensures.value ∙ c.in_ok-recorded.ensures)
+    (c.deref-4.ensures.value ∙ c.in_ok-owed.ensures.ok
+    ∙ ap₂ (λ (ss : Snapshots) (ps : List InodePart). owed_records_from (ids ss) ps 0 states) c.snaps.ensures.snaps c.deref.ensures.value) in
+    (λ t. told.0 (c.in_ok-agree.ensures.0 t), λ all. c.in_ok-agree.ensures.1 (told.1 all))

@@ -1,40 +1,30 @@
-use Rattle.std.proofs.Common.{◌≡◌, ℕ, subst, sym, ◌∙◌}
-use Rattle.nv_base.specs.declared.fault.MismatchPart.TheVariants.{Counts}
+use Rattle.std.proofs.Common.{◌≡◌, ℕ, ◌<◌, List, arith, length, slice_index_or, subst, sym}
+use Rattle.std.specs.Global.{Vec}
+use Rattle.std.proofs.lemmas.List.{length-map}
+use Rattle.nv_cell.specs.Cell.{CellState, CellValue}
+use Rattle.nv_entry.specs.declared.part.PartId.{PartId}
+use Rattle.nv_audit.specs.Pending.{ArePendingOf}
 use Rattle.nv_audit.specs.Records.{states_of}
-use Rattle.nv_audit.specs.Whole.{CountsAgreeBy, IsCountedBy}
-use Rattle.nv_audit.proofs.Differs.{agrees_if_none, differs_if_some}
-use Rattle.nv_audit.proofs.Loops.{one_more_at}
-use Rattle.nv_audit.proofs.States.{as_many, state_at}
+use Rattle.nv_audit.specs.Whole.{CountsAgreeBy, CountsAgreeWith, IsCountedWith}
+use Rattle.nv_audit.proofs.Differs.{told_alike}
 use Rattle.nv_audit.proofs.whole.first_different.Goals as goal
 
-pub returns-then-is_some-clause-ok : goal.returns-then-is_some-clause-ok
-returns-then-is_some-clause-ok c =
-    let counted = IsCountedBy c.args.snapshots.now c.args.deferred.now c.args.in_hands.now in
-    let states = states_of c.args.cells.now in
-    let agree = CountsAgreeBy c.args.snapshots.now c.args.deferred.now c.args.in_hands.now states in
-    let i = c.loop-place.place in
-    let cell = c.index-cells-place.result in
-    let is = state_at c.args.cells.now i cell c.loop-place-test.true c.index-cells-place.is in
-    differs_if_some (counted c.new-ino.result cell.state) agree (λ p. (p ≡ Counts) × (¬ counted c.new-ino.result cell.state))
-    (λ p. (p ≡ Counts) × (¬ agree))
-    c.in_ok-differs.differs (sym c.is_some.ensures ∙ c.if-is_some.true)
-    (λ p told. (
-      told.0,
-      λ all. told.1 (subst (λ (n : ℕ). counted n cell.state) (sym c.new-ino.ensures)
-          (subst (counted i) (sym is) (all i cell.state (as_many c.args.cells.now i c.loop-place-test.true)))),
-    ))
-    c.in_ok-differs.ensures.ok
+pub first_with-requires : goal.first_with-requires
+first_with-requires c =
+    subst (λ (l : List (Vec PartId)). length l ≡ length c.args.cells.now) (sym c.deref.ensures.value) c.in_ok-pending.ensures.len
 
-pub loop-place-preserved : goal.loop-place-preserved
-loop-place-preserved c =
-    let counted = IsCountedBy c.args.snapshots.now c.args.deferred.now c.args.in_hands.now in
+pub returns-clause-ok : goal.returns-clause-ok
+returns-clause-ok c =
     let states = states_of c.args.cells.now in
-    let i = c.loop-place.place in
-    let cell = c.index-cells-place.result in
-    let is = state_at c.args.cells.now i cell c.loop-place-test.true c.index-cells-place.is in
-    one_more_at counted states i cell.state (as_many c.args.cells.now i c.loop-place-test.true) is
-    (subst (λ (n : ℕ). counted n cell.state) c.new-ino.ensures
-    (agrees_if_none (counted c.new-ino.result cell.state) (λ p. (p ≡ Counts) ×
-    (¬ counted c.new-ino.result cell.state)) c.in_ok-differs.differs
-    (sym c.is_some.ensures ∙ c.if-is_some.false) c.in_ok-differs.ensures.ok))
-    c.loop-place.invariant
+    let pending = c.deref.result.now in
+    let snapshots = c.args.snapshots.now in
+    let are : ArePendingOf (length c.args.cells.now) c.args.deferred.now c.args.in_hands.now pending =
+    subst (ArePendingOf (length c.args.cells.now) c.args.deferred.now c.args.in_hands.now) (sym c.deref.ensures.value) c.in_ok-pending.ensures in
+    let low : (ino : ℕ) → ino < length states → ino < length c.args.cells.now =
+    λ ino lt. omega (arith, lt, length-map c.args.cells.now (λ (x : CellValue). x.state)) in
+    let counted : CellState → List PartId → Type 0 = λ cell ps. IsCountedWith snapshots ps cell in
+    told_alike (CountsAgreeWith snapshots pending states) (CountsAgreeBy snapshots c.args.deferred.now c.args.in_hands.now states)
+    c.in_ok-first.first
+    (λ all ino d lt. subst (counted (slice_index_or states ino d)) (are.each ino (low ino lt)) (all ino d lt))
+    (λ all ino d lt. subst (counted (slice_index_or states ino d)) (sym (are.each ino (low ino lt))) (all ino d lt))
+    c.in_ok-first.ensures.ok

@@ -1,0 +1,16 @@
+use Rattle.std.proofs.Common.{ℕ, List, Bor, None, ap, refl, ◌∙◌}
+use Rattle.std.specs.Prelude.{option_and_then}
+use Rattle.std.specs.Option.{option_or}
+use Rattle.nv_entry.specs.Keys.{KindKey, ModeKey, NameKey, PageKey, SizeKey}
+use Rattle.nv_findex.specs.Pages.{PageMap}
+use Rattle.nv_audit.specs.Deaths.{epoch_of, name_in, page_cover}
+use Rattle.nv_audit.proofs.Covers.{no_page}
+use Rattle.nv_audit.proofs.first_covers.FirstCovers.new.Goals as goal
+
+pub returns : goal.returns
+returns c cell KindKey = refl
+returns c cell ModeKey = refl
+returns c cell SizeKey = refl
+returns c cell (NameKey name) = ap (λ (es : List (Bor (List ℕ) × ℕ)). option_or (name_in es name) None) c.new.ensures.empty
+returns c cell (PageKey page) =
+    ap (λ (index : PageMap). option_and_then (epoch_of cell) (page_cover index page)) c.new-2.ensures ∙ no_page cell page

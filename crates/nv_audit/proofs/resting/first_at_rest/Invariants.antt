@@ -1,9 +1,0 @@
-use Rattle.std.proofs.Common.{ℕ, ◌<◌, slice_index_or}
-use Rattle.nv_cell.specs.Cell.{CellState}
-use Rattle.nv_audit.specs.Records.{states_of}
-use Rattle.nv_audit.specs.Resting.{IsInodeAtRest}
-use Rattle.nv_audit.proofs.resting.first_at_rest.Given as goal
-
-abbrev pub invariant-loop-place : goal.invariant-loop-place
-invariant-loop-place l =
-    (ino : ℕ) (d : CellState) → ino < l.place → IsInodeAtRest l.book.state ino (slice_index_or (states_of l.cells) ino d)

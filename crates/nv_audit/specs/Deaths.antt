@@ -1,0 +1,72 @@
+-- When the parts of a log died, by a table of what later entries cover.
+use Rattle.std.specs.Prelude.{◌≡◌, ℕ, if◌then◌else◌, List, Option, Some, map, option_and_then, slice_get}
+use Rattle.std.specs.Map.{lookup}
+use Rattle.std.specs.Option.{option_map, option_or}
+use denote.Ref.{Bor}
+use Rattle.nv_base.specs.Names.{same_name}
+use Rattle.nv_base.specs.declared.numbers.EntryId.{EntryId}
+use Rattle.nv_cell.specs.Cell.{CellState, log_of}
+use Rattle.nv_entry.specs.Keys.{Key, KindKey, ModeKey, NameKey, PageKey, SizeKey, covers, key_of, parts_of}
+use Rattle.nv_entry.specs.Log.{pairs}
+use Rattle.nv_entry.specs.declared.held.Pair.{Pair}
+use Rattle.nv_entry.specs.declared.item.Entry.{Entry}
+use Rattle.nv_entry.specs.declared.item.Item.{Item}
+use Rattle.nv_entry.specs.declared.item.Item.TheVariants.{Gone}
+use Rattle.nv_entry.specs.declared.part.Part.{Part}
+use Rattle.nv_findex.specs.Pages.{PageMap, ref_at}
+use Rattle.nv_findex.specs.declared.page_ref.PageRef.{PageRef}
+use Rattle.nv_log.specs.Chain.{place_of}
+use Rattle.nv_audit.specs.declared.first_covers.FirstCovers.{FirstCovers}
+
+-- WHEN EACH PART of a cell's log died, by number
+abbrev pub deaths_of : CellState → List (Option ℕ)
+deaths_of cell = map (λ (p : Pair). p.death) (pairs cell.block (log_of cell))
+
+-- the epoch of the entry of that id in a cell's log
+abbrev pub epoch_of : CellState → EntryId → Option ℕ
+epoch_of cell id = option_map (λ (e : Entry). e.epoch) (option_and_then (slice_get (log_of cell)) (place_of cell.chain.entries id))
+
+-- ---- the first of some entries that covers a key, by a table
+
+-- its epoch for a name among these, and for each name
+abbrev pub name_in : List (Bor (List ℕ) × ℕ) → List ℕ → Option ℕ
+name_in names name = lookup (λ (k : Bor (List ℕ)). same_name name k.now) names
+
+abbrev pub name_cover : FirstCovers → List ℕ → Option ℕ
+name_cover c name = option_or (name_in c.names.entries name) c.others
+
+-- its id for a page, and its epoch for each key
+abbrev pub page_cover : PageMap → ℕ → Option EntryId
+page_cover index page = option_map (λ (at : PageRef). at.entry) (ref_at index.pages page)
+
+abbrev pub cover_in : CellState → FirstCovers → Key → Option ℕ
+cover_in cell c KindKey = c.kind
+cover_in cell c ModeKey = c.mode
+cover_in cell c SizeKey = c.size
+cover_in cell c (NameKey name) = name_cover c name
+cover_in cell c (PageKey page) = option_and_then (epoch_of cell) (page_cover c.pages page)
+
+-- the same with one more entry before them, where `later` was that of them; it may cover all names
+abbrev pub cover_before : ℕ → Entry → Key → Option ℕ → Option ℕ
+cover_before block e key later = if covers block e.item key then Some e.epoch else later
+
+abbrev pub others_after : Entry → Option ℕ → Option ℕ
+others_after e later = by_item e.item where
+  by_item : Item → Option ℕ
+  by_item Gone = Some e.epoch
+  by_item item = later
+
+abbrev pub page_cover_before : ℕ → Entry → ℕ → Option EntryId → Option EntryId
+page_cover_before block e page later = if covers block e.item (PageKey page) then Some e.id else later
+
+-- one more entry is put into the table
+pub record Puts (block : ℕ) (e : Entry) (old new : FirstCovers) : Type 0 where
+  pub kind : new.kind ≡ cover_before block e KindKey old.kind
+  pub mode : new.mode ≡ cover_before block e ModeKey old.mode
+  pub size : new.size ≡ cover_before block e SizeKey old.size
+  pub names : (name : List ℕ) → name_cover new name ≡ cover_before block e (NameKey name) (name_cover old name)
+  pub pages : (page : ℕ) → page_cover new.pages page ≡ page_cover_before block e page (page_cover old.pages page)
+
+-- what the table says of the parts of an entry
+abbrev pub covers_of : CellState → FirstCovers → Entry → List (Option ℕ)
+covers_of cell c e = map (λ (part : Part). cover_in cell c (key_of e.item part)) (parts_of e.item)
