@@ -1,6 +1,6 @@
 -- Where each block stands once, those of lists, logs and parts that are kept are no more than there are.
 use Rattle.std.proofs.Common.{◌≡◌, ℕ, zero, suc, ◌+◌, ◌<◌, ◌≤◌, ◌==◌, ◌&&◌, Bool, true, false, cond, if◌then◌else◌, nat_lt, List, [], ◌∷◌, length, Option, Some, None, ap, arith, subst, refl, ◌∙◌, length-append}
-use Rattle.std.proofs.lemmas.Bool.{eq-eqb, eqb-true, le-ltb, ltb-false, ltb-true}
+use Rattle.std.proofs.lemmas.Bool.{eq-eqb, eqb-true, le-ltb, lt-ltb, ltb-false, ltb-true}
 use Rattle.std.proofs.lemmas.List.{length-map}
 use Rattle.std.proofs.lemmas.List.Sums.{sum_by-cons}
 use Rattle.std.specs.List.{flat_map, sum_by}
@@ -12,7 +12,6 @@ use Rattle.nv_cell.specs.Cell.{CellState, log_of, of_part, stored_in}
 use Rattle.nv_cell.specs.declared.mark.Mark.{Mark}
 use Rattle.nv_machine.specs.Numbers.{all_blocks, free_of as free_numbers, held_by_actor, used_blocks}
 use Rattle.nv_machine.specs.World.{World}
-use Rattle.nv_machine.proofs.Reached.{most_once}
 use Rattle.nv_core.proofs.SumsTo.{sum_to}
 use Rattle.nv_core.specs.Reports.{AddsUp, births, chain_in, free_in, is_kept, kept_among, kept_in, one_of}
 
@@ -90,17 +89,24 @@ times_all many (x ∷ xs) none =
       go true is = ltb-true x many is
       go false is = absurd (let past = none x (ltb-false x many is) in let some = times_same x xs in omega (arith, past, some))
 
-tally_few : (k : ℕ) (xs : List ℕ) → ((n : ℕ) → times n xs ≤ 1) → tally k xs ≤ k
-tally_few zero xs few = omega arith
-tally_few (suc k) xs few = let one = few k in let rest = tally_few k xs few in omega (arith, one, rest)
+tally_each : (k : ℕ) (xs : List ℕ) → ((n : ℕ) → n < k → times n xs ≡ 1) → tally k xs ≡ k
+tally_each zero xs once = refl
+tally_each (suc k) xs once =
+    let last = once k (omega arith) in
+    let rest = tally_each k xs (λ n lt. once n (omega (arith, lt))) in
+    omega (arith, last, rest)
 
-pub no_more : (many : ℕ) (numbers : List ℕ) → IsEachOnce many numbers → length numbers ≤ many
-no_more many numbers each =
+-- as many numbers as those below so many, where each stands once
+pub just_as_many : (many : ℕ) (numbers : List ℕ) → IsEachOnce many numbers → length numbers ≡ many
+just_as_many many numbers each =
     let all = times_all many numbers none in
-    let few = tally_few many numbers (most_once many numbers each) in
-    omega (arith, all, few) where
+    let some = tally_each many numbers once in
+    omega (arith, all, some) where
       none : (n : ℕ) → many ≤ n → times n numbers ≡ 0
       none n le = let past : nat_lt n many ≡ false = le-ltb n many le in rw past at (each n)
+
+      once : (n : ℕ) → n < many → times n numbers ≡ 1
+      once n lt = let inside : nat_lt n many ≡ true = lt-ltb n many lt in rw inside at (each n)
 
 -- ---- the blocks of a world
 
@@ -154,7 +160,7 @@ lists_few (list ∷ lists) =
 
 pub adds_up : (blocks : ℕ) (w : World) → IsEachOnce blocks (all_blocks w) → AddsUp blocks w.shared
 adds_up blocks w each =
-    let few = no_more blocks (all_blocks w) each in
+    let few = just_as_many blocks (all_blocks w) each in
     let free = lists_few w.shared.lists in
     let cells = cells_few w.shared.book w.shared.cells in
     let long = length-append (flat_map free_numbers w.shared.lists) (used_blocks w) in

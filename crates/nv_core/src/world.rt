@@ -1,11 +1,12 @@
 //! A world, and how it is let go.
 
-ghost use Rattle.std.specs.Prelude.{◌≡◌};
+ghost use Rattle.std.specs.Prelude.{◌≡◌, length};
 ghost use Rattle.nv_core.specs.Worlds.{IsWorld, WorldState};
 
 use crate::reservation::Reservation;
 use crate::running::Running;
 use crate::shared::Shared;
+use nv_base::Geometry;
 use std::alloc::Global;
 use std::marker::Model;
 
@@ -38,6 +39,27 @@ impl Drop for World {
 }
 
 impl World {
+    /// The numbers that the world was made for.
+    pub fn geometry(&self) -> &Geometry
+        ensures { result.now ≡ self.now.shared.geometry }
+    {
+        &self.shared.geometry
+    }
+
+    /// How many inode slots there are.
+    pub fn inodes(&self) -> u64
+        ensures { result ≡ length self.now.shared.cells.items }
+    {
+        self.shared.inodes()
+    }
+
+    /// How many CPUs there are, each with a free list.
+    pub fn cpus(&self) -> u64
+        ensures { result ≡ length self.now.shared.lists.items }
+    {
+        self.shared.lists.len() as u64
+    }
+
     /// What actors share. What each has of its own ends here.
     pub(crate) fn into_shared(self) -> Shared
         ensures { result ≡ self.shared }
