@@ -158,7 +158,7 @@ module _ (X : Beside → Known) (E : Beside → Telling) (actor : ℕ) where
 
 -- ---- from the start on
 
-begun_call : (b : Beginning) (s : Shared) (c : Call) → (begun b s c).call ≡ c
+pub begun_call : (b : Beginning) (s : Shared) (c : Call) → (begun b s c).call ≡ c
 begun_call sequence.Numbers s c = refl
 begun_call other s c = refl
 

@@ -1,7 +1,6 @@
 -- THE CLEANERS of the law of calls that are made one at a time: their last replies, and what they leave.
-use Rattle.std.proofs.Common.{◌≡◌, ◌≢◌, ◌∙◌, ℕ, ◌<◌, ◌≤◌, ◌++◌, Bool, true, false, List, [], ◌∷◌, Option, None, ap, append_assoc, arith, get_or-set_same, if◌then◌else◌, inl, inr, length, lt-ltb, map, nat_lt, refl, replicate, subst, sym}
-use Rattle.std.proofs.lemmas.Bool.{le-ltb, ltb-false, ltb-true}
-use Rattle.nv_base.specs.declared.fault.Fault.TheVariants.{NoActor}
+use Rattle.std.proofs.Common.{◌≡◌, ◌≢◌, ◌∙◌, ℕ, ◌<◌, ◌++◌, Bool, true, false, List, [], ◌∷◌, Option, None, ap, append_assoc, arith, get_or-set_same, if◌then◌else◌, inl, inr, length, lt-ltb, map, nat_lt, refl, replicate, subst, sym}
+use Rattle.std.proofs.lemmas.Bool.{ltb-false, ltb-true}
 use Rattle.nv_base.specs.declared.geometry.GeometryNumbers.{GeometryNumbers}
 use Rattle.nv_book.specs.declared.record.Record.{Record}
 use Rattle.nv_calls.specs.declared.call.Call.{Call}
@@ -12,27 +11,25 @@ use Rattle.nv_machine.specs.CleanerAnswers.{cleaner}
 use Rattle.nv_machine.specs.Needed.{IsAtRest}
 use Rattle.nv_machine.specs.PlainRun.{Plain, plain_of}
 use Rattle.nv_machine.specs.Recorded.{records_after}
-use Rattle.nv_machine.specs.Sequence.{Beginning, Numbers, beginning, begun, first_clean, slots_on, started}
+use Rattle.nv_machine.specs.Sequence.{beginning, begun, first_clean, slots_on, started}
 use Rattle.nv_machine.specs.Starts.{IsStart}
-use Rattle.nv_machine.specs.Step.{Step, after, replies, start_step, stays, step}
-use Rattle.nv_machine.specs.World.{Actor, Auto, Event, Fast, HandState, Judge, LockCleaned, Maintenance, Manner, Moved, Refused, Reply, Running, Shared, Start, Started, Thorough, World, actor_at, empty_hand, idle}
+use Rattle.nv_machine.specs.Step.{Step, after, replies, start_step, step}
+use Rattle.nv_machine.specs.World.{Actor, Auto, Event, Fast, HandState, Judge, LockCleaned, Maintenance, Manner, Moved, Reply, Running, Start, Started, Thorough, World, actor_at, empty_hand, idle}
 use Rattle.nv_machine.proofs.CallsStay.{IsCallOf}
 use Rattle.nv_machine.proofs.CopiesAll.{after_one}
 use Rattle.nv_machine.proofs.OverEvents.{begun_at, others_stay}
 use Rattle.nv_machine.proofs.WorldsAtRest.{start_again}
 use Rattle.nv_serial.specs.Law.{AreRepliesTo, IsMadeAlone, IsOutcome, IsSerialCall, alone, serial_after}
 use Rattle.nv_serial.specs.OneCall.{serial_call}
-use Rattle.nv_serial.specs.Serial.{Outcome, Serial, refused}
+use Rattle.nv_serial.specs.Serial.{Serial}
 use Rattle.nv_serial.specs.Shown.{slot_told}
-use Rattle.nv_serial.proofs.AloneStages.{Beside, beside_after, beside_more}
+use Rattle.nv_serial.proofs.AloneStages.{Beside, beside_after, beside_more, begun_call}
 use Rattle.nv_serial.proofs.AtRestLogs.{told_by}
 use Rattle.nv_serial.proofs.AtRestPlain.{plain_is, serial_is}
 use Rattle.nv_serial.proofs.CleanRuns.{IsRunOut, IsUnder, run}
 use Rattle.nv_serial.proofs.CleanStages.{IsBare, Stands}
-
-begun_call : (b : Beginning) (s : Shared) (c : Call) → (begun b s c).call ≡ c
-begun_call Numbers s c = refl
-begun_call other s c = refl
+use Rattle.nv_serial.proofs.SnapAlone.{heads, tails}
+use Rattle.nv_serial.proofs.SnapCalls.{is_inside, start_refused}
 
 module _ (g : GeometryNumbers) (start : World) (records : List Record) (is_start : IsStart g start records) (before : List Event)
     (at_rest : IsAtRest (after start before)) (actor : ℕ) (manner : Manner) (ino : ℕ) where
@@ -144,14 +141,6 @@ module _ (g : GeometryNumbers) (start : World) (records : List Record) (is_start
   abbrev Law : List Bool → Reply → Type 0
   Law grants last = IsSerialCall g start records before actor c grants last
 
-  abbrev first_of : List Reply → Reply
-  first_of [] = Moved
-  first_of (y ∷ told) = y
-
-  abbrev rest_of : List Reply → List Reply
-  rest_of [] = []
-  rest_of (y ∷ told) = told
-
   -- the events of the call, step by step
   abbrev events_of : List Bool → List Event
   events_of grants = (before ++ begin ∷ []) ++ goes actor grants
@@ -169,59 +158,29 @@ module _ (g : GeometryNumbers) (start : World) (records : List Record) (is_start
       rest = subst (λ (events : List Event). IsAtRest (after start events)) (same_events grants) out.over.rest;
     }
 
-    there_law : (grants : List Bool) (last : Reply) → AreRepliesTo grants (replies v (alone actor c grants)) last → Law grants last
-    there_law grants last (inl (none, told, not_started)) =
-        absurd (not_started (sym (ap first_of told) ∙ ap (λ (made : Step). made.reply) (started_is there)))
-    there_law grants last (inr (count, told, ended)) =
+    there_law : (grants : List Bool) (count : ℕ) (last : Reply)
+        → replies v (alone actor c grants) ≡ Started ∷ (replicate count Moved ++ last ∷ []) → last ≢ Moved → Law grants last
+    there_law grants count last told ended =
         let on : x there ≡ after start (before ++ begin ∷ []) =
         sym (ap (λ (made : Step). made.world) (started_is there)) ∙ after_one before start begin in
         let more : replies (after start (before ++ begin ∷ [])) (goes actor grants) ≡ replicate count Moved ++ last ∷ [] =
-        ap (λ (y : World). replies y (goes actor grants)) (sym (after_one before start begin)) ∙ ap rest_of told in
+        ap (λ (y : World). replies y (goes actor grants)) (sym (after_one before start begin)) ∙ tails told in
         runs_out grants last
         (run g start records is_start before at_rest actor there manner ino grants (before ++ begin ∷ []) count last
         (subst (IsUnder g start records is_start before at_rest actor there manner ino) on (first_under there)) began more ended)
-
-  module _ (past : g.actors ≤ actor) where
-    outside : nat_lt actor (length v.actors) ≡ false
-    outside = le-ltb actor (length v.actors) (omega (arith, past, at.actors))
-
-    refused_is : step v (Start actor c) ≡ stays (Refused NoActor) v
-    refused_is = ap (λ (b : Bool). start_step b (actor_at v actor).running actor c v) outside
-
-    made_is : serial_call old actor c ≡ refused NoActor old
-    made_is = rw (le-ltb actor g.actors past) refl
-
-    past_law : (grants : List Bool) (last : Reply) → AreRepliesTo grants (replies v (alone actor c grants)) last → Law grants last
-    past_law grants last (inr (count, told, ended)) =
-        absurd (not_both (sym (ap (λ (made : Step). made.reply) refused_is) ∙ ap first_of told)) where
-          not_both : Refused NoActor ≢ Started
-          not_both e = cc
-    past_law grants last (inl (none, told, not_started)) =
-        let is : last ≡ Refused NoActor = sym (ap first_of told) ∙ ap (λ (made : Step). made.reply) refused_is in
-        let on : v ≡ after start (before ++ begin ∷ []) =
-        sym (ap (λ (made : Step). made.world) refused_is) ∙ after_one before start begin in
-        subst (λ (gs : List Bool). Law gs last) (sym none) (record {
-          outcome = outcome_is (before ++ begin ∷ []) last began
-              (inl (
-                is ∙ sym (ap (λ (o : Outcome). o.reply) made_is),
-                ap (λ (y : World). let s : Serial = record old { slots = map slot_told y.shared.cells } in s) (sym on)
-                    ∙ sym (ap (λ (o : Outcome). o.world) made_is),
-              ));
-          rest = subst IsAtRest on at_rest;
-        })
-
-  cleaner_law : (grants : List Bool) (last : Reply) → AreRepliesTo grants (replies v (alone actor c grants)) last → Law grants last
-  cleaner_law grants last told = go (nat_lt actor g.actors) refl where
-    go : (b : Bool) → nat_lt actor g.actors ≡ b → Law grants last
-    go true is = there_law (ltb-true actor g.actors is) grants last told
-    go false is = past_law (ltb-false actor g.actors is) grants last told
 
 -- A CLEANER that is made alone is told what the world with numbers says, and leaves what it says; and then no call runs
 pub clean_serial : (g : GeometryNumbers) (start : World) (records : List Record) (before : List Event) (actor : ℕ) (manner : Manner)
     (ino : ℕ) (grants : List Bool) (last : Reply) → IsMadeAlone g start records before actor (cleaner manner ino) grants last
     → IsSerialCall g start records before actor (cleaner manner ino) grants last
-clean_serial g start records before actor manner ino grants last made =
-    cleaner_law g start records made.start_is before made.rest actor manner ino grants last made.replies_are
+clean_serial g start records before actor manner ino grants last made = by made.replies_are where
+  by : AreRepliesTo grants (replies (after start before) (alone actor (cleaner manner ino) grants)) last
+      → IsSerialCall g start records before actor (cleaner manner ino) grants last
+  by (inl refused) = start_refused g start records before actor (cleaner manner ino) grants last made refused
+  by (inr (count, told, ended)) =
+      there_law g start records made.start_is before made.rest actor manner ino
+      (ltb-true actor g.actors (is_inside g (after start before) (records_after start before records)
+      (start_again g start records before made.start_is made.rest) actor (cleaner manner ino) (heads told))) grants count last told ended
 
 -- and so of each of the three calls
 pub fast_serial : (g : GeometryNumbers) (start : World) (records : List Record) (before : List Event) (actor ino : ℕ)

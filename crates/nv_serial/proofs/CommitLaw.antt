@@ -253,7 +253,7 @@ of_files : (s : Serial) (actor : ℕ) (c : Call) → is_maintenance c ≡ false 
 of_files s actor (call.Maintenance what) e = absurd (true≢false e)
 of_files s actor other e = refl
 
-there_is : (s : Serial) (actor : ℕ) (c : Call) → nat_lt actor s.numbers.actors ≡ true → serial_call s actor c ≡ of_call s actor c
+pub there_is : (s : Serial) (actor : ℕ) (c : Call) → nat_lt actor s.numbers.actors ≡ true → serial_call s actor c ≡ of_call s actor c
 there_is s actor c e = rw e refl
 
 has_started : (w : World) (actor : ℕ) (c : Call) (b : Bool) (running : Option Running) → (start_step b running actor c w).reply ≡ Started

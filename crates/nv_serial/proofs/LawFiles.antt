@@ -1,5 +1,5 @@
 -- Calls on files and directories of the law of calls that are made one at a time, by the last of their steps.
-use Rattle.std.proofs.Common.{◌≡◌, ◌≢◌, ◌∙◌, ◌⊎◌, ℕ, zero, suc, ◌<◌, ◌++◌, Bool, true, false, List, [], ◌∷◌, Some, None, ap, append_assoc, get_or-set_same, inl, inr, length, map, refl, subst, sym}
+use Rattle.std.proofs.Common.{◌≡◌, ◌≢◌, ◌∙◌, ◌⊎◌, ℕ, zero, suc, ◌<◌, ◌++◌, Bool, false, List, [], ◌∷◌, Some, None, ap, append_assoc, get_or-set_same, inl, inr, length, subst, sym}
 use Rattle.std.specs.Prelude.{Err, Ok, replicate}
 use Rattle.std.proofs.lemmas.List.{map-append}
 use Rattle.nv_base.specs.Memory.{out_of_memory}
@@ -12,7 +12,6 @@ use Rattle.nv_machine.specs.Alone.{goes}
 use Rattle.nv_machine.specs.EndsDecided.{is_maintenance}
 use Rattle.nv_machine.specs.Needed.{IsAtRest}
 use Rattle.nv_machine.specs.Sequence.{beginning, begun}
-use Rattle.nv_machine.specs.Starts.{IsStart}
 use Rattle.nv_machine.specs.Step.{Step, after, replies, step, turned}
 use Rattle.nv_machine.specs.World.{Actor, Done, Ends, Event, Go, Moved, Moves, Refused, Reply, Running, Start, Started, Turn, Waiting, Waits, World, actor_at, idle}
 use Rattle.nv_machine.proofs.AloneNeverWaits.{never_waits}

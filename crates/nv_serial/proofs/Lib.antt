@@ -32,6 +32,7 @@ pub mod DrainErased
 pub mod ErasedOver
 pub mod ErasedWhereOver
 pub mod FileRows
+pub mod GrowthRows
 pub mod LawCalls
 pub mod LawFiles
 pub mod LogsGrown
@@ -42,6 +43,7 @@ pub mod Pages
 pub mod PagesMore
 pub mod RefusalRows
 pub mod RefusedLaw
+pub mod RenameRows
 pub mod Row
 pub mod Scripts
 pub mod ShowAlone

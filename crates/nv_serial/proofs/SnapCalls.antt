@@ -23,6 +23,7 @@ use Rattle.nv_serial.specs.Shown.{slot_told}
 use Rattle.nv_serial.proofs.AloneStages.{Beside}
 use Rattle.nv_serial.proofs.AtRestLogs.{told_by}
 use Rattle.nv_serial.proofs.AtRestPlain.{plain_is, serial_is}
+use Rattle.nv_serial.proofs.CommitLaw.{there_is}
 use Rattle.nv_serial.proofs.SnapAlone.{HasEnded, Holds, HoldsThen, Now, OthersRest, at_first, heads, numbered, run, tails}
 
 -- ---- events behind others
@@ -41,10 +42,7 @@ plain_all : (front back : List Event) (w : World) (p : Plain)
 plain_all [] back w p = refl
 plain_all (e ∷ front) back w p = plain_all front back (step w e).world (plain_step w e p)
 
--- ---- an actor that is there, and one that is not
-
-called_there : (s : Serial) (actor : ℕ) (c : Call) → nat_lt actor s.numbers.actors ≡ true → serial_call s actor c ≡ of_call s actor c
-called_there s actor c e = rw e refl
+-- ---- an actor that is not there
 
 called_nobody : (s : Serial) (actor : ℕ) (c : Call) → nat_lt actor s.numbers.actors ≡ false → serial_call s actor c ≡ refused NoActor s
 called_nobody s actor c e = rw e refl
@@ -71,6 +69,9 @@ module _ (g : GeometryNumbers) (w : World) (rs : List Record) (is : IsStart g w 
       → (start_step b running actor c w).reply ≡ Started → nat_lt actor g.actors ≡ true
   there false running is_b e = cc
   there true running is_b e = ap (nat_lt actor) (sym is.actors) ∙ is_b
+
+  pub is_inside : (step w (Start actor c)).reply ≡ Started → nat_lt actor g.actors ≡ true
+  is_inside = there (nat_lt actor (length w.actors)) (actor_at w actor).running refl
 
   module _ (X : Beside → Known) (made : Outcome)
       (keeps : (events : List Event) (granted : Bool) (r : Running) → OthersRest g w rs actor c events
@@ -171,7 +172,5 @@ module _ (g : GeometryNumbers) (start : World) (records : List Record) (before :
         let ended = runs_alone g world_then records_then start_then actor c X (of_call told_then actor c) keeps first last some.2 grants
         some.0 starts_it (tails some.1) in
         serial_of (of_call told_then actor c)
-        (called_there told_then actor c
-        (there g world_then records_then start_then actor c (nat_lt actor (length world_then.actors)) (actor_at world_then actor).running
-        refl starts_it))
+        (there_is told_then actor c (is_inside g world_then records_then start_then actor c starts_it))
         ended

@@ -23,7 +23,8 @@ makes_inode (call.Create dir name mode) = true
 makes_inode (call.Mkdir dir name mode) = true
 makes_inode other = false
 
--- the lowest free number, with its slot's generation; a call that makes no inode needs none, and has the root's
+-- the lowest free number, with its slot's generation; a call that makes no inode needs none, and has the root's handle,
+-- which nothing reads there
 abbrev pub made_by : Bool → List ℕ → Serial → Option Handle
 made_by false numbers s = Some root
 made_by true [] s = None

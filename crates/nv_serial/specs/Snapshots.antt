@@ -27,6 +27,7 @@ abbrev pub snap : Serial → Outcome
 snap s = snap_if (nat_le NUMBER s.plain.epoch) (nat_le s.numbers.snaps (length s.plain.copies)) s
 
 -- the records of a snapshot that is dropped go to the end of the list
+-- a pinned snapshot can't be met, since no show runs between calls
 abbrev pub drop_if : Bool → ℕ → Serial → Outcome
 drop_if false snapshot s = refused NoSnapshot s
 drop_if true snapshot s = told answers.Nothing (record s {
