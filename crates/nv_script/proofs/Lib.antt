@@ -17,3 +17,5 @@ pub mod Printed
 pub mod RunsPlayed
 pub mod SerialAlike
 pub mod SerialReports
+pub mod SerialRows
+pub mod SerialTexts

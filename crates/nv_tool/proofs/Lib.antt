@@ -1,2 +1,0 @@
-pub mod SerialLines
-pub mod SerialRows
