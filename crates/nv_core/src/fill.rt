@@ -5,10 +5,11 @@ ghost use Rattle.std.specs.List.{range_with_len};
 
 use nv_calls::{Source, SourceFault};
 
-/// A text in memory. Past its end it has zeros.
+/// A text in memory, as the source of a write. It never fails. Past its end it has zeros.
 #[derive(Drop)]
-pub(crate) struct Text<'a> {
-    pub(crate) bytes: &'a [u8],
+pub struct Text<'a> {
+    /// The bytes.
+    pub bytes: &'a [u8],
 }
 
 impl Source for Text<'_> {

@@ -34,6 +34,7 @@ mod world;
 
 pub use calls_end::MOST_STEPS;
 pub use event::{Event, Reply};
+pub use fill::Text;
 pub use nv_audit::Audited;
 pub use nv_base::{
     Bytes, CommitNo, Epoch, Fault, Gen, Geometry, GeometryField, GeometryNumbers, Handle, Ino,

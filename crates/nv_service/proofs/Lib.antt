@@ -1,0 +1,18 @@
+pub mod AfterMoves
+mod CheckedOver
+pub mod Closes
+mod Found
+pub mod Giving
+mod HeldCells
+mod LentCells
+pub mod Moves
+mod NamedItems
+pub mod NotOlder
+mod Nothing
+pub mod PartBlocks
+mod Raised
+mod ReadyOver
+mod Takings
+mod Told
+pub mod Turning
+pub mod Versions

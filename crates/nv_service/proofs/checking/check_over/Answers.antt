@@ -1,0 +1,24 @@
+use Rattle.std.proofs.Common.{rules, ◌≡◌, ◌∙◌, ℕ, Bool, ap}
+use Rattle.std.specs.Prelude.{is_some}
+use Rattle.std.specs.List.{AllByRecursion}
+use Rattle.nv_calls.specs.Checked.{ends_over}
+use Rattle.nv_calls.specs.Nodes.{nodes_in}
+use Rattle.nv_calls.specs.Prepared.{IsStill, makes}
+use Rattle.nv_cell.specs.Cell.{CellValue}
+use Rattle.nv_service.specs.Changing.{FitsNumber, IsFreeHand}
+use Rattle.nv_service.proofs.CheckedOver.{passed_by}
+use Rattle.nv_service.proofs.checking.check_over.Goals as goal
+
+pub returns-clause-ok : goal.returns-clause-ok
+returns-clause-ok g c =
+    let block = c.args.geometry.now.numbers.block in
+    let cells = g.L.Cells.cells c.args.lent.now in
+    let hand = c.args.hand.now in
+    let still : AllByRecursion (λ (x : ℕ × CellValue). IsStill block x.1.state) cells = search rules in
+    let free : IsFreeHand block hand = search rules in
+    let fits : FitsNumber cells (makes c.args.update.now) hand.ino = search rules in
+    let some : c.is_some.result ≡ is_some hand.ino = search rules in
+    passed_by block cells c.args.looked.now c.args.update.now hand still free fits c.ends_at_check.result
+    (rw c.new-nodes.ensures at c.ends_at_check.ensures.ends
+    ∙ ap (λ (b : Bool). ends_over block (nodes_in cells) c.args.looked.now b c.args.update.now) some)
+    (rw c.new-nodes.ensures at c.ends_at_check.ensures.wanted)

@@ -1,0 +1,8 @@
+use Rattle.nv_core.specs.AtRest.{at_rest}
+use Rattle.nv_service.proofs.PartBlocks.{none_busy}
+use Rattle.nv_service.proofs.close.world_of.Goals as goal
+
+-- a world at rest comes apart
+pub unreachable-requires : goal.unreachable-requires
+unreachable-requires g c =
+    none_busy c.args.parts (c.in-Err-into_parts.ensures.err (at_rest c.args.parts) c.in-Ok.ensures.ok).1

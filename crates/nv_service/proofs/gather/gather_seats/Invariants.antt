@@ -1,0 +1,10 @@
+use Rattle.std.proofs.Common.{◌≡◌, ◌+◌, length}
+use Rattle.nv_service.proofs.gather.gather_seats.Given as goal
+
+abbrev pub invariant-loop-seat : goal.invariant-loop-seat
+invariant-loop-seat g l = record {
+  parts : l.commits.parts ≡ l.initial.commits.parts + length l.yielded;
+  amount : l.commits.amount ≡ l.initial.commits.amount;
+  block_parts : l.blocks.parts ≡ l.initial.blocks.parts + length l.yielded;
+  block_amount : l.blocks.amount ≡ l.initial.blocks.amount;
+}

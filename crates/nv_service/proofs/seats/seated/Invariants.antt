@@ -1,0 +1,12 @@
+use Rattle.std.proofs.Common.{◌≡◌, ◌≤◌, ◌+◌, map, vec_len, vec_capacity}
+use Rattle.std.specs.List.{range_with_len}
+use Rattle.nv_service.specs.Seats.{new_session}
+use Rattle.nv_service.proofs.seats.seated.Given as goal
+
+abbrev pub invariant-loop-number : goal.invariant-loop-number
+invariant-loop-number g l = record {
+  sessions : l.into.items ≡ map new_session (range_with_len 0 l.number);
+  count : vec_len l.into ≡ l.number;
+  left : vec_len l.free + l.number ≡ vec_len l.initial.free;
+  room : vec_capacity l.into ≡ vec_capacity l.initial.into;
+}

@@ -1,0 +1,55 @@
+use Rattle.std.proofs.Common.{◌∙◌, List, ap, arith, inl, inr, map, subst, sym}
+use Rattle.std.proofs.lemmas.List.{length-map}
+use Rattle.nv_base.specs.declared.geometry.Geometry.{Geometry}
+use Rattle.nv_core.specs.declared.parts.Parts.{Parts}
+use Rattle.nv_service.specs.Opening.{blocks_in}
+use Rattle.nv_service.specs.Rests.{AreInPlace, told_of}
+use Rattle.nv_service.specs.Seats.{AreSeats}
+use Rattle.nv_service.specs.Sessions.{SessionValue}
+use Rattle.nv_service.proofs.Closes.{none_older, not_seats}
+use Rattle.nv_service.proofs.PartBlocks.{judged_blocks}
+use Rattle.nv_service.proofs.service.Service.close.Goals as goal
+
+pub join-requires : goal.join-requires
+join-requires g c =
+    let seats =
+    subst (λ (ss : List SessionValue). AreSeats c.args.self.seating.given (map (λ (s : SessionValue). s.number) ss))
+    c.deref.ensures.value (c.are_seats.ensures.0 c.if-not-are_seats.false) in
+    record {
+      seats = omega (
+        arith,
+        length-map c.args.sessions.items (λ (s : SessionValue). s.number),
+        seats.count,
+        c.deref.ensures.value,
+        c.deref.ensures.len,
+        c.apart-parts.ensures.given,
+      );
+    }
+
+pub returns-in-Ok-world_of-clause-seen : goal.returns-in-Ok-world_of-clause-seen
+returns-in-Ok-world_of-clause-seen g c =
+    let made = c.in-Ok-world_of.ensures in
+    none_older g.C.Commits.opened c.args.sessions.items c.apart-parts.result.1.cells.items
+    c.in-Ok-world_of.world.shared.cells.items
+    (c.apart-parts.ensures.cells ∙ ap (λ (p : Parts). map told_of p.cells) (sym made.parts)) (subst AreInPlace c.deref-2.ensures.value made.placed)
+    c.join.ensures.seen
+
+pub returns-in-Ok-world_of-clause-blocks : goal.returns-in-Ok-world_of-clause-blocks
+returns-in-Ok-world_of-clause-blocks g c =
+    let made = c.in-Ok-world_of.ensures in
+    ap blocks_in made.parts ∙ judged_blocks c.apart-parts.result.0 made.judged
+    ∙ ap (λ (n : Geometry). n.numbers.blocks) c.apart-parts.ensures.geometry.0 ∙ sym c.args.self.all_blocks
+
+pub returns-in-Err-world_of-clause-out : goal.returns-in-Err-world_of-clause-out
+returns-in-Err-world_of-clause-out g c =
+    let seats =
+    subst (λ (ss : List SessionValue). AreSeats c.args.self.seating.given (map (λ (s : SessionValue). s.number) ss))
+    c.deref.ensures.value (c.are_seats.ensures.0 c.if-not-are_seats.false) in
+    (λ is none. not_seats c.apart-parts.result.0 c.deref-2.result.now c.in-Err-world_of.fault c.in-Err-world_of.ensures.err is, λ none. absurd (none seats))
+
+pub returns-in-Err-world_of-clause-err : goal.returns-in-Err-world_of-clause-err
+returns-in-Err-world_of-clause-err g c =
+    elim c.in-Err-world_of.ensures.err [
+      | inl memory ↦ inr (inl memory)
+      | inr differs ↦ inr (inr (c.apart-parts.result.0, c.deref-2.result.now, c.apart-parts.ensures.geometry.0, differs))
+    ]

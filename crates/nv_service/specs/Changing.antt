@@ -1,0 +1,135 @@
+-- A change over cells whose guards are held.
+use Rattle.std.specs.Prelude.{◌≡◌, ℕ, ◌+◌, ◌-◌, ◌<◌, ◌≤◌, ◌^◌, ◌⊎◌, Bool, true, false, List, [], ◌∷◌, Option, Some, None, is_some, length, slice_index}
+use Rattle.std.specs.List.{AllByRecursion, sum_by}
+use Rattle.nv_alloc.specs.Block.{BlockValue}
+use Rattle.nv_alloc.specs.Hand.{blocks_of}
+use Rattle.nv_alloc.specs.Queue.{QueueValue}
+use Rattle.nv_alloc.specs.declared.hand.Hand.{Hand}
+use Rattle.nv_base.specs.declared.fault.Fault.{Fault}
+use Rattle.nv_base.specs.declared.fault.Fault.TheVariants as fault
+use Rattle.nv_base.specs.declared.fault.MismatchPart.TheVariants as part
+use Rattle.nv_base.specs.declared.numbers.Handle.{Handle}
+use Rattle.nv_calls.specs.AllCalls.{is_nothing, refusal}
+use Rattle.nv_calls.specs.Cells.{ino_at, state_at}
+use Rattle.nv_calls.specs.Checked.{ends_over}
+use Rattle.nv_calls.specs.Nodes.{has_page_in, nodes_in}
+use Rattle.nv_calls.specs.Prepared.{HasNumberFor, IsEmptySlot, IsStill, makes}
+use Rattle.nv_calls.specs.Refusals.{passes}
+use Rattle.nv_calls.specs.Updates.{blank_call, blocks_taken}
+use Rattle.nv_calls.specs.declared.check_end.CheckEnd.{CheckEnd}
+use Rattle.nv_calls.specs.declared.check_end.CheckEnd.TheVariants as ends
+use Rattle.nv_calls.specs.declared.looked.LookupResult.{LookupResult}
+use Rattle.nv_calls.specs.declared.update.Update.{Update}
+use Rattle.nv_calls.specs.declared.update.Update.TheVariants as update
+use Rattle.nv_cell.specs.Cell.{CellValue, IsCell, block_total}
+use Rattle.nv_service.specs.declared.change.ChangeEnd.{ChangeEnd}
+use Rattle.nv_service.specs.declared.change.ChangeEnd.TheVariants.{Answers, Overtaken}
+
+-- ---- what is tested of the parts that a change is lent
+
+-- the blocks of the cells have that size
+abbrev pub AreOfSize : ℕ → List (ℕ × CellValue) → Type 0
+AreOfSize block cells = AllByRecursion (λ (c : ℕ × CellValue). c.1.state.block ≡ block) cells
+
+-- no cell has an entry past its tail
+abbrev pub AreSettled : List (ℕ × CellValue) → Type 0
+AreSettled cells = AllByRecursion (λ (c : ℕ × CellValue). c.1.state.chain.tail ≡ length c.1.state.chain.entries) cells
+
+-- why cells are not lent to a change: blocks of another size, or an entry past a tail
+abbrev pub RefusesCells : ℕ → List (ℕ × CellValue) → Fault → Type 0
+RefusesCells block cells refusal =
+    ((refusal ≡ fault.Mismatch part.Lists) × (AreOfSize block cells → ⊥))
+    ⊎ ((refusal ≡ fault.Mismatch part.Index) × (AreSettled cells → ⊥))
+
+-- a hand for blocks of that size, which holds none
+pub record IsFreeHand (block : ℕ) (hand : Hand) : Type 0 where
+  pub «data» : hand.«data».size ≡ block
+  pub pages : hand.pages.size ≡ block
+  pub none : length (blocks_of hand) ≡ 0
+
+-- a number is that of an empty slot among the cells, and in the hand of a call that makes an inode
+abbrev pub FitsNumber : List (ℕ × CellValue) → Bool → Option ℕ → Type 0
+FitsNumber cells makes None = Unit {0}
+FitsNumber cells true (Some ino) = IsEmptySlot cells ino
+FitsNumber cells false (Some ino) = ⊥
+
+-- a change passed its check over these cells, with such a hand: it commits something, and wants so many data blocks
+pub record HasPassed (block : ℕ) (cells : List (ℕ × CellValue)) (hand : Hand) (u : Update) (wanted : ℕ) : Type 0 where
+  pub still : AllByRecursion (λ (c : ℕ × CellValue). IsStill block c.1.state) cells
+  pub hand_is : IsFreeHand block hand
+  pub number : HasNumberFor cells (makes u) hand.ino
+  pub passed : refusal block (nodes_in cells) (blank_call u) ≡ passes
+  pub something : is_nothing (blank_call u) ≡ false
+  pub wants : wanted ≡ blocks_taken block (nodes_in cells) (has_page_in cells) u
+
+-- how a check ends a change: by a part that does not fit, or by the tests of the call
+abbrev pub EndsCheck : ℕ → List (ℕ × CellValue) → LookupResult → Update → Hand → CheckEnd → Type 0
+EndsCheck block cells looked u hand end =
+    ((refusal : Fault) × (end ≡ ends.Refuses refusal) × RefusesCells block cells refusal)
+    ⊎ ((end ≡ ends.Refuses (fault.Mismatch part.Lists)) × (IsFreeHand block hand × FitsNumber cells (makes u) hand.ino → ⊥))
+    ⊎ (ends_over block (nodes_in cells) looked (is_some hand.ino) u ≡ Some end)
+
+-- ---- blocks
+
+abbrev pub AreSmall : List BlockValue → Type 0
+AreSmall blocks = AllByRecursion (λ (b : BlockValue). b.number < 2 ^ 32) blocks
+
+-- a queue took so many blocks, each with a number below 2^32
+pub record HasTaken (n : ℕ) (old new : QueueValue) : Type 0 where
+  pub count : length new.blocks ≡ length old.blocks + n
+  pub size : new.size ≡ old.size
+  pub room : new.room ≡ old.room - n
+  pub small : AreSmall old.blocks → AreSmall new.blocks
+
+-- how many blocks the cells have
+abbrev pub blocks_in : List (ℕ × CellValue) → ℕ
+blocks_in cells = sum_by (λ (c : ℕ × CellValue). block_total c.1.state) cells
+
+-- ---- versions
+
+abbrev pub AreWhole : List (ℕ × CellValue) → Type 0
+AreWhole cells = AllByRecursion (λ (c : ℕ × CellValue). IsCell c.1.state) cells
+
+-- the cells of the same inodes, each at its version or the next one
+pub record MayBeRaised (old new : List (ℕ × CellValue)) : Type 0 where
+  pub count : length new ≡ length old
+  pub numbers : (k : ℕ) → ino_at new k ≡ ino_at old k
+  pub least : (k : ℕ) → (state_at old k).version ≤ (state_at new k).version
+  pub most : (k : ℕ) → (state_at new k).version ≤ (state_at old k).version + 1
+
+abbrev pub KeepVersions : List (ℕ × CellValue) → List (ℕ × CellValue) → Type 0
+KeepVersions old new = (k : ℕ) → (state_at new k).version ≡ (state_at old k).version
+
+-- the cell of an inode is at its next version
+pub record IsRaised (old new : List (ℕ × CellValue)) (ino : ℕ) : Type 0 where
+  pub at : ℕ
+  pub within : at < length old
+  pub ino_is : ino_at old at ≡ ino
+  pub version : (state_at new at).version ≡ (state_at old at).version + 1
+
+-- ---- what it tells
+
+-- the handles that a change names
+abbrev pub handles_of : Update → List Handle
+handles_of (update.Create dir name mode) = dir ∷ []
+handles_of (update.Mkdir dir name mode) = dir ∷ []
+handles_of (update.Write file offset count) = file ∷ []
+handles_of (update.Size file size) = file ∷ []
+handles_of (update.Mode handle mode) = handle ∷ []
+handles_of (update.Unlink dir name) = dir ∷ []
+handles_of (update.Rmdir dir name) = dir ∷ []
+handles_of (update.Rename from old to new) = from ∷ to ∷ []
+
+-- the inode of each of them is at its next version
+abbrev pub AreRaised : List (ℕ × CellValue) → List (ℕ × CellValue) → List Handle → Type 0
+AreRaised old new handles = AllByRecursion (λ (h : Handle). IsRaised old new h.ino) handles
+
+-- and of the inode of each of them a higher version was seen than before
+abbrev pub HaveSeenHigher : List ℕ → List ℕ → List Handle → Type 0
+HaveSeenHigher before after handles = AllByRecursion (λ (h : Handle). slice_index before h.ino < slice_index after h.ino) handles
+
+-- what a change that is overtaken hands back is the call; one that is answered has nothing to commit
+abbrev pub IsOfCall : Update → ChangeEnd → Type 0
+IsOfCall call (Overtaken back) = back ≡ call
+IsOfCall call Answers = is_nothing (blank_call call) ≡ true
+IsOfCall call other = Unit {0}

@@ -1,0 +1,15 @@
+pub mod ByValue
+pub mod Changing
+pub mod Cleaning
+pub mod Closing
+pub mod Committing
+pub mod Ending
+pub mod Fresh
+pub mod Locked
+pub mod Names
+pub mod Opened
+pub mod Opening
+pub mod Rests
+pub mod Rounds
+pub mod Seats
+pub mod Sessions

@@ -1,0 +1,34 @@
+-- What lies beside a part under its lock.
+use Rattle.std.specs.Prelude.{◌≡◌, ℕ, ◌<◌, ◌≤◌, List, length, slice_index, slice_index_or}
+use Rattle.nv_alloc.specs.FreeList.{FreeBlocks}
+use Rattle.nv_cell.specs.Cell.{CellValue, block_total}
+use Rattle.nv_service.specs.Locked.{version_at}
+
+-- the number of an inode, how many blocks the share beside its cell has, and the version at which its owner owns it
+pub record CellRestValue : Type 0 where
+  pub ino : ℕ
+  pub blocks : ℕ
+  pub version : ℕ
+
+-- what the share and the owner of a cell say of it
+pub record Told : Type 0 where
+  pub blocks : ℕ
+  pub version : ℕ
+
+abbrev pub told_by : CellRestValue → Told
+told_by rest = record { blocks = rest.blocks; version = rest.version }
+
+abbrev pub told_of : CellValue → Told
+told_of cell = record { blocks = block_total cell.state; version = cell.state.version }
+
+-- the share of a free list says how many blocks it has
+abbrev pub list_told : FreeBlocks → ℕ
+list_told list = length list.blocks
+
+-- no more was seen of an inode than its owner has
+abbrev pub IsKnown : List ℕ → List ℕ → CellRestValue → Type 0
+IsKnown opened seen rest = version_at opened rest.ino (slice_index seen rest.ino) ≤ rest.version
+
+-- each cell came out of the lock of its inode's slot
+abbrev pub AreInPlace : List CellRestValue → Type 0
+AreInPlace rests = (slot : ℕ) (d : CellRestValue) → slot < length rests → (slice_index_or rests slot d).ino ≡ slot

@@ -1,0 +1,13 @@
+-- The seats of a service.
+use Rattle.std.specs.Prelude.{◌≡◌, ℕ, ◌<◌, List, [], length}
+use Rattle.nv_alloc.specs.Numbers.{times}
+use Rattle.nv_service.specs.Sessions.{SessionValue}
+
+-- the session of a seat that was just given out
+abbrev pub new_session : ℕ → SessionValue
+new_session number = record { number = number; commits = 0; seen = [] }
+
+-- the sessions of so many seats, by number: as many, and each seat's once
+pub record AreSeats (seats : ℕ) (numbers : List ℕ) : Type 0 where
+  pub count : length numbers ≡ seats
+  pub each : (n : ℕ) → n < seats → times n numbers ≡ 1

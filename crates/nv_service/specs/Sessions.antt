@@ -1,0 +1,91 @@
+-- A session to its contracts, and what its calls leave of it.
+use Rattle.std.specs.Prelude.{◌≡◌, ◌≢◌, ◌<◌, ◌≤◌, ℕ, ◌+◌, true, false, List, Option, Some, None, slice_index}
+use Rattle.nv_base.specs.declared.numbers.Handle.{Handle}
+use Rattle.nv_calls.specs.AllCalls.{is_nothing}
+use Rattle.nv_calls.specs.Commit.{ReceiptValue}
+use Rattle.nv_calls.specs.Updates.{blank_call}
+use Rattle.nv_calls.specs.declared.answer.Answer.{Answer}
+use Rattle.nv_calls.specs.declared.answer.Answer.TheVariants as answers
+use Rattle.nv_calls.specs.declared.call.Call.{Call}
+use Rattle.nv_calls.specs.declared.update.Update.{Update}
+use Rattle.nv_calls.specs.declared.update.Update.TheVariants as update
+use Rattle.nv_calls.specs.declared.view.View.{View}
+use Rattle.nv_service.specs.Changing.{HaveSeenHigher, handles_of}
+use Rattle.nv_service.specs.Locked.{version_at}
+use Rattle.nv_service.specs.declared.seen.Seen.{Seen}
+use Rattle.nv_service.specs.declared.seen.Seen.TheVariants as seen
+
+-- the number of its seat, its commits since the opening, and the versions that it has seen, by inode, counted from the
+-- opening on
+pub record SessionValue : Type 0 where
+  pub number : ℕ
+  pub commits : ℕ
+  pub seen : List ℕ
+
+-- that of a seat with so many commits, which has seen these versions
+abbrev pub at_seat : ℕ → ℕ → List ℕ → SessionValue
+at_seat number commits seen = record { number = number; commits = commits; seen = seen }
+
+-- ---- what a call has seen
+
+-- the version that was read, or the number that was committed
+abbrev pub at_of : Seen → ℕ
+at_of (seen.Viewed view) = view.version
+at_of (seen.Committed receipt) = receipt.stamp.commit
+at_of (seen.Other answer) = 0
+
+-- what a call that changes nodes is answered, with the handle of the inode that it made, if it made one
+abbrev pub answered : Option Handle → Update → Answer
+answered (Some handle) u = answers.Made handle
+answered None (update.Write file offset count) = answers.Count count
+answered None other = answers.Nothing
+
+abbrev pub answer_of : Seen → Answer
+answer_of (seen.Viewed view) = view.found
+answer_of (seen.Committed receipt) = answered receipt.made receipt.update
+answer_of (seen.Other answer) = answer
+
+-- ---- calls that change nodes
+
+-- the receipt is that of the call, whose commit counts as one of the session's; of the inode of each handle that the call
+-- names a higher version is seen. `opening` is the number of the last commit at the opening
+pub record HasReceipt (opening : ℕ) (before after : SessionValue) (u : Update) (receipt : ReceiptValue) : Type 0 where
+  pub call : receipt.update ≡ u
+  pub counted : after.commits ≡ before.commits + 1
+  pub number : opening + after.commits ≤ receipt.stamp.commit
+  pub higher : HaveSeenHigher before.seen after.seen (handles_of u)
+  pub seat : after.number ≡ before.number
+
+-- the session has committed this very call
+abbrev pub IsCommittedBy : ℕ → SessionValue → SessionValue → Update → Seen → Type 0
+IsCommittedBy opening before after u (seen.Committed receipt) = HasReceipt opening before after u receipt
+IsCommittedBy opening before after u other = ⊥
+
+-- a call that commits nothing is answered, and leaves the session as it was; any other is committed
+abbrev pub IsChangedBy : ℕ → SessionValue → SessionValue → Update → Seen → Type 0
+IsChangedBy opening before after u (seen.Viewed view) = ⊥
+IsChangedBy opening before after u (seen.Committed receipt) =
+    (is_nothing (blank_call u) ≡ false) × HasReceipt opening before after u receipt
+IsChangedBy opening before after u (seen.Other answer) =
+    (is_nothing (blank_call u) ≡ true) × (answer ≡ answered None u) × (after ≡ before)
+
+-- ---- calls that read a node
+
+-- a view of the call, of that version
+abbrev pub IsFoundAt : ℕ → Call → View → Type 0
+IsFoundAt version c view = (view.call ≡ c) × (view.version ≡ version)
+
+-- the view is that of the call, of no older version than was seen, and that version is seen from then on; of all other
+-- inodes what was seen stays
+pub record HasView (opened : List ℕ) (before after : SessionValue) (ino : ℕ) (c : Call) (view : View) : Type 0 where
+  pub call : view.call ≡ c
+  pub no_older : version_at opened ino (slice_index before.seen ino) ≤ view.version
+  pub seen : version_at opened ino (slice_index after.seen ino) ≡ view.version
+  pub elsewhere : (i : ℕ) → i ≢ ino → slice_index after.seen i ≡ slice_index before.seen i
+  pub commits : after.commits ≡ before.commits
+  pub seat : after.number ≡ before.number
+
+-- the session has read this very call's inode
+abbrev pub IsViewedBy : List ℕ → SessionValue → SessionValue → ℕ → Call → Seen → Type 0
+IsViewedBy opened before after ino c (seen.Viewed view) = HasView opened before after ino c view
+IsViewedBy opened before after ino c other = ⊥

@@ -1,0 +1,72 @@
+//! Calls that are given as values.
+
+ghost use Rattle.std.specs.Prelude.{◌≡◌, IfOk};
+ghost use Rattle.nv_base.specs.Refusals.{KeepsOnErr};
+ghost use Rattle.nv_service.specs.ByValue.{IsMadeAs, IsOther};
+
+use crate::names::{Blocks, Commits};
+use crate::seen::Seen;
+use crate::service::Service;
+use crate::session::Session;
+use nv_base::Fault;
+use nv_calls::{Call, MaintenanceCall};
+use nv_core::Text;
+use std::sync::Wait;
+
+impl<C: Commits, B: Blocks> Session<C, B> {
+    /// Makes a call that is given as a value, with the answer and the errors of the method of its name.
+    pub fn call<R: Wait>(
+        &mut self,
+        rt: &R,
+        service: &Service<C, B>,
+        call: Call,
+    ) -> Result<Seen, Fault>
+        ensures ok { IfOk result (IsMadeAs C.commit C.opened self.old self.new call) }
+        ensures same { KeepsOnErr result self.old self.new }
+    {
+        match call {
+            Call::Create { dir, name, mode } => self.create(rt, service, dir, name, mode),
+            Call::Mkdir { dir, name, mode } => self.mkdir(rt, service, dir, name, mode),
+            Call::Write { file, offset, text } => {
+                let bytes = text.as_slice();
+                let count = bytes.len() as u64;
+                self.write(rt, service, file, offset, count, &mut Text { bytes })
+            }
+            Call::Read {
+                file,
+                offset,
+                count,
+            } => self.read(rt, service, file, offset, count),
+            Call::Size { file, size } => self.size(rt, service, file, size),
+            Call::Mode { handle, mode } => self.mode(rt, service, handle, mode),
+            Call::Stat { handle } => self.stat(rt, service, handle),
+            Call::List { dir } => self.list(rt, service, dir),
+            Call::Lookup { dir, name } => self.lookup(rt, service, dir, name),
+            Call::Unlink { dir, name } => self.unlink(rt, service, dir, name),
+            Call::Rmdir { dir, name } => self.rmdir(rt, service, dir, name),
+            Call::Rename { from, old, to, new } => self.rename(rt, service, from, old, to, new),
+            Call::Maintenance(call) => self.maintain(rt, service, call),
+        }
+    }
+
+    /// The same for a call on snapshots, or a cleaner.
+    fn maintain<R: Wait>(
+        &mut self,
+        rt: &R,
+        service: &Service<C, B>,
+        call: MaintenanceCall,
+    ) -> Result<Seen, Fault>
+        ensures other { IfOk result IsOther }
+        ensures same { self.new ≡ self.old }
+    {
+        match call {
+            MaintenanceCall::Snap => self.snap(rt, service),
+            MaintenanceCall::Drop(snapshot) => self.drop_snap(rt, service, snapshot),
+            MaintenanceCall::Show(snapshot) => self.show(rt, service, snapshot),
+            MaintenanceCall::Drain(number) => self.drain(rt, service, number),
+            MaintenanceCall::Fast(ino) => self.fast(rt, service, ino),
+            MaintenanceCall::Thorough(ino) => self.thorough(rt, service, ino),
+            MaintenanceCall::Auto(ino) => self.auto(rt, service, ino),
+        }
+    }
+}

@@ -1,0 +1,179 @@
+//! The calls that change nodes.
+
+ghost use Rattle.std.specs.Prelude.{◌-◌, ◌<◌, ◌^◌, IfOk};
+ghost use Rattle.nv_base.specs.Refusals.{KeepsOnErr};
+ghost use Rattle.nv_service.specs.Sessions.{IsChangedBy, IsCommittedBy};
+
+use crate::names::{Blocks, Commits};
+use crate::no_text::NoText;
+use crate::seen::Seen;
+use crate::service::Service;
+use crate::session::Session;
+use nv_base::{Bytes, Fault, Handle, Mode};
+use nv_calls::{Source, Update};
+use std::sync::Wait;
+
+impl<C: Commits, B: Blocks> Session<C, B> {
+    /// Makes an empty file in a directory. `Stale`, `NotDirectory`, `BadName`, `Exists`, `NoInode`, `NoSpace`,
+    /// `OutOfMemory`, `CommitLimit`.
+    pub fn create<R: Wait>(
+        &mut self,
+        rt: &R,
+        service: &Service<C, B>,
+        dir: Handle,
+        name: Bytes,
+        mode: Mode,
+    ) -> Result<Seen, Fault>
+        ensures ok { IfOk result (IsCommittedBy C.commit self.old self.new
+            (Update.Create dir name mode)) }
+        ensures same { KeepsOnErr result self.old self.new }
+    {
+        self.change(
+            rt,
+            service,
+            Update::Create { dir, name, mode },
+            &mut NoText::new(),
+        )
+    }
+
+    /// Makes an empty directory in a directory, with the errors of [`create`](Session::create).
+    pub fn mkdir<R: Wait>(
+        &mut self,
+        rt: &R,
+        service: &Service<C, B>,
+        dir: Handle,
+        name: Bytes,
+        mode: Mode,
+    ) -> Result<Seen, Fault>
+        ensures ok { IfOk result (IsCommittedBy C.commit self.old self.new
+            (Update.Mkdir dir name mode)) }
+        ensures same { KeepsOnErr result self.old self.new }
+    {
+        self.change(
+            rt,
+            service,
+            Update::Mkdir { dir, name, mode },
+            &mut NoText::new(),
+        )
+    }
+
+    /// Writes so many bytes of a source into a file from an offset in bytes on. What lies between the end and the offset
+    /// becomes zeros. A write of no bytes commits nothing. `Stale`, `NotFile`, `WriteTooBig`, `FileTooBig`, `NoSpace`,
+    /// `OutOfMemory`, `Read` where the source failed, `CommitLimit`.
+    ///
+    /// The source is asked under the lock of this file alone.
+    pub fn write<S: Source, R: Wait>(
+        &mut self,
+        rt: &R,
+        service: &Service<C, B>,
+        file: Handle,
+        offset: u64,
+        count: u64,
+        source: &mut S,
+    ) -> Result<Seen, Fault>
+        requires failures { S.failed source.old < 2 ^ 64 - 1 }
+        ensures ok { IfOk result (IsChangedBy C.commit self.old self.new
+            (Update.Write file offset count)) }
+        ensures same { KeepsOnErr result self.old self.new }
+    {
+        let update = Update::Write {
+            file,
+            offset,
+            count,
+        };
+        self.change(rt, service, update, source)
+    }
+
+    /// Cuts a file at a size, or adds zeros up to it. `Stale`, `NotFile`, `FileTooBig`, `NoSpace`, `OutOfMemory`,
+    /// `CommitLimit`.
+    pub fn size<R: Wait>(
+        &mut self,
+        rt: &R,
+        service: &Service<C, B>,
+        file: Handle,
+        size: u64,
+    ) -> Result<Seen, Fault>
+        ensures ok { IfOk result (IsCommittedBy C.commit self.old self.new
+            (Update.Size file size)) }
+        ensures same { KeepsOnErr result self.old self.new }
+    {
+        self.change(rt, service, Update::Size { file, size }, &mut NoText::new())
+    }
+
+    /// Sets the mode of a node. `Stale`, `NoSpace`, `OutOfMemory`, `CommitLimit`.
+    pub fn mode<R: Wait>(
+        &mut self,
+        rt: &R,
+        service: &Service<C, B>,
+        handle: Handle,
+        mode: Mode,
+    ) -> Result<Seen, Fault>
+        ensures ok { IfOk result (IsCommittedBy C.commit self.old self.new
+            (Update.Mode handle mode)) }
+        ensures same { KeepsOnErr result self.old self.new }
+    {
+        self.change(
+            rt,
+            service,
+            Update::Mode { handle, mode },
+            &mut NoText::new(),
+        )
+    }
+
+    /// Takes a file's name out of a directory; the file goes. `Stale`, `NotDirectory`, `BadName`, `Missing`, `NotFile`,
+    /// `NoSpace`, `OutOfMemory`, `CommitLimit`; `Contended` where other calls bound the name anew eight times.
+    pub fn unlink<R: Wait>(
+        &mut self,
+        rt: &R,
+        service: &Service<C, B>,
+        dir: Handle,
+        name: Bytes,
+    ) -> Result<Seen, Fault>
+        ensures ok { IfOk result (IsCommittedBy C.commit self.old self.new
+            (Update.Unlink dir name)) }
+        ensures same { KeepsOnErr result self.old self.new }
+    {
+        self.change(
+            rt,
+            service,
+            Update::Unlink { dir, name },
+            &mut NoText::new(),
+        )
+    }
+
+    /// Takes the name of an empty directory out of a directory; the empty directory goes. Its errors are those of
+    /// [`unlink`](Session::unlink), with `NotDirectory` for `NotFile`, and `NotEmpty`.
+    pub fn rmdir<R: Wait>(
+        &mut self,
+        rt: &R,
+        service: &Service<C, B>,
+        dir: Handle,
+        name: Bytes,
+    ) -> Result<Seen, Fault>
+        ensures ok { IfOk result (IsCommittedBy C.commit self.old self.new
+            (Update.Rmdir dir name)) }
+        ensures same { KeepsOnErr result self.old self.new }
+    {
+        self.change(rt, service, Update::Rmdir { dir, name }, &mut NoText::new())
+    }
+
+    /// Gives a node another name, in the same directory or in another; a file at the new name goes. A rename onto its own
+    /// place commits nothing. Its errors are those of [`unlink`](Session::unlink), with `MoveDirectory` and `Exists` for
+    /// `NotFile`.
+    pub fn rename<R: Wait>(
+        &mut self,
+        rt: &R,
+        service: &Service<C, B>,
+        from: Handle,
+        old: Bytes,
+        to: Handle,
+        new: Bytes,
+    ) -> Result<Seen, Fault>
+        ensures ok { IfOk result (IsChangedBy C.commit self.old self.new
+            (Update.Rename from old to new)) }
+        ensures same { KeepsOnErr result self.old self.new }
+    {
+        let update = Update::Rename { from, old, to, new };
+        self.change(rt, service, update, &mut NoText::new())
+    }
+}

@@ -1,0 +1,120 @@
+//! The cleaners.
+
+ghost use Rattle.std.specs.Prelude.{◌≡◌, ◌≤◌, ℕ, Bool, IfOk, max, min};
+ghost use Rattle.nv_base.specs.declared.limits.TheConstants.{DRAIN};
+
+use crate::cleaners::{Manner, clean_log};
+use crate::drain::drain_deferred;
+use crate::ending::{empty_hand, give_back};
+use crate::names::{Blocks, Commits};
+use crate::seen::Seen;
+use crate::service::Service;
+use crate::session::Session;
+use nv_base::{Fault, Ino, limits};
+use nv_calls::Answer;
+use nv_clean::Cleaned;
+use std::sync::Wait;
+
+impl<C: Commits, B: Blocks> Session<C, B> {
+    /// Unlinks whole log pages of an inode that nothing needs, and answers how many entries and pages the log lost.
+    /// `Stale`; `OutOfMemory` where room was refused.
+    pub fn fast<R: Wait>(
+        &mut self,
+        rt: &R,
+        service: &Service<C, B>,
+        ino: Ino,
+    ) -> Result<Seen, Fault>
+        ensures answer { IfOk result (λ seen. (thorough : Bool) × (entries pages : ℕ)
+            × (seen ≡ Seen.Other (Answer.Cleaned thorough entries pages))) }
+        ensures same { self.new ≡ self.old }
+    {
+        self.clean(rt, service, Manner::Fast, ino)
+    }
+
+    /// Moves the entries of an inode's log that something needs to as few pages as they fill, which it takes before it
+    /// gives any back, and answers how many entries and pages the log lost. `Stale`, `NoSpace`; `OutOfMemory` where room
+    /// was refused.
+    pub fn thorough<R: Wait>(
+        &mut self,
+        rt: &R,
+        service: &Service<C, B>,
+        ino: Ino,
+    ) -> Result<Seen, Fault>
+        ensures answer { IfOk result (λ seen. (thorough : Bool) × (entries pages : ℕ)
+            × (seen ≡ Seen.Other (Answer.Cleaned thorough entries pages))) }
+        ensures same { self.new ≡ self.old }
+    {
+        self.clean(rt, service, Manner::Thorough, ino)
+    }
+
+    /// Does as [`thorough`](Session::thorough) where less than half of the entries would stay, and else as
+    /// [`fast`](Session::fast).
+    pub fn auto<R: Wait>(
+        &mut self,
+        rt: &R,
+        service: &Service<C, B>,
+        ino: Ino,
+    ) -> Result<Seen, Fault>
+        ensures answer { IfOk result (λ seen. (thorough : Bool) × (entries pages : ℕ)
+            × (seen ≡ Seen.Other (Answer.Cleaned thorough entries pages))) }
+        ensures same { self.new ≡ self.old }
+    {
+        self.clean(rt, service, Manner::Auto, ino)
+    }
+
+    fn clean<R: Wait>(
+        &mut self,
+        rt: &R,
+        service: &Service<C, B>,
+        manner: Manner,
+        ino: Ino,
+    ) -> Result<Seen, Fault>
+        ensures answer { IfOk result (λ seen. (thorough : Bool) × (entries pages : ℕ)
+            × (seen ≡ Seen.Other (Answer.Cleaned thorough entries pages))) }
+        ensures same { self.new ≡ self.old }
+    {
+        let mine = &mut self.seat.blocks;
+        empty_hand(rt, service, &mut self.hand, mine)?;
+        let cleaned = clean_log(
+            rt,
+            service,
+            self.seat.number,
+            &mut self.hand,
+            mine,
+            manner,
+            ino,
+        );
+        give_back(rt, service, &mut self.hand, mine);
+        let Cleaned {
+            thorough,
+            entries,
+            pages,
+        } = cleaned?;
+        Ok(Seen::Other(Answer::Cleaned {
+            thorough,
+            entries,
+            pages,
+        }))
+    }
+
+    /// Releases the first deferred records, at most so many, and answers how many: a number outside 1 to
+    /// [`limits::DRAIN`] counts as the nearest of these. `OutOfMemory` where room for a block was refused, before the first
+    /// record.
+    pub fn drain<R: Wait>(
+        &mut self,
+        rt: &R,
+        service: &Service<C, B>,
+        number: u64,
+    ) -> Result<Seen, Fault>
+        ensures answer { IfOk result (λ seen. (n : ℕ) × (n ≤ max 1 (min number DRAIN))
+            × (seen ≡ Seen.Other (Answer.Count n))) }
+        ensures same { self.new ≡ self.old }
+    {
+        let mine = &mut self.seat.blocks;
+        empty_hand(rt, service, &mut self.hand, mine)?;
+        self.hand.data.reserve(1)?;
+        let most = limits::most_drained(number);
+        let released = drain_deferred(rt, service, &mut self.hand, mine, most)?;
+        Ok(Seen::Other(Answer::Count(released)))
+    }
+}

@@ -1,0 +1,58 @@
+//! The calls on snapshots.
+
+ghost use Rattle.std.specs.Prelude.{◌≡◌, ℕ, IfOk, List};
+ghost use Rattle.nv_entry.specs.declared.tree.TreeNode.{TreeNode};
+
+use crate::names::{Blocks, Commits};
+use crate::seen::Seen;
+use crate::service::Service;
+use crate::session::Session;
+use crate::snapshots::{pin, show_tree, unpin};
+use nv_base::{Epoch, Fault};
+use nv_calls::Answer;
+use std::sync::Wait;
+
+impl<C: Commits, B: Blocks> Session<C, B> {
+    /// Makes a snapshot of all nodes as they are, and answers its number. `EpochLimit`, `TooManySnapshots`.
+    pub fn snap<R: Wait>(&mut self, rt: &R, service: &Service<C, B>) -> Result<Seen, Fault>
+        ensures answer { IfOk result (λ seen. (s : ℕ) × (seen ≡ Seen.Other (Answer.Snapshot s))) }
+        ensures same { self.new ≡ self.old }
+    {
+        let snapshot = service.book_lock().lock(rt).make_snapshot()?;
+        Ok(Seen::Other(Answer::Snapshot(snapshot)))
+    }
+
+    /// Drops a snapshot: what no older one holds either is deferred. `NoSnapshot`, `Pinned`.
+    pub fn drop_snap<R: Wait>(
+        &mut self,
+        rt: &R,
+        service: &Service<C, B>,
+        snapshot: Epoch,
+    ) -> Result<Seen, Fault>
+        ensures answer { IfOk result (λ seen. seen ≡ Seen.Other Answer.Nothing) }
+        ensures same { self.new ≡ self.old }
+    {
+        service.book_lock().lock(rt).drop_snapshot(snapshot)?;
+        Ok(Seen::Other(Answer::Nothing))
+    }
+
+    /// Asks for the tree as it was when a snapshot was made, which is pinned as long as the call reads. `NoSnapshot`;
+    /// `OutOfMemory` where room was refused.
+    pub fn show<R: Wait>(
+        &mut self,
+        rt: &R,
+        service: &Service<C, B>,
+        snapshot: Epoch,
+    ) -> Result<Seen, Fault>
+        ensures answer { IfOk result (λ seen. (tree : List TreeNode)
+            × (seen ≡ Seen.Other (Answer.Tree tree))) }
+        ensures same { self.new ≡ self.old }
+    {
+        pin(rt, service, snapshot)?;
+        let shown = show_tree(rt, service, snapshot);
+        let unpinned = unpin(rt, service, snapshot);
+        let tree = shown?;
+        unpinned?;
+        Ok(Seen::Other(Answer::Tree(tree)))
+    }
+}

@@ -1,0 +1,92 @@
+//! The calls that read one node.
+
+ghost use Rattle.std.specs.Prelude.{IfOk};
+ghost use Rattle.nv_base.specs.Refusals.{KeepsOnErr};
+ghost use Rattle.nv_service.specs.Sessions.{IsViewedBy};
+
+use crate::guards::hold;
+use crate::names::{Blocks, Commits};
+use crate::seen::Seen;
+use crate::service::Service;
+use crate::session::Session;
+use nv_base::{Bytes, Fault, Handle};
+use nv_calls::{Call, list_on, lookup_on, read_on, stat_on};
+use std::sync::Wait;
+
+impl<C: Commits, B: Blocks> Session<C, B> {
+    /// Reads at most `count` bytes of a file from an offset on, none past its end. `Stale`, `NotFile`; `OutOfMemory` where
+    /// room for the bytes was refused.
+    pub fn read<R: Wait>(
+        &mut self,
+        rt: &R,
+        service: &Service<C, B>,
+        file: Handle,
+        offset: u64,
+        count: u64,
+    ) -> Result<Seen, Fault>
+        ensures ok { IfOk result (IsViewedBy C.opened self.old self.new file.ino
+            (Call.Read file offset count)) }
+        ensures same { KeepsOnErr result self.old self.new }
+    {
+        let mut cell = hold(rt, service, file.ino)?;
+        let found = read_on(
+            file.ino,
+            cell.part(),
+            Call::Read {
+                file,
+                offset,
+                count,
+            },
+        );
+        self.see(rt, service, &mut *cell, found)
+    }
+
+    /// Asks for a node's kind, mode, size and last commit. `Stale`.
+    pub fn stat<R: Wait>(
+        &mut self,
+        rt: &R,
+        service: &Service<C, B>,
+        handle: Handle,
+    ) -> Result<Seen, Fault>
+        ensures ok { IfOk result (IsViewedBy C.opened self.old self.new handle.ino
+            (Call.Stat handle)) }
+        ensures same { KeepsOnErr result self.old self.new }
+    {
+        let mut cell = hold(rt, service, handle.ino)?;
+        let found = stat_on(handle.ino, cell.part(), Call::Stat { handle });
+        self.see(rt, service, &mut *cell, found)
+    }
+
+    /// Asks for the names of a directory in order. `Stale`, `NotDirectory`; `OutOfMemory` where room for the names was
+    /// refused.
+    pub fn list<R: Wait>(
+        &mut self,
+        rt: &R,
+        service: &Service<C, B>,
+        dir: Handle,
+    ) -> Result<Seen, Fault>
+        ensures ok { IfOk result (IsViewedBy C.opened self.old self.new dir.ino (Call.List dir)) }
+        ensures same { KeepsOnErr result self.old self.new }
+    {
+        let mut cell = hold(rt, service, dir.ino)?;
+        let found = list_on(dir.ino, cell.part(), Call::List { dir });
+        self.see(rt, service, &mut *cell, found)
+    }
+
+    /// Asks for the handle that a directory binds a name to. `Stale`, `NotDirectory`, `BadName`, `Missing`.
+    pub fn lookup<R: Wait>(
+        &mut self,
+        rt: &R,
+        service: &Service<C, B>,
+        dir: Handle,
+        name: Bytes,
+    ) -> Result<Seen, Fault>
+        ensures ok { IfOk result (IsViewedBy C.opened self.old self.new dir.ino
+            (Call.Lookup dir name)) }
+        ensures same { KeepsOnErr result self.old self.new }
+    {
+        let mut cell = hold(rt, service, dir.ino)?;
+        let found = lookup_on(dir.ino, cell.part(), Call::Lookup { dir, name });
+        self.see(rt, service, &mut *cell, found)
+    }
+}

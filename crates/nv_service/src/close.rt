@@ -1,0 +1,187 @@
+//! A service closes: its parts become a world again, or stay behind their locks.
+
+ghost use Rattle.std.specs.Prelude.{◌≡◌, ◌⊎◌, ◌+◌, ◌≤◌, ◌↔◌, All, IfErr, IfOk, List, OnOk, [], map, sum_by, vec_capacity, vec_len};
+ghost use Rattle.nv_base.specs.Memory.{out_of_memory};
+ghost use Rattle.nv_base.specs.Refusals.{FailsOnly};
+ghost use Rattle.nv_base.specs.declared.fault.Fault.TheVariants.{SeatsOut};
+ghost use Rattle.nv_core.specs.AtRest.{AreJudged, at_rest, parts_of};
+ghost use Rattle.nv_core.specs.Worlds.{Shows};
+ghost use Rattle.nv_core.specs.declared.parts.Parts.{Parts};
+ghost use Rattle.nv_service.specs.Closing.{IsDifference, IsNotOlder};
+ghost use Rattle.nv_service.specs.Opening.{blocks_in};
+ghost use Rattle.nv_service.specs.Rests.{AreInPlace, CellRestValue, list_told, told_by, told_of};
+ghost use Rattle.nv_service.specs.Seats.{AreSeats};
+
+use crate::book::LockedBook;
+use crate::names::{Blocks, Commits};
+use crate::rests::{CellRest, ListRest, Rests, are_in_place};
+use crate::seats::are_seats;
+use crate::service::Service;
+use crate::session::Session;
+use crate::unlocked::{lock_cells, lock_lists, unlock_cells, unlock_lists};
+use crossbeam_utils::CachePadded;
+use nv_alloc::FreeList;
+use nv_base::{Fault, Items, MismatchPart};
+use nv_cell::InodeCell;
+use nv_core::{Parts, World};
+use std::alloc::Global;
+use std::sync::{Mutex, Wait};
+
+/// Room for the parts of a service, and for what lies beside them.
+pub(crate) struct PartRoom<C: Commits, B: Blocks> {
+    pub(crate) cells: Vec<InodeCell>,
+    pub(crate) cell_rests: Vec<CellRest<C, B>>,
+    pub(crate) lists: Vec<FreeList>,
+    pub(crate) list_rests: Vec<ListRest<B>>,
+}
+
+impl<C: Commits, B: Blocks> PartRoom<C, B> {
+    /// Room for so many cells and lists.
+    fn new(alloc: Global, cells: usize, lists: usize) -> Result<PartRoom<C, B>, Fault>
+        ensures cells { IfOk result (λ room.
+            (room.cells.items ≡ []) × (cells ≤ vec_capacity room.cells)) }
+        ensures cell_rests { IfOk result (λ room.
+            (room.cell_rests.items ≡ []) × (cells ≤ vec_capacity room.cell_rests)) }
+        ensures lists { IfOk result (λ room.
+            (room.lists.items ≡ []) × (lists ≤ vec_capacity room.lists)) }
+        ensures list_rests { IfOk result (λ room.
+            (room.list_rests.items ≡ []) × (lists ≤ vec_capacity room.list_rests)) }
+        ensures err { FailsOnly out_of_memory result }
+    {
+        let cell_rests = Vec::with_capacity(alloc, cells)?;
+        let list_rests = Vec::with_capacity(alloc, lists)?;
+        let cells: Vec<InodeCell> = Vec::with_capacity(alloc, cells)?;
+        match Vec::with_capacity(alloc, lists) {
+            Ok(lists) => Ok(PartRoom {
+                cells,
+                cell_rests,
+                lists,
+                list_rests,
+            }),
+            Err(error) => {
+                cells.destroy_empty();
+                Err(Fault::from(error))
+            }
+        }
+    }
+}
+
+impl<C: Commits, B: Blocks> Service<C, B> {
+    /// Makes the world again, of parts that are at rest, in which no actor has a call. It has all commits of the sessions,
+    /// and no inode is older than a session has seen it.
+    ///
+    /// `SeatsOut` where the sessions are not those that were given out, each once; `OutOfMemory` where room was refused;
+    /// `Mismatch` with the first part that differs from those of a world at rest: a hand that has blocks or a number makes
+    /// the lists differ. The same service and sessions come back, and no share and no note was joined. No lock is taken,
+    /// and the time is that of [`World::from_parts`].
+    pub fn close<R: Wait>(
+        self,
+        rt: &R,
+        alloc: Global,
+        sessions: Vec<Session<C, B>>,
+    ) -> Result<World, (Fault, Service<C, B>, Vec<Session<C, B>>)>
+        ensures shows { IfOk result (λ world. Shows world (at_rest (parts_of world.shared))) }
+        ensures judged { IfOk result (λ world. AreJudged (parts_of world.shared)) }
+        ensures geometry { IfOk result (λ world. world.shared.geometry ≡ self.geometry) }
+        ensures seats { OnOk result
+            (AreSeats self.seating.given (map (λ s. s.number) sessions.items)) }
+        ensures commit { IfOk result (λ world. world.shared.book.state.commit
+            ≡ C.commit + sum_by (λ s. s.commits) sessions.items) }
+        ensures seen { IfOk result (λ world. All (λ s.
+            IsNotOlder C.opened s.seen world.shared.cells.items) sessions.items) }
+        ensures blocks { IfOk result (λ world.
+            blocks_in (parts_of world.shared) ≡ self.total.amount) }
+        ensures out { IfErr result (λ refused. (refused.0 ≡ SeatsOut)
+            ↔ (¬ AreSeats self.seating.given (map (λ s. s.number) sessions.items))) }
+        ensures err { IfErr result (λ refused. (refused.0 ≡ SeatsOut) ⊎ (refused.0 ≡ out_of_memory)
+            ⊎ ((parts : Parts) × (cells : List CellRestValue)
+            × (parts.geometry ≡ self.geometry) × IsDifference parts cells refused.0)) }
+        ensures service { IfErr result (λ refused. (refused.1.total ≡ self.total)
+            × (refused.1.geometry ≡ self.geometry)
+            × (refused.1.seating.given ≡ self.seating.given)) }
+        ensures sessions { IfErr result (λ refused. refused.2 ≡ sessions) }
+    {
+        if !are_seats(&sessions, self.seating.given) {
+            return Err((Fault::SeatsOut, self, sessions));
+        }
+        let room = match PartRoom::new(alloc, self.cells.len(), self.lists.len()) {
+            Ok(room) => room,
+            Err(fault) => return Err((fault, self, sessions)),
+        };
+        let (parts, rests) = self.apart(room);
+        match world_of(alloc, parts, &rests.cells) {
+            Ok(world) => {
+                rests.join(rt, sessions);
+                Ok(world)
+            }
+            Err((fault, parts)) => Err((fault, rests.together(parts), sessions)),
+        }
+    }
+}
+
+impl<C: Commits, B: Blocks> Rests<C, B> {
+    /// Puts the parts behind their locks again.
+    fn together(self, parts: Parts) -> Service<C, B>
+        requires cells { map told_by self.cells.items ≡ map told_of parts.cells }
+        requires lists { self.lists.items ≡ map list_told parts.lists }
+        requires commits { parts.book.state.commit ≡ C.commit + self.commits.total }
+        requires geometry { parts.geometry ≡ self.geometry }
+        ensures total { result.total ≡ self.total }
+        ensures geometry { result.geometry ≡ self.geometry }
+        ensures given { result.seating.given ≡ self.seating.given }
+    {
+        let Rests {
+            alloc,
+            geometry: _,
+            mut cell_locks,
+            cells: cell_rests,
+            mut list_locks,
+            lists: list_rests,
+            commits,
+            fresh,
+            seating,
+            total,
+        } = self;
+        let (geometry, cells, lists, pool, book) = parts.into_fields();
+        lock_cells(cells.into_vec(), cell_rests, &mut cell_locks);
+        lock_lists(lists.into_vec(), list_rests, &mut list_locks);
+        Service {
+            alloc,
+            geometry,
+            cells: cell_locks,
+            lists: list_locks,
+            pool: CachePadded::new(Mutex::new(pool)),
+            book: CachePadded::new(Mutex::new(LockedBook { book, commits })),
+            fresh,
+            seating,
+            total,
+        }
+    }
+}
+
+/// The world of these parts, where each cell came out of its own slot's lock: else the lists differ.
+fn world_of<C: Commits, B: Blocks>(
+    alloc: Global,
+    parts: Parts,
+    cells: &[CellRest<C, B>],
+) -> Result<World, (Fault, Parts)>
+    ensures shows { IfOk result (λ world. Shows world (at_rest parts)) }
+    ensures parts { IfOk result (λ world. parts_of world.shared ≡ parts) }
+    ensures judged { OnOk result (AreJudged parts) }
+    ensures placed { OnOk result (AreInPlace cells.now) }
+    ensures err { IfErr result (λ refused.
+        (refused.0 ≡ out_of_memory) ⊎ IsDifference parts cells.now refused.0) }
+    ensures same { IfErr result (λ refused. refused.1 ≡ parts) }
+{
+    let world = match World::from_parts(alloc, parts) {
+        Ok(world) => world,
+        Err(refused) => return Err(refused),
+    };
+    if are_in_place(cells) {
+        return Ok(world);
+    }
+    match world.into_parts() {
+        Ok(parts) => Err((Fault::Mismatch(MismatchPart::Lists), parts)),
+        Err(_) => unreachable!(),
+    }
+}

@@ -1,0 +1,90 @@
+//! What a call has taken and not placed goes back.
+
+ghost use Rattle.std.specs.Prelude.{◌≡◌, ◌<◌, OnOk, length};
+ghost use Rattle.nv_alloc.specs.Hand.{blocks_of};
+ghost use Rattle.nv_service.specs.Ending.{IsEmptyHand};
+
+use crate::names::{Blocks, Commits};
+use crate::service::Service;
+use nv_alloc::Hand;
+use nv_base::{Fault, MismatchPart};
+use std::sync::Wait;
+use std::sync::ledger::Share;
+
+/// What a hand still holds of an earlier call goes back. `Mismatch` of `Lists` where it holds something then too.
+pub(crate) fn empty_hand<C: Commits, B: Blocks, R: Wait>(
+    rt: &R,
+    service: &Service<C, B>,
+    hand: &mut Hand,
+    mine: &mut Share<B>,
+) -> Result<(), Fault>
+    requires part { 0 < mine.old.parts }
+    requires amount { mine.old.amount ≡ length (blocks_of hand.old) }
+    ensures ok { OnOk result (IsEmptyHand hand.new) }
+    ensures parts { mine.new.parts ≡ mine.old.parts }
+    ensures amount { mine.new.amount ≡ length (blocks_of hand.new) }
+{
+    if !hand.is_empty() {
+        give_back(rt, service, hand, mine);
+    }
+    if !hand.is_empty() {
+        return Err(Fault::Mismatch(MismatchPart::Lists));
+    }
+    Ok(())
+}
+
+/// Gives the blocks of a hand home, each CPU's to its list, and then the number in the hand to the pool. What no list and
+/// no pool takes stays in the hand. `mine` is the share of the hand's blocks. Its caller holds no lock: each list is locked
+/// for its own blocks alone, and then the pool.
+pub(crate) fn give_back<C: Commits, B: Blocks, R: Wait>(
+    rt: &R,
+    service: &Service<C, B>,
+    hand: &mut Hand,
+    mine: &mut Share<B>,
+)
+    requires part { 0 < mine.old.parts }
+    requires amount { mine.old.amount ≡ length (blocks_of hand.old) }
+    ensures parts { mine.new.parts ≡ mine.old.parts }
+    ensures amount { mine.new.amount ≡ length (blocks_of hand.new) }
+{
+    for _cpu in 0..service.lists.len() {
+        let Some(cpu) = hand.first_home_cpu(&service.geometry) else {
+            break;
+        };
+        give_home(rt, service, cpu, hand, mine);
+    }
+    give_number(rt, service, hand);
+}
+
+/// Gives one CPU's list the blocks of a hand that are at home there.
+fn give_home<C: Commits, B: Blocks, R: Wait>(
+    rt: &R,
+    service: &Service<C, B>,
+    cpu: u64,
+    hand: &mut Hand,
+    mine: &mut Share<B>,
+)
+    requires part { 0 < mine.old.parts }
+    requires amount { mine.old.amount ≡ length (blocks_of hand.old) }
+    ensures parts { mine.new.parts ≡ mine.old.parts }
+    ensures amount { mine.new.amount ≡ length (blocks_of hand.new) }
+{
+    if let Some(lock) = service.list_lock(cpu) {
+        let mut list = lock.lock(rt);
+        list.give_blocks(hand, mine);
+    }
+}
+
+/// Gives the number in a hand back to the pool, where it is that of a slot and not free already.
+fn give_number<C: Commits, B: Blocks, R: Wait>(rt: &R, service: &Service<C, B>, hand: &mut Hand)
+    ensures { hand.new ≡ record hand.old { ino = hand.new.ino } }
+{
+    let Some(ino) = hand.ino() else {
+        return;
+    };
+    let mut pool = service.pool.lock(rt);
+    if pool.is_inode(ino) && !pool.has(ino) {
+        hand.take_ino();
+        pool.give(ino);
+    }
+}

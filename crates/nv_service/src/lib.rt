@@ -1,0 +1,54 @@
+//! The running service: a world whose parts lie behind locks, each inode's cell, the book, each CPU's free list and the
+//! pool of inode numbers behind one of its own. Sessions make calls on it from any number of threads.
+//!
+//! Beside each part lies what a clause can say across threads: the share of its blocks, the ledger of commits, and the
+//! pass that owns an inode at its version. Nobody sees an older cell than he has seen.
+#![tactic(auto)]
+
+mod book;
+mod calls;
+mod cell;
+mod change;
+mod checking;
+mod clean;
+mod cleaners;
+mod close;
+mod commit;
+mod drain;
+mod ending;
+mod first_locks;
+mod fresh;
+mod gather;
+mod guards;
+mod held;
+mod lending;
+mod lent;
+mod list;
+mod looks;
+mod meetings;
+mod names;
+mod no_text;
+mod open;
+mod over;
+mod passes;
+mod rests;
+mod rounds;
+mod seat;
+mod seats;
+mod seen;
+mod sends;
+mod service;
+mod session;
+mod snapshots;
+mod taking;
+mod unlocked;
+mod visits;
+
+pub use book::LockedBook;
+pub use cell::LockedCell;
+pub use list::LockedList;
+pub use names::{Blocks, Commits, Names};
+pub use nv_calls::{Receipt, Source, SourceFault, View};
+pub use seen::Seen;
+pub use service::Service;
+pub use session::Session;

@@ -1,0 +1,85 @@
+//! A free list under its lock.
+
+ghost use Rattle.std.specs.Prelude.{◌≡◌, ◌+◌, ◌-◌, ◌<◌, ◌≤◌, ◌++◌, min, length, take, drop};
+ghost use Rattle.nv_alloc.specs.Giving.{after_giving, kept_of};
+ghost use Rattle.nv_alloc.specs.Hand.{blocks_of};
+ghost use Rattle.nv_alloc.specs.Queue.{after_home};
+
+use crate::names::Blocks;
+use nv_alloc::{BlockQueue, FreeList, Hand};
+use std::marker::Model;
+use std::sync::ledger::Share;
+
+/// The free blocks of one CPU, with the share of them. It owns blocks, so it is no `Drop`.
+pub struct LockedList<B: Blocks> {
+    pub(crate) list: FreeList,
+    pub(crate) blocks: Share<B>,
+}
+
+impl<B: Blocks> Model for LockedList<B> {
+    ghost use Rattle.std.specs.Prelude.{◌≡◌, length};
+    ghost use Rattle.nv_alloc.specs.FreeList.{FreeBlocks};
+
+    ghost Value = { FreeBlocks };
+
+    ghost view = { λ l. l.list };
+
+    ghost invariant = { λ l. (l.blocks.parts ≡ 1) × (l.blocks.amount ≡ length l.list.blocks) };
+}
+
+impl<B: Blocks> LockedList<B> {
+    /// The list.
+    pub fn part(&self) -> &FreeList
+        ensures { result.now ≡ self.now }
+    {
+        &self.list
+    }
+
+    /// Moves the blocks of the `n` lowest numbers, or all where there are fewer, to the end of a queue in rising order,
+    /// and says how many they are, as [`FreeList::take`] does. As much moves from the list's share to `mine`.
+    pub(crate) fn take(&mut self, n: u64, queue: &mut BlockQueue, mine: &mut Share<B>) -> u64
+        requires room { n ≤ queue.old.room }
+        requires size { queue.old.size ≡ self.old.size }
+        requires part { 0 < mine.old.parts }
+        ensures taken { result ≡ min n (length self.old.blocks) }
+        ensures list { self.new ≡ record self.old { blocks = drop n self.old.blocks } }
+        ensures queue { queue.new ≡ record queue.old {
+          blocks = queue.old.blocks ++ take n self.old.blocks;
+          room = queue.old.room - result;
+        } }
+        ensures parts { mine.new.parts ≡ mine.old.parts }
+        ensures amount { mine.new.amount ≡ mine.old.amount + result }
+    {
+        let taken = self.list.take(n, queue);
+        self.blocks.transfer(mine, taken);
+        taken
+    }
+
+    /// Takes those blocks of a hand that are at home here, as [`Hand::give_blocks`] gives them. As much moves from `mine`,
+    /// which is the share of the hand, to the list's share.
+    pub(crate) fn give_blocks(&mut self, hand: &mut Hand, mine: &mut Share<B>)
+        requires part { 0 < mine.old.parts }
+        requires amount { mine.old.amount ≡ length (blocks_of hand.old) }
+        ensures data { hand.new.data ≡ after_home self.old hand.old.data }
+        ensures pages { hand.new.pages
+            ≡ after_home (after_giving self.old hand.old.data.blocks) hand.old.pages }
+        ensures chain { hand.new.chain
+            ≡ kept_of (after_giving self.old (hand.old.data.blocks ++ hand.old.pages.blocks))
+            hand.old.chain }
+        ensures given { self.new ≡ after_giving self.old (blocks_of hand.old) }
+        ensures ino { hand.new.ino ≡ hand.old.ino }
+        ensures parts { mine.new.parts ≡ mine.old.parts }
+        ensures amount { mine.new.amount ≡ length (blocks_of hand.new) }
+    {
+        let before = hand.len();
+        hand.give_blocks(&mut self.list);
+        let given = before - hand.len();
+        mine.transfer(&mut self.blocks, given);
+    }
+
+    /// Takes the list apart with all its blocks: for the owner of a whole device that is let go.
+    pub(crate) fn dismantle(self) {
+        let LockedList { list, blocks: _ } = self;
+        list.dismantle();
+    }
+}

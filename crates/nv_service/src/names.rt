@@ -1,0 +1,165 @@
+//! What a service is generic over, and what names it.
+//!
+//! Two types stand for the two ledgers of a service. Shares of both are counted by them alone, so that those of one
+//! service never meet those of another.
+
+ghost use Rattle.std.specs.Prelude.{◌≡◌, IfOk};
+ghost use Rattle.nv_base.specs.Memory.{out_of_memory};
+ghost use Rattle.nv_base.specs.Refusals.{FailsOnly};
+ghost use Rattle.nv_service.specs.Names.{AreBlockNames, AreCommitNames, block_parts, commit_parts};
+
+use crate::fresh::{FreshCell, FreshPass};
+use crate::passes::{Fresh, Maker};
+use nv_base::{Fault, Geometry, limits};
+use std::alloc::Global;
+use std::marker::{Brand, Model, PhantomData};
+use std::sync::ledger;
+use std::sync::ledger::{Blank, Ledger, Share};
+
+/// The ledger of commits, and what stood when the service was opened.
+pub trait Commits: Ledger {
+    ghost use Rattle.std.specs.Prelude.{ℕ, List};
+    ghost use Rattle.atomic_table.specs.Seated.{TableId};
+
+    // Into how many parts the ledger is cut: `parts`, which no type with a share of the ledger may name.
+    ghost whole: { ℕ };
+
+    // The number of the last commit.
+    ghost commit: { ℕ };
+
+    // The version of each inode.
+    ghost opened: { List ℕ };
+
+    // The table of the freshness cell.
+    ghost table: { TableId };
+}
+
+impl Commits for Brand {
+    ghost use Rattle.std.specs.Prelude.{[]};
+    ghost use Rattle.nv_service.specs.Fresh.{no_table};
+
+    ghost whole = { 0 };
+
+    ghost commit = { 0 };
+
+    ghost opened = { [] };
+
+    ghost table = { no_table };
+}
+
+/// The ledger of blocks, in which each free list, each cell and each session has a share.
+pub trait Blocks: Ledger {
+    ghost use Rattle.std.specs.Prelude.{ℕ};
+
+    // Into how many parts the ledger is cut: `parts`, which no type with a share of the ledger may name.
+    ghost whole: { ℕ };
+
+    // How many of these the cells and free lists have, one each.
+    ghost placed: { ℕ };
+}
+
+impl Blocks for Brand {
+    ghost whole = { 0 };
+
+    ghost placed = { 0 };
+}
+
+/// The ledgers and the freshness cell of a service that is to be opened, which no types stand for yet.
+#[derive(Drop)]
+pub struct Names {
+    commits: Blank,
+    blocks: Blank,
+    cell: FreshCell,
+    pass: FreshPass,
+}
+
+impl Model for Names {
+    ghost use Rattle.std.specs.Prelude.{◌≡◌};
+    ghost use Rattle.crossbeam_utils.specs.Seq.{cell_view};
+    ghost use Rattle.nv_service.specs.Fresh.{maker};
+    ghost use Rattle.nv_service.specs.Names.{NamesValue, commit_parts};
+
+    ghost Value = { NamesValue };
+
+    ghost view = { λ n. record {
+      commits = record { name = n.commits.name; parts = n.commits.parts };
+      blocks = record { name = n.blocks.name; parts = n.blocks.parts };
+      table = n.cell.table.shared.table_id;
+    } };
+
+    ghost invariant = { λ n. (n.pass.table_id ≡ n.cell.table.shared.table_id)
+        × (cell_view n.pass ≡ maker 0)
+        × (n.commits.parts ≡ commit_parts) };
+}
+
+/// That the ledger of commits is cut into `whole` parts. A type with a share of the ledger may not say so: it has none.
+#[derive(Drop)]
+pub(crate) struct Cut<C: Commits> {
+    of: PhantomData<C>,
+    ghost all_parts: { C.whole ≡ C.parts },
+}
+
+/// What the names of a service open: the freshness cell with the pass that makes all others, and each ledger as a book
+/// that counts and one share with all its parts.
+pub(crate) struct Opened<C: Commits, B: Blocks> {
+    pub(crate) cut: Cut<C>,
+    pub(crate) fresh: Fresh<C>,
+    pub(crate) maker: Maker<C>,
+    pub(crate) commits: ledger::Book<C>,
+    pub(crate) all_commits: Share<C>,
+    pub(crate) blocks: ledger::Book<B>,
+    pub(crate) all_blocks: Share<B>,
+}
+
+impl Names {
+    /// Names for a service over a device with this geometry. The ledger of commits has a part for each seat, the ledger
+    /// of blocks one for each inode slot, each CPU and each seat, and both have one part more.
+    ///
+    /// The only error is `OutOfMemory`.
+    pub fn new(alloc: Global, geometry: &Geometry) -> Result<Names, Fault>
+        ensures blocks { IfOk result (λ names. names.blocks.parts
+            ≡ block_parts geometry.now.numbers) }
+        ensures err { FailsOnly out_of_memory result }
+    {
+        let numbers = geometry.numbers;
+        let seats = limits::ACTORS + 1;
+        let (cell, pass) = FreshCell::ruled(alloc, [0])?;
+        Ok(Names {
+            commits: Blank::new(seats),
+            blocks: Blank::new(numbers.inodes + numbers.cpus + seats),
+            cell,
+            pass,
+        })
+    }
+
+    /// Opens both ledgers, which count nothing yet, and hands out the first pass of the freshness cell. From here on the
+    /// types stand for them.
+    pub(crate) fn open<C: Commits, B: Blocks>(self, geometry: &Geometry) -> Opened<C, B>
+        requires commits { AreCommitNames self C.name C.parts C.whole C.table }
+        requires blocks { AreBlockNames self B.name B.parts B.whole B.placed geometry.now.numbers }
+        ensures maker { result.maker ≡ 0 }
+        ensures commits { (result.commits.total ≡ 0) × (result.all_commits.amount ≡ 0) }
+        ensures seats { (C.whole ≡ commit_parts) × (result.all_commits.parts ≡ commit_parts) }
+        ensures blocks { (result.blocks.total ≡ 0) × (result.all_blocks.amount ≡ 0) }
+        ensures parts { result.all_blocks.parts ≡ block_parts geometry.now.numbers }
+    {
+        let Names {
+            commits,
+            blocks,
+            cell,
+            pass,
+        } = self;
+        let (fresh, maker) = Fresh::named(cell, pass);
+        let (commits, all_commits) = commits.open::<C>();
+        let (blocks, all_blocks) = blocks.open::<B>();
+        Opened {
+            cut: Cut { of: PhantomData },
+            fresh,
+            maker,
+            commits,
+            all_commits,
+            blocks,
+            all_blocks,
+        }
+    }
+}

@@ -1,0 +1,184 @@
+//! A call that changes nodes, from its looks to its end.
+
+ghost use Rattle.std.specs.Prelude.{◌≡◌, ◌<◌, ◌-◌, ◌^◌, ℕ, IfOk, None, false, length};
+ghost use Rattle.nv_alloc.specs.Hand.{blocks_of};
+ghost use Rattle.nv_base.specs.Refusals.{KeepsOnErr};
+ghost use Rattle.nv_calls.specs.Prepared.{makes};
+ghost use Rattle.nv_service.specs.Rounds.{IsEndedBy, IsRoundOf};
+ghost use Rattle.nv_service.specs.Sessions.{IsChangedBy, SessionValue, answered, at_seat};
+
+use crate::change::{Change, ChangeEnd};
+use crate::ending::{empty_hand, give_back};
+use crate::guards::change_slots;
+use crate::looks::look_names;
+use crate::names::{Blocks, Commits};
+use crate::seat::Seat;
+use crate::seen::{Seen, answer_to};
+use crate::service::Service;
+use crate::session::Session;
+use nv_alloc::Hand;
+use nv_base::{Fault, Ino};
+use nv_calls::{Answer, Receipt, Source, Update, slots_of};
+use std::mem;
+use std::sync::Wait;
+
+/// How many more rounds of looks a call may make after its first.
+const ROUNDS: u64 = 7;
+
+/// Takes the number of a new inode into a hand, where the call makes one and one is free.
+fn take_number<C: Commits, B: Blocks, R: Wait>(
+    rt: &R,
+    service: &Service<C, B>,
+    update: &Update,
+    hand: &mut Hand,
+) -> Option<Ino>
+    requires none { hand.old.ino ≡ None }
+    ensures none { makes update.now ≡ false → result ≡ None }
+    ensures hand { hand.new ≡ record hand.old { ino = result } }
+{
+    match update {
+        Update::Create { .. } | Update::Mkdir { .. } => {
+            let ino = service.pool.lock(rt).take()?;
+            hand.put_ino(ino);
+            Some(ino)
+        }
+        _ => None,
+    }
+}
+
+/// How a round of a call ends: with what the call has seen or why it is refused; or a name leads elsewhere than its look
+/// found, and the call looks again.
+#[derive(Debug, Drop)]
+enum RoundEnd {
+    Ends(Result<Seen, Fault>),
+    Overtaken(Update),
+}
+
+impl RoundEnd {
+    /// By how the change ended. `nothing` is the answer of a change that commits nothing.
+    fn of(end: Result<Receipt, ChangeEnd>, nothing: Answer) -> RoundEnd
+        ensures { (opening : ℕ) (before after : SessionValue) (u : Update)
+            → IsEndedBy opening before after u end → nothing ≡ answered None u
+            → IsRoundOf opening before after u result }
+    {
+        match end {
+            Ok(receipt) => RoundEnd::Ends(Ok(Seen::Committed(receipt))),
+            Err(ChangeEnd::Answers) => RoundEnd::Ends(Ok(Seen::Other(nothing))),
+            Err(ChangeEnd::Refuses(fault)) => RoundEnd::Ends(Err(fault)),
+            Err(ChangeEnd::Overtaken(update)) => RoundEnd::Overtaken(update),
+        }
+    }
+}
+
+/// One round of a call: its looks, and then its change under the locks of the slots that these lead to. `number` is the
+/// one that it has for a new inode.
+fn round<C: Commits, B: Blocks, S: Source, R: Wait>(
+    rt: &R,
+    service: &Service<C, B>,
+    seat: &mut Seat<C, B>,
+    number: &Option<Ino>,
+    update: Update,
+    hand: Hand,
+    source: &mut S,
+) -> (Hand, RoundEnd)
+    requires number { makes update ≡ false → number.now ≡ None }
+    requires parts { (0 < seat.old.commits.parts) × (0 < seat.old.blocks.parts) }
+    requires blocks { seat.old.blocks.amount ≡ length (blocks_of hand) }
+    requires failures { S.failed source.old < 2 ^ 64 - 1 }
+    ensures commits_part { seat.new.commits.parts ≡ seat.old.commits.parts }
+    ensures blocks_part { seat.new.blocks.parts ≡ seat.old.blocks.parts }
+    ensures blocks { seat.new.blocks.amount ≡ length (blocks_of result.0) }
+    ensures ended { IsRoundOf C.commit
+        (at_seat seat.old.number seat.old.commits.amount seat.old.notes)
+        (at_seat seat.new.number seat.new.commits.amount seat.new.notes) update result.1 }
+{
+    let nothing = answer_to(&update, None);
+    let looked = match look_names(rt, service, &update) {
+        Ok(looked) => looked,
+        Err(fault) => return (hand, RoundEnd::Ends(Err(fault))),
+    };
+    let inodes = service.cells.len() as u64;
+    let slots = slots_of(inodes, *number, &update, &looked);
+    let change = Change {
+        looked: &looked,
+        update,
+        hand,
+    };
+    let (hand, end) = change_slots(rt, service, seat, &slots, change, source);
+    (hand, RoundEnd::of(end, nothing))
+}
+
+/// Round after round of a call, as long as a name leads elsewhere than its look found, and at most so many behind the
+/// first. `Contended` where the last one too is overtaken.
+fn rounds<C: Commits, B: Blocks, S: Source, R: Wait>(
+    rt: &R,
+    service: &Service<C, B>,
+    seat: &mut Seat<C, B>,
+    left: u64,
+    number: &Option<Ino>,
+    update: Update,
+    hand: Hand,
+    source: &mut S,
+) -> (Hand, Result<Seen, Fault>)
+    requires number { makes update ≡ false → number.now ≡ None }
+    requires parts { (0 < seat.old.commits.parts) × (0 < seat.old.blocks.parts) }
+    requires blocks { seat.old.blocks.amount ≡ length (blocks_of hand) }
+    requires failures { S.failed source.old < 2 ^ 64 - 1 }
+    ensures commits_part { seat.new.commits.parts ≡ seat.old.commits.parts }
+    ensures blocks_part { seat.new.blocks.parts ≡ seat.old.blocks.parts }
+    ensures blocks { seat.new.blocks.amount ≡ length (blocks_of result.0) }
+    ensures changed { IfOk result.1 (IsChangedBy C.commit
+        (at_seat seat.old.number seat.old.commits.amount seat.old.notes)
+        (at_seat seat.new.number seat.new.commits.amount seat.new.notes) update) }
+    ensures same { KeepsOnErr result.1
+        (at_seat seat.old.number seat.old.commits.amount seat.old.notes)
+        (at_seat seat.new.number seat.new.commits.amount seat.new.notes) }
+{
+    let (hand, end) = round(rt, service, seat, number, update, hand, source);
+    match end {
+        RoundEnd::Ends(result) => (hand, result),
+        RoundEnd::Overtaken(update) => {
+            // No part of the text was asked for, so that this count is as before: no clause says so.
+            if left == 0 || source.failures() == u64::MAX {
+                return (hand, Err(Fault::Contended));
+            }
+            rounds(rt, service, seat, left - 1, number, update, hand, source)
+        }
+    }
+}
+
+impl<C: Commits, B: Blocks> Session<C, B> {
+    /// Makes a call that changes nodes. The text of a write comes from the source. A call that commits nothing is answered
+    /// and leaves what the session has seen; a refused one too.
+    ///
+    /// `Mismatch` of `Lists` where the hand still holds what no list took back of an earlier call.
+    pub(crate) fn change<S: Source, R: Wait>(
+        &mut self,
+        rt: &R,
+        service: &Service<C, B>,
+        update: Update,
+        source: &mut S,
+    ) -> Result<Seen, Fault>
+        requires failures { S.failed source.old < 2 ^ 64 - 1 }
+        ensures ok { IfOk result (IsChangedBy C.commit self.old self.new update) }
+        ensures same { KeepsOnErr result self.old self.new }
+    {
+        empty_hand(rt, service, &mut self.hand, &mut self.seat.blocks)?;
+        let spare = Hand::new(self.alloc, &service.geometry);
+        let mut hand = mem::replace(&mut self.hand, spare);
+        let number = take_number(rt, service, &update, &mut hand);
+        let (mut hand, result) = rounds(
+            rt,
+            service,
+            &mut self.seat,
+            ROUNDS,
+            &number,
+            update,
+            hand,
+            source,
+        );
+        give_back(rt, service, &mut hand, &mut self.seat.blocks);
+        mem::replace(&mut self.hand, hand).dismantle();
+        result
+    }
+}

@@ -1,0 +1,161 @@
+//! The parts of a world behind locks.
+
+ghost use Rattle.std.specs.Prelude.{◌≡◌, ◌+◌, ◌≤◌, [], MatchOption, Some, map, slice_get, vec_capacity, vec_len};
+ghost use Rattle.nv_service.specs.Rests.{list_told, told_by, told_of};
+
+use crate::book::LockedBook;
+use crate::cell::LockedCell;
+use crate::close::PartRoom;
+use crate::list::LockedList;
+use crate::names::{Blocks, Commits};
+use crate::passes::Fresh;
+use crate::rests::Rests;
+use crate::seats::Seating;
+use crate::unlocked::{unlock_cells, unlock_lists};
+use crossbeam_utils::CachePadded;
+use nv_alloc::InodePool;
+use nv_base::{Geometry, Ino, Items};
+use nv_core::Parts;
+use std::alloc::Global;
+use std::sync::Mutex;
+use std::sync::ledger::Total;
+
+/// The parts of a world behind locks: a cell for each inode slot, a free list for each CPU, the pool of inode numbers, and
+/// the book. The lists, the pool and the book have cache lines of their own. All blocks together are those of the device.
+pub struct Service<C: Commits, B: Blocks> {
+    pub(crate) alloc: Global,
+    pub(crate) geometry: Geometry,
+    pub(crate) cells: Vec<Mutex<LockedCell<C, B>>>,
+    pub(crate) lists: Vec<CachePadded<Mutex<LockedList<B>>>>,
+    pub(crate) pool: CachePadded<Mutex<InodePool>>,
+    pub(crate) book: CachePadded<Mutex<LockedBook<C>>>,
+    pub(crate) fresh: Fresh<C>,
+    pub(crate) seating: Seating<C, B>,
+    pub(crate) total: Total<B>,
+    ghost placed: { vec_len cells + vec_len lists ≡ B.placed },
+    ghost all_parts: { total.parts ≡ B.whole },
+    ghost all_blocks: { total.amount ≡ geometry.numbers.blocks },
+}
+
+impl<C: Commits, B: Blocks> Service<C, B> {
+    /// The numbers of the device.
+    pub fn geometry(&self) -> &Geometry
+        ensures { result.now ≡ self.now.geometry }
+    {
+        &self.geometry
+    }
+
+    /// The lock of an inode's cell, where there is such a slot: each slot has its own.
+    pub fn inode_lock(&self, ino: Ino) -> Option<&Mutex<LockedCell<C, B>>>
+        ensures { MatchOption result (vec_len self.now.cells ≤ ino)
+            (λ lock. slice_get self.now.cells.items ino ≡ Some lock.now) }
+    {
+        self.cells.get(ino.number() as usize)
+    }
+
+    /// The lock of a CPU's free list, where there is such a CPU.
+    pub fn list_lock(&self, cpu: u64) -> Option<&Mutex<LockedList<B>>> {
+        let padded = self.lists.get(cpu as usize)?;
+        Some(&**padded)
+    }
+
+    /// The lock of the book: the commit lock.
+    pub fn book_lock(&self) -> &Mutex<LockedBook<C>> {
+        &self.book
+    }
+}
+
+impl<C: Commits, B: Blocks> Service<C, B> {
+    /// Takes all values out of their locks: the parts, and what lay beside them.
+    pub(crate) fn apart(self, room: PartRoom<C, B>) -> (Parts, Rests<C, B>)
+        requires cells { (room.cells.items ≡ []) × (vec_len self.cells ≤ vec_capacity room.cells) }
+        requires cell_rests { (room.cell_rests.items ≡ [])
+            × (vec_len self.cells ≤ vec_capacity room.cell_rests) }
+        requires lists { (room.lists.items ≡ []) × (vec_len self.lists ≤ vec_capacity room.lists) }
+        requires list_rests { (room.list_rests.items ≡ [])
+            × (vec_len self.lists ≤ vec_capacity room.list_rests) }
+        ensures cells { map told_by result.1.cells.items ≡ map told_of result.0.cells }
+        ensures lists { result.1.lists.items ≡ map list_told result.0.lists }
+        ensures commits { result.0.book.state.commit ≡ C.commit + result.1.commits.total }
+        ensures geometry { (result.0.geometry ≡ self.geometry)
+            × (result.1.geometry ≡ self.geometry) }
+        ensures total { result.1.total ≡ self.total }
+        ensures given { result.1.seating.given ≡ self.seating.given }
+    {
+        let Service {
+            alloc,
+            geometry,
+            cells: mut cell_locks,
+            lists: mut list_locks,
+            pool,
+            book,
+            fresh,
+            seating,
+            total,
+        } = self;
+        let PartRoom {
+            cells,
+            cell_rests,
+            lists,
+            list_rests,
+        } = room;
+        let (cells, cell_rests) = unlock_cells(&mut cell_locks, cells, cell_rests);
+        let (lists, list_rests) = unlock_lists(&mut list_locks, lists, list_rests);
+        let LockedBook { book, commits } = book.into_inner().into_inner();
+        let parts = Parts {
+            geometry,
+            cells: Items::from_vec(cells),
+            lists: Items::from_vec(lists),
+            pool: pool.into_inner().into_inner(),
+            book,
+        };
+        let rests = Rests {
+            alloc,
+            geometry,
+            cell_locks,
+            cells: cell_rests,
+            list_locks,
+            lists: list_rests,
+            commits,
+            fresh,
+            seating,
+            total,
+        };
+        (parts, rests)
+    }
+}
+
+impl<C: Commits, B: Blocks> Drop for Service<C, B> {
+    /// Each block that the service owns ends here.
+    fn drop(self) {
+        let Service {
+            alloc: _,
+            geometry: _,
+            cells,
+            lists,
+            pool: _,
+            book: _,
+            fresh: _,
+            seating: _,
+            total: _,
+        } = self;
+        dismantle_cells(cells);
+        dismantle_lists(lists);
+    }
+}
+
+/// Takes all cells apart with their blocks.
+fn dismantle_cells<C: Commits, B: Blocks>(mut locks: Vec<Mutex<LockedCell<C, B>>>) {
+    while let Some(lock) = locks.pop() {
+        lock.into_inner().dismantle();
+    }
+    locks.destroy_empty();
+}
+
+/// Takes all lists apart with their blocks.
+fn dismantle_lists<B: Blocks>(mut locks: Vec<CachePadded<Mutex<LockedList<B>>>>) {
+    while let Some(lock) = locks.pop() {
+        lock.into_inner().into_inner().dismantle();
+    }
+    locks.destroy_empty();
+}

@@ -1,0 +1,84 @@
+//! A snapshot is pinned, shown inode by inode, and unpinned.
+
+use crate::guards::hold;
+use crate::names::{Blocks, Commits};
+use crate::service::Service;
+use nv_base::{Epoch, Fault, Handle, MismatchPart, limits};
+use nv_entry::{NodeCopy, Tree};
+use nv_reader::{Walk, copy_on, root};
+use std::sync::Wait;
+
+/// Pins a snapshot. `NoSnapshot` where it doesn't live, and `Mismatch` of `Records` where it takes no more pins.
+pub(crate) fn pin<C: Commits, B: Blocks, R: Wait>(
+    rt: &R,
+    service: &Service<C, B>,
+    snapshot: Epoch,
+) -> Result<(), Fault> {
+    let mut book = service.book_lock().lock(rt);
+    if !book.may_pin(snapshot) {
+        return Err(Fault::Mismatch(MismatchPart::Records));
+    }
+    book.pin(snapshot)
+}
+
+/// Takes the pin off a snapshot. `Mismatch` of `Records` where it has none.
+pub(crate) fn unpin<C: Commits, B: Blocks, R: Wait>(
+    rt: &R,
+    service: &Service<C, B>,
+    snapshot: Epoch,
+) -> Result<(), Fault> {
+    let mut book = service.book_lock().lock(rt);
+    if !book.is_pinned(snapshot) {
+        return Err(Fault::Mismatch(MismatchPart::Records));
+    }
+    book.unpin(snapshot);
+    Ok(())
+}
+
+/// The tree at the end of an epoch, visited inode by inode, each under its own lock alone. `Mismatch` of `Names` where a
+/// name leads to no node, or to one that was met before, so that the walk ends; `OutOfMemory` where room was refused.
+pub(crate) fn show_tree<C: Commits, B: Blocks, R: Wait>(
+    rt: &R,
+    service: &Service<C, B>,
+    epoch: Epoch,
+) -> Result<Tree, Fault> {
+    let alloc = service.alloc;
+    let slots = service.cells.len();
+    let mut met = vec![in alloc; false; slots]?;
+    let mut walk = Walk::new(alloc, root(), slots)?;
+    let mut nodes = Vec::new(alloc);
+    for _node in 0..limits::INODES + 1 {
+        let Some(handle) = walk.wanted() else {
+            break;
+        };
+        meet(&mut met, &handle)?;
+        let node = node_of(rt, service, &handle, epoch)?;
+        if let Some(given) = walk.hand_in(Some(node))? {
+            nodes.push(given)?;
+        }
+    }
+    Ok(Tree::from_vec(nodes))
+}
+
+/// Marks the slot of a handle as met. `Mismatch` of `Names` where there is no such slot, or it was met before.
+fn meet(met: &mut [bool], handle: &Handle) -> Result<(), Fault> {
+    match met.get_mut(handle.ino.number() as usize) {
+        Some(seen) if !*seen => {
+            *seen = true;
+            Ok(())
+        }
+        _ => Err(Fault::Mismatch(MismatchPart::Names)),
+    }
+}
+
+/// The node under a handle at the end of an epoch. `Mismatch` of `Names` where there is none.
+fn node_of<C: Commits, B: Blocks, R: Wait>(
+    rt: &R,
+    service: &Service<C, B>,
+    handle: &Handle,
+    epoch: Epoch,
+) -> Result<NodeCopy, Fault> {
+    let cell = hold(rt, service, handle.ino)?;
+    let node = copy_on(service.alloc, Some(cell.part()), handle, epoch)?;
+    node.ok_or(Fault::Mismatch(MismatchPart::Names))
+}

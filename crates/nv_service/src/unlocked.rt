@@ -1,0 +1,112 @@
+//! Locked parts are taken apart for a world, and put together again where it is refused.
+
+ghost use Rattle.std.specs.Prelude.{◌≡◌, ◌≤◌, [], length, map, vec_capacity, vec_len};
+ghost use Rattle.nv_service.specs.Rests.{list_told, told_by, told_of};
+
+use crate::cell::LockedCell;
+use crate::list::LockedList;
+use crate::names::{Blocks, Commits};
+use crate::rests::{CellRest, ListRest};
+use crossbeam_utils::CachePadded;
+use nv_alloc::FreeList;
+use nv_cell::InodeCell;
+use std::sync::Mutex;
+
+/// The locks of cells, which are empty afterwards and keep their room; the cells and what lay beside them, in room that
+/// was made before.
+pub(crate) fn unlock_cells<C: Commits, B: Blocks>(
+    locks: &mut Vec<Mutex<LockedCell<C, B>>>,
+    mut cells: Vec<InodeCell>,
+    mut rests: Vec<CellRest<C, B>>,
+) -> (Vec<InodeCell>, Vec<CellRest<C, B>>)
+    requires empty { (cells.items ≡ []) × (rests.items ≡ []) }
+    requires room { (vec_len locks.old ≤ vec_capacity cells)
+        × (vec_len locks.old ≤ vec_capacity rests) }
+    ensures locks { (vec_len locks.new ≡ 0) × (vec_capacity locks.new ≡ vec_capacity locks.old) }
+    ensures count { vec_len result.1 ≡ vec_len locks.old }
+    ensures fit { map told_by result.1.items ≡ map told_of result.0.items }
+{
+    while let Some(lock) = locks.pop() {
+        let LockedCell {
+            ino,
+            cell,
+            blocks,
+            owner,
+        } = lock.into_inner();
+        cells.push_reserved(cell);
+        rests.push_reserved(CellRest { ino, blocks, owner });
+    }
+    cells.reverse();
+    rests.reverse();
+    (cells, rests)
+}
+
+/// Puts cells and what lay beside them behind locks.
+pub(crate) fn lock_cells<C: Commits, B: Blocks>(
+    mut cells: Vec<InodeCell>,
+    mut rests: Vec<CellRest<C, B>>,
+    locks: &mut Vec<Mutex<LockedCell<C, B>>>,
+)
+    requires fit { map told_by rests.items ≡ map told_of cells.items }
+    requires room { (vec_len locks.old ≡ 0) × (vec_len rests ≤ vec_capacity locks.old) }
+    ensures { vec_len locks.new ≡ vec_len rests }
+{
+    while let Some(cell) = cells.pop() {
+        let Some(rest) = rests.pop() else {
+            unreachable!()
+        };
+        let CellRest { ino, blocks, owner } = rest;
+        locks.push_reserved(Mutex::new(LockedCell {
+            ino,
+            cell,
+            blocks,
+            owner,
+        }));
+    }
+    cells.destroy_empty();
+    locks.reverse();
+}
+
+/// The same of free lists: out of their locks.
+pub(crate) fn unlock_lists<B: Blocks>(
+    locks: &mut Vec<CachePadded<Mutex<LockedList<B>>>>,
+    mut lists: Vec<FreeList>,
+    mut rests: Vec<ListRest<B>>,
+) -> (Vec<FreeList>, Vec<ListRest<B>>)
+    requires empty { (lists.items ≡ []) × (rests.items ≡ []) }
+    requires room { (vec_len locks.old ≤ vec_capacity lists)
+        × (vec_len locks.old ≤ vec_capacity rests) }
+    ensures locks { (vec_len locks.new ≡ 0) × (vec_capacity locks.new ≡ vec_capacity locks.old) }
+    ensures count { vec_len result.1 ≡ vec_len locks.old }
+    ensures fit { result.1.items ≡ map list_told result.0.items }
+{
+    while let Some(lock) = locks.pop() {
+        let LockedList { list, blocks } = lock.into_inner().into_inner();
+        lists.push_reserved(list);
+        rests.push_reserved(ListRest { blocks });
+    }
+    lists.reverse();
+    rests.reverse();
+    (lists, rests)
+}
+
+/// And behind them.
+pub(crate) fn lock_lists<B: Blocks>(
+    mut lists: Vec<FreeList>,
+    mut rests: Vec<ListRest<B>>,
+    locks: &mut Vec<CachePadded<Mutex<LockedList<B>>>>,
+)
+    requires fit { rests.items ≡ map list_told lists.items }
+    requires room { (vec_len locks.old ≡ 0) × (vec_len rests ≤ vec_capacity locks.old) }
+    ensures { vec_len locks.new ≡ vec_len rests }
+{
+    while let Some(list) = lists.pop() {
+        let Some(rest) = rests.pop() else {
+            unreachable!()
+        };
+        let ListRest { blocks } = rest;
+        locks.push_reserved(CachePadded::new(Mutex::new(LockedList { list, blocks })));
+    }
+    lists.destroy_empty();
+    locks.reverse();
+}

@@ -1,0 +1,37 @@
+//! What a session finds in a cell is seen.
+
+ghost use Rattle.std.specs.Prelude.{◌≡◌, ℕ, IfOk};
+ghost use Rattle.nv_base.specs.Refusals.{KeepsOnErr};
+ghost use Rattle.nv_calls.specs.declared.call.Call.{Call};
+ghost use Rattle.nv_service.specs.Sessions.{IsFoundAt, IsViewedBy};
+
+use crate::cell::LockedCell;
+use crate::names::{Blocks, Commits};
+use crate::seen::Seen;
+use crate::service::Service;
+use crate::session::Session;
+use nv_base::Fault;
+use nv_calls::View;
+use std::sync::Wait;
+
+impl<C: Commits, B: Blocks> Session<C, B> {
+    /// What was found in a cell whose guard is held is of no older version than the session has seen there, and the session
+    /// has seen that version from then on. A refusal leaves what it has seen.
+    pub(crate) fn see<R: Wait>(
+        &mut self,
+        rt: &R,
+        service: &Service<C, B>,
+        cell: &mut LockedCell<C, B>,
+        found: Result<View, Fault>,
+    ) -> Result<Seen, Fault>
+        ensures ok { (ino : ℕ) (call : Call) → cell.old.ino ≡ ino
+            → IfOk found (IsFoundAt cell.old.cell.state.version call)
+            → IfOk result (IsViewedBy C.opened self.old self.new ino call) }
+        ensures same { KeepsOnErr result self.old self.new }
+    {
+        let view = found?;
+        cell.meet(rt, &service.fresh, &mut self.seat.notes);
+        cell.tell(&service.fresh, &mut self.seat.notes);
+        Ok(Seen::Viewed(view))
+    }
+}
