@@ -1,0 +1,15 @@
+use Rattle.nv_service.specs.Names.{placed_parts}
+use Rattle.nv_service.specs.Opened.{versions_in}
+use Rattle.nv_tests_service.proofs.runner.serve.Given as goal
+
+abbrev pub ghosts-run-C-Ledger : goal.ghosts-run-C-Ledger
+ghosts-run-C-Ledger g a = record { name = a.names.commits.name; parts = a.names.commits.parts }
+
+abbrev pub ghosts-run-B-Ledger : goal.ghosts-run-B-Ledger
+ghosts-run-B-Ledger g a = record { name = a.names.blocks.name; parts = a.names.blocks.parts }
+
+abbrev pub ghosts-run-C-Commits : goal.ghosts-run-C-Commits
+ghosts-run-C-Commits g a = record { whole = a.names.commits.parts; commit = a.world.shared.book.state.commit; opened = versions_in a.world.shared.cells.items; table = a.names.table }
+
+abbrev pub ghosts-run-B-Blocks : goal.ghosts-run-B-Blocks
+ghosts-run-B-Blocks g a = record { whole = a.names.blocks.parts; placed = placed_parts a.world.shared.geometry.numbers }

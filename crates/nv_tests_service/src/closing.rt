@@ -1,0 +1,170 @@
+//! Seats are given out once, and a service closes with all of them alone. After a refusal it goes on.
+
+use crate::calls::told;
+use crate::compare::{holds_for, same, same_for};
+use crate::reports::{have_same_trees, report_alike};
+use crate::runner::{Work, busy_comes_back, seated, serve};
+use crate::words::{At, Want, Words, call, is_wanted};
+use crate::worlds::{SMALL, prepared};
+use Words::{Create, Write};
+use nv_base::{Fault, GeometryField};
+use nv_core::{Event, Reply, World};
+use nv_service::{Blocks, Commits, Service, Session};
+use std::alloc::Global;
+use std::process::Abort;
+use std::sync::Wait;
+use std::thread::Threads;
+
+const ROOT: At = (0, 1);
+
+const ONE: At = (1, 1);
+
+/// So many seats, and why they are refused.
+const REFUSED: [(u64, Fault); 3] = [
+    (0, Fault::BadGeometry(GeometryField::Seats)),
+    (65, Fault::BadGeometry(GeometryField::Seats)),
+    (u64::MAX, Fault::BadGeometry(GeometryField::Seats)),
+];
+
+/// The same after seats were given out.
+const GIVEN: [u64; 4] = [0, 1, 64, 65];
+
+fn refuses_seats<C: Commits, B: Blocks>(
+    rt: &impl Abort,
+    alloc: Global,
+    service: &mut Service<C, B>,
+    count: u64,
+    fault: Fault,
+) {
+    same_for(rt, &count, service.seats(alloc, count).err(), Some(fault));
+}
+
+/// A close with sessions that are too few, and what comes back.
+fn stays_open<C: Commits, B: Blocks, R: Wait + Abort>(
+    rt: &R,
+    alloc: Global,
+    service: Service<C, B>,
+    sessions: Vec<Session<C, B>>,
+) -> (Service<C, B>, Vec<Session<C, B>>) {
+    let count = sessions.len();
+    match service.close(rt, alloc, sessions) {
+        Ok(_) => panic!(rt; "closed with {count} sessions"),
+        Err((fault, service, sessions)) => {
+            same_for(rt, &count, fault, Fault::SeatsOut);
+            same(rt, sessions.len(), count);
+            (service, sessions)
+        }
+    }
+}
+
+/// A session writes the file, one byte behind another.
+fn writes<C: Commits, B: Blocks, R: Wait + Abort>(
+    rt: &R,
+    alloc: Global,
+    service: &Service<C, B>,
+    session: &mut Session<C, B>,
+    place: u64,
+) {
+    let write = call(rt, alloc, &Write(ONE, place, b"z"));
+    let told = told(rt, service, session, write);
+    holds_for(rt, &place, is_wanted(&told, &Want::Count(1)));
+}
+
+/// Closes with fewer sessions than were given out: with all but one, again and again, and with none.
+#[derive(Drop)]
+struct Closing;
+
+impl Work for Closing {
+    fn work<C: Commits + Send + Sync, B: Blocks + Send + Sync, R: Threads + Wait + Abort + Sync>(
+        &mut self,
+        rt: &R,
+        alloc: Global,
+        service: Service<C, B>,
+    ) -> (Service<C, B>, Vec<Session<C, B>>) {
+        let mut service = service;
+        for (count, fault) in REFUSED {
+            refuses_seats(rt, alloc, &mut service, count, fault);
+        }
+        let mut left = seated(rt, alloc, &mut service, 3);
+        for count in GIVEN {
+            refuses_seats(rt, alloc, &mut service, count, Fault::SeatsOut);
+        }
+        let mut kept = Vec::new(alloc);
+        for place in 0..3 {
+            let mut session = left.pop().expect(rt, "a session");
+            (service, left) = stays_open(rt, alloc, service, left);
+            writes(rt, alloc, &service, &mut session, place);
+            kept.push(session).expect(rt, "memory for a session");
+        }
+        (service, kept)
+    }
+}
+
+/// The same calls by one actor.
+const ALONE: &[Words] = &[
+    Create(ROOT, b"a"),
+    Write(ONE, 0, b"z"),
+    Write(ONE, 1, b"z"),
+    Write(ONE, 2, b"z"),
+];
+
+#[test]
+fn a_service_closes_with_all_its_sessions(rt: HostRuntime) {
+    let world = prepared(&rt, rt.alloc(), SMALL, &[Create(ROOT, b"a")]);
+    let world = serve(&rt, rt.alloc(), world, &mut Closing);
+    let twin = prepared(&rt, rt.alloc(), SMALL, ALONE);
+    have_same_trees(&rt, rt.alloc(), &world, &twin);
+}
+
+/// Gives out so many seats, which make no call.
+#[derive(Drop)]
+struct Idle(u64);
+
+impl Work for Idle {
+    fn work<C: Commits + Send + Sync, B: Blocks + Send + Sync, R: Threads + Wait + Abort + Sync>(
+        &mut self,
+        rt: &R,
+        alloc: Global,
+        service: Service<C, B>,
+    ) -> (Service<C, B>, Vec<Session<C, B>>) {
+        let mut service = service;
+        let sessions = match self.0 {
+            0 => Vec::new(alloc),
+            count => seated(rt, alloc, &mut service, count),
+        };
+        (service, sessions)
+    }
+}
+
+#[test]
+fn idle_seats_change_nothing(rt: HostRuntime) {
+    let twin = prepared(&rt, rt.alloc(), SMALL, ALONE);
+    let mut world = prepared(&rt, rt.alloc(), SMALL, ALONE);
+    for count in [0, 1, 2, 64] {
+        world = serve(&rt, rt.alloc(), world, &mut Idle(count));
+        report_alike(&rt, rt.alloc(), &world, &twin);
+    }
+}
+
+/// A world in which an actor has begun a call.
+fn busy_world(rt: &impl Abort, alloc: Global) -> World {
+    let mut world = prepared(rt, alloc, SMALL, &[Create(ROOT, b"a")]);
+    let started = world.step(Event::Start(1, call(rt, alloc, &Write(ONE, 0, b"z"))));
+    holds_for(rt, &"started", matches!(started, Reply::Started));
+    world
+}
+
+#[test]
+fn no_service_opens_on_a_world_with_a_call(rt: HostRuntime) {
+    let world = busy_world(&rt, rt.alloc());
+    let mut world = busy_comes_back(&rt, rt.alloc(), world);
+    holds_for(&rt, &"ended", world.finish(1).is_ok());
+    let world = serve(&rt, rt.alloc(), world, &mut Idle(1));
+    let twin = prepared(
+        &rt,
+        rt.alloc(),
+        SMALL,
+        &[Create(ROOT, b"a"), Write(ONE, 0, b"z")],
+    );
+    have_same_trees(&rt, rt.alloc(), &world, &twin);
+}

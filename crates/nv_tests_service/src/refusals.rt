@@ -1,0 +1,229 @@
+//! Refusals of a session's calls, each where others would come behind it.
+
+use crate::turns::{Line, are_as_alone, are_as_on_twin};
+use crate::words::{At, Want, Words};
+use crate::worlds::{SMALL, new_world};
+use Words::{
+    Auto, Create, Fast, List, Lookup, Mkdir, Mode, Read, Rename, Rmdir, Show, Size, Snap, Stat,
+    Thorough, Unlink, Write,
+};
+use nv_base::limits::NUMBER;
+use nv_base::{CommitNo, Epoch, Fault};
+use nv_book::Book;
+use nv_core::{Parts, World};
+use nv_scenes::Row;
+use std::alloc::Global;
+use std::process::Abort;
+
+const ROOT: At = (0, 1);
+
+const FILE: At = (1, 1);
+
+const DIRECTORY: At = (2, 1);
+
+const EMPTY: At = (4, 1);
+
+/// A slot of another generation, an empty one, and one past the last.
+const OLDER: At = (1, 2);
+
+const NONE: At = (7, 1);
+
+const PAST: At = (99, 1);
+
+/// A file, a directory with a file, and an empty directory.
+const MADE: &[Words] = &[
+    Create(ROOT, b"a"),
+    Mkdir(ROOT, b"d"),
+    Create(DIRECTORY, b"i"),
+    Mkdir(ROOT, b"e"),
+];
+
+/// The bytes of the largest file, whose blocks have four.
+const LARGEST: u64 = 4 * 65536;
+
+/// One more byte than 1,024 pages have.
+const LONG: &[u8] = &[b'a'; 4097];
+
+/// Calls on one node or name.
+const ONE_NODE: &[Line] = &[
+    (Create(OLDER, b".."), Want::Refused(Fault::Stale)),
+    (Create(NONE, b".."), Want::Refused(Fault::Stale)),
+    (Create(PAST, b".."), Want::Refused(Fault::Stale)),
+    (Create(FILE, b".."), Want::Refused(Fault::NotDirectory)),
+    (Create(ROOT, b".."), Want::Refused(Fault::BadName)),
+    (Create(ROOT, b"a"), Want::Refused(Fault::Exists)),
+    (Mkdir(PAST, b".."), Want::Refused(Fault::Stale)),
+    (Mkdir(FILE, b".."), Want::Refused(Fault::NotDirectory)),
+    (Mkdir(ROOT, b"a/b"), Want::Refused(Fault::BadName)),
+    (Mkdir(ROOT, b"d"), Want::Refused(Fault::Exists)),
+    (Write(OLDER, LARGEST, LONG), Want::Refused(Fault::Stale)),
+    (Write(ROOT, LARGEST, LONG), Want::Refused(Fault::NotFile)),
+    (
+        Write(FILE, LARGEST, LONG),
+        Want::Refused(Fault::WriteTooBig),
+    ),
+    (Write(FILE, LARGEST, b"a"), Want::Refused(Fault::FileTooBig)),
+    (
+        Write(FILE, u64::MAX, b"a"),
+        Want::Refused(Fault::FileTooBig),
+    ),
+    (Size(PAST, u64::MAX), Want::Refused(Fault::Stale)),
+    (Size(ROOT, u64::MAX), Want::Refused(Fault::NotFile)),
+    (Size(FILE, LARGEST + 1), Want::Refused(Fault::FileTooBig)),
+    (Mode(NONE, 7), Want::Refused(Fault::Stale)),
+    (Read(OLDER, 0, 1), Want::Refused(Fault::Stale)),
+    (Read(ROOT, 0, 1), Want::Refused(Fault::NotFile)),
+    (Stat(PAST), Want::Refused(Fault::Stale)),
+    (List(NONE), Want::Refused(Fault::Stale)),
+    (List(FILE), Want::Refused(Fault::NotDirectory)),
+    (Lookup(OLDER, b".."), Want::Refused(Fault::Stale)),
+    (Lookup(FILE, b".."), Want::Refused(Fault::NotDirectory)),
+    (Lookup(ROOT, b".."), Want::Refused(Fault::BadName)),
+    (Lookup(ROOT, b"z"), Want::Refused(Fault::Missing)),
+    (Unlink(PAST, b".."), Want::Refused(Fault::Stale)),
+    (Unlink(FILE, b".."), Want::Refused(Fault::NotDirectory)),
+    (Unlink(ROOT, b".."), Want::Refused(Fault::BadName)),
+    (Unlink(ROOT, b"z"), Want::Refused(Fault::Missing)),
+    (Unlink(ROOT, b"d"), Want::Refused(Fault::NotFile)),
+    (Rmdir(NONE, b".."), Want::Refused(Fault::Stale)),
+    (Rmdir(FILE, b".."), Want::Refused(Fault::NotDirectory)),
+    (Rmdir(ROOT, b".."), Want::Refused(Fault::BadName)),
+    (Rmdir(ROOT, b"z"), Want::Refused(Fault::Missing)),
+    (Rmdir(ROOT, b"a"), Want::Refused(Fault::NotDirectory)),
+    (Rmdir(ROOT, b"d"), Want::Refused(Fault::NotEmpty)),
+];
+
+#[test]
+fn refusals_of_one_node(rt: HostRuntime) {
+    are_as_alone(&rt, rt.alloc(), SMALL, MADE, ONE_NODE);
+}
+
+/// Renames: what is wrong with the first name comes before what is wrong with the second.
+const RENAMES: &[Line] = &[
+    (
+        Rename(PAST, b"..", PAST, b".."),
+        Want::Refused(Fault::Stale),
+    ),
+    (
+        Rename(FILE, b"..", PAST, b".."),
+        Want::Refused(Fault::NotDirectory),
+    ),
+    (
+        Rename(ROOT, b"..", PAST, b".."),
+        Want::Refused(Fault::BadName),
+    ),
+    (
+        Rename(ROOT, b"z", PAST, b".."),
+        Want::Refused(Fault::Missing),
+    ),
+    (Rename(ROOT, b"a", PAST, b".."), Want::Refused(Fault::Stale)),
+    (
+        Rename(ROOT, b"a", FILE, b".."),
+        Want::Refused(Fault::NotDirectory),
+    ),
+    (
+        Rename(ROOT, b"a", DIRECTORY, b".."),
+        Want::Refused(Fault::BadName),
+    ),
+    (
+        Rename(ROOT, b"e", DIRECTORY, b"i"),
+        Want::Refused(Fault::MoveDirectory),
+    ),
+    (Rename(ROOT, b"a", ROOT, b"d"), Want::Refused(Fault::Exists)),
+    (Rename(ROOT, b"d", ROOT, b"a"), Want::Refused(Fault::Exists)),
+    (Rename(ROOT, b"d", ROOT, b"d"), Want::Nothing),
+    (Rename(DIRECTORY, b"i", EMPTY, b"i"), Want::Nothing),
+];
+
+#[test]
+fn refusals_of_renames(rt: HostRuntime) {
+    are_as_alone(&rt, rt.alloc(), SMALL, MADE, RENAMES);
+}
+
+/// Calls on snapshots, of which four may live, and cleaners.
+const SNAPSHOTS: &[Line] = &[
+    (Words::Drop(1), Want::Refused(Fault::NoSnapshot)),
+    (Show(1), Want::Refused(Fault::NoSnapshot)),
+    (Snap, Want::Snapshot(1)),
+    (Snap, Want::Snapshot(2)),
+    (Snap, Want::Snapshot(3)),
+    (Snap, Want::Snapshot(4)),
+    (Snap, Want::Refused(Fault::TooManySnapshots)),
+    (Words::Drop(5), Want::Refused(Fault::NoSnapshot)),
+    (Words::Drop(2), Want::Nothing),
+    (Words::Drop(2), Want::Refused(Fault::NoSnapshot)),
+    (Show(2), Want::Refused(Fault::NoSnapshot)),
+    (Fast(7), Want::Refused(Fault::Stale)),
+    (Thorough(99), Want::Refused(Fault::Stale)),
+    (Auto(u64::MAX), Want::Refused(Fault::Stale)),
+];
+
+#[test]
+fn refusals_of_calls_on_snapshots(rt: HostRuntime) {
+    are_as_alone(&rt, rt.alloc(), SMALL, MADE, SNAPSHOTS);
+}
+
+/// Two inodes, and eight blocks of one byte, two of which are pages of logs. A page has two entries.
+const TINY: Row = [8, 1, 1, 2, 2, 1, 1];
+
+const FULL: &[Line] = &[
+    (Create(ROOT, b"a"), Want::Made(FILE)),
+    (Create(ROOT, b"a"), Want::Refused(Fault::Exists)),
+    (Create(ROOT, b"b"), Want::Refused(Fault::NoInode)),
+    (Mkdir(ROOT, b"b"), Want::Refused(Fault::NoInode)),
+    (Write(FILE, 0, b"abcdefg"), Want::Refused(Fault::NoSpace)),
+    (Write(FILE, 0, b"abcdef"), Want::Count(6)),
+    (Write(FILE, 0, b"a"), Want::Refused(Fault::NoSpace)),
+    (Mode(FILE, 7), Want::Refused(Fault::NoSpace)),
+    (Size(FILE, 3), Want::Refused(Fault::NoSpace)),
+    (Unlink(ROOT, b"a"), Want::Refused(Fault::NoSpace)),
+    (
+        Rename(ROOT, b"a", ROOT, b"b"),
+        Want::Refused(Fault::NoSpace),
+    ),
+    (Read(FILE, 0, 9), Want::Bytes(b"abcdef")),
+];
+
+#[test]
+fn refusals_of_a_full_device(rt: HostRuntime) {
+    are_as_alone(&rt, rt.alloc(), TINY, &[], FULL);
+}
+
+/// A new world one commit and one epoch before the last.
+fn late_world(rt: &impl Abort, alloc: Global) -> World {
+    let Ok(parts) = new_world(rt, alloc, SMALL).into_parts() else {
+        panic!(rt; "a world at rest");
+    };
+    let (geometry, cells, lists, pool, _) = parts.into_fields();
+    let (epoch, commit) = (Epoch::new(NUMBER - 1), CommitNo::new(NUMBER - 1));
+    let book = Book::starting_at(alloc, &geometry, epoch, commit).expect(rt, "memory for a book");
+    let parts = Parts {
+        geometry,
+        cells,
+        lists,
+        pool,
+        book,
+    };
+    match World::from_parts(alloc, parts) {
+        Ok(world) => world,
+        Err((fault, _)) => panic!(rt; "no world: {fault}"),
+    }
+}
+
+const LAST: &[Line] = &[
+    (Create(ROOT, b"a"), Want::Made(FILE)),
+    (Create(ROOT, b"a"), Want::Refused(Fault::Exists)),
+    (Create(ROOT, b"b"), Want::Refused(Fault::CommitLimit)),
+    (Write(FILE, 0, b"a"), Want::Refused(Fault::CommitLimit)),
+    (Write(FILE, 0, b""), Want::Count(0)),
+    (Mode(ROOT, 7), Want::Refused(Fault::CommitLimit)),
+    (Snap, Want::Snapshot(NUMBER - 1)),
+    (Snap, Want::Refused(Fault::EpochLimit)),
+    (Words::Drop(NUMBER - 1), Want::Nothing),
+];
+
+#[test]
+fn refusals_behind_the_last_commit_and_epoch(rt: HostRuntime) {
+    let twin = late_world(&rt, rt.alloc());
+    are_as_on_twin(&rt, rt.alloc(), late_world(&rt, rt.alloc()), twin, LAST);
+}

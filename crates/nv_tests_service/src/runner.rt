@@ -1,0 +1,159 @@
+//! A service is opened on a world, worked with and closed. No test needs to know what its ledgers are named.
+
+ghost use Rattle.std.specs.Prelude.{◌≡◌};
+ghost use Rattle.nv_service.specs.Names.{AreBlockNames, AreCommitNames, block_parts};
+ghost use Rattle.nv_service.specs.Opened.{versions_in};
+
+use crate::compare::{refused_memory, same};
+use nv_base::Fault;
+use nv_core::World;
+use nv_service::{Blocks, Commits, Names, Service, Session};
+use std::alloc::Global;
+use std::marker::Brand;
+use std::process::Abort;
+use std::sync::Wait;
+use std::thread::Threads;
+
+/// What is done with a service.
+pub trait Work {
+    /// Works with a service that has given no session yet, and hands it back with the sessions that it gave.
+    fn work<C: Commits + Send + Sync, B: Blocks + Send + Sync, R: Threads + Wait + Abort + Sync>(
+        &mut self,
+        rt: &R,
+        alloc: Global,
+        service: Service<C, B>,
+    ) -> (Service<C, B>, Vec<Session<C, B>>);
+}
+
+/// Opens a service on a world, works with it, and closes it.
+pub fn serve<W: Work, R: Threads + Wait + Abort + Sync>(
+    rt: &R,
+    alloc: Global,
+    world: World,
+    work: &mut W,
+) -> World {
+    let names = new_names(rt, alloc, &world);
+    run::<Brand, Brand, W, R>(rt, alloc, world, names, work)
+}
+
+/// Names for a service on a world.
+pub fn new_names(rt: &impl Abort, alloc: Global, world: &World) -> Names
+    ensures { result.blocks.parts ≡ block_parts world.now.shared.geometry.numbers }
+{
+    let device = world.geometry();
+    match Names::new(alloc, device) {
+        Ok(names) => return names,
+        Err(fault) => refused_memory(rt, fault),
+    }
+    Names::new(alloc, device).expect(rt, "memory for names")
+}
+
+/// The same under names of their own for both ledgers.
+fn run<
+    C: Commits + Send + Sync,
+    B: Blocks + Send + Sync,
+    W: Work,
+    R: Threads + Wait + Abort + Sync,
+>(rt: &R, alloc: Global, world: World, names: Names, work: &mut W) -> World
+    requires commits { AreCommitNames names C.name C.parts C.whole C.table }
+    requires blocks { AreBlockNames names B.name B.parts B.whole B.placed
+        world.shared.geometry.numbers }
+    requires stood { (C.commit ≡ world.shared.book.state.commit)
+        × (C.opened ≡ versions_in world.shared.cells.items) }
+{
+    let service = opened::<C, B>(rt, alloc, world, names);
+    let (service, sessions) = work.work(rt, alloc, service);
+    closed(rt, alloc, service, sessions)
+}
+
+/// Opens a service, once more where a growth is refused.
+pub fn opened<C: Commits, B: Blocks>(
+    rt: &impl Abort,
+    alloc: Global,
+    world: World,
+    names: Names,
+) -> Service<C, B>
+    requires commits { AreCommitNames names C.name C.parts C.whole C.table }
+    requires blocks { AreBlockNames names B.name B.parts B.whole B.placed
+        world.shared.geometry.numbers }
+    requires stood { (C.commit ≡ world.shared.book.state.commit)
+        × (C.opened ≡ versions_in world.shared.cells.items) }
+{
+    let (world, names) = match Service::open(alloc, world, names) {
+        Ok(service) => return service,
+        Err((fault, world, names)) => {
+            refused_memory(rt, fault);
+            (world, names)
+        }
+    };
+    match Service::open(alloc, world, names) {
+        Ok(service) => service,
+        Err((fault, _, _)) => panic!(rt; "no service: {fault}"),
+    }
+}
+
+/// Closes a service, once more where a growth is refused.
+pub fn closed<C: Commits, B: Blocks, R: Wait + Abort>(
+    rt: &R,
+    alloc: Global,
+    service: Service<C, B>,
+    sessions: Vec<Session<C, B>>,
+) -> World {
+    let (service, sessions) = match service.close(rt, alloc, sessions) {
+        Ok(world) => return world,
+        Err((fault, service, sessions)) => {
+            refused_memory(rt, fault);
+            (service, sessions)
+        }
+    };
+    match service.close(rt, alloc, sessions) {
+        Ok(world) => world,
+        Err((fault, _, _)) => panic!(rt; "not closed: {fault}"),
+    }
+}
+
+/// So many sessions of a service that gave none yet. They are asked for once more where a growth is refused.
+pub fn seated<C: Commits, B: Blocks>(
+    rt: &impl Abort,
+    alloc: Global,
+    service: &mut Service<C, B>,
+    count: u64,
+) -> Vec<Session<C, B>> {
+    match service.seats(alloc, count) {
+        Ok(sessions) => sessions,
+        Err(fault) => {
+            refused_memory(rt, fault);
+            match service.seats(alloc, count) {
+                Ok(sessions) => sessions,
+                Err(fault) => panic!(rt; "no sessions: {fault}"),
+            }
+        }
+    }
+}
+
+/// No service opens on a world in which an actor has a call: it comes back.
+pub fn busy_comes_back(rt: &impl Abort, alloc: Global, world: World) -> World {
+    let names = new_names(rt, alloc, &world);
+    refused_as_busy::<Brand, Brand>(rt, alloc, world, names)
+}
+
+fn refused_as_busy<C: Commits, B: Blocks>(
+    rt: &impl Abort,
+    alloc: Global,
+    world: World,
+    names: Names,
+) -> World
+    requires commits { AreCommitNames names C.name C.parts C.whole C.table }
+    requires blocks { AreBlockNames names B.name B.parts B.whole B.placed
+        world.shared.geometry.numbers }
+    requires stood { (C.commit ≡ world.shared.book.state.commit)
+        × (C.opened ≡ versions_in world.shared.cells.items) }
+{
+    match Service::<C, B>::open(alloc, world, names) {
+        Ok(_) => panic!(rt; "a service on a busy world"),
+        Err((fault, world, _)) => {
+            same(rt, fault, Fault::ActorBusy);
+            world
+        }
+    }
+}
