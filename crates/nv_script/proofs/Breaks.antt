@@ -6,7 +6,7 @@ use Rattle.nv_script.specs.Lines.{IsCutOff, IsLine}
 use Rattle.nv_script.specs.Play.{Plays, PlaysAll, machine_player}
 
 -- where two splits of a text are, the one that ends first is a front of the other's front
-shorter : (a b c d : List ℕ) → a ++ b ≡ c ++ d → length c < length a → IsCutOff c a
+pub shorter : (a b c d : List ℕ) → a ++ b ≡ c ++ d → length c < length a → IsCutOff c a
 shorter a b [] d same less = (a, refl, less)
 shorter [] b (y ∷ c) d same less = absurd (omega arith)
 shorter (x ∷ a) b (y ∷ c) d same less =
@@ -15,7 +15,7 @@ shorter (x ∷ a) b (y ∷ c) d same less =
     let rest = shorter a b c d tail (omega arith) in
     (rest.0, (let more = rest.1 in cc), rest.2)
 
-longer : (a b c d : List ℕ) → a ++ b ≡ c ++ d → length a ≤ length c → (more : List ℕ) × (c ≡ a ++ more) × (b ≡ more ++ d)
+pub longer : (a b c d : List ℕ) → a ++ b ≡ c ++ d → length a ≤ length c → (more : List ℕ) × (c ≡ a ++ more) × (b ≡ more ++ d)
 longer [] b c d same most = (c, refl, same)
 longer (x ∷ a) b [] d same most = absurd (omega arith)
 longer (x ∷ a) b (y ∷ c) d same most =

@@ -1,7 +1,6 @@
 -- How a script ends, from what holds before each of its lines.
-use Rattle.std.proofs.Common.{◌≡◌, ◌≢◌, ℕ, ◌+◌, ◌<◌, ◌≤◌, ◌⊎◌, inl, inr, Bool, true, false, List, [], ◌∷◌, ◌++◌, length, length-append, Option, Some, None, IfSome, is_some, Result, Ok, Err, refl, sym, ap, subst, ◌∙◌, append_assoc, append-nil, arith}
+use Rattle.std.proofs.Common.{◌≡◌, ℕ, ◌+◌, ◌≤◌, ◌⊎◌, inl, inr, Bool, false, List, [], ◌∷◌, ◌++◌, length, length-append, Option, Some, None, IfSome, is_some, Result, Ok, Err, refl, sym, ap, subst, ◌∙◌, append_assoc, append-nil, arith}
 use Rattle.std.proofs.KnownBytes.{Appends-nil, Consumes-nil, Consumes-trans}
-use Rattle.std.proofs.lemmas.Bool.{cases_lt, le-ltb, lt-ltb}
 use Rattle.std.proofs.lemmas.Grind.{flat_map-append}
 use Rattle.std.specs.List.{flat_map}
 use Rattle.std.specs.Prelude.{codes}
@@ -9,23 +8,24 @@ use Rattle.std.specs.Io.KnownBytes.{Appends, Consumes, IsAtEnd, prepend_known}
 use Rattle.nv_base.specs.declared.fault.Fault.{Fault}
 use Rattle.nv_base.specs.declared.fault.Fault.TheVariants as fault
 use Rattle.nv_base.specs.declared.fault.ScriptFaultKind.{ScriptFaultKind}
-use Rattle.nv_base.specs.declared.fault.ScriptFaultKind.TheVariants as kind
 use Rattle.nv_machine.specs.World.{World}
 use Rattle.nv_script.specs.declared.fault.LineFault.{LineFault}
 use Rattle.nv_script.specs.declared.fault.LineFault.TheVariants as line_fault
 use Rattle.nv_script.specs.declared.feed.LineResult.{LineResult}
 use Rattle.nv_script.specs.declared.feed.LineResult.TheVariants as taken
 use Rattle.nv_script.specs.Lines.{IsLine, LineResultIs, WritesFront, WritesSome, ended}
-use Rattle.nv_script.specs.Play.{Ends, EndsBy, EndsWell, IsFault, ListsWords, Played, Plays, PlaysAll, Stops, machine_player, most_lines}
+use Rattle.nv_script.specs.Play.{Ends, EndsBy, EndsWell, IsFault, LineFails, ListsWords, Played, Plays, PlaysAll, Stops, machine_player, most_lines}
 use Rattle.nv_script.specs.Grammar.{is_skipped}
 use Rattle.nv_script.specs.Texts.{line_of, node_line, tree_lines}
 use Rattle.nv_script.specs.Words.{words_of}
-use Rattle.nv_script.specs.Results.{AtLine, HoldsNone, LineFaultIs, Sent, ending_of, is_line, within_lines}
+use Rattle.nv_core.specs.Worlds.{WorldState}
+use Rattle.nv_script.specs.Results.{AnswersLine, AtLine, EndsText, HoldsNone, LineFaultIs, Sent, TakesLine, ending_of, is_line}
 use Rattle.nv_script.proofs.Breaks.{breaks_at}
 use Rattle.nv_script.proofs.Handed.{lists_text}
 use Rattle.nv_script.proofs.Played.{is_list_of, plays_listed}
 use Rattle.nv_script.proofs.Known.{writes_all, writes_end, writes_grown, writes_none, writes_rest, writes_some, writes_some_of}
 use Rattle.nv_script.proofs.Lines.{ended-append, ended-push}
+use Rattle.nv_script.proofs.Taken.{cut, cut_end, if_same, no_line, within}
 use Rattle.nv_base.specs.Memory.{out_of_memory}
 
 -- before the first line
@@ -47,12 +47,12 @@ none_ahead None ahead is = tt
 none_ahead (Some bytes) ahead is = sym (ap (λ front. front ++ bytes) is)
 
 -- where no byte is read ahead, what is left is with the reader
-all_left : (input left : Option (List ℕ)) (ahead bytes : List ℕ) → ahead ≡ [] → Consumes input (prepend_known ahead left) bytes
+pub all_left : (input left : Option (List ℕ)) (ahead bytes : List ℕ) → ahead ≡ [] → Consumes input (prepend_known ahead left) bytes
     → Consumes input left bytes
 all_left input None ahead bytes none is = is
 all_left input (Some rest) ahead bytes none is = subst (λ (front : List ℕ). Consumes input (Some (front ++ rest)) bytes) none is
 
-none_left : (left : Option (List ℕ)) (ahead : List ℕ) → IsAtEnd (prepend_known ahead left) → IsAtEnd left
+pub none_left : (left : Option (List ℕ)) (ahead : List ℕ) → IsAtEnd (prepend_known ahead left) → IsAtEnd left
 none_left None ahead end = tt
 none_left (Some rest) [] end = end
 none_left (Some rest) (first ∷ ahead) end = cc
@@ -67,7 +67,7 @@ no_room input left old =
     whole None = ([], tt)
     whole (Some bytes) = (bytes, refl)
 
-plays-push : (old : Option World) (lines : List (List ℕ)) (text : List ℕ) (mid : Option World) (line more : List ℕ)
+pub plays-push : (old : Option World) (lines : List (List ℕ)) (text : List ℕ) (mid : Option World) (line more : List ℕ)
     (new : Option World)
     → PlaysAll machine_player old lines text mid → IsLine line → Plays machine_player mid line more new
     → PlaysAll machine_player old (lines ++ line ∷ []) (text ++ more) new
@@ -89,29 +89,6 @@ plays-push old (first ∷ lines) text mid line more new all lawful one = (
   plays-push all.2 lines all.1 mid line more new all.5 lawful one,
   ap (λ front. front ++ more) all.6 ∙ append_assoc all.0 all.1 more,
 )
-
-if_same : (input : Option (List ℕ)) (u v : List ℕ) → u ≡ v → IfSome input (λ bytes. bytes ≡ u) → IfSome input (λ bytes. bytes ≡ v)
-if_same None u v same is = tt
-if_same (Some bytes) u v same is = is ∙ same
-
--- the input begins with the lines and goes on with a piece
-cut : (input known after : Option (List ℕ)) (lines : List (List ℕ)) (piece : List ℕ) → Consumes input known (ended lines)
-    → Consumes known after piece
-    → (rest : List ℕ) × IfSome input (λ bytes. bytes ≡ ended lines ++ (piece ++ rest))
-cut None known after lines piece first then_ = ([], tt)
-cut (Some u) None after lines piece first then_ = absurd first
-cut (Some u) (Some v) None lines piece first then_ = absurd then_
-cut (Some u) (Some v) (Some w) lines piece first then_ = (w, first ∙ ap (λ bytes. ended lines ++ bytes) then_)
-
--- the input is the lines and a last piece
-cut_end : (input known after : Option (List ℕ)) (lines : List (List ℕ)) (piece : List ℕ) → Consumes input known (ended lines)
-    → Consumes known after piece → IsAtEnd after
-    → IfSome input (λ bytes. bytes ≡ ended lines ++ piece)
-cut_end None known after lines piece first then_ end = tt
-cut_end (Some u) None after lines piece first then_ end = absurd first
-cut_end (Some u) (Some v) None lines piece first then_ end = absurd then_
-cut_end (Some u) (Some v) (Some w) lines piece first then_ end =
-    first ∙ ap (λ bytes. ended lines ++ bytes) (then_ ∙ ap (λ bytes. piece ++ bytes) end ∙ append-nil piece)
 
 -- a line behind the first lines is one of them
 split-push : (input : Option (List ℕ)) (lines : List (List ℕ)) (line rest : List ℕ)
@@ -137,7 +114,7 @@ lists_plays (Some old) line sent skipped lists =
     )
 
 -- the fault of the next line where not all of the text of some lines was written
-broken : (input left old new : Option (List ℕ)) (lines : List (List ℕ)) (rest text : List ℕ) (world : Option World)
+pub broken : (input left old new : Option (List ℕ)) (lines : List (List ℕ)) (rest text : List ℕ) (world : Option World)
     → IfSome input (λ bytes. bytes ≡ ended lines ++ rest) → length lines ≤ most_lines + 1
     → PlaysAll machine_player None lines text world → WritesSome old new text
     → EndsBy machine_player fault.Write input left (λ text. Appends old new text)
@@ -180,7 +157,7 @@ ends_unheld result input left old new gathered none e =
     (λ text front. writes_end old new new text gathered front rest) e
 
 -- the same where some of what was gathered was written
-broken_played : (input left old mid new : Option (List ℕ)) (gathered : List ℕ) (lines : List (List ℕ)) (rest text : List ℕ)
+pub broken_played : (input left old mid new : Option (List ℕ)) (gathered : List ℕ) (lines : List (List ℕ)) (rest text : List ℕ)
     (world : Option World) → Played machine_player input lines rest text world
     → WritesFront old mid text gathered → WritesSome mid new gathered
     → EndsBy machine_player fault.Write input left (λ text. Appends old new text)
@@ -238,53 +215,6 @@ broken_off (Err fault.Write) input left old mid new gathered e some =
     broken_line input left old mid new gathered e.0 e.1 e.2 e.3 e.4 e.5 next.0 next.1 next.7.0 next.3 next.4 next.5 plays e.7 some
 broken_off (Err _) input left old mid new gathered e some = absurd e
 
--- a fault of a line that is past the last, and of one that is not
-past : (number : ℕ) (made : Bool) (bytes : List ℕ) → most_lines < number → bytes ≢ [] → IsFault number made bytes kind.Lines
-past number made bytes many some = rw (lt-ltb most_lines number many) (refl, some)
-
-within : (number : ℕ) (made : Bool) (bytes : List ℕ) (why : ScriptFaultKind) → number ≤ most_lines → IsFault 0 made bytes why
-    → IsFault number made bytes why
-within number made bytes why few is = rw (le-ltb most_lines number few) is
-
--- what past the last line is answered, and what before it
-answered : (number : ℕ) (answer told : Result Bool Fault) → within_lines number answer ≡ told
-    → ((most_lines < number) × (told ≡ Err (fault.ScriptFault kind.Lines number))) ⊎ ((number ≤ most_lines) × (told ≡ answer))
-answered number answer told is =
-    elim (cases_lt most_lines number) [
-      | inl many ↦ inl (many, sym (rw (lt-ltb most_lines number many) at is))
-      | inr few ↦ inr (few, sym (rw (le-ltb most_lines number few) at is))
-    ]
-
--- a line to play was taken, within the last
-pub line_taken : (number : ℕ) (t : LineResult) (known after : Option (List ℕ)) (line : List ℕ) → is_line number t ≡ Ok true
-    → LineResultIs t known after line → LineResultIs taken.Line known after line × (number ≤ most_lines)
-line_taken number taken.End known after line is took = cc
-line_taken number taken.Line known after line is took =
-    elim (answered number _ _ is) [ inl many ↦ (let e = many.1 in cc) | inr few ↦ (took, few.0) ]
-line_taken number taken.Long known after line is took =
-    elim (answered number _ _ is) [ inl many ↦ (let e = many.1 in cc) | inr few ↦ (let e = few.1 in cc) ]
-line_taken number taken.Unended known after line is took =
-    elim (answered number _ _ is) [ inl many ↦ (let e = many.1 in cc) | inr few ↦ (let e = few.1 in cc) ]
-
--- nothing was taken at the end
-end_taken : (number : ℕ) (t : LineResult) (known after : Option (List ℕ)) (line : List ℕ) → is_line number t ≡ Ok false
-    → LineResultIs t known after line → LineResultIs taken.End known after line
-end_taken number taken.End known after line is took = took
-end_taken number taken.Line known after line is took =
-    elim (answered number _ _ is) [ inl many ↦ (let e = many.1 in cc) | inr few ↦ (let e = few.1 in cc) ]
-end_taken number taken.Long known after line is took =
-    elim (answered number _ _ is) [ inl many ↦ (let e = many.1 in cc) | inr few ↦ (let e = few.1 in cc) ]
-end_taken number taken.Unended known after line is took =
-    elim (answered number _ _ is) [ inl many ↦ (let e = many.1 in cc) | inr few ↦ (let e = few.1 in cc) ]
-
-some_after : (bytes rest : List ℕ) → bytes ≢ [] → bytes ++ rest ≢ []
-some_after [] rest some is = some refl
-some_after (first ∷ bytes) rest some is = cc
-
-some_with : (bytes : List ℕ) (byte : ℕ) → bytes ++ byte ∷ [] ≢ []
-some_with [] byte is = cc
-some_with (first ∷ bytes) byte is = cc
-
 -- after a failed write nothing is gathered
 pub none_gathered : (input left old new : Option (List ℕ)) (gathered : List ℕ) → gathered ≡ []
     → EndsBy machine_player fault.Write input left (λ text. Appends old new text)
@@ -298,10 +228,10 @@ module _ (input known old new : Option (List ℕ)) (gathered : List ℕ) (number
   abbrev Written : List ℕ → Type 0
   Written text = WritesFront old new text gathered
 
-  lines_fit : length at.lines ≤ most_lines
+  pub lines_fit : length at.lines ≤ most_lines
   lines_fit = let count = at.count in omega (arith, few, count)
 
-  played : (after : Option (List ℕ)) (piece : List ℕ) → Consumes known after piece
+  pub played : (after : Option (List ℕ)) (piece : List ℕ) → Consumes known after piece
       → (rest : List ℕ) × Played machine_player input at.lines (piece ++ rest) at.text world
   played after piece more = let c = cut input known after at.lines piece at.taken more in
       (c.0, record { split = c.1; few = lines_fit; plays = at.plays })
@@ -341,21 +271,20 @@ module _ (input known old new : Option (List ℕ)) (gathered : List ℕ) (number
       )
 
   -- the end of the input
-  pub ends : (t : LineResult) (left : Option (List ℕ)) (ahead line : List ℕ) → is_line number t ≡ Ok false
-      → LineResultIs t known (prepend_known ahead left) line → EndsWell machine_player input left Written
-  ends t left ahead line is took =
-      let end = end_taken number t known (prepend_known ahead left) line is took in (
-        at.lines,
-        at.text,
-        world,
-        record {
-          split = cut_end input known (prepend_known ahead left) at.lines [] at.taken end.0 end.1;
-          few = lines_fit;
-          plays = at.plays;
-        },
-        none_left left ahead end.1,
-        at.written,
-      )
+  pub ends : (left : Option (List ℕ)) (ahead line : List ℕ) → LineResultIs taken.End known (prepend_known ahead left) line
+      → EndsWell machine_player input left Written
+  ends left ahead line end = (
+    at.lines,
+    at.text,
+    world,
+    record {
+      split = cut_end input known (prepend_known ahead left) at.lines [] at.taken end.0 end.1;
+      few = lines_fit;
+      plays = at.plays;
+    },
+    none_left left ahead end.1,
+    at.written,
+  )
 
   faulty : (after left : Option (List ℕ)) (piece : List ℕ) (why : ScriptFaultKind) → Consumes known after piece
       → ((rest : List ℕ) → IsFault number (is_some world) (piece ++ rest) why)
@@ -363,61 +292,22 @@ module _ (input known old new : Option (List ℕ)) (gathered : List ℕ) (number
   faulty after left piece why more is = let p = played after piece more in
       (at.lines, piece ++ p.0, at.text, world, p.1, (sym at.count, is p.0), at.written)
 
-  too_many : (after left : Option (List ℕ)) (piece : List ℕ) → most_lines < number → piece ≢ [] → Consumes known after piece
-      → EndsBy machine_player (fault.ScriptFault kind.Lines number) input left Written
-  too_many after left piece many some more = faulty after left piece kind.Lines more
-      (λ rest. past number (is_some world) (piece ++ rest) many (some_after piece rest some))
-
-  too_long : (after left : Option (List ℕ)) (line : List ℕ) → number ≤ most_lines → IsLine line → LineResultIs taken.Long known after line
-      → EndsBy machine_player (fault.ScriptFault kind.Long number) input left Written
-  too_long after left line inside lawful is = faulty after left (line ++ is.0 ∷ []) kind.Long is.1
-      (λ rest. within number (is_some world) _ kind.Long inside (inl (refl, (line, rest, is.0, lawful, is.3, is.2, refl))))
-
-  unended : (after left : Option (List ℕ)) (line : List ℕ) → number ≤ most_lines → IsLine line → LineResultIs taken.Unended known after line
-      → EndsBy machine_player (fault.ScriptFault kind.Unended number) input left Written
-  unended after left line inside lawful is = (
-    at.lines,
-    line,
-    at.text,
-    world,
-    record { split = cut_end input known after at.lines line at.taken is.0 is.1; few = lines_fit; plays = at.plays },
-    (sym at.count, within number (is_some world) line kind.Unended inside (inr (inl (refl, (lawful, is.2))))),
-    at.written,
-  )
-
-  ends_as : (told why : Fault) (left : Option (List ℕ)) → ◌≡◌ {A = Result Bool Fault} (Err told) (Err why)
-      → EndsBy machine_player why input left Written
-      → EndsBy machine_player told input left Written
-  ends_as told why left same is = let e : told ≡ why = cc in subst (λ (f : Fault). EndsBy machine_player f input left Written) (sym e) is
-
   -- no line to play was taken
   pub not_line : (t : LineResult) (why : Fault) (after left : Option (List ℕ)) (line : List ℕ) → is_line number t ≡ Err why → IsLine line
       → LineResultIs t known after line → EndsBy machine_player why input left Written
-  not_line taken.End why after left line is lawful took = cc
-  not_line taken.Line why after left line is lawful took =
-      elim (answered number _ _ is) [
-        | inl many ↦ ends_as why _ left many.1 (too_many after left (line ++ 10 ∷ []) many.0 (some_with line 10) took)
-        | inr inside ↦ (let e = inside.1 in cc)
-      ]
-  not_line taken.Long why after left line is lawful took =
-      elim (answered number _ _ is) [
-        | inl many ↦ ends_as why _ left many.1 (too_many after left (line ++ took.0 ∷ []) many.0 (some_with line took.0) took.1)
-        | inr inside ↦ ends_as why _ left inside.1 (too_long after left line inside.0 lawful took)
-      ]
-  not_line taken.Unended why after left line is lawful took =
-      elim (answered number _ _ is) [
-        | inl many ↦ ends_as why _ left many.1 (too_many after left line many.0 took.2 took.0)
-        | inr inside ↦ ends_as why _ left inside.1 (unended after left line inside.0 lawful took)
-      ]
+  not_line t why after left line is lawful took =
+      let none = no_line (LineFails (is_some world)) input known at.lines number at.taken t why after line is lawful took in
+      subst (λ (f : Fault). EndsBy machine_player f input left Written) (sym none.why_is) (
+        at.lines,
+        none.rest,
+        at.text,
+        world,
+        record { split = none.split; few = lines_fit; plays = at.plays },
+        (sym at.count, none.is),
+        at.written,
+      )
 
-  module _ (t : LineResult) (after : Option (List ℕ)) (line : List ℕ) (is : is_line number t ≡ Ok true) (lawful : IsLine line)
-      (took : LineResultIs t known after line) where
-    here : LineResultIs taken.Line known after line
-    here = (line_taken number t known after line is took).0
-
-    pub within_last : number ≤ most_lines
-    within_last = (line_taken number t known after line is took).1
-
+  module _ (after : Option (List ℕ)) (line : List ℕ) (lawful : IsLine line) (here : LineResultIs taken.Line known after line) where
     -- a line that was played, and its text gathered, or written in part
     pub next : (new' : Option (List ℕ)) (more gathered' : List ℕ) (world' : Option World) → Plays machine_player world line more world'
         → WritesFront new new' (gathered ++ more) gathered' → AtLine input after old new' gathered' (number + 1) world'
@@ -443,10 +333,10 @@ module _ (input known old new : Option (List ℕ)) (gathered : List ℕ) (number
         (plays-push None at.lines at.text world line more world' at.plays lawful plays) part
 
     -- a line that is not played to its end
-    pub not_played : (left : Option (List ℕ)) (why : LineFault) (to : Sent)
+    pub not_played : (left : Option (List ℕ)) (why : LineFault) (to : Sent) → number ≤ most_lines
         → LineFaultIs why (record { written = new; gathered = gathered }) to world line
         → EndsBy machine_player (ending_of number why) input left (λ text. WritesFront old to.written text to.gathered)
-    not_played left (line_fault.OutOfMemory _) to why =
+    not_played left (line_fault.OutOfMemory _) to last why =
         let p = played after (line ++ 10 ∷ []) here in (
           at.lines,
           (line ++ 10 ∷ []) ++ p.0,
@@ -458,14 +348,66 @@ module _ (input known old new : Option (List ℕ)) (gathered : List ℕ) (number
           writes_rest old new to.written (at.text ++ why.0) (gathered ++ why.0) to.gathered
               (writes_grown old new at.text gathered why.0 at.written) why.2,
         )
-    not_played left line_fault.Write to why =
+    not_played left line_fault.Write to last why =
         none_gathered input left old to.written to.gathered why.3.1 (breaks_off left to.written why.0 why.1 why.2 why.3.0)
-    not_played left (line_fault.Faulty reason) to why =
+    not_played left (line_fault.Faulty reason) to last why =
         subst
         (λ (s : Sent). EndsBy machine_player (fault.ScriptFault reason number) input left (λ text. WritesFront old s.written text s.gathered))
         (sym why.1)
         (faulty after left (line ++ 10 ∷ []) reason here
-        (λ rest. within number (is_some world) _ reason within_last (inr (inr (line, rest, lawful, refl, why.0)))))
+        (λ rest. within (LineFails (is_some world)) number _ reason last (inr (inr (line, rest, lawful, refl, why.0)))))
+
+-- no line was taken, before the line with a number
+pub not_taken : (input known old new : Option (List ℕ)) (gathered : List ℕ) (number : ℕ) (world : Option World)
+    (few : number ≤ 1048577) (at : AtLine input known old new gathered number world) (why : Fault) (left : Option (List ℕ))
+    (ahead line : List ℕ) (to : Sent) → TakesLine (Err why) number known left ahead line (record { written = new; gathered = gathered }) to
+    → EndsBy machine_player why input left (λ text. WritesFront old to.written text to.gathered) × HoldsNone {A = Bool} (Err why) to.gathered
+not_taken input known old new gathered number world few at fault.Read left ahead line to t =
+    let now = written_on input known old new gathered number world few at to.written to.gathered t.0 in
+    (reads_fail input known old to.written to.gathered number world few now left ahead line t.4 t.3 t.2, t.1)
+not_taken input known old new gathered number world few at fault.Write left ahead line to t =
+    let part = written_some input known old new gathered number world few at left to.written t.0 in
+    (none_gathered input left old to.written to.gathered t.1 part, t.1)
+not_taken input known old new gathered number world few at (fault.ScriptFault why n) left ahead line to t =
+    let now = written_on input known old new gathered number world few at to.written to.gathered t.0 in (
+      not_line input known old to.written to.gathered number world few now t.1 (fault.ScriptFault why n) (prepend_known ahead left) left
+          line t.2 t.3 t.4,
+      tt,
+    )
+not_taken input known old new gathered number world few at _ left ahead line to t = absurd t
+
+-- how a script ends once what is gathered was written, where nothing failed before
+pub ends_text : (outcome result : Result (Unit {0}) Fault) (input left old : Option (List ℕ)) (from to : Sent)
+    → Ends machine_player outcome input left (λ text. WritesFront old from.written text from.gathered)
+    → HoldsNone outcome from.gathered → EndsText outcome result from to
+    → Ends machine_player result input left (λ text. Appends old to.written text)
+ends_text outcome result input left old from to e held ended = by outcome e held ended where
+  Ended : Result (Unit {0}) Fault → Type 0
+  Ended r = Ends machine_player r input left (λ text. Appends old to.written text)
+
+  flushed : (o : Result (Unit {0}) Fault) → Ends machine_player o input left (λ text. WritesFront old from.written text from.gathered)
+      → ((result ≡ o) × Appends from.written to.written from.gathered)
+      ⊎ ((result ≡ Err fault.Write) × WritesSome from.written to.written from.gathered)
+      → Ended result
+  flushed o e (inl all) = subst Ended (sym all.0)
+      (ends_on o input left (λ text. WritesFront old from.written text from.gathered) (λ text. Appends old to.written text)
+      (λ text front. writes_end old from.written to.written text from.gathered front all.1) e)
+  flushed o e (inr some) = subst Ended (sym some.0) (broken_off o input left old from.written to.written from.gathered e some.1)
+
+  failed : (o : Result (Unit {0}) Fault) → Ends machine_player o input left (λ text. WritesFront old from.written text from.gathered)
+      → from.gathered ≡ [] → (result ≡ o) × (to ≡ from) → Ended result
+  failed o e none same = subst Ended (sym same.0)
+      (subst (λ (t : Sent). Ends machine_player o input left (λ text. Appends old t.written text)) (sym same.1)
+      (ends_unheld o input left old from.written from.gathered none e))
+
+  by : (o : Result (Unit {0}) Fault) → Ends machine_player o input left (λ text. WritesFront old from.written text from.gathered)
+      → HoldsNone o from.gathered → EndsText o result from to → Ended result
+  by (Ok done) e held is = flushed (Ok done) e is
+  by (Err fault.Read) e held is = failed (Err fault.Read) e held is
+  by (Err fault.Write) e held is = failed (Err fault.Write) e held is
+  by (Err (fault.ScriptFault why number)) e held is = flushed (Err (fault.ScriptFault why number)) e is
+  by (Err (fault.OutOfMemory witness)) e held is = flushed (Err (fault.OutOfMemory witness)) e is
+  by (Err _) e held is = absurd e
 
 -- the same end, told by an equation
 pub ends_told : (told why : Fault) (input left : Option (List ℕ)) (Writes : List ℕ → Type 0) (gathered : List ℕ) → told ≡ why
@@ -482,3 +424,8 @@ why_at why from to m slice line same is = subst (λ (bytes : List ℕ). LineFaul
 pub plays_at : (world : Option World) (slice line text : List ℕ) (world' : Option World) → slice ≡ line
     → Plays machine_player world slice text world' → Plays machine_player world line text world'
 plays_at world slice line text world' same is = subst (λ (bytes : List ℕ). Plays machine_player world bytes text world') same is
+
+-- the same of a line that was answered
+pub answers_at : {A : Type 0} (r : Result A LineFault) (from to : Sent) (world : Option WorldState) (slice line : List ℕ)
+    (world' : Option WorldState) → slice ≡ line → AnswersLine r from to world slice world' → AnswersLine r from to world line world'
+answers_at r from to world slice line world' same is = subst (λ (bytes : List ℕ). AnswersLine r from to world bytes world') same is

@@ -6,6 +6,7 @@ pub mod Endings
 pub mod Escapes
 pub mod Failures
 pub mod Firsts
+pub mod Forking
 pub mod Handed
 pub mod Handles
 pub mod Known
@@ -19,3 +20,7 @@ pub mod SerialAlike
 pub mod SerialReports
 pub mod SerialRows
 pub mod SerialTexts
+pub mod Taken
+pub mod Told
+pub mod Spelled
+pub mod Reported

@@ -145,7 +145,7 @@ run_words None words text n plays has = run_formats (first_bad_field plays.0) pl
 run_words (Some m) words text n plays has =
     subst HasAnyRun (sym plays.4) (run_acts m plays.0 text plays.1 plays.3 has)
 
-run_line : (m : Option World) (line text : List ℕ) (n : Option World) → Plays machine_player m line text n → HasAnyRun m → HasAnyRun n
+pub run_line : (m : Option World) (line text : List ℕ) (n : Option World) → Plays machine_player m line text n → HasAnyRun m → HasAnyRun n
 run_line m line text n plays has = go (is_skipped line) plays where
   go : (b : Bool) → MatchBool b ((text ≡ []) × (n ≡ m)) (PlaysWords machine_player m (words_of line) text n) → HasAnyRun n
   go true skips = subst HasAnyRun (sym skips.1) has

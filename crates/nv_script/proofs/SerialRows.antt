@@ -1,5 +1,5 @@
 -- Worked rows as texts: what the serial player writes of whole scripts.
-use Rattle.std.proofs.Common.{◌≡◌, ◌++◌, List, [], ◌∷◌, codes, refl}
+use Rattle.std.proofs.Common.{◌≡◌, ◌++◌, [], ◌∷◌, codes, refl}
 use Rattle.std.specs.Fmt.{digits}
 use Rattle.nv_script.proofs.SerialTexts.{script}
 

@@ -1,6 +1,6 @@
 -- What a script of whole calls writes, by the serial player: a function of its lines, which computes.
-use Rattle.std.proofs.Common.{◌≡◌, ◌++◌, ℕ, Bool, true, false, List, [], ◌∷◌, codes, length, nat_lt, refl, Option, Some, None}
-use Rattle.std.specs.Prelude.{if◌then◌else◌, Result, Ok, Err}
+use Rattle.std.proofs.Common.{◌++◌, ℕ, List, [], ◌∷◌, codes, length, nat_lt, Option, Some, None}
+use Rattle.std.specs.Prelude.{if◌then◌else◌, Ok, Err}
 use Rattle.nv_base.specs.declared.fault.Fault.TheVariants as fault
 use Rattle.nv_base.specs.declared.geometry.GeometryNumbers.{GeometryNumbers}
 use Rattle.nv_entry.specs.declared.tree.TreeNode.{TreeNode}

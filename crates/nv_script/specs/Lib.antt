@@ -8,3 +8,5 @@ pub mod Words
 pub mod Outcomes
 pub mod Serially
 pub mod SerialPlayer
+pub mod Work
+pub mod Working

@@ -117,15 +117,19 @@ WordsFail true words fault = command_of words ≡ Err fault
 abbrev pub LineFails : Bool → List ℕ → ScriptFaultKind → Type 0
 LineFails made line fault = (is_skipped line ≡ false) × WordsFail made (words_of line) fault
 
--- the next line has a fault of its words
-abbrev pub IsFaulty : Bool → List ℕ → ScriptFaultKind → Type 0
-IsFaulty made bytes fault = (line rest : List ℕ) × IsLine line × (bytes ≡ (line ++ 10 ∷ []) ++ rest) × LineFails made line fault
+-- the next line has a fault, as lines can have it
+abbrev pub IsFaulty : (List ℕ → ScriptFaultKind → Type 0) → List ℕ → ScriptFaultKind → Type 0
+IsFaulty Fails bytes fault = (line rest : List ℕ) × IsLine line × (bytes ≡ (line ++ 10 ∷ []) ++ rest) × Fails line fault
 
 -- the fault of the line with this number, which the bytes begin: past the last allowed line any byte is a fault
-abbrev pub IsFault : ℕ → Bool → List ℕ → ScriptFaultKind → Type 0
-IsFault number made bytes fault = MatchBool (nat_lt most_lines number)
+abbrev pub IsFaultBy : (List ℕ → ScriptFaultKind → Type 0) → ℕ → List ℕ → ScriptFaultKind → Type 0
+IsFaultBy Fails number bytes fault = MatchBool (nat_lt most_lines number)
     ((fault ≡ kind.Lines) × (bytes ≢ []))
-    (((fault ≡ kind.Long) × IsLong bytes) ⊎ (((fault ≡ kind.Unended) × IsUnended bytes) ⊎ IsFaulty made bytes fault))
+    (((fault ≡ kind.Long) × IsLong bytes) ⊎ (((fault ≡ kind.Unended) × IsUnended bytes) ⊎ IsFaulty Fails bytes fault))
+
+-- the same of a line of a script without `fork`, whose words may have a fault
+abbrev pub IsFault : ℕ → Bool → List ℕ → ScriptFaultKind → Type 0
+IsFault number made bytes fault = IsFaultBy (LineFails made) number bytes fault
 
 -- a `format` makes an empty world; or it is refused, for a number or for want of memory, and there is still none
 abbrev pub Formats : (player : Player) → Option GeometryField → GeometryNumbers → List ℕ → Option player.World → Type 0

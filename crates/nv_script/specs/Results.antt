@@ -1,6 +1,6 @@
 -- What inner functions of a script's run tell each other.
 use Rattle.std.specs.Prelude.{◌≡◌, ◌⊎◌, ◌≤◌, ℕ, ◌+◌, Bool, true, false, nat_lt, if◌then◌else◌, List, [], ◌++◌, length, codes, Option, Some, None, is_some, IsSome, Result, Ok, Err, MatchResult}
-use Rattle.std.specs.Io.KnownBytes.{Consumes}
+use Rattle.std.specs.Io.KnownBytes.{Appends, Consumes, prepend_known}
 use Rattle.std.specs.List.{flat_map}
 use Rattle.nv_base.specs.declared.fault.Fault.{Fault}
 use Rattle.nv_base.specs.declared.fault.Fault.TheVariants as fault
@@ -17,7 +17,7 @@ use Rattle.nv_script.specs.declared.fault.LineFault.{LineFault}
 use Rattle.nv_script.specs.declared.fault.LineFault.TheVariants as line_fault
 use Rattle.nv_script.specs.declared.feed.LineResult.{LineResult}
 use Rattle.nv_script.specs.declared.feed.LineResult.TheVariants as taken
-use Rattle.nv_script.specs.Lines.{WritesFront, WritesSome, ended}
+use Rattle.nv_script.specs.Lines.{IsLine, LineResultIs, WritesFront, WritesSome, ended}
 use Rattle.nv_script.specs.Play.{EndsBy, EndsWell, Formats, LineFails, ListsFront, Plays, PlaysAll, StopsAt, machine_player, most_lines}
 use Rattle.nv_script.specs.Texts.{line_of, node_line, refused_line, tree_lines}
 use Rattle.nv_base.specs.Memory.{out_of_memory}
@@ -62,6 +62,12 @@ LineFaultIs (line_fault.Faulty fault) old new m line = LineFails (is_some m) lin
 abbrev pub LineIs : {A : Type 0} → Result A LineFault → Sent → Sent → Option WorldState → List ℕ → List ℕ → Option WorldState → Type 0
 LineIs (Ok done) old new world line rest world' = PlaysShown world line (SendsBut rest old new) world'
 LineIs (Err fault) old new world line rest world' =
+    (m : Option machine.World) → ShowsAny world m → HasAnyRun m → LineFaultIs fault old new m line
+
+-- the same where all of its text was sent
+abbrev pub AnswersLine : {A : Type 0} → Result A LineFault → Sent → Sent → Option WorldState → List ℕ → Option WorldState → Type 0
+AnswersLine (Ok done) old new world line world' = PlaysShown world line (Sends old new) world'
+AnswersLine (Err fault) old new world line world' =
     (m : Option machine.World) → ShowsAny world m → HasAnyRun m → LineFaultIs fault old new m line
 
 -- why a text was not sent
@@ -153,6 +159,21 @@ is_line number taken.Line = within_lines number (Ok true)
 is_line number taken.Long = within_lines number (Err (fault.ScriptFault kind.Long number))
 is_line number taken.Unended = within_lines number (Err (fault.ScriptFault kind.Unended number))
 
+-- what became of the next line, and of what was gathered before it was asked for
+abbrev pub TakesLine : Result Bool Fault → ℕ → (known left : Option (List ℕ)) → (ahead line : List ℕ) → Sent → Sent → Type 0
+TakesLine (Ok true) number known left ahead line old new = WritesFront old.written new.written old.gathered new.gathered
+    × (number ≤ most_lines) × IsLine line × LineResultIs taken.Line known (prepend_known ahead left) line
+TakesLine (Ok false) number known left ahead line old new = WritesFront old.written new.written old.gathered new.gathered
+    × LineResultIs taken.End known (prepend_known ahead left) line
+TakesLine (Err fault.Read) number known left ahead line old new = WritesFront old.written new.written old.gathered new.gathered
+    × (new.gathered ≡ []) × (ahead ≡ []) × IsLine line × Consumes known (prepend_known ahead left) line
+TakesLine (Err fault.Write) number known left ahead line old new =
+    WritesSome old.written new.written old.gathered × (new.gathered ≡ [])
+TakesLine (Err (fault.ScriptFault why at)) number known left ahead line old new =
+    WritesFront old.written new.written old.gathered new.gathered × (t : LineResult)
+    × (is_line number t ≡ Err (fault.ScriptFault why at)) × IsLine line × LineResultIs t known (prepend_known ahead left) line
+TakesLine (Err _) number known left ahead line old new = ⊥
+
 -- what holds before the line with a number: the lines before it were taken and played, and their text was written
 -- but for its end, which is gathered
 pub record AtLine (input known old new : Option (List ℕ)) (gathered : List ℕ) (number : ℕ) (world : Option machine.World) : Type 0 where
@@ -168,6 +189,13 @@ abbrev pub HoldsNone : {A : Type 0} → Result A Fault → List ℕ → Type 0
 HoldsNone (Err fault.Read) gathered = gathered ≡ []
 HoldsNone (Err fault.Write) gathered = gathered ≡ []
 HoldsNone _ gathered = Unit {0}
+
+-- what is gathered at the end was written, where no read and no write failed before; else nothing was gathered
+abbrev pub EndsText : (outcome result : Result (Unit {0}) Fault) → Sent → Sent → Type 0
+EndsText (Err fault.Read) result old new = (result ≡ Err fault.Read) × (new ≡ old)
+EndsText (Err fault.Write) result old new = (result ≡ Err fault.Write) × (new ≡ old)
+EndsText outcome result old new = ((result ≡ outcome) × Appends old.written new.written old.gathered)
+    ⊎ ((result ≡ Err fault.Write) × WritesSome old.written new.written old.gathered)
 
 -- after the line with a number, which is one of the allowed: the script goes on, or this is its end
 abbrev pub TurnIs : Result Bool Fault → (input left known old new : Option (List ℕ)) → List ℕ → ℕ → Option WorldState → Type 0

@@ -5,6 +5,7 @@ ghost use Rattle.std.specs.Io.KnownBytes.{Appends};
 
 use crate::counted::{CountedWrite, WriteFailed};
 use crate::send::send;
+use nv_base::Fault;
 use std::alloc::{AllocError, Global};
 use std::marker::Model;
 
@@ -27,7 +28,8 @@ impl Model for Outbox {
 
 impl Outbox {
     ghost use Rattle.nv_script.specs.Lines.{WritesFront, WritesSome};
-    ghost use Rattle.nv_script.specs.Results.{Gathers};
+    ghost use Rattle.nv_script.specs.Play.{failed_writes};
+    ghost use Rattle.nv_script.specs.Results.{EndsText, Gathers};
 
     /// An outbox with nothing gathered.
     pub(crate) fn new(alloc: Global) -> Result<Outbox, AllocError>
@@ -52,6 +54,30 @@ impl Outbox {
         let sent = send(writer, self.gathered.as_slice());
         self.gathered.clear();
         sent
+    }
+
+    /// Writes what is gathered where a script ends so, except once a read or a write failed: nothing is gathered then.
+    pub(crate) fn end<W: CountedWrite>(
+        &mut self,
+        writer: &mut W,
+        outcome: Result<(), Fault>,
+    ) -> Result<(), Fault>
+        requires writes { failed_writes outcome ≡ 0 → W.failed writer.old < 2 ^ 64 - 1 }
+        ensures ended { EndsText outcome result
+            (record { written = W.contents writer.old; gathered = self.old })
+            (record { written = W.contents writer.new; gathered = self.new }) }
+        ensures writes { W.failed writer.new + failed_writes outcome
+            ≡ W.failed writer.old + failed_writes result }
+        ensures same { W.place writer.new ≡ W.place writer.old }
+    {
+        match outcome {
+            Err(Fault::Read) => Err(Fault::Read),
+            Err(Fault::Write) => Err(Fault::Write),
+            _ => match self.flush(writer) {
+                Ok(()) => outcome,
+                Err(WriteFailed) => Err(Fault::Write),
+            },
+        }
     }
 
     /// Gathers a text. Where there is no room for it what was gathered is written first, and a text

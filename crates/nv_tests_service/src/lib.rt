@@ -38,4 +38,6 @@ mod turns;
 #[cfg(test)]
 mod words;
 #[cfg(test)]
+mod work;
+#[cfg(test)]
 mod worlds;

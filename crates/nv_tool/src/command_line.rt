@@ -2,8 +2,9 @@
 //!
 //! A subcommand is described by a function, read as a variant of [`Task`], and has its help here.
 
+use crate::crowd::Crowd;
 use clap::error::ErrorKind;
-use clap::{Arg, Command, Error};
+use clap::{Arg, ArgMatches, Command, Error, value_parser};
 use std::alloc::{AllocError, Global};
 use std::convert::AsStr;
 
@@ -14,7 +15,8 @@ const VERSION: &str = "0.1.0";
 const ABOUT: &str = "The core of a file system for persistent memory, driven by scripts";
 
 const AFTER_HELP: &str = "\
-Try 'novacore play --help' for what a script is, with one of three lines to begin with.
+Try 'novacore play --help' for what a script is, with one of three lines to begin with, and
+'novacore work --help' for scripts that threads play.
 
 Exit status: 0 if all was done, 1 after a fault, 2 for a command line that is refused.";
 
@@ -59,6 +61,56 @@ opened is the fault 'E28 Read'.
 
 Exit status: 0 if the whole script was played, 1 after a fault, 2 for a command line that is refused.";
 
+const WORK: &str = "work";
+
+const WORK_ABOUT: &str = "Play a script whose calls threads make, and print what they are answered";
+
+const WORK_AFTER_HELP: &str = "\
+A script for threads has a line 'fork'. The lines before it are played as by 'novacore play'. Behind
+it stand 'do' lines and comments alone, and all are read before a thread starts. Thread T makes the
+calls of the actors whose number is T modulo the number of threads, in their order. Cleaners go
+through the logs of all files and directories beside, until the threads have ended. To begin with,
+save these six lines as writers.nova:
+
+  format blocks=64 cpus=2 block=4 page=4 inodes=8 snaps=4 actors=2
+  do 0 create 0.1 a 420
+  do 0 create 0.1 b 420
+  fork
+  do 0 write 1.1 0 aaaa
+  do 1 write 2.1 0 bbbb
+
+They make two files, which two threads write then. 'novacore work writers.nova' prints:
+
+  formatted
+  done 1.1
+  done 2.1
+  0: done 4
+  1: done 4
+  / d 493
+  /a f 420 4 aaaa
+  /b f 420 4 bbbb
+  end
+  snaps 0 epoch 1 commit 4
+  audit ok
+
+The answers of each thread stand behind its number, thread by thread, and behind all of them what
+'tree', 'snaps' and 'audit' tell. Which of two calls of two threads comes first is not told: calls
+on one file or directory may be answered in either order.
+
+Faults are those of 'novacore play'. Also, a script without 'fork' ends by an 'order' fault at its
+last line, and so does a 'fork' while no file system is made; a line behind 'fork' that is no 'do'
+is a 'word' fault; and where an actor has a call at 'fork', the fault is 'E21 ActorBusy'.
+
+Exit status: 0 if the whole script was played, 1 after a fault, 2 for a command line that is refused.";
+
+const THREADS: &str = "threads";
+
+const THREADS_HELP: &str = "How many threads make the calls behind 'fork', 1 to 32";
+
+const CLEANERS: &str = "cleaners";
+
+const CLEANERS_HELP: &str = "How many cleaners run beside, 0 to 32";
+
 const FILE: &str = "FILE";
 
 const FILE_HELP: &str = "The script; without FILE, or where it is -, from standard input";
@@ -71,6 +123,8 @@ const STANDARD_INPUT: &str = "-";
 pub(crate) enum Task<'a> {
     /// To play a script from a file, or from standard input where none is named.
     Play { file: Option<&'a str> },
+    /// To have so many threads make the calls of a script, beside so many cleaners.
+    Work { file: Option<&'a str>, crowd: Crowd },
 }
 
 impl<'a> Task<'a> {
@@ -82,11 +136,28 @@ impl<'a> Task<'a> {
         let matches = command.try_get_matches_from_mut(words)?;
         match matches.subcommand() {
             Some((PLAY, play)) => Ok(Task::Play {
-                file: play.get_str(FILE).filter(|file| *file != STANDARD_INPUT),
+                file: file_of(play),
+            }),
+            Some((WORK, work)) => Ok(Task::Work {
+                file: file_of(work),
+                crowd: crowd_of(work),
             }),
             _ => Err(command.error(ErrorKind::MissingSubcommand, "a subcommand is missing")?),
         }
     }
+}
+
+/// The script's file, if one is named.
+fn file_of<'a>(matches: &ArgMatches<'a>) -> Option<&'a str> {
+    matches.get_str(FILE).filter(|file| *file != STANDARD_INPUT)
+}
+
+/// How many threads and cleaners are asked for. Others than those of the help are refused before.
+fn crowd_of(matches: &ArgMatches<'_>) -> Crowd {
+    let usual = Crowd::usual();
+    let threads = matches.get_one::<u64>(THREADS).unwrap_or(usual.threads);
+    let cleaners = matches.get_one::<u64>(CLEANERS).unwrap_or(usual.cleaners);
+    Crowd::at_most(threads, cleaners)
 }
 
 /// Why a command line is refused that has a word of bytes which are no text.
@@ -103,7 +174,8 @@ fn described<'a>(alloc: Global) -> Result<Command<'a>, AllocError> {
         .after_help(AFTER_HELP)
         .subcommand_required(true)
         .arg_required_else_help(true)
-        .subcommand(play(alloc)?)
+        .subcommand(play(alloc)?)?
+        .subcommand(work(alloc)?)
 }
 
 /// The subcommand that plays a script.
@@ -112,4 +184,26 @@ fn play<'a>(alloc: Global) -> Result<Command<'a>, AllocError> {
         .about(PLAY_ABOUT)
         .after_help(PLAY_AFTER_HELP)
         .arg(Arg::new(alloc, FILE).help(FILE_HELP))
+}
+
+/// The subcommand that has threads play a script.
+fn work<'a>(alloc: Global) -> Result<Command<'a>, AllocError> {
+    let threads = Arg::new(alloc, THREADS)
+        .long(THREADS)
+        .value_name("N")
+        .value_parser(value_parser!(u64).range(1..=32))
+        .default_value("2")
+        .help(THREADS_HELP);
+    let cleaners = Arg::new(alloc, CLEANERS)
+        .long(CLEANERS)
+        .value_name("M")
+        .value_parser(value_parser!(u64).range(0..=32))
+        .default_value("1")
+        .help(CLEANERS_HELP);
+    Command::new(alloc, WORK)
+        .about(WORK_ABOUT)
+        .after_help(WORK_AFTER_HELP)
+        .arg(Arg::new(alloc, FILE).help(FILE_HELP))?
+        .arg(threads)?
+        .arg(cleaners)
 }

@@ -1,20 +1,24 @@
-//! The program `novacore`: plays scripts on a file system that is kept in memory.
+//! The program `novacore`: plays scripts on a file system that is kept in memory, also in threads.
 #![tactic(auto)]
 
 ghost use Rattle.std.specs.Prelude.{◌≡◌, ◌≢◌, ◌⊎◌};
 ghost use Rattle.clap.specs.Words.{kind_of};
 
 mod command_line;
+mod crowd;
 #[cfg(test)]
 mod tests;
 
 use clap::error::ErrorKind;
 use command_line::Task;
+use crowd::Crowd;
 use nv_base::Fault;
-use nv_script::{Outcome, exit_code, fault_line, play_and_leave};
+use nv_script::{OpenGate, Outcome, exit_code, fault_line, play_and_leave, work};
 use std::env::Env;
 use std::process::ExitCode;
 use std::rt::Files;
+use std::sync::Wait;
+use std::thread::Threads;
 use std::{env, fs, io};
 
 /// The line that tells of want of memory. It takes none.
@@ -78,8 +82,43 @@ fn play_script<R: AllocGlobal + Files + Input + Print>(
     }
 }
 
+/// Has threads play a script from a file, or from standard input where none is named.
+fn work_script<R: AllocGlobal + Files + Input + Print + Threads + Wait + Sync>(
+    rt: &R,
+    file: Option<&str>,
+    crowd: Crowd,
+) -> Result<(), Fault> {
+    let Crowd { threads, cleaners } = crowd;
+    let mut writer = io::writer(rt);
+    match file {
+        None => work(
+            rt,
+            rt.alloc(),
+            &mut rt.reader(),
+            &mut writer,
+            threads,
+            cleaners,
+            &OpenGate,
+        ),
+        Some(path) => {
+            let Ok(mut file) = fs::open(rt, path) else {
+                return Err(Fault::Read);
+            };
+            work(
+                rt,
+                rt.alloc(),
+                &mut file,
+                &mut writer,
+                threads,
+                cleaners,
+                &OpenGate,
+            )
+        }
+    }
+}
+
 /// Does what the command line asks for.
-fn perform<R: AllocGlobal + Env + Files + Input + Print + Eprint>(
+fn perform<R: AllocGlobal + Env + Files + Input + Print + Eprint + Threads + Wait + Sync>(
     rt: &R,
 ) -> Result<Outcome, Fault> {
     let alloc = rt.alloc();
@@ -95,12 +134,18 @@ fn perform<R: AllocGlobal + Env + Files + Input + Print + Eprint>(
             play_script(rt, file)?;
             Ok(Outcome::Played)
         }
+        Ok(Task::Work { file, crowd }) => {
+            work_script(rt, file, crowd)?;
+            Ok(Outcome::Played)
+        }
         Err(error) => Ok(answered(rt, &error)),
     }
 }
 
 /// Does what the command line asks for, and tells of a fault.
-fn run<R: AllocGlobal + Env + Files + Input + Print + Eprint>(rt: &R) -> Outcome {
+fn run<R: AllocGlobal + Env + Files + Input + Print + Eprint + Threads + Wait + Sync>(
+    rt: &R,
+) -> Outcome {
     let outcome = match perform(rt) {
         Ok(outcome) => outcome,
         Err(fault) => Outcome::Failed(fault),

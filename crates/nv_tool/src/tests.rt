@@ -1,6 +1,7 @@
 //! Command lines, what they ask for and what they are answered.
 
 mod play_help;
+mod work;
 
 use crate::command_line::Task;
 use crate::play_script;
@@ -16,13 +17,15 @@ Usage: novacore <COMMAND>
 
 Commands:
   play  Play a script, and print what each of its lines is answered
+  work  Play a script whose calls threads make, and print what they are answered
   help  Print this message or the help of the given subcommand(s)
 
 Options:
   -h, --help     Print help
   -V, --version  Print version
 
-Try 'novacore play --help' for what a script is, with one of three lines to begin with.
+Try 'novacore play --help' for what a script is, with one of three lines to begin with, and
+'novacore work --help' for scripts that threads play.
 
 Exit status: 0 if all was done, 1 after a fault, 2 for a command line that is refused.
 ";

@@ -3,7 +3,7 @@ use Rattle.nv_core.specs.Worlds.{WorldState}
 use Rattle.nv_core.specs.Worlds.{ShowsAny}
 use Rattle.std.proofs.lemmas.Result.{err_from_is_err_and}
 use Rattle.nv_script.proofs.Endings.{at_first, none_ahead}
-use Rattle.nv_script.proofs.script.Player.play_lines.Goals as goal
+use Rattle.nv_script.proofs.player.Player.play_lines.Goals as goal
 
 pub loop-number-init : goal.loop-number-init
 loop-number-init g c = record {

@@ -1,0 +1,117 @@
+-- SCRIPTS THAT THREADS PLAY: how the lines before `fork` are played, how those behind it are read, and how such a script ends. What
+-- threads are answered is told by no definition.
+use Rattle.std.specs.Prelude.{◌≡◌, ◌⊎◌, ◌≤◌, ℕ, ◌+◌, ◌&&◌, Bool, true, false, not, if◌then◌else◌, nat_lt, List, [], ◌∷◌, ◌++◌, length, codes, bytes_eq, All, Option, Some, None, is_some, IfSome, IsOk, MatchBool, Result, Ok, Err}
+use Rattle.std.specs.Io.KnownBytes.{Appends, Consumes, IsAtEnd}
+use Rattle.nv_base.specs.declared.fault.Fault.{Fault}
+use Rattle.nv_base.specs.declared.fault.Fault.TheVariants as fault
+use Rattle.nv_base.specs.declared.fault.ScriptFaultKind.{ScriptFaultKind}
+use Rattle.nv_base.specs.declared.fault.ScriptFaultKind.TheVariants as kind
+use Rattle.nv_machine.specs.World.{World}
+use Rattle.nv_core.specs.AtRest.{IsBusy}
+use Rattle.nv_script.specs.declared.command.Command.{Command}
+use Rattle.nv_script.specs.Grammar.{Parsed, command_of, is_skipped, word_at}
+use Rattle.nv_script.specs.Lines.{IsLine, ended}
+use Rattle.nv_script.specs.Play.{EndsAfter, EndsBy, IsFaultBy, LineFails, PlaysAll, machine_player, most_lines}
+use Rattle.nv_script.specs.Words.{words_of}
+
+-- the first word of a line is `fork`
+abbrev pub is_fork : List ℕ → Bool
+is_fork line = not (is_skipped line) && bytes_eq (word_at (words_of line) 0) (codes "fork")
+
+-- what is wrong with such a line: no world is made, or it has more words
+abbrev pub fork_fault : Bool → List ℕ → Option ScriptFaultKind
+fork_fault false line = Some kind.Order
+fork_fault true line = if nat_lt 1 (length (words_of line)) then Some kind.Count else None
+
+-- the fault of a line, as long as none was `fork`
+abbrev pub FrontFails : Bool → List ℕ → ScriptFaultKind → Type 0
+FrontFails made line why = MatchBool (is_fork line) (fork_fault made line ≡ Some why) (LineFails made line why)
+
+-- the command of a line behind `fork`: of another than `do` the word is unknown
+abbrev pub forked_of : List (List ℕ) → Parsed Command
+forked_of words = if bytes_eq (word_at words 0) (codes "do") then command_of words else Err kind.Word
+
+abbrev pub ForkedFails : List ℕ → ScriptFaultKind → Type 0
+ForkedFails line why = (is_skipped line ≡ false) × (forked_of (words_of line) ≡ Err why)
+
+-- a line behind `fork` without a fault
+abbrev pub IsForked : List ℕ → Type 0
+IsForked line = IsLine line × ((is_skipped line ≡ true) ⊎ IsOk (forked_of (words_of line)))
+
+-- a script up to some line behind `fork`: the lines before `fork`, their text and the world after them; the line `fork`, and those
+-- behind it
+pub record Fork : Type 0 where
+  pub front : List (List ℕ)
+  pub text : List ℕ
+  pub world : World
+  pub line : List ℕ
+  pub behind : List (List ℕ)
+
+abbrev pub lines_in : Fork → List (List ℕ)
+lines_in f = f.front ++ f.line ∷ f.behind
+
+-- the lines before `fork` were played, and it and those behind it have no fault
+pub record IsFork (f : Fork) : Type 0 where
+  pub plays : PlaysAll machine_player None f.front f.text (Some f.world)
+  pub lawful : IsLine f.line
+  pub is : is_fork f.line ≡ true
+  pub right : fork_fault true f.line ≡ None
+  pub forked : All IsForked f.behind
+
+-- the input begins with such lines
+pub record Forks (input : Option (List ℕ)) (f : Fork) (rest : List ℕ) : Type 0 where
+  pub is : IsFork f
+  pub split : IfSome input (λ bytes. bytes ≡ ended (lines_in f) ++ rest)
+  pub few : length (lines_in f) ≤ most_lines
+
+-- `fork` was read, and the text of the lines before it was written
+abbrev pub EndsForked : (input : Option (List ℕ)) → (List ℕ → Type 0) → (Fork → List ℕ → Type 0) → Type 0
+EndsForked input Writes Also = (f : Fork) × (rest : List ℕ) × Forks input f rest × Also f rest × Writes f.text
+
+-- all lines were read, and then threads were answered something, or the reports told something
+abbrev pub EndsThreads : (input : Option (List ℕ)) → (List ℕ → Type 0) → Type 0
+EndsThreads input Writes = (f : Fork) × (told : List ℕ) × Forks input f [] × Writes (f.text ++ told)
+
+-- the texts of the reports on a world
+abbrev pub Reported : World → List ℕ → Type 0
+Reported m reports = (n : Option World)
+    × PlaysAll machine_player (Some m) (codes "tree" ∷ codes "snaps" ∷ codes "audit" ∷ []) reports n
+
+-- all lines were read, threads were answered something, and then the world was reported on
+abbrev pub EndsReported : (input : Option (List ℕ)) → (List ℕ → Type 0) → Type 0
+EndsReported input Writes = (f : Fork) × (answers reports : List ℕ) × (m : World) × Forks input f [] × Reported m reports
+    × Writes (f.text ++ (answers ++ reports))
+
+-- HOW SUCH A SCRIPT ENDS EARLY. By a fault of a line: of the next one before `fork`; of the last one, where there is none; of the next
+-- one behind it. By a failed read, of whose reader no more than a piece of the next line is gone. Because an actor has a call at
+-- `fork`, or the service did not close. By a failed write, or for want of memory
+abbrev pub WorksBy : Fault → (input left : Option (List ℕ)) → (List ℕ → Type 0) → Type 0
+WorksBy (fault.ScriptFault why number) input left Writes =
+    EndsAfter machine_player input Writes (λ lines rest world.
+    (number ≡ length lines + 1) × IsFaultBy (FrontFails (is_some world)) number rest why)
+    ⊎ (EndsAfter machine_player input Writes (λ lines rest world.
+    (number ≡ length lines) × (why ≡ kind.Order) × (rest ≡ []) × IsAtEnd left)
+    ⊎ EndsForked input Writes (λ f rest. (number ≡ length (lines_in f) + 1) × IsFaultBy ForkedFails number rest why))
+WorksBy fault.Read input left Writes =
+    EndsAfter machine_player input Writes (λ lines rest world.
+    (piece : List ℕ) × IsLine piece × Consumes input left (ended lines ++ piece))
+    ⊎ EndsForked input Writes (λ f rest. (piece : List ℕ) × IsLine piece × Consumes input left (ended (lines_in f) ++ piece))
+WorksBy fault.ActorBusy input left Writes =
+    EndsForked input Writes (λ f rest. (rest ≡ []) × IsBusy f.world × IsAtEnd left)
+WorksBy fault.SeatsOut input left Writes = EndsForked input Writes (λ f rest. (rest ≡ []) × IsAtEnd left)
+WorksBy (fault.Mismatch _) input left Writes = EndsForked input Writes (λ f rest. (rest ≡ []) × IsAtEnd left)
+WorksBy fault.Write input left Writes = EndsBy machine_player fault.Write input left Writes ⊎ EndsThreads input Writes
+WorksBy (fault.OutOfMemory witness) input left Writes =
+    EndsBy machine_player (fault.OutOfMemory witness) input left Writes
+    ⊎ (EndsForked input Writes (λ f rest. Unit {0}) ⊎ EndsThreads input Writes)
+WorksBy _ input left Writes = ⊥
+
+-- HOW IT ENDS: well, where all lines were read, and behind the text of the lines before `fork` stand what threads were answered and
+-- the reports
+abbrev pub Works : Result (Unit {0}) Fault → (input left : Option (List ℕ)) → (List ℕ → Type 0) → Type 0
+Works (Ok done) input left Writes = EndsReported input Writes × IsAtEnd left
+Works (Err why) input left Writes = WorksBy why input left Writes
+
+-- the same, where the writer has this at first and is left with that
+abbrev pub WorksScript : Result (Unit {0}) Fault → (input left old new : Option (List ℕ)) → Type 0
+WorksScript result input left old new = Works result input left (λ text. Appends old new text)

@@ -1,0 +1,265 @@
+//! A script while it is played.
+
+ghost use Rattle.std.specs.Prelude.{◌≡◌, ℕ, ◌+◌, ◌-◌, ◌^◌, ◌<◌, ◌≤◌, ◌⊎◌, List, [], Option, IfOk, OnErr, OnOk, MatchResult, None};
+ghost use Rattle.std.specs.List.{Contains};
+ghost use Rattle.std.specs.Io.KnownBytes.{prepend_known};
+ghost use Rattle.std.specs.Vec.{vec_capacity};
+ghost use Rattle.nv_machine.specs.World as machine;
+ghost use Rattle.nv_core.specs.Worlds.{ShowsAny};
+ghost use Rattle.nv_script.specs.Lines.{WritesFront, WritesSome};
+ghost use Rattle.nv_script.specs.Play.{Ends, PlaysScript, failed_reads, failed_writes, machine_player};
+ghost use Rattle.nv_script.specs.Results.{AnswersLine, AtLine, HoldsNone, TakesLine, TurnIs, ending_of, failed_in_line, is_line};
+
+use crate::act::play_line;
+use crate::counted::{CountedRead, CountedWrite, WriteFailed};
+use crate::fault::LineFault;
+use crate::feed::{Feed, LineResult, MAX_LINE_BYTES};
+use crate::outbox::Outbox;
+use nv_base::{Fault, ScriptFaultKind};
+use nv_core::World;
+use std::alloc::{AllocError, Global};
+
+/// The most lines of a script.
+pub(crate) const MAX_LINES: u64 = 1_048_576;
+
+/// The room for a line's text that is made at first. A longer text makes more.
+const TEXT_BYTES: usize = 4096;
+
+/// A script while it is played: what is read ahead, the line that was taken last and its text, what is to be
+/// written, and the world.
+#[derive(Drop)]
+pub(crate) struct Player {
+    pub(crate) feed: Feed,
+    pub(crate) line: Vec<u8>,
+    pub(crate) text: Vec<u8>,
+    pub(crate) outbox: Outbox,
+    pub(crate) world: Option<World>,
+    ghost room: { 4096 ≤ vec_capacity line },
+}
+
+impl Player {
+    /// Nothing is read ahead, and no world is made.
+    pub(crate) fn new(alloc: Global) -> Result<Player, AllocError>
+        ensures ahead { IfOk result (λ player. player.feed ≡ []) }
+        ensures gathered { IfOk result (λ player. player.outbox ≡ []) }
+        ensures world { IfOk result (λ player. player.world ≡ None) }
+    {
+        Ok(Player {
+            feed: Feed::new(alloc)?,
+            line: Vec::with_capacity(alloc, MAX_LINE_BYTES)?,
+            text: Vec::with_capacity(alloc, TEXT_BYTES)?,
+            outbox: Outbox::new(alloc)?,
+            world: None,
+        })
+    }
+
+    /// Plays a script. All of its text is written then, except where a write fails.
+    pub(crate) fn play<R: CountedRead, W: CountedWrite>(
+        &mut self,
+        alloc: Global,
+        reader: &mut R,
+        writer: &mut W,
+    ) -> Result<(), Fault>
+        requires ahead { self.old.feed ≡ [] }
+        requires gathered { self.old.outbox ≡ [] }
+        requires world { self.old.world ≡ None }
+        requires reads { R.failed reader.old < 2 ^ 64 - 1 }
+        requires writes { W.failed writer.old < 2 ^ 64 - 1 }
+        ensures script { PlaysScript result (R.remaining reader.old) (R.remaining reader.new)
+            (W.contents writer.old) (W.contents writer.new) }
+        ensures reads { R.failed reader.new ≡ R.failed reader.old + failed_reads result }
+        ensures writes { W.failed writer.new ≡ W.failed writer.old + failed_writes result }
+        ensures same_reader { R.place reader.new ≡ R.place reader.old }
+        ensures same_writer { W.place writer.new ≡ W.place writer.old }
+    {
+        let outcome = self.play_lines(alloc, reader, writer);
+        self.outbox.end(writer, outcome)
+    }
+
+    /// Plays all lines. Of their text, the last may still be gathered, except where a read or a write failed.
+    fn play_lines<R: CountedRead, W: CountedWrite>(
+        &mut self,
+        alloc: Global,
+        reader: &mut R,
+        writer: &mut W,
+    ) -> Result<(), Fault>
+        requires ahead { self.old.feed ≡ [] }
+        requires gathered { self.old.outbox ≡ [] }
+        requires world { self.old.world ≡ None }
+        requires reads { R.failed reader.old < 2 ^ 64 - 1 }
+        requires writes { W.failed writer.old < 2 ^ 64 - 1 }
+        ensures script { Ends machine_player result (R.remaining reader.old) (R.remaining reader.new)
+            (λ text. WritesFront (W.contents writer.old) (W.contents writer.new)
+            text self.new.outbox) }
+        ensures unheld { HoldsNone result self.new.outbox }
+        ensures reads { R.failed reader.new ≡ R.failed reader.old + failed_reads result }
+        ensures writes { W.failed writer.new ≡ W.failed writer.old + failed_writes result }
+        ensures same_reader { R.place reader.new ≡ R.place reader.old }
+        ensures same_writer { W.place writer.new ≡ W.place writer.old }
+    {
+        for number in 1..=MAX_LINES + 1 {
+            if !self.turn(alloc, number, reader, writer)? {
+                return Ok(());
+            }
+        }
+        // The turn past the last line always returns.
+        unreachable!()
+    }
+
+    /// Plays the line of this number, and says whether there is one.
+    fn turn<R: CountedRead, W: CountedWrite>(
+        &mut self,
+        alloc: Global,
+        number: u64,
+        reader: &mut R,
+        writer: &mut W,
+    ) -> Result<bool, Fault>
+        requires number { number ≤ MAX_LINES + 1 }
+        requires reads { R.failed reader.old < 2 ^ 64 - 1 }
+        requires writes { W.failed writer.old < 2 ^ 64 - 1 }
+        ensures turn { (input old : Option (List ℕ)) (m : Option machine.World)
+            → ShowsAny self.old.world m
+            → AtLine input (prepend_known self.old.feed (R.remaining reader.old))
+            old (W.contents writer.old) self.old.outbox number m
+            → TurnIs result input (R.remaining reader.new)
+            (prepend_known self.new.feed (R.remaining reader.new))
+            old (W.contents writer.new) self.new.outbox number self.new.world }
+        ensures reads { R.failed reader.new ≡ R.failed reader.old + failed_reads result }
+        ensures writes { W.failed writer.new ≡ W.failed writer.old + failed_writes result }
+        ensures same_reader { R.place reader.new ≡ R.place reader.old }
+        ensures same_writer { W.place writer.new ≡ W.place writer.old }
+    {
+        if !self.take(number, reader, writer)? {
+            return Ok(false);
+        }
+        match self.play_taken(alloc, writer) {
+            Ok(()) => Ok(true),
+            Err(fault) => Err(ending_of(number, fault)),
+        }
+    }
+
+    /// Takes the line of this number, and says whether there is one. What is gathered is written before, where the reader is
+    /// to be asked for bytes.
+    pub(crate) fn take<R: CountedRead, W: CountedWrite>(
+        &mut self,
+        number: u64,
+        reader: &mut R,
+        writer: &mut W,
+    ) -> Result<bool, Fault>
+        requires reads { R.failed reader.old < 2 ^ 64 - 1 }
+        requires writes { W.failed writer.old < 2 ^ 64 - 1 }
+        ensures taken { TakesLine result number
+            (prepend_known self.old.feed (R.remaining reader.old)) (R.remaining reader.new)
+            self.new.feed self.new.line.items
+            (record { written = W.contents writer.old; gathered = self.old.outbox })
+            (record { written = W.contents writer.new; gathered = self.new.outbox }) }
+        ensures world { self.new.world ≡ self.old.world }
+        ensures reads { R.failed reader.new ≡ R.failed reader.old + failed_reads result }
+        ensures writes { W.failed writer.new ≡ W.failed writer.old + failed_writes result }
+        ensures same_reader { R.place reader.new ≡ R.place reader.old }
+        ensures same_writer { W.place writer.new ≡ W.place writer.old }
+    {
+        let Ok(()) = write_before_read(&self.feed, &mut self.outbox, writer) else {
+            return Err(Fault::Write);
+        };
+        let Ok(taken) = self.feed.next_line(reader, &mut self.line) else {
+            return Err(Fault::Read);
+        };
+        is_line(number, taken)
+    }
+
+    /// Plays the line that was taken last, and gathers its text.
+    pub(crate) fn play_taken<W: CountedWrite>(
+        &mut self,
+        alloc: Global,
+        writer: &mut W,
+    ) -> Result<(), LineFault>
+        requires { W.failed writer.old < 2 ^ 64 - 1 }
+        ensures line { AnswersLine result
+            (record { written = W.contents writer.old; gathered = self.old.outbox })
+            (record { written = W.contents writer.new; gathered = self.new.outbox })
+            self.old.world self.old.line.items self.new.world }
+        ensures failed { W.failed writer.new ≡ W.failed writer.old + failed_in_line result }
+        ensures same_writer { W.place writer.new ≡ W.place writer.old }
+        ensures feed { self.new.feed ≡ self.old.feed }
+    {
+        let Player {
+            line,
+            text,
+            outbox,
+            world,
+            ..
+        } = self;
+        answer_line(alloc, world, line.as_slice(), text, outbox, writer)
+    }
+}
+
+/// Plays a line, and gathers its text, for which there is room in `text`.
+pub(crate) fn answer_line<W: CountedWrite>(
+    alloc: Global,
+    world: &mut Option<World>,
+    line: &[u8],
+    text: &mut Vec<u8>,
+    outbox: &mut Outbox,
+    writer: &mut W,
+) -> Result<(), LineFault>
+    requires { W.failed writer.old < 2 ^ 64 - 1 }
+    ensures line { AnswersLine result
+        (record { written = W.contents writer.old; gathered = outbox.old })
+        (record { written = W.contents writer.new; gathered = outbox.new })
+        world.old line.now world.new }
+    ensures failed { W.failed writer.new ≡ W.failed writer.old + failed_in_line result }
+    ensures same_writer { W.place writer.new ≡ W.place writer.old }
+{
+    play_line(alloc, world, line, text, outbox, writer)?;
+    let Ok(()) = outbox.add(writer, text.as_slice()) else {
+        return Err(LineFault::Write);
+    };
+    Ok(())
+}
+
+/// Writes what is gathered, where the reader is to be asked for the next line: nothing is held back then.
+fn write_before_read<W: CountedWrite>(
+    feed: &Feed,
+    outbox: &mut Outbox,
+    writer: &mut W,
+) -> Result<(), WriteFailed>
+    requires { W.failed writer.old < 2 ^ 64 - 1 }
+    ensures unheld { OnOk result (Contains feed.now 10 ⊎ (outbox.new ≡ [])) }
+    ensures sent { MatchResult result
+        (λ _. WritesFront (W.contents writer.old) (W.contents writer.new) outbox.old outbox.new)
+        (λ _. WritesSome (W.contents writer.old) (W.contents writer.new) outbox.old
+        × (outbox.new ≡ [])) }
+    ensures ok { OnOk result (W.failed writer.new ≡ W.failed writer.old) }
+    ensures err { OnErr result (W.failed writer.new ≡ W.failed writer.old + 1) }
+    ensures same_writer { W.place writer.new ≡ W.place writer.old }
+{
+    if feed.has_line() {
+        return Ok(());
+    }
+    outbox.flush(writer)
+}
+
+/// Whether what was taken is a line to play. It is none at the end of the bytes; else it ends the script by a fault.
+fn is_line(number: u64, taken: LineResult) -> Result<bool, Fault>
+    ensures { result ≡ is_line number taken }
+{
+    match taken {
+        LineResult::End => Ok(false),
+        _ if number > MAX_LINES => Err(Fault::ScriptFault(ScriptFaultKind::Lines, number)),
+        LineResult::Line => Ok(true),
+        LineResult::Long => Err(Fault::ScriptFault(ScriptFaultKind::Long, number)),
+        LineResult::Unended => Err(Fault::ScriptFault(ScriptFaultKind::Unended, number)),
+    }
+}
+
+/// How a line's fault ends the script.
+pub(crate) fn ending_of(number: u64, fault: LineFault) -> Fault
+    ensures { result ≡ ending_of number fault }
+{
+    match fault {
+        LineFault::OutOfMemory(witness) => Fault::OutOfMemory(witness),
+        LineFault::Write => Fault::Write,
+        LineFault::Faulty(kind) => Fault::ScriptFault(kind, number),
+    }
+}
