@@ -1,8 +1,8 @@
 -- How many records and blocks there are.
-use Rattle.std.proofs.Common.{◌≡◌, ℕ, zero, suc, ◌+◌, ◌<◌, ◌≤◌, Bool, true, false, cond, not, List, [], ◌∷◌, ◌++◌, length, filter, get_or, take, Option, Some, None, arith, refl, ap, ◌∙◌}
+use Rattle.std.proofs.Common.{◌≡◌, ℕ, zero, suc, ◌+◌, ◌<◌, ◌≤◌, Bool, true, false, cond, not, List, [], ◌∷◌, ◌++◌, length, filter, get_or, drop, take, Option, Some, None, arith, refl, ap, ◌∙◌}
 use Rattle.std.specs.List.{sum_by}
 use Rattle.std.proofs.lemmas.List.Filters.{length-filter_both}
-use Rattle.std.proofs.lemmas.List.Sums.{count_by-le-length, sum_by-append, sum_by-cons, sum_by-le-sum_by, sum_by_more_le, sum_by_push}
+use Rattle.std.proofs.lemmas.List.Sums.{count_by-le-length, sum_by-append, sum_by-cons, sum_by-le-sum_by, sum_by-take-drop, sum_by_more, sum_by_more_le, sum_by_push}
 use Rattle.nv_entry.specs.declared.part.Part.{Part}
 use Rattle.nv_entry.specs.declared.part.Part.TheVariants.{Kind, Mode, Size, Bound, Page}
 use Rattle.nv_book.specs.declared.manifest.Manifest.{Manifest}
@@ -104,6 +104,19 @@ none-moves-down (r ∷ rs) = none-moves-down rs
 -- an empty manifest adds nothing to a sum
 pub total-made : (f : List Record → ℕ) (ms : List Manifest) (m : Manifest) → total f (ms ++ m ∷ []) ≡ total f ms + f m.records
 total-made f ms m = sum_by_push (λ (u : Manifest). f u.records) ms m
+
+-- a sum over some manifests, and over those behind them, with the next
+pub total-more : (f : List Record → ℕ) (ms : List Manifest) (i : ℕ) (m : Manifest) → i < length ms → m ≡ get_or ms i m →
+    total f (take (i + 1) ms) ≡ total f (take i ms) + f m.records
+total-more f ms i m h e =
+    let q : f m.records ≡ f (get_or ms i m).records = ap (λ (u : Manifest). f u.records) e in
+    omega (arith, q, sum_by_more (λ (u : Manifest). f u.records) ms i m h)
+
+pub total-left : (f : List Record → ℕ) (ms : List Manifest) (i : ℕ) (m : Manifest) → i < length ms → m ≡ get_or ms i m →
+    total f (drop i ms) ≡ f m.records + total f (drop (i + 1) ms)
+total-left f ms i m h e =
+    let g : Manifest → ℕ = λ u. f u.records in
+    omega (arith, total-more f ms i m h e, sum_by-take-drop g ms i, sum_by-take-drop g ms (i + 1))
 
 -- what s holds of some manifests and of the next is at most all records
 pub held-more : (s : ℕ) (ms : List Manifest) (i : ℕ) (m : Manifest) → i < length ms → m ≡ get_or ms i m →

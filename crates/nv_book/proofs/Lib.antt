@@ -7,5 +7,6 @@ pub mod Places
 pub mod Putting
 pub mod RecordLists
 pub mod Series
+pub mod Spans
 pub mod Split
 pub mod Undoing

@@ -1,6 +1,6 @@
 //! The value behind the commit lock.
 
-ghost use Rattle.std.specs.Prelude.{◌≡◌, ◌+◌, ◌<◌, ◌≤◌, ◌↔◌, [], length, replicate, slice_get, slice_index_or, IfErr, IfOk, IsOk, IsSome, IsTrue, OnErr, OnOk, Some, None};
+ghost use Rattle.std.specs.Prelude.{◌≡◌, ◌+◌, ◌<◌, ◌≤◌, ◌↔◌, [], length, map, replicate, slice_get, slice_index_or, IfErr, IfOk, IsOk, IsSome, IsTrue, OnErr, OnOk, Some, None};
 ghost use Rattle.std.specs.Option.{ForSome, IsSomeAnd};
 ghost use Rattle.smallvec.specs.SmallVec.{small_vec_len};
 ghost use Rattle.nv_base.specs.declared.limits.TheConstants.{NUMBER, PINS};
@@ -305,6 +305,22 @@ impl Book {
         ensures { result ≡ held_of s self.now.state.manifests }
     {
         self.store.held(s)
+    }
+
+    /// How many blocks of recorded parts each living snapshot holds, oldest first: what [`Book::held`] tells of each, by
+    /// one pass for all of them. It takes time by all runs, with two look-ups among the snapshots for each, and memory by
+    /// the snapshots.
+    ///
+    /// The only error is `OutOfMemory`.
+    pub fn held_by_each(&self, alloc: Global) -> Result<Vec<u64>, Fault>
+        ensures ok { let now = self.now.state in
+            IfOk result (λ held. held.items
+            ≡ map (λ s. held_of s now.manifests) (ids now.snaps)) }
+        ensures err { FailsOnly out_of_memory result }
+    {
+        // It tells that the numbers of the living snapshots rise.
+        let _epoch = self.snaps.epoch();
+        self.store.held_by_each(alloc)
     }
 
     /// How many blocks a drop of the snapshot `s` puts on the deferred list. It takes time by the runs of its manifest.

@@ -8,6 +8,7 @@
 mod base;
 mod book;
 mod event;
+mod held_spans;
 mod history;
 pub mod laws;
 mod manifest;

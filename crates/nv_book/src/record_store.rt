@@ -1,6 +1,6 @@
 //! The records that a book has, by manifests, and the room for more.
 
-ghost use Rattle.std.specs.Prelude.{◌≡◌, ◌+◌, ◌-◌, ◌<◌, ◌≤◌, [], ◌∷◌, ◌++◌, drop, length, slice_get, slice_index, IfErr, IfOk, IsOk, OnErr, OnOk, Some, None};
+ghost use Rattle.std.specs.Prelude.{◌≡◌, ◌+◌, ◌-◌, ◌<◌, ◌≤◌, [], ◌∷◌, ◌++◌, drop, length, map, slice_get, slice_index, IfErr, IfOk, IsOk, OnErr, OnOk, Some, None};
 ghost use Rattle.nv_base.specs.declared.limits.TheConstants.{NUMBER};
 ghost use Rattle.nv_base.specs.Refusals.{FailsOnly};
 ghost use Rattle.nv_epoch.specs.Holders.{IsRising};
@@ -10,6 +10,7 @@ ghost use Rattle.nv_book.specs.Store.{Store};
 ghost use Rattle.nv_base.specs.Memory.{out_of_memory};
 
 use crate::Record;
+use crate::held_spans::HeldSpans;
 use crate::manifest::{self, Manifest};
 use crate::records::Records;
 use crate::spare_nodes::SpareNodes;
@@ -171,6 +172,24 @@ impl RecordStore {
             count += m.records.held(s);
         }
         count
+    }
+
+    /// How many blocks of recorded parts each snapshot holds, oldest first. It takes time by the runs of the manifests,
+    /// with two look-ups among the manifests for each.
+    ///
+    /// The only error is `OutOfMemory`.
+    pub fn held_by_each(&self, alloc: Global) -> Result<Vec<u64>, Fault>
+        requires { IsRising (snapshots self.now.manifests) }
+        ensures ok { IfOk result (λ held. held.items
+            ≡ map (λ s. held_of s self.now.manifests) (snapshots self.now.manifests)) }
+        ensures err { FailsOnly out_of_memory result }
+    {
+        let manifests = self.manifests.as_slice();
+        let mut spans = HeldSpans::new(alloc, manifests.len())?;
+        for m in manifests {
+            m.records.span(manifests, &mut spans);
+        }
+        spans.held(alloc, manifests)
     }
 
     /// How many blocks a drop of the snapshot `s`, whose manifest stands at `place`, defers, where the next older

@@ -1,9 +1,13 @@
 //! A list of records, kept as runs.
 
-ghost use Rattle.std.specs.Prelude.{◌≡◌, ◌+◌, ◌<◌, ◌≤◌, ◌^◌, [], ◌∷◌, ◌++◌, drop, filter, length, slice_get};
-ghost use Rattle.nv_book.specs.Records.{let_go, moved_down};
-ghost use Rattle.nv_book.specs.Records.{block_count, is_held_by, run_count_of};
+ghost use Rattle.std.specs.Prelude.{◌≡◌, ℕ, ◌+◌, ◌<◌, ◌≤◌, ◌^◌, [], ◌∷◌, ◌++◌, drop, filter, length, slice_get};
+ghost use Rattle.nv_epoch.specs.Holders.{IsRising};
+ghost use Rattle.nv_book.specs.HeldSpans.{Adds, HasRoom};
+ghost use Rattle.nv_book.specs.Manifests.{snapshots};
+ghost use Rattle.nv_book.specs.Records.{block_count, is_held_by, let_go, moved_down, run_count_of};
 
+use crate::held_spans::HeldSpans;
+use crate::manifest::Manifest;
 use crate::record_iter::RecordIter;
 use crate::run::RecordRun;
 use crate::spare_nodes::SpareNodes;
@@ -96,6 +100,19 @@ impl Records {
         ensures { result ≡ block_count (filter (is_held_by s) self.now) }
     {
         runs::held(&self.runs, s)
+    }
+
+    /// Adds the records to the spans over the manifests. It takes time by the runs, with two look-ups among the manifests
+    /// for each.
+    pub(crate) fn span(&self, manifests: &[Manifest], spans: &mut HeldSpans)
+        requires rising { IsRising (snapshots manifests.now) }
+        requires room { HasRoom spans.old (length manifests.now) (length self.now) }
+        ensures room { (more : ℕ) → HasRoom spans.old (length manifests.now) (length self.now + more)
+            → HasRoom spans.new (length manifests.now) more }
+        ensures held { Adds (snapshots manifests.now)
+            (λ s. block_count (filter (is_held_by s) self.now)) spans.old spans.new }
+    {
+        runs::span(&self.runs, manifests, spans);
     }
 
     /// How many blocks of the records were not born by the snapshot `older`. It takes time by the runs.

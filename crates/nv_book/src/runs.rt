@@ -1,10 +1,15 @@
 //! Lists of runs, whose nodes go from one to another.
 
-ghost use Rattle.std.specs.Prelude.{◌≡◌, ◌+◌, ◌<◌, ◌≤◌, ◌^◌, [], ◌∷◌, ◌++◌, if◌then◌else◌, drop, length, filter, not, slice_get, sum_by};
+ghost use Rattle.std.specs.Prelude.{◌≡◌, ℕ, ◌+◌, ◌<◌, ◌≤◌, ◌^◌, [], ◌∷◌, ◌++◌, if◌then◌else◌, drop, length, filter, not, slice_get, sum_by};
+ghost use Rattle.nv_epoch.specs.Holders.{IsRising};
+ghost use Rattle.nv_book.specs.HeldSpans.{Adds, HasRoom};
+ghost use Rattle.nv_book.specs.Manifests.{snapshots};
 ghost use Rattle.nv_book.specs.Records.{is_born_by, is_held_by};
-ghost use Rattle.nv_book.specs.Runs.{IsRun, AreRuns, joins_last, pages_where, put, records_of};
+ghost use Rattle.nv_book.specs.Runs.{IsRun, AreRuns, joins_last, pages_of, pages_where, put, records_of};
 
 use crate::Record;
+use crate::held_spans::HeldSpans;
+use crate::manifest::Manifest;
 use crate::run::RecordRun;
 use nv_base::Epoch;
 use std::collections::LinkedList;
@@ -168,6 +173,21 @@ pub fn held(list: &LinkedList<RecordRun>, s: Epoch) -> u64
 {
     let held = list.iter().filter(|run| run.first.is_held_by(s));
     held.map(|run| run.pages()).sum()
+}
+
+/// Adds the runs to the spans over the manifests.
+pub fn span(list: &LinkedList<RecordRun>, manifests: &[Manifest], spans: &mut HeldSpans)
+    requires rising { IsRising (snapshots manifests.now) }
+    requires room { HasRoom spans.old (length manifests.now) (sum_by pages_of list.now) }
+    ensures room { (more : ℕ) →
+        HasRoom spans.old (length manifests.now) (sum_by pages_of list.now + more)
+        → HasRoom spans.new (length manifests.now) more }
+    ensures held { Adds (snapshots manifests.now) (λ s. pages_where (is_held_by s) list.now)
+        spans.old spans.new }
+{
+    for run in list.iter() {
+        spans.add(manifests, run);
+    }
 }
 
 /// How many blocks the runs have that were not born by the snapshot `older`.
