@@ -1,9 +1,9 @@
 -- What holds of the plans of the cells.
-use Rattle.std.proofs.Common.{◌≡◌, ℕ, zero, suc, ◌+◌, ◌*◌, ◌^◌, ◌<◌, ◌≤◌, ◌⊎◌, inl, inr, ◌==◌, Bool, true, false, cond, List, [], ◌∷◌, length, take, arith, ap, subst, sym, ◌∙◌, slice_index_or}
+use Rattle.std.proofs.Common.{◌≡◌, ℕ, zero, suc, ◌+◌, ◌*◌, ◌^◌, ◌<◌, ◌≤◌, ◌⊎◌, inl, inr, ◌==◌, Bool, true, false, cond, List, [], ◌∷◌, length, take, arith, ap, subst, sym, ◌∙◌}
 use Rattle.std.specs.List.{AllByRecursion, AllPairs, sum_by}
 use Rattle.std.proofs.lemmas.List.{length-map, take_all}
 use Rattle.std.proofs.lemmas.List.Sums.{sum_by-cons}
-use Rattle.nv_alloc.specs.Block.{BlockValue, numbers_of}
+use Rattle.nv_alloc.specs.Block.{numbers_of}
 use Rattle.nv_alloc.specs.Queue.{QueueValue}
 use Rattle.nv_entry.specs.declared.item.Item.{Item}
 use Rattle.nv_cell.specs.Cell.{CellValue}
@@ -106,12 +106,6 @@ few_entries plan cells few each =
     omega (arith, all, few)
 
 -- ---- blocks
-
-pub small_at : (blocks : List BlockValue) (k : ℕ) → AllByRecursion (λ (b : BlockValue). b.number < 2 ^ 32) blocks
-    → k < length (numbers_of blocks) → slice_index_or (numbers_of blocks) k 0 < 2 ^ 32
-small_at [] k all lt = absurd (omega (arith, lt))
-small_at (b ∷ blocks) zero all lt = all.0
-small_at (b ∷ blocks) (suc k) all lt = small_at blocks k all.1 (omega (arith, lt))
 
 -- items that fit the blocks of a queue have them in front
 pub fit_have : (items : List Item) (block : ℕ) (queue : QueueValue) → queue.size ≡ block → AreFit (numbers_of queue.blocks) items

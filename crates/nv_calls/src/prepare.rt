@@ -18,10 +18,10 @@ ghost use Rattle.nv_calls.specs.Steps.{HaveBlocks};
 
 use crate::checked::block_in;
 use crate::planning::plan_items;
-use crate::runs::runs_of;
+use crate::runs::runs_in;
 use crate::{Allocation, CellCommit, Cells, HeldNodes, InodePlan, Plan, Ready, Update};
-use nv_alloc::{BlockQueue, Hand};
-use nv_base::{BlockNo, Fault, Gen, Handle, Ino, Items, NoMemory};
+use nv_alloc::Hand;
+use nv_base::{Fault, Gen, Handle, Ino, Items, NoMemory};
 use nv_entry::Item;
 use std::alloc::{AllocError, Global};
 
@@ -36,17 +36,6 @@ fn made_by<C: Cells>(cells: &C, number: Option<Ino>, update: &Update) -> Option<
         }
         _ => None,
     }
-}
-
-/// The numbers of blocks in the order taken.
-fn numbers_of(alloc: Global, queue: &BlockQueue) -> Result<Vec<BlockNo>, AllocError>
-    ensures { IfOk result (λ numbers. numbers.items ≡ numbers_of queue.now.blocks) }
-{
-    let mut numbers = Vec::new(alloc);
-    for block in queue.iter() {
-        numbers.push(block.number())?;
-    }
-    Ok(numbers)
 }
 
 /// The items of a call, inode by inode, with the blocks of its hand.
@@ -67,8 +56,7 @@ fn planned_by<C: Cells>(
 {
     let block = block_in(cells);
     let nodes = HeldNodes::new(cells);
-    let numbers = numbers_of(alloc, &hand.data)?;
-    let runs = Items::from_vec(runs_of(alloc, &numbers)?);
+    let runs = Items::from_vec(runs_in(alloc, &hand.data)?);
     let made = or_none(made);
     let taken = Allocation { made, runs };
     let planned = plan_items(alloc, block, &nodes, &taken, update)?;

@@ -1,10 +1,13 @@
 //! Runs of blocks, and the items that put pages in them.
 
 ghost use Rattle.std.specs.Prelude.{◌≡◌, ◌+◌, ◌<◌, ◌≤◌, ◌^◌, ℕ, ◌∷◌, ◌++◌, [], IfOk, OnOk, length, slice_index_or};
+ghost use Rattle.std.specs.List.{AllByRecursion};
+ghost use Rattle.nv_alloc.specs.Block.{numbers_of};
 ghost use Rattle.nv_base.specs.declared.limits.TheConstants.{BLOCKS, FILE_PAGES};
 ghost use Rattle.nv_entry.specs.Sound.{blocks_of, write_items};
 ghost use Rattle.nv_calls.specs.Plan.{AreMaximal, runs_of};
 
+use nv_alloc::BlockQueue;
 use nv_base::BlockNo;
 use nv_entry::{BlockRun, Item};
 use std::alloc::{AllocError, Global};
@@ -20,6 +23,21 @@ pub fn runs_of(alloc: Global, blocks: &[BlockNo]) -> Result<Vec<BlockRun>, Alloc
     let mut runs = Vec::new(alloc);
     for block in blocks {
         add_block(&mut runs, *block)?;
+    }
+    Ok(runs)
+}
+
+/// The blocks of a queue in the order in which they were taken, as maximal runs of consecutive numbers.
+pub(crate) fn runs_in(alloc: Global, queue: &BlockQueue) -> Result<Vec<BlockRun>, AllocError>
+    requires few { length queue.now.blocks ≤ BLOCKS }
+    requires small { AllByRecursion (λ b. b.number < 2 ^ 32) queue.now.blocks }
+    ensures runs { IfOk result (λ runs. runs.items ≡ runs_of (numbers_of queue.now.blocks)) }
+    ensures blocks { IfOk result (λ runs. blocks_of runs.items ≡ numbers_of queue.now.blocks) }
+    ensures maximal { IfOk result (λ runs. AreMaximal runs.items) }
+{
+    let mut runs = Vec::new(alloc);
+    for block in queue.iter() {
+        add_block(&mut runs, block.number())?;
     }
     Ok(runs)
 }
