@@ -15,7 +15,7 @@ use Rattle.nv_entry.proofs.Hiding.{same_name-equal}
 use Rattle.nv_nindex.specs.declared.binding.Binding.{Binding}
 use Rattle.nv_nindex.specs.NameIndex.{HaveSameBindings, binding_of}
 use Rattle.nv_cell.specs.Index.{bindings_of, bound_by}
-use Rattle.nv_audit.specs.Names.{AreIndexNames, AreLogNames, IsItemName, IsNameOf}
+use Rattle.nv_audit.specs.Names.{AreIndexNames, AreLogNames, IsItemName, IsNameOf, NameTable, TellsNames}
 
 abbrev Bound : Type 0
 Bound = List ℕ × Binding
@@ -59,41 +59,45 @@ log_bound P (e ∷ es) h = go (is_bind e.item && not (any_cover 1 es (NameKey (n
       (sym (flat_map-cons (λ (x : Entry). bound_by x.id x.item) e (binders_of es))) (one e.item h.0 (bindings_of es) rest)
   go false rest = rest
 
-as_item : (log : List Entry) (names : List Bound) (item : Item) → IsItemName log names item → OfItem (IsNameOf log names) item
-as_item log names (Bind name to) h = h
-as_item log names (Init kind mode) h = tt
-as_item log names (Write first run size) h = tt
-as_item log names (SetSize size) h = tt
-as_item log names (SetMode mode) h = tt
-as_item log names (Unbind name) h = tt
-as_item log names Gone h = tt
+as_item : (table : NameTable) (names : List Bound) (item : Item) → IsItemName table names item → OfItem (IsNameOf table names) item
+as_item table names (Bind name to) h = h
+as_item table names (Init kind mode) h = tt
+as_item table names (Write first run size) h = tt
+as_item table names (SetSize size) h = tt
+as_item table names (SetMode mode) h = tt
+as_item table names (Unbind name) h = tt
+as_item table names Gone h = tt
 
-as_items : (log : List Entry) (names : List Bound) (es : List Entry) → AllByRecursion (λ (e : Entry). IsItemName log names e.item) es
-    → AllByRecursion (λ (e : Entry). OfItem (IsNameOf log names) e.item) es
-as_items log names [] h = tt
-as_items log names (e ∷ es) h = (as_item log names e.item h.0, as_items log names es h.1)
+as_items : (table : NameTable) (names : List Bound) (es : List Entry) → AllByRecursion (λ (e : Entry). IsItemName table names e.item) es
+    → AllByRecursion (λ (e : Entry). OfItem (IsNameOf table names) e.item) es
+as_items table names [] h = tt
+as_items table names (e ∷ es) h = (as_item table names e.item h.0, as_items table names es h.1)
 
--- names that are told alike by the log's entries and by the list are told alike
-pub same_of_both : (log : List Entry) (names : List Bound) → AreLogNames log names log → AreIndexNames log names names
-    → HaveSameBindings (bindings_of log) names
-same_of_both log names first second name =
-    let P : List ℕ → Type 0 = IsNameOf log names in
+-- names that are told alike by the log's entries and by the list are told alike, where a table tells those of the log
+pub same_of_both : (log : List Entry) (table : NameTable) (names : List Bound) → TellsNames log table → AreLogNames table names log
+    → AreIndexNames table names names → HaveSameBindings (bindings_of log) names
+same_of_both log table names tells first second name =
+    let P : List ℕ → Type 0 = IsNameOf table names in
     elim (bound_there P name (bindings_of log)
-    (log_bound P log (as_items log names log (recursion_from_All (λ (e : Entry). IsItemName log names e.item) log first)))) [
-      | inr same ↦ same
+    (log_bound P log (as_items table names log (recursion_from_All (λ (e : Entry). IsItemName table names e.item) log first)))) [
+      | inr same ↦ same ∙ tells name
       | inl none ↦ elim (bound_there P name names (recursion_from_All (λ (b : Bound). P b.0) names second)) [
-        | inr same ↦ same
+        | inr same ↦ same ∙ tells name
         | inl also ↦ also ∙ sym none
       ]
     ]
 
--- names that are told alike are so for each item
-pub same_item : (log : List Entry) (names : List Bound) → HaveSameBindings (bindings_of log) names → (item : Item)
-    → IsItemName log names item
-same_item log names same (Bind name to) = same name
-same_item log names same (Init kind mode) = tt
-same_item log names same (Write first run size) = tt
-same_item log names same (SetSize size) = tt
-same_item log names same (SetMode mode) = tt
-same_item log names same (Unbind name) = tt
-same_item log names same Gone = tt
+-- names that are told alike are so for each item, and at each place of the list
+pub same_name_of : (log : List Entry) (table : NameTable) (names : List Bound) → TellsNames log table
+    → HaveSameBindings (bindings_of log) names → (name : List ℕ) → IsNameOf table names name
+same_name_of log table names tells same name = same name ∙ sym (tells name)
+
+pub same_item : (table : NameTable) (names : List Bound) → ((name : List ℕ) → IsNameOf table names name) → (item : Item)
+    → IsItemName table names item
+same_item table names same (Bind name to) = same name
+same_item table names same (Init kind mode) = tt
+same_item table names same (Write first run size) = tt
+same_item table names same (SetSize size) = tt
+same_item table names same (SetMode mode) = tt
+same_item table names same (Unbind name) = tt
+same_item table names same Gone = tt

@@ -1,9 +1,6 @@
 -- When the parts of a log died, by a table of what later entries cover.
 use Rattle.std.specs.Prelude.{◌≡◌, ℕ, if◌then◌else◌, List, Option, Some, map, option_and_then, slice_get}
-use Rattle.std.specs.Map.{lookup}
 use Rattle.std.specs.Option.{option_map, option_or}
-use denote.Ref.{Bor}
-use Rattle.nv_base.specs.Names.{same_name}
 use Rattle.nv_base.specs.declared.numbers.EntryId.{EntryId}
 use Rattle.nv_cell.specs.Cell.{CellState, log_of}
 use Rattle.nv_entry.specs.Keys.{Key, KindKey, ModeKey, NameKey, PageKey, SizeKey, covers, key_of, parts_of}
@@ -16,6 +13,7 @@ use Rattle.nv_entry.specs.declared.part.Part.{Part}
 use Rattle.nv_findex.specs.Pages.{PageMap, ref_at}
 use Rattle.nv_findex.specs.declared.page_ref.PageRef.{PageRef}
 use Rattle.nv_log.specs.Chain.{place_of}
+use Rattle.nv_audit.specs.Names.{name_in}
 use Rattle.nv_audit.specs.declared.first_covers.FirstCovers.{FirstCovers}
 
 -- WHEN EACH PART of a cell's log died, by number
@@ -28,10 +26,7 @@ epoch_of cell id = option_map (λ (e : Entry). e.epoch) (option_and_then (slice_
 
 -- ---- the first of some entries that covers a key, by a table
 
--- its epoch for a name among these, and for each name
-abbrev pub name_in : List (Bor (List ℕ) × ℕ) → List ℕ → Option ℕ
-name_in names name = lookup (λ (k : Bor (List ℕ)). same_name name k.now) names
-
+-- its epoch for a name
 abbrev pub name_cover : FirstCovers → List ℕ → Option ℕ
 name_cover c name = option_or (name_in c.names.entries name) c.others
 

@@ -1,6 +1,9 @@
 -- Names that are those of a log.
 use Rattle.std.specs.Prelude.{◌≡◌, ℕ, All, List, Option, None, if◌then◌else◌}
+use Rattle.std.specs.Map.{lookup}
 use Rattle.std.specs.Option.{option_or}
+use denote.Ref.{Bor}
+use Rattle.nv_base.specs.Names.{same_name}
 use Rattle.nv_base.specs.declared.numbers.EntryId.{EntryId}
 use Rattle.nv_entry.specs.declared.item.Entry.{Entry}
 use Rattle.nv_entry.specs.declared.item.Item.{Item}
@@ -10,21 +13,33 @@ use Rattle.nv_nindex.specs.declared.binding.Binding.{Binding}
 use Rattle.nv_nindex.specs.NameIndex.{binding_of}
 use Rattle.nv_cell.specs.Index.{bindings_of, bound_by}
 
--- a name is bound among these as by the log
-abbrev pub IsNameOf : List Entry → List (List ℕ × Binding) → List ℕ → Type 0
-IsNameOf log names name = binding_of name names ≡ binding_of name (bindings_of log)
+-- what a table has at a name
+abbrev pub name_in : {V : Type 0} → List (Bor (List ℕ) × V) → List ℕ → Option V
+name_in table name = lookup (λ (k : Bor (List ℕ)). same_name name k.now) table
+
+-- names with their bindings
+abbrev pub NameTable : Type 0
+NameTable = List (Bor (List ℕ) × Binding)
+
+-- it has of each name what a log binds it to
+abbrev pub TellsNames : List Entry → NameTable → Type 0
+TellsNames log bound = (name : List ℕ) → name_in bound name ≡ binding_of name (bindings_of log)
+
+-- a name is bound among these as the table tells
+abbrev pub IsNameOf : NameTable → List (List ℕ × Binding) → List ℕ → Type 0
+IsNameOf bound names name = binding_of name names ≡ name_in bound name
 
 -- so is the name that an item binds, if it is such an item
-abbrev pub IsItemName : List Entry → List (List ℕ × Binding) → Item → Type 0
-IsItemName log names (Bind name to) = IsNameOf log names name
-IsItemName log names item = Unit {0}
+abbrev pub IsItemName : NameTable → List (List ℕ × Binding) → Item → Type 0
+IsItemName bound names (Bind name to) = IsNameOf bound names name
+IsItemName bound names item = Unit {0}
 
 -- so are the names that these entries bind, and those that stand among these bindings
-abbrev pub AreLogNames : List Entry → List (List ℕ × Binding) → List Entry → Type 0
-AreLogNames log names entries = All (λ e. IsItemName log names e.item) entries
+abbrev pub AreLogNames : NameTable → List (List ℕ × Binding) → List Entry → Type 0
+AreLogNames bound names entries = All (λ e. IsItemName bound names e.item) entries
 
-abbrev pub AreIndexNames : List Entry → List (List ℕ × Binding) → List (List ℕ × Binding) → Type 0
-AreIndexNames log names bound = All (λ b. IsNameOf log names b.0) bound
+abbrev pub AreIndexNames : NameTable → List (List ℕ × Binding) → List (List ℕ × Binding) → Type 0
+AreIndexNames bound names listed = All (λ b. IsNameOf bound names b.0) listed
 
 -- what one more entry leaves of a name's binding
 abbrev pub bound_after : EntryId → Item → List ℕ → Option Binding → Option Binding

@@ -8,7 +8,8 @@ ghost use Rattle.nv_base.specs.Names.{same_name};
 ghost use Rattle.nv_base.specs.declared.limits.TheConstants.{FILE_PAGES};
 ghost use Rattle.nv_cell.specs.Cell.{CellState};
 ghost use Rattle.nv_entry.specs.Keys.{Key as KeyValue, NameKey, PageKey, covers, key_named, pages_for};
-ghost use Rattle.nv_audit.specs.Deaths.{Puts, cover_before, cover_in, epoch_of, name_cover, name_in, others_after, page_cover, page_cover_before};
+ghost use Rattle.nv_audit.specs.Deaths.{Puts, cover_before, cover_in, epoch_of, name_cover, others_after, page_cover, page_cover_before};
+ghost use Rattle.nv_audit.specs.Names.{name_in};
 
 use nv_base::limits::FILE_PAGES;
 use nv_base::{EntryId, Epoch, Fault};

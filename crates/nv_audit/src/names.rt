@@ -1,27 +1,108 @@
 //! The names of an inode.
 
-ghost use Rattle.std.specs.Prelude.{◌≡◌, ◌↔◌, ◌<◌, ℕ, IsTrue, List, length, slice_index_or};
+ghost use Rattle.std.specs.Prelude.{◌≡◌, ◌↔◌, ◌<◌, ℕ, IfOk, IsTrue, List, None, OnOk, Some, if◌then◌else◌, length, slice_index_or};
+ghost use Rattle.nv_base.specs.Memory.{out_of_memory};
+ghost use Rattle.nv_base.specs.Names.{same_name};
+ghost use Rattle.nv_base.specs.Refusals.{FailsOnly};
 ghost use Rattle.nv_cell.specs.Index.{bindings_of};
-ghost use Rattle.nv_nindex.specs.NameIndex.{HaveSameBindings, binding_of};
-ghost use Rattle.nv_audit.specs.Names.{AreIndexNames, AreLogNames, IsItemName, IsNameOf, bound_after};
+ghost use Rattle.nv_nindex.specs.NameIndex.{HaveSameBindings};
+ghost use Rattle.nv_audit.specs.Names.{AreIndexNames, AreLogNames, IsItemName, IsNameOf, TellsNames, bound_after, name_in};
 
+use nv_base::Fault;
 use nv_entry::{Entry, Item};
 use nv_nindex::{Binding, NameIndex};
+use std::alloc::{AllocError, Global};
+use std::collections::HashMap;
 
-/// Whether an index of names binds each name as the log does, to the same and by the same entry. Costs one pass over
-/// the log for each name that either tells of.
-pub fn are_names_of(log: &[Entry], index: &NameIndex) -> bool
-    ensures { IsTrue result ↔ HaveSameBindings (bindings_of log.now) index.now.names }
+/// Whether an index of names binds each name as the log does, to the same and by the same entry. `OutOfMemory` where
+/// memory for the names of the log was refused.
+///
+/// Costs two passes over the log and one over the names of the index, with a look-up for each name.
+pub fn are_names_of(alloc: Global, log: &[Entry], index: &NameIndex) -> Result<bool, Fault>
+    ensures ok { IfOk result (λ are. IsTrue are
+        ↔ HaveSameBindings (bindings_of log.now) index.now.names) }
+    ensures err { FailsOnly out_of_memory result }
 {
-    are_log_names(log, log, index) && are_index_names(log, index)
+    let bound = bound_by(alloc, log)?;
+    Ok(are_names_by(&bound, log, index))
 }
 
-/// Whether it does so for each name that one of these entries binds.
-fn are_log_names(entries: &[Entry], log: &[Entry], index: &NameIndex) -> bool
-    ensures { IsTrue result ↔ AreLogNames log.now index.now.names entries.now }
+/// The same, by a table that tells what the log binds each name to.
+fn are_names_by(bound: &HashMap<&[u8], Binding>, log: &[Entry], index: &NameIndex) -> bool
+    requires { TellsNames log.now bound.now.entries }
+    ensures { IsTrue result ↔ HaveSameBindings (bindings_of log.now) index.now.names }
+{
+    are_log_names(log, bound, index) && are_index_names(bound, index)
+}
+
+/// What a log binds each name to, and by which entry: a table of the names that it leaves bound.
+fn bound_by<'a>(alloc: Global, log: &'a [Entry]) -> Result<HashMap<&'a [u8], Binding>, AllocError>
+    ensures { IfOk result (λ bound. TellsNames log.now bound.entries) }
+{
+    let mut bound = HashMap::new(alloc);
+    for entry in log {
+        put_entry(&mut bound, entry)?;
+    }
+    Ok(bound)
+}
+
+/// Puts what one more entry binds, and takes out what it unbinds.
+fn put_entry<'a>(bound: &mut HashMap<&'a [u8], Binding>, entry: &'a Entry) -> Result<(), AllocError>
+    ensures { OnOk result ((name : List ℕ) → name_in bound.new.entries name
+        ≡ bound_after entry.now.id entry.now.item name (name_in bound.old.entries name)) }
+{
+    match &entry.item {
+        Item::Bind { name, to } => {
+            let binding = Binding {
+                to: *to,
+                entry: entry.id,
+            };
+            bind(bound, name.bytes(), binding)
+        }
+        Item::Unbind { name } => {
+            unbind(bound, name.bytes());
+            Ok(())
+        }
+        Item::Gone => {
+            bound.clear();
+            Ok(())
+        }
+        Item::Init { .. } | Item::Write { .. } | Item::SetSize { .. } | Item::SetMode { .. } => {
+            Ok(())
+        }
+    }
+}
+
+/// Puts what a name is bound to.
+fn bind<'a>(
+    bound: &mut HashMap<&'a [u8], Binding>,
+    name: &'a [u8],
+    binding: Binding,
+) -> Result<(), AllocError>
+    ensures { OnOk result ((other : List ℕ) → name_in bound.new.entries other
+        ≡ (if same_name name.now other then Some binding else name_in bound.old.entries other)) }
+{
+    let inserted: Result<_, _> = bound.insert(name, binding);
+    match inserted {
+        Ok(_) => Ok(()),
+        Err(_) => Err(AllocError),
+    }
+}
+
+/// Takes a name out.
+fn unbind(bound: &mut HashMap<&[u8], Binding>, name: &[u8])
+    ensures { (other : List ℕ) → name_in bound.new.entries other
+        ≡ (if same_name name.now other then None else name_in bound.old.entries other) }
+{
+    bound.remove(name);
+}
+
+/// Whether an index binds each name that one of these entries binds as the table tells.
+fn are_log_names(entries: &[Entry], bound: &HashMap<&[u8], Binding>, index: &NameIndex) -> bool
+    ensures { IsTrue result ↔ AreLogNames bound.now.entries index.now.names entries.now }
 {
     for entry in entries {
-        if !is_item_name(&entry.item, log, index) {
+        if !is_item_name(&entry.item, bound, index) {
             return false;
         }
     }
@@ -29,21 +110,21 @@ fn are_log_names(entries: &[Entry], log: &[Entry], index: &NameIndex) -> bool
 }
 
 /// Whether it does so for the name that the item binds, if it is such an item.
-fn is_item_name(item: &Item, log: &[Entry], index: &NameIndex) -> bool
-    ensures { IsTrue result ↔ IsItemName log.now index.now.names item.now }
+fn is_item_name(item: &Item, bound: &HashMap<&[u8], Binding>, index: &NameIndex) -> bool
+    ensures { IsTrue result ↔ IsItemName bound.now.entries index.now.names item.now }
 {
     match item {
-        Item::Bind { name, .. } => is_name_of(log, index, name.bytes()),
+        Item::Bind { name, .. } => is_name_of(bound, index, name.bytes()),
         _ => true,
     }
 }
 
 /// Whether it does so for each name that it has.
-fn are_index_names(log: &[Entry], index: &NameIndex) -> bool
-    ensures { IsTrue result ↔ AreIndexNames log.now index.now.names index.now.names }
+fn are_index_names(bound: &HashMap<&[u8], Binding>, index: &NameIndex) -> bool
+    ensures { IsTrue result ↔ AreIndexNames bound.now.entries index.now.names index.now.names }
 {
     for place in 0..index.len() {
-        if !is_name_at(log, index, place) {
+        if !is_name_at(bound, index, place) {
             return false;
         }
     }
@@ -51,48 +132,22 @@ fn are_index_names(log: &[Entry], index: &NameIndex) -> bool
 }
 
 /// Whether it does so for the name at a place.
-fn is_name_at(log: &[Entry], index: &NameIndex, place: usize) -> bool
+fn is_name_at(bound: &HashMap<&[u8], Binding>, index: &NameIndex, place: usize) -> bool
     requires { place < length index.now.names }
-    ensures { (default : List ℕ × Binding) → IsTrue result ↔ IsNameOf log.now index.now.names
+    ensures { (default : List ℕ × Binding) → IsTrue result ↔ IsNameOf bound.now.entries index.now.names
         (slice_index_or index.now.names place default).0 }
 {
     match index.at(place) {
-        Some((name, _)) => is_name_of(log, index, name),
+        Some((name, _)) => is_name_of(bound, index, name),
         None => true,
     }
 }
 
 /// The same for one name.
-fn is_name_of(log: &[Entry], index: &NameIndex, name: &[u8]) -> bool
-    ensures { IsTrue result ↔ IsNameOf log.now index.now.names name.now }
+fn is_name_of(bound: &HashMap<&[u8], Binding>, index: &NameIndex, name: &[u8]) -> bool
+    ensures { IsTrue result ↔ IsNameOf bound.now.entries index.now.names name.now }
 {
-    is_same(index.get(name), binding_in(log, name))
-}
-
-/// What a name is bound to by a log, and by which entry.
-fn binding_in(log: &[Entry], name: &[u8]) -> Option<Binding>
-    ensures { result ≡ binding_of name.now (bindings_of log.now) }
-{
-    let mut binding = None;
-    for entry in log {
-        binding = binding_after(entry, name, binding);
-    }
-    binding
-}
-
-/// The same after one more entry.
-fn binding_after(entry: &Entry, name: &[u8], before: Option<Binding>) -> Option<Binding>
-    ensures { result ≡ bound_after entry.now.id entry.now.item name.now before }
-{
-    match &entry.item {
-        Item::Bind { name: bound, to } if bound.bytes() == name => Some(Binding {
-            to: *to,
-            entry: entry.id,
-        }),
-        Item::Unbind { name: unbound } if unbound.bytes() == name => None,
-        Item::Gone => None,
-        _ => before,
-    }
+    is_same(index.get(name), bound.get(name).copied())
 }
 
 fn is_same(one: Option<Binding>, other: Option<Binding>) -> bool

@@ -138,7 +138,8 @@ fn inode_differs(
     if !is_indexed(cell) {
         return Ok(Some(MismatchPart::Index));
     }
-    if !are_names_of(cell.log().log(), cell.name_index()) {
+    let named = are_names_of(alloc, cell.log().log(), cell.name_index())?;
+    if !named {
         return Ok(Some(MismatchPart::Names));
     }
     counts_differ(alloc, cell, snapshots, pending)

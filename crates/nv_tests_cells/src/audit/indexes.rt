@@ -6,6 +6,7 @@ use crate::compare::{refused_memory, same_for};
 use nv_audit::{are_names_of, are_pages_of};
 use nv_base::Name;
 use nv_base::limits::FILE_PAGES;
+use nv_entry::Entry;
 use nv_findex::FileIndex;
 use nv_nindex::{Binding, NameIndex};
 use nv_scenes::logs::Says::{Bind, Directory, File, Size, Unbind, Write};
@@ -96,6 +97,17 @@ fn names(rt: &impl Abort, alloc: Global, bindings: &[(&'static str, u64, u64)]) 
     index
 }
 
+/// Whether an index has the names of a log.
+fn are_names(rt: &impl Abort, alloc: Global, log: &[Entry], index: &NameIndex) -> bool {
+    match are_names_of(alloc, log, index) {
+        Ok(are) => are,
+        Err(fault) => {
+            refused_memory(rt, fault);
+            are_names_of(alloc, log, index).expect(rt, "memory for names")
+        }
+    }
+}
+
 fn bind(rt: &impl Abort, alloc: Global, index: &mut NameIndex, bytes: &[u8], to: Binding) {
     let name = match Name::read(alloc, bytes) {
         Ok(name) => name,
@@ -124,7 +136,12 @@ fn names_are_judged(rt: HostRuntime) -> Result<(), Fail> {
     let log = log_of(rt.alloc(), NAMES)?;
     for (bindings, want) in BINDINGS {
         let index = names(&rt, rt.alloc(), bindings);
-        same_for(&rt, bindings, are_names_of(&log, &index), *want);
+        same_for(
+            &rt,
+            bindings,
+            are_names(&rt, rt.alloc(), &log, &index),
+            *want,
+        );
     }
     Ok(())
 }

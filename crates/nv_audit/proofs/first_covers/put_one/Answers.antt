@@ -1,6 +1,6 @@
 use Rattle.std.proofs.Common.{ℕ, cond, Some, ap, ◌∙◌}
 use Rattle.nv_base.specs.Names.{same_name}
-use Rattle.nv_audit.specs.Deaths.{name_in}
+use Rattle.nv_audit.specs.Names.{name_in}
 use Rattle.nv_audit.proofs.first_covers.put_one.Goals as goal
 
 pub returns : goal.returns

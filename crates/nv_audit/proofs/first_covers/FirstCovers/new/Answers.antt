@@ -3,7 +3,8 @@ use Rattle.std.specs.Prelude.{option_and_then}
 use Rattle.std.specs.Option.{option_or}
 use Rattle.nv_entry.specs.Keys.{KindKey, ModeKey, NameKey, PageKey, SizeKey}
 use Rattle.nv_findex.specs.Pages.{PageMap}
-use Rattle.nv_audit.specs.Deaths.{epoch_of, name_in, page_cover}
+use Rattle.nv_audit.specs.Deaths.{epoch_of, page_cover}
+use Rattle.nv_audit.specs.Names.{name_in}
 use Rattle.nv_audit.proofs.Covers.{no_page}
 use Rattle.nv_audit.proofs.first_covers.FirstCovers.new.Goals as goal
 
