@@ -19,7 +19,6 @@ pub mod NodeHistories
 pub mod NumberedPairs
 pub mod Owing
 pub mod PageEntries
-pub mod Pages
 pub mod PartBlocks
 pub mod PartLists
 pub mod PartNames

@@ -1,16 +1,17 @@
 //! Which of some entries covers each key first.
 
-ghost use Rattle.std.specs.Prelude.{◌≡◌, ◌<◌, ◌≤◌, ◌&&◌, ℕ, List, None, OnOk, Option, Some, if◌then◌else◌, min, nat_le, nat_lt};
+ghost use Rattle.std.specs.Prelude.{◌≡◌, ◌<◌, ◌≤◌, ◌&&◌, ℕ, List, None, OnOk, Option, Some, if◌then◌else◌, nat_le, nat_lt};
 ghost use Rattle.std.specs.Option.{option_or};
 ghost use Rattle.nv_base.specs.Refusals.{FailsOnly};
 ghost use Rattle.nv_base.specs.Memory.{out_of_memory};
 ghost use Rattle.nv_base.specs.Names.{same_name};
 ghost use Rattle.nv_base.specs.declared.limits.TheConstants.{FILE_PAGES};
 ghost use Rattle.nv_cell.specs.Cell.{CellState};
-ghost use Rattle.nv_entry.specs.Keys.{Key as KeyValue, NameKey, PageKey, covers, key_named, pages_for};
+ghost use Rattle.nv_entry.specs.Keys.{Key as KeyValue, NameKey, PageKey, covers, key_named};
 ghost use Rattle.nv_audit.specs.Deaths.{Puts, cover_before, cover_in, epoch_of, name_cover, others_after, page_cover, page_cover_before};
 ghost use Rattle.nv_audit.specs.Names.{name_in};
 
+use crate::scanned_pages::{first_past, run_pages, set_pages};
 use nv_base::limits::FILE_PAGES;
 use nv_base::{EntryId, Epoch, Fault};
 use nv_cell::InodeCell;
@@ -158,12 +159,7 @@ fn put_pages(pages: &mut FileIndex, block: u64, entry: &Entry) -> Result<(), Fau
         ≡ page_cover_before block entry.now page (page_cover pages.old page)) }
     ensures err { FailsOnly out_of_memory result }
 {
-    let covered = covered_pages(block, &entry.item);
-    if covered.start < covered.end {
-        pages.reserve_for(1)?;
-        pages.set_run(covered.start, covered.end - covered.start, entry.id);
-    }
-    Ok(())
+    set_pages(pages, covered_pages(block, &entry.item), entry.id)
 }
 
 /// The pages that an item covers.
@@ -174,17 +170,9 @@ fn covered_pages(block: u64, item: &Item) -> Range<u32>
         ≡ (nat_le result.start page && nat_lt page result.end) }
 {
     match item {
-        Item::Write { first, run, .. } => *first..first.saturating_add(run.len).min(FILE_PAGES),
+        Item::Write { first, run, .. } => run_pages(*first, run.len),
         Item::SetSize { size } => first_past(block, *size)..FILE_PAGES,
         Item::Gone => 0..FILE_PAGES,
         Item::Init { .. } | Item::SetMode { .. } | Item::Bind { .. } | Item::Unbind { .. } => 0..0,
     }
-}
-
-/// The first page past a size, or the end of the greatest file.
-fn first_past(block: u64, size: u64) -> u32
-    requires { 0 < block }
-    ensures { result ≡ min (pages_for block size) FILE_PAGES }
-{
-    size.div_ceil(block).min(u64::from(FILE_PAGES)) as u32
 }

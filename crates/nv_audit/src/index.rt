@@ -1,16 +1,19 @@
 //! The index of an inode.
 
-ghost use Rattle.std.specs.Prelude.{◌≡◌, ◌↔◌, ◌<◌, ◌≤◌, ℕ, IfSome, IsTrue, None};
+ghost use Rattle.std.specs.Prelude.{◌≡◌, ◌↔◌, ◌<◌, IfOk, IfSome, IsTrue};
 ghost use Rattle.std.specs.Option.{option_map};
-ghost use Rattle.nv_base.specs.declared.limits.TheConstants.{FILE_PAGES};
-ghost use Rattle.nv_entry.specs.Keys.{PageKey, key_named};
+ghost use Rattle.nv_base.specs.Memory.{out_of_memory};
+ghost use Rattle.nv_base.specs.Refusals.{FailsOnly};
+ghost use Rattle.nv_entry.specs.Keys.{key_named};
 ghost use Rattle.nv_entry.specs.Refs.{scan_ref};
-ghost use Rattle.nv_audit.specs.Index.{ArePagesOf, IsPageOf, SetsNoPageFrom};
-ghost use Rattle.nv_cell.specs.Index.{page_part};
+ghost use Rattle.nv_findex.specs.Pages.{IsRun};
+ghost use Rattle.nv_audit.specs.Index.{ArePagesOf, HaveSamePages, both_end, first_from};
 
-use nv_base::limits::FILE_PAGES;
-use nv_entry::{Entry, Item, Key, PartRef, current_part};
-use nv_findex::{FileIndex, PageRef};
+use crate::scanned_pages::scanned_pages;
+use nv_base::Fault;
+use nv_entry::{Entry, Key, PartRef, current_part};
+use nv_findex::{FileIndex, PageRef, PageRun};
+use std::alloc::Global;
 
 /// Whether a part is the one that holds a key now, if any does. Costs one pass over the log.
 pub fn is_part_of(block: u64, log: &[Entry], key: Key<'_>, part: Option<PartRef>) -> bool
@@ -20,79 +23,71 @@ pub fn is_part_of(block: u64, log: &[Entry], key: Key<'_>, part: Option<PartRef>
     is_same(part, current_part(block, log, key))
 }
 
-/// Whether an index of pages names for each page the part that holds it now, if any does. Costs one pass over the log
-/// for each page up to the last one that it has a Write of.
-pub fn are_pages_of(block: u64, log: &[Entry], index: &FileIndex) -> bool
+/// Whether an index of pages names for each page the part that holds it now, if any does. `OutOfMemory` where memory for
+/// the runs of the log was refused.
+///
+/// Costs one pass over the log with two look-ups for each Write and one for each SetSize, and for a Write that makes more
+/// or fewer runs a move of those behind; then a step for each run of pages.
+pub fn are_pages_of(
+    alloc: Global,
+    block: u64,
+    log: &[Entry],
+    index: &FileIndex,
+) -> Result<bool, Fault>
     requires { 0 < block }
-    ensures { IsTrue result ↔ ArePagesOf block log.now index.now }
+    ensures ok { IfOk result (λ are. IsTrue are ↔ ArePagesOf block log.now index.now) }
+    ensures err { FailsOnly out_of_memory result }
 {
-    let end = pages_end(block, log);
-    for page in 0..end {
-        if !is_page_of(block, log, index, page) {
+    let scanned = scanned_pages(alloc, block, log)?;
+    Ok(have_same_pages(&scanned, index))
+}
+
+/// Whether each page lies in both at the same place, or in neither. A step goes over the pages that are of one run in
+/// both.
+fn have_same_pages(one: &FileIndex, other: &FileIndex) -> bool
+    ensures { IsTrue result ↔ HaveSamePages one.now other.now }
+{
+    let mut page = 0;
+    let mut place = 0;
+    let mut other_place = 0;
+    loop {
+        let run = one.run_near(page, &mut place);
+        let other_run = other.run_near(page, &mut other_place);
+        if !begin_alike(page, &run, &other_run) {
             return false;
         }
-    }
-    index.next_from(end).is_none()
-}
-
-/// A page from which on the log has no part of any.
-fn pages_end(block: u64, log: &[Entry]) -> u32
-    requires { 0 < block }
-    ensures within { result ≤ FILE_PAGES }
-    ensures past { (page : ℕ) → result ≤ page → scan_ref block log.now (PageKey page) ≡ None }
-{
-    // The size of blocks says nothing of the pages that a Write sets.
-    let _block = block;
-    let mut end = 0;
-    for entry in log {
-        end = later_of(end, item_end(&entry.item));
-    }
-    end
-}
-
-/// The later of two pages.
-fn later_of(one: u32, other: u32) -> u32
-    requires one { one ≤ FILE_PAGES }
-    requires other { other ≤ FILE_PAGES }
-    ensures first { one ≤ result }
-    ensures second { other ≤ result }
-    ensures within { result ≤ FILE_PAGES }
-{
-    if one < other {
-        return other;
-    }
-    one
-}
-
-/// A page from which on the item sets none to a value.
-fn item_end(item: &Item) -> u32
-    ensures within { result ≤ FILE_PAGES }
-    ensures past { SetsNoPageFrom result item.now }
-{
-    match item {
-        Item::Write { first, run, .. } => first.saturating_add(run.len).min(FILE_PAGES),
-        _ => 0,
+        match both_end(run, other_run) {
+            Some(end) => page = end,
+            None => return true,
+        }
     }
 }
 
-/// The same for one page.
-fn is_page_of(block: u64, log: &[Entry], index: &FileIndex, page: u32) -> bool
-    requires { 0 < block }
-    ensures { IsTrue result ↔ IsPageOf block log.now index.now page }
+/// Whether two runs have the same page first from a page on, and at the same place, or none of them is there.
+fn begin_alike(page: u32, run: &Option<PageRun>, other: &Option<PageRun>) -> bool
+    requires run { IfSome run.now (λ run. IsRun run × (page < run.end)) }
+    requires other { IfSome other.now (λ run. IsRun run × (page < run.end)) }
+    ensures { IsTrue result
+        ↔ (option_map (first_from page) run.now ≡ option_map (first_from page) other.now) }
 {
-    is_part_of(block, log, Key::Page(page), part_at(index.at(page)))
+    first_from(page, run) == first_from(page, other)
 }
 
-/// The part of a page by where it lies: the pages of a Write stand behind its size.
-fn part_at(at: Option<PageRef>) -> Option<PartRef>
-    requires { IfSome at (λ at. at.place < FILE_PAGES) }
-    ensures { result ≡ option_map page_part at }
+/// The first page of a run from a page on, and where it lies.
+fn first_from(page: u32, run: &Option<PageRun>) -> Option<(u32, PageRef)>
+    requires { IfSome run.now (λ run. IsRun run × (page < run.end)) }
+    ensures { result ≡ option_map (first_from page) run.now }
 {
-    let at = at?;
-    Some(PartRef {
-        entry: at.entry,
-        place: at.place + 1,
-    })
+    let run = run.as_ref()?;
+    let first = run.first.max(page);
+    Some((first, run.page_ref(first)))
+}
+
+/// Where the first of two runs ends.
+fn both_end(run: Option<PageRun>, other: Option<PageRun>) -> Option<u32>
+    ensures { result ≡ both_end run other }
+{
+    Some(run?.end.min(other?.end))
 }
 
 fn is_same(one: Option<PartRef>, other: Option<PartRef>) -> bool

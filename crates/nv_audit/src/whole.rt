@@ -24,8 +24,8 @@ use std::alloc::Global;
 /// `Mismatch` with the first part that differs from one scan of all logs: inode by inode the index, the names and the
 /// counts, and then the records and the free lists. What a cell keeps as its index and names is at all times the scan
 /// of its log, so that these two never differ. `OutOfMemory` where room was refused. It costs what [`are_pages_of`],
-/// [`are_names_of`], [`are_counted`], [`are_recorded`] and [`are_free`] cost, the first three for each inode, and a
-/// pass over the deferred records and the parts in hands.
+/// [`are_names_of`], [`are_counted`], [`are_recorded`] and [`are_free`] cost, the first three for each inode, and for each
+/// inode three more passes over its log; and a pass over the deferred records and the parts in hands.
 pub fn audit<'a>(
     alloc: Global,
     geometry: &'a Geometry,
@@ -135,7 +135,8 @@ fn inode_differs(
         × (¬ IsCountedWith snapshots.now pending.now cell.now.state))) }
     ensures err { FailsOnly out_of_memory result }
 {
-    if !is_indexed(cell) {
+    let indexed = is_indexed(alloc, cell)?;
+    if !indexed {
         return Ok(Some(MismatchPart::Index));
     }
     let named = are_names_of(alloc, cell.log().log(), cell.name_index())?;
@@ -171,7 +172,23 @@ pub(crate) fn counts_differ(
 }
 
 /// Whether the index of a cell is the scan of its log, as it is at all times.
-fn is_indexed(cell: &InodeCell) -> bool
+fn is_indexed(alloc: Global, cell: &InodeCell) -> Result<bool, Fault>
+    ensures ok { IfOk result (λ is. IsTrue is) }
+    ensures err { FailsOnly out_of_memory result }
+{
+    if !are_fields_indexed(cell) {
+        return Ok(false);
+    }
+    are_pages_of(
+        alloc,
+        cell.block_bytes(),
+        cell.log().log(),
+        cell.page_index(),
+    )
+}
+
+/// The same of its kind, mode and size.
+fn are_fields_indexed(cell: &InodeCell) -> bool
     ensures { IsTrue result }
 {
     let block = cell.block_bytes();
@@ -179,5 +196,4 @@ fn is_indexed(cell: &InodeCell) -> bool
     is_part_of(block, log, Key::Kind, cell.indexed(Key::Kind))
         && is_part_of(block, log, Key::Mode, cell.indexed(Key::Mode))
         && is_part_of(block, log, Key::Size, cell.indexed(Key::Size))
-        && are_pages_of(block, log, cell.page_index())
 }

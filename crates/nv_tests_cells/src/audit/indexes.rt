@@ -51,6 +51,17 @@ fn pages(rt: &impl Abort, alloc: Global, runs: &[(u32, u32, u64)]) -> FileIndex 
     index
 }
 
+/// Whether an index has the pages of a log.
+fn are_pages(rt: &impl Abort, alloc: Global, log: &[Entry], index: &FileIndex) -> bool {
+    match are_pages_of(alloc, BLOCK, log, index) {
+        Ok(are) => are,
+        Err(fault) => {
+            refused_memory(rt, fault);
+            are_pages_of(alloc, BLOCK, log, index).expect(rt, "memory for pages")
+        }
+    }
+}
+
 fn reserve_run(rt: &impl Abort, index: &mut FileIndex)
     ensures { 2 ≤ index.new.room }
 {
@@ -126,7 +137,7 @@ fn indexes_are_judged(rt: HostRuntime) -> Result<(), Fail> {
     let log = log_of(rt.alloc(), PAGES)?;
     for (runs, want) in RUNS {
         let index = pages(&rt, rt.alloc(), runs);
-        same_for(&rt, runs, are_pages_of(BLOCK, &log, &index), *want);
+        same_for(&rt, runs, are_pages(&rt, rt.alloc(), &log, &index), *want);
     }
     Ok(())
 }
