@@ -32,7 +32,8 @@ pub struct Snaps {
 }
 
 impl World {
-    /// The snapshots. It takes time by all runs of records, for each snapshot.
+    /// The snapshots. It goes over all runs of records twice, with two look-ups among the snapshots for each run, and
+    /// makes a few for each snapshot.
     pub fn snaps(&self) -> Result<Snaps, Fault>
         ensures ok { (m : machine.World) → Shows self.now m
             → IfOk result (λ snaps. snaps ≡ snaps_of m.shared.book) }
@@ -48,9 +49,10 @@ fn snaps_in(alloc: Global, book: &Book) -> Result<Snaps, Fault>
     ensures err { FailsOnly out_of_memory result }
 {
     let snapshots = book.snaps().snapshots();
+    let held = book.held_by_each(alloc)?;
     let mut living = Vec::with_capacity(alloc, snapshots.len())?;
-    for snapshot in snapshots {
-        living.push(counts_of(book, snapshot))?;
+    for place in 0..snapshots.len() {
+        living.push(counts_of(book, &snapshots[place], held[place]))?;
     }
     Ok(Snaps {
         epoch: book.epoch(),
@@ -59,13 +61,13 @@ fn snaps_in(alloc: Global, book: &Book) -> Result<Snaps, Fault>
     })
 }
 
-/// One of them in numbers.
-fn counts_of(book: &Book, snapshot: &Snapshot) -> SnapCounts
-    ensures { result ≡ snap_counts book.now.state snapshot.now }
+/// One of them in numbers, with the blocks that it holds.
+fn counts_of(book: &Book, snapshot: &Snapshot, held: u64) -> SnapCounts
+    ensures { result ≡ record (snap_counts book.now.state snapshot.now) { held = held } }
 {
     SnapCounts {
         snapshot: snapshot.number,
-        held: book.held(snapshot.number),
+        held,
         gain: book.gain(snapshot.number),
         pins: snapshot.pins,
     }

@@ -61,6 +61,54 @@ fn deferred_is_not_free(rt: HostRuntime) {
     same(&rt, book.stored(), 0);
 }
 
+// Pages by their commit, birth and death, under snapshots 1 to 4. The two of commit 3 are one run.
+const HELD: [(u64, u32, u64, u64); 7] = [
+    (1, 0, 1, 2),
+    (1, 1, 1, 5),
+    (2, 0, 2, 4),
+    (2, 1, 2, 3),
+    (3, 0, 3, 4),
+    (3, 1, 3, 4),
+    (4, 0, 4, 5),
+];
+
+// What each living snapshot holds, told for all at once and for each alone.
+fn are_held(rt: &impl Abort, alloc: Global, book: &Book, want: &[(u64, u64)]) {
+    let held = match book.held_by_each(alloc) {
+        Ok(held) => held,
+        Err(fault) => {
+            refused_memory(rt, fault);
+            book.held_by_each(alloc).expect(rt, "memory for numbers")
+        }
+    };
+    same(rt, held.len(), want.len());
+    for (found, (s, blocks)) in held.iter().zip(want) {
+        same_for(
+            rt,
+            s,
+            (*found, book.held(Epoch::new(*s))),
+            (*blocks, *blocks),
+        );
+    }
+}
+
+#[test]
+fn tells_at_once_what_each_holds(rt: HostRuntime) {
+    let mut book = new_book(&rt, rt.alloc());
+    are_held(&rt, rt.alloc(), &book, &[]);
+    for s in 1..5 {
+        makes(&rt, &mut book, Ok(Epoch::new(s)));
+    }
+    enters(&rt, &mut book, HELD.len() as u64, 5, 1);
+    for (commit, page, birth, death) in &HELD {
+        let killed = record(*commit, Part::Page(*page), *birth, *death);
+        retires(&rt, &mut book, killed, Retired::Kept);
+    }
+    are_held(&rt, rt.alloc(), &book, &[(1, 2), (2, 3), (3, 4), (4, 2)]);
+    drops(&rt, &mut book, 3, Ok(()));
+    are_held(&rt, rt.alloc(), &book, &[(1, 2), (2, 3), (4, 2)]);
+}
+
 // Four pages of one entry, a gap, and a page of another entry, each with its commit; and how many runs there are after
 // each of them is picked.
 const KILLED: [(u64, u32, u64); 6] = [
