@@ -1,14 +1,12 @@
 -- The steps that pass the hand on, as turns of their call.
-use Rattle.std.specs.Prelude.{is_some, unwrap_or}
-use Rattle.std.proofs.Common.{◌≡◌, ◌∙◌, ℕ, true, List, Option, Some, None, ap, length, refl, subst, sym}
+use Rattle.std.proofs.Common.{◌≡◌, ◌∙◌, ℕ, true, List, ap, length, refl, subst, sym}
 use Rattle.nv_alloc.specs.declared.hand.Hand.{Hand}
 use Rattle.nv_alloc.specs.Numbers.{has}
-use Rattle.nv_book.specs.Book.{BookState, BookValue}
+use Rattle.nv_book.specs.Book.{BookState}
 use Rattle.nv_calls.specs.Commit.{CommitValue}
 use Rattle.nv_calls.specs.Progress.{step_of}
 use Rattle.nv_calls.specs.Ready.{ReadyValue}
 use Rattle.nv_calls.specs.declared.progress.CommitStep.TheVariants as step
-use Rattle.nv_calls.specs.SlotCells.{cell_in}
 use Rattle.nv_machine.specs.Locks.{held_at}
 use Rattle.nv_machine.specs.Step.{kind_turn, turn}
 use Rattle.nv_machine.specs.World as machine
@@ -170,28 +168,6 @@ rest_ready actor old new running r hand here shows leaves book =
           (ap (λ (xs : List ℕ). has xs ino) (sym held) ∙ none);
       book = λ other is apart. (book, leaves.holder);
     }
-
--- all but the book and the holder of the commit lock is as it was, and these where another actor has the lock
-pub rest_enter : (actor : ℕ) (old new : Shared) (r : machine.Running) (book : BookValue) (holder : Option ℕ)
-    → new ≡ record old { book = book; holder = holder } → (is_some old.holder ≡ true → new ≡ old) → LeavesOthers actor r old new
-rest_enter actor old new r book holder is held = record {
-  geometry = ap (λ (s : Shared). s.geometry) is;
-  lists = ap (λ (s : Shared). length s.lists.items) is;
-  count = ap (λ (s : Shared). length s.cells.items) is;
-  cells = λ ino none. ap (λ (s : Shared). cell_in s.cells.items ino) is;
-  book = λ other some apart.
-      let same = held (ap is_some some) in (ap (λ (s : Shared). s.book) same, ap (λ (s : Shared). s.holder) same);
-}
-
-pub rest_leave : (actor : ℕ) (old new : Shared) (r : machine.Running) → new ≡ record old { holder = None } → old.holder ≡ Some actor
-    → LeavesOthers actor r old new
-rest_leave actor old new r is own = record {
-  geometry = ap (λ (s : Shared). s.geometry) is;
-  lists = ap (λ (s : Shared). length s.lists.items) is;
-  count = ap (λ (s : Shared). length s.cells.items) is;
-  cells = λ ino none. ap (λ (s : Shared). cell_in s.cells.items ino) is;
-  book = λ other some apart. absurd (apart (ap (λ (o : Option ℕ). unwrap_or o 0) (sym some ∙ own)));
-}
 
 -- what a call is owed whose commit has its request
 pub owes_given : (running : Running) (told : GhostCall) → running.request ≡ request.Given → IsGhostCallOf running told → OwesAt running.ending running told

@@ -1,5 +1,5 @@
 -- What a call takes: it can be made ready with it, it needs few log pages, and its plan is the machine's.
-use Rattle.std.proofs.Common.{◌≡◌, ℕ, zero, suc, ◌+◌, ◌<◌, ◌≤◌, ◌^◌, ◌∙◌, Bool, true, List, [], ◌∷◌, ◌++◌, length, arith, refl, ap, sym, subst, subst₂}
+use Rattle.std.proofs.Common.{◌≡◌, ℕ, zero, suc, ◌+◌, ◌<◌, ◌≤◌, ◌^◌, ◌∙◌, true, List, [], ◌∷◌, ◌++◌, length, arith, refl, ap, sym, subst, subst₂}
 use Rattle.std.specs.List.{AllByRecursion}
 use Rattle.std.proofs.lemmas.List.{length-map}
 use Rattle.nv_alloc.specs.Block.{BlockValue, numbers_of}

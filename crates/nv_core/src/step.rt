@@ -42,7 +42,6 @@ use nv_alloc::Hand;
 use nv_base::Fault;
 use nv_calls::{Call, Commit, CommitStep};
 use std::alloc::{AllocError, Global};
-use std::mem;
 
 impl World {
     /// One event. A `Go` makes one step of the actor's call.
@@ -255,17 +254,11 @@ fn handover_step(
     ensures rest { (r : machine.Running) → ShowsCall reserved.old running.old r
         → LeavesOthers actor r shared.old shared.new }
 {
-    let empty = Reservation::Hand(Hand::new(alloc, &shared.geometry));
-    let (after, turn) = match mem::replace(reserved, empty) {
-        Reservation::Hand(hand) => ready(alloc, shared, hand, running),
-        Reservation::Ready(held) => enter(shared, held, running, actor),
-        Reservation::Commit(commit) => {
-            let (hand, turn) = leave(shared, commit, running);
-            (Reservation::Hand(hand), turn)
-        }
-    };
-    mem::replace(reserved, after).dismantle();
-    turn
+    match reserved.take(alloc, &shared.geometry) {
+        Reservation::Hand(hand) => ready(alloc, shared, hand, running, reserved),
+        Reservation::Ready(held) => enter(shared, held, running, actor, reserved),
+        Reservation::Commit(commit) => leave(shared, commit, running, reserved),
+    }
 }
 
 /// A step of a commit that is not over.

@@ -14,11 +14,15 @@ use crate::reservation::Reservation;
 use crate::running::Running;
 use crate::shared::Shared;
 use crate::turn::Turn;
-use nv_alloc::Hand;
 use nv_calls::{Commit, CommitStep};
 
-/// Frees the commit lock. The call turns to its last steps, with what its commit left in the hand.
-pub(crate) fn leave(shared: &mut Shared, commit: Commit, running: &mut Running) -> (Hand, Turn)
+/// Frees the commit lock. The call turns to its last steps, and the actor has what its commit left in the hand.
+pub(crate) fn leave(
+    shared: &mut Shared,
+    commit: Commit,
+    running: &mut Running,
+    reserved: &mut Reservation,
+) -> Turn
     requires home { AreHome shared.old }
     requires device { IsOfDevice shared.old.geometry.numbers commit.hand }
     requires rooms { HasRooms shared.old (Reservation.Commit commit) running.old }
@@ -26,16 +30,18 @@ pub(crate) fn leave(shared: &mut Shared, commit: Commit, running: &mut Running) 
     ensures turn { (told : GhostCall) → OwesAt running.old.ending running.old told
         → leave_turn (shared_of shared.old) (hand_in commit)
         (shown_at machine.Leave told running.old)
-        ≡ turn_of result.1 (shared_of shared.new) (hand_of result.0) (shown told running.new) }
+        ≡ turn_of result (shared_of shared.new) (hand_of commit.hand) (shown told running.new) }
+    ensures left { reserved.new ≡ Reservation.Hand commit.hand }
     ensures request { KeepsRequest running.old running.new }
-    ensures goes { result.1 ≢ Turn.Waits }
+    ensures goes { result ≢ Turn.Waits }
     ensures slots { IsNoDrain running.old.ending → running.new.slots ≡ running.old.slots }
-    ensures rooms { HasRoomsAfter result.1 shared.new (Reservation.Hand result.0) running.new }
+    ensures rooms { HasRoomsAfter result shared.new (Reservation.Hand commit.hand) running.new }
     ensures rest { shared.new ≡ record shared.old { holder = None } }
 {
     shared.holder = None;
     let hand = commit.into_hand();
     let ending = running.ending;
     let turn = end(shared, &hand, running, ending);
-    (hand, turn)
+    reserved.put(Reservation::Hand(hand));
+    turn
 }

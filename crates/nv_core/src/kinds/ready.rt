@@ -25,13 +25,15 @@ use nv_calls::Plan;
 use std::alloc::Global;
 use std::mem;
 
-/// Makes the call ready: every growth of its commit is made, and its fresh blocks have their bytes.
+/// Makes the call ready: every growth of its commit is made, and its fresh blocks have their bytes. The actor has what is
+/// ready then, or its hand where that is refused.
 pub(crate) fn ready(
     alloc: Global,
     shared: &mut Shared,
     hand: Hand,
     running: &mut Running,
-) -> (Reservation, Turn)
+    reserved: &mut Reservation,
+) -> Turn
     requires limits { IsWithinLimits shared.old.geometry.numbers }
     requires home { AreHome shared.old }
     requires device { IsOfDevice shared.old.geometry.numbers hand }
@@ -41,18 +43,18 @@ pub(crate) fn ready(
     ensures turn { (told : GhostCall) → IsGhostCallOf running.old told
         → IsEither (λ granted. ready_turn granted shared.old.geometry.numbers.block
         (shared_of shared.old) (hand_of hand) (shown told running.old))
-        (turn_of result.1 (shared_of shared.new) (held_by result.0)
-        (shown_by result.0 (planned_by result.0 shared.old hand running.old told) running.new)) }
+        (turn_of result (shared_of shared.new) (held_by reserved.new)
+        (shown_by reserved.new (planned_by reserved.new shared.old hand running.old told) running.new)) }
     ensures told { (told : GhostCall) → IsGhostCallOf running.old told → IsGhostCallOf running.new told }
     ensures plans { (told : GhostCall) → IsGhostCallOf running.old told
-        → IsReservationOf (slots_in running.old.slots) result.0
-        (planned_by result.0 shared.old hand running.old told) }
+        → IsReservationOf (slots_in running.old.slots) reserved.new
+        (planned_by reserved.new shared.old hand running.old told) }
     ensures placed { (told : GhostCall) → IsGhostCallOf running.old told
-        → IsPlacedBy (slots_in running.old.slots) result.0
-        (planned_by result.0 shared.old hand running.old told) }
+        → IsPlacedBy (slots_in running.old.slots) reserved.new
+        (planned_by reserved.new shared.old hand running.old told) }
     ensures slots { running.new.slots ≡ running.old.slots }
-    ensures goes { result.1 ≢ Turn.Waits }
-    ensures rooms { HasRoomsAfter result.1 shared.new result.0 running.new }
+    ensures goes { result ≢ Turn.Waits }
+    ensures rooms { HasRoomsAfter result shared.new reserved.new running.new }
     ensures rest { LeavesCells (slots_in running.old.slots) shared.old shared.new }
     ensures book { shared.new.book ≡ shared.old.book }
 {
@@ -68,10 +70,14 @@ pub(crate) fn ready(
         text.as_slice(),
     );
     match ready {
-        Ok(ready) => (Reservation::Ready(ready), Turn::Moves),
+        Ok(ready) => {
+            reserved.put(Reservation::Ready(ready));
+            Turn::Moves
+        }
         Err((fault, hand)) => {
             let turn = refuse(shared, &hand, running, fault);
-            (Reservation::Hand(hand), turn)
+            reserved.put(Reservation::Hand(hand));
+            turn
         }
     }
 }

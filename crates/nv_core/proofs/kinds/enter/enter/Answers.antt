@@ -17,29 +17,29 @@ use Rattle.nv_core.proofs.kinds.enter.enter.Goals as goal
 
 pub returns-in-Ok-clause-turn : goal.returns-in-Ok-clause-turn
 returns-in-Ok-clause-turn c told is =
-    inl (enters c.args.shared.now c.args.ready c.args.running.now c.args.actor c.need.result c.enter.new.self c.begin-commit.result told
+    rw c.put-in-Ok.ensures (inl (enters c.args.shared.now c.args.ready c.args.running.now c.args.actor c.need.result c.enter.new.self c.begin-commit.result told
     (none_there c.args.shared.now.holder (sym c.is_some.ensures ∙ c.if-is_some.false))
     (last_below c.enter.result c.args.shared.now.book.state.commit c.commit-last.result c.in-Ok._fixed c.in-Ok.is
     c.commit-last.ensures.value
     c.commit-last.ensures.fits c.enter.ensures.limit.1)
-    c.in-Ok.ensures.ok c.begin-commit.ensures is)
+    c.in-Ok.ensures.ok c.begin-commit.ensures is))
 
 pub returns-in-Ok-clause-told : goal.returns-in-Ok-clause-told
 returns-in-Ok-clause-told c told is =
-    begun_commit c.args.shared.now c.args.ready c.args.running.now c.args.actor c.need.result c.enter.new.self c.begin-commit.result told
-    c.in-Ok.ensures.ok c.begin-commit.ensures is
+    rw c.put-in-Ok.ensures (begun_commit c.args.shared.now c.args.ready c.args.running.now c.args.actor c.need.result c.enter.new.self
+    c.begin-commit.result told c.in-Ok.ensures.ok c.begin-commit.ensures is)
 
 pub returns-in-Err-clause-turn : goal.returns-in-Err-clause-turn
 returns-in-Err-clause-turn c told is =
-    refuses c.args.shared.now c.args.ready.hand c.args.running.now c.args.actor c.enter.new.self c.into_hand-hand.result told c.in-Err.fault
+    rw c.put-in-Err.ensures (refuses c.args.shared.now c.args.ready.hand c.args.running.now c.args.actor c.enter.new.self c.into_hand-hand.result told c.in-Err.fault
     _ (none_there c.args.shared.now.holder (sym c.is_some.ensures ∙ c.if-is_some.false)) c.in-Err.ensures.same c.into_hand-hand.ensures
     (c.refuse-turn.ensures.turn told)
     (told_why c.enter.result c.in-Err.fault c.args.shared.now.book.state.commit c.commit-last.result c.in-Err.is c.enter.ensures.limit.0
-    c.enter.ensures.limit.1 c.in-Err.ensures.err c.commit-last.ensures.value c.commit-last.ensures.fits)
+    c.enter.ensures.limit.1 c.in-Err.ensures.err c.commit-last.ensures.value c.commit-last.ensures.fits))
 
 pub returns-in-Ok-clause-placed : goal.returns-in-Ok-clause-placed
 returns-in-Ok-clause-placed c told is plan =
-    let slots = slots_in c.args.running.now.slots in (
+    let slots = slots_in c.args.running.now.slots in rw c.put-in-Ok.ensures (
       plan,
       subst (λ (x : CommitValue). IsPlaceOf slots x (entered c.args.shared.now.book.state told)) (sym c.begin-commit.ensures)
           (begin_place slots c.args.ready (stamp_of c.enter.new.self.state) told c.args.running.now.slots.rising is plan),
@@ -51,10 +51,10 @@ returns-in-Ok-clause-rooms c =
     (last_below c.enter.result c.args.shared.now.book.state.commit c.commit-last.result c.in-Ok._fixed c.in-Ok.is
     c.commit-last.ensures.value
     c.commit-last.ensures.fits c.enter.ensures.limit.1) in
-    entered_rooms c.args.shared.now c.args.running.now c.args.ready c.args.actor c.need.result c.enter.new.self c.begin-commit.result
-    c.requires.rooms c.need.ensures
+    rw c.put-in-Ok.ensures (entered_rooms c.args.shared.now c.args.running.now c.args.ready c.args.actor c.need.result c.enter.new.self
+    c.begin-commit.result c.requires.rooms c.need.ensures
     (c.requires.given (none_there c.args.shared.now.holder (sym c.is_some.ensures ∙ c.if-is_some.false)) below)
-    c.in-Ok.ensures.ok c.begin-commit.ensures
+    c.in-Ok.ensures.ok c.begin-commit.ensures)
 
 pub refuse-turn-requires-clause-call : goal.refuse-turn-requires-clause-call
 refuse-turn-requires-clause-call c = given_ends c.args.running.now _ c.requires.rooms.0 (λ is. cc)

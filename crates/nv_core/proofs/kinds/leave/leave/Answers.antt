@@ -3,7 +3,7 @@ use Rattle.nv_alloc.specs.declared.hand.Hand.{Hand}
 use Rattle.nv_cell.specs.declared.killed.KilledPart.{KilledPart}
 use Rattle.nv_machine.specs.Kinds.{end_turn}
 use Rattle.nv_machine.specs.World as machine
-use Rattle.nv_core.specs.Shown.{ending_of, hand_of, hand_with, killed_in, shared_of, shown, shown_at, slots_in}
+use Rattle.nv_core.specs.Shown.{ending_of, hand_of, hand_with, killed_in, shared_of, shown, shown_at, slots_in, turn_of}
 use Rattle.nv_core.specs.Rooms.{IsHandOf}
 use Rattle.nv_core.proofs.Enters.{given_ends}
 use Rattle.nv_core.proofs.Stages.{leave_due}
@@ -25,6 +25,7 @@ returns-clause-turn c told owes =
     ∙ end_anywhere (slots_in running.slots) (ending_of running.ending) s (hand_of c.into_hand-hand.result)
     (shown told running) machine.Leave
     ∙ c.end-turn.ensures.turn told owes
+    ∙ ap (λ (h : Hand). turn_of c.end-turn.result s (hand_of h) (shown told c.end-turn.new.running)) c.into_hand-hand.ensures
 
 pub end-turn-requires-clause-call : goal.end-turn-requires-clause-call
 end-turn-requires-clause-call c =

@@ -43,10 +43,10 @@ returns-in-Ok-clause-turn c told is =
     ∙ ap (λ (d : Call). record (hand_of hand) {
       blocks = filled (fresh_pages shared.geometry.numbers.block (copies s) d) hand.«data».blocks;
     }) (sym of.0) in
-    inl (ap₂ (λ (t : machine.Shared) (h : machine.HandState). machine.Moves t h (record r {
+    rw c.put.ensures (inl (ap₂ (λ (t : machine.Shared) (h : machine.HandState). machine.Moves t h (record r {
       plan = plan_by shared.geometry.numbers.block s (hand_of hand) r;
       next = machine.Enter;
-    })) (sym (shared_same shared slots c.ready_in-ready.new.cells gives.count gives.cells gives.others)) (sym fill))
+    })) (sym (shared_same shared slots c.ready_in-ready.new.cells gives.count gives.cells gives.others)) (sym fill)))
 
 pub returns-in-Ok-clause-plans : goal.returns-in-Ok-clause-plans
 returns-in-Ok-clause-plans c told is =
@@ -55,11 +55,11 @@ returns-in-Ok-clause-plans c told is =
     let has = at_ready shared hand running c.in-Change.plan c.in-Change.text c.requires.next (sym c.in-Change.ensures.value)
     c.requires.rooms in
     let gives = rw c.deref_mut.ensures.value at c.in-Ok.ensures in
-    plans_ready slots shared.cells.items (lent_cells slots c.ready_in-ready.new.cells) hand u c.in-Ok.ready
+    rw c.put.ensures (plans_ready slots shared.cells.items (lent_cells slots c.ready_in-ready.new.cells) hand u c.in-Ok.ready
     (plan_by shared.geometry.numbers.block (shared_of shared) (hand_of hand) (shown told running))
     (can_ready shared slots hand running.looked u c.requires.limits c.requires.device c.requires.rooms.1 has.1.0 has.1.1.blocks)
     gives.ok
-    (plan_ready shared hand running told c.in-Change.plan c.in-Change.text (sym c.in-Change.ensures.value) is has.0 has.1.0)
+    (plan_ready shared hand running told c.in-Change.plan c.in-Change.text (sym c.in-Change.ensures.value) is has.0 has.1.0))
 
 pub returns-in-Ok-clause-placed : goal.returns-in-Ok-clause-placed
 returns-in-Ok-clause-placed c told is =
@@ -67,10 +67,10 @@ returns-in-Ok-clause-placed c told is =
     let slots = slots_in running.slots in let u = c.in-Change.plan.update in
     let has = at_ready shared hand running c.in-Change.plan c.in-Change.text c.requires.next (sym c.in-Change.ensures.value)
     c.requires.rooms in
-    placed_ready slots shared.cells.items hand u
+    rw c.put.ensures (placed_ready slots shared.cells.items hand u
     (plan_by shared.geometry.numbers.block (shared_of shared) (hand_of hand) (shown told running))
     (can_ready shared slots hand running.looked u c.requires.limits c.requires.device c.requires.rooms.1 has.1.0 has.1.1.blocks)
-    (plan_ready shared hand running told c.in-Change.plan c.in-Change.text (sym c.in-Change.ensures.value) is has.0 has.1.0)
+    (plan_ready shared hand running told c.in-Change.plan c.in-Change.text (sym c.in-Change.ensures.value) is has.0 has.1.0))
 
 pub returns-in-Ok-clause-rooms : goal.returns-in-Ok-clause-rooms
 returns-in-Ok-clause-rooms c =
@@ -86,7 +86,7 @@ returns-in-Ok-clause-rooms c =
     (subst (λ (xs : List CellValue). HaveNoLessRoom lent (lent_cells slots xs)) whole gives.cells)
     (subst (λ (xs : List CellValue). IsReadyBy lent hand u (lent_cells slots xs) c.in-Ok.ready) whole gives.ok)
     c.requires.rooms.1 refl c.requires.can.answers in
-    (c.in-Change.ensures.after, rooms.1, rooms.2, rooms.3)
+    rw c.put.ensures (c.in-Change.ensures.after, rooms.1, rooms.2, rooms.3)
 
 pub returns-in-Ok-clause-rest : goal.returns-in-Ok-clause-rest
 returns-in-Ok-clause-rest c =
@@ -100,10 +100,10 @@ returns-clause-turn c told is =
     let new = c.ready_in-ready.new.cells in
     let gives = rw c.deref_mut.ensures.value at c.in-Err.ensures in
     let same = shared_same shared slots new gives.count gives.cells gives.others in
-    inr (ap (λ (t : machine.Shared). refuse out_of_memory t (hand_of c.args.hand) r) (sym same)
+    rw c.put-in-Err.ensures (inr (ap (λ (t : machine.Shared). refuse out_of_memory t (hand_of c.args.hand) r) (sym same)
     ∙ ap₂ (λ (h : machine.HandState) (fault : Fault). refuse fault (shared_of (record shared { cells = with_items shared.cells new })) h r)
     (sym (ap hand_of gives.err.1.same)) (sym gives.err.0)
-    ∙ c.refuse-turn.ensures.turn told)
+    ∙ c.refuse-turn.ensures.turn told))
 
 pub returns-clause-rest : goal.returns-clause-rest
 returns-clause-rest c =
