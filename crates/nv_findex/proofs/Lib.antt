@@ -4,3 +4,5 @@ pub mod Whole
 pub mod Counts
 pub mod Parts
 pub mod Put
+pub mod Rows
+pub mod Moves

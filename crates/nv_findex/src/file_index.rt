@@ -4,6 +4,7 @@ ghost use Rattle.std.specs.Prelude.{◌≡◌, ℕ, ◌+◌, ◌*◌, ◌<◌, �
 ghost use Rattle.nv_base.specs.Memory.{out_of_memory};
 ghost use Rattle.nv_findex.specs.Pages.{ref_at, run_count_of, present_from, IsRun, IsRunFrom, AreWithin, SetsRun, CutsFrom, IsNextFrom};
 
+use crate::run_rows::RunRows;
 use crate::{PageRef, PageRun, runs};
 use nv_base::limits::FILE_PAGES;
 use nv_base::{EntryId, Fault};
@@ -18,20 +19,20 @@ use std::marker::Model;
 /// about evenly, and the logarithm of the runs at most.
 #[derive(Debug, Drop)]
 pub struct FileIndex {
-    runs: Vec<PageRun>,
+    runs: RunRows,
 }
 
 impl Model for FileIndex {
-    ghost use Rattle.std.specs.Prelude.{◌-◌, vec_len, vec_capacity};
+    ghost use Rattle.std.specs.Prelude.{◌-◌, ◌≤◌, length};
     ghost use Rattle.nv_findex.specs.Pages.{PageMap};
     ghost use Rattle.nv_findex.specs.Runs.{AreRuns};
 
     ghost Value = { PageMap };
 
     ghost view = { λ i.
-        record { pages = i.runs.items; room = vec_capacity i.runs - vec_len i.runs } };
+        record { pages = i.runs.items; room = i.runs.capacity - length i.runs.items } };
 
-    ghost invariant = { λ i. AreRuns i.runs.items };
+    ghost invariant = { λ i. AreRuns i.runs.items × (length i.runs.items ≤ i.runs.capacity) };
 }
 
 impl FileIndex {
@@ -41,7 +42,7 @@ impl FileIndex {
         ensures { result ≡ record { pages = []; room = 0 } }
     {
         FileIndex {
-            runs: Vec::new(alloc),
+            runs: RunRows::new(alloc),
         }
     }
 
@@ -141,8 +142,9 @@ impl FileIndex {
     /// Sets the pages `first` to `first + len - 1` to places 0 to `len - 1` of an entry, whether or not they
     /// were present. It takes no memory, and as much room as the index has more runs after it.
     ///
-    /// Costs two look-ups, of which the second begins where the first one ended, and one move of the runs behind
-    /// where there are more or fewer runs than before: an overwrite of just one run moves nothing.
+    /// Costs two look-ups, of which the second begins where the first one ended, and for each run that there is more or
+    /// less than before a move of 128 runs at most and a step for each 64 runs behind: an overwrite of just one run
+    /// moves nothing.
     #[tactic(auto, using(crate::proofs::Counts::run_count_is))]
     pub fn set_run(&mut self, first: u32, len: u32, entry: EntryId)
         requires some { 0 < len }

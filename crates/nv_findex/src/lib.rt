@@ -4,6 +4,7 @@
 mod file_index;
 mod page_ref;
 mod page_run;
+mod run_rows;
 mod runs;
 
 pub use file_index::FileIndex;

@@ -261,10 +261,17 @@ fn assert_same_at(
     }
 }
 
-fn assert_same(rt: &impl Abort, alloc: Global, index: &FileIndex, slots: &[Option<PageRef>]) {
+/// The pages that are looked at are those below a bound, and those near the end.
+fn assert_same(
+    rt: &impl Abort,
+    alloc: Global,
+    index: &FileIndex,
+    slots: &[Option<PageRef>],
+    bound: u32,
+) {
     let runs = runs_of(rt, alloc, slots);
     same(rt, index.run_count(), runs.len());
-    for page in 0..100 {
+    for page in 0..bound {
         assert_same_at(rt, index, &runs, slots, page);
     }
     for page in 65_530..65_540 {
@@ -296,9 +303,30 @@ fn runs_and_slots_answer_alike(rt: HostRuntime) {
             fill(&mut slots, first, len, &id(call / 5, 0));
         }
         if call % 10 == 9 {
-            assert_same(&rt, rt.alloc(), &index, &slots);
+            assert_same(&rt, rt.alloc(), &index, &slots, 100);
         }
     }
+}
+
+/// The index has runs for several rows, where writes split runs and cover others.
+#[test]
+fn rows_and_slots_answer_alike(rt: HostRuntime) {
+    let mut index = FileIndex::new(rt.alloc());
+    let mut slots = no_pages(&rt, rt.alloc());
+    let mut state: u32 = 1;
+    for call in 0..1_200u64 {
+        state = state.wrapping_mul(1_103_515_245).wrapping_add(12_345);
+        let (first, len) = ((state >> 8) % 700, 1 + (state >> 20) % 3);
+        write(&rt, &mut index, first, len, id(call, 0));
+        fill(&mut slots, first, len, &id(call, 0));
+        if call % 300 == 299 {
+            assert_same(&rt, rt.alloc(), &index, &slots, 710);
+        }
+    }
+    assert!(rt; 256 < index.run_count());
+    index.cut_from(300);
+    clear(&mut slots, 300);
+    assert_same(&rt, rt.alloc(), &index, &slots, 710);
 }
 
 #[test]

@@ -1,0 +1,361 @@
+-- Lists in rows: the row that a place is in, and what is behind the full rows.
+use Rattle.std.proofs.Common.{◌≡◌, ℕ, zero, suc, ◌+◌, ◌-◌, ◌*◌, ◌/◌, ◌%◌, ◌<◌, ◌≤◌, Bool, true, false, cond, List, [], ◌∷◌, ◌++◌, length, take, drop, set, get_or, nat_lt, refl, ap, sym, ◌∙◌, arith, subst}
+use Rattle.std.specs.List.{insert}
+use Rattle.std.proofs.lemmas.Bool.{ltb-true, ltb-false}
+use Rattle.std.proofs.lemmas.List.{append-nil, append_assoc, length-append, length-take, length-drop, length-set, get_or_append_left, get_or-append_right, get_or-take, get_or-drop, get_or-set_same, set-append_left, set-append_right, set-set, set-get_or, take-append-drop, take-take, take_all, take-append-le, take-set, take-set-le, drop-set, take_more_set, drop-take, drop-drop, drop_all, drop-append-le, drop-set-lt, drop-set-add, drop_more, take_more}
+use Rattle.std.proofs.lemmas.List.Edits.{insert-append_left, insert-append_right, insert_end}
+use Rattle.nv_findex.specs.Rows.{turned, in_rows, AreStarts, slot}
+
+pub length_turned : {A : Type 0} (s : ℕ) (xs : List A) → length (turned s xs) ≡ length xs
+length_turned s xs = simp (length-append, length-drop, length-take) (omega arith)
+
+pub length_rows : {A : Type 0} (ss : List ℕ) (xs : List A) → length (in_rows ss xs) ≡ length xs
+unfolding in_rows
+length_rows [] xs = refl
+length_rows (s ∷ ss) xs =
+    length-append (turned s (take 64 xs)) _ ∙ omega (arith, length_turned s (take 64 xs), length_rows ss (drop 64 xs), length-take 64 xs, length-drop 64 xs)
+
+-- there are as many starts as full rows, and each is in its row
+pub starts_count : (ss : List ℕ) (len : ℕ) → AreStarts ss len → (length ss * 64 ≤ len) × (len < length ss * 64 + 64)
+unfolding AreStarts
+starts_count [] len h = (omega arith, omega arith)
+starts_count (s ∷ ss) len h = let rest = starts_count ss (len - 64) h.2 in (omega (arith, rest.0, h.1), omega (arith, rest.1, h.1))
+
+-- a row that is within the list is a full one
+pub is_row : {A : Type 0} (ss : List ℕ) (xs items : List A) (q : ℕ) → AreStarts ss (length xs) → in_rows ss xs ≡ items
+    → q * 64 + 64 ≤ length items → (q < length ss) × (q * 64 + 64 ≤ length xs)
+is_row ss xs items q h is le =
+    let count = starts_count ss (length xs) h in
+    let len = sym (ap length is) ∙ length_rows ss xs in
+    (omega (arith, len, count.1), omega (arith, len))
+
+pub start_low : (ss : List ℕ) (len q : ℕ) → AreStarts ss len → get_or ss q 0 < 64
+unfolding AreStarts
+start_low [] len q h = omega arith
+start_low (s ∷ ss) len zero h = h.0
+start_low (s ∷ ss) len (suc q) h = start_low ss (len - 64) q h.2
+
+pub starts_set : (ss : List ℕ) (len q v : ℕ) → AreStarts ss len → v < 64 → AreStarts (set ss q v) len
+unfolding AreStarts
+starts_set [] len q v h low = h
+starts_set (s ∷ ss) len zero v h low = (low, h.1, h.2)
+starts_set (s ∷ ss) len (suc q) v h low = (h.0, h.1, starts_set ss (len - 64) q v h.2 low)
+
+pub starts_take : (ss : List ℕ) (len q n : ℕ) → AreStarts ss len → q ≤ length ss → q * 64 ≤ n → n < q * 64 + 64 → AreStarts (take q ss) n
+unfolding AreStarts
+starts_take ss len zero n h le low high = omega arith
+starts_take [] len (suc q) n h le low high = absurd (omega arith)
+starts_take (s ∷ ss) len (suc q) n h le low high =
+    (h.0, omega arith, starts_take ss (len - 64) q (n - 64) h.2 (omega arith) (omega arith) (omega arith))
+
+pub starts_stay : (ss : List ℕ) (len n : ℕ) → AreStarts ss len → length ss * 64 ≤ n → n < length ss * 64 + 64 → AreStarts ss n
+starts_stay ss len n h low high =
+    subst (λ (l : List ℕ). AreStarts l n) (take_all (length ss) ss (omega arith)) (starts_take ss len (length ss) n h (omega arith) low high)
+
+pub starts_push : (ss : List ℕ) (len n : ℕ) → AreStarts ss len → n ≡ length ss * 64 + 64 → AreStarts (ss ++ 0 ∷ []) n
+unfolding AreStarts
+starts_push [] len n h e = (omega arith, omega arith, omega arith)
+starts_push (s ∷ ss) len n h e = (h.0, omega arith, starts_push ss (len - 64) (n - 64) h.2 (omega arith))
+
+-- a list in rows as what is before a row, the row and what is behind it
+abbrev row_front : {A : Type 0} → List ℕ → ℕ → ℕ → List A → List A
+row_front ss q a xs = in_rows (take q ss) (take a xs)
+
+abbrev row_at : {A : Type 0} → ℕ → List A → List A
+row_at a xs = take 64 (drop a xs)
+
+abbrev row_back : {A : Type 0} → List ℕ → ℕ → ℕ → List A → List A
+row_back ss q a xs = in_rows (drop (suc q) ss) (drop (a + 64) xs)
+
+split_row : {A : Type 0} (ss : List ℕ) (q a : ℕ) (xs : List A) → a ≡ q * 64 → q < length ss
+    → in_rows ss xs ≡ row_front ss q a xs ++ (turned (get_or ss q 0) (row_at a xs) ++ row_back ss q a xs)
+unfolding in_rows
+split_row [] q a xs e lt = absurd (omega arith)
+split_row (s ∷ ss) zero a xs e lt = let none : a ≡ 0 = omega arith in rw none refl
+split_row (s ∷ ss) (suc q) a xs e lt =
+    let low : 64 ≤ a = omega arith in
+    let front : drop 64 (take a xs) ≡ take (a - 64) (drop 64 xs) =
+    ap (λ n. drop 64 (take n xs)) (omega arith) ∙ drop-take 64 (a - 64) xs in
+    let row : drop a xs ≡ drop (a - 64) (drop 64 xs) = sym (drop-drop (a - 64) 64 xs ∙ ap (λ n. drop n xs) (omega arith)) in
+    let back : drop (a + 64) xs ≡ drop (a - 64 + 64) (drop 64 xs) = sym (drop-drop (a - 64 + 64) 64 xs ∙ ap (λ n. drop n xs) (omega arith)) in
+    rw (take-take 64 a xs low, front, row, back)
+    (ap (λ l. turned s (take 64 xs) ++ l) (split_row ss q (a - 64) (drop 64 xs) (omega arith) (omega arith))
+    ∙ sym (append_assoc (turned s (take 64 xs)) (row_front ss q (a - 64) (drop 64 xs)) _))
+
+take_past : {A : Type 0} (n : ℕ) (p q : List A) (m : ℕ) → length p ≡ m → m ≤ n → take n (p ++ q) ≡ p ++ take (n - m) q
+take_past n [] q m e le = let none : n ≡ n - m = omega arith in ap (λ k. take k q) none
+take_past zero (x ∷ p) q m e le = absurd (omega arith)
+take_past (suc n) (x ∷ p) q m e le =
+    let same : n - (m - 1) ≡ suc n - m = omega arith in
+    ap (λ l. x ∷ l) (take_past n p q (m - 1) (omega arith) (omega arith) ∙ ap (λ k. p ++ take k q) same)
+
+take_set_in : {A : Type 0} (n : ℕ) (xs : List A) (i : ℕ) (x : A) → take n (set xs i x) ≡ set (take n xs) i x
+take_set_in zero xs i x = refl
+take_set_in (suc n) [] i x = refl
+take_set_in (suc n) (y ∷ ys) zero x = refl
+take_set_in (suc n) (y ∷ ys) (suc i) x = ap (λ l. y ∷ l) (take_set_in n ys i x)
+
+-- the same with another start of the row and another item in it
+with_row : {A : Type 0} (ss : List ℕ) (q a v k : ℕ) (xs : List A) (x : A) → a ≡ q * 64 → q < length ss → k < 64
+    → in_rows (set ss q v) (set xs (a + k) x) ≡ row_front ss q a xs ++ (turned v (set (row_at a xs) k x) ++ row_back ss q a xs)
+with_row ss q a v k xs x e lt in' =
+    split_row (set ss q v) q a (set xs (a + k) x) e (omega (arith, length-set ss q v))
+    ∙ rw (
+      take-set ss q v,
+      take-set-le a xs (a + k) x (omega arith),
+      get_or-set_same ss q v 0 lt,
+      drop-set-add a xs k x,
+      take_set_in 64 (drop a xs) k x,
+      drop-set-lt (suc q) ss q v (omega arith),
+      drop-set-lt (a + 64) xs (a + k) x (omega arith),
+    ) refl
+
+length_front : {A : Type 0} (ss : List ℕ) (q a : ℕ) (xs : List A) → a ≤ length xs → length (row_front ss q a xs) ≡ a
+length_front ss q a xs le = length_rows (take q ss) (take a xs) ∙ omega (arith, length-take a xs)
+
+length_row : {A : Type 0} (a : ℕ) (xs : List A) → a + 64 ≤ length xs → length (row_at a xs) ≡ 64
+length_row a xs le = omega (arith, length-take 64 (drop a xs), length-drop a xs)
+
+-- an item of a ring
+ring_get : {A : Type 0} (s r : ℕ) (xs : List A) (d : A) → length xs ≡ 64 → s < 64 → r < 64
+    → get_or (turned s xs) r d ≡ get_or xs ((s + r) % 64) d
+ring_get s r xs d e low lt = go (nat_lt (s + r) 64) refl where
+  go : (b : Bool) → nat_lt (s + r) 64 ≡ b → get_or (turned s xs) r d ≡ get_or xs ((s + r) % 64) d
+  go true t =
+      let here : s + r ≡ (s + r) % 64 = omega (arith, ltb-true _ _ t) in
+      get_or_append_left (drop s xs) (take s xs) d r (omega (arith, length-drop s xs, ltb-true _ _ t)) ∙ get_or-drop s xs r d
+      ∙ ap (λ k. get_or xs k d) here
+  go false t =
+      let here : r - (64 - s) ≡ (s + r) % 64 = omega (arith, ltb-false _ _ t) in
+      get_or-append_right (drop s xs) (take s xs) (64 - s) r d (omega (arith, length-drop s xs)) (omega (arith, ltb-false _ _ t))
+      ∙ get_or-take s xs (r - (64 - s)) d (omega (arith, ltb-false _ _ t)) ∙ ap (λ k. get_or xs k d) here
+
+ring_set : {A : Type 0} (s r : ℕ) (xs : List A) (x : A) → length xs ≡ 64 → s < 64 → r < 64
+    → turned s (set xs ((s + r) % 64) x) ≡ set (turned s xs) r x
+ring_set s r xs x e low lt = go (nat_lt (s + r) 64) refl where
+  go : (b : Bool) → nat_lt (s + r) 64 ≡ b → turned s (set xs ((s + r) % 64) x) ≡ set (turned s xs) r x
+  go true t =
+      let here : (s + r) % 64 ≡ s + r = omega (arith, ltb-true _ _ t) in
+      rw (here, drop-set-add s xs r x, take-set-le s xs (s + r) x (omega arith))
+      (sym (set-append_left (drop s xs) (take s xs) r x (omega (arith, length-drop s xs, ltb-true _ _ t))))
+  go false t =
+      let here : (s + r) % 64 ≡ r - (64 - s) = omega (arith, ltb-false _ _ t) in
+      rw (here, drop-set-lt s xs (r - (64 - s)) x (omega (arith, ltb-false _ _ t)), take_set_in s xs (r - (64 - s)) x)
+      (sym (set-append_right (drop s xs) (take s xs) (64 - s) r x (omega (arith, length-drop s xs)) (omega (arith, ltb-false _ _ t))))
+
+-- a ring whose first item goes out and in whose place another comes in behind
+ring_next : {A : Type 0} (s : ℕ) (xs : List A) → length xs ≡ 64 → s < 64 → turned ((s + 1) % 64) xs ≡ drop (s + 1) xs ++ take (s + 1) xs
+ring_next s xs e low = go (nat_lt (s + 1) 64) refl where
+  go : (b : Bool) → nat_lt (s + 1) 64 ≡ b → turned ((s + 1) % 64) xs ≡ drop (s + 1) xs ++ take (s + 1) xs
+  go true t = let here : (s + 1) % 64 ≡ s + 1 = omega (arith, ltb-true _ _ t) in rw here refl
+  go false t =
+      let here : (s + 1) % 64 ≡ 0 = omega (arith, ltb-false _ _ t) in
+      rw (here, drop_all (s + 1) xs (omega (arith, ltb-false _ _ t)), take_all (s + 1) xs (omega (arith, ltb-false _ _ t))) (append-nil xs)
+
+ring_pull : {A : Type 0} (s : ℕ) (xs : List A) (c d : A) → length xs ≡ 64 → s < 64
+    → turned s xs ++ c ∷ [] ≡ get_or xs s d ∷ turned ((s + 1) % 64) (set xs s c)
+ring_pull s xs c d e low =
+    rw (
+      ring_next s (set xs s c) (length-set xs s c ∙ e) low,
+      drop-set-lt (s + 1) xs s c (omega arith),
+      take_more_set xs s c (omega arith),
+      drop_more xs s d (omega arith),
+    ) (ap (λ l. get_or xs s d ∷ l) (append_assoc (drop (s + 1) xs) (take s xs) (c ∷ [])))
+
+ring_pass : {A : Type 0} (s t : ℕ) (xs : List A) (c d : A) → length xs ≡ 64 → s < 64 → t ≡ (s + 63) % 64
+    → c ∷ turned s xs ≡ turned t (set xs t c) ++ get_or xs t d ∷ []
+ring_pass s t xs c d e low is =
+    let in' : t < 64 = omega arith in
+    let back : (t + 1) % 64 ≡ s = omega arith in
+    sym (ring_pull t (set xs t c) (get_or xs t d) d (length-set xs t c ∙ e) in'
+    ∙ rw (get_or-set_same xs t c d (omega arith), set-set xs t c (get_or xs t d), set-get_or xs t d, back) refl)
+
+-- inserts before and behind the middle of three parts
+insert_before : {A : Type 0} (a : ℕ) (f t b : List A) (c : A) → length f ≡ a → insert (f ++ (t ++ b)) a c ≡ f ++ ((c ∷ t) ++ b)
+insert_before a f t b c e =
+    let none : a - a ≡ 0 = omega arith in
+    insert-append_right f (t ++ b) a a c e (omega arith) ∙ rw none refl
+
+insert_behind : {A : Type 0} (a : ℕ) (f t b : List A) (c : A) → length f ≡ a → length t ≡ 64
+    → insert (f ++ (t ++ b)) (a + 64) c ≡ f ++ ((t ++ c ∷ []) ++ b)
+insert_behind a f t b c e k =
+    let all : a + 64 - a ≡ length t = omega arith in
+    insert-append_right f (t ++ b) a (a + 64) c e (omega arith)
+    ∙ rw (all, insert-append_left t b (length t) c (omega arith), insert_end t c) refl
+
+module _ {A : Type 0} (ss : List ℕ) (q a : ℕ) (xs : List A) (h : AreStarts ss (length xs)) (lt : q < length ss) (e : a ≡ q * 64) where
+  row_fits : a + 64 ≤ length xs
+  row_fits = omega (arith, (starts_count ss (length xs) h).0)
+
+  row_item : (k : ℕ) (d : A) → k < 64 → get_or (row_at a xs) k d ≡ get_or xs (a + k) d
+  row_item k d in' = get_or-take 64 (drop a xs) k d in' ∙ get_or-drop a xs k d
+
+  pub row_get : (r : ℕ) (d : A) → r < 64 → get_or (in_rows ss xs) (a + r) d ≡ get_or xs (a + (get_or ss q 0 + r) % 64) d
+  row_get r d in' =
+      let fits = row_fits in
+      let here : a + r - a ≡ r = omega arith in
+      let ring = turned (get_or ss q 0) (row_at a xs) in
+      ap (λ (l : List A). get_or l (a + r) d) (split_row ss q a xs e lt)
+      ∙ get_or-append_right (row_front ss q a xs) (ring ++ row_back ss q a xs) a (a + r) d (length_front ss q a xs (omega arith)) (omega arith)
+      ∙ ap (λ (n : ℕ). get_or (ring ++ row_back ss q a xs) n d) here
+      ∙ get_or_append_left ring (row_back ss q a xs) d r (omega (arith, length_turned (get_or ss q 0) (row_at a xs), length_row a xs fits))
+      ∙ ring_get (get_or ss q 0) r (row_at a xs) d (length_row a xs fits) (start_low ss _ q h) in'
+      ∙ row_item ((get_or ss q 0 + r) % 64) d (omega arith)
+
+  pub row_set : (r : ℕ) (x : A) → r < 64 → in_rows ss (set xs (a + (get_or ss q 0 + r) % 64) x) ≡ set (in_rows ss xs) (a + r) x
+  row_set r x in' =
+      let fits = row_fits in
+      let here : a + r - a ≡ r = omega arith in
+      let ring = turned (get_or ss q 0) (row_at a xs) in
+      let old = ap (λ (l : List A). set l (a + r) x) (split_row ss q a xs e lt)
+      ∙ set-append_right (row_front ss q a xs) (ring ++ row_back ss q a xs) a (a + r) x (length_front ss q a xs (omega arith)) (omega arith)
+      ∙ ap (λ (n : ℕ). row_front ss q a xs ++ set (ring ++ row_back ss q a xs) n x) here
+      ∙ ap (λ (l : List A). row_front ss q a xs ++ l) (set-append_left ring (row_back ss q a xs) r x (omega (arith, length_turned (get_or ss q 0) (row_at a xs), length_row a xs fits))) in
+      ap (λ (l : List ℕ). in_rows l (set xs (a + (get_or ss q 0 + r) % 64) x)) (sym (set-get_or ss q 0))
+      ∙ with_row ss q a (get_or ss q 0) ((get_or ss q 0 + r) % 64) xs x e lt (omega arith)
+      ∙ ap (λ (l : List A). row_front ss q a xs ++ (l ++ row_back ss q a xs)) (ring_set (get_or ss q 0) r (row_at a xs) x (length_row a xs fits) (start_low ss _ q h) in')
+      ∙ sym old
+
+  pub row_pull : (c d : A) → insert (in_rows ss xs) (a + 64) c
+      ≡ insert (in_rows (set ss q ((get_or ss q 0 + 1) % 64)) (set xs (a + get_or ss q 0) c)) a (get_or xs (a + get_or ss q 0) d)
+  row_pull c d =
+      let fits = row_fits in
+      let low = start_low ss _ q h in
+      let front = length_front ss q a xs (omega arith) in
+      rw (split_row ss q a xs e lt, with_row ss q a ((get_or ss q 0 + 1) % 64) (get_or ss q 0) xs c e lt low)
+      (insert_behind a (row_front ss q a xs) (turned (get_or ss q 0) (row_at a xs)) (row_back ss q a xs) c front (length_turned _ (row_at a xs) ∙ length_row a xs fits)
+      ∙ rw (ring_pull (get_or ss q 0) (row_at a xs) c d (length_row a xs fits) low, row_item _ d low)
+      (sym (insert_before a (row_front ss q a xs) (turned ((get_or ss q 0 + 1) % 64) (set (row_at a xs) (get_or ss q 0) c)) (row_back ss q a xs) (get_or xs (a + get_or ss q 0) d) front)))
+
+  pub row_pass : (t : ℕ) (c d : A) → t ≡ (get_or ss q 0 + 63) % 64
+      → insert (in_rows ss xs) a c ≡ insert (in_rows (set ss q t) (set xs (a + t) c)) (a + 64) (get_or xs (a + t) d)
+  row_pass t c d is =
+      let fits = row_fits in
+      let low = start_low ss _ q h in
+      let in' : t < 64 = omega arith in
+      let front = length_front ss q a xs (omega arith) in
+      let len : length (turned t (set (row_at a xs) t c)) ≡ 64 = length_turned t (set (row_at a xs) t c) ∙ length-set (row_at a xs) t c ∙ length_row a xs fits in
+      rw (split_row ss q a xs e lt, with_row ss q a t t xs c e lt in')
+      (insert_before a (row_front ss q a xs) (turned (get_or ss q 0) (row_at a xs)) (row_back ss q a xs) c front
+      ∙ ap (λ (l : List A). row_front ss q a xs ++ (l ++ row_back ss q a xs)) (ring_pass (get_or ss q 0) t (row_at a xs) c d (length_row a xs fits) low is)
+      ∙ ap (λ (o : A). row_front ss q a xs ++ ((turned t (set (row_at a xs) t c) ++ o ∷ []) ++ row_back ss q a xs)) (row_item t d in')
+      ∙ sym (insert_behind a (row_front ss q a xs) (turned t (set (row_at a xs) t c)) (row_back ss q a xs) (get_or xs (a + t) d) front len))
+
+-- what is behind the full rows lies in order
+pub rows_append : {A : Type 0} (ss : List ℕ) (xs ys : List A) → length ss * 64 ≤ length xs → in_rows ss (xs ++ ys) ≡ in_rows ss xs ++ ys
+unfolding in_rows
+rows_append [] xs ys le = refl
+rows_append (s ∷ ss) xs ys le =
+    let low : 64 ≤ length xs = omega arith in
+    ap (λ l. turned s l ++ in_rows ss (drop 64 (xs ++ ys))) (take-append-le 64 xs ys low)
+    ∙ ap (λ l. turned s (take 64 xs) ++ in_rows ss l) (drop-append-le 64 xs ys low)
+    ∙ ap (λ l. turned s (take 64 xs) ++ l) (rows_append ss (drop 64 xs) ys (omega (arith, length-drop 64 xs)))
+    ∙ sym (append_assoc (turned s (take 64 xs)) (in_rows ss (drop 64 xs)) ys)
+
+pub rows_push : {A : Type 0} (ss : List ℕ) (xs : List A) → in_rows (ss ++ 0 ∷ []) xs ≡ in_rows ss xs
+unfolding in_rows
+rows_push [] xs = ap (λ l. l ++ drop 64 xs) (append-nil (take 64 xs)) ∙ take-append-drop 64 xs
+rows_push (s ∷ ss) xs = ap (λ l. turned s (take 64 xs) ++ l) (rows_push ss (drop 64 xs))
+
+module _ {A : Type 0} (ss : List ℕ) (xs : List A) (h : AreStarts ss (length xs)) where
+  rest_from : length ss * 64 ≤ length xs
+  rest_from = (starts_count ss (length xs) h).0
+
+  length_rest : length (in_rows ss (take (length ss * 64) xs)) ≡ length ss * 64
+  length_rest = length_rows ss (take (length ss * 64) xs) ∙ omega (arith, length-take (length ss * 64) xs, rest_from)
+
+  split_rest : in_rows ss xs ≡ in_rows ss (take (length ss * 64) xs) ++ drop (length ss * 64) xs
+  split_rest =
+      ap (λ (l : List A). in_rows ss l) (sym (take-append-drop (length ss * 64) xs))
+      ∙ rows_append ss (take (length ss * 64) xs) (drop (length ss * 64) xs) (omega (arith, length-take (length ss * 64) xs, rest_from))
+
+  -- a list that differs from this one behind the full rows alone
+  with_rest : (ys zs : List A) → ys ≡ take (length ss * 64) xs ++ zs → in_rows ss ys ≡ in_rows ss (take (length ss * 64) xs) ++ zs
+  with_rest ys zs e =
+      ap (λ (l : List A). in_rows ss l) e ∙ rows_append ss (take (length ss * 64) xs) zs (omega (arith, length-take (length ss * 64) xs, rest_from))
+
+  length_before : length (take (length ss * 64) xs) ≡ length ss * 64
+  length_before = omega (arith, length-take (length ss * 64) xs, rest_from)
+
+  pub rest_get : (i : ℕ) (d : A) → length ss * 64 ≤ i → get_or (in_rows ss xs) i d ≡ get_or xs i d
+  rest_get i d le =
+      let here : length ss * 64 + (i - length ss * 64) ≡ i = omega arith in
+      ap (λ (l : List A). get_or l i d) split_rest
+      ∙ get_or-append_right (in_rows ss (take (length ss * 64) xs)) (drop (length ss * 64) xs) (length ss * 64) i d length_rest le
+      ∙ get_or-drop (length ss * 64) xs (i - length ss * 64) d ∙ ap (λ (k : ℕ). get_or xs k d) here
+
+  pub rest_set : (i : ℕ) (x : A) → length ss * 64 ≤ i → in_rows ss (set xs i x) ≡ set (in_rows ss xs) i x
+  rest_set i x le =
+      with_rest (set xs i x) (set (drop (length ss * 64) xs) (i - length ss * 64) x)
+      (ap (λ (l : List A). set l i x) (sym (take-append-drop (length ss * 64) xs))
+      ∙ set-append_right (take (length ss * 64) xs) (drop (length ss * 64) xs) (length ss * 64) i x length_before le)
+      ∙ sym (ap (λ (l : List A). set l i x) split_rest
+      ∙ set-append_right (in_rows ss (take (length ss * 64) xs)) (drop (length ss * 64) xs) (length ss * 64) i x length_rest le)
+
+  pub rest_insert : (i : ℕ) (x : A) → length ss * 64 ≤ i → in_rows ss (insert xs i x) ≡ insert (in_rows ss xs) i x
+  rest_insert i x le =
+      with_rest (insert xs i x) (insert (drop (length ss * 64) xs) (i - length ss * 64) x)
+      (ap (λ (l : List A). insert l i x) (sym (take-append-drop (length ss * 64) xs))
+      ∙ insert-append_right (take (length ss * 64) xs) (drop (length ss * 64) xs) (length ss * 64) i x length_before le)
+      ∙ sym (ap (λ (l : List A). insert l i x) split_rest
+      ∙ insert-append_right (in_rows ss (take (length ss * 64) xs)) (drop (length ss * 64) xs) (length ss * 64) i x length_rest le)
+
+  pub rest_take : (n : ℕ) → length ss * 64 ≤ n → in_rows ss (take n xs) ≡ take n (in_rows ss xs)
+  rest_take n le =
+      with_rest (take n xs) (take (n - length ss * 64) (drop (length ss * 64) xs))
+      (ap (λ (l : List A). take n l) (sym (take-append-drop (length ss * 64) xs))
+      ∙ take_past n (take (length ss * 64) xs) (drop (length ss * 64) xs) (length ss * 64) length_before le)
+      ∙ sym (ap (λ (l : List A). take n l) split_rest
+      ∙ take_past n (in_rows ss (take (length ss * 64) xs)) (drop (length ss * 64) xs) (length ss * 64) length_rest le)
+
+  pub slot_get : (i : ℕ) (d : A) → get_or (in_rows ss xs) i d ≡ get_or xs (slot ss i) d
+  slot_get i d = go (nat_lt (i / 64) (length ss)) refl where
+    go : (b : Bool) → nat_lt (i / 64) (length ss) ≡ b
+        → get_or (in_rows ss xs) i d ≡ get_or xs (cond b (i / 64 * 64 + (get_or ss (i / 64) 0 + i % 64) % 64) i) d
+    go true t =
+        let here : i ≡ i / 64 * 64 + i % 64 = omega arith in
+        ap (λ (k : ℕ). get_or (in_rows ss xs) k d) here
+        ∙ row_get ss (i / 64) (i / 64 * 64) xs h (ltb-true _ _ t) refl (i % 64) d (omega arith)
+    go false t = rest_get i d (omega (arith, ltb-false _ _ t))
+
+  pub slot_set : (i : ℕ) (x : A) → in_rows ss (set xs (slot ss i) x) ≡ set (in_rows ss xs) i x
+  slot_set i x = go (nat_lt (i / 64) (length ss)) refl where
+    go : (b : Bool) → nat_lt (i / 64) (length ss) ≡ b
+        → in_rows ss (set xs (cond b (i / 64 * 64 + (get_or ss (i / 64) 0 + i % 64) % 64) i) x) ≡ set (in_rows ss xs) i x
+    go true t =
+        let here : i / 64 * 64 + i % 64 ≡ i = omega arith in
+        row_set ss (i / 64) (i / 64 * 64) xs h (ltb-true _ _ t) refl (i % 64) x (omega arith)
+        ∙ ap (λ (k : ℕ). set (in_rows ss xs) k x) here
+    go false t = rest_set i x (omega (arith, ltb-false _ _ t))
+
+  pub slot_within : (i : ℕ) → i < length xs → slot ss i < length xs
+  slot_within i lt = go (nat_lt (i / 64) (length ss)) refl where
+    go : (b : Bool) → nat_lt (i / 64) (length ss) ≡ b → cond b (i / 64 * 64 + (get_or ss (i / 64) 0 + i % 64) % 64) i < length xs
+    go true t = omega (arith, ltb-true _ _ t, rest_from)
+    go false t = lt
+
+-- the first items, where the last row of them is turned back
+pub rows_cut : {A : Type 0} (ss : List ℕ) (q n : ℕ) (xs ys : List A) → AreStarts ss (length xs) → q < length ss → q * 64 ≤ n → n < q * 64 + 64
+    → ys ≡ take (q * 64) xs ++ (turned (get_or ss q 0) (row_at (q * 64) xs) ++ drop (q * 64 + 64) xs) → in_rows (take q ss) (take n ys) ≡ take n (in_rows ss xs)
+rows_cut ss q n xs ys h lt low high e =
+    let fits = row_fits ss q (q * 64) xs h lt refl in
+    let ring = turned (get_or ss q 0) (row_at (q * 64) xs) in
+    let len : n - q * 64 ≤ length ring = omega (arith, length_turned (get_or ss q 0) (row_at (q * 64) xs), length_row (q * 64) xs fits) in
+    let short : length (take (q * 64) xs) ≡ q * 64 = omega (arith, length-take (q * 64) xs) in
+    ap (λ l. in_rows (take q ss) (take n l)) e
+    ∙ ap (λ l. in_rows (take q ss) l) (take_past n (take (q * 64) xs) (ring ++ drop (q * 64 + 64) xs) (q * 64) short low
+    ∙ ap (λ l. take (q * 64) xs ++ l) (take-append-le (n - q * 64) ring (drop (q * 64 + 64) xs) len))
+    ∙ rows_append (take q ss) (take (q * 64) xs) (take (n - q * 64) ring) (omega (arith, length-take q ss, short))
+    ∙ sym (ap (λ l. take n l) (split_row ss q (q * 64) xs refl lt)
+    ∙ take_past n (row_front ss q (q * 64) xs) (ring ++ row_back ss q (q * 64) xs) (q * 64) (length_front ss q (q * 64) xs (omega arith)) low
+    ∙ ap (λ l. row_front ss q (q * 64) xs ++ l) (take-append-le (n - q * 64) ring (row_back ss q (q * 64) xs) len))
+
+-- a step of an item that goes on from place to place
+pub insert_up : {A : Type 0} (xs : List A) (i : ℕ) (c r : A) → i < length xs → r ≡ get_or xs i r → insert xs i c ≡ insert (set xs i c) (i + 1) r
+insert_up xs i c r lt e =
+    rw (take_more_set xs i c lt, drop-set-lt (i + 1) xs i c (omega arith), drop_more xs i r lt, sym e)
+    (sym (append_assoc (take i xs) (c ∷ []) (r ∷ drop (i + 1) xs)))
+
+pub insert_down : {A : Type 0} (xs : List A) (i : ℕ) (c r : A) → i < length xs → r ≡ get_or xs i r → insert xs (i + 1) c ≡ insert (set xs i c) i r
+insert_down xs i c r lt e =
+    rw (take-set xs i c, drop-set xs i c lt, take_more xs i r lt, sym e) (append_assoc (take i xs) (r ∷ []) (c ∷ drop (i + 1) xs))

@@ -1,0 +1,15 @@
+use Rattle.std.proofs.Common.{◌≡◌, ◌*◌, ◌≤◌, length}
+use Rattle.std.specs.List.{insert}
+use Rattle.nv_findex.proofs.run_rows.RunRows.pull_rows.Given as goal
+
+abbrev pub invariant-down : goal.invariant-down
+invariant-down l = record {
+  low : l.fn.to ≤ l.row;
+  high : l.row ≤ l.fn.from;
+  items : insert l.fn.self.items (l.fn.from * 64) l.fn.run ≡ insert l.self.items (l.row * 64) l.out;
+  len : length l.self.items ≡ length l.fn.self.items;
+  capacity : l.self.capacity ≡ l.fn.self.capacity;
+}
+
+abbrev pub decreases-down : goal.decreases-down
+decreases-down l = l.row
