@@ -5,11 +5,11 @@ ghost use Rattle.nv_cell.specs.Room.{HasGrown};
 
 use std::alloc::AllocError;
 
-/// For how many more entries a list of them grows at least: a small file has its room at once.
-pub const LEAST_ENTRIES: usize = 16;
+/// For how many more entries a list of them grows at least. Most files have few, and a list that grows again doubles.
+pub const LEAST_ENTRIES: usize = 4;
 
 /// For how many more parts a list of them grows at least: a write has two or more.
-pub const LEAST_PARTS: usize = 32;
+pub const LEAST_PARTS: usize = 8;
 
 /// Makes room for so many more items. Where it is missing the list grows by so many at least, so that it grows seldom.
 pub fn grow<T>(list: &mut Vec<T>, count: usize, least: usize) -> Result<(), AllocError>
