@@ -1,6 +1,6 @@
 -- Names that a log binds stand in it.
-use Rattle.std.proofs.Common.{◌≡◌, ℕ, ◌⊎◌, inl, inr, Bool, true, false, cond, List, [], ◌∷◌, ◌++◌, not, None, refl, sym, ◌∙◌, subst}
-use Rattle.std.specs.Prelude.{◌&&◌}
+use Rattle.std.proofs.Common.{◌≡◌, ℕ, ◌⊎◌, inl, inr, Bool, true, false, cond, List, [], ◌∷◌, ◌++◌, not, None, refl, sym, ◌∙◌, subst, true≢false}
+use Rattle.std.specs.Prelude.{◌&&◌, IsOk, OnOk, Result, Ok, Err}
 use Rattle.std.specs.List.{AllByRecursion, flat_map}
 use Rattle.std.proofs.lemmas.List.Elements.{recursion_from_All}
 use Rattle.std.proofs.lemmas.List.Concat.{flat_map-cons}
@@ -101,3 +101,8 @@ same_item table names same (SetSize size) = tt
 same_item table names same (SetMode mode) = tt
 same_item table names same (Unbind name) = tt
 same_item table names same Gone = tt
+
+-- what holds of a value holds where there is one
+pub if_ok : {T E P : Type 0} (r : Result T E) → IsOk r → OnOk r P → P
+if_ok (Ok x) is p = p
+if_ok (Err e) is p = absurd (true≢false (sym is))

@@ -6,6 +6,7 @@ pub mod Covers
 pub mod CutPages
 pub mod DeviceParts
 pub mod DeadParts
+pub mod DividedPairs
 pub mod Devices
 pub mod Differs
 pub mod EachOnce

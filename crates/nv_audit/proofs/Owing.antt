@@ -1,14 +1,13 @@
 -- What the records of all logs and of a book tell of each snapshot.
-use Rattle.std.proofs.Common.{◌≡◌, ℕ, ◌+◌, ◌<◌, ◌≤◌, ◌&&◌, Bool, true, false, cond, not, List, [], ◌∷◌, ◌++◌, length, map, filter, drop, take, Option, None, Some, arith, refl, ap, ap₂, sym, subst, ◌∙◌, get_or}
+use Rattle.std.proofs.Common.{◌≡◌, ℕ, ◌+◌, ◌<◌, ◌&&◌, Bool, true, false, cond, not, List, [], ◌∷◌, ◌++◌, length, map, filter, drop, Option, None, Some, arith, refl, ap, ap₂, sym, subst, ◌∙◌, get_or}
 use Rattle.std.specs.Prelude.{◌↔◌, All, Contains, is_some}
 use Rattle.std.specs.List.{flat_map}
 use Rattle.std.specs.Option.{option_to_list}
 use Rattle.std.proofs.lemmas.Bool.{false≢true}
 use Rattle.std.proofs.lemmas.Grind.{flat_map-append}
-use Rattle.std.proofs.lemmas.List.{drop_more, get_or-map, length-append, length-map, map-append}
+use Rattle.std.proofs.lemmas.List.{get_or-map, length-map, map-append}
 use Rattle.std.proofs.lemmas.List.Concat.{flat_map-cons}
 use Rattle.std.proofs.lemmas.List.Elements.{All-contains_itself, filter-append}
-use Rattle.std.proofs.Math.Seq.{drop-append_seam, take-append_seam}
 use Rattle.nv_book.specs.Book.{BookState}
 use Rattle.nv_book.specs.Listed.{all_records}
 use Rattle.nv_book.specs.Records.{is_held_by}
@@ -142,51 +141,6 @@ pair_here block e later i part death deaths pair lt own dead are made =
     ∙ get_or-map (λ (p : Pair). p.death) (pairs_of block e later) i pair death below
     ∙ ap (λ (p : Pair). p.death) here in
     made ∙ ap (λ (d : Option ℕ). record { entry = e.id; part = part; birth = e.epoch; death = d }) died_then ∙ sym here
-
--- the deaths from an entry on begin with those of its parts
-pub record Divided (block : ℕ) (e : Entry) (later : List Entry) (own rest : List (Option ℕ)) : Type 0 where
-  pub first : own ≡ died (pairs_of block e later)
-  pub others : rest ≡ died (pairs block later)
-
-in_two : (block i n : ℕ) (log : List Entry) (e : Entry) (left : List (Option ℕ)) → i < length log → e ≡ get_or log i e
-    → left ≡ died (pairs block (drop i log)) → n ≡ length (parts_of e.item)
-    → (n ≡ length (died (pairs_of block e (drop (i + 1) log))))
-    × (left ≡ died (pairs_of block e (drop (i + 1) log)) ++ died (pairs block (drop (i + 1) log)))
-in_two block i n log e left lt at is count =
-    let later : List Entry = drop (i + 1) log in
-    let behind : drop i log ≡ e ∷ later = drop_more log i e lt ∙ ap (λ (x : Entry). x ∷ later) (sym at) in (
-      count
-          ∙ sym (length-map (parts_of e.item) (pair_of block e later))
-          ∙ sym (length-map (pairs_of block e later) (λ (p : Pair). p.death)),
-      is
-          ∙ ap (λ (es : List Entry). died (pairs block es)) behind
-          ∙ map-append (λ (p : Pair). p.death) (pairs_of block e later) (pairs block later),
-    )
-
-pub enough : (block i n : ℕ) (log : List Entry) (e : Entry) (left : List (Option ℕ)) → i < length log → e ≡ get_or log i e
-    → left ≡ died (pairs block (drop i log)) → n ≡ length (parts_of e.item) → n ≤ length left
-enough block i n log e left lt at is count =
-    let both = in_two block i n log e left lt at is count in
-    let len : length left ≡ length (died (pairs_of block e (drop (i + 1) log))) + length (died (pairs block (drop (i + 1) log))) =
-    ap (λ (ds : List (Option ℕ)). length ds) both.1
-    ∙ length-append (died (pairs_of block e (drop (i + 1) log))) (died (pairs block (drop (i + 1) log))) in
-    omega (arith, len, both.0)
-
-pub divided : (block i n : ℕ) (log : List Entry) (e : Entry) (left own rest : List (Option ℕ)) → i < length log → e ≡ get_or log i e
-    → left ≡ died (pairs block (drop i log)) → n ≡ length (parts_of e.item) → own ≡ take n left → rest ≡ drop n left
-    → Divided block e (drop (i + 1) log) own rest
-divided block i n log e left own rest lt at is count front back =
-    let later : List Entry = drop (i + 1) log in
-    let both = in_two block i n log e left lt at is count in record {
-      first =
-          front
-          ∙ ap₂ (λ (m : ℕ) (ds : List (Option ℕ)). take m ds) both.0 both.1
-          ∙ take-append_seam (died (pairs_of block e later)) (died (pairs block later));
-      others =
-          back
-          ∙ ap₂ (λ (m : ℕ) (ds : List (Option ℕ)). drop m ds) both.0 both.1
-          ∙ drop-append_seam (died (pairs_of block e later)) (died (pairs block later));
-    }
 
 pub owed_more : (living : List ℕ) (named : List PartId) (ino block i : ℕ) (log : List Entry) (e : Entry) (old new whole : List Record)
     → i < length log → e ≡ get_or log i e

@@ -25,6 +25,7 @@ use Rattle.nv_audit.specs.Retained.{is_needed_from, marked_entries, needed_in, r
 use Rattle.nv_audit.proofs.Covers.{death_of}
 use Rattle.nv_audit.proofs.NumberedPairs.{name_of_pair, number_of_pair}
 use Rattle.nv_audit.proofs.PartBlocks.{as_many}
+use Rattle.nv_audit.proofs.Pushing.{step}
 
 -- ---- lists
 
@@ -71,44 +72,18 @@ needed_pairs snapshots block e later = go (parts_of e.item) where
   go (p ∷ ps) = ap₂ (λ (b : Bool) (bs : List Bool). b ∷ bs) (needed_alike snapshots block e later p) (go ps)
 
 -- one entry more
-pub needed_left : (block : ℕ) (log : List Entry) (i : ℕ) (e : Entry) (rest later : List (Option ℕ)) → i < length log
-    → e ≡ get_or log i e → rest ≡ map death_of (pairs block (drop i log)) → later ≡ drop (part_count e) rest
-    → later ≡ map death_of (pairs block (drop (i + 1) log))
-needed_left block log i e rest later lt is left cut =
-    let next : List Entry = drop (i + 1) log in
-    let own = map death_of (pairs_of block e next) in
-    let all = map death_of (pairs block next) in
-    let size : length own ≡ part_count e =
-    length-map (pairs_of block e next) death_of ∙ length-map (parts_of e.item) (pair_of block e next) in
-    let whole : rest ≡ own ++ all =
-    left ∙ ap (λ (es : List Entry). map death_of (pairs block es)) (from_one log i e lt is)
-    ∙ map-append death_of (pairs_of block e next) (pairs block next) in
-    cut ∙ ap (drop (part_count e)) whole ∙ behind (part_count e) own all size
-
-pub needed_more : (snapshots : List ℕ) (block : ℕ) (log : List Entry) (i : ℕ) (e : Entry) (rest own : List (Option ℕ))
-    → (old new whole : List Bool) → i < length log → e ≡ get_or log i e → rest ≡ map death_of (pairs block (drop i log))
-    → own ≡ take (part_count e) rest → new ≡ old ++ map (is_needed_from snapshots e.epoch) own
+pub needed_more : (snapshots : List ℕ) (block : ℕ) (log : List Entry) (i : ℕ) (e : Entry) (own : List (Option ℕ))
+    → (old new whole : List Bool) → i < length log → e ≡ get_or log i e → own ≡ map death_of (pairs_of block e (drop (i + 1) log))
+    → new ≡ old ++ map (is_needed_from snapshots e.epoch) own
     → old ++ map (is_needed snapshots) (pairs block (drop i log)) ≡ whole
     → new ++ map (is_needed snapshots) (pairs block (drop (i + 1) log)) ≡ whole
-needed_more snapshots block log i e rest own old new whole lt is left cut put told =
+needed_more snapshots block log i e own old new whole lt is own_is put told =
     let next : List Entry = drop (i + 1) log in
-    let dead = map death_of (pairs_of block e next) in
-    let all = map death_of (pairs block next) in
-    let size : length dead ≡ part_count e =
-    length-map (pairs_of block e next) death_of ∙ length-map (parts_of e.item) (pair_of block e next) in
-    let own_is : own ≡ dead =
-    cut ∙ ap (take (part_count e)) (left ∙ ap (λ (es : List Entry). map death_of (pairs block es)) (from_one log i e lt is)
-    ∙ map-append death_of (pairs_of block e next) (pairs block next)) ∙ before (part_count e) dead all size in
-    let here = map (is_needed snapshots) (pairs_of block e next) in
-    let past = map (is_needed snapshots) (pairs block next) in
-    ap (λ (bs : List Bool). bs ++ past)
+    step (λ (es : List Entry). map (is_needed snapshots) (pairs block es))
+    (λ (x : Entry) (es : List Entry). map (is_needed snapshots) (pairs_of block x es))
+    (λ x es. map-append (is_needed snapshots) (pairs_of block x es) (pairs block es)) log i e lt is old new whole
     (put ∙ ap (λ (bs : List Bool). old ++ bs)
-    (ap (map (is_needed_from snapshots e.epoch)) own_is ∙ needed_pairs snapshots block e next))
-    ∙ append_assoc old here past
-    ∙ ap (λ (bs : List Bool). old ++ bs) (sym (
-    ap (λ (es : List Entry). map (is_needed snapshots) (pairs block es)) (from_one log i e lt is)
-    ∙ map-append (is_needed snapshots) (pairs_of block e next) (pairs block next)))
-    ∙ told
+    (ap (map (is_needed_from snapshots e.epoch)) own_is ∙ needed_pairs snapshots block e next)) told
 
 -- ---- parts that are pending
 

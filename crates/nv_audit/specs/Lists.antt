@@ -37,9 +37,13 @@ said_of block item = flat_map (said_part block item) (parts_of item)
 abbrev pub blocks_said : ℕ → List Entry → List ℕ
 blocks_said block entries = flat_map (λ (e : Entry). said_of block e.item) entries
 
--- the blocks of the pairs of an entry that are kept, where `later` are the entries behind it
+-- the block of a part if it is kept, and the blocks of the pairs of an entry that are kept, where `later` are the entries
+-- behind it
+abbrev pub said_if : Bool → ℕ → Item → Part → List ℕ
+said_if is_kept block item part = if is_kept then said_part block item part else []
+
 abbrev pub kept_pair : Retention → Item → Pair → List ℕ
-kept_pair r item pair = if keeps r pair then said_part r.block item pair.part else []
+kept_pair r item pair = said_if (keeps r pair) r.block item pair.part
 
 abbrev pub kept_of : Retention → Entry → List Entry → List ℕ
 kept_of r e later = flat_map (kept_pair r e.item) (pairs_of r.block e later)

@@ -23,6 +23,9 @@ pub(crate) fn deaths_of(alloc: Global, cell: &InodeCell) -> Result<Vec<Option<Ep
     cell.use_invariant();
     let block = cell.block_bytes();
     let log = cell.log().log();
+    if log.is_empty() {
+        return Ok(Vec::new(alloc));
+    }
     let mut covers = FirstCovers::new(alloc);
     let mut deaths = Vec::new(alloc);
     for place in (0..log.len()).rev() {

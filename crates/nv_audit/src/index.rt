@@ -23,11 +23,11 @@ pub fn is_part_of(block: u64, log: &[Entry], key: Key<'_>, part: Option<PartRef>
     is_same(part, current_part(block, log, key))
 }
 
-/// Whether an index of pages names for each page the part that holds it now, if any does. `OutOfMemory` where memory for
-/// the runs of the log was refused.
+/// Whether an index of pages names for each page the part that holds it now, if any does. `OutOfMemory` where memory
+/// for the runs of the log was refused.
 ///
-/// Costs one pass over the log with two look-ups for each Write and one for each SetSize, and for a Write that makes more
-/// or fewer runs a move of those behind; then a step for each run of pages.
+/// Costs one pass over the log with two look-ups for each Write and one for each SetSize, and for a Write that makes
+/// more or fewer runs a move of those behind; then a step for each run of pages.
 pub fn are_pages_of(
     alloc: Global,
     block: u64,

@@ -1,9 +1,9 @@
 //! What judges a device as it stands between two steps: each part against one plain scan of all logs and of the
 //! snapshot list.
 //!
-//! The scans share no code with what they judge, but for the map of pages, of which they make one anew. They ask the
-//! functions of `nv_entry`, which say what a log means, and read the entries of the logs alone; of the parts that they
-//! judge they take no more than what these show.
+//! The scans share no code with what they judge, except for the map of pages, of which they make one anew. They ask
+//! the functions of `nv_entry`, which say what a log means, and read the entries of the logs alone; of the parts that
+//! they judge they take no more than what these show.
 #![tactic(auto)]
 
 mod at_rest;

@@ -1,30 +1,36 @@
 //! The free lists.
 
-ghost use Rattle.std.specs.Prelude.{◌≡◌, ◌↔◌, ◌<◌, ◌≤◌, ◌++◌, IfOk, IsTrue, OnOk, length};
+ghost use Rattle.std.specs.Prelude.{◌≡◌, ◌↔◌, ◌<◌, ◌≤◌, ◌++◌, Bool, List, IfOk, IsTrue, OnOk, length, map, slice_index_or};
 ghost use Rattle.nv_base.specs.Refusals.{FailsOnly};
 ghost use Rattle.nv_base.specs.Memory.{out_of_memory};
 ghost use Rattle.nv_alloc.specs.Block.{numbers_of};
 ghost use Rattle.nv_alloc.specs.Numbers.{has};
-ghost use Rattle.nv_entry.specs.Held.{retention_of};
-ghost use Rattle.nv_audit.specs.Lists.{AreAllFree, AreFree, AreMarked, IsRangeFree, block_said, blocks_kept, blocks_said, kept_of, kept_pair, list_or_none, mark_at, said_of, said_part, used_by, used_from, used_of};
+ghost use Rattle.nv_entry.specs.Covered.{part_count};
+ghost use Rattle.nv_entry.specs.Held.{keeps, retention_of};
+ghost use Rattle.nv_entry.specs.Log.{pairs, pairs_of};
+ghost use Rattle.nv_entry.specs.declared.item.Entry.{Entry as EntryValue};
+ghost use Rattle.nv_audit.specs.Lists.{AreAllFree, AreFree, AreMarked, IsRangeFree, block_said, blocks_kept, blocks_said, kept_of, list_or_none, mark_at, said_if, said_of, said_part, used_by, used_from, used_of};
 ghost use Rattle.nv_audit.specs.Records.{states_of};
 ghost use Rattle.std.specs.Option.{option_copied};
 
-use crate::parts::{pair_at, part_at};
+use crate::parts::part_at;
 use crate::pending::{listed, living, pending_by_slot};
+use crate::retained::retained_parts;
 use crate::{InHands, InodePart};
 use nv_alloc::{Block, FreeList};
 use nv_base::{BlockNo, Epoch, Fault, Geometry};
 use nv_book::{Book, Record};
 use nv_cell::InodeCell;
-use nv_entry::{Entry, Item, Pair, Part, Retention};
+use nv_entry::{Entry, Item, Part, Retention};
 use std::alloc::{AllocError, Global};
 
 /// Whether the free list of each CPU has the numbers of its home range that are not used: neither by a page of a
 /// log, nor by a pair that is needed, pending or killed, nor by what is appended and not yet published, nor by a
-/// hand. Costs one pass over all numbers, one over the deferred records and the parts in hands, and for each part of
-/// each log a walk over the entries behind it and, where it is no longer current, over the snapshots and that inode's
-/// pending parts.
+/// hand. `OutOfMemory` where memory for the parts of a log or for the used numbers was refused.
+///
+/// Costs one pass over all numbers, one over the deferred records and the parts in hands, and for each inode one pass
+/// over its log from the end, with a look-up for each part and for each entry, for each part that is no longer current
+/// a scan of the snapshots up to one that holds it, and for each pending part a look-up of its entry.
 pub fn are_free(
     alloc: Global,
     geometry: &Geometry,
@@ -81,24 +87,29 @@ fn used_from(
             snapshots,
             pending: &pending[place],
         };
-        push_used(&mut used, &retention, cell)?;
+        push_used(alloc, &mut used, &retention, cell)?;
     }
     Ok(used)
 }
 
 /// Puts the blocks that an inode uses to the end of a list.
 fn push_used(
+    alloc: Global,
     used: &mut Vec<BlockNo>,
     retention: &Retention<'_>,
     cell: &InodeCell,
-) -> Result<(), AllocError>
-    ensures { OnOk result (used.new.items
+) -> Result<(), Fault>
+    requires { retention.now.block ≡ cell.now.state.block }
+    ensures ok { OnOk result (used.new.items
         ≡ used.old.items ++ used_by (retention_of retention.now) cell.now.state) }
+    ensures err { FailsOnly out_of_memory result }
 {
+    let kept = retained_parts(alloc, retention, cell)?;
     let chain = cell.log();
     push_pages(used, chain.blocks())?;
-    push_kept(used, retention, chain.log())?;
-    push_said(used, retention.block, &chain.entries()[chain.tail()..])
+    push_kept(used, retention, chain.log(), &kept)?;
+    push_said(used, retention.block, &chain.entries()[chain.tail()..])?;
+    Ok(())
 }
 
 /// Puts the pages of a log to the end.
@@ -111,50 +122,70 @@ pub(crate) fn push_pages(used: &mut Vec<BlockNo>, pages: &[Block]) -> Result<(),
     Ok(())
 }
 
-/// Puts the blocks of the pairs of a log that are kept to the end.
+/// Puts the blocks of the pairs of a log that are kept to the end, where these of its parts are.
 fn push_kept(
     used: &mut Vec<BlockNo>,
     retention: &Retention<'_>,
     log: &[Entry],
+    kept: &[bool],
 ) -> Result<(), AllocError>
+    requires { kept.now ≡ map (keeps (retention_of retention.now))
+        (pairs retention.now.block log.now) }
     ensures { OnOk result (used.new.items
         ≡ used.old.items ++ blocks_kept (retention_of retention.now) log.now) }
 {
-    for place in 0..log.len() {
-        push_kept_of(used, retention, &log[place], &log[place + 1..])?;
+    let mut left = kept;
+    for entry in log {
+        let (own, rest) = left.split_at(entry.item.part_count() as usize);
+        push_kept_of(used, retention, entry, own)?;
+        left = rest;
     }
     Ok(())
 }
 
-/// Puts those of one entry to the end; `later` are the entries behind it.
+/// Puts those of one entry to the end.
 fn push_kept_of(
     used: &mut Vec<BlockNo>,
     retention: &Retention<'_>,
     entry: &Entry,
-    later: &[Entry],
+    kept: &[bool],
 ) -> Result<(), AllocError>
-    ensures { OnOk result (used.new.items
-        ≡ used.old.items ++ kept_of (retention_of retention.now) entry.now later.now) }
+    requires { length kept.now ≡ part_count entry.now }
+    ensures { OnOk result ((later : List EntryValue)
+        → kept.now ≡ map (keeps (retention_of retention.now))
+        (pairs_of retention.now.block entry.now later)
+        → used.new.items
+        ≡ used.old.items ++ kept_of (retention_of retention.now) entry.now later) }
 {
     for place in 0..entry.item.part_count() {
-        let pair = pair_at(retention.block, entry, later, place);
-        push_kept_pair(used, retention, &entry.item, &pair)?;
+        let part = part_at(&entry.item, place);
+        let is_kept = is_kept_at(kept, place as usize);
+        push_if_kept(used, retention.block, &entry.item, part, is_kept)?;
     }
     Ok(())
 }
 
-/// Puts the block of a pair to the end, if it is kept and has one.
-fn push_kept_pair(
-    used: &mut Vec<BlockNo>,
-    retention: &Retention<'_>,
-    item: &Item,
-    pair: &Pair,
-) -> Result<(), AllocError>
-    ensures { OnOk result (used.new.items
-        ≡ used.old.items ++ kept_pair (retention_of retention.now) item.now pair.now) }
+fn is_kept_at(kept: &[bool], place: usize) -> bool
+    requires { place < length kept.now }
+    ensures { (other : Bool) → result ≡ slice_index_or kept.now place other }
 {
-    if pair.is_needed(retention.snapshots) || pair.is_named(retention.pending) {
-        return push_said_part(used, retention.block, item, pair.part);
+    kept[place]
+}
+
+/// Puts the block of a part to the end, if it is kept and has one.
+fn push_if_kept(
+    used: &mut Vec<BlockNo>,
+    block: u64,
+    item: &Item,
+    part: Part,
+    is_kept: bool,
+) -> Result<(), AllocError>
+    requires { 0 < block }
+    ensures { OnOk result (used.new.items
+        ≡ used.old.items ++ said_if is_kept block item.now part) }
+{
+    if is_kept {
+        push_said_part(used, block, item, part)?;
     }
     Ok(())
 }

@@ -82,11 +82,10 @@ fn bind<'a>(
     ensures { OnOk result ((other : List ℕ) → name_in bound.new.entries other
         ≡ (if same_name name.now other then Some binding else name_in bound.old.entries other)) }
 {
-    let inserted: Result<_, _> = bound.insert(name, binding);
-    match inserted {
-        Ok(_) => Ok(()),
-        Err(_) => Err(AllocError),
-    }
+    // The borrow checker has no rule for handing on what `insert` is refused with, which with this room it never is.
+    bound.try_reserve(1)?;
+    let _ = bound.insert(name, binding);
+    Ok(())
 }
 
 /// Takes a name out.
@@ -134,7 +133,8 @@ fn are_index_names(bound: &HashMap<&[u8], Binding>, index: &NameIndex) -> bool
 /// Whether it does so for the name at a place.
 fn is_name_at(bound: &HashMap<&[u8], Binding>, index: &NameIndex, place: usize) -> bool
     requires { place < length index.now.names }
-    ensures { (default : List ℕ × Binding) → IsTrue result ↔ IsNameOf bound.now.entries index.now.names
+    ensures { (default : List ℕ × Binding) → IsTrue result
+        ↔ IsNameOf bound.now.entries index.now.names
         (slice_index_or index.now.names place default).0 }
 {
     match index.at(place) {

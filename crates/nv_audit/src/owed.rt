@@ -10,14 +10,13 @@ ghost use Rattle.nv_entry.specs.declared.item.Entry.{Entry as EntryValue};
 ghost use Rattle.nv_epoch.specs.SnapList.{ids};
 ghost use Rattle.nv_audit.specs.Deaths.{deaths_of};
 ghost use Rattle.nv_audit.specs.Owed.{died, owed_record, owed_records, owed_records_by, owed_records_from};
-ghost use Rattle.nv_audit.specs.Pending.{of_inode};
 ghost use Rattle.nv_audit.specs.Records.{states_of};
 
 use crate::InodePart;
 use crate::deaths::deaths_of;
 use crate::kept_parts::{death_at, pair_from};
 use crate::parts::part_at;
-use crate::pending::push_of_inode;
+use crate::pending::pending_by_slot;
 use nv_base::{Epoch, Fault, Ino};
 use nv_book::Record;
 use nv_cell::InodeCell;
@@ -25,9 +24,10 @@ use nv_entry::{Entry, Pair, PartId};
 use nv_epoch::SnapList;
 use std::alloc::{AllocError, Global};
 
-/// The records of the parts of all logs that living snapshots hold and that are neither current nor in hands. Costs for
-/// each inode a pass over the parts in hands and one over its log from the end, with a look-up for each entry, and for
-/// each part a look-up and one of snapshots; and memory for each part of one log and for each record.
+/// The records of the parts of all logs that living snapshots hold and that are neither current nor in hands. Costs one
+/// pass over the parts in hands, and for each inode one over its log from the end, with a look-up for each entry, for
+/// each part a look-up and one of snapshots, and for each part that is held a scan of those of that inode in hands; and
+/// memory for each part of one log, for each part in hands and for each record.
 pub(crate) fn owed_records(
     alloc: Global,
     snaps: &SnapList,
@@ -38,31 +38,30 @@ pub(crate) fn owed_records(
         ≡ owed_records_from (ids snaps.now) in_hands.now 0 (states_of cells.now)) }
     ensures err { FailsOnly out_of_memory result }
 {
+    let pending = pending_by_slot(alloc, cells.len(), &[], in_hands)?;
     let mut owed = Vec::new(alloc);
     for place in 0..cells.len() {
         let ino = Ino::new(place as u64);
-        push_owed_by(alloc, &mut owed, snaps, ino, &cells[place], in_hands)?;
+        push_owed_by(alloc, &mut owed, snaps, ino, &cells[place], &pending[place])?;
     }
     Ok(owed)
 }
 
-/// Puts those of one inode to the end of a list.
+/// Puts those of one inode, of which these parts are in hands, to the end of a list.
 fn push_owed_by(
     alloc: Global,
     owed: &mut Vec<Record>,
     snaps: &SnapList,
     ino: Ino,
     cell: &InodeCell,
-    in_hands: &[InodePart],
+    named: &[PartId],
 ) -> Result<(), Fault>
     ensures ok { OnOk result (owed.new.items ≡ owed.old.items
-        ++ owed_records_by (ids snaps.now) (of_inode ino in_hands.now) ino cell.now.state) }
+        ++ owed_records_by (ids snaps.now) named.now ino cell.now.state) }
     ensures err { FailsOnly out_of_memory result }
 {
-    let mut named = Vec::new(alloc);
-    push_of_inode(&mut named, ino, in_hands)?;
     let deaths = deaths_of(alloc, cell)?;
-    push_owed(owed, snaps, ino, cell, &deaths, &named)?;
+    push_owed(owed, snaps, ino, cell, &deaths, named)?;
     Ok(())
 }
 

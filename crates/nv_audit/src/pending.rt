@@ -98,19 +98,3 @@ pub(crate) fn listed(alloc: Global, records: &Records) -> Result<Vec<Record>, Al
 {
     records.iter().collect(alloc)
 }
-
-/// Puts the parts of an inode among these to the end of a list.
-pub(crate) fn push_of_inode(
-    named: &mut Vec<PartId>,
-    ino: Ino,
-    parts: &[InodePart],
-) -> Result<(), AllocError>
-    ensures { OnOk result (named.new.items ≡ named.old.items ++ of_inode ino parts.now) }
-{
-    for part in parts {
-        if part.ino == ino {
-            named.push(part.part)?;
-        }
-    }
-    Ok(())
-}

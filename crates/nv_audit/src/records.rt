@@ -18,10 +18,12 @@ use nv_entry::PartId;
 use std::alloc::{AllocError, Global};
 
 /// Whether for each living snapshot the recorded parts that it holds are those that the logs say: of the pairs that it
-/// holds those that are neither current nor in a hand. Costs for each inode a pass over the parts in hands and one over
-/// its log, with a look-up for each entry, and for each part a look-up and one of snapshots; for each snapshot a pass
-/// over all records and over as many that the logs say; and the number of the parts that the snapshot holds, times a
-/// logarithm.
+/// holds those that are neither current nor in a hand.
+///
+/// Where no snapshot lives it costs nothing. Else it costs one pass over the parts in hands, and for each inode one over its log from the end, with a look-up for each
+/// entry, for each part a look-up and one of snapshots, and for each part that is held a scan of those of that inode in
+/// hands; then for each snapshot a pass over all records and one over those that the logs say, and the number of the
+/// parts that it holds, times a logarithm.
 pub fn are_recorded(
     alloc: Global,
     cells: &[InodeCell],
@@ -33,6 +35,9 @@ pub fn are_recorded(
     ensures err { FailsOnly out_of_memory result }
 {
     let snapshots = living(alloc, book)?;
+    if snapshots.is_empty() {
+        return Ok(true);
+    }
     let recorded = all_records(alloc, book)?;
     let owed = owed_records(alloc, book.snaps(), cells, &hands.parts)?;
     let agree = are_held_alike(alloc, &snapshots, &recorded, &owed)?;

@@ -32,9 +32,12 @@ pub(crate) fn retained_parts(
 {
     // The log is one, so that each part has a name of its own.
     cell.use_invariant();
-    let numbers = kept_parts(alloc, cell)?;
     let deaths = deaths_of(alloc, cell)?;
     let mut parts = needed_parts(alloc, retention.snapshots, cell, &deaths)?;
+    if retention.pending.is_empty() {
+        return Ok(parts);
+    }
+    let numbers = kept_parts(alloc, cell)?;
     mark_named(&mut parts, cell, &numbers, retention.pending);
     Ok(parts)
 }

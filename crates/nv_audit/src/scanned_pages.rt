@@ -59,8 +59,8 @@ fn put_entry(pages: &mut FileIndex, block: u64, entry: &Entry) -> Result<(), Fau
     }
 }
 
-/// Sets the pages of a range to the places of an entry, from 0 on. `OutOfMemory` where room was refused. Costs two look-ups
-/// and, where there are more or fewer runs than before, a move of the runs behind.
+/// Sets the pages of a range to the places of an entry, from 0 on. `OutOfMemory` where room was refused. Costs two
+/// look-ups and, where there are more or fewer runs than before, a move of the runs behind.
 pub(crate) fn set_pages(
     pages: &mut FileIndex,
     range: Range<u32>,

@@ -24,8 +24,8 @@ use std::alloc::Global;
 /// `Mismatch` with the first part that differs from one scan of all logs: inode by inode the index, the names and the
 /// counts, and then the records and the free lists. What a cell keeps as its index and names is at all times the scan
 /// of its log, so that these two never differ. `OutOfMemory` where room was refused. It costs what [`are_pages_of`],
-/// [`are_names_of`], [`are_counted`], [`are_recorded`] and [`are_free`] cost, the first three for each inode, and for each
-/// inode three more passes over its log; and a pass over the deferred records and the parts in hands.
+/// [`are_names_of`], [`are_counted`], [`are_recorded`] and [`are_free`] cost, the first three for each inode, and for
+/// each inode three more passes over its log; and a pass over the deferred records and the parts in hands.
 pub fn audit<'a>(
     alloc: Global,
     geometry: &'a Geometry,

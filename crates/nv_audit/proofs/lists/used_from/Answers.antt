@@ -29,4 +29,4 @@ loop-place-preserved c =
     (λ n x xs. refl)
     (states_of c.args.cells.now) i cell.state (as_many c.args.cells.now i c.loop-place-test.true)
     (state_at c.args.cells.now i cell c.loop-place-test.true c.index-cells-place.is) c.loop-place.used.items c.push_used.new.used.items _
-    (c.in_ok-push_used.ensures ∙ ap (λ ys. c.loop-place.used.items ++ ys) same) c.loop-place.invariant
+    (c.in_ok-push_used.ensures.ok ∙ ap (λ ys. c.loop-place.used.items ++ ys) same) c.loop-place.invariant

@@ -2,7 +2,9 @@ use Rattle.std.proofs.Common.{◌≡◌, ◌<◌, List, length, get_or, arith, a
 use Rattle.nv_entry.specs.declared.item.Entry.{Entry}
 use Rattle.nv_epoch.specs.SnapList.{ids}
 use Rattle.nv_log.specs.Chain.{log}
-use Rattle.nv_audit.proofs.Owing.{divided, enough, owed_more}
+use Rattle.nv_audit.proofs.Covers.{death_of}
+use Rattle.nv_audit.proofs.DividedPairs.{divided, enough}
+use Rattle.nv_audit.proofs.Owing.{owed_more}
 use Rattle.nv_audit.proofs.owed.push_owed.Goals as goal
 
 pub split_at-requires : goal.split_at-requires
@@ -13,7 +15,7 @@ split_at-requires c =
     let all : c.log-entry-items.result.now ≡ log cell.chain = c.log-entry-items.ensures.value ∙ ap log c.log.ensures.state in
     let lt : i < length (log cell.chain) = omega (arith, c.loop-entry-test.true, ap (λ (l : List Entry). length l) all) in
     let at : e ≡ get_or (log cell.chain) i e = c.entry-item.is ∙ ap (λ (l : List Entry). get_or l i e) all in
-    enough cell.block i c.part_count.result (log cell.chain) e c.loop-entry.left.now lt at c.loop-entry.invariant.left c.part_count.ensures
+    enough death_of cell.block i c.part_count.result (log cell.chain) e c.loop-entry.left.now lt at c.loop-entry.invariant.left c.part_count.ensures
 
 pub loop-entry-preserved : goal.loop-entry-preserved
 loop-entry-preserved c =
@@ -23,7 +25,7 @@ loop-entry-preserved c =
     let all : c.log-entry-items.result.now ≡ log cell.chain = c.log-entry-items.ensures.value ∙ ap log c.log.ensures.state in
     let lt : i < length (log cell.chain) = omega (arith, c.loop-entry-test.true, ap (λ (l : List Entry). length l) all) in
     let at : e ≡ get_or (log cell.chain) i e = c.entry-item.is ∙ ap (λ (l : List Entry). get_or l i e) all in
-    let parts = divided cell.block i c.part_count.result (log cell.chain) e c.loop-entry.left.now c.split_at.result.0.now
+    let parts = divided death_of cell.block i c.part_count.result (log cell.chain) e c.loop-entry.left.now c.split_at.result.0.now
     c.split_at.result.1.now lt at c.loop-entry.invariant.left c.part_count.ensures c.split_at.ensures.front c.split_at.ensures.back in
     record {
       left = parts.others;

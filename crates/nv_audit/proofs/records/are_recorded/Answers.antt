@@ -1,4 +1,4 @@
-use Rattle.std.proofs.Common.{List, ap₂, ◌∙◌}
+use Rattle.std.proofs.Common.{◌≡◌, ℕ, List, length, ap, ap₂, arith, eqb-true, refl, sym, vec_len, ◌∙◌}
 use Rattle.nv_epoch.specs.SnapList.{Snapshots, ids}
 use Rattle.nv_audit.specs.Owed.{owed_records_from}
 use Rattle.nv_audit.specs.Records.{states_of}
@@ -16,3 +16,14 @@ returns-clause-ok c =
     (c.deref-4.ensures.value ∙ c.in_ok-owed.ensures.ok
     ∙ ap₂ (λ (ss : Snapshots) (ps : List InodePart). owed_records_from (ids ss) ps 0 states) c.snaps.ensures.snaps c.deref.ensures.value) in
     (λ t. told.0 (c.in_ok-agree.ensures.0 t), λ all. c.in_ok-agree.ensures.1 (told.1 all))
+
+-- no snapshot lives
+pub returns-then-is_empty-clause-ok : goal.returns-then-is_empty-clause-ok
+returns-then-is_empty-clause-ok c =
+    let none : length (ids c.args.book.now.state.snaps) ≡ 0 = omega (
+      arith,
+      ap (λ (l : List ℕ). length l) c.in_ok-snapshots.ensures,
+      c.in_ok-snapshots.snapshots.ok,
+      eqb-true (vec_len c.in_ok-snapshots.snapshots) 0 (sym c.if-is_empty.ensures),
+    ) in
+    (λ t k d lt part. absurd (omega (arith, lt, none)), λ all. refl)
