@@ -1,12 +1,11 @@
 //! What an actor has in its hand.
 
-ghost use Rattle.std.specs.Prelude.{◌≡◌};
+ghost use Rattle.std.specs.Prelude.{◌≡◌, ◌⊎◌, None, length};
+ghost use Rattle.nv_calls.specs.Commit.{begun, stamp_of};
 
 use nv_alloc::Hand;
-use nv_base::Geometry;
+use nv_book::Book;
 use nv_calls::{Commit, Ready};
-use std::alloc::Global;
-use std::mem;
 
 /// What an actor has taken and not yet placed: its hand, and with it what its call appends once that is made ready, and
 /// how far its commit has come.
@@ -19,18 +18,48 @@ pub(crate) enum Reservation {
 }
 
 impl Reservation {
-    /// Takes all out. An empty hand stays.
-    pub(crate) fn take(&mut self, alloc: Global, geometry: &Geometry) -> Reservation
-        ensures { result ≡ self.old }
+    /// What is ready begins the book's latest commit.
+    pub(crate) fn begin(self, book: &Book) -> (Reservation, ())
+        ensures { (ready : Ready) → self ≡ Reservation.Ready ready
+            → result.0 ≡ Reservation.Commit (begun (stamp_of book.now.state) ready) }
     {
-        mem::replace(self, Reservation::Hand(Hand::new(alloc, geometry)))
+        match self {
+            Reservation::Ready(ready) => (Reservation::Commit(Commit::begin(ready, book)), ()),
+            other => (other, ()),
+        }
     }
 
-    /// Puts another in its place. What an actor had in its hand until then is with its call.
-    pub(crate) fn put(&mut self, after: Reservation)
-        ensures { self.new ≡ after }
+    /// What is ready is given up before its commit: the hand stays.
+    pub(crate) fn give_up(self, none: ()) -> (Reservation, ())
+        ensures { (ready : Ready) → self ≡ Reservation.Ready ready
+            → result.0 ≡ Reservation.Hand ready.hand }
     {
-        mem::replace(self, after).dismantle();
+        match self {
+            Reservation::Ready(ready) => (Reservation::Hand(ready.into_hand()), none),
+            other => (other, none),
+        }
+    }
+
+    /// A commit is over: what it left in the hand stays.
+    pub(crate) fn leave(self, none: ()) -> (Reservation, ())
+        requires { (commit : Commit) → self ≡ Reservation.Commit commit
+            → ((commit.published ≡ 0) ⊎ (commit.retired ≡ length commit.plans))
+            × (commit.journal ≡ None) }
+        ensures { (commit : Commit) → self ≡ Reservation.Commit commit
+            → result.0 ≡ Reservation.Hand commit.hand }
+    {
+        match self {
+            Reservation::Commit(commit) => (Reservation::Hand(commit.into_hand()), none),
+            other => (other, none),
+        }
+    }
+
+    /// What is ready comes in the place of what is held, which is with its call.
+    pub(crate) fn make_ready(self, ready: Ready) -> (Reservation, ())
+        ensures { result.0 ≡ Reservation.Ready ready }
+    {
+        self.dismantle();
+        (Reservation::Ready(ready), ())
     }
 
     /// Takes all apart: for a world that is let go.

@@ -254,10 +254,10 @@ fn handover_step(
     ensures rest { (r : machine.Running) → ShowsCall reserved.old running.old r
         → LeavesOthers actor r shared.old shared.new }
 {
-    match reserved.take(alloc, &shared.geometry) {
-        Reservation::Hand(hand) => ready(alloc, shared, hand, running, reserved),
-        Reservation::Ready(held) => enter(shared, held, running, actor, reserved),
-        Reservation::Commit(commit) => leave(shared, commit, running, reserved),
+    match reserved {
+        Reservation::Hand(_hand) => ready(alloc, shared, reserved, running),
+        Reservation::Ready(_held) => enter(shared, reserved, running, actor),
+        Reservation::Commit(_commit) => leave(shared, reserved, running),
     }
 }
 

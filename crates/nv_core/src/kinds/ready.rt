@@ -7,8 +7,8 @@ ghost use Rattle.nv_core.specs.Appends.{IsPlacedBy};
 ghost use Rattle.nv_core.specs.Frames.{LeavesCells};
 ghost use Rattle.nv_core.specs.Parts.{AreHome, IsOfDevice};
 ghost use Rattle.nv_core.specs.Readied.{planned_by};
-ghost use Rattle.nv_core.specs.Rooms.{HasRooms, HasRoomsAfter};
-ghost use Rattle.nv_core.specs.Shown.{GhostCall, hand_of, held_by, shared_of, shown, shown_by, slots_in, turn_of};
+ghost use Rattle.nv_core.specs.Rooms.{HasRooms, HasRoomsAfter, hand_held};
+ghost use Rattle.nv_core.specs.Shown.{GhostCall, held_by, shared_of, shown, shown_by, slots_in, turn_of};
 ghost use Rattle.nv_core.specs.Steps.{CanGetReady};
 ghost use Rattle.nv_core.specs.GhostCalls.{IsEither, IsReservationOf, IsGhostCallOf};
 
@@ -20,6 +20,7 @@ use crate::reservation::Reservation;
 use crate::running::Running;
 use crate::shared::Shared;
 use crate::turn::Turn;
+use core::mem::replace_with;
 use nv_alloc::Hand;
 use nv_calls::Plan;
 use std::alloc::Global;
@@ -30,28 +31,29 @@ use std::mem;
 pub(crate) fn ready(
     alloc: Global,
     shared: &mut Shared,
-    hand: Hand,
-    running: &mut Running,
     reserved: &mut Reservation,
+    running: &mut Running,
 ) -> Turn
+    requires hand { (hand : Hand) × (reserved.old ≡ Reservation.Hand hand) }
     requires limits { IsWithinLimits shared.old.geometry.numbers }
     requires home { AreHome shared.old }
-    requires device { IsOfDevice shared.old.geometry.numbers hand }
+    requires device { IsOfDevice shared.old.geometry.numbers (hand_held reserved.old) }
     requires next { running.old.next ≡ Next.Ready }
-    requires rooms { HasRooms shared.old (Reservation.Hand hand) running.old }
+    requires rooms { HasRooms shared.old reserved.old running.old }
     requires can { CanGetReady shared.old running.old }
     ensures turn { (told : GhostCall) → IsGhostCallOf running.old told
         → IsEither (λ granted. ready_turn granted shared.old.geometry.numbers.block
-        (shared_of shared.old) (hand_of hand) (shown told running.old))
-        (turn_of result (shared_of shared.new) (held_by reserved.new)
-        (shown_by reserved.new (planned_by reserved.new shared.old hand running.old told) running.new)) }
+        (shared_of shared.old) (held_by reserved.old) (shown told running.old))
+        (turn_of result (shared_of shared.new) (held_by reserved.new) (shown_by reserved.new
+        (planned_by reserved.new shared.old (hand_held reserved.old) running.old told)
+        running.new)) }
     ensures told { (told : GhostCall) → IsGhostCallOf running.old told → IsGhostCallOf running.new told }
     ensures plans { (told : GhostCall) → IsGhostCallOf running.old told
         → IsReservationOf (slots_in running.old.slots) reserved.new
-        (planned_by reserved.new shared.old hand running.old told) }
+        (planned_by reserved.new shared.old (hand_held reserved.old) running.old told) }
     ensures placed { (told : GhostCall) → IsGhostCallOf running.old told
         → IsPlacedBy (slots_in running.old.slots) reserved.new
-        (planned_by reserved.new shared.old hand running.old told) }
+        (planned_by reserved.new shared.old (hand_held reserved.old) running.old told) }
     ensures slots { running.new.slots ≡ running.old.slots }
     ensures goes { result ≢ Turn.Waits }
     ensures rooms { HasRoomsAfter result shared.new reserved.new running.new }
@@ -61,6 +63,10 @@ pub(crate) fn ready(
     let Request::Change(plan, text) = mem::replace(&mut running.request, Request::Given) else {
         unreachable!()
     };
+    let Reservation::Hand(held) = reserved else {
+        unreachable!()
+    };
+    let hand = mem::replace(held, Hand::new(alloc, &shared.geometry));
     let ready = ready_in(
         alloc,
         &mut shared.cells,
@@ -71,13 +77,13 @@ pub(crate) fn ready(
     );
     match ready {
         Ok(ready) => {
-            reserved.put(Reservation::Ready(ready));
+            replace_with(reserved, ready, Reservation::make_ready);
             Turn::Moves
         }
         Err((fault, hand)) => {
-            let turn = refuse(shared, &hand, running, fault);
-            reserved.put(Reservation::Hand(hand));
-            turn
+            let empty = mem::replace(held, hand);
+            empty.dismantle();
+            refuse(shared, held, running, fault)
         }
     }
 }
