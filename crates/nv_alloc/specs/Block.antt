@@ -1,5 +1,5 @@
 -- Blocks: their numbers, and lists of them.
-use Rattle.std.specs.Prelude.{◌≡◌, ℕ, List, [], ◌∷◌, length, map, replicate}
+use Rattle.std.specs.Prelude.{◌≡◌, ℕ, ◌==◌, if◌then◌else◌, List, [], ◌∷◌, Option, Some, None, length, map, replicate}
 use Rattle.std.specs.List.{AllByRecursion, range_with_len}
 use Rattle.nv_alloc.specs.Numbers.{put_by}
 
@@ -13,6 +13,11 @@ number_of block = block.number
 
 abbrev pub numbers_of : List BlockValue → List ℕ
 numbers_of blocks = map number_of blocks
+
+-- the block of a number
+abbrev pub block_by : List BlockValue → ℕ → Option BlockValue
+block_by [] number = None
+block_by (b ∷ blocks) number = if b.number == number then Some b else block_by blocks number
 
 -- each block has this many bytes
 abbrev pub AreSized : ℕ → List BlockValue → Type 0

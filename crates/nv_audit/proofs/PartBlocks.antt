@@ -5,7 +5,7 @@ use Rattle.std.specs.List.{range_with_len}
 use Rattle.std.specs.Option.{option_map}
 use Rattle.std.proofs.lemmas.Bool.Decides.{nat_tests}
 use Rattle.std.proofs.lemmas.Grind.{flat_map-append}
-use Rattle.std.proofs.lemmas.List.{append_assoc, get_or-map, get_or_default, get_or_past, length-append, length-map, take-append-drop}
+use Rattle.std.proofs.lemmas.List.{append_assoc, get_or-map, get_or_default, get_or_past, length-map, take-append-drop}
 use Rattle.std.proofs.lemmas.Option.{slice_get-get_or, slice_get_within}
 use Rattle.nv_alloc.specs.Block.{BlockValue, number_of, numbers_of}
 use Rattle.nv_entry.specs.Covered.{part_count, part_total}
@@ -25,6 +25,7 @@ use Rattle.nv_cell.proofs.NamedParts.{pair_first, pair_later}
 use Rattle.nv_cell.proofs.Numbers.{total_append}
 use Rattle.nv_cell.proofs.PagesNow.{front_block}
 use Rattle.nv_audit.specs.Lists.{block_said, blocks_kept, blocks_said, blocks_had, kept_of, kept_pair, said_of, said_part, used_by}
+use Rattle.nv_entry.proofs.PartLists.{length-pairs}
 
 -- ---- lists by their places
 
@@ -140,12 +141,6 @@ had_is : (o : Option BlockValue) → of_part o ≡ option_to_list (option_map nu
 had_is None = refl
 had_is (Some b) = refl
 
-pub as_many : (block : ℕ) (es : List Entry) → length (pairs block es) ≡ part_total es
-as_many block [] = refl
-as_many block (e ∷ es) =
-    length-append (pairs_of block e es) (pairs block es) ∙ omega
-    (arith, length-map (parts_of e.item) (pair_of block e es), as_many block es)
-
 -- where the marks of a cell are what a retention says, the blocks in use are the pages of its chain and
 -- the blocks that it has
 pub blocks_are_used : (r : Retention) (cell : CellState) → IsCell cell → AreMarksOf r cell
@@ -161,7 +156,7 @@ blocks_are_used r cell is are =
     let kept : flat_map G (range_with_len 0 (part_total log)) ≡ blocks_kept r log =
     kept_numbers r used says 0 log
     (λ n pair q.
-    let few : n < length cell.marks = omega (arith, slice_get_within (pairs r.block log) n pair q, as_many r.block log, is.marks.len) in
+    let few : n < length cell.marks = omega (arith, slice_get_within (pairs r.block log) n pair q, length-pairs r.block log, is.marks.len) in
     let zeroth : 0 + n ≡ n = omega arith in
     ap used zeroth ∙ ap is_there (get_or_default cell.marks n Current Out few) ∙ are.there n pair q)
     (λ n lt.

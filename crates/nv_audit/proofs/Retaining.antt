@@ -24,7 +24,7 @@ use Rattle.nv_entry.specs.declared.part.PartId.{PartId}
 use Rattle.nv_audit.specs.Retained.{is_needed_from, marked_entries, needed_in, retained_in, with_named, with_number}
 use Rattle.nv_audit.proofs.Covers.{death_of}
 use Rattle.nv_audit.proofs.NumberedPairs.{name_of_pair, number_of_pair}
-use Rattle.nv_audit.proofs.PartBlocks.{as_many}
+use Rattle.nv_entry.proofs.PartLists.{length-pairs}
 use Rattle.nv_audit.proofs.Pushing.{step}
 
 -- ---- lists
@@ -176,10 +176,10 @@ all_retained r cell is =
 
 pub needed_count : (snapshots : List ℕ) (cell : CellState) → IsCell cell → length (needed_in snapshots cell) ≡ length cell.marks
 needed_count snapshots cell is =
-    length-map (pairs cell.block (log_of cell)) (is_needed snapshots) ∙ as_many cell.block (log_of cell) ∙ sym is.marks.len
+    length-map (pairs cell.block (log_of cell)) (is_needed snapshots) ∙ length-pairs cell.block (log_of cell) ∙ sym is.marks.len
 
 pub retained_count : (r : Retention) (cell : CellState) → length (retained_in r cell) ≡ part_total (log_of cell)
-retained_count r cell = length-map (pairs cell.block (log_of cell)) (keeps r) ∙ as_many cell.block (log_of cell)
+retained_count r cell = length-map (pairs cell.block (log_of cell)) (keeps r) ∙ length-pairs cell.block (log_of cell)
 
 -- ---- entries
 

@@ -3,11 +3,14 @@ pub mod Blocks
 pub mod Counts
 pub mod Deaths
 pub mod DeviceParts
+pub mod Faults
 pub mod Histories
+pub mod Image
 pub mod Index
 pub mod KeptParts
 pub mod Lists
 pub mod LogShape
+pub mod Mounted
 pub mod Names
 pub mod Nodes
 pub mod Owed

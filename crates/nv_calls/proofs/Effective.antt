@@ -52,7 +52,7 @@ gone_sets block (e ∷ f ∷ log) h =
     sym (ap (λ (o : Option Entry). unwrap_or (option_map (λ (x : Entry). is_last_word x.item) o) false) (last_step e f log)) ∙ h in
     ap (later_of (sets block e.item KindKey)) (gone_sets block (f ∷ log) rest)
 
-gone_node : (bytes : ℕ → List ℕ) (block : ℕ) (log : List Entry) → is_gone log ≡ true → node_now bytes block log ≡ None
+pub gone_node : (bytes : ℕ → List ℕ) (block : ℕ) (log : List Entry) → is_gone log ≡ true → node_now bytes block log ≡ None
 gone_node bytes block log h = ap (λ (s : Setting). node_of_kind (value_of s) bytes block log) (gone_sets block log h)
 
 -- ---- the node under a handle, by its slot

@@ -1,5 +1,5 @@
 -- The counts of a page are those of its log from scratch.
-use Rattle.std.proofs.Common.{◌≡◌, ℕ, zero, suc, ◌+◌, ◌-◌, ◌<◌, ◌≤◌, ◌||◌, Bool, false, not, cond, List, [], ◌∷◌, length, length-append, take, drop, map, Some, arith, refl, ap, sym, ◌∙◌, slice_get, slice_index_or}
+use Rattle.std.proofs.Common.{◌≡◌, ℕ, zero, suc, ◌+◌, ◌-◌, ◌<◌, ◌≤◌, ◌||◌, Bool, false, not, cond, List, [], ◌∷◌, length, take, drop, map, Some, arith, refl, ap, sym, ◌∙◌, slice_get, slice_index_or}
 use Rattle.std.specs.Prelude.{count_by}
 use Rattle.std.specs.List.{flat_map, list_any}
 use Rattle.std.specs.Option.{option_map}
@@ -23,6 +23,7 @@ use Rattle.nv_cell.specs.Readers.{marks_by_entry}
 use Rattle.nv_cell.specs.Retained.{AreMarksOf, LiveIsScanned, ValidIsScanned}
 use Rattle.nv_cell.proofs.NamedParts.{pair_first, pair_later}
 use Rattle.nv_cell.proofs.Runs.{count_cons}
+use Rattle.nv_entry.proofs.PartLists.{length-pairs}
 
 -- ---- a flag for each entry of a log: whether one of its pairs passes a test
 
@@ -181,12 +182,7 @@ currents cell marks n pair q =
     marks.current n lt ∙ ap not (u.numbered n) ∙ sym (at covers n (is_current_pair pair) told)
   where
     low : (es : List Entry) (n : ℕ) (pair : Pair) → slice_get (pairs cell.block es) n ≡ Some pair → n < part_total es
-    low es n pair q = omega (arith, slice_get_within (pairs cell.block es) n pair q, count es) where
-      count : (es : List Entry) → length (pairs cell.block es) ≡ part_total es
-      count [] = refl
-      count (e ∷ es) =
-          length-append (pairs_of cell.block e es) (pairs cell.block es)
-          ∙ omega (arith, length-map (parts_of e.item) (pair_of cell.block e es), count es)
+    low es n pair q = omega (arith, slice_get_within (pairs cell.block es) n pair q, length-pairs cell.block es)
 
     at : (bs : List Bool) (n : ℕ) (b : Bool) → Some b ≡ option_map not (slice_get bs n) → b ≡ not (slice_index_or bs n false)
     at [] n b h = cc

@@ -34,9 +34,6 @@ pub mod GivenReady
 pub mod Gives
 pub mod HeldPages
 pub mod Homes
-pub mod JudgedLogs
-pub mod JudgedNodes
-pub mod JudgedTrees
 pub mod Kept
 pub mod LastTurns
 pub mod LawsHold
@@ -48,6 +45,7 @@ pub mod Opens
 pub mod Others
 pub mod PageParts
 pub mod PassTurns
+pub mod PastEnds
 pub mod PassesSome
 pub mod Pending
 pub mod Phases
@@ -81,6 +79,7 @@ pub mod SpaceLaw
 pub mod Stages
 pub mod StartShown
 pub mod Starts
+pub mod StartsAtRest
 pub mod Stays
 pub mod Stepped
 pub mod SumsTo

@@ -1,7 +1,7 @@
 -- Parts at rest make a world where a run may start.
-use Rattle.std.proofs.Common.{◌≡◌, ℕ, zero, suc, ◌+◌, ◌<◌, ◌≤◌, ◌==◌, ◌&&◌, ◌++◌, ◌∙◌, inl, inr, Bool, true, false, not, cond, List, [], ◌∷◌, Option, Some, None, ap, arith, filter, flat_map, if◌then◌else◌, length, refl, replicate, slice_get, slice_index_or, subst, sym, take}
-use Rattle.std.specs.List.{AllByRecursion, Contains}
-use Rattle.std.proofs.lemmas.Bool.{and_parts, cases_lt, false≢true}
+use Rattle.std.proofs.Common.{◌≡◌, ℕ, zero, suc, ◌+◌, ◌<◌, ◌≤◌, ◌==◌, ◌&&◌, ◌++◌, ◌∙◌, inl, inr, Bool, true, false, not, cond, List, [], ◌∷◌, Option, Some, None, ap, arith, filter, flat_map, if◌then◌else◌, length, refl, replicate, slice_get, slice_index_or, subst, sym}
+use Rattle.std.specs.List.{AllByRecursion}
+use Rattle.std.proofs.lemmas.Bool.{and_parts, cases_lt}
 use Rattle.std.proofs.lemmas.List.{append-nil, get_or_past, length-map, length-replicate, take_all}
 use Rattle.std.proofs.lemmas.List.Elements.{recursion_from_All}
 use Rattle.std.proofs.lemmas.List.Sums.{length-filter}
@@ -11,7 +11,7 @@ use Rattle.nv_audit.specs.KeptParts.{IsRecordOf, records_in}
 use Rattle.nv_audit.specs.LogShape.{IsNoLater}
 use Rattle.nv_audit.specs.PartLists.{is_same, times}
 use Rattle.nv_audit.specs.Records.{IsRecorded, inode_part, is_owed, owed_from, part_in, recorded_as, states_of}
-use Rattle.nv_audit.specs.Resting.{AreAtRest, IsInodeAtRest, IsOfPast}
+use Rattle.nv_audit.specs.Resting.{AreAtRest, IsOfPast}
 use Rattle.nv_audit.specs.declared.part_list.InodePart.{InodePart}
 use Rattle.nv_audit.proofs.PartNames.{same_is}
 use Rattle.nv_book.specs.Book.{BookState}
@@ -42,7 +42,7 @@ use Rattle.nv_journal.specs.declared.old_tail.OldTail.{OldTail}
 use Rattle.nv_machine.specs.Held.{is_of_slot, picked_by_actor}
 use Rattle.nv_machine.specs.Order.{AreLogsOrdered}
 use Rattle.nv_machine.specs.Reading.{ArePins}
-use Rattle.nv_machine.specs.Recorded.{AreRecordedOnce, IsOfPair, is_kept, is_record_of, recorded_in, times_recorded}
+use Rattle.nv_machine.specs.Recorded.{AreRecordedOnce, IsOfPair, is_kept, is_record_of, recorded_in}
 use Rattle.nv_machine.specs.Starts.{IsStart}
 use Rattle.nv_machine.specs.World.{Shared, World, cell_at, idle, no_cell}
 use Rattle.nv_machine.proofs.EachElement.{all_append, all_weaker}
@@ -54,13 +54,13 @@ use Rattle.nv_core.specs.AtRest.{at_rest}
 use Rattle.nv_core.specs.declared.parts.Parts.{Parts}
 use Rattle.nv_core.proofs.AuditCounts.{count_below, count_filter, count_none, no_pass}
 use Rattle.nv_core.proofs.AuditRecords.{both, by_records, in_pairs, owed_at, recorded}
-use Rattle.nv_core.proofs.JudgedLogs.{all_shaped, all_sound}
-use Rattle.nv_core.proofs.JudgedNodes.{tree_at, tree_now}
+use Rattle.nv_restart.proofs.JudgedLogs.{all_shaped, all_sound}
+use Rattle.nv_restart.proofs.JudgedNodes.{tree_at, tree_now}
 use Rattle.nv_core.proofs.RestingParts.{rest_early, rest_erased, rest_lists, rest_once, rest_pages, rest_pool, rest_sizes}
 
 -- ---- lists
 
-all_alike : {X : Type 0} (x : X) (n k : ℕ) → slice_index_or (replicate n x) k x ≡ x
+pub all_alike : {X : Type 0} (x : X) (n k : ℕ) → slice_index_or (replicate n x) k x ≡ x
 all_alike x zero k = refl
 all_alike x (suc n) zero = refl
 all_alike x (suc n) (suc k) = all_alike x n k
@@ -98,11 +98,11 @@ all_filed : (P : Record → Type 0) (ms : List Manifest)
 all_filed P [] all = tt
 all_filed P (m ∷ ms) all = all_append P m.records (all_records ms) all.0 (all_filed P ms all.1)
 
-no_picks : (k : ℕ) → flat_map picked_by_actor (replicate k idle) ≡ []
+pub no_picks : (k : ℕ) → flat_map picked_by_actor (replicate k idle) ≡ []
 no_picks zero = refl
 no_picks (suc k) = no_picks k
 
-kept_same : (m : Mark) → audit.is_kept m ≡ is_kept m
+pub kept_same : (m : Mark) → audit.is_kept m ≡ is_kept m
 kept_same Current = refl
 kept_same Killed = refl
 kept_same Kept = refl

@@ -1,10 +1,9 @@
 -- What the questions of lists, slots, the pool and blocks give of the world at rest that parts make.
-use Rattle.std.proofs.Common.{◌≡◌, ℕ, zero, suc, ◌+◌, ◌<◌, ◌≤◌, ◌++◌, inl, inr, Bool, true, false, List, [], ◌∷◌, cond, length, not, replicate, arith, refl, ap, ap₂, sym, subst, ◌∙◌, slice_index_or}
+use Rattle.std.proofs.Common.{◌≡◌, ℕ, zero, suc, ◌+◌, ◌<◌, ◌≤◌, ◌++◌, inl, inr, Bool, true, false, List, [], ◌∷◌, cond, length, not, replicate, arith, refl, ap, ap₂, sym, subst, ◌∙◌}
 use Rattle.std.specs.Prelude.{◌||◌}
 use Rattle.std.specs.List.{flat_map}
 use Rattle.std.proofs.lemmas.Bool.{cases_lt, false≢true}
 use Rattle.std.proofs.lemmas.List.{append-nil, get_or_past}
-use Rattle.nv_base.specs.declared.geometry.GeometryNumbers.{GeometryNumbers}
 use Rattle.nv_base.specs.declared.limits.TheConstants.{NUMBER}
 use Rattle.nv_alloc.specs.Numbers.{IsEachOnce, has, unused}
 use Rattle.nv_log.specs.Chain.{AreEnds}
@@ -32,13 +31,21 @@ no_blocks : (k : ℕ) → flat_map held_by_actor (replicate k idle) ≡ []
 no_blocks zero = refl
 no_blocks (suc k) = no_blocks k
 
+abbrev with_hands : Parts → List ℕ → List ℕ
+with_hands parts held = flat_map free_of parts.lists ++ (flat_map stored_in (states_of parts.cells) ++ held)
+
+all_same : (parts : Parts) → audit.all_blocks parts.lists (states_of parts.cells) ≡ all_blocks (at_rest parts)
+all_same parts =
+    ap (λ (ns : List ℕ). flat_map free_of parts.lists ++ ns) (sym (append-nil (flat_map stored_in (states_of parts.cells))))
+    ∙ ap (with_hands parts) (sym (no_blocks parts.geometry.numbers.actors))
+
 pub rest_once : (parts : Parts) → IsEachOnce parts.geometry.numbers.blocks (audit.all_blocks parts.lists (states_of parts.cells))
     → IsEachOnce parts.geometry.numbers.blocks (all_blocks (at_rest parts))
-rest_once parts =
-    let stored = flat_map stored_in (states_of parts.cells) in
-    let none : stored ≡ stored ++ flat_map held_by_actor (replicate parts.geometry.numbers.actors idle) =
-    sym (append-nil stored) ∙ ap (λ (ns : List ℕ). stored ++ ns) (sym (no_blocks parts.geometry.numbers.actors)) in
-    subst (λ (ns : List ℕ). IsEachOnce parts.geometry.numbers.blocks (flat_map free_of parts.lists ++ ns)) none
+rest_once parts = subst (IsEachOnce parts.geometry.numbers.blocks) (all_same parts)
+
+pub rest_once_is : (parts : Parts) → IsEachOnce parts.geometry.numbers.blocks (all_blocks (at_rest parts))
+    → IsEachOnce parts.geometry.numbers.blocks (audit.all_blocks parts.lists (states_of parts.cells))
+rest_once_is parts = subst (IsEachOnce parts.geometry.numbers.blocks) (sym (all_same parts))
 
 -- ---- slots
 
@@ -101,12 +108,20 @@ or_none true b = refl
 or_none false true = refl
 or_none false false = refl
 
-pub rest_pool : (parts : Parts) → IsPoolOf parts.geometry.numbers (states_of parts.cells) parts.pool
-    → parts.pool.numbers ≡ pool_from_scratch parts.geometry.numbers (at_rest parts)
-rest_pool parts is =
+pool_same : (parts : Parts)
+    → unused (is_used (states_of parts.cells)) 0 parts.geometry.numbers.inodes ≡ pool_from_scratch parts.geometry.numbers (at_rest parts)
+pool_same parts =
     let w = at_rest parts in
     let g = parts.geometry.numbers in
-    is.numbers ∙ unused_same (is_used (states_of parts.cells)) (is_number_used w) (λ n.
+    unused_same (is_used (states_of parts.cells)) (is_number_used w) (λ n.
     let slot = slot_in parts n in
     let free : false ≡ has (numbers_held w) n = ap (λ (ns : List ℕ). has ns n) (sym (no_numbers g.actors)) in
     or_none (has_inode slot) (is_withheld slot) ∙ ap (λ (held : Bool). has_inode slot || is_withheld slot || held) free) 0 g.inodes
+
+pub rest_pool : (parts : Parts) → IsPoolOf parts.geometry.numbers (states_of parts.cells) parts.pool
+    → parts.pool.numbers ≡ pool_from_scratch parts.geometry.numbers (at_rest parts)
+rest_pool parts is = is.numbers ∙ pool_same parts
+
+pub rest_pool_is : (parts : Parts) → parts.pool.numbers ≡ pool_from_scratch parts.geometry.numbers (at_rest parts)
+    → parts.pool.numbers ≡ unused (is_used (states_of parts.cells)) 0 parts.geometry.numbers.inodes
+rest_pool_is parts is = is ∙ sym (pool_same parts)

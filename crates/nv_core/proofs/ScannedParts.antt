@@ -10,7 +10,7 @@ use Rattle.std.proofs.lemmas.List.Folds.{list_any-append}
 use Rattle.std.proofs.lemmas.List.Sums.{length-filter, sum_by-cons}
 use Rattle.std.proofs.lemmas.Option.{get_or_from_slice_get, same_Some}
 use Rattle.nv_alloc.specs.Block.{BlockValue, number_of}
-use Rattle.nv_audit.proofs.PartBlocks.{as_many}
+use Rattle.nv_entry.proofs.PartLists.{length-pairs}
 use Rattle.nv_base.specs.declared.geometry.GeometryNumbers.{GeometryNumbers}
 use Rattle.nv_book.specs.Book.{BookState}
 use Rattle.nv_book.specs.Listed.{all_records}
@@ -358,7 +358,7 @@ module _ (g : GeometryNumbers) (start : World) (records : List Record) (events :
       let both : Pair → ℕ = λ pair. one (needed pair) + one (pending pair) in
       let at : ℕ → ℕ = one_at w.shared.book (births log) cell.marks cell.blocks in
       sym (kept_by_number w.shared.book (births log) cell.marks cell.blocks)
-      ∙ ap (λ (k : ℕ). sum_to k at) (length_births log ∙ sym (as_many cell.block log))
+      ∙ ap (λ (k : ℕ). sum_to k at) (length_births log ∙ sym (length-pairs cell.block log))
       ∙ sum_same (length (pairs_in cell)) at (λ n. both (slice_index_or (pairs_in cell) n no_pair))
       (λ n low. place n low (slice_get (pairs_in cell) n) refl)
       ∙ sum_list both (pairs_in cell) no_pair ∙ two_counts needed pending (pairs_in cell) where

@@ -9,9 +9,10 @@ use Rattle.nv_cell.proofs.ValuesNow.{IsLog-take}
 use Rattle.nv_cell.specs.Cell.{CellState, log_of, page_block}
 use Rattle.nv_entry.specs.Log.{IsLog}
 use Rattle.nv_entry.specs.declared.item.Entry.{Entry}
+use Rattle.nv_journal.specs.Journal.{settled_tail}
 use Rattle.nv_machine.specs.Kept.{HasPages}
 use Rattle.nv_machine.specs.Reached.{IsReached}
-use Rattle.nv_machine.specs.Settled.{settled, settled_tail}
+use Rattle.nv_machine.specs.Settled.{settled}
 use Rattle.nv_machine.specs.World.{Shared, cell_at}
 use Rattle.nv_reader.specs.Cells.{NoneOut}
 use Rattle.nv_core.proofs.PageParts.{front_in}

@@ -1,5 +1,6 @@
 -- Settled logs, the tree that they give, and what of a cell shows its node.
-pub use Rattle.nv_machine.specs.Settled.{noted_or, settled_tail, settled, node_by, settled_copies, settled_nodes, snapshot_tree, tree_of}
+pub use Rattle.nv_journal.specs.Journal.{noted_or, settled_tail}
+pub use Rattle.nv_machine.specs.Settled.{settled, node_by, settled_copies, settled_nodes, snapshot_tree, tree_of}
 use Rattle.std.specs.Prelude.{◌≡◌, ℕ, ◌<◌, ◌≤◌, List, [], length}
 use Rattle.nv_base.specs.declared.numbers.Handle.{Handle}
 use Rattle.nv_calls.specs.Plain.{node_in}

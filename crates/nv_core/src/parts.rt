@@ -2,6 +2,7 @@
 
 ghost use Rattle.std.specs.Prelude.{◌≡◌, ◌⊎◌, IfErr, IfOk, None, OnOk, length, replicate};
 ghost use Rattle.std.specs.List.{list_any};
+ghost use Rattle.nv_audit.specs.AtRest.{IsOneBook};
 ghost use Rattle.nv_base.specs.Memory.{out_of_memory};
 ghost use Rattle.nv_base.specs.Refusals.{FailsOnly};
 ghost use Rattle.nv_base.specs.declared.fault.Fault.TheVariants.{ActorBusy};
@@ -63,12 +64,13 @@ impl Parts {
 }
 
 impl World {
-    /// Takes the world apart, where no actor has a call: they are the parts of a world at rest. Else the world comes
-    /// back by `ActorBusy`, as it was. Takes no memory.
+    /// Takes the world apart, where no actor has a call: they are the parts of a world at rest, and [`World::from_parts`]
+    /// finds none that differs. Else the world comes back by `ActorBusy`, as it was. Takes no memory.
     pub fn into_parts(self) -> Result<Parts, (Fault, World)>
         ensures ok { IfOk result (λ parts. parts ≡ parts_of self.shared) }
         ensures rest { (m : machine.World) → Shows self m
             → IfOk result (λ parts. m ≡ at_rest parts) }
+        ensures judged { IfOk result (λ parts. AreJudged parts) }
         ensures err { (m : machine.World) → Shows self m
             → IfErr result (λ refused. (refused.0 ≡ ActorBusy) × IsBusy m) }
         ensures same { IfErr result (λ refused. refused.1 ≡ self) }
@@ -76,7 +78,9 @@ impl World {
         if has_call(&self.actors) {
             return Err((Fault::ActorBusy, self));
         }
-        Ok(self.into_shared().into_parts())
+        let parts = self.into_shared().into_parts();
+        use_book(&parts.book);
+        Ok(parts)
     }
 }
 
@@ -109,13 +113,15 @@ impl World {
     ///
     /// `Mismatch` with the first part that differs from those of a world at rest: inode by inode the index, the names and
     /// the counts, then the names of all directories, the records and the lists. `OutOfMemory` where room was refused, that
-    /// of the actors before anything is judged. The very parts come back. It costs what [`nv_audit::rest_differs`] does.
+    /// of the actors before anything is judged. Parts at rest, as [`World::into_parts`] gives them, never differ. The very
+    /// parts come back. It costs what [`nv_audit::rest_differs`] does.
     pub fn from_parts(alloc: Global, parts: Parts) -> Result<World, (Fault, Parts)>
         ensures ok { IfOk result (λ world. Shows world (at_rest parts)) }
         ensures parts { IfOk result (λ world. parts_of world.shared ≡ parts) }
         ensures judged { OnOk result (AreJudged parts) }
         ensures err { IfErr result (λ refused.
             (refused.0 ≡ out_of_memory) ⊎ IsMismatchOf parts refused.0) }
+        ensures passes { AreJudged parts → IfErr result (λ refused. refused.0 ≡ out_of_memory) }
         ensures same { IfErr result (λ refused. refused.1 ≡ parts) }
     {
         let (owners, actors) = match idle(alloc, &parts) {
@@ -200,6 +206,15 @@ fn judge(alloc: Global, parts: &Parts) -> Result<(), Fault>
         Some(part) => Err(Fault::Mismatch(part)),
         None => Ok(()),
     }
+}
+
+/// What holds of each book.
+fn use_book(book: &Book)
+    ensures { IsOneBook book.now.state }
+{
+    // The snapshots tell that their numbers rise and that records are filed, the last commit that it fits.
+    let _epoch = book.snaps().epoch();
+    let _commit = book.commit();
 }
 
 /// Whether one of these actors has a call.

@@ -1,56 +1,24 @@
-//! What cells that were judged give of a world at rest: laws, each the contract of a function that does nothing.
+//! Where parts that were judged make a world: a law, the contract of a function that does nothing.
 
-ghost use Rattle.std.specs.Prelude.{ℕ, ◌<◌, length};
-ghost use Rattle.std.specs.List.{Contains};
-ghost use Rattle.nv_alloc.specs.Numbers.{IsEachOnce};
+ghost use Rattle.std.specs.Prelude.{◌≡◌};
+ghost use Rattle.nv_audit.specs.AtRest.{IsOneBook};
 ghost use Rattle.nv_audit.specs.KeptParts.{records_in};
-ghost use Rattle.nv_audit.specs.Nodes.{AreTrees};
-ghost use Rattle.nv_audit.specs.Sound.{EndsAtSize};
-ghost use Rattle.nv_calls.specs.Plain.{node_in};
-ghost use Rattle.nv_cell.specs.Cell.{IsCell, log_of};
-ghost use Rattle.nv_cell.specs.Shape.{IsLeftShaped};
-ghost use Rattle.nv_epoch.specs.SnapList.{ids};
-ghost use Rattle.nv_machine.specs.Directories.{AreTree};
-ghost use Rattle.nv_machine.specs.Effects.{AreSound};
-ghost use Rattle.nv_machine.specs.Kept.{AreClosed};
-ghost use Rattle.nv_machine.specs.Numbers.{all_blocks};
-ghost use Rattle.nv_machine.specs.Settled.{settled_copies, settled_nodes};
-ghost use Rattle.nv_machine.specs.Shapes.{AreShaped};
 ghost use Rattle.nv_machine.specs.Starts.{IsStart};
-ghost use Rattle.nv_machine.specs.World.{Shared, World, cell_at};
+ghost use Rattle.nv_machine.specs.Step.{after};
 ghost use Rattle.nv_core.specs.AtRest.{AreJudged, at_rest};
+ghost use Rattle.nv_core.specs.Worlds.{EventRun};
 ghost use Rattle.nv_core.specs.declared.parts.Parts.{Parts};
-
-/// Where no journal is open, and the nodes of the cells form trees now and at each living snapshot, so do the settled
-/// nodes and the copies of each snapshot.
-pub fn judged_trees_are_trees()
-    ensures now { (s : Shared) → AreClosed s.book.journals → AreTrees (ids s.book.snaps) s.cells
-        → AreTree (node_in (settled_nodes s)) }
-    ensures at { (s : Shared) (snapshot : ℕ) → AreClosed s.book.journals
-        → AreTrees (ids s.book.snaps) s.cells → Contains (ids s.book.snaps) snapshot
-        → AreTree (settled_copies s snapshot) }
-{}
-
-/// Where no journal is open and the log of each cell is of its shape, so are the settled logs.
-pub fn judged_logs_are_shaped()
-    ensures { (block : ℕ) (s : Shared) → AreClosed s.book.journals
-        → ((ino : ℕ) → ino < length s.cells → IsLeftShaped block (log_of (cell_at s ino)))
-        → AreShaped block s }
-{}
-
-/// Where beside it each block number stands once and the file of each cell ends at its size, they are sound.
-pub fn judged_logs_are_sound()
-    ensures { (many : ℕ) (w : World) → AreClosed w.shared.book.journals
-        → IsEachOnce many (all_blocks w)
-        → ((ino : ℕ) → ino < length w.shared.cells → IsCell (cell_at w.shared ino))
-        → ((ino : ℕ) → ino < length w.shared.cells
-        → IsLeftShaped (cell_at w.shared ino).block (log_of (cell_at w.shared ino)))
-        → ((ino : ℕ) → ino < length w.shared.cells → EndsAtSize (cell_at w.shared ino))
-        → AreSound w.shared }
-{}
 
 /// Parts at rest make, with actors that have no calls, a world where a run may start, with the records of the book.
 pub fn parts_at_rest_are_a_start()
     ensures { (parts : Parts) → AreJudged parts
         → IsStart parts.geometry.numbers (at_rest parts) (records_in parts.book.state) }
+{}
+
+/// And the other way round: the parts of a world in which no call runs, and to which events lead from a start, are at rest,
+/// where their book is one, as each [`nv_book::Book`] is.
+pub fn parts_of_worlds_without_calls_are_at_rest()
+    ensures { (parts : Parts) (run : EventRun) → IsOneBook parts.book.state
+        → IsStart parts.geometry.numbers run.start run.records
+        → at_rest parts ≡ after run.start run.events → AreJudged parts }
 {}

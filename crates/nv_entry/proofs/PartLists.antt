@@ -1,12 +1,16 @@
--- The parts of an item as a list.
+-- The parts of an item as a list, and how many pairs a log has.
 use Rattle.std.proofs.Common.{add-one, ◌≡◌, ℕ, zero, suc, ◌+◌, ◌-◌, ◌<◌, min, List, [], ◌∷◌, length, map, drop, Some, None, arith, refl, ap, ◌∙◌}
 use Rattle.std.specs.Prelude.{slice_get}
 use Rattle.std.proofs.Math.Seq.{drop-cons}
+use Rattle.std.proofs.lemmas.List.{length-append, length-map}
 use Rattle.std.proofs.lemmas.List.FromFn.{length-map-range_with_len, get_or-map-range_with_len}
 use Rattle.std.proofs.lemmas.Option.{get_or_from_slice_get, slice_get-get_or, slice_get_within}
 use Rattle.nv_entry.specs.declared.item.BlockRun.{BlockRun}
+use Rattle.nv_entry.specs.declared.item.Entry.{Entry}
 use Rattle.nv_entry.specs.declared.part.Part.TheVariants as part
-use Rattle.nv_entry.specs.Keys.{run_pages}
+use Rattle.nv_entry.specs.Covered.{part_total}
+use Rattle.nv_entry.specs.Keys.{parts_of, run_pages}
+use Rattle.nv_entry.specs.Log.{pair_of, pairs, pairs_of}
 
 -- how many parts a write has
 pub length-written : (first : ℕ) (run : BlockRun) → length (part.Size ∷ map part.Page (run_pages first run)) ≡ 1 + min run.len (65536 - first)
@@ -35,3 +39,10 @@ drop-none (y ∷ xs) (suc i) h = drop-none xs i h
 
 pub drop-less : {A : Type 0} (xs : List A) (i : ℕ) (x : A) → slice_get xs i ≡ Some x → length (drop (i + 1) xs) < length (drop i xs)
 drop-less xs i x h = let e = ap length (drop-some xs i x h) in omega (arith, e)
+
+-- a log has as many pairs as parts
+pub length-pairs : (block : ℕ) (log : List Entry) → length (pairs block log) ≡ part_total log
+length-pairs block [] = refl
+length-pairs block (e ∷ log) =
+    length-append (pairs_of block e log) (pairs block log)
+    ∙ omega (arith, length-map (parts_of e.item) (pair_of block e log), length-pairs block log)

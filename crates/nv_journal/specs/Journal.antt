@@ -1,5 +1,5 @@
 -- What a journal has noted: inodes, each with the tail that its log had before.
-use Rattle.std.specs.Prelude.{◌≢◌, ℕ, ◌<◌, ◌≤◌, ◌==◌, List, length, Option, AllPairs}
+use Rattle.std.specs.Prelude.{◌≢◌, ℕ, ◌<◌, ◌≤◌, ◌==◌, List, [], ◌∷◌, length, Option, Some, None, AllPairs}
 use Rattle.std.specs.List.{find}
 use Rattle.std.specs.Option.{option_map}
 use Rattle.nv_journal.specs.declared.old_tail.OldTail.{OldTail}
@@ -21,3 +21,12 @@ pub record IsJournal (tails : List OldTail) : Type 0 where
 -- the tail that is noted for the inode
 abbrev pub tail_noted : List OldTail → ℕ → Option ℕ
 tail_noted tails ino = option_map (λ t. t.tail) (find (λ t. t.ino == ino) tails)
+
+abbrev pub noted_or : Option ℕ → ℕ → ℕ
+noted_or (Some tail) other = tail
+noted_or None other = other
+
+-- the tail up to which a log is settled: the one that an open journal notes for its inode, else its own
+abbrev pub settled_tail : List (List OldTail) → ℕ → ℕ → ℕ
+settled_tail [] ino tail = tail
+settled_tail (tails ∷ journals) ino tail = noted_or (tail_noted tails ino) (settled_tail journals ino tail)

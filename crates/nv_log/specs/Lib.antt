@@ -1,3 +1,4 @@
 pub mod CommitRun
 pub mod Chain
 pub mod Fields
+pub mod Image

@@ -149,7 +149,7 @@ among_at (Some c ∷ xs) apart (suc n) b h = go (c.number == b.number) refl (amo
 whole : (es : List Entry) (t : ℕ) → take t es ++ drop t es ≡ es
 whole es t = take-append-drop t es
 
-front_says : (block : ℕ) (es : List Entry) (t n : ℕ) → n < part_total (take t es) → page_block block es n ≡ page_block block (take t es) n
+pub front_says : (block : ℕ) (es : List Entry) (t n : ℕ) → n < part_total (take t es) → page_block block es n ≡ page_block block (take t es) n
 front_says block es t n lt =
     ap (λ (xs : List Entry). page_block block xs n) (sym (whole es t)) ∙ front_block block (take t es) (drop t es) n lt
 

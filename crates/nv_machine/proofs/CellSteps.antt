@@ -1,11 +1,12 @@
 -- What the steps of a commit leave of a cell: its pages, and the node of a log that is there already.
-use Rattle.std.proofs.Common.{◌≡◌, ℕ, zero, suc, ◌-◌, ◌≤◌, ◌&&◌, ◌++◌, ◌∙◌, Bool, true, false, cond, List, [], ◌∷◌, Option, Some, None, ap, append-nil, append_assoc, arith, drop, filter, flat_map, length, length-append, map, nat_lt, refl, set, slice_get, slice_index_or, subst, sym, take}
+use Rattle.std.proofs.Common.{◌≡◌, ℕ, zero, suc, ◌-◌, ◌≤◌, ◌&&◌, ◌++◌, ◌∙◌, Bool, true, false, cond, List, [], ◌∷◌, Option, Some, None, ap, append-nil, append_assoc, arith, drop, filter, flat_map, length, length-append, map, nat_lt, refl, set, slice_index_or, subst, sym, take}
 use Rattle.std.specs.Prelude.{unwrap_or, option_to_list}
 use Rattle.std.specs.List.{AllByRecursion, range_with_len}
 use Rattle.std.specs.Option.{option_map}
 use Rattle.std.proofs.lemmas.Bool.{and_parts, true≢false}
 use Rattle.std.proofs.lemmas.List.{take-append-le}
 use Rattle.nv_alloc.specs.Block.{BlockValue, number_of, numbers_of}
+use Rattle.nv_calls.proofs.Effective.{gone_node}
 use Rattle.nv_calls.specs.Plain.{stamped}
 use Rattle.nv_calls.specs.Retiring.{keeper_of, retired, retired_one, settled as settled_part}
 use Rattle.nv_calls.specs.Slots.{last_commit}
@@ -13,20 +14,16 @@ use Rattle.nv_cell.specs.Append.{IsWithinFile, appended, blocks_for}
 use Rattle.nv_cell.specs.Cell.{CellState, empty_cell, killed_by, log_of, number_in, published}
 use Rattle.nv_cell.specs.Named.{number_named}
 use Rattle.nv_cell.specs.Numbers.{dies, killed_part}
-use Rattle.nv_cell.specs.Readers.{is_erased, is_gone, is_last_word, keeps_nothing}
+use Rattle.nv_cell.specs.Readers.{is_erased, is_gone, keeps_nothing}
 use Rattle.nv_cell.specs.declared.killed.KilledPart.{KilledPart}
 use Rattle.nv_cell.proofs.NamedParts.{names_of_parts}
 use Rattle.nv_cell.proofs.Publishing.{take_whole}
 use Rattle.nv_entry.specs.Blocks.{item_blocks}
 use Rattle.nv_entry.specs.Covered.{is_covered, part_total}
-use Rattle.nv_entry.specs.Keys.{KindKey, sets}
-use Rattle.nv_entry.specs.Log.{IsLog, last_setting, later_of}
-use Rattle.nv_entry.specs.Node.{block_now, node_now}
+use Rattle.nv_entry.specs.Log.{IsLog}
+use Rattle.nv_entry.specs.Node.{block_now}
 use Rattle.nv_entry.specs.declared.item.Entry.{Entry}
 use Rattle.nv_entry.specs.declared.item.Item.{Item}
-use Rattle.nv_entry.specs.declared.item.Item.TheVariants.{Gone}
-use Rattle.nv_entry.specs.declared.key.Setting.{Setting}
-use Rattle.nv_entry.specs.declared.key.Setting.TheVariants.{Untouched, Absent}
 use Rattle.nv_machine.specs.Effects.{IsSoundIn}
 use Rattle.nv_machine.specs.Kept.{AreApart, AreCovered, HasPages}
 use Rattle.nv_machine.specs.Kinds.{with_entries, with_pages}
@@ -299,29 +296,6 @@ pub retired_sound : (old new : CellState) → Retires old new → AreApart old.b
 retired_sound old new r apart h = same_sound old new old.chain.tail r.block (retired_bytes old new r apart h)
 
 -- ---- erase
-
--- the last word of a log is that its inode is gone
-last_word : (block : ℕ) (item : Item) → is_last_word item ≡ true → sets block item KindKey ≡ Absent
-last_word block Gone h = refl
-last_word block other h = cc
-
-one_less : (n : ℕ) → suc n - 1 ≡ n
-one_less n = omega arith
-
-abbrev word_of : Option Entry → Bool
-word_of o = unwrap_or (option_map (λ (e : Entry). is_last_word e.item) o) false
-
-gone_last : (block : ℕ) (e : Entry) (log : List Entry) → word_of (slice_get (e ∷ log) (length log)) ≡ true
-    → last_setting block (e ∷ log) KindKey ≡ Absent
-gone_last block e [] h = ap (λ (s : Setting). later_of s Untouched) (last_word block e.item h)
-gone_last block e (f ∷ log) h = ap (later_of (sets block e.item KindKey)) (gone_last block f log h)
-
-gone_node : (bytes : ℕ → List ℕ) (block : ℕ) (log : List Entry) → is_gone log ≡ true → node_now bytes block log ≡ None
-gone_node bytes block [] h = refl
-gone_node bytes block (e ∷ log) h =
-    let z : word_of (slice_get (e ∷ log) (length log))
-    ≡ true = ap (λ (n : ℕ). word_of (slice_get (e ∷ log) n)) (sym (one_less (length log))) ∙ h in
-    rw (gone_last block e log z) refl
 
 pub erased_none : (cell : CellState) → is_erased cell ≡ true → node_by cell (log_of cell) ≡ None
 erased_none cell h =

@@ -14,7 +14,7 @@ use Rattle.nv_clean.specs.Cleaned.{answer_of}
 use Rattle.nv_clean.specs.Plans.{entries_staying, pages_staying, wanted_of}
 use Rattle.nv_clean.specs.declared.cleaned.Cleaned.{Cleaned}
 use Rattle.nv_clean.proofs.Cleanings.{entries_are, none_left, pages_are, pages_flagged}
-use Rattle.nv_entry.specs.Clean.{kept_of, pages_left, select}
+use Rattle.nv_entry.specs.Clean.{kept_of, pages_left, pages_stay, select}
 use Rattle.nv_entry.specs.Held.{Retention}
 use Rattle.nv_entry.specs.Laws.{NoneDroppable}
 use Rattle.nv_entry.specs.declared.item.Entry.{Entry}
@@ -80,6 +80,9 @@ module _ (cell : CellState) (is : IsCell cell) (last : cell.chain.tail ≡ lengt
       ∙ ap (λ (l : List Entry). left_of stays (parts_from 0 chain.ends l)) (sym whole)
       ∙ left_of-select stays (log_pages chain) (pages_flagged cell ∙ sym (length-parts 0 chain.ends (log_of cell)))
       ∙ ap (λ (flags : List Bool). select flags (log_pages chain)) (pages_are cell is by marks)
+
+  unlinked_blocks : (unlinked cell).chain.blocks ≡ left_of (pages_stay by [] (log_pages cell.chain)) cell.chain.blocks
+  unlinked_blocks = ap (λ (flags : List Bool). left_of flags cell.chain.blocks) (pages_are cell is by marks)
 
 -- ---- a step
 
@@ -217,6 +220,7 @@ module _ (g : GeometryNumbers) (w : World) (known : IsKnown g w) (actor ino : �
       ap (λ (x : World). cell_at x.shared ino) e.is ∙ get_or-set_same s.cells ino new no_cell low in
       subst (IsUnlinked ino w) (sym (goes_to k next)) (record {
         pages = ap (λ (c : CellState). log_pages c.chain) now ∙ unlinked_pages cell is (last k next refl refl) by marks;
+        blocks = ap (λ (c : CellState). c.chain.blocks) now ∙ unlinked_blocks cell is (last k next refl refl) by marks;
       })
 
 -- ---- the law

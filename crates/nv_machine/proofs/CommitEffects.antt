@@ -16,6 +16,7 @@ use Rattle.nv_entry.specs.Sound.{Gives, IsSound, empty_node}
 use Rattle.nv_base.specs.Limits.{IsWithinLimits}
 use Rattle.nv_base.specs.declared.geometry.GeometryNumbers.{GeometryNumbers}
 use Rattle.nv_base.specs.declared.node.Kind.TheVariants.{Dir}
+use Rattle.nv_journal.specs.Journal.{settled_tail}
 use Rattle.nv_machine.specs.Format.{formatted, root_cell, root_entry}
 use Rattle.nv_entry.specs.declared.item.Entry.{Entry}
 use Rattle.nv_entry.specs.declared.item.Item.{Item}
@@ -28,7 +29,7 @@ use Rattle.nv_machine.specs.Locks.{AreLocks}
 use Rattle.nv_machine.specs.Order.{IsInOrder}
 use Rattle.nv_machine.specs.PlainRun.{Commits, deed_of}
 use Rattle.nv_machine.specs.Reads.{bytes_among, written_slots}
-use Rattle.nv_machine.specs.Settled.{settled, settled_nodes, settled_tail}
+use Rattle.nv_machine.specs.Settled.{settled, settled_nodes}
 use Rattle.nv_machine.specs.Step.{step}
 use Rattle.nv_machine.specs.World.{Go, Running, Shared, World, actor_at, cell_at, no_cell}
 use Rattle.nv_machine.proofs.NewWorld.{each_cell, new_settled}

@@ -12,6 +12,7 @@ use Rattle.nv_cell.specs.declared.killed.KilledPart.{KilledPart}
 use Rattle.nv_cell.proofs.Publishing.{take_whole}
 use Rattle.nv_entry.specs.declared.item.Entry.{Entry}
 use Rattle.nv_epoch.specs.SnapList.{ids}
+use Rattle.nv_journal.specs.Journal.{settled_tail}
 use Rattle.nv_log.specs.Chain.{ChainState}
 use Rattle.nv_journal.specs.declared.old_tail.OldTail.{OldTail}
 use Rattle.nv_machine.specs.Grown.{HasGrown, IsAllSettled, fresh_entries}
@@ -20,7 +21,7 @@ use Rattle.nv_machine.specs.Kinds.{append_turn, close_turn, entries_for, old_tai
 use Rattle.nv_machine.specs.Locks.{AreSlots}
 use Rattle.nv_machine.specs.Reads.{is_written, slot_at, written_slots}
 use Rattle.nv_machine.specs.Sequence.{appending, closing, publishing, retiring}
-use Rattle.nv_machine.specs.Settled.{settled, settled_tail}
+use Rattle.nv_machine.specs.Settled.{settled}
 use Rattle.nv_machine.specs.World.{Append, Close, HandState, Open, Publish, Retire, Running, Shared, cell_at, no_cell, owner_at, with_book, with_cell}
 use Rattle.nv_machine.proofs.WrittenSlots.{written_there}
 use Rattle.nv_machine.proofs.UnsettledEntries.{AreTests, GrownBy, as_next, tests_appending, tests_retiring, tests_several, tests_single}

@@ -11,13 +11,14 @@ use Rattle.nv_entry.specs.Log.{up_to}
 use Rattle.nv_entry.specs.Node.{node_now}
 use Rattle.nv_entry.specs.declared.item.Entry.{Entry}
 use Rattle.nv_entry.specs.declared.node.NodeCopy.{NodeCopy}
+use Rattle.nv_journal.specs.Journal.{settled_tail}
 use Rattle.nv_journal.specs.declared.old_tail.OldTail.{OldTail}
 use Rattle.nv_cell.specs.Cell.{CellState}
 use Rattle.nv_machine.specs.Locks.{commits_at}
 use Rattle.nv_machine.specs.Order.{AreLogsOrdered}
 use Rattle.nv_machine.specs.PlainRun.{Commits, Deed, Nothing, Numbers, Maintains, deed as deed_in, deed_of, done_on, entered}
 use Rattle.nv_machine.specs.Reads.{bytes_among, written_slots}
-use Rattle.nv_machine.specs.Settled.{node_by, settled, settled_copies, settled_nodes, settled_tail}
+use Rattle.nv_machine.specs.Settled.{node_by, settled, settled_copies, settled_nodes}
 use Rattle.nv_machine.specs.Step.{kind_turn, step}
 use Rattle.nv_machine.specs.World.{Ends, Enter, Event, HandState, Make, Moves, Next, Publish, Running, Shared, MaintenanceStep, Maintenance, Turn, Waits, World, actor_at, cell_at}
 use Rattle.nv_machine.proofs.OverEvents.{event_deed, turn_at, turned_shared}

@@ -101,7 +101,7 @@ module _ (epoch block : ℕ) (log : List Entry) (is : IsLog log) (n : ℕ) (low 
       (spans block epoch (up_to epoch log) rest n death pair (up_to_within epoch log) (splits epoch log is).later low unc
       (ap (λ (l : List Entry). slice_get (pairs block l) n) whole_is ∙ got) dead).1
 
-  lives_then : holds epoch pair ≡ true
+  pub lives_then : holds epoch pair ≡ true
   lives_then = and_from _ (is_before_death epoch pair.death) (le-leb pair.birth epoch born) (go pair.death refl) where
     go : (o : Option ℕ) → pair.death ≡ o → is_before_death epoch o ≡ true
     go None q = refl

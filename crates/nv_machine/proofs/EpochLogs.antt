@@ -72,7 +72,7 @@ up_to_within epoch (e ∷ log) = go (nat_le e.epoch epoch) refl (up_to_within ep
 
 -- ---- the part that holds a key
 
-some_scanned : (block : ℕ) (log : List Entry) (key : Key) → is_present (last_setting block log key) ≡ true
+pub some_scanned : (block : ℕ) (log : List Entry) (key : Key) → is_present (last_setting block log key) ≡ true
     → is_some (scan_n block log key) ≡ true
 some_scanned block [] key h = cc
 some_scanned block (e ∷ later) key h =
@@ -161,14 +161,14 @@ any_there (m ∷ marks) (suc n) lt there =
     or_true true = refl
     or_true false = refl
 
-scanned_uncovered : (block : ℕ) (log : List Entry) (key : Key) (n : ℕ) → scan_n block log key ≡ Some n → is_covered block log n ≡ false
+pub scanned_uncovered : (block : ℕ) (log : List Entry) (key : Key) (n : ℕ) → scan_n block log key ≡ Some n → is_covered block log n ≡ false
 scanned_uncovered block log key n q =
     let s = scan_key block log key n q in
     let at : is_number (scan_n block log (key_at log n)) n ≡ true =
     ap (λ (k : Key). is_number (scan_n block log k) n) s.1 ∙ ap (λ (o : Option ℕ). is_number o n) q ∙ eq-eqb n n refl in
     low_and (nat_lt n (part_total log)) (is_covered block log n) (sym at ∙ scan_names block log n)
 
-unset : (s : Setting) → (is_present s ≡ true → ⊥) → value_of s ≡ None
+pub unset : (s : Setting) → (is_present s ≡ true → ⊥) → value_of s ≡ None
 unset (Present v) never = absurd (never refl)
 unset other never = refl
 

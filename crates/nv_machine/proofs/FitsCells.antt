@@ -11,9 +11,10 @@ use Rattle.nv_entry.specs.Blocks.{item_blocks}
 use Rattle.nv_entry.specs.declared.item.Entry.{Entry}
 use Rattle.nv_entry.specs.declared.item.Item.{Item}
 use Rattle.nv_entry.specs.declared.item.Item.TheVariants.{Write}
+use Rattle.nv_journal.specs.Journal.{settled_tail}
 use Rattle.nv_machine.specs.Kept.{AreClosed, HasNoted}
 use Rattle.nv_machine.specs.Kinds.{with_entries, with_pages}
-use Rattle.nv_machine.specs.Settled.{settled, settled_tail}
+use Rattle.nv_machine.specs.Settled.{settled}
 use Rattle.nv_machine.specs.World.{Shared, cell_at, with_cell}
 use Rattle.nv_machine.proofs.CellSteps.{HaveFront, first_blocks, items_in, later_blocks, later_rest}
 use Rattle.nv_machine.proofs.AppendsToCome.{entries_more, pages_keep}

@@ -15,6 +15,7 @@ use Rattle.nv_calls.specs.Slots.{items_for, InodeSlot}
 use Rattle.nv_calls.specs.declared.call.Call.{Call}
 use Rattle.nv_cell.specs.Cell.{CellState}
 use Rattle.nv_entry.specs.declared.item.Entry.{Entry}
+use Rattle.nv_journal.specs.Journal.{settled_tail}
 use Rattle.nv_machine.specs.Effects.{AreSound, HasPlanNow}
 use Rattle.nv_machine.specs.FitsNow.{bytes_in}
 use Rattle.nv_machine.specs.Frame.{IsFramed, Lent, lent}
@@ -26,7 +27,7 @@ use Rattle.nv_machine.specs.PlainRun.{Commits, deed_of}
 use Rattle.nv_machine.specs.Reached.{IsReached}
 use Rattle.nv_machine.specs.Reads.{pages_needed, slot_at, slots_of, written_slots}
 use Rattle.nv_machine.specs.Sequence.{Beginning, Locks, beginning, begun, nothing_looked}
-use Rattle.nv_machine.specs.Settled.{node_by, settled, settled_nodes, settled_tail}
+use Rattle.nv_machine.specs.Settled.{node_by, settled, settled_nodes}
 use Rattle.nv_machine.specs.Starts.{IsStart}
 use Rattle.nv_machine.specs.Step.{step, turn, turned}
 use Rattle.nv_machine.specs.World.{Actor, Ends, Event, Go, HandState, Moves, Next, Running, Shared, Turn, Waits, World, actor_at, cell_at, empty_hand, no_cell, owner_at}

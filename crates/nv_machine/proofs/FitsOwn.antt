@@ -23,13 +23,14 @@ use Rattle.nv_cell.specs.Cell.{CellState, log_of}
 use Rattle.nv_entry.specs.Blocks.{item_blocks}
 use Rattle.nv_entry.specs.Sound.{blocks_of}
 use Rattle.nv_entry.specs.declared.item.Entry.{Entry}
+use Rattle.nv_journal.specs.Journal.{settled_tail}
 use Rattle.nv_machine.specs.Hands.{makes_inode}
 use Rattle.nv_machine.specs.Kinds.{check_ending, entries_for, with_entries}
 use Rattle.nv_calls.proofs.FillPages.{filled_numbers, length_filled}
 use Rattle.nv_calls.specs.FillPages.{filled, fresh_pages}
 use Rattle.nv_machine.specs.Reads.{copies, has_last_page, if_number, is_written, nodes, plan_by, slots_of, written_slots}
 use Rattle.nv_machine.specs.Sequence.{Beginning, Numbers, beginning}
-use Rattle.nv_machine.specs.Settled.{node_by, settled, settled_nodes, settled_tail}
+use Rattle.nv_machine.specs.Settled.{node_by, settled, settled_nodes}
 use Rattle.nv_machine.specs.Step.{ending_at, is_numbered, made_in, same_looked}
 use Rattle.nv_machine.specs.World.{HandState, Running, Shared, cell_at, no_cell, with_cell}
 use Rattle.nv_machine.proofs.CellSteps.{items_in}

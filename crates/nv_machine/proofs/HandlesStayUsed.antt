@@ -6,6 +6,7 @@ use Rattle.nv_base.specs.declared.numbers.Handle.{Handle}
 use Rattle.nv_cell.specs.Cell.{CellState, published}
 use Rattle.nv_calls.proofs.Next.{by_erased}
 use Rattle.nv_entry.specs.declared.item.Entry.{Entry}
+use Rattle.nv_journal.specs.Journal.{settled_tail}
 use Rattle.nv_journal.specs.declared.old_tail.OldTail.{OldTail}
 use Rattle.nv_log.specs.Chain.{ChainState}
 use Rattle.nv_machine.specs.Grown.{fresh_entries}
@@ -15,7 +16,7 @@ use Rattle.nv_machine.specs.Locks.{AreSlots}
 use Rattle.nv_machine.specs.PlainRun.{Commits, Deed, Nothing, deed, deed_of, keeps_nodes}
 use Rattle.nv_machine.specs.Reached.{IsReached}
 use Rattle.nv_machine.specs.Reads.{pages_needed, slot_at, written_slots}
-use Rattle.nv_machine.specs.Settled.{settled, settled_tail}
+use Rattle.nv_machine.specs.Settled.{settled}
 use Rattle.nv_machine.specs.Step.{after, kind_turn, step}
 use Rattle.nv_machine.specs.World.{Append, Close, Event, Go, HandState, Next, Open, Publish, Running, Shared, World, actor_at, cell_at}
 use Rattle.nv_machine.proofs.OverEvents.{by_points, event_deed, events_by, turn_at, turned_shared}

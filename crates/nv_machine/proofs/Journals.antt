@@ -4,11 +4,10 @@ use Rattle.std.specs.List.{find}
 use Rattle.std.specs.Option.{option_map}
 use Rattle.std.proofs.lemmas.Bool.{eqb-true}
 use Rattle.nv_alloc.specs.Numbers.{has}
-use Rattle.nv_journal.specs.Journal.{tail_noted}
+use Rattle.nv_journal.specs.Journal.{noted_or, settled_tail, tail_noted}
 use Rattle.nv_journal.specs.declared.old_tail.OldTail.{OldTail}
 use Rattle.nv_machine.specs.Kept.{AreClosed}
 use Rattle.nv_machine.specs.Kinds.{old_tails}
-use Rattle.nv_machine.specs.Settled.{noted_or, settled_tail}
 use Rattle.nv_machine.specs.World.{Shared, cell_at}
 
 -- closed journals note no tail

@@ -6,11 +6,12 @@ use Rattle.nv_book.specs.Book.{BookState}
 use Rattle.nv_calls.specs.Plain.{PlainNode}
 use Rattle.nv_cell.specs.Cell.{CellState}
 use Rattle.nv_entry.specs.declared.item.Entry.{Entry}
+use Rattle.nv_journal.specs.Journal.{settled_tail}
 use Rattle.nv_journal.specs.declared.old_tail.OldTail.{OldTail}
 use Rattle.nv_machine.specs.Effects.{AreSound, IsSoundIn}
 use Rattle.nv_machine.specs.Kept.{AreClosed, AreLogsKept, HasPages}
 use Rattle.nv_machine.specs.Locks.{is_owner}
-use Rattle.nv_machine.specs.Settled.{node_by, settled, settled_nodes, settled_tail}
+use Rattle.nv_machine.specs.Settled.{node_by, settled, settled_nodes}
 use Rattle.nv_cell.specs.Shape.{IsLeftShaped}
 use Rattle.nv_machine.specs.Shapes.{AreShaped}
 use Rattle.nv_machine.specs.World.{Shared, cell_at, no_cell, with_book, with_cell, owner_at}

@@ -5,9 +5,10 @@ use Rattle.nv_cell.specs.Cell.{CellState, log_of}
 use Rattle.nv_entry.specs.Held.{Retention}
 use Rattle.nv_entry.specs.declared.item.Entry.{Entry}
 use Rattle.nv_calls.specs.Plain.{PlainNode}
+use Rattle.nv_journal.specs.Journal.{settled_tail}
 use Rattle.nv_machine.specs.Effects.{IsSoundIn}
 use Rattle.nv_machine.specs.Kept.{AreLogsKept, HasPages}
-use Rattle.nv_machine.specs.Settled.{settled, settled_tail}
+use Rattle.nv_machine.specs.Settled.{settled}
 use Rattle.nv_cell.specs.Shape.{IsLeftShaped}
 use Rattle.nv_machine.specs.World.{Shared, cell_at, owner_at, with_cell}
 use Rattle.nv_machine.proofs.CleanSteps.{cleaned_shape}

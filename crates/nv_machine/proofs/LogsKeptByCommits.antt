@@ -17,13 +17,14 @@ use Rattle.nv_entry.specs.declared.item.Entry.{Entry}
 use Rattle.nv_entry.specs.declared.item.Item.{Item}
 use Rattle.nv_epoch.specs.SnapList.{ids}
 use Rattle.nv_entry.proofs.SoundLogs.{empty_sound}
+use Rattle.nv_journal.specs.Journal.{settled_tail}
 use Rattle.nv_machine.specs.Effects.{IsSoundIn}
 use Rattle.nv_machine.specs.Kept.{AreApart, AreClosed, AreCovered, AreKilledIn, AreLogsKept, HasNoted, HasPages, IsNotedIf, IsPlanFor, Knows}
 use Rattle.nv_machine.specs.Kinds.{append_turn, close_turn, entries_for, first_killed, old_tails, open_turn, publish_turn, retire_turn, retired_book, retired_cell, with_entries, with_pages}
 use Rattle.nv_machine.specs.Locks.{AreSlots, is_owner}
 use Rattle.nv_machine.specs.Reads.{bytes_among, is_written, slot_at, written_slots}
 use Rattle.nv_machine.specs.Sequence.{appending, closing, opening, publishing, retiring}
-use Rattle.nv_machine.specs.Settled.{node_by, settled, settled_tail}
+use Rattle.nv_machine.specs.Settled.{node_by, settled}
 use Rattle.nv_machine.specs.World.{Answers, Append, Close, Ends, HandState, Leave, Moves, Next, Open, Publish, Retire, Running, Shared, Turn, Waits, cell_at, go_to, no_cell, with_book, with_cell}
 use Rattle.nv_machine.proofs.LoopSteps.{by_test, either}
 use Rattle.nv_machine.proofs.CellPages.{later_pages}

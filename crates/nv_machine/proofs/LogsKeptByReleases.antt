@@ -7,10 +7,11 @@ use Rattle.nv_calls.specs.Retiring.{erased, name_of, released}
 use Rattle.nv_cell.specs.Cell.{CellState, empty_cell, log_of, number_in}
 use Rattle.nv_entry.specs.Covered.{is_covered}
 use Rattle.nv_entry.specs.declared.item.Entry.{Entry}
+use Rattle.nv_journal.specs.Journal.{settled_tail}
 use Rattle.nv_machine.specs.Effects.{IsSoundIn}
 use Rattle.nv_machine.specs.Kept.{AreApart, AreLogsKept, HasPages}
 use Rattle.nv_machine.specs.Reads.{bytes_among}
-use Rattle.nv_machine.specs.Settled.{node_by, settled, settled_tail}
+use Rattle.nv_machine.specs.Settled.{node_by, settled}
 use Rattle.nv_machine.specs.World.{Shared, cell_at, owner_at, with_cell}
 use Rattle.nv_machine.proofs.CellSteps.{Retires, empty_pages, erased_none, one_retires, retired_node, retired_pages, retired_sound}
 use Rattle.nv_machine.proofs.LogsKept.{IsSameOrEmpty, KeptLeft, SameLogs, cell_nodes, cell_set, node_at, still_shaped}

@@ -5,6 +5,7 @@ use Rattle.std.proofs.lemmas.Bool.{eq-eqb, false≢true}
 use Rattle.nv_base.specs.declared.numbers.Handle.{Handle}
 use Rattle.nv_calls.specs.declared.call.Call.{Call}
 use Rattle.nv_cell.specs.declared.killed.KilledPart.{KilledPart}
+use Rattle.nv_journal.specs.Journal.{settled_tail}
 use Rattle.nv_machine.specs.Effects.{AreSound}
 use Rattle.nv_machine.specs.Kept.{AreBlocksApart, AreKilledIn, HasNoted, HasNothing, IsKept, IsNotedIf, IsReleaseCoveredBy, Knows, KnowsOf}
 use Rattle.nv_machine.specs.Hands.{unpublished_by}
@@ -15,7 +16,7 @@ use Rattle.nv_machine.specs.Order.{IsInOrder}
 use Rattle.nv_machine.specs.PlainRun.{Deed, deed_by, deed_of, keeps_nodes}
 use Rattle.nv_machine.specs.Reads.{is_written, slots_of, written_slots}
 use Rattle.nv_machine.specs.Sequence.{Beginning, Locks, Maintains, Visits, beginning, begun, nothing_looked}
-use Rattle.nv_machine.specs.Settled.{settled_nodes, settled_tail}
+use Rattle.nv_machine.specs.Settled.{settled_nodes}
 use Rattle.nv_machine.specs.Shapes.{AreShaped}
 use Rattle.nv_machine.specs.Step.{after, step, turned}
 use Rattle.nv_machine.specs.World.{Actor, Append, Close, Ends, Event, HandState, Leave, Moves, Next, Open, Publish, Retire, Running, Shared, Turn, Waits, World, actor_at, cell_at, empty_hand, owner_at}

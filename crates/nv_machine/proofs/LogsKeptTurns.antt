@@ -7,6 +7,7 @@ use Rattle.nv_alloc.specs.Block.{BlockValue}
 use Rattle.nv_base.specs.declared.fault.Fault.{Fault}
 use Rattle.nv_calls.specs.AllCalls.{blocks_wanted, early, effect, looked, refusal}
 use Rattle.nv_cell.specs.Cell.{CellState}
+use Rattle.nv_journal.specs.Journal.{settled_tail}
 use Rattle.nv_machine.specs.Kept.{AreApart, AreLogsKept, HasNothing, IsInFile, IsPlanFor, IsReleaseCovered, Knows}
 use Rattle.nv_alloc.specs.Numbers.{has}
 use Rattle.nv_machine.specs.Hands.{unpublished_at}
@@ -31,7 +32,6 @@ use Rattle.nv_machine.proofs.LocksHeld.{Before, lent_holder}
 use Rattle.nv_machine.proofs.LogsKept.{KeptLeft, SameLogs, Still, still_left, still_nodes}
 use Rattle.nv_machine.proofs.AppendsToCome.{OnShared, end_shared}
 use Rattle.nv_machine.specs.Maintenance.{maintenance_turn}
-use Rattle.nv_machine.specs.Settled.{settled_tail}
 use Rattle.nv_machine.proofs.StepWork.{maintenance_work}
 use Rattle.nv_machine.proofs.WorkKeeps.{AfterTurn, snapshot_keeps}
 use Rattle.nv_machine.proofs.LogsKeptByReleases.{release_retires, released_left, released_logs}

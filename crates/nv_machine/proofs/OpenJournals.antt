@@ -5,13 +5,12 @@ use Rattle.std.proofs.lemmas.Bool.{true≢false}
 use Rattle.nv_alloc.specs.Numbers.{has}
 use Rattle.nv_base.specs.declared.geometry.GeometryNumbers.{GeometryNumbers}
 use Rattle.nv_book.specs.declared.record.Record.{Record}
-use Rattle.nv_journal.specs.Journal.{tail_noted}
+use Rattle.nv_journal.specs.Journal.{noted_or, settled_tail, tail_noted}
 use Rattle.nv_journal.specs.declared.old_tail.OldTail.{OldTail}
 use Rattle.nv_machine.specs.Happened.{IsOpenAt, is_journaled, journal_at}
 use Rattle.nv_machine.specs.Kept.{AreClosed, HasNoted, IsKept, IsNotedIf, Knows, KnowsOf}
 use Rattle.nv_machine.specs.Locks.{AreLocks, commits_at, commits_by, is_owner}
 use Rattle.nv_machine.specs.Reads.{written_slots}
-use Rattle.nv_machine.specs.Settled.{noted_or, settled_tail}
 use Rattle.nv_machine.specs.Starts.{IsStart}
 use Rattle.nv_machine.specs.Step.{after}
 use Rattle.nv_machine.specs.World.{Append, Close, Event, Leave, Next, Open, Publish, Retire, Running, Shared, World, actor_at}

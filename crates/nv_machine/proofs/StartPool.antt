@@ -21,7 +21,7 @@ use Rattle.nv_cell.specs.Readers.{has_inode, is_withheld}
 use Rattle.nv_machine.proofs.PoolTally.{loose_by, tally}
 
 -- of the numbers that pass a test each stands as often as among all, and no other does
-filter_times : (p : ℕ → Bool) (n : ℕ) (numbers : List ℕ) → times n (filter p numbers) ≡ cond (p n) (times n numbers) 0
+pub filter_times : (p : ℕ → Bool) (n : ℕ) (numbers : List ℕ) → times n (filter p numbers) ≡ cond (p n) (times n numbers) 0
 filter_times p n [] = go (p n) where
   none : ℕ
   none = 0

@@ -12,11 +12,12 @@ use Rattle.nv_entry.specs.Tree.{FormTree, LeadsAt, names_under, root}
 use Rattle.nv_entry.specs.declared.item.Entry.{Entry}
 use Rattle.nv_entry.specs.declared.names.BoundName.{BoundName}
 use Rattle.nv_entry.specs.declared.node.NodeCopy.{NodeCopy}
+use Rattle.nv_journal.specs.Journal.{settled_tail}
 use Rattle.nv_machine.proofs.DirectoriesChanged.{some_directory}
 use Rattle.nv_machine.proofs.CommitEffects.{take_none}
 use Rattle.nv_machine.specs.Directories.{AreTree}
 use Rattle.nv_machine.specs.Reads.{bytes_among}
-use Rattle.nv_machine.specs.Settled.{node_by, settled, settled_copies, settled_nodes, settled_tail}
+use Rattle.nv_machine.specs.Settled.{node_by, settled, settled_copies, settled_nodes}
 use Rattle.nv_machine.specs.World.{Shared, cell_at, no_cell}
 
 -- a node's handle has the generation of its slot, which is one of the world's

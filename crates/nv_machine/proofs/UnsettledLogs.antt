@@ -4,7 +4,7 @@ use Rattle.std.proofs.lemmas.Bool.{eq-eqb, eqb-false, eqb-true, false≢true}
 use Rattle.nv_machine.specs.Grown.{HasGrown, IsAllSettled, fresh_entries, is_appended, is_behind}
 use Rattle.nv_machine.specs.Locks.{commits_at, is_owner}
 use Rattle.nv_machine.specs.Reads.{written_slots}
-use Rattle.nv_machine.specs.Settled.{settled, settled_tail, noted_or}
+use Rattle.nv_machine.specs.Settled.{settled}
 use Rattle.nv_machine.specs.World.{Append, Close, Ends, HandState, Moves, Next, Open, Publish, Running, Shared, Turn, Waits, cell_at, owner_at}
 use Rattle.nv_machine.proofs.LocksAlongCalls.{LocksLeft, OnLocks, apart}
 use Rattle.nv_machine.proofs.LogsKept.{Still}
@@ -20,7 +20,7 @@ use Rattle.nv_machine.proofs.StepFrames.{work_framed}
 use Rattle.nv_machine.proofs.WorkKeeps.{AfterTurn, turn_keeps}
 use Rattle.nv_machine.proofs.LocksHeld.{Before, locks_kept}
 use Rattle.nv_log.proofs.Flags.{length-left_of}
-use Rattle.nv_journal.specs.Journal.{tail_noted}
+use Rattle.nv_journal.specs.Journal.{noted_or, settled_tail, tail_noted}
 
 -- the cells of others, and their settled logs
 pub record CellsLeft (a : ℕ) (s t : Shared) : Type 0 where

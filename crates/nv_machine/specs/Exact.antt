@@ -1,7 +1,7 @@
 -- What the steps take that take: the pool's first number, and the first blocks of a list, as many as are wanted.
 use Rattle.std.specs.Prelude.{◌≡◌, ℕ, ◌++◌, List, drop, option_to_list, take}
 use Rattle.nv_alloc.specs.Block.{BlockValue}
-use Rattle.nv_machine.specs.World.{Ends, HandState, Moves, Running, Shared, Turn, Waits, list_at}
+use Rattle.nv_machine.specs.World.{Ends, HandState, Moves, Shared, Turn, Waits, list_at}
 
 -- after the step this holds of what is shared and of the hand, whatever becomes of the call
 abbrev pub Leaves : (Shared → HandState → Type 0) → Turn → Type 0
@@ -14,19 +14,19 @@ abbrev pub HasFirst : Shared → Shared → HandState → Type 0
 HasFirst s t after = s.pool.numbers ≡ option_to_list after.ino ++ t.pool.numbers
 
 -- what a list has at its front, up to what is wanted
-abbrev pub first_blocks : Shared → ℕ → Running → List BlockValue
-first_blocks s cpu r = take r.wanted (list_at s cpu).blocks
+abbrev pub first_blocks : Shared → ℕ → ℕ → List BlockValue
+first_blocks s cpu wanted = take wanted (list_at s cpu).blocks
 
 -- the list has these no more
-abbrev pub HasGiven : Shared → ℕ → Running → Shared → Type 0
-HasGiven s cpu r t = list_at t cpu ≡ record (list_at s cpu) { blocks = drop r.wanted (list_at s cpu).blocks }
+abbrev pub HasGiven : Shared → ℕ → ℕ → Shared → Type 0
+HasGiven s cpu wanted t = list_at t cpu ≡ record (list_at s cpu) { blocks = drop wanted (list_at s cpu).blocks }
 
 -- the hand has them as data blocks, behind those that it had, and else what it had
-pub record TakesData (s : Shared) (cpu : ℕ) (h : HandState) (r : Running) (t : Shared) (after : HandState) : Type 0 where
-  pub hand : after ≡ record h { blocks = h.blocks ++ first_blocks s cpu r }
-  pub list : HasGiven s cpu r t
+pub record TakesData (s : Shared) (cpu : ℕ) (h : HandState) (wanted : ℕ) (t : Shared) (after : HandState) : Type 0 where
+  pub hand : after ≡ record h { blocks = h.blocks ++ first_blocks s cpu wanted }
+  pub list : HasGiven s cpu wanted t
 
 -- or as log pages
-pub record TakesLogPages (s : Shared) (cpu : ℕ) (h : HandState) (r : Running) (t : Shared) (after : HandState) : Type 0 where
-  pub hand : after ≡ record h { pages = h.pages ++ first_blocks s cpu r }
-  pub list : HasGiven s cpu r t
+pub record TakesLogPages (s : Shared) (cpu : ℕ) (h : HandState) (wanted : ℕ) (t : Shared) (after : HandState) : Type 0 where
+  pub hand : after ≡ record h { pages = h.pages ++ first_blocks s cpu wanted }
+  pub list : HasGiven s cpu wanted t

@@ -16,11 +16,12 @@ use Rattle.nv_cell.specs.Cell.{CellState, IsCell, log_of, number_in, page_block}
 use Rattle.nv_cell.specs.declared.killed.KilledPart.{KilledPart}
 use Rattle.nv_entry.specs.Covered.{is_covered, part_total}
 use Rattle.nv_entry.specs.declared.item.Entry.{Entry}
+use Rattle.nv_journal.specs.Journal.{settled_tail}
 use Rattle.nv_journal.specs.declared.old_tail.OldTail.{OldTail}
 use Rattle.nv_machine.specs.Hands.{AreTailsLast}
 use Rattle.nv_machine.specs.Pages.{PagesOf}
 use Rattle.nv_machine.specs.Reads.{written_slots}
-use Rattle.nv_machine.specs.Settled.{settled, settled_tail}
+use Rattle.nv_machine.specs.Settled.{settled}
 use Rattle.nv_machine.specs.World.{Answers, Append, ReturnNumber, Check, Close, Enter, Give, HandState, Leave, Lock, Look, Next, Number, Open, Overtaken, Publish, Ready, Release, Retire, Running, Shared, Maintenance, TakeBlocks, TakeLogPages, Unlock, Visit, World, actor_at, cell_at, empty_hand}
 
 -- ---- blocks

@@ -1,5 +1,5 @@
 -- Settled logs, and the tree that they give.
-use Rattle.std.specs.Prelude.{ℕ, ◌==◌, if◌then◌else◌, List, [], ◌∷◌, length, take, Option, Some, None}
+use Rattle.std.specs.Prelude.{ℕ, ◌==◌, if◌then◌else◌, List, [], length, take, Option, None}
 use Rattle.nv_base.specs.declared.numbers.Handle.{Handle}
 use Rattle.nv_calls.specs.Plain.{PlainNode, node_in, stamped}
 use Rattle.nv_calls.specs.Slots.{last_commit}
@@ -9,21 +9,11 @@ use Rattle.nv_entry.specs.Tree.{root, tree_from}
 use Rattle.nv_entry.specs.declared.item.Entry.{Entry}
 use Rattle.nv_entry.specs.declared.node.NodeCopy.{NodeCopy}
 use Rattle.nv_entry.specs.declared.tree.TreeNode.{TreeNode}
-use Rattle.nv_journal.specs.Journal.{tail_noted}
-use Rattle.nv_journal.specs.declared.old_tail.OldTail.{OldTail}
+use Rattle.nv_journal.specs.Journal.{settled_tail}
 use Rattle.nv_machine.specs.Reads.{bytes_among}
 use Rattle.nv_machine.specs.World.{Shared, World, cell_at}
 
-abbrev pub noted_or : Option ℕ → ℕ → ℕ
-noted_or (Some tail) other = tail
-noted_or None other = other
-
--- the tail that an open journal notes for an inode, else its own
-abbrev pub settled_tail : List (List OldTail) → ℕ → ℕ → ℕ
-settled_tail [] ino tail = tail
-settled_tail (tails ∷ journals) ino tail = noted_or (tail_noted tails ino) (settled_tail journals ino tail)
-
--- the entries up to it
+-- the entries up to the tail that an open journal notes for an inode, else up to its own
 abbrev pub settled : Shared → ℕ → List Entry
 settled s ino = take (settled_tail s.book.journals ino (cell_at s ino).chain.tail) (cell_at s ino).chain.entries
 

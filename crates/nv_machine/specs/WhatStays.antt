@@ -3,9 +3,9 @@
 use Rattle.std.specs.Prelude.{◌≡◌, ℕ, [], length}
 use Rattle.std.specs.Int.{div_ceil}
 use Rattle.nv_cell.specs.Cell.{log_of}
-use Rattle.nv_entry.specs.Clean.{kept_of, pages_left}
+use Rattle.nv_entry.specs.Clean.{kept_of, pages_left, pages_stay}
 use Rattle.nv_entry.specs.Laws.{NoneDroppable}
-use Rattle.nv_log.specs.Chain.{log_pages}
+use Rattle.nv_log.specs.Chain.{left_of, log_pages}
 use Rattle.nv_machine.specs.Held.{retention_at}
 use Rattle.nv_machine.specs.World.{World, cell_at}
 
@@ -17,7 +17,10 @@ pub record IsCompacted (ino : ℕ) (w v : World) : Type 0 where
       ≡ div_ceil (length (log_of (cell_at v.shared ino))) (cell_at w.shared ino).chain.page
   pub none : NoneDroppable (retention_at v ino) [] (log_of (cell_at v.shared ino))
 
--- an unlink leaves the pages with entries that a walk by whole pages leaves
+-- an unlink leaves the pages with entries that a walk by whole pages leaves. Those that stay keep their blocks, and so does
+-- each page without an entry, behind them
 pub record IsUnlinked (ino : ℕ) (w v : World) : Type 0 where
   pub pages : log_pages (cell_at v.shared ino).chain
       ≡ pages_left (retention_at w ino) (log_pages (cell_at w.shared ino).chain)
+  pub blocks : (cell_at v.shared ino).chain.blocks
+      ≡ left_of (pages_stay (retention_at w ino) [] (log_pages (cell_at w.shared ino).chain)) (cell_at w.shared ino).chain.blocks

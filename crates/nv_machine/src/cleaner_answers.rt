@@ -31,7 +31,8 @@ pub fn cleaners_tell_what_went()
 
 /// A cleaner is refused at its judge, first where its number has no slot or the slot's log no entry, and
 /// then where the memory of the walk is not granted. Behind a judge that it passed it is refused only where
-/// each list was asked for pages, once, and they are too few. So whatever events came, and a refused
+/// so many lists were asked for pages as there are: each of them once, and they are too few
+/// ([`crate::plain_laws::short_takings_have_asked_every_list`]). So whatever events came, and a refused
 /// cleaner has made no clean step, and the log of its inode has lost nothing.
 pub fn cleaners_are_refused_in_order()
     ensures { (g : GeometryNumbers) (start : World) (records : List Record) (events : List Event)

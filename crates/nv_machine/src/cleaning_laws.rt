@@ -11,8 +11,9 @@ ghost use Rattle.nv_machine.specs.World.{Compact, Event, Go, Maintenance, Runnin
 /// A step that compacts leaves of its slot's log what the walk by single entries leaves
 /// ([`nv_entry::laws::thorough_takes_what_is_droppable`]), in order and on as few pages as that fills, and none of these
 /// entries may go then. A step that unlinks leaves the pages that the walk by whole pages leaves
-/// ([`nv_entry::laws::fast_takes_what_is_droppable`]). Both walks ask what keeps the pairs of the slot by the snapshot
-/// list, the deferred list and the records that drains have picked, and not the marks, by which the steps go.
+/// ([`nv_entry::laws::fast_takes_what_is_droppable`]). They stay in their blocks, and the pages without an entry stay
+/// behind them. Both walks ask what keeps the pairs of the slot by the snapshot list, the deferred list and the records
+/// that drains have picked, and not the marks, by which the steps go.
 pub fn cleaners_leave_what_is_needed()
     ensures compact { (g : GeometryNumbers) (start : World) (records : List Record)
         (events : List Event) (actor ino : ℕ) (granted : Bool) (r : Running)

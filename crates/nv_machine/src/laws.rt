@@ -33,7 +33,7 @@ ghost use Rattle.nv_machine.specs.Step.{after, kind_turn, stays, step, turn};
 ghost use Rattle.nv_machine.specs.Pages.{AreOnPages, HasLogPages, TakesPages};
 ghost use Rattle.nv_machine.specs.Memory.{IsOther, denied_turn, grows};
 ghost use Rattle.nv_machine.specs.Wanted.{TakesInTurn};
-ghost use Rattle.nv_machine.specs.World.{Answers, Append, Event, Go, HandState, Number, Refused, Running, Shared, Start, Started, TakeBlocks, TakeLogPages, Waiting, World, actor_at, cell_at, list_at};
+ghost use Rattle.nv_machine.specs.World.{Answers, Append, Event, Fresh, Go, HandState, Maintenance, Number, Refused, Running, Shared, Start, Started, TakeBlocks, TakeLogPages, Waiting, World, actor_at, cell_at, list_at};
 
 /// A `Go` of an actor whose call runs makes the one step that comes next, and changes only its actor and the
 /// parts that the step is lent. A start changes its actor alone: one without a call has the call now, before its
@@ -55,20 +55,25 @@ pub fn one_step()
         → step w (Go actor granted) ≡ stays (Refused ActorIdle) w }
 {}
 
-/// A number step takes the first number of the pool, if it has one, and a taking from a list its first blocks, as many
-/// as are still wanted or all that it has, behind those of their kind in the hand; nothing else in the hand changes.
-/// Pool and lists are in rising order ([`pool_is_from_scratch`], [`lists_are_sorted`]), so these are the lowest.
+/// A number step takes the first number of the pool, if it has one. A taking of data blocks, of log pages, or of a
+/// cleaner's fresh pages takes the first blocks of a list, as many as are still wanted or all that it has, behind those
+/// of their kind in the hand. Nothing else in the hand changes. Pool and lists are in rising order
+/// ([`pool_is_from_scratch`], [`lists_are_sorted`]), so these are the lowest.
 pub fn the_lowest_are_taken()
     ensures number { (block actor : ℕ) (granted : Bool) (s : Shared) (h : HandState) (r : Running)
         → h.ino ≡ None → Leaves (HasFirst s) (kind_turn Number block actor granted s h r) }
     ensures blocks { (asked block actor : ℕ) (granted : Bool) (s : Shared) (h : HandState)
         (r : Running) → 0 < length s.lists
-        → Leaves (TakesData s (asked_list (length s.lists) actor asked) h r)
+        → Leaves (TakesData s (asked_list (length s.lists) actor asked) h r.wanted)
         (kind_turn (TakeBlocks asked) block actor granted s h r) }
     ensures pages { (asked block actor : ℕ) (granted : Bool) (s : Shared) (h : HandState)
         (r : Running) → 0 < length s.lists
-        → Leaves (TakesLogPages s (asked_list (length s.lists) actor asked) h r)
+        → Leaves (TakesLogPages s (asked_list (length s.lists) actor asked) h r.wanted)
         (kind_turn (TakeLogPages asked) block actor granted s h r) }
+    ensures fresh { (ino asked wanted block actor : ℕ) (granted : Bool) (s : Shared) (h : HandState)
+        (r : Running) → 0 < length s.lists
+        → Leaves (TakesLogPages s (asked_list (length s.lists) actor asked) h wanted)
+        (kind_turn (Maintenance (Fresh ino asked wanted)) block actor granted s h r) }
 {}
 
 /// A call takes its data first and then its log pages, in two takings, neither of which wants any of the other's. The

@@ -34,7 +34,7 @@ use Rattle.nv_serial.specs.Shown.{slot_told}
 use Rattle.nv_serial.proofs.AtRestLists.{free_is}
 use Rattle.nv_serial.proofs.AtRestLogs.{keepers_are, log_is, told_by, whole_log}
 use Rattle.nv_serial.proofs.AtRestReports.{chain_reported}
-use Rattle.nv_serial.proofs.ErasedWhereOver.{as_many}
+use Rattle.nv_entry.proofs.PartLists.{length-pairs}
 use Rattle.nv_serial.proofs.PagePairs.{count_split, either_few, named_few, page_names, paged, stored_few}
 
 -- ---- sums over ranges
@@ -251,7 +251,7 @@ module _ (g : GeometryNumbers) (w : World) (rs : List Record) (is : IsStart g w 
       (is_log_in g w rs [] ino is) in
       let many : length cell.blocks ≡ length ps =
       (is.cells ino lt).blocks.len ∙ ap part_total (sym log)
-      ∙ sym (as_many g.block (log_in s ino)) in
+      ∙ sym (length-pairs g.block (log_in s ino)) in
       let stored = stored_few cell.blocks (λ p. is_page p.part && keeps k p) ps many
       (λ n b pair there got. kept_page ino n b pair lt there got) in
       let split = count_split (λ (p : Pair). is_page p.part && keeps k p)

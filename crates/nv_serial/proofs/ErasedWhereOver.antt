@@ -1,9 +1,8 @@
 -- A cell whose marks are told is erased exactly where its inode is gone and the world with numbers
 -- keeps nothing of it: so a retire step and a release erase a slot exactly where it is over then.
-use Rattle.std.proofs.Common.{◌≡◌, ℕ, suc, ◌&&◌, ◌||◌, ◌∙◌, Bool, cond, List, [], ◌∷◌, Option, Some, None, ap, append-nil, arith, filter, length, length-append, map, not, refl, slice_get, subst, sym}
+use Rattle.std.proofs.Common.{◌≡◌, ℕ, suc, ◌&&◌, ◌||◌, ◌∙◌, Bool, cond, List, [], ◌∷◌, Option, Some, None, ap, append-nil, arith, filter, length, map, not, refl, slice_get, subst, sym}
 use Rattle.std.specs.Prelude.{is_none}
 use Rattle.std.specs.List.{AllByRecursion, list_any}
-use Rattle.std.proofs.lemmas.List.{length-map}
 use Rattle.nv_book.specs.Listed.{unheld}
 use Rattle.nv_book.specs.Records.{holder_of}
 use Rattle.nv_book.specs.declared.record.Record.{Record}
@@ -13,10 +12,9 @@ use Rattle.nv_cell.specs.Marks.{is_there, mark_at}
 use Rattle.nv_cell.specs.Readers.{is_erased, is_gone}
 use Rattle.nv_cell.specs.declared.killed.KilledPart.{KilledPart}
 use Rattle.nv_cell.specs.declared.mark.Mark.{Mark}
-use Rattle.nv_entry.specs.Covered.{part_total}
+use Rattle.nv_entry.proofs.PartLists.{length-pairs}
 use Rattle.nv_entry.specs.Held.{Retention, has_name, is_needed, keeps}
-use Rattle.nv_entry.specs.Log.{IsLog, pair_of, pairs, pairs_of}
-use Rattle.nv_entry.specs.Keys.{parts_of}
+use Rattle.nv_entry.specs.Log.{IsLog, pairs}
 use Rattle.nv_entry.specs.declared.held.Pair.{Pair}
 use Rattle.nv_entry.specs.declared.item.Entry.{Entry}
 use Rattle.nv_machine.specs.Held.{is_of_slot}
@@ -48,12 +46,6 @@ pub over_is : (s : Serial) (ino : ℕ) → is_over s ino ≡ over_by (living s) 
 over_is s ino = refl
 
 -- ---- small things
-
-pub as_many : (block : ℕ) (log : List Entry) → length (pairs block log) ≡ part_total log
-as_many block [] = refl
-as_many block (e ∷ log) =
-    length-append (pairs_of block e log) (pairs block log)
-    ∙ omega (arith, length-map (parts_of e.item) (pair_of block e log), as_many block log)
 
 any_by_place : (marks : List Mark) (test : Pair → Bool) (ps : List Pair) → length marks ≡ length ps
     → ((n : ℕ) (pair : Pair) → slice_get ps n ≡ Some pair → test pair ≡ is_there (mark_at marks n))
@@ -111,7 +103,7 @@ module _ (snapshots : List ℕ) (ino epoch : ℕ) (rs : List Record) (cell : Cel
       ap (λ (b : Bool). is_gone (log_of cell) && not b)
       (any_by_place cell.marks (keeps (kept_by snapshots ino cell.block rs))
       (pairs cell.block (log_of cell))
-      (omega (arith, marks.len, as_many cell.block (log_of cell))) kept_there)
+      (omega (arith, marks.len, length-pairs cell.block (log_of cell))) kept_there)
 
 -- A RETIRE STEP erases a slot exactly where it is over once its killed parts are retired and
 -- recorded

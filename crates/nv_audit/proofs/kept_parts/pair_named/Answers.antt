@@ -12,7 +12,7 @@ use Rattle.nv_audit.specs.Deaths.{deaths_of}
 use Rattle.nv_audit.proofs.Covers.{death_of}
 use Rattle.nv_audit.proofs.DeadParts.{pair_told}
 use Rattle.nv_audit.proofs.NumberedPairs.{below_at}
-use Rattle.nv_audit.proofs.PartBlocks.{as_many}
+use Rattle.nv_entry.proofs.PartLists.{length-pairs}
 use Rattle.nv_audit.proofs.kept_parts.pair_named.Goals as goal
 
 pub death_at-requires : goal.death_at-requires
@@ -21,7 +21,7 @@ death_at-requires c =
     let f = c.in_ok-found.found in
     let within = below_at (log cell.chain) f.entry f.place c.in_ok-found.ensures.within c.in_ok-found.ensures.place in
     let many = ap (λ (ds : List (Option ℕ)). length ds) c.requires.deaths ∙ length-map (pairs cell.block (log cell.chain)) death_of
-    ∙ as_many cell.block (log cell.chain) in
+    ∙ length-pairs cell.block (log cell.chain) in
     omega (arith, within, many, c.number_at-number.ensures.number)
 
 pub returns : goal.returns

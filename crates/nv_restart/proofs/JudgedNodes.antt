@@ -1,9 +1,10 @@
 -- The settled nodes and copies of a world at rest are those that its cells give their slots.
-use Rattle.std.proofs.Common.{◌≡◌, zero, suc, ℕ, ◌==◌, if◌then◌else◌, Bool, true, false, cond, List, [], ◌∷◌, map, Option, Some, None, refl, ap, sym, ◌∙◌, subst}
-use Rattle.std.specs.Prelude.{All, option_and_then, slice_index_or}
+use Rattle.std.proofs.Common.{◌≡◌, zero, suc, ℕ, ◌==◌, if◌then◌else◌, Bool, true, false, List, [], ◌∷◌, Option, Some, None, refl, ap, sym, ◌∙◌, subst}
+use Rattle.std.specs.Prelude.{option_and_then, slice_index_or}
 use Rattle.std.specs.List.{Contains}
 use Rattle.std.specs.Option.{option_map}
 use Rattle.std.proofs.lemmas.Bool.{eq-eqb, eqb-false, eqb-true, ne_eqb}
+use Rattle.std.proofs.lemmas.List.{get_or_default}
 use Rattle.nv_audit.specs.Nodes.{AreTrees, named, node_by, node_when, slots_when}
 use Rattle.nv_audit.specs.Tree.{IsTree, is_of, slot_at}
 use Rattle.nv_audit.specs.declared.tree.NamedNode.{NamedNode}
@@ -31,8 +32,9 @@ use Rattle.nv_machine.specs.Kept.{AreClosed}
 use Rattle.nv_machine.specs.Reads.{bytes_among}
 use Rattle.nv_machine.specs.Settled.{settled, settled_copies, settled_nodes}
 use Rattle.nv_machine.specs.World.{Shared, cell_at, no_cell}
-use Rattle.nv_core.proofs.JudgedLogs.{settled_is}
-use Rattle.nv_core.proofs.JudgedTrees.{are_tree, shown, under}
+use Rattle.nv_restart.proofs.JudgedLogs.{settled_is}
+use Rattle.nv_restart.proofs.JudgedTrees.{are_tree, shown, under}
+use Rattle.nv_restart.proofs.TreeSlots.{slots_tree}
 
 -- ---- the node of a log
 
@@ -110,42 +112,59 @@ module _ (s : Shared) where
   copy_when when handle =
       copy_by (cell_at s handle.ino) handle.generation (seen when (log_of (cell_at s handle.ino)))
 
+  pub are_when : (when : When) (nodes : Handle → Option NodeCopy) → ((handle : Handle) → nodes handle ≡ copy_when when handle)
+      → (handle : Handle) → option_map (shown handle.generation) (nodes handle) ≡ under (slots_when when s.cells) handle
+  are_when when nodes is handle =
+      ap (option_map (shown handle.generation)) (is handle)
+      ∙ shown_by (cell_at s handle.ino) handle.generation (seen when (log_of (cell_at s handle.ino)))
+      ∙ ap (λ (o : Option NamedNode). if is_of handle.generation o then o else None) (sym (slot_is when s.cells handle.ino))
+
   tree_when : (when : When) (nodes : Handle → Option NodeCopy) → ((handle : Handle) → nodes handle ≡ copy_when when handle)
       → IsTree (slots_when when s.cells) → AreTree nodes
-  tree_when when nodes is tree = are_tree nodes (slots_when when s.cells) are differ tree where
-    are : (handle : Handle) → option_map (shown handle.generation) (nodes handle) ≡ under (slots_when when s.cells) handle
-    are handle =
-        ap (option_map (shown handle.generation)) (is handle)
-        ∙ shown_by (cell_at s handle.ino) handle.generation (seen when (log_of (cell_at s handle.ino)))
-        ∙ ap (λ (o : Option NamedNode). if is_of handle.generation o then o else None) (sym (slot_is when s.cells handle.ino))
-
+  tree_when when nodes is tree = are_tree nodes (slots_when when s.cells) (are_when when nodes is) differ tree where
     differ : (handle : Handle) → NamesDiffer (names_under nodes handle)
     differ handle =
         subst (λ (o : Option NodeCopy). NamesDiffer (names_of_node o)) (sym (is handle))
         (differ_by (cell_at s handle.ino) handle.generation (seen when (log_of (cell_at s handle.ino))))
 
-  module _ (closed : AreClosed s.book.journals) (trees : AreTrees (ids s.book.snaps) s.cells) where
-    plain : (b : Bool) (commit : ℕ) (copy : Option NodeCopy)
-        → option_map (λ (p : PlainNode). p.node) (if b then stamped commit copy else None) ≡ (if b then copy else None)
-    plain false commit copy = refl
-    plain true commit None = refl
-    plain true commit (Some copy) = refl
+  plain : (b : Bool) (commit : ℕ) (copy : Option NodeCopy)
+      → option_map (λ (p : PlainNode). p.node) (if b then stamped commit copy else None) ≡ (if b then copy else None)
+  plain false commit copy = refl
+  plain true commit None = refl
+  plain true commit (Some copy) = refl
 
-    pub tree_now : AreTree (node_in (settled_nodes s))
-    tree_now = tree_when Now (node_in (settled_nodes s)) is trees.now where
-      is : (handle : Handle) → node_in (settled_nodes s) handle ≡ copy_when Now handle
-      is handle =
-          let cell = cell_at s handle.ino in
-          plain (handle.generation == cell.generation) (last_commit (settled s handle.ino))
-          (node_now (bytes_among cell.blocks) cell.block (settled s handle.ino))
-          ∙ ap (copy_by cell handle.generation) (settled_is s handle.ino closed)
+  -- where no journal is open, settled nodes and copies are those of the cells
+  module _ (closed : AreClosed s.book.journals) where
+    pub now_is : (handle : Handle) → node_in (settled_nodes s) handle ≡ copy_when Now handle
+    now_is handle =
+        let cell = cell_at s handle.ino in
+        plain (handle.generation == cell.generation) (last_commit (settled s handle.ino))
+        (node_now (bytes_among cell.blocks) cell.block (settled s handle.ino))
+        ∙ ap (copy_by cell handle.generation) (settled_is s handle.ino closed)
 
-    pub tree_at : (snapshot : ℕ) → Contains (ids s.book.snaps) snapshot → AreTree (settled_copies s snapshot)
-    tree_at snapshot (k, lt, at) = tree_when (At snapshot) (settled_copies s snapshot) is tree where
-      is : (handle : Handle) → settled_copies s snapshot handle ≡ copy_when (At snapshot) handle
-      is handle =
-          ap (λ (log : List Entry). copy_by (cell_at s handle.ino) handle.generation (up_to snapshot log))
-          (settled_is s handle.ino closed)
+    pub at_is : (snapshot : ℕ) (handle : Handle) → settled_copies s snapshot handle ≡ copy_when (At snapshot) handle
+    at_is snapshot handle =
+        ap (λ (log : List Entry). copy_by (cell_at s handle.ino) handle.generation (up_to snapshot log))
+        (settled_is s handle.ino closed)
 
-      tree : IsTree (slots_when (At snapshot) s.cells)
-      tree = subst (λ (n : ℕ). IsTree (slots_when (At n) s.cells)) at (trees.at k snapshot lt)
+    pub tree_now : AreTrees (ids s.book.snaps) s.cells → AreTree (node_in (settled_nodes s))
+    tree_now trees = tree_when Now (node_in (settled_nodes s)) now_is trees.now
+
+    pub tree_at : AreTrees (ids s.book.snaps) s.cells → (snapshot : ℕ) → Contains (ids s.book.snaps) snapshot
+        → AreTree (settled_copies s snapshot)
+    tree_at trees snapshot (k, lt, at) =
+        tree_when (At snapshot) (settled_copies s snapshot) (at_is snapshot)
+        (subst (λ (n : ℕ). IsTree (slots_when (At n) s.cells)) at (trees.at k snapshot lt))
+
+    -- and the other way round
+    pub trees_stand : AreTree (node_in (settled_nodes s))
+        → ((snapshot : ℕ) → Contains (ids s.book.snaps) snapshot → AreTree (settled_copies s snapshot))
+        → AreTrees (ids s.book.snaps) s.cells
+    trees_stand now copies = record {
+      now = slots_tree (node_in (settled_nodes s)) (slots_when Now s.cells) (are_when Now (node_in (settled_nodes s)) now_is) now;
+      at = λ k d lt.
+          let snapshot = slice_index_or (ids s.book.snaps) k d in
+          slots_tree (settled_copies s snapshot) (slots_when (At snapshot) s.cells)
+          (are_when (At snapshot) (settled_copies s snapshot) (at_is snapshot))
+          (copies snapshot (k, lt, get_or_default (ids s.book.snaps) k snapshot d lt));
+    }

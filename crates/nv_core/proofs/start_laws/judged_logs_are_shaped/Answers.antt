@@ -1,5 +1,0 @@
-use Rattle.nv_core.proofs.JudgedLogs.{all_shaped}
-use Rattle.nv_core.proofs.start_laws.judged_logs_are_shaped.Goals as goal
-
-pub returns : goal.returns
-returns c = all_shaped

@@ -1,0 +1,16 @@
+pub mod CellBlocks
+pub mod Cells
+pub mod Deaths
+pub mod Faultless
+pub mod FewSnapshots
+pub mod FreeLists
+pub mod JudgedLogs
+pub mod JudgedNodes
+pub mod JudgedTrees
+pub mod TreeSlots
+pub mod Marks
+pub mod NotedOnce
+pub mod NotedTails
+pub mod Records
+pub mod Slots
+pub mod Start

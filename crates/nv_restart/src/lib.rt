@@ -1,0 +1,7 @@
+//! Images and mounts: laws of what a device has once it has stopped, and of the world that goes on
+//! from there.
+#![tactic(auto)]
+
+pub mod judged_laws;
+pub mod mount_laws;
+pub mod world_laws;
