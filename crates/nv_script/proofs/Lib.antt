@@ -6,7 +6,6 @@ pub mod Endings
 pub mod Escapes
 pub mod Failures
 pub mod Firsts
-pub mod Forking
 pub mod Handed
 pub mod Handles
 pub mod Known
@@ -21,6 +20,4 @@ pub mod SerialReports
 pub mod SerialRows
 pub mod SerialTexts
 pub mod Taken
-pub mod Told
 pub mod Spelled
-pub mod Reported

@@ -8,5 +8,3 @@ pub mod Words
 pub mod Outcomes
 pub mod Serially
 pub mod SerialPlayer
-pub mod Work
-pub mod Working

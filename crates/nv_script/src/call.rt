@@ -5,7 +5,8 @@ ghost use Rattle.std.specs.Prelude.{◌≡◌, true};
 ghost use Rattle.nv_script.specs.Grammar.{Reads, all_calls, call_with, fields_in, is_maintenance, name_in, named_among, reads_or_unbinds, row, maintenance_read, texts, third_call};
 
 use crate::fault::LineFault;
-use crate::field::{Field, handle_at, mode_at, number_at, records_at, text_at, word_at};
+use crate::field::{Field, handle_at, mode_at, number_at, records_at, text_at};
+use crate::word::word_at;
 use nv_base::{Epoch, Ino, ScriptFaultKind};
 use nv_core::{Call, MaintenanceCall};
 use std::alloc::Global;

@@ -8,9 +8,9 @@ ghost use Rattle.nv_script.specs.Results.{Counts};
 
 use crate::call::CallWord;
 use crate::fault::LineFault;
-use crate::field::{Field, number_at, word_at};
+use crate::field::{Field, number_at};
 use crate::format::{FORMAT_WORDS, read_numbers};
-use crate::word::positive;
+use crate::word::{positive, word_at};
 use nv_base::{GeometryNumbers, ScriptFaultKind};
 use nv_core::Call;
 use std::alloc::Global;
@@ -20,7 +20,7 @@ pub(crate) const MOST_GOES: u64 = 1_048_576;
 
 /// A command on a made world.
 #[derive(Drop)]
-pub(crate) enum Command {
+pub enum Command {
     /// An actor starts a call.
     Start(u64, Call),
     /// An actor's call goes on, and so often more at most.
@@ -70,7 +70,7 @@ pub(crate) enum Head {
 }
 
 /// Whether a line is empty or a comment.
-pub(crate) fn is_skipped(line: &[u8]) -> bool
+pub fn is_skipped(line: &[u8]) -> bool
     ensures { result ≡ is_skipped line.now }
 {
     line.is_empty() || line[0] == b'#'
@@ -90,7 +90,7 @@ pub(crate) fn read_format(words: &[&[u8]]) -> Result<GeometryNumbers, ScriptFaul
 }
 
 /// The command of some words, where a world is made.
-pub(crate) fn read_command(alloc: Global, words: &[&[u8]]) -> Result<Command, LineFault>
+pub fn read_command(alloc: Global, words: &[&[u8]]) -> Result<Command, LineFault>
     ensures { Reads result (command_of (texts words.now)) }
 {
     match Head::named(words)? {

@@ -10,7 +10,7 @@ use std::alloc::AllocError;
 
 /// Why a line ends the script.
 #[derive(Clone, Copy, Drop)]
-pub(crate) enum LineFault {
+pub enum LineFault {
     /// A growth of memory was refused.
     OutOfMemory(NoMemory),
     /// A write of its text failed.

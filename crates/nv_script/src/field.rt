@@ -1,10 +1,10 @@
 //! The words of a line, read by their places.
 
 ghost use Rattle.std.specs.Prelude.{◌≡◌};
-ghost use Rattle.nv_script.specs.Grammar.{Reads, setting_at, setting_of, texts, value_at, word_at};
+ghost use Rattle.nv_script.specs.Grammar.{Reads, setting_at, setting_of, texts, value_at};
 
 use crate::fault::LineFault;
-use crate::word::{handle, mode, number, positive, text};
+use crate::word::{handle, mode, number, positive, text, word_at};
 use nv_base::{Bytes, Handle, Mode, ScriptFaultKind, limits};
 use std::alloc::Global;
 
@@ -18,16 +18,6 @@ pub(crate) enum Field {
     Records,
     /// A name, or the bytes of a write.
     Text,
-}
-
-/// The word at a place, which has no bytes where there is none.
-pub(crate) fn word_at<'a>(words: &[&'a [u8]], place: usize) -> &'a [u8]
-    ensures { result.now ≡ word_at (texts words.now) place }
-{
-    if place < words.len() {
-        return words[place];
-    }
-    &[]
 }
 
 pub(crate) fn handle_at(words: &[&[u8]], place: usize) -> Result<Handle, ScriptFaultKind>

@@ -14,7 +14,7 @@ const OUTBOX_BYTES: usize = 65_536;
 
 /// Bytes that are to be written, and their room.
 #[derive(Drop)]
-pub(crate) struct Outbox {
+pub struct Outbox {
     gathered: Vec<u8>,
 }
 
@@ -57,7 +57,7 @@ impl Outbox {
     }
 
     /// Writes what is gathered where a script ends so, except once a read or a write failed: nothing is gathered then.
-    pub(crate) fn end<W: CountedWrite>(
+    pub fn end<W: CountedWrite>(
         &mut self,
         writer: &mut W,
         outcome: Result<(), Fault>,
@@ -82,11 +82,7 @@ impl Outbox {
 
     /// Gathers a text. Where there is no room for it what was gathered is written first, and a text
     /// that is longer than all room is written at once. After a failed write nothing is gathered.
-    pub(crate) fn add<W: CountedWrite>(
-        &mut self,
-        writer: &mut W,
-        text: &[u8],
-    ) -> Result<(), WriteFailed>
+    pub fn add<W: CountedWrite>(&mut self, writer: &mut W, text: &[u8]) -> Result<(), WriteFailed>
         requires { W.failed writer.old < 2 ^ 64 - 1 }
         ensures sent { MatchResult result
             (λ _. WritesFront (W.contents writer.old) (W.contents writer.new)

@@ -20,7 +20,7 @@ use nv_core::World;
 use std::alloc::{AllocError, Global};
 
 /// The most lines of a script.
-pub(crate) const MAX_LINES: u64 = 1_048_576;
+pub const MAX_LINES: u64 = 1_048_576;
 
 /// The room for a line's text that is made at first. A longer text makes more.
 const TEXT_BYTES: usize = 4096;
@@ -28,18 +28,18 @@ const TEXT_BYTES: usize = 4096;
 /// A script while it is played: what is read ahead, the line that was taken last and its text, what is to be
 /// written, and the world.
 #[derive(Drop)]
-pub(crate) struct Player {
-    pub(crate) feed: Feed,
-    pub(crate) line: Vec<u8>,
-    pub(crate) text: Vec<u8>,
-    pub(crate) outbox: Outbox,
-    pub(crate) world: Option<World>,
+pub struct Player {
+    pub feed: Feed,
+    pub line: Vec<u8>,
+    text: Vec<u8>,
+    pub outbox: Outbox,
+    pub world: Option<World>,
     ghost room: { 4096 ≤ vec_capacity line },
 }
 
 impl Player {
     /// Nothing is read ahead, and no world is made.
-    pub(crate) fn new(alloc: Global) -> Result<Player, AllocError>
+    pub fn new(alloc: Global) -> Result<Player, AllocError>
         ensures ahead { IfOk result (λ player. player.feed ≡ []) }
         ensures gathered { IfOk result (λ player. player.outbox ≡ []) }
         ensures world { IfOk result (λ player. player.world ≡ None) }
@@ -140,7 +140,7 @@ impl Player {
 
     /// Takes the line of this number, and says whether there is one. What is gathered is written before, where the reader is
     /// to be asked for bytes.
-    pub(crate) fn take<R: CountedRead, W: CountedWrite>(
+    pub fn take<R: CountedRead, W: CountedWrite>(
         &mut self,
         number: u64,
         reader: &mut R,
@@ -169,7 +169,7 @@ impl Player {
     }
 
     /// Plays the line that was taken last, and gathers its text.
-    pub(crate) fn play_taken<W: CountedWrite>(
+    pub fn play_taken<W: CountedWrite>(
         &mut self,
         alloc: Global,
         writer: &mut W,
@@ -192,10 +192,34 @@ impl Player {
         } = self;
         answer_line(alloc, world, line.as_slice(), text, outbox, writer)
     }
+
+    /// Plays a line that was not taken, and gathers its text.
+    pub fn play_line<W: CountedWrite>(
+        &mut self,
+        alloc: Global,
+        line: &[u8],
+        writer: &mut W,
+    ) -> Result<(), LineFault>
+        requires { W.failed writer.old < 2 ^ 64 - 1 }
+        ensures line { AnswersLine result
+            (record { written = W.contents writer.old; gathered = self.old.outbox })
+            (record { written = W.contents writer.new; gathered = self.new.outbox })
+            self.old.world line.now self.new.world }
+        ensures failed { W.failed writer.new ≡ W.failed writer.old + failed_in_line result }
+        ensures same_writer { W.place writer.new ≡ W.place writer.old }
+    {
+        let Player {
+            text,
+            outbox,
+            world,
+            ..
+        } = self;
+        answer_line(alloc, world, line, text, outbox, writer)
+    }
 }
 
 /// Plays a line, and gathers its text, for which there is room in `text`.
-pub(crate) fn answer_line<W: CountedWrite>(
+fn answer_line<W: CountedWrite>(
     alloc: Global,
     world: &mut Option<World>,
     line: &[u8],
@@ -254,7 +278,7 @@ fn is_line(number: u64, taken: LineResult) -> Result<bool, Fault>
 }
 
 /// How a line's fault ends the script.
-pub(crate) fn ending_of(number: u64, fault: LineFault) -> Fault
+pub fn ending_of(number: u64, fault: LineFault) -> Fault
     ensures { result ≡ ending_of number fault }
 {
     match fault {

@@ -220,10 +220,7 @@ pub(crate) fn push_reply(out: &mut Vec<u8>, reply: &Reply) -> Result<(), AllocEr
 }
 
 /// Adds the line of the last reply of a whole call.
-pub(crate) fn push_told(
-    out: &mut Vec<u8>,
-    told: &Result<Answer, CallFault>,
-) -> Result<(), AllocError>
+pub fn push_told(out: &mut Vec<u8>, told: &Result<Answer, CallFault>) -> Result<(), AllocError>
     ensures { OnOk result
         (out.new.items ≡ out.old.items ++ reply_line (last_reply told.now)) }
 {

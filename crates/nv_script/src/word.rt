@@ -5,6 +5,7 @@ ghost use Rattle.std.specs.List.{All, list_all};
 ghost use Rattle.std.specs.Fmt.{digit_glyph};
 ghost use Rattle.nv_base.specs.declared.limits.TheConstants.{MODE};
 ghost use Rattle.nv_script.specs.Words.{number_of, number_up_to, positive_up_to, words_of, handle_from, handle_of, is_plain, hex_value, before, unescaped, unescaped_behind, text_of, escaped_byte, escaped};
+ghost use Rattle.nv_script.specs.Grammar.{texts, word_at};
 ghost use Rattle.nv_script.specs.Printed.{ArePrinted};
 
 use memchr::memchr;
@@ -101,6 +102,16 @@ pub fn words(alloc: Global, line: &[u8]) -> Result<Vec<&[u8]>, AllocError>
     }
     found.push(rest)?;
     Ok(found)
+}
+
+/// The word at a place, which has no bytes where there is none.
+pub fn word_at<'a>(words: &[&'a [u8]], place: usize) -> &'a [u8]
+    ensures { result.now ≡ word_at (texts words.now) place }
+{
+    if place < words.len() {
+        return words[place];
+    }
+    &[]
 }
 
 /// Whether a byte stands for itself in escaped text: a visible one, but the one that begins an escaped byte. It is

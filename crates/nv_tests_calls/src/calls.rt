@@ -4,5 +4,4 @@ mod known;
 mod looks;
 mod refusals;
 mod rows;
-mod says;
 mod world;

@@ -2,7 +2,6 @@
 //! text that it would show.
 
 use nv_base::Fault;
-use nv_core::{Answer, CallFault, Reply};
 use nv_scenes::wants_memory;
 use std::alloc::Global;
 use std::fmt::Debug;
@@ -51,15 +50,6 @@ pub fn are_zeros(bytes: &[u8]) -> bool {
         }
     }
     true
-}
-
-/// The last reply of a whole call.
-pub fn last_reply(told: Result<Answer, CallFault>) -> Reply {
-    match told {
-        Ok(answer) => Reply::Done(answer),
-        Err(CallFault::Refused(fault)) => Reply::Refused(fault),
-        Err(CallFault::Waits) => Reply::Waits,
-    }
 }
 
 /// Adds an item to what a test notes for itself.

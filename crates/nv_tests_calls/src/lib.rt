@@ -1,5 +1,5 @@
-//! The tests of the book, of file calls, of the world, of calls at once and of scripts, a module for each: worked
-//! examples, each call that takes memory once with ample memory, and what no contract says.
+//! The tests of the book and of file calls over plain nodes, a module for each: worked examples, each call that takes
+//! memory once with ample memory, and what no contract says.
 //!
 //! They stand in a crate of their own since a crate with tests is proved twice. What they start from is in `nv_scenes`,
 //! and how they compare in `compare`.
@@ -11,11 +11,3 @@ mod book;
 mod calls;
 #[cfg(test)]
 mod compare;
-#[cfg(test)]
-mod mixed;
-#[cfg(test)]
-mod script;
-#[cfg(test)]
-mod trees;
-#[cfg(test)]
-mod world;

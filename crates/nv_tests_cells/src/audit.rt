@@ -9,7 +9,6 @@ mod shapes;
 ghost use Rattle.std.specs.Prelude.{◌≤◌};
 
 use crate::compare::{refused_memory, same};
-use crate::says::Says::{Create, Write};
 use crate::scene::Scene;
 use crate::steps::Step::{Commits, Makes, Snapshot};
 use crate::steps::{Step, make};
@@ -21,6 +20,7 @@ use nv_book::Book;
 use nv_cell::InodeCell;
 use nv_entry::{Part, PartId};
 use nv_scenes::{Row, id};
+use nv_scenes_calls::updates::Says::{Create, Write};
 use std::alloc::Global;
 use std::process::Abort;
 

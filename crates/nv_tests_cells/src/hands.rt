@@ -1,9 +1,9 @@
 //! What calls take and give back.
 
 use crate::compare::{refused_memory, same};
-use crate::says::handle;
 use nv_alloc::{Block, BlockQueue, FreeList, FreeRun, Hand};
 use nv_base::{BlockNo, Geometry, Ino};
+use nv_scenes_calls::updates::handle;
 use std::alloc::Global;
 use std::collections::vec_deque;
 use std::process::Abort;

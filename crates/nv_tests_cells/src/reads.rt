@@ -1,10 +1,11 @@
 //! Calls that only read, on the cell of their inode.
 
 use crate::compare::{same, same_for};
-use crate::says::{bytes, handle};
+use crate::says::bytes;
 use nv_base::{CommitNo, Fault, Handle, Ino, Kind};
 use nv_calls::{Answer, Call, View, list_on, look_on, lookup_on, read_on, stat_on};
 use nv_cell::InodeCell;
+use nv_scenes_calls::updates::handle;
 use std::alloc::Global;
 use std::process::Abort;
 

@@ -1,10 +1,10 @@
 //! What receipts say.
 
 use crate::compare::same_for;
-use crate::says::{Says, handle};
 use nv_base::{CommitNo, Epoch};
 use nv_calls::{Receipt, Update};
 use nv_journal::OldTail;
+use nv_scenes_calls::updates::{Says, handle};
 use std::process::Abort;
 
 /// A receipt of this call, with its epoch and the inode that it made; and the number of its commit.
@@ -30,6 +30,8 @@ fn notes(noted: &[OldTail], says: Says) -> bool {
         Says::Create(dir, _) | Says::Mkdir(dir, _) | Says::Unlink(dir, _) | Says::Rmdir(dir, _) => {
             noted.len() == 2 && (noted[0].ino == handle(dir).ino || noted[1].ino == handle(dir).ino)
         }
+        // these commit nothing
+        Says::Read(..) | Says::Stat(..) | Says::List(..) | Says::Lookup(..) => false,
     }
 }
 

@@ -1,11 +1,11 @@
 //! The order in which calls are refused on cells.
 
 use crate::reads::Reads;
-use crate::says::Says::{Create, Mkdir, Mode, Rename, Rmdir, Size, Unlink, Write};
 use crate::steps::{Step, play};
 use Reads::{List, Lookup, Read};
 use Step::{Commits, FindsNothing, FindsNothingIn, Log, Makes, Overtaken, Refused};
 use nv_base::Fault;
+use nv_scenes_calls::updates::Says::{Create, Mkdir, Mode, Rename, Rmdir, Size, Unlink, Write};
 
 const LONG: &[u8] = &[b'a'; 1_025];
 

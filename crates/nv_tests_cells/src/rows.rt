@@ -1,7 +1,6 @@
 //! The worked rows, each call from its check to its last retirement.
 
 use crate::reads::{ReadResult, Reads};
-use crate::says::Says::{Create, Mkdir, Mode, Rename, Rmdir, Size, Unlink, Write};
 use crate::steps::{Step, play};
 use ReadResult::{Bytes, Names, Stat, To};
 use Reads::{List, Lookup, Read};
@@ -10,6 +9,7 @@ use Step::{
 };
 use nv_base::{Fault, Kind};
 use nv_scenes::Row;
+use nv_scenes_calls::updates::Says::{Create, Mkdir, Mode, Rename, Rmdir, Size, Unlink, Write};
 
 /// 16 blocks of four bytes, of which the first CPU has 8; four entries a page.
 const DEVICE: Row = [16, 2, 4, 4, 8, 4, 3];

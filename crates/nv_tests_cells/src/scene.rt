@@ -2,7 +2,7 @@
 
 use crate::commits::make_call;
 use crate::hands::Takes;
-use crate::says::{Says, handle, update};
+use crate::says::update;
 use crate::slots::{begin, slot};
 use crate::stock::{Outcome, Stock};
 use nv_base::limits::BLOCK_BYTES;
@@ -10,6 +10,7 @@ use nv_base::{Fault, Ino};
 use nv_calls::{Cells, LastCell, LentCell, LookupResult, Source, check_on};
 use nv_cell::InodeCell;
 use nv_scenes::Row;
+use nv_scenes_calls::updates::{Says, handle};
 use std::alloc::Global;
 use std::process::Abort;
 

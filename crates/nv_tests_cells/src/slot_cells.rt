@@ -3,14 +3,15 @@
 use crate::commits::make_call;
 use crate::compare::same_for;
 use crate::hands::Takes;
-use crate::says::{Says, update};
+use crate::says::update;
 use crate::slots::{begin, slot};
-use crate::sources::CountedText;
 use crate::stock::{Outcome, Stock};
 use Says::{Create, Mkdir, Rename, Unlink};
 use nv_base::{CommitNo, Fault, Ino};
 use nv_calls::SlotCells;
 use nv_cell::InodeCell;
+use nv_scenes_calls::sources::CountedText;
+use nv_scenes_calls::updates::Says;
 use std::process::Abort;
 
 /// The slots that are lent to a call, the call, its log pages, the inode that it makes, the number of its commit, and

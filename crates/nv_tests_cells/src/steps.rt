@@ -3,13 +3,13 @@
 use crate::compare::{same, same_for};
 use crate::hands::{Held, Takes, has_free, making, taking};
 use crate::reads::{ReadResult, Reads, finds};
-use crate::says::Says;
 use crate::scene::Scene;
-use crate::sources::CountedText;
 use crate::stock::Outcome;
 use nv_base::{CommitNo, Epoch, Fault, Ino};
 use nv_cell::LogPageCounts;
 use nv_scenes::Row;
+use nv_scenes_calls::sources::CountedText;
+use nv_scenes_calls::updates::Says;
 use std::alloc::Global;
 use std::process::Abort;
 

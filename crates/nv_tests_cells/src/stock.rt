@@ -4,11 +4,11 @@ use crate::commits::Tried;
 use crate::compare::refused_memory;
 use crate::hands::{Held, Takes, give_back, holds, take_hand};
 use crate::receipts::is_receipt;
-use crate::says::Says;
 use nv_alloc::{FreeList, Hand};
 use nv_base::{CommitNo, Fault, Geometry, Ino};
 use nv_book::Book;
 use nv_scenes::{Row, geometry};
+use nv_scenes_calls::updates::Says;
 use std::alloc::Global;
 use std::process::Abort;
 

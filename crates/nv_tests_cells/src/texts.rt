@@ -4,9 +4,8 @@
 use crate::compare::{same, same_for};
 use crate::hands::taking;
 use crate::reads::{ReadResult, Reads};
-use crate::says::Says::{Create, Write};
 use crate::scene::Scene;
-use crate::sources::{CountedText, SingleBytes, SlowText};
+use crate::sources::{SingleBytes, SlowText};
 use crate::steps::{Step, make};
 use crate::stock::Outcome;
 use ReadResult::Bytes;
@@ -15,6 +14,8 @@ use Step::{Commits, Finds, Free, Log, Makes};
 use nv_base::{CommitNo, Fault};
 use nv_calls::Source;
 use nv_scenes::Row;
+use nv_scenes_calls::sources::CountedText;
+use nv_scenes_calls::updates::Says::{Create, Write};
 use std::alloc::Global;
 use std::process::Abort;
 

@@ -1,4 +1,4 @@
-//! The tests of the libraries from `nv_base` to `nv_journal` and of `nv_reader`, a module for each: worked examples,
+//! The tests of the libraries from `nv_base` to `nv_journal` that know no cell, a module for each: worked examples,
 //! each call that takes memory once with ample memory, and what no contract says.
 //!
 //! They stand in a crate of their own since a crate with tests is proved twice. What they start from is in `nv_scenes`
@@ -9,8 +9,6 @@
 mod base;
 #[cfg(test)]
 mod blocks;
-#[cfg(test)]
-mod cell;
 #[cfg(test)]
 mod chain;
 #[cfg(test)]
@@ -25,7 +23,5 @@ mod file_index;
 mod journal;
 #[cfg(test)]
 mod name_index;
-#[cfg(test)]
-mod reader;
 #[cfg(test)]
 mod snapshots;

@@ -3,15 +3,16 @@
 use crate::calls::told;
 use crate::compare::{holds_for, same};
 use crate::reports::have_same_trees;
-use crate::sources::{WaitingText, came};
 use crate::threads::{Acts, serve_in_threads};
 use crate::turns::Line;
-use crate::words::{At, Want, Words, call, is_wanted};
+use crate::words::call;
 use crate::worlds::{SMALL, prepared};
 use Words::{Create, List, Mkdir, Read, Write};
 use nv_base::Fault;
 use nv_calls::Answer;
 use nv_scenes::handle;
+use nv_scenes_calls::sources::{WaitingText, came};
+use nv_scenes_calls::words::{At, Want, Words, is_wanted};
 use nv_service::{Blocks, Commits, Service, Session};
 use std::alloc::Global;
 use std::process::Abort;

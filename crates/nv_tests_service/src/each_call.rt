@@ -1,13 +1,13 @@
 //! Each call once, and sixteen calls in turn, on the worked world of names.
 
 use crate::turns::{Line, are_as_alone};
-use crate::words::{At, Want, Words};
 use crate::worlds::SMALL;
 use Words::{
     Auto, Create, Drain, Fast, List, Lookup, Mkdir, Mode, Read, Rename, Rmdir, Show, Size, Snap,
     Stat, Thorough, Unlink, Write,
 };
 use nv_base::{Fault, Kind};
+use nv_scenes_calls::words::{At, Want, Words};
 
 const ROOT: At = (0, 1);
 

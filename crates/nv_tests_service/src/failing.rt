@@ -4,12 +4,13 @@ use crate::calls::told;
 use crate::compare::{holds_for, same_for};
 use crate::reports::report_alike;
 use crate::runner::{Work, seated, serve};
-use crate::sources::FailingText;
-use crate::words::{At, Want, Words, call, is_wanted};
+use crate::words::call;
 use crate::worlds::{SMALL, prepared};
 use Words::{Create, Read, Write};
 use nv_base::Fault;
 use nv_scenes::handle;
+use nv_scenes_calls::sources::CountedText;
+use nv_scenes_calls::words::{At, Want, Words, is_wanted};
 use nv_service::{Blocks, Commits, Service, Session};
 use std::alloc::Global;
 use std::process::Abort;
@@ -51,7 +52,7 @@ fn is_refused<C: Commits, B: Blocks, R: Wait + Abort>(
     session: &mut Session<C, B>,
     calls: u64,
 ) -> bool {
-    let mut source = FailingText::new(TEXT, calls);
+    let mut source = CountedText::new(TEXT, Some(calls));
     let count = TEXT.len() as u64;
     match session.write(rt, service, handle(1), 1, count, &mut source) {
         Ok(seen) => {

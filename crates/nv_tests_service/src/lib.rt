@@ -30,14 +30,10 @@ mod runner;
 #[cfg(test)]
 mod shows;
 #[cfg(test)]
-mod sources;
-#[cfg(test)]
 mod threads;
 #[cfg(test)]
 mod turns;
 #[cfg(test)]
 mod words;
-#[cfg(test)]
-mod work;
 #[cfg(test)]
 mod worlds;

@@ -3,11 +3,12 @@
 use crate::compare::{holds_for, same_for};
 use crate::reports::have_same_trees;
 use crate::threads::{Acts, serve_in_threads};
-use crate::words::{At, Want, Words, call, is_wanted};
+use crate::words::call;
 use crate::worlds::{prepared, told_at_last};
 use Words::{Create, Read, Write};
 use nv_core::World;
 use nv_scenes::Row;
+use nv_scenes_calls::words::{At, Want, Words, is_wanted};
 use nv_service::{Blocks, Commits, Service, Session};
 use std::alloc::Global;
 use std::process::Abort;

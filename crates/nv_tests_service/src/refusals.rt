@@ -1,7 +1,6 @@
 //! Refusals of a session's calls, each where others would come behind it.
 
 use crate::turns::{Line, are_as_alone, are_as_on_twin};
-use crate::words::{At, Want, Words};
 use crate::worlds::{SMALL, new_world};
 use Words::{
     Auto, Create, Fast, List, Lookup, Mkdir, Mode, Read, Rename, Rmdir, Show, Size, Snap, Stat,
@@ -12,6 +11,7 @@ use nv_base::{CommitNo, Epoch, Fault};
 use nv_book::Book;
 use nv_core::{Parts, World};
 use nv_scenes::Row;
+use nv_scenes_calls::words::{At, Want, Words};
 use std::alloc::Global;
 use std::process::Abort;
 

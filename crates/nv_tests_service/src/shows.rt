@@ -3,13 +3,14 @@
 use crate::calls::told;
 use crate::compare::{holds_for, same_for};
 use crate::reports::{have_same_trees, report_alike};
-use crate::sources::{TURNS, came};
 use crate::threads::{Acts, serve_in_threads};
 use crate::turns::Line;
-use crate::words::{At, Want, Words, call, is_wanted};
+use crate::words::call;
 use crate::worlds::{SMALL, prepared};
 use Words::{Create, Mkdir, Show, Snap, Unlink, Write};
 use nv_base::{Epoch, Fault, Ino};
+use nv_scenes_calls::sources::{TURNS, came};
+use nv_scenes_calls::words::{At, Want, Words, is_wanted};
 use nv_service::{Blocks, Commits, Service, Session};
 use std::alloc::Global;
 use std::process::Abort;

@@ -1,11 +1,12 @@
 //! Worlds in which calls were made one after another.
 
 use crate::compare::{refused_memory, same};
-use crate::words::{Words, call};
+use crate::words::call;
 use nv_base::{Fault, Geometry};
 use nv_calls::Answer;
 use nv_core::{CallFault, World};
 use nv_scenes::{Row, geometry, wants_memory};
+use nv_scenes_calls::words::Words;
 use std::alloc::Global;
 use std::process::Abort;
 

@@ -14,7 +14,7 @@ const VERSION: &str = "0.1.0";
 
 const ABOUT: &str = "The core of a file system for persistent memory, driven by scripts";
 
-const AFTER_HELP: &str = "\
+pub(crate) const AFTER_HELP: &str = "\
 Try 'novacore play --help' for what a script is, with one of three lines to begin with, and
 'novacore work --help' for scripts that threads play.
 
@@ -24,7 +24,7 @@ const PLAY: &str = "play";
 
 const PLAY_ABOUT: &str = "Play a script, and print what each of its lines is answered";
 
-const PLAY_AFTER_HELP: &str = "\
+pub(crate) const PLAY_AFTER_HELP: &str = "\
 A script is read line by line, and a line is one command. The first makes an empty file system in
 memory, and the others make calls of its actors or report on it. Empty lines and lines that begin
 with # are skipped. To begin with, save these three lines as first.nova:
@@ -65,7 +65,7 @@ const WORK: &str = "work";
 
 const WORK_ABOUT: &str = "Play a script whose calls threads make, and print what they are answered";
 
-const WORK_AFTER_HELP: &str = "\
+pub(crate) const WORK_AFTER_HELP: &str = "\
 A script for threads has a line 'fork'. The lines before it are played as by 'novacore play'. Behind
 it stand 'do' lines and comments alone, and all are read before a thread starts. Thread T makes the
 calls of the actors whose number is T modulo the number of threads, in their order. Cleaners go

@@ -1,52 +1,17 @@
 //! Command lines, what they ask for and what they are answered.
 
-mod play_help;
+mod examples;
+mod help;
+mod refusals;
 mod work;
 
-use crate::command_line::Task;
+use crate::command_line::{AFTER_HELP, PLAY_AFTER_HELP, Task, WORK_AFTER_HELP};
 use crate::play_script;
+use help::{HELP, HELP_OF_HELP, PLAY_HELP, WORK_HELP};
 use nv_base::Fault;
 use nv_script::play;
-use play_help::PLAY_HELP;
+use refusals::REFUSALS;
 use std::alloc::{AllocError, Global};
-
-const HELP: &str = "\
-The core of a file system for persistent memory, driven by scripts
-
-Usage: novacore <COMMAND>
-
-Commands:
-  play  Play a script, and print what each of its lines is answered
-  work  Play a script whose calls threads make, and print what they are answered
-  help  Print this message or the help of the given subcommand(s)
-
-Options:
-  -h, --help     Print help
-  -V, --version  Print version
-
-Try 'novacore play --help' for what a script is, with one of three lines to begin with, and
-'novacore work --help' for scripts that threads play.
-
-Exit status: 0 if all was done, 1 after a fault, 2 for a command line that is refused.
-";
-
-const TWO_FILES: &str = "\
-error: unexpected argument 'b' found
-
-Usage: novacore play [FILE]
-
-For more information, try '--help'.
-";
-
-const UNKNOWN_SUBCOMMAND: &str = "\
-error: unrecognized subcommand 'paly'
-
-  tip: a similar subcommand exists: 'play'
-
-Usage: novacore <COMMAND>
-
-For more information, try '--help'.
-";
 
 /// The script that the help of `play` shows, and what it says that the script prints.
 const SHOWN_SCRIPT: [&str; 3] = [
@@ -87,32 +52,69 @@ fn play_takes_one_file_or_none(rt: HostRuntime) {
     }
 }
 
+/// The whole text of a help: what the library lays out, and what follows.
+fn whole_help(alloc: Global, head: &str, after: &str) -> Result<String, AllocError> {
+    format!(in alloc; "{head}\n{after}\n")
+}
+
 #[test]
-fn other_command_lines_are_answered(rt: HostRuntime) {
-    let cases: [(&[&str], i32, &str); 5] = [
-        (&["novacore"], 2, HELP),
-        (&["novacore", "--help"], 0, HELP),
-        (&["novacore", "--version"], 0, "novacore 0.1.0\n"),
-        (&["novacore", "play", "a", "b"], 2, TWO_FILES),
-        (&["novacore", "paly"], 2, UNKNOWN_SUBCOMMAND),
+fn help_and_the_version_are_shown(rt: HostRuntime) -> Result<(), AllocError> {
+    let alloc = rt.alloc();
+    let helps: [(&[&str], i32, &str, &str); 7] = [
+        (&["novacore"], 2, HELP, AFTER_HELP),
+        (&["novacore", "--"], 2, HELP, AFTER_HELP),
+        (&["novacore", "--help"], 0, HELP, AFTER_HELP),
+        (&["novacore", "help"], 0, HELP, AFTER_HELP),
+        (
+            &["novacore", "play", "--help"],
+            0,
+            PLAY_HELP,
+            PLAY_AFTER_HELP,
+        ),
+        (&["novacore", "work", "-h"], 0, WORK_HELP, WORK_AFTER_HELP),
+        (&["novacore", "help", "work"], 0, WORK_HELP, WORK_AFTER_HELP),
     ];
-    for (words, status, text) in cases {
-        let answer = answered(rt.alloc(), words);
+    for (words, status, head, after) in helps {
+        let (told, text) = answered(alloc, words).expect(&rt, "help");
+        assert_eq!(rt; told, status);
         assert!(rt;
-            answer.is_some_and(|a| a.0 == status && a.1.as_str() == text),
+            text.as_str() == whole_help(alloc, head, after)?.as_str(),
             "at {words:?}"
         );
     }
+    let (_status, of_help) = answered(alloc, &["novacore", "help", "help"]).expect(&rt, "help");
+    assert!(rt; of_help.as_str().strip_suffix("\n") == Some(HELP_OF_HELP));
+    let (_status, version) = answered(alloc, &["novacore", "-V"]).expect(&rt, "the version");
+    assert!(rt; version.as_str() == "novacore 0.1.0\n");
+    Ok(())
+}
+
+#[test]
+fn other_command_lines_are_refused(rt: HostRuntime) -> Result<(), AllocError> {
+    let alloc = rt.alloc();
+    for (line, text) in REFUSALS {
+        let mut words = Vec::new(alloc);
+        words.push("novacore")?;
+        for word in line.split(' ') {
+            words.push(word)?;
+        }
+        let error = Task::read(alloc, words.as_slice())
+            .err()
+            .expect(&rt, "a refusal");
+        let told = format!(in alloc; "{error}")?;
+        assert!(rt;
+            error.exit_code() == 2 && told.as_str() == text,
+            "at {line}"
+        );
+    }
+    Ok(())
 }
 
 #[test]
 fn help_of_play_shows_what_a_script_prints(rt: HostRuntime) -> Result<(), AllocError> {
     let alloc = rt.alloc();
-    let (status, help) = answered(alloc, &["novacore", "play", "--help"]).expect(&rt, "help");
-    assert_eq!(rt; status, 0);
-    assert!(rt; help.as_str() == PLAY_HELP);
     for shown in [SHOWN_SCRIPT.as_slice(), &SHOWN_ANSWERS] {
-        assert!(rt; help.as_str().contains(lines(alloc, shown, "  ")?.as_str()));
+        assert!(rt; PLAY_AFTER_HELP.contains(lines(alloc, shown, "  ")?.as_str()));
     }
     let script = lines(alloc, &SHOWN_SCRIPT, "")?;
     let mut reader = script.as_bytes();

@@ -2,12 +2,12 @@
 
 use super::known::Known;
 use super::refusals::known;
-use super::says::{Says, update};
 use crate::compare::{holds_for, same, same_for};
 use Says::{Create, Mkdir, Rename, Rmdir, Unlink};
 use nv_base::Fault;
 use nv_calls::{LookupResult, Update, found, is_as_looked, laws, look, look_all};
 use nv_scenes::handle;
+use nv_scenes_calls::updates::{Says, update};
 use std::process::Abort;
 use std::test::Fail;
 
@@ -37,7 +37,8 @@ fn looks_find_what_names_lead_to(rt: HostRuntime) -> Result<(), Fail> {
             first: first.map(handle),
             second: second.map(handle),
         };
-        is_found(&rt, &nodes, row, &update(rt.alloc(), says)?, wanted);
+        let call = update(rt.alloc(), says).ok_or("a call")?;
+        is_found(&rt, &nodes, row, &call, wanted);
     }
     Ok(())
 }

@@ -7,7 +7,6 @@ ghost use Rattle.nv_calls.specs.Refusals.{passes};
 ghost use Rattle.nv_calls.specs.Updates.{blank_call, blocks_taken};
 
 use super::known::{Known, KnownNode};
-use super::says::{Says, update};
 use crate::compare::{holds_for, same_for};
 use Says::{Create, List, Lookup, Mkdir, Mode, Read, Rename, Rmdir, Size, Stat, Unlink, Write};
 use nv_base::{Bytes, Fault, Kind, Name};
@@ -17,6 +16,7 @@ use nv_calls::{
 use nv_entry::{BoundName, NameList, NodeCopy};
 use nv_scenes::handle;
 use nv_scenes::logs::mode;
+use nv_scenes_calls::updates::{Says, update};
 use std::alloc::Global;
 use std::process::Abort;
 use std::test::Fail;
@@ -207,7 +207,7 @@ fn is_refused(
         same_for(rt, &row, found.err(), wanted);
         return Ok(());
     }
-    let call = update(alloc, says)?;
+    let call = update(alloc, says).ok_or("a call")?;
     let found = refused(nodes, &call);
     same_for(rt, &row, in_parts(BLOCK, nodes, &call).err(), found);
     // what a look refuses, the check refuses alike

@@ -1,6 +1,5 @@
 //! The worked rows that plans decide: which items each call appends, and the nodes that come of it.
 
-use super::says::Says;
 use super::world::{Outcome, Row, World};
 use crate::compare::{are_zeros, same, same_for, same_shown};
 use LogSays::{Bind, Directory, File, Gone, Size, Unbind, Write};
@@ -10,6 +9,7 @@ use nv_entry::Entry;
 use nv_scenes::handle;
 use nv_scenes::logs::{Line, Says as LogSays, log_of};
 use nv_scenes::rows::{CUT, RUNS};
+use nv_scenes_calls::updates::Says;
 use std::alloc::Global;
 use std::process::Abort;
 use std::test::Fail;

@@ -4,7 +4,6 @@ ghost use Rattle.std.specs.Prelude.{◌≡◌, IfOk};
 
 use super::known::{Known, KnownNode};
 use super::refusals::{in_parts, of_a_read};
-use super::says::{Says, update};
 use crate::compare::same_for;
 use nv_base::{BlockNo, Epoch, Fault, Handle, Ino, Items};
 use nv_calls::{
@@ -14,6 +13,7 @@ use nv_calls::{
 use nv_entry::{Entry, Item, When, node_when, page_source};
 use nv_scenes::logs::{Device, Says as LogSays, log_of};
 use nv_scenes::{handle, id, wants_memory};
+use nv_scenes_calls::updates::{Says, update};
 use std::alloc::Global;
 use std::process::Abort;
 use std::test::Fail;
@@ -86,7 +86,7 @@ impl World {
         if outcome != Outcome::Commits {
             return Ok(());
         }
-        let planned = self.planned(rt, alloc, &update(alloc, says)?, blocks)?;
+        let planned = self.planned(rt, alloc, &update(alloc, says).ok_or("a call")?, blocks)?;
         self.fill(rt, alloc, says, blocks)?;
         self.append(alloc, planned, epoch)?;
         self.read_all(rt, alloc)
@@ -99,7 +99,7 @@ impl World {
         }
         let block = self.block;
         assert!(rt; 0 < block && block <= 4_096);
-        let call = update(alloc, says)?;
+        let call = update(alloc, says).ok_or("a call")?;
         let before = look_all(&self.nodes, &call);
         match ends_at_check(block, &self.nodes, &before, &call, true) {
             Ok(_) => Ok(Outcome::Commits),

@@ -1,11 +1,11 @@
 //! Command lines of `work`, and what its help shows.
 
-use super::{answered, lines};
-use crate::command_line::Task;
+use super::lines;
+use crate::command_line::{Task, WORK_AFTER_HELP};
 use crate::crowd::Crowd;
 use crate::work_script;
 use nv_base::Fault;
-use nv_script::{OpenGate, work};
+use nv_work::{OpenGate, work};
 use std::alloc::{AllocError, Global};
 use std::process::Abort;
 use std::sync::Wait;
@@ -42,33 +42,6 @@ fn work_takes_threads_and_cleaners(rt: HostRuntime) {
     }
 }
 
-const NO_THREADS: &str = "\
-error: invalid value '0' for '--threads <N>': 0 is not in 1..=32
-
-For more information, try '--help'.
-";
-
-const TOO_MANY_CLEANERS: &str = "\
-error: invalid value '33' for '--cleaners <M>': 33 is not in 0..=32
-
-For more information, try '--help'.
-";
-
-#[test]
-fn other_numbers_are_refused(rt: HostRuntime) {
-    let cases: [(&[&str], &str); 2] = [
-        (&["novacore", "work", "--threads", "0"], NO_THREADS),
-        (&["novacore", "work", "--cleaners", "33"], TOO_MANY_CLEANERS),
-    ];
-    for (words, text) in cases {
-        let answer = answered(rt.alloc(), words);
-        assert!(rt;
-            answer.is_some_and(|a| a.0 == 2 && a.1.as_str() == text),
-            "at {words:?}"
-        );
-    }
-}
-
 /// The script that the help of `work` shows, and what it says that the script prints.
 const SHOWN_SCRIPT: [&str; 6] = [
     "format blocks=64 cpus=2 block=4 page=4 inodes=8 snaps=4 actors=2",
@@ -93,38 +66,6 @@ const SHOWN_ANSWERS: [&str; 11] = [
     "audit ok",
 ];
 
-/// The script of two writers, and what it writes in two threads.
-const TWO_WRITERS: &str = "\
-format blocks=64 cpus=2 block=4 page=4 inodes=8 snaps=4 actors=2
-do 0 create 0.1 a 420
-do 0 create 0.1 b 420
-fork
-do 0 write 1.1 0 aaaa
-do 1 write 2.1 0 bbbb
-do 0 write 1.1 2 AAAA
-do 1 write 2.1 2 BBBB
-do 0 mode 1.1 1
-do 1 mode 2.1 2
-";
-
-const WRITTEN: &str = "\
-formatted
-done 1.1
-done 2.1
-0: done 4
-0: done 4
-0: done
-1: done 4
-1: done 4
-1: done
-/ d 493
-/a f 1 6 aaAAAA
-/b f 2 6 bbBBBB
-end
-snaps 0 epoch 1 commit 8
-audit ok
-";
-
 /// Whether a script writes this, by as many threads and cleaners as a command line without numbers has.
 fn writes<R: Threads + Wait + Abort + Sync>(
     rt: &R,
@@ -148,17 +89,10 @@ fn writes<R: Threads + Wait + Abort + Sync>(
 }
 
 #[test]
-fn work_writes_what_two_writers_are_answered(rt: HostRuntime) {
-    assert!(rt; writes(&rt, rt.alloc(), TWO_WRITERS, WRITTEN));
-}
-
-#[test]
 fn help_of_work_shows_what_a_script_prints(rt: HostRuntime) -> Result<(), AllocError> {
     let alloc = rt.alloc();
-    let (status, help) = answered(alloc, &["novacore", "work", "--help"]).expect(&rt, "help");
-    assert_eq!(rt; status, 0);
     for shown in [SHOWN_SCRIPT.as_slice(), &SHOWN_ANSWERS] {
-        assert!(rt; help.as_str().contains(lines(alloc, shown, "  ")?.as_str()));
+        assert!(rt; WORK_AFTER_HELP.contains(lines(alloc, shown, "  ")?.as_str()));
     }
     let script = lines(alloc, &SHOWN_SCRIPT, "")?;
     let answers = lines(alloc, &SHOWN_ANSWERS, "")?;

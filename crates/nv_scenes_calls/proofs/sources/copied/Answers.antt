@@ -1,0 +1,11 @@
+use Rattle.std.proofs.Common.{◌≡◌, ◌+◌, ◌-◌, arith, sym, ◌∙◌, length}
+use Rattle.std.proofs.lemmas.Simd.{pick_l-range_with_len}
+use Rattle.nv_scenes_calls.proofs.sources.copied.Goals as goal
+
+pub returns : goal.returns
+returns c = λ yes.
+    let count : (c.args.at + length c.args.part.now) - c.args.at ≡ length c.args.part.now = omega arith in
+    c.copy_from_slice.ensures.after
+    ∙ rw count
+    (sym (pick_l-range_with_len 0 c.args.text.now c.args.at (length c.args.part.now)
+    (omega (arith, c.if-count-at.false, c.if-count-at-2.false))))

@@ -1,0 +1,305 @@
+//! Rows of calls, each made where others were made before it, with its answer and the steps of a world that take memory
+//! for it.
+
+use crate::words::{At, Want, Words};
+use Words::{
+    Auto, Create, Drain, Fast, List, Lookup, Mkdir, Mode, Read, Rename, Rmdir, Show, Size, Snap,
+    Stat, Thorough, Unlink, Write,
+};
+use nv_base::{Fault, Kind};
+
+/// A step that grows something, and how many steps the call makes where it is refused memory there: the steps up to
+/// that one, and then those that give back what the call has.
+pub type Growth = (&'static str, u64);
+
+/// What it shows; the calls before it, which another actor makes; a call, its answer, and which of its steps grow.
+pub type Row = (
+    &'static str,
+    &'static [Words],
+    Words,
+    Want,
+    &'static [Growth],
+);
+
+/// The root, and nodes of generation 1.
+pub const ROOT: At = (0, 1);
+
+pub const ONE: At = (1, 1);
+
+pub const TWO: At = (2, 1);
+
+/// Four slots. A page of a log has four entries.
+pub const ROOMY: nv_scenes::Row = [24, 2, 4, 4, 4, 2, 2];
+
+/// Of a new node: number, two locks, check, pages, ready, enter. Back go two unlocks and the number, and after
+/// the pages those too.
+const NEW_NODE: &[Growth] = &[("check", 7), ("ready", 10), ("enter", 11)];
+
+/// Of a change of one node: a lock, check, one taking, ready, enter. Back go the unlock, and then the blocks.
+const ONE_TAKING: &[Growth] = &[("check", 3), ("ready", 6), ("enter", 7)];
+
+const TWO_TAKINGS: &[Growth] = &[("check", 3), ("ready", 7), ("enter", 8)];
+
+/// A check that wants no block grows nothing.
+const NO_TAKING: &[Growth] = &[("ready", 4), ("enter", 5)];
+
+/// Of a visit.
+const VISIT: &[Growth] = &[("visit", 1)];
+
+/// An enter grows where the call may kill more parts than each call before it: four in a create or a mkdir, one more
+/// than its pages in a write.
+const FOUR_PAGES: &[u8] = b"abcdefghijklmnop";
+
+/// Files and directories that are made, and bytes.
+pub const NODES: &[Row] = &[
+    ("create", &[], Create(ROOT, b"a"), Want::Made(ONE), NEW_NODE),
+    ("mkdir", &[], Mkdir(ROOT, b"d"), Want::Made(ONE), NEW_NODE),
+    (
+        "write",
+        &[Create(ROOT, b"a")],
+        Write(ONE, 2, FOUR_PAGES),
+        Want::Count(16),
+        ONE_TAKING,
+    ),
+    // the file's log is full
+    (
+        "write with a log page",
+        &[
+            Create(ROOT, b"a"),
+            Write(ONE, 0, b"a"),
+            Write(ONE, 9, b"b"),
+            Write(ONE, 0, b"c"),
+        ],
+        Write(ONE, 6, FOUR_PAGES),
+        Want::Count(16),
+        TWO_TAKINGS,
+    ),
+    // inside a page, past which there are others
+    (
+        "size",
+        &[Create(ROOT, b"a"), Write(ONE, 0, FOUR_PAGES)],
+        Size(ONE, 2),
+        Want::Nothing,
+        ONE_TAKING,
+    ),
+    // a log page alone
+    (
+        "size with a log page",
+        &[
+            Create(ROOT, b"a"),
+            Write(ONE, 0, FOUR_PAGES),
+            Write(ONE, 0, b"a"),
+            Write(ONE, 0, b"b"),
+        ],
+        Size(ONE, 0),
+        Want::Nothing,
+        &[("check", 3), ("ready", 6)],
+    ),
+    ("mode", &[], Mode(ROOT, 7), Want::Nothing, NO_TAKING),
+];
+
+/// Names that go and move, where the file has pages.
+pub const NAMES: &[Row] = &[
+    // one look, two locks, check, ready, enter
+    (
+        "unlink",
+        &[Create(ROOT, b"a"), Write(ONE, 0, FOUR_PAGES)],
+        Unlink(ROOT, b"a"),
+        Want::Nothing,
+        &[("ready", 7), ("enter", 8)],
+    ),
+    // the same; it kills four parts at most, and the mkdir made room for as many
+    (
+        "rmdir",
+        &[Mkdir(ROOT, b"d")],
+        Rmdir(ROOT, b"d"),
+        Want::Nothing,
+        &[("ready", 7)],
+    ),
+    // one look, three locks, check, pages, ready, enter
+    (
+        "rename in one directory",
+        &[
+            Create(ROOT, b"a"),
+            Create(ROOT, b"b"),
+            Write(TWO, 0, FOUR_PAGES),
+        ],
+        Rename(ROOT, b"a", ROOT, b"b"),
+        Want::Nothing,
+        &[("check", 8), ("ready", 11), ("enter", 12)],
+    ),
+    // two looks, three locks, check, ready, and an enter that kills two parts at most
+    (
+        "rename",
+        &[Create(ROOT, b"a"), Mkdir(ROOT, b"d")],
+        Rename(ROOT, b"a", TWO, b"b"),
+        Want::Nothing,
+        &[("ready", 10)],
+    ),
+    // two looks, four locks, check, ready, enter
+    (
+        "rename over a file",
+        &[
+            Create(ROOT, b"a"),
+            Mkdir(ROOT, b"d"),
+            Create(TWO, b"b"),
+            Write((3, 1), 0, FOUR_PAGES),
+        ],
+        Rename(ROOT, b"a", TWO, b"b"),
+        Want::Nothing,
+        &[("ready", 12), ("enter", 13)],
+    ),
+];
+
+/// Calls that change nothing. Those that show no list take no memory.
+pub const VISITS: &[Row] = &[
+    (
+        "read",
+        &[Create(ROOT, b"a"), Write(ONE, 2, FOUR_PAGES)],
+        Read(ONE, 1, 30),
+        Want::Bytes(b"\0abcdefghijklmnop"),
+        VISIT,
+    ),
+    (
+        "list",
+        &[Create(ROOT, b"a"), Mkdir(ROOT, b"d")],
+        List(ROOT),
+        Want::Names(&[(b"a", 1), (b"d", 2)]),
+        VISIT,
+    ),
+    (
+        "stat",
+        &[Create(ROOT, b"a")],
+        Stat(ROOT),
+        Want::Stat(Kind::Dir, 493, 0, 1),
+        &[],
+    ),
+    (
+        "lookup",
+        &[Create(ROOT, b"a")],
+        Lookup(ROOT, b"a"),
+        Want::Made(ONE),
+        &[],
+    ),
+    (
+        "write of no bytes",
+        &[Create(ROOT, b"a")],
+        Write(ONE, 3, b""),
+        Want::Count(0),
+        &[],
+    ),
+    (
+        "rename onto its own place",
+        &[Create(ROOT, b"a")],
+        Rename(ROOT, b"a", ROOT, b"a"),
+        Want::Nothing,
+        &[],
+    ),
+];
+
+/// Calls on snapshots. A snapshot is made and dropped without memory; a drain makes room for a block before its first
+/// pick, and a show takes memory at each visit. Behind that comes the unpin.
+pub const SNAPSHOTS: &[Row] = &[
+    ("snap", &[Create(ROOT, b"a")], Snap, Want::Snapshot(1), &[]),
+    (
+        "drop",
+        &[
+            Create(ROOT, b"a"),
+            Write(ONE, 0, FOUR_PAGES),
+            Snap,
+            Snap,
+            Write(ONE, 3, b"zz"),
+        ],
+        Words::Drop(2),
+        Want::Nothing,
+        &[],
+    ),
+    (
+        "drain",
+        &[
+            Create(ROOT, b"a"),
+            Write(ONE, 0, FOUR_PAGES),
+            Snap,
+            Write(ONE, 3, b"zz"),
+            Words::Drop(1),
+        ],
+        Drain(9),
+        Want::Count(3),
+        &[("pick", 1)],
+    ),
+    (
+        "drain of nothing",
+        &[Snap],
+        Drain(1),
+        Want::Count(0),
+        &[("pick", 1)],
+    ),
+    (
+        "show",
+        &[
+            Mkdir(ROOT, b"d"),
+            Create(ONE, b"a"),
+            Write(TWO, 0, FOUR_PAGES),
+            Snap,
+            Write(TWO, 3, b"zz"),
+            Create(ROOT, b"b"),
+        ],
+        Show(1),
+        Want::Tree(&[(b"", b""), (b"d", b""), (b"a", FOUR_PAGES)]),
+        &[("first visit", 3), ("second visit", 4), ("third visit", 5)],
+    ),
+];
+
+/// Of a cleaner: a lock, and the judge, which walks the log and makes room for pages. Back goes the unlock.
+const JUDGED: &[Growth] = &[("judge", 3)];
+
+/// Cleaners of the root's log. Behind the judge none takes memory.
+pub const CLEANERS: &[Row] = &[
+    // the page of the modes 4 to 7 goes
+    (
+        "fast",
+        &[
+            Mode(ROOT, 1),
+            Mode(ROOT, 2),
+            Mode(ROOT, 3),
+            Mode(ROOT, 4),
+            Mode(ROOT, 5),
+            Mode(ROOT, 6),
+            Mode(ROOT, 7),
+            Mode(ROOT, 8),
+        ],
+        Fast(0),
+        Want::Cleaned(false, 4, 1),
+        JUDGED,
+    ),
+    // the first mode goes
+    (
+        "thorough",
+        &[Mode(ROOT, 1), Mode(ROOT, 2)],
+        Thorough(0),
+        Want::Cleaned(true, 1, 0),
+        JUDGED,
+    ),
+    // two of five would stay, and fit one page; and two of two
+    (
+        "auto as thorough",
+        &[Mode(ROOT, 1), Mode(ROOT, 2), Mode(ROOT, 3), Mode(ROOT, 4)],
+        Auto(0),
+        Want::Cleaned(true, 3, 1),
+        JUDGED,
+    ),
+    (
+        "auto as fast",
+        &[Mode(ROOT, 1)],
+        Auto(0),
+        Want::Cleaned(false, 0, 0),
+        JUDGED,
+    ),
+    (
+        "no inode",
+        &[],
+        Thorough(2),
+        Want::Refused(Fault::Stale),
+        &[],
+    ),
+];

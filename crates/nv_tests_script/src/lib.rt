@@ -1,0 +1,31 @@
+//! The tests of scripts: lines, words and whole scripts with their ends. What scripts write comes from worked examples.
+//!
+//! They stand in a crate of their own since a crate with tests is proved twice. How they compare is in `compare`.
+#![tactic(auto)]
+
+#[cfg(test)]
+mod cleaners;
+#[cfg(test)]
+mod cleaners_beside;
+#[cfg(test)]
+mod compare;
+#[cfg(test)]
+mod ends;
+#[cfg(test)]
+mod faults;
+#[cfg(test)]
+mod growths;
+#[cfg(test)]
+mod lines;
+#[cfg(test)]
+mod pieces;
+#[cfg(test)]
+mod rows;
+#[cfg(test)]
+mod scripts;
+#[cfg(test)]
+mod snapshots;
+#[cfg(test)]
+mod words;
+#[cfg(test)]
+mod worked;

@@ -1,0 +1,51 @@
+//! The help of the program and of its subcommands, as far as it is the library's own layout: the texts of `command_line`
+//! follow. The shell script `novacore` shows both where the program is not built.
+
+pub(crate) const HELP: &str = "\
+The core of a file system for persistent memory, driven by scripts
+
+Usage: novacore <COMMAND>
+
+Commands:
+  play  Play a script, and print what each of its lines is answered
+  work  Play a script whose calls threads make, and print what they are answered
+  help  Print this message or the help of the given subcommand(s)
+
+Options:
+  -h, --help     Print help
+  -V, --version  Print version
+";
+
+pub(crate) const PLAY_HELP: &str = "\
+Play a script, and print what each of its lines is answered
+
+Usage: novacore play [FILE]
+
+Arguments:
+  [FILE]  The script; without FILE, or where it is -, from standard input
+
+Options:
+  -h, --help  Print help
+";
+
+pub(crate) const WORK_HELP: &str = "\
+Play a script whose calls threads make, and print what they are answered
+
+Usage: novacore work [OPTIONS] [FILE]
+
+Arguments:
+  [FILE]  The script; without FILE, or where it is -, from standard input
+
+Options:
+      --threads <N>   How many threads make the calls behind 'fork', 1 to 32 [default: 2]
+      --cleaners <M>  How many cleaners run beside, 0 to 32 [default: 1]
+  -h, --help          Print help
+";
+
+pub(crate) const HELP_OF_HELP: &str = "\
+Print this message or the help of the given subcommand(s)
+
+Usage: novacore help [COMMAND]...
+
+Arguments:
+  [COMMAND]...  Print help for the subcommand(s)";

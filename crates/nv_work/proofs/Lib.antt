@@ -1,0 +1,3 @@
+pub mod Forking
+pub mod Reported
+pub mod Told

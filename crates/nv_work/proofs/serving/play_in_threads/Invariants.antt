@@ -1,0 +1,20 @@
+use Rattle.nv_service.specs.Names.{placed_parts}
+use Rattle.nv_service.specs.Opened.{versions_in}
+use Rattle.nv_work.proofs.serving.play_in_threads.Given as goal
+
+abbrev pub ghosts-serve-C-Ledger : goal.ghosts-serve-C-Ledger
+ghosts-serve-C-Ledger g a = record { name = a.names.commits.name; parts = a.names.commits.parts }
+
+abbrev pub ghosts-serve-B-Ledger : goal.ghosts-serve-B-Ledger
+ghosts-serve-B-Ledger g a = record { name = a.names.blocks.name; parts = a.names.blocks.parts }
+
+abbrev pub ghosts-serve-C-Commits : goal.ghosts-serve-C-Commits
+ghosts-serve-C-Commits g a = record {
+  whole = a.names.commits.parts;
+  commit = a.world.shared.book.state.commit;
+  opened = versions_in a.world.shared.cells.items;
+  table = a.names.table;
+}
+
+abbrev pub ghosts-serve-B-Blocks : goal.ghosts-serve-B-Blocks
+ghosts-serve-B-Blocks g a = record { whole = a.names.blocks.parts; placed = placed_parts a.world.shared.geometry.numbers }
