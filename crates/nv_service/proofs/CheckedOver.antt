@@ -1,15 +1,15 @@
 -- The check of a change over the cells that are lent to it.
-use Rattle.std.proofs.Common.{◌≡◌, ℕ, zero, suc, ◌<◌, ◌≤◌, ◌||◌, ◌==◌, ◌∙◌, Bool, true, false, not, List, [], ◌∷◌, Option, Some, None, length, drop, take, refl, ap, sym, subst, arith}
+use Rattle.std.proofs.Common.{◌≡◌, ℕ, zero, suc, ◌<◌, ◌≤◌, ◌||◌, ◌∙◌, Bool, true, false, not, List, [], ◌∷◌, Option, Some, None, length, drop, take, refl, ap, sym, subst, arith}
 use Rattle.std.specs.Prelude.{IfOk, Result, Ok, Err, is_some}
 use Rattle.std.specs.List.{AllByRecursion}
 use Rattle.std.specs.Option.{IsSome}
 use Rattle.std.specs.Result.{result_err}
-use Rattle.std.proofs.lemmas.Bool.{eq-eqb, eqb-true}
+use Rattle.std.proofs.lemmas.Bool.{eq-eqb}
 use Rattle.std.proofs.lemmas.List.{length-take-le}
 use Rattle.nv_alloc.specs.declared.hand.Hand.{Hand}
 use Rattle.nv_entry.specs.declared.item.Entry.{Entry}
-use Rattle.nv_cell.specs.Cell.{CellValue, IsCell, log_of}
-use Rattle.nv_calls.specs.AllCalls.{early, is_nothing, late, looked, refusal}
+use Rattle.nv_cell.specs.Cell.{CellValue, IsCell}
+use Rattle.nv_calls.specs.AllCalls.{early, is_nothing, late, looked}
 use Rattle.nv_calls.specs.Cells.{ino_at, value_at}
 use Rattle.nv_calls.specs.Checked.{check_ends, ends_over, same_looked}
 use Rattle.nv_calls.specs.Nodes.{cell_of, has_page_in, nodes_in, slot_by}
@@ -98,6 +98,12 @@ module _ (block : ℕ) (cells : List (ℕ × CellValue)) (before : LookupResult)
   pub passed_by : (result : Result ℕ CheckEnd)
       → result_err result ≡ ends_over block (nodes_in cells) before (is_some hand.ino) u
       → IfOk result (λ n. n ≡ blocks_taken block (nodes_in cells) (has_page_in cells) u)
-      → IfOk result (λ wanted. HasPassed block cells hand u wanted)
-  passed_by (Err end) ends wants = tt
-  passed_by (Ok wanted) ends wants = has_passed wanted (sym ends) wants
+      → (wanted : ℕ) → result ≡ Ok wanted → HasPassed block cells hand u wanted
+  passed_by (Err end) ends wants wanted is = cc
+  passed_by (Ok n) ends wants wanted is = let same : n ≡ wanted = cc in subst (HasPassed block cells hand u) same (has_passed n (sym ends) wants)
+
+-- how a check ended
+pub told_by : (result : Result ℕ CheckEnd) (end : CheckEnd) (over : Option CheckEnd) → result_err result ≡ over → result ≡ Err end
+    → over ≡ Some end
+told_by (Ok n) end over ends is = cc
+told_by (Err e) end over ends is = let same : e ≡ end = cc in sym ends ∙ ap (λ (x : CheckEnd). Some x) same

@@ -1,5 +1,4 @@
 -- What a call finds in a cell is of that call and of the cell's version.
-use Rattle.std.proofs.Common.{◌≡◌}
 use Rattle.std.specs.Prelude.{IfOk, MatchResult, Option, Result, Ok, Err}
 use Rattle.nv_base.specs.declared.fault.Fault.{Fault}
 use Rattle.nv_base.specs.declared.numbers.Handle.{Handle}

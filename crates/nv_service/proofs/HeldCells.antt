@@ -1,11 +1,13 @@
 -- Cells that are lent one by one, and what a seat has seen of them.
 use Rattle.std.proofs.Common.{◌≡◌, ℕ, zero, suc, ◌+◌, ◌<◌, ◌≤◌, List, [], ◌∷◌, length, arith, get_or, slice_index, subst}
-use Rattle.std.specs.Prelude.{OnErr, OnOk, Result, Ok, Err}
+use Rattle.std.specs.Prelude.{IfOk, OnErr, Result, Ok, Err}
 use Rattle.nv_base.specs.declared.numbers.Handle.{Handle}
 use Rattle.nv_calls.specs.Cells.{AreCells, ino_at, state_at}
+use Rattle.nv_calls.specs.Commit.{ReceiptValue}
+use Rattle.nv_calls.specs.declared.update.Update.{Update}
 use Rattle.nv_calls.proofs.PlannedAlike.{all_map}
 use Rattle.nv_cell.specs.Cell.{CellValue}
-use Rattle.nv_service.specs.Changing.{AreRaised, HaveSeenHigher, IsRaised, KeepVersions}
+use Rattle.nv_service.specs.Changing.{AreRaised, HaveSeenHigher, IsRaised, KeepVersions, RaisesPublished, SeesPublished, published_by}
 
 -- ---- by rising number
 
@@ -48,11 +50,12 @@ seen_higher old new before after handles each raised =
     all_map (λ (h : Handle). IsRaised old new h.ino) (λ (h : Handle). slice_index before h.ino < slice_index after h.ino)
     (λ h is. subst (λ (i : ℕ). slice_index before i < slice_index after i) is.ino_is (each is.at is.within is.version)) handles raised
 
-pub ok_higher : {T E : Type 0} (result : Result T E) (old new : List (ℕ × CellValue)) (before after : List ℕ) (handles : List Handle)
+pub ok_higher : {E : Type 0} (result : Result ReceiptValue E) (old new : List (ℕ × CellValue)) (before after : List ℕ) (u : Update)
     → ((k : ℕ) → k < length old → SeenAt old new before after k)
-    → OnOk result (AreRaised old new handles) → OnOk result (HaveSeenHigher before after handles)
-ok_higher (Ok x) old new before after handles each raised = seen_higher old new before after handles each raised
-ok_higher (Err e) old new before after handles each raised = tt
+    → IfOk result (RaisesPublished old new u) → IfOk result (SeesPublished before after u)
+ok_higher (Ok receipt) old new before after u each raised =
+    seen_higher old new before after (published_by u receipt.made) each raised
+ok_higher (Err e) old new before after u each raised = tt
 
 -- where no version rose, nothing was seen
 pub err_notes : {T E : Type 0} (result : Result T E) (rest : Type 0) (old new : List (ℕ × CellValue)) (before after : List ℕ)

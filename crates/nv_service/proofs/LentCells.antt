@@ -35,3 +35,11 @@ of_four P i j k l i' j' k' l' a b c d x y z w one two three four first second th
     let new : List (ℕ × CellValue) = (i, x) ∷ (j, y) ∷ (k, z) ∷ (l, w) ∷ [] in
     let same : old ≡ new = cc in
     subst P same p
+
+pub of_two : (P : List (ℕ × CellValue) → Type 0) (i j i' j' : ℕ) (a b x y : CellValue) → i' ≡ i → j' ≡ j → a ≡ x → b ≡ y
+    → P ((i', a) ∷ (j', b) ∷ []) → P ((i, x) ∷ (j, y) ∷ [])
+of_two P i j i' j' a b x y one two first second p =
+    let old : List (ℕ × CellValue) = (i', a) ∷ (j', b) ∷ [] in
+    let new : List (ℕ × CellValue) = (i, x) ∷ (j, y) ∷ [] in
+    let same : old ≡ new = cc in
+    subst P same p

@@ -5,13 +5,16 @@ mod Found
 pub mod Giving
 mod HeldCells
 mod LentCells
+pub mod Misnamed
 pub mod Moves
 mod NamedItems
 pub mod NotOlder
 mod Nothing
+mod OtherRefusals
 pub mod PartBlocks
 mod Raised
 mod ReadyOver
+mod Refusals
 mod Takings
 mod Told
 pub mod Turning

@@ -1,5 +1,6 @@
 -- A call that commits something appends to the log of the inode of each handle that it names.
-use Rattle.std.proofs.Common.{◌≡◌, ℕ, zero, suc, ◌+◌, ◌-◌, ◌*◌, ◌/◌, ◌<◌, ◌≤◌, ◌==◌, ◌++◌, ◌∙◌, Bool, true, false, cond, List, [], ◌∷◌, Option, Some, None, length, length-append, replicate, refl, ap, sym, subst, arith}
+use Rattle.std.proofs.Common.{◌≡◌, ℕ, zero, suc, ◌+◌, ◌-◌, ◌/◌, ◌<◌, ◌≤◌, ◌==◌, Bool, true, false, cond, List, [], ◌∷◌, Option, Some, None, length, length-append, replicate, refl, ap, subst, arith}
+use Rattle.std.specs.Prelude.{is_some, option_map, unwrap_or}
 use Rattle.std.specs.List.{AllByRecursion}
 use Rattle.std.proofs.lemmas.Bool.{eq-eqb}
 use Rattle.std.proofs.lemmas.Nat.{le-div}
@@ -13,12 +14,11 @@ use Rattle.nv_entry.specs.Bytes.{pages_touched}
 use Rattle.nv_entry.specs.Sound.{blocks_of, write_items}
 use Rattle.nv_entry.specs.declared.item.BlockRun.{BlockRun}
 use Rattle.nv_entry.specs.declared.item.Item.{Item}
-use Rattle.nv_entry.specs.declared.item.Item.TheVariants.{Bind, Gone, Init, SetMode, SetSize, Unbind}
-use Rattle.nv_calls.specs.AllCalls.{is_nothing, refusal}
+use Rattle.nv_entry.specs.declared.item.Item.TheVariants.{Bind, Gone, Init, SetSize, Unbind}
 use Rattle.nv_calls.specs.Nodes.{block_in, nodes_in}
 use Rattle.nv_calls.specs.Plain.{same_handle}
 use Rattle.nv_calls.specs.Plan.{planned}
-use Rattle.nv_calls.specs.Prepared.{CanReady, planned_by, taken_by}
+use Rattle.nv_calls.specs.Prepared.{CanReady, HasNumberFor, handle_in, made_by, makes, no_handle, planned_by, taken_by}
 use Rattle.nv_calls.specs.Refusals.{Check, found, passes, want_bound}
 use Rattle.nv_calls.specs.Slots.{items_for}
 use Rattle.nv_calls.specs.calls.Lookup.{lookup_refusal}
@@ -124,3 +124,34 @@ named cells hand (update.Rename from old to new) can whole blocks =
     let all = elsewhere (own_place from old to new) (bound_plan from old to new (found nodes from old) (found nodes to new)) from to
     can.something some in
     (all.0, (all.1, tt))
+
+-- ---- the inode that a call makes
+
+pub made_named : (cells : List (ℕ × CellValue)) (hand : Hand) (u : Update) (made : Handle) → made_by cells hand.ino u ≡ Some made
+    → HasItems (planned_by cells hand u) made
+made_named cells hand (update.Create dir name mode) made is =
+    let u = update.Create dir name mode in
+    let here = (taken_by cells hand u).made in
+    subst (HasItems (planned_by cells hand u)) (ap (λ (o : Option Handle). unwrap_or o no_handle) is)
+    (second dir here (Bind name here ∷ []) (Init File mode ∷ []) [] (omega arith) (omega arith))
+made_named cells hand (update.Mkdir dir name mode) made is =
+    let u = update.Mkdir dir name mode in
+    let here = (taken_by cells hand u).made in
+    subst (HasItems (planned_by cells hand u)) (ap (λ (o : Option Handle). unwrap_or o no_handle) is)
+    (second dir here (Bind name here ∷ []) (Init Dir mode ∷ []) [] (omega arith) (omega arith))
+made_named cells hand (update.Write file offset count) made is = cc
+made_named cells hand (update.Size file size) made is = cc
+made_named cells hand (update.Mode handle mode) made is = cc
+made_named cells hand (update.Unlink dir name) made is = cc
+made_named cells hand (update.Rmdir dir name) made is = cc
+made_named cells hand (update.Rename from old to new) made is = cc
+
+some_made : (cells : List (ℕ × CellValue)) (makes : Bool) (number : Option ℕ) → HasNumberFor cells makes number
+    → is_some (cond makes (option_map (handle_in cells) number) None) ≡ makes
+some_made cells true (Some ino) has = refl
+some_made cells true None has = absurd has
+some_made cells false number has = refl
+
+pub made_where : (cells : List (ℕ × CellValue)) (hand : Hand) (u : Update) → CanReady cells hand u
+    → is_some (made_by cells hand.ino u) ≡ makes u
+made_where cells hand u can = some_made cells (makes u) hand.ino can.number

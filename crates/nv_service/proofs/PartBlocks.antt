@@ -1,12 +1,10 @@
 -- All blocks of parts: as many as those of the device, where each stands once.
-use Rattle.std.proofs.Common.{◌≡◌, ◌∙◌, ◌+◌, ◌++◌, ℕ, zero, suc, List, [], ◌∷◌, Option, Some, None, Bool, ap, arith, cond, is_some, length, length-append, map, refl, replicate, slice_index_or, subst, sym, true≢false}
+use Rattle.std.proofs.Common.{◌≡◌, ◌∙◌, ◌+◌, ℕ, zero, suc, List, [], ◌∷◌, Option, Some, None, ap, arith, cond, is_some, length, length-append, map, refl, replicate, slice_index_or, subst, sym, true≢false}
 use Rattle.std.specs.List.{flat_map}
 use Rattle.std.proofs.lemmas.List.{length-map}
 use Rattle.std.proofs.lemmas.List.Sums.{sum_by-cons}
 use Rattle.nv_alloc.specs.Block.{BlockValue, number_of, numbers_of}
 use Rattle.nv_alloc.specs.FreeList.{FreeBlocks}
-use Rattle.nv_base.specs.declared.geometry.GeometryNumbers.{GeometryNumbers}
-use Rattle.nv_book.specs.declared.record.Record.{Record}
 use Rattle.nv_cell.specs.Cell.{CellState, CellValue, block_total, held_count, of_part, stored_in}
 use Rattle.nv_machine.specs.Numbers.{all_blocks, free_of, held_by_actor, used_blocks}
 use Rattle.nv_machine.specs.Step.{after}

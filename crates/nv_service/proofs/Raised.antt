@@ -1,7 +1,6 @@
 -- What a commit over lent cells does to their versions and to the number of their blocks.
-use Rattle.std.proofs.Common.{◌≡◌, ℕ, zero, suc, ◌+◌, ◌<◌, ◌≤◌, ◌⊎◌, inl, inr, ◌==◌, ◌∙◌, Bool, true, false, List, length, refl, ap, sym, subst, arith}
-use Rattle.std.specs.Prelude.{IfErr, IfOk, OnErr, Result, Ok, Err}
-use Rattle.std.specs.List.{AllByRecursion, sum_by}
+use Rattle.std.proofs.Common.{◌≡◌, ℕ, zero, suc, ◌+◌, ◌<◌, ◌⊎◌, inl, inr, ◌==◌, ◌∙◌, Bool, true, false, List, [], ◌∷◌, length, refl, ap, sym, subst, arith}
+use Rattle.std.specs.Prelude.{IfErr, IfOk, OnErr, Option, Some, None, Result, Ok, Err, is_some}
 use Rattle.std.proofs.lemmas.Bool.{cases_lt, eqb-false, eqb-true}
 use Rattle.std.proofs.Math.ListN.{length-map}
 use Rattle.nv_alloc.specs.Block.{number_of}
@@ -11,8 +10,8 @@ use Rattle.nv_base.specs.declared.numbers.Handle.{Handle}
 use Rattle.nv_book.specs.Book.{BookState, after_enter}
 use Rattle.nv_calls.specs.CanCommit.{IsClosed}
 use Rattle.nv_calls.specs.Cells.{ino_at, no_cell, state_at}
-use Rattle.nv_calls.specs.Committed.{hand_left, place_of}
-use Rattle.nv_calls.specs.Prepared.{HasNoLessRoom, HaveNoLessRoom, HoldsTheSame, planned_by, plans_by}
+use Rattle.nv_calls.specs.Committed.{hand_left, place_of, receipt_by}
+use Rattle.nv_calls.specs.Prepared.{HasNoLessRoom, HaveNoLessRoom, HoldsTheSame, made_by, makes, planned_by, plans_by}
 use Rattle.nv_calls.specs.Ready.{CellCommitValue, ReadyValue}
 use Rattle.nv_calls.specs.Slots.{items_for}
 use Rattle.nv_calls.specs.declared.update.Update.{Update}
@@ -23,9 +22,10 @@ use Rattle.nv_calls.proofs.PlannedAlike.{all_map, found_for}
 use Rattle.nv_calls.proofs.Versions.{committed_version}
 use Rattle.nv_cell.specs.Cell.{CellState, CellValue, IsCell, block_total}
 use Rattle.nv_epoch.specs.SnapList.{ids}
-use Rattle.nv_service.specs.Changing.{AreRaised, AreWhole, IsRaised, KeepVersions, MayBeRaised, blocks_in, handles_of}
+use Rattle.nv_service.specs.Changing.{AreRaised, AreWhole, IsRaised, IsReceiptOf, KeepVersions, MayBeRaised, blocks_in, handles_of, published_by}
 use Rattle.nv_service.specs.Committing.{CommitsCells, IsReadyOver, TakeNext, next_commit}
-use Rattle.nv_service.proofs.NamedItems.{named}
+use Rattle.nv_cell.proofs.RunFlags.{all_append}
+use Rattle.nv_service.proofs.NamedItems.{made_named, made_where, named}
 use Rattle.nv_service.proofs.ReadyOver.{can, placed}
 
 -- ---- which cells are planned
@@ -88,12 +88,30 @@ module _ (cells now : List (ℕ × CellValue)) (ready : ReadyValue) (r : IsReady
         version = raised_at at.0 lt;
       }
 
-  pub all_raised : AreRaised cells now (handles_of ready.update)
+  all_raised : AreRaised cells now (handles_of ready.update)
   all_raised =
       subst (λ (u : Update). AreRaised cells now (handles_of u)) (sym r.is.update)
       (all_map (λ (h : Handle). 0 < length (items_for (planned_by r.before r.hand r.update) h.ino)) (λ (h : Handle). IsRaised cells now h.ino)
       (λ h some. raised_for h.ino some) (handles_of r.update)
       (named r.before r.hand r.update r.can r.is.some_bytes r.is.whole))
+
+  -- with the inode that it makes
+  with_made : (made : Option Handle) → made_by r.before r.hand.ino r.update ≡ made → AreRaised cells now (published_by ready.update made)
+  with_made None is = all_raised
+  with_made (Some made) is =
+      all_append (λ (h : Handle). IsRaised cells now h.ino) (handles_of ready.update) (made ∷ []) all_raised
+      (raised_for made.ino (made_named r.before r.hand r.update made is), tt)
+
+  pub all_published : AreRaised cells now (published_by ready.update ready.made)
+  all_published = with_made ready.made (sym r.is.made)
+
+  pub receipt_is : IsReceiptOf ready.update (receipt_by cells (next_commit book ready))
+  receipt_is = record {
+    call = refl;
+    made = ap (λ (o : Option Handle). is_some o) r.is.made
+        ∙ made_where r.before r.hand r.update r.can
+        ∙ ap makes (sym r.is.update);
+  }
 
   pub kept_blocks : (seat cpu : ℕ) → TakeNext book cells ready → IsClosed book cpu → AreWhole cells
       → length (blocks_of (hand_left (ids book.snaps) cells (next_commit book ready))) + blocks_in now

@@ -1,11 +1,10 @@
 -- What is ready over cells whose guards are held: it can be committed where the tests pass.
-use Rattle.std.proofs.Common.{◌≡◌, ℕ, ◌+◌, ◌<◌, ◌≤◌, List, length, refl, sym, subst, arith}
-use Rattle.std.specs.List.{AllByRecursion}
-use Rattle.nv_book.specs.Book.{BookState, BookValue, after_enter}
-use Rattle.nv_calls.specs.CanCommit.{CanCommit, IsClosed, TakesCommit, next_stamp}
-use Rattle.nv_calls.specs.Cells.{AreCells, value_at}
+use Rattle.std.proofs.Common.{ℕ, List, refl, sym, subst, arith}
+use Rattle.nv_book.specs.Book.{BookState, after_enter}
+use Rattle.nv_calls.specs.CanCommit.{CanCommit, IsClosed}
+use Rattle.nv_calls.specs.Cells.{AreCells}
 use Rattle.nv_calls.specs.Prepared.{plans_by}
-use Rattle.nv_calls.specs.Ready.{ArePlaced, CellCommitValue, ReadyValue}
+use Rattle.nv_calls.specs.Ready.{ArePlaced, ReadyValue}
 use Rattle.nv_calls.proofs.Composed.{cells_stay, places_stay}
 use Rattle.nv_calls.proofs.PlannedAlike.{placed_by}
 use Rattle.nv_calls.proofs.PlannedCommits.{can_commit}

@@ -1,11 +1,10 @@
 -- What a change takes that passed its check: then it can be made ready.
-use Rattle.std.proofs.Common.{◌≡◌, ℕ, zero, suc, ◌+◌, ◌-◌, ◌*◌, ◌<◌, ◌≤◌, ◌^◌, ◌++◌, ◌==◌, ◌∙◌, cond, max, Bool, true, false, List, [], ◌∷◌, Option, length, length-append, map, take, refl, ap, ap₂, sym, subst, arith}
+use Rattle.std.proofs.Common.{◌≡◌, ℕ, zero, suc, ◌+◌, ◌-◌, ◌<◌, ◌≤◌, ◌^◌, ◌++◌, ◌==◌, ◌∙◌, cond, Bool, true, false, List, [], ◌∷◌, Option, length, length-append, take, refl, ap, ap₂, sym, subst, arith}
 use Rattle.std.specs.List.{AllByRecursion}
 use Rattle.std.specs.Option.{unwrap_or}
-use Rattle.std.proofs.lemmas.Bool.{eq-eqb, eqb-false, eqb-true}
+use Rattle.std.proofs.lemmas.Bool.{eqb-true}
 use Rattle.nv_alloc.specs.Block.{BlockValue, numbers_of}
-use Rattle.nv_alloc.specs.FreeList.{FreeBlocks, IsHomeList}
-use Rattle.nv_alloc.specs.Hand.{blocks_of}
+use Rattle.nv_alloc.specs.FreeList.{FreeBlocks}
 use Rattle.nv_alloc.specs.Queue.{QueueValue}
 use Rattle.nv_alloc.specs.declared.hand.Hand.{Hand}
 use Rattle.nv_calls.specs.AllCalls.{ends_in_page, plan}
@@ -14,12 +13,11 @@ use Rattle.nv_calls.specs.HandRoom.{pages_at_most}
 use Rattle.nv_calls.specs.Nodes.{block_in, has_page_in, nodes_in}
 use Rattle.nv_calls.specs.PagesWanted.{pages_wanted}
 use Rattle.nv_calls.specs.Plan.{runs_of}
-use Rattle.nv_calls.specs.Prepared.{CanReady, HasLogPages, HasNumberFor, IsStill, made_by, makes, no_handle, planned_by}
+use Rattle.nv_calls.specs.Prepared.{CanReady, HasNumberFor, IsStill, made_by, makes, no_handle, planned_by}
 use Rattle.nv_calls.specs.Refusals.{passes}
 use Rattle.nv_calls.specs.AllCalls.{refusal}
 use Rattle.nv_calls.specs.Updates.{blank_call, blocks_taken}
 use Rattle.nv_calls.specs.declared.allocation.Allocation.{Allocation}
-use Rattle.nv_calls.specs.declared.plan.InodePlan.{InodePlan}
 use Rattle.nv_calls.specs.declared.update.Update.{Update}
 use Rattle.nv_calls.proofs.BlockCounts.{hand_len}
 use Rattle.nv_calls.proofs.CellCommits.{all_at}

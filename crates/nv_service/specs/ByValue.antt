@@ -1,16 +1,30 @@
 -- What a call that is given as a value leaves of a session.
-use Rattle.std.specs.Prelude.{◌≡◌, ℕ, List, length}
-use Rattle.nv_calls.specs.declared.answer.Answer.{Answer}
+use Rattle.std.specs.Prelude.{◌≡◌, ◌≤◌, ℕ, Bool, List, length, max, min}
+use Rattle.nv_entry.specs.declared.tree.TreeNode.{TreeNode}
+use Rattle.nv_base.specs.declared.limits.TheConstants.{DRAIN}
+use Rattle.nv_calls.specs.declared.answer.Answer.TheVariants as answer
 use Rattle.nv_calls.specs.declared.call.Call.{Call}
 use Rattle.nv_calls.specs.declared.call.Call.TheVariants as call
+use Rattle.nv_calls.specs.declared.maintenance_call.MaintenanceCall.{MaintenanceCall}
+use Rattle.nv_calls.specs.declared.maintenance_call.MaintenanceCall.TheVariants as maintenance
 use Rattle.nv_calls.specs.declared.update.Update.TheVariants as update
 use Rattle.nv_service.specs.Sessions.{IsChangedBy, IsCommittedBy, IsViewedBy, SessionValue}
 use Rattle.nv_service.specs.declared.seen.Seen.{Seen}
 use Rattle.nv_service.specs.declared.seen.Seen.TheVariants.{Other}
 
--- an answer that is neither a commit nor a view
-abbrev pub IsOther : Seen → Type 0
-IsOther seen = (answer : Answer) × (seen ≡ Other answer)
+-- what a cleaner answers: how many entries and pages the log lost
+abbrev pub HasCleaned : Seen → Type 0
+HasCleaned seen = (thorough : Bool) × (entries pages : ℕ) × (seen ≡ Other (answer.Cleaned thorough entries pages))
+
+-- an answer of the kind that a call on snapshots or of a cleaner has, which is neither a commit nor a view
+abbrev pub IsAnswerTo : MaintenanceCall → Seen → Type 0
+IsAnswerTo maintenance.Snap seen = (s : ℕ) × (seen ≡ Other (answer.Snapshot s))
+IsAnswerTo (maintenance.Drop snapshot) seen = seen ≡ Other answer.Nothing
+IsAnswerTo (maintenance.Show snapshot) seen = (tree : List TreeNode) × (seen ≡ Other (answer.Tree tree))
+IsAnswerTo (maintenance.Drain number) seen = (n : ℕ) × (n ≤ max 1 (min number DRAIN)) × (seen ≡ Other (answer.Count n))
+IsAnswerTo (maintenance.Fast ino) seen = HasCleaned seen
+IsAnswerTo (maintenance.Thorough ino) seen = HasCleaned seen
+IsAnswerTo (maintenance.Auto ino) seen = HasCleaned seen
 
 -- it is what the method of its name leaves
 abbrev pub IsMadeAs : ℕ → List ℕ → SessionValue → SessionValue → Call → Seen → Type 0
@@ -38,4 +52,4 @@ IsMadeAs opening opened before after (call.List dir) seen =
     IsViewedBy opened before after dir.ino (call.List dir) seen
 IsMadeAs opening opened before after (call.Lookup dir name) seen =
     IsViewedBy opened before after dir.ino (call.Lookup dir name) seen
-IsMadeAs opening opened before after (call.Maintenance c) seen = (after ≡ before) × IsOther seen
+IsMadeAs opening opened before after (call.Maintenance c) seen = (after ≡ before) × IsAnswerTo c seen

@@ -1,5 +1,5 @@
 -- A change over cells whose guards are held.
-use Rattle.std.specs.Prelude.{◌≡◌, ℕ, ◌+◌, ◌-◌, ◌<◌, ◌≤◌, ◌^◌, ◌⊎◌, Bool, true, false, List, [], ◌∷◌, Option, Some, None, is_some, length, slice_index}
+use Rattle.std.specs.Prelude.{◌≡◌, ℕ, ◌+◌, ◌-◌, ◌<◌, ◌≤◌, ◌^◌, ◌⊎◌, ◌&&◌, Bool, true, false, List, [], ◌∷◌, ◌++◌, Option, Some, None, is_some, length, slice_index}
 use Rattle.std.specs.List.{AllByRecursion, sum_by}
 use Rattle.nv_alloc.specs.Block.{BlockValue}
 use Rattle.nv_alloc.specs.Hand.{blocks_of}
@@ -12,9 +12,10 @@ use Rattle.nv_base.specs.declared.numbers.Handle.{Handle}
 use Rattle.nv_calls.specs.AllCalls.{is_nothing, refusal}
 use Rattle.nv_calls.specs.Cells.{ino_at, state_at}
 use Rattle.nv_calls.specs.Checked.{ends_over}
+use Rattle.nv_calls.specs.Commit.{ReceiptValue}
 use Rattle.nv_calls.specs.Nodes.{has_page_in, nodes_in}
 use Rattle.nv_calls.specs.Prepared.{HasNumberFor, IsEmptySlot, IsStill, makes}
-use Rattle.nv_calls.specs.Refusals.{passes}
+use Rattle.nv_calls.specs.Refusals.{kind_of, passes}
 use Rattle.nv_calls.specs.Updates.{blank_call, blocks_taken}
 use Rattle.nv_calls.specs.declared.check_end.CheckEnd.{CheckEnd}
 use Rattle.nv_calls.specs.declared.check_end.CheckEnd.TheVariants as ends
@@ -22,8 +23,10 @@ use Rattle.nv_calls.specs.declared.looked.LookupResult.{LookupResult}
 use Rattle.nv_calls.specs.declared.update.Update.{Update}
 use Rattle.nv_calls.specs.declared.update.Update.TheVariants as update
 use Rattle.nv_cell.specs.Cell.{CellValue, IsCell, block_total}
+use Rattle.nv_entry.specs.declared.node.NodeCopy.{NodeCopy}
 use Rattle.nv_service.specs.declared.change.ChangeEnd.{ChangeEnd}
-use Rattle.nv_service.specs.declared.change.ChangeEnd.TheVariants.{Answers, Overtaken}
+use Rattle.nv_service.specs.declared.change.ChangeEnd.TheVariants.{Answers, Overtaken, Refuses}
+use Rattle.nv_service.specs.Refusing.{MayEnd, looks_up}
 
 -- ---- what is tested of the parts that a change is lent
 
@@ -62,12 +65,25 @@ pub record HasPassed (block : ℕ) (cells : List (ℕ × CellValue)) (hand : Han
   pub something : is_nothing (blank_call u) ≡ false
   pub wants : wanted ≡ blocks_taken block (nodes_in cells) (has_page_in cells) u
 
+-- whether the directories are there in which a call looks names up: of other calls this is not asked
+abbrev pub directories_there : (Handle → Option NodeCopy) → Update → Bool
+directories_there nodes (update.Unlink dir name) = is_some (kind_of (nodes dir))
+directories_there nodes (update.Rmdir dir name) = is_some (kind_of (nodes dir))
+directories_there nodes (update.Rename from old to new) = is_some (kind_of (nodes from)) && is_some (kind_of (nodes to))
+directories_there nodes other = false
+
+-- what is stale where they are is what a name leads to: that name does not fit, and the call's handles do
+abbrev pub misnamed : Bool → CheckEnd → CheckEnd
+misnamed true (ends.Refuses fault.Stale) = ends.Refuses (fault.Mismatch part.Names)
+misnamed there end = end
+
 -- how a check ends a change: by a part that does not fit, or by the tests of the call
 abbrev pub EndsCheck : ℕ → List (ℕ × CellValue) → LookupResult → Update → Hand → CheckEnd → Type 0
 EndsCheck block cells looked u hand end =
     ((refusal : Fault) × (end ≡ ends.Refuses refusal) × RefusesCells block cells refusal)
     ⊎ ((end ≡ ends.Refuses (fault.Mismatch part.Lists)) × (IsFreeHand block hand × FitsNumber cells (makes u) hand.ino → ⊥))
-    ⊎ (ends_over block (nodes_in cells) looked (is_some hand.ino) u ≡ Some end)
+    ⊎ ((told : CheckEnd) × (end ≡ misnamed (directories_there (nodes_in cells) u) told)
+    × (ends_over block (nodes_in cells) looked (is_some hand.ino) u ≡ Some told))
 
 -- ---- blocks
 
@@ -120,6 +136,16 @@ handles_of (update.Unlink dir name) = dir ∷ []
 handles_of (update.Rmdir dir name) = dir ∷ []
 handles_of (update.Rename from old to new) = from ∷ to ∷ []
 
+-- the inodes that a commit is sure to publish: those of its handles, and the one that it makes
+abbrev pub published_by : Update → Option Handle → List Handle
+published_by u None = handles_of u
+published_by u (Some made) = handles_of u ++ made ∷ []
+
+-- the receipt is that of the call, and has the handle of a new inode exactly where the call makes one
+pub record IsReceiptOf (u : Update) (receipt : ReceiptValue) : Type 0 where
+  pub call : receipt.update ≡ u
+  pub made : is_some receipt.made ≡ makes u
+
 -- the inode of each of them is at its next version
 abbrev pub AreRaised : List (ℕ × CellValue) → List (ℕ × CellValue) → List Handle → Type 0
 AreRaised old new handles = AllByRecursion (λ (h : Handle). IsRaised old new h.ino) handles
@@ -128,8 +154,16 @@ AreRaised old new handles = AllByRecursion (λ (h : Handle). IsRaised old new h.
 abbrev pub HaveSeenHigher : List ℕ → List ℕ → List Handle → Type 0
 HaveSeenHigher before after handles = AllByRecursion (λ (h : Handle). slice_index before h.ino < slice_index after h.ino) handles
 
--- what a change that is overtaken hands back is the call; one that is answered has nothing to commit
+-- of the inodes that a commit is sure to publish each is at its next version, and of each a higher version was seen
+abbrev pub RaisesPublished : List (ℕ × CellValue) → List (ℕ × CellValue) → Update → ReceiptValue → Type 0
+RaisesPublished old new u receipt = AreRaised old new (published_by u receipt.made)
+
+abbrev pub SeesPublished : List ℕ → List ℕ → Update → ReceiptValue → Type 0
+SeesPublished before after u receipt = HaveSeenHigher before after (published_by u receipt.made)
+
+-- what a change that is overtaken hands back is the call, which looks names up; one that is answered has nothing to commit; one
+-- that is refused may be
 abbrev pub IsOfCall : Update → ChangeEnd → Type 0
-IsOfCall call (Overtaken back) = back ≡ call
+IsOfCall call (Overtaken back) = (back ≡ call) × (looks_up call ≡ true)
 IsOfCall call Answers = is_nothing (blank_call call) ≡ true
-IsOfCall call other = Unit {0}
+IsOfCall call (Refuses why) = MayEnd call why

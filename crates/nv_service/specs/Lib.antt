@@ -9,6 +9,7 @@ pub mod Locked
 pub mod Names
 pub mod Opened
 pub mod Opening
+pub mod Refusing
 pub mod Rests
 pub mod Rounds
 pub mod Seats

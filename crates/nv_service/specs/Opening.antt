@@ -1,5 +1,5 @@
 -- What a service opens with.
-use Rattle.std.specs.Prelude.{ℕ, ◌+◌, []}
+use Rattle.std.specs.Prelude.{ℕ, ◌+◌}
 use Rattle.nv_core.specs.declared.parts.Parts.{Parts}
 use Rattle.nv_service.specs.Opened.{cell_blocks, list_blocks}
 

@@ -1,10 +1,11 @@
 -- The rounds of a call that changes nodes.
-use Rattle.std.specs.Prelude.{◌≡◌, ℕ, true, false, Result, Ok, Err, None}
+use Rattle.std.specs.Prelude.{◌≡◌, ℕ, true, false, Result, Ok, Err}
 use Rattle.nv_calls.specs.AllCalls.{is_nothing}
 use Rattle.nv_calls.specs.Commit.{ReceiptValue}
 use Rattle.nv_calls.specs.Updates.{blank_call}
 use Rattle.nv_calls.specs.declared.update.Update.{Update}
 use Rattle.nv_service.specs.Changing.{IsOfCall}
+use Rattle.nv_service.specs.Refusing.{MayEnd, looks_up}
 use Rattle.nv_service.specs.Sessions.{HasReceipt, IsChangedBy, SessionValue}
 use Rattle.nv_service.specs.declared.change.ChangeEnd.{ChangeEnd}
 use Rattle.nv_service.specs.declared.rounds.RoundEnd.{RoundEnd}
@@ -18,5 +19,5 @@ IsEndedBy opening before after u (Err end) = (after ≡ before) × IsOfCall u en
 -- how a round ends: as the call does, or with the call as it was
 abbrev pub IsRoundOf : ℕ → SessionValue → SessionValue → Update → RoundEnd → Type 0
 IsRoundOf opening before after u (Ends (Ok seen)) = IsChangedBy opening before after u seen
-IsRoundOf opening before after u (Ends (Err fault)) = after ≡ before
-IsRoundOf opening before after u (Overtaken back) = (after ≡ before) × (back ≡ u)
+IsRoundOf opening before after u (Ends (Err fault)) = (after ≡ before) × MayEnd u fault
+IsRoundOf opening before after u (Overtaken back) = (after ≡ before) × (back ≡ u) × (looks_up u ≡ true)

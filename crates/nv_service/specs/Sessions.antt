@@ -1,8 +1,9 @@
 -- A session to its contracts, and what its calls leave of it.
-use Rattle.std.specs.Prelude.{◌≡◌, ◌≢◌, ◌<◌, ◌≤◌, ℕ, ◌+◌, true, false, List, Option, Some, None, slice_index}
+use Rattle.std.specs.Prelude.{◌≡◌, ◌≢◌, ◌≤◌, ℕ, ◌+◌, true, false, List, Option, Some, None, is_some, slice_index}
 use Rattle.nv_base.specs.declared.numbers.Handle.{Handle}
 use Rattle.nv_calls.specs.AllCalls.{is_nothing}
 use Rattle.nv_calls.specs.Commit.{ReceiptValue}
+use Rattle.nv_calls.specs.Prepared.{makes}
 use Rattle.nv_calls.specs.Updates.{blank_call}
 use Rattle.nv_calls.specs.declared.answer.Answer.{Answer}
 use Rattle.nv_calls.specs.declared.answer.Answer.TheVariants as answers
@@ -10,7 +11,7 @@ use Rattle.nv_calls.specs.declared.call.Call.{Call}
 use Rattle.nv_calls.specs.declared.update.Update.{Update}
 use Rattle.nv_calls.specs.declared.update.Update.TheVariants as update
 use Rattle.nv_calls.specs.declared.view.View.{View}
-use Rattle.nv_service.specs.Changing.{HaveSeenHigher, handles_of}
+use Rattle.nv_service.specs.Changing.{SeesPublished}
 use Rattle.nv_service.specs.Locked.{version_at}
 use Rattle.nv_service.specs.declared.seen.Seen.{Seen}
 use Rattle.nv_service.specs.declared.seen.Seen.TheVariants as seen
@@ -47,13 +48,16 @@ answer_of (seen.Other answer) = answer
 
 -- ---- calls that change nodes
 
--- the receipt is that of the call, whose commit counts as one of the session's; of the inode of each handle that the call
--- names a higher version is seen. `opening` is the number of the last commit at the opening
+-- the receipt is that of the call, with the handle of the inode that it makes, if it makes one; its commit counts as one of the
+-- session's; of the inode of each handle that the call names or makes a higher version is seen, and of none a lower one.
+-- `opening` is the number of the last commit at the opening
 pub record HasReceipt (opening : ℕ) (before after : SessionValue) (u : Update) (receipt : ReceiptValue) : Type 0 where
   pub call : receipt.update ≡ u
+  pub made : is_some receipt.made ≡ makes u
   pub counted : after.commits ≡ before.commits + 1
   pub number : opening + after.commits ≤ receipt.stamp.commit
-  pub higher : HaveSeenHigher before.seen after.seen (handles_of u)
+  pub higher : SeesPublished before.seen after.seen u receipt
+  pub kept : (i : ℕ) → slice_index before.seen i ≤ slice_index after.seen i
   pub seat : after.number ≡ before.number
 
 -- the session has committed this very call

@@ -82,10 +82,13 @@ impl<C: Commits> LockedBook<C> {
             ↔ ((self.old.state.snaps.epoch < NUMBER)
             × (length self.old.state.snaps.living ≡ self.old.state.snaps.most)) }
         ensures number { IfOk result (λ s. s ≡ self.old.state.snaps.epoch) }
+        ensures err { FailsEither fault.EpochLimit fault.TooManySnapshots result }
         ensures ok { OnOk result (self.new
             ≡ record self.old { state = after_make_snapshot self.old.state }) }
         ensures same { KeepsOnErr result self.old self.new }
     {
+        // It tells that no epoch is past the last one, and that no more snapshots live than may.
+        let _epoch = self.book.snaps().epoch();
         self.book.make_snapshot()
     }
 
@@ -98,6 +101,7 @@ impl<C: Commits> LockedBook<C> {
             ↔ IsSomeAnd (pins_of self.old.state.snaps s) (λ pins. 0 < pins) }
         ensures ok { OnOk result (self.new
             ≡ record self.old { state = after_drop_snapshot s self.old.state }) }
+        ensures err { FailsEither fault.NoSnapshot fault.Pinned result }
         ensures gain { OnOk result (block_count self.new.state.deferred
             ≡ block_count self.old.state.deferred
             + gain_of s (next_older (ids self.old.state.snaps) s) self.old.state.manifests) }

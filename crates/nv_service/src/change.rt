@@ -5,8 +5,9 @@ ghost use Rattle.nv_alloc.specs.Hand.{blocks_of};
 ghost use Rattle.nv_calls.specs.Cells.{AreCells};
 ghost use Rattle.nv_calls.specs.AllCalls.{is_nothing};
 ghost use Rattle.nv_calls.specs.Updates.{blank_call};
-ghost use Rattle.nv_service.specs.Changing.{AreRaised, AreWhole, HasPassed, IsOfCall, KeepVersions, MayBeRaised, blocks_in, handles_of};
+ghost use Rattle.nv_service.specs.Changing.{AreWhole, HasPassed, IsOfCall, IsReceiptOf, KeepVersions, MayBeRaised, RaisesPublished, blocks_in};
 ghost use Rattle.nv_service.specs.Committing.{IsReadyOver};
+ghost use Rattle.nv_service.specs.Refusing.{IsWant, LooksFor, MayEnd, failed_by, reads_failed};
 
 use crate::checking::check_over;
 use crate::commit::commit_over;
@@ -25,6 +26,7 @@ pub(crate) struct Change<'a> {
     pub(crate) looked: &'a LookupResult,
     pub(crate) update: Update,
     pub(crate) hand: Hand,
+    ghost looks: { LooksFor update looked.now },
 }
 
 /// How a change ends that is not committed: it is refused; or a name leads elsewhere than its look found, and the call
@@ -59,8 +61,8 @@ pub(crate) fn change_over<C: Commits, B: Blocks, L: Cells, S: Source, R: Wait>(
         ≡ length (blocks_of change.hand) + blocks_in (L.cells lent.old) }
     requires failures { S.failed source.old < 2 ^ 64 - 1 }
     ensures cells { MayBeRaised (L.cells lent.old) (L.cells lent.new) }
-    ensures raised { OnOk result.1
-        (AreRaised (L.cells lent.old) (L.cells lent.new) (handles_of change.entry.update)) }
+    ensures raised { IfOk result.1
+        (RaisesPublished (L.cells lent.old) (L.cells lent.new) change.entry.update) }
     ensures number { seat.new.number ≡ seat.old.number }
     ensures notes { seat.new.notes ≡ seat.old.notes }
     ensures commits_part { seat.new.commits.parts ≡ seat.old.commits.parts }
@@ -70,12 +72,12 @@ pub(crate) fn change_over<C: Commits, B: Blocks, L: Cells, S: Source, R: Wait>(
     ensures counted { OnOk result.1 (seat.new.commits.amount ≡ seat.old.commits.amount + 1) }
     ensures least { IfOk result.1
         (λ receipt. C.commit + seat.new.commits.amount ≤ receipt.stamp.commit) }
-    ensures call { IfOk result.1 (λ receipt. receipt.update ≡ change.entry.update) }
+    ensures call { IfOk result.1 (IsReceiptOf change.entry.update) }
     ensures same { OnErr result.1 ((seat.new.commits.amount ≡ seat.old.commits.amount)
         × KeepVersions (L.cells lent.old) (L.cells lent.new)) }
     ensures some { OnOk result.1 (is_nothing (blank_call change.entry.update) ≡ false) }
     ensures overtaken { IfErr result.1 (IsOfCall change.entry.update) }
-    ensures failed { OnOk result.1 (S.failed source.new ≡ S.failed source.old) }
+    ensures reads { S.failed source.new ≡ S.failed source.old + failed_by result.1 }
     ensures frame { L.frame lent.new ≡ L.frame lent.old }
 {
     let Change {
@@ -126,8 +128,8 @@ fn make_change<C: Commits, B: Blocks, L: Cells, S: Source, R: Wait>(
         ≡ length (blocks_of hand) + blocks_in (L.cells lent.old) }
     requires failures { S.failed source.old < 2 ^ 64 - 1 }
     ensures cells { MayBeRaised (L.cells lent.old) (L.cells lent.new) }
-    ensures raised { OnOk result
-        (AreRaised (L.cells lent.old) (L.cells lent.new) (handles_of plan.update)) }
+    ensures raised { IfOk result (λ done.
+        RaisesPublished (L.cells lent.old) (L.cells lent.new) plan.update done.0) }
     ensures number { seat.new.number ≡ seat.old.number }
     ensures notes { seat.new.notes ≡ seat.old.notes }
     ensures commits_part { seat.new.commits.parts ≡ seat.old.commits.parts }
@@ -139,10 +141,13 @@ fn make_change<C: Commits, B: Blocks, L: Cells, S: Source, R: Wait>(
     ensures counted { OnOk result (seat.new.commits.amount ≡ seat.old.commits.amount + 1) }
     ensures least { IfOk result
         (λ done. C.commit + seat.new.commits.amount ≤ done.0.stamp.commit) }
-    ensures call { IfOk result (λ done. done.0.update ≡ plan.update) }
+    ensures call { IfOk result (λ done. IsReceiptOf plan.update done.0) }
     ensures same { OnErr result ((seat.new.commits.amount ≡ seat.old.commits.amount)
         × KeepVersions (L.cells lent.old) (L.cells lent.new)) }
-    ensures failed { OnOk result (S.failed source.new ≡ S.failed source.old) }
+    ensures err { IfErr result (λ refused. MayEnd plan.update refused.0) }
+    ensures reads { OnOk result (S.failed source.new ≡ S.failed source.old) }
+    ensures failed_reads { IfErr result (λ refused.
+        S.failed source.new ≡ S.failed source.old + reads_failed refused.0) }
     ensures frame { L.frame lent.new ≡ L.frame lent.old }
 {
     let taken = take_all(
@@ -177,14 +182,15 @@ fn commit_ready<C: Commits, B: Blocks, L: Cells, R: Wait>(
     requires ready { IsReadyOver (L.cells lent.old) ready }
     requires whole { AreWhole (L.cells lent.old) }
     ensures cells { MayBeRaised (L.cells lent.old) (L.cells lent.new) }
-    ensures raised { OnOk result
-        (AreRaised (L.cells lent.old) (L.cells lent.new) (handles_of ready.update)) }
+    ensures raised { IfOk result (λ done.
+        RaisesPublished (L.cells lent.old) (L.cells lent.new) ready.update done.0) }
     ensures blocks { IfOk result
         (λ done. length (blocks_of done.1) + blocks_in (L.cells lent.new)
         ≡ length (blocks_of ready.hand) + blocks_in (L.cells lent.old)) }
     ensures counted { OnOk result (mine.new.amount ≡ mine.old.amount + 1) }
     ensures least { IfOk result (λ done. C.commit + mine.new.amount ≤ done.0.stamp.commit) }
-    ensures call { IfOk result (λ done. done.0.update ≡ ready.update) }
+    ensures call { IfOk result (λ done. IsReceiptOf ready.update done.0) }
+    ensures err { IfErr result (λ refused. IsWant refused.0) }
     ensures parts { mine.new.parts ≡ mine.old.parts }
     ensures hand { IfErr result (λ refused. refused.1 ≡ ready.hand) }
     ensures same { OnErr result ((L.cells lent.new ≡ L.cells lent.old)

@@ -7,17 +7,18 @@ ghost use Rattle.nv_calls.specs.Cells.{AreCells};
 ghost use Rattle.nv_calls.specs.Checked.{ends_over};
 ghost use Rattle.nv_calls.specs.Nodes.{nodes_in};
 ghost use Rattle.nv_calls.specs.Prepared.{IsEmptySlot, IsStill, makes};
-ghost use Rattle.nv_service.specs.Changing.{EndsCheck, FitsNumber, HasPassed, IsFreeHand, RefusesCells};
+ghost use Rattle.nv_service.specs.Changing.{EndsCheck, FitsNumber, HasPassed, IsFreeHand, RefusesCells, directories_there, misnamed};
 
 use nv_alloc::Hand;
 use nv_base::{Fault, Geometry, Ino, MismatchPart};
-use nv_calls::{Cells, CheckEnd, HeldNodes, LookupResult, Update, ends_at_check};
+use nv_calls::{Cells, CheckEnd, HeldNodes, LookupResult, Nodes, Update, ends_at_check};
 
 /// How the check ends a change, or how many data blocks it takes where it goes on.
 ///
 /// First what no type keeps of the parts: `Mismatch` of `Lists` where a cell or the hand is for blocks of another size,
 /// the hand holds blocks, or its number is not that of an empty slot of a new inode; of `Index` where a cell has an entry
-/// past its tail. Then the tests of the call. Takes no memory.
+/// past its tail. Then the tests of the call; among them `Mismatch` of `Names` where a name leads to no inode. Takes no
+/// memory.
 pub(crate) fn check_over<L: Cells>(
     geometry: &Geometry,
     lent: &L,
@@ -37,7 +38,36 @@ pub(crate) fn check_over<L: Cells>(
         return Err(CheckEnd::Refuses(Fault::Mismatch(MismatchPart::Lists)));
     }
     let nodes = HeldNodes::new(lent);
-    ends_at_check(block, &nodes, looked, update, hand.ino().is_some())
+    let there = are_directories_there(&nodes, update);
+    match ends_at_check(block, &nodes, looked, update, hand.ino().is_some()) {
+        Ok(wanted) => Ok(wanted),
+        Err(end) => Err(named(there, end)),
+    }
+}
+
+/// How the check ends a call whose directories are there: what is stale then is what a name leads to.
+fn named(there: bool, end: CheckEnd) -> CheckEnd
+    ensures { result ≡ misnamed there end }
+{
+    match end {
+        CheckEnd::Refuses(Fault::Stale) if there => {
+            CheckEnd::Refuses(Fault::Mismatch(MismatchPart::Names))
+        }
+        end => end,
+    }
+}
+
+/// Whether the directories are there in which a call looks names up. No for a call that looks none up.
+fn are_directories_there<N: Nodes>(nodes: &N, update: &Update) -> bool
+    ensures { result ≡ directories_there (N.nodes_of nodes.now) update.now }
+{
+    match update {
+        Update::Unlink { dir, .. } | Update::Rmdir { dir, .. } => nodes.kind(dir).is_some(),
+        Update::Rename { from, to, .. } => {
+            nodes.kind(from).is_some() && nodes.kind(to).is_some()
+        }
+        _ => false,
+    }
 }
 
 /// Tests that the cells are for blocks of that size, and that none has an entry past its tail.

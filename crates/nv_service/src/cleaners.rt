@@ -1,9 +1,13 @@
 //! The cleaners of the log of one inode.
 
-ghost use Rattle.std.specs.Prelude.{◌≡◌, ◌<◌, OnOk, length};
+ghost use Rattle.std.specs.Prelude.{◌≡◌, ◌<◌, ◌⊎◌, IfErr, OnOk, length};
 ghost use Rattle.nv_alloc.specs.Hand.{blocks_of};
 ghost use Rattle.nv_clean.specs.Plans.{wanted_of};
-ghost use Rattle.nv_service.specs.Ending.{CanClean, IsEmptyHand};
+ghost use Rattle.nv_base.specs.Memory.{out_of_memory};
+ghost use Rattle.nv_base.specs.Refusals.{FailsOnly};
+ghost use Rattle.nv_base.specs.declared.fault.Fault.TheVariants.{NoSpace, Stale};
+ghost use Rattle.nv_service.specs.Ending.{CanClean, IsEmptyHand, cleaner_of};
+ghost use Rattle.nv_service.specs.Refusing.{IsMisfit, IsMisfitOrWant, MayRefuseMaintenance};
 
 use crate::cell::LockedCell;
 use crate::guards::hold;
@@ -42,6 +46,7 @@ pub(crate) fn clean_log<C: Commits, B: Blocks, R: Wait>(
     requires part { 0 < mine.old.parts }
     requires amount { mine.old.amount ≡ length (blocks_of hand.old) }
     requires empty { IsEmptyHand hand.old }
+    ensures err { IfErr result (MayRefuseMaintenance (cleaner_of manner ino)) }
     ensures parts { mine.new.parts ≡ mine.old.parts }
     ensures amount { mine.new.amount ≡ length (blocks_of hand.new) }
 {
@@ -69,6 +74,7 @@ pub(crate) fn clean_log<C: Commits, B: Blocks, R: Wait>(
 /// killed and not yet retired. Costs a pass over the marks.
 fn test_cell(geometry: &Geometry, cell: &InodeCell, hand: &Hand) -> Result<(), Fault>
     ensures ok { OnOk result (CanClean geometry.now.numbers.block cell.now.state hand.now) }
+    ensures err { IfErr result (λ why. (why ≡ Stale) ⊎ IsMisfit why) }
 {
     if cell.tail() == 0 {
         return Err(Fault::Stale);
@@ -96,6 +102,7 @@ fn unlink_pages<C: Commits, B: Blocks>(
     requires can { CanClean service.now.geometry.numbers.block cell.old.cell.state hand.old }
     requires part { 0 < mine.old.parts }
     requires amount { mine.old.amount ≡ length (blocks_of hand.old) }
+    ensures err { FailsOnly out_of_memory result }
     ensures parts { mine.new.parts ≡ mine.old.parts }
     ensures amount { mine.new.amount ≡ length (blocks_of hand.new) }
 {
@@ -119,6 +126,7 @@ fn move_entries<C: Commits, B: Blocks, R: Wait>(
     requires part { 0 < mine.old.parts }
     requires amount { mine.old.amount ≡ length (blocks_of hand.old) }
     requires empty { IsEmptyHand hand.old }
+    ensures err { IfErr result (λ why. (why ≡ NoSpace) ⊎ IsMisfitOrWant why) }
     ensures parts { mine.new.parts ≡ mine.old.parts }
     ensures amount { mine.new.amount ≡ length (blocks_of hand.new) }
 {

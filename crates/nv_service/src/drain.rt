@@ -1,8 +1,12 @@
 //! Deferred records are released.
 
-ghost use Rattle.std.specs.Prelude.{◌≡◌, ◌<◌, ◌≤◌, IfOk, length, true};
+ghost use Rattle.std.specs.Prelude.{◌≡◌, ◌<◌, ◌≤◌, IfErr, IfOk, length, true};
 ghost use Rattle.nv_alloc.specs.Hand.{blocks_of};
+ghost use Rattle.nv_base.specs.Refusals.{FailsOnly};
+ghost use Rattle.nv_base.specs.declared.fault.Fault.TheVariants as fault;
+ghost use Rattle.nv_base.specs.declared.fault.MismatchPart.TheVariants as part;
 ghost use Rattle.nv_service.specs.Cleaning.{CanRelease};
+ghost use Rattle.nv_service.specs.Refusing.{IsMisfit};
 
 use crate::clean::can_release;
 use crate::ending::give_back;
@@ -31,6 +35,7 @@ pub(crate) fn drain_deferred<C: Commits, B: Blocks, R: Wait>(
     requires part { 0 < mine.old.parts }
     requires amount { mine.old.amount ≡ length (blocks_of hand.old) }
     ensures few { IfOk result (λ n. n ≤ most) }
+    ensures err { IfErr result IsMisfit }
     ensures parts { mine.new.parts ≡ mine.old.parts }
     ensures amount { mine.new.amount ≡ length (blocks_of hand.new) }
 {
@@ -80,6 +85,7 @@ fn release<C: Commits, B: Blocks, R: Wait>(
 ) -> Result<bool, Fault>
     requires part { 0 < mine.old.parts }
     requires amount { mine.old.amount ≡ length (blocks_of hand.old) }
+    ensures err { IfErr result IsMisfit }
     ensures parts { mine.new.parts ≡ mine.old.parts }
     ensures amount { mine.new.amount ≡ length (blocks_of hand.new) }
 {
@@ -103,8 +109,9 @@ fn take_first<C: Commits, B: Blocks, R: Wait>(
     first: &Record,
     hand: &Hand,
 ) -> Result<bool, Fault>
-    ensures { IfOk result (λ taken. taken ≡ true
+    ensures can { IfOk result (λ taken. taken ≡ true
         → CanRelease cell.now.state first.now hand.now) }
+    ensures err { FailsOnly (fault.Mismatch part.Records) result }
 {
     let mut book = service.book_lock().lock(rt);
     if first_of(book.part()) != Some(*first) {

@@ -2,6 +2,9 @@
 
 ghost use Rattle.std.specs.Prelude.{◌≡◌, ◌<◌, OnOk, length};
 ghost use Rattle.nv_alloc.specs.Hand.{blocks_of};
+ghost use Rattle.nv_base.specs.Refusals.{FailsOnly};
+ghost use Rattle.nv_base.specs.declared.fault.Fault.TheVariants.{Mismatch};
+ghost use Rattle.nv_base.specs.declared.fault.MismatchPart.TheVariants.{Lists};
 ghost use Rattle.nv_service.specs.Ending.{IsEmptyHand};
 
 use crate::names::{Blocks, Commits};
@@ -21,6 +24,7 @@ pub(crate) fn empty_hand<C: Commits, B: Blocks, R: Wait>(
     requires part { 0 < mine.old.parts }
     requires amount { mine.old.amount ≡ length (blocks_of hand.old) }
     ensures ok { OnOk result (IsEmptyHand hand.new) }
+    ensures err { FailsOnly (Mismatch Lists) result }
     ensures parts { mine.new.parts ≡ mine.old.parts }
     ensures amount { mine.new.amount ≡ length (blocks_of hand.new) }
 {

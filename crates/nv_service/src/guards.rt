@@ -1,8 +1,12 @@
 //! The guards of the inodes that a call locks.
 
-ghost use Rattle.std.specs.Prelude.{◌≡◌, ◌<◌, ◌-◌, ◌^◌, Err, IfOk, length};
+ghost use Rattle.std.specs.Prelude.{◌≡◌, ◌+◌, ◌<◌, ◌-◌, ◌^◌, Err, IfOk, length};
 ghost use Rattle.std.specs.Sync.Mutex.{mutex_guard_value};
 ghost use Rattle.nv_alloc.specs.Hand.{blocks_of};
+ghost use Rattle.nv_base.specs.Refusals.{FailsEither, FailsOnly};
+ghost use Rattle.nv_base.specs.declared.fault.Fault.TheVariants as fault;
+ghost use Rattle.nv_base.specs.declared.fault.MismatchPart.TheVariants as part;
+ghost use Rattle.nv_service.specs.Refusing.{failed_by};
 ghost use Rattle.nv_service.specs.Rounds.{IsEndedBy};
 ghost use Rattle.nv_service.specs.Sessions.{at_seat};
 
@@ -24,7 +28,8 @@ pub(crate) fn hold<'a, C: Commits, B: Blocks, R: Wait>(
     service: &'a Service<C, B>,
     ino: Ino,
 ) -> Result<MutexGuard<'a, LockedCell<C, B>>, Fault>
-    ensures { IfOk result (λ guard. (mutex_guard_value guard).ino ≡ ino) }
+    ensures ok { IfOk result (λ guard. (mutex_guard_value guard).ino ≡ ino) }
+    ensures err { FailsEither fault.Stale (fault.Mismatch part.Lists) result }
 {
     let lock = service.inode_lock(ino).ok_or(Fault::Stale)?;
     hold_at(rt, lock, ino)
@@ -36,7 +41,8 @@ pub(crate) fn hold_at<'a, C: Commits, B: Blocks, R: Wait>(
     lock: &'a Mutex<LockedCell<C, B>>,
     ino: Ino,
 ) -> Result<MutexGuard<'a, LockedCell<C, B>>, Fault>
-    ensures { IfOk result (λ guard. (mutex_guard_value guard).ino ≡ ino) }
+    ensures ok { IfOk result (λ guard. (mutex_guard_value guard).ino ≡ ino) }
+    ensures err { FailsOnly (fault.Mismatch part.Lists) result }
 {
     let cell = lock.lock(rt);
     if cell.ino() != ino {
@@ -78,6 +84,7 @@ pub(crate) fn change_slots<C: Commits, B: Blocks, S: Source, R: Wait>(
         (at_seat seat.old.number seat.old.commits.amount seat.old.notes)
         (at_seat seat.new.number seat.new.commits.amount seat.new.notes)
         change.entry.update result.1 }
+    ensures reads { S.failed source.new ≡ S.failed source.old + failed_by result.1 }
 {
     match slots.as_slice() {
         [one] => over_one(rt, service, seat, *one, change, source),
@@ -116,6 +123,7 @@ fn over_one<C: Commits, B: Blocks, S: Source, R: Wait>(
         (at_seat seat.old.number seat.old.commits.amount seat.old.notes)
         (at_seat seat.new.number seat.new.commits.amount seat.new.notes)
         change.entry.update result.1 }
+    ensures reads { S.failed source.new ≡ S.failed source.old + failed_by result.1 }
 {
     match hold(rt, service, slot) {
         Ok(mut cell) => change_one(rt, service, seat, &mut *cell, change, source),
@@ -143,6 +151,7 @@ fn over_two<C: Commits, B: Blocks, S: Source, R: Wait>(
         (at_seat seat.old.number seat.old.commits.amount seat.old.notes)
         (at_seat seat.new.number seat.new.commits.amount seat.new.notes)
         change.entry.update result.1 }
+    ensures reads { S.failed source.new ≡ S.failed source.old + failed_by result.1 }
 {
     let mut first = match hold(rt, service, slots.0) {
         Ok(cell) => cell,
@@ -176,6 +185,7 @@ fn over_three<C: Commits, B: Blocks, S: Source, R: Wait>(
         (at_seat seat.old.number seat.old.commits.amount seat.old.notes)
         (at_seat seat.new.number seat.new.commits.amount seat.new.notes)
         change.entry.update result.1 }
+    ensures reads { S.failed source.new ≡ S.failed source.old + failed_by result.1 }
 {
     let mut first = match hold(rt, service, slots.0) {
         Ok(cell) => cell,
@@ -222,6 +232,7 @@ fn over_four<C: Commits, B: Blocks, S: Source, R: Wait>(
         (at_seat seat.old.number seat.old.commits.amount seat.old.notes)
         (at_seat seat.new.number seat.new.commits.amount seat.new.notes)
         change.entry.update result.1 }
+    ensures reads { S.failed source.new ≡ S.failed source.old + failed_by result.1 }
 {
     let mut first = match hold(rt, service, slots.0) {
         Ok(cell) => cell,

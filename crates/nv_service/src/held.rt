@@ -4,7 +4,8 @@ ghost use Rattle.std.specs.Prelude.{◌≡◌, ◌+◌, ◌-◌, ◌<◌, ◌≤
 ghost use Rattle.nv_alloc.specs.Hand.{blocks_of};
 ghost use Rattle.nv_calls.specs.AllCalls.{is_nothing};
 ghost use Rattle.nv_calls.specs.Updates.{blank_call};
-ghost use Rattle.nv_service.specs.Changing.{HaveSeenHigher, IsOfCall, handles_of};
+ghost use Rattle.nv_service.specs.Changing.{IsOfCall, IsReceiptOf, SeesPublished};
+ghost use Rattle.nv_service.specs.Refusing.{failed_by};
 
 use crate::cell::LockedCell;
 use crate::change::{Change, ChangeEnd, change_over};
@@ -43,15 +44,15 @@ pub(crate) fn change_one<C: Commits, B: Blocks, S: Source, R: Wait>(
     ensures counted { OnOk result.1 (seat.new.commits.amount ≡ seat.old.commits.amount + 1) }
     ensures least { IfOk result.1
         (λ receipt. C.commit + seat.new.commits.amount ≤ receipt.stamp.commit) }
-    ensures call { IfOk result.1 (λ receipt. receipt.update ≡ change.entry.update) }
-    ensures higher { OnOk result.1
-        (HaveSeenHigher seat.old.notes seat.new.notes (handles_of change.entry.update)) }
+    ensures call { IfOk result.1 (IsReceiptOf change.entry.update) }
+    ensures higher { IfOk result.1
+        (SeesPublished seat.old.notes seat.new.notes change.entry.update) }
     ensures kept { (i : ℕ) → slice_index seat.old.notes i ≤ slice_index seat.new.notes i }
     ensures same { OnErr result.1 ((seat.new.commits.amount ≡ seat.old.commits.amount)
         × (seat.new.notes ≡ seat.old.notes)) }
     ensures some { OnOk result.1 (is_nothing (blank_call change.entry.update) ≡ false) }
     ensures overtaken { IfErr result.1 (IsOfCall change.entry.update) }
-    ensures failed { OnOk result.1 (S.failed source.new ≡ S.failed source.old) }
+    ensures reads { S.failed source.new ≡ S.failed source.old + failed_by result.1 }
 {
     let version = lend(
         rt,
@@ -104,15 +105,15 @@ pub(crate) fn change_two<C: Commits, B: Blocks, S: Source, R: Wait>(
     ensures counted { OnOk result.1 (seat.new.commits.amount ≡ seat.old.commits.amount + 1) }
     ensures least { IfOk result.1
         (λ receipt. C.commit + seat.new.commits.amount ≤ receipt.stamp.commit) }
-    ensures call { IfOk result.1 (λ receipt. receipt.update ≡ change.entry.update) }
-    ensures higher { OnOk result.1
-        (HaveSeenHigher seat.old.notes seat.new.notes (handles_of change.entry.update)) }
+    ensures call { IfOk result.1 (IsReceiptOf change.entry.update) }
+    ensures higher { IfOk result.1
+        (SeesPublished seat.old.notes seat.new.notes change.entry.update) }
     ensures kept { (i : ℕ) → slice_index seat.old.notes i ≤ slice_index seat.new.notes i }
     ensures same { OnErr result.1 ((seat.new.commits.amount ≡ seat.old.commits.amount)
         × (seat.new.notes ≡ seat.old.notes)) }
     ensures some { OnOk result.1 (is_nothing (blank_call change.entry.update) ≡ false) }
     ensures overtaken { IfErr result.1 (IsOfCall change.entry.update) }
-    ensures failed { OnOk result.1 (S.failed source.new ≡ S.failed source.old) }
+    ensures reads { S.failed source.new ≡ S.failed source.old + failed_by result.1 }
 {
     let first_version = lend(
         rt,
@@ -192,15 +193,15 @@ pub(crate) fn change_three<C: Commits, B: Blocks, S: Source, R: Wait>(
     ensures counted { OnOk result.1 (seat.new.commits.amount ≡ seat.old.commits.amount + 1) }
     ensures least { IfOk result.1
         (λ receipt. C.commit + seat.new.commits.amount ≤ receipt.stamp.commit) }
-    ensures call { IfOk result.1 (λ receipt. receipt.update ≡ change.entry.update) }
-    ensures higher { OnOk result.1
-        (HaveSeenHigher seat.old.notes seat.new.notes (handles_of change.entry.update)) }
+    ensures call { IfOk result.1 (IsReceiptOf change.entry.update) }
+    ensures higher { IfOk result.1
+        (SeesPublished seat.old.notes seat.new.notes change.entry.update) }
     ensures kept { (i : ℕ) → slice_index seat.old.notes i ≤ slice_index seat.new.notes i }
     ensures same { OnErr result.1 ((seat.new.commits.amount ≡ seat.old.commits.amount)
         × (seat.new.notes ≡ seat.old.notes)) }
     ensures some { OnOk result.1 (is_nothing (blank_call change.entry.update) ≡ false) }
     ensures overtaken { IfErr result.1 (IsOfCall change.entry.update) }
-    ensures failed { OnOk result.1 (S.failed source.new ≡ S.failed source.old) }
+    ensures reads { S.failed source.new ≡ S.failed source.old + failed_by result.1 }
 {
     let first_version = lend(
         rt,
@@ -303,15 +304,15 @@ pub(crate) fn change_four<C: Commits, B: Blocks, S: Source, R: Wait>(
     ensures counted { OnOk result.1 (seat.new.commits.amount ≡ seat.old.commits.amount + 1) }
     ensures least { IfOk result.1
         (λ receipt. C.commit + seat.new.commits.amount ≤ receipt.stamp.commit) }
-    ensures call { IfOk result.1 (λ receipt. receipt.update ≡ change.entry.update) }
-    ensures higher { OnOk result.1
-        (HaveSeenHigher seat.old.notes seat.new.notes (handles_of change.entry.update)) }
+    ensures call { IfOk result.1 (IsReceiptOf change.entry.update) }
+    ensures higher { IfOk result.1
+        (SeesPublished seat.old.notes seat.new.notes change.entry.update) }
     ensures kept { (i : ℕ) → slice_index seat.old.notes i ≤ slice_index seat.new.notes i }
     ensures same { OnErr result.1 ((seat.new.commits.amount ≡ seat.old.commits.amount)
         × (seat.new.notes ≡ seat.old.notes)) }
     ensures some { OnOk result.1 (is_nothing (blank_call change.entry.update) ≡ false) }
     ensures overtaken { IfErr result.1 (IsOfCall change.entry.update) }
-    ensures failed { OnOk result.1 (S.failed source.new ≡ S.failed source.old) }
+    ensures reads { S.failed source.new ≡ S.failed source.old + failed_by result.1 }
 {
     let first_version = lend(
         rt,

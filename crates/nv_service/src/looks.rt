@@ -1,8 +1,9 @@
 //! The looks of a call, before it locks.
 
-ghost use Rattle.std.specs.Prelude.{◌<◌, length};
+ghost use Rattle.std.specs.Prelude.{◌<◌, IfErr, IfOk, length};
 ghost use Rattle.nv_calls.specs.Looks.{directories};
 ghost use Rattle.nv_calls.specs.Updates.{blank_call};
+ghost use Rattle.nv_service.specs.Refusing.{LooksFor, MayRefuseRound};
 
 use crate::guards::hold_at;
 use crate::names::{Blocks, Commits};
@@ -20,7 +21,10 @@ pub(crate) fn look_names<C: Commits, B: Blocks, R: Wait>(
     rt: &R,
     service: &Service<C, B>,
     update: &Update,
-) -> Result<LookupResult, Fault> {
+) -> Result<LookupResult, Fault>
+    ensures found { IfOk result (LooksFor update.now) }
+    ensures err { IfErr result (MayRefuseRound update.now) }
+{
     let mut looked = LookupResult {
         first: None,
         second: None,
@@ -40,6 +44,7 @@ fn look_name<C: Commits, B: Blocks, R: Wait>(
     before: &LookupResult,
 ) -> Result<LookupResult, Fault>
     requires { place < length (directories (blank_call update.now)) }
+    ensures { IfErr result (MayRefuseRound update.now) }
 {
     let ino = directory(update, place).ino;
     let Some(lock) = service.inode_lock(ino) else {

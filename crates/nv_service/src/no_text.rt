@@ -4,24 +4,14 @@ ghost use Rattle.std.specs.Prelude.{◌≡◌};
 
 use nv_calls::{Source, SourceFault};
 
-/// A text that can't be had, for calls that ask for none.
-#[derive(Drop)]
-pub(crate) struct NoText {
-    failures: u64,
-}
-
-impl NoText {
-    pub(crate) fn new() -> NoText
-        ensures { result.failures ≡ 0 }
-    {
-        NoText { failures: 0 }
-    }
-}
+/// A text of zeros that never fails, for calls that ask for none.
+#[derive(Clone, Copy, Drop)]
+pub(crate) struct NoText;
 
 impl Source for NoText {
     ghost byte_at = { λ _ _. 0 };
 
-    ghost failed = { λ text. text.failures };
+    ghost failed = { λ _. 0 };
 
     ghost State = { Unit {0} };
 
@@ -29,12 +19,12 @@ impl Source for NoText {
 
     ghost asked = { λ state _. state };
 
-    fn fill(&mut self, _at: u64, _part: &mut [u8]) -> Result<(), SourceFault> {
-        self.failures += 1;
-        Err(SourceFault)
+    fn fill(&mut self, _at: u64, part: &mut [u8]) -> Result<(), SourceFault> {
+        part.fill(0);
+        Ok(())
     }
 
     fn failures(&self) -> u64 {
-        self.failures
+        0
     }
 }

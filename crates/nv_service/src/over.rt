@@ -5,7 +5,8 @@ ghost use Rattle.nv_alloc.specs.Hand.{blocks_of};
 ghost use Rattle.nv_calls.specs.Cells.{AreCells};
 ghost use Rattle.nv_calls.specs.AllCalls.{is_nothing};
 ghost use Rattle.nv_calls.specs.Updates.{blank_call};
-ghost use Rattle.nv_service.specs.Changing.{AreRaised, AreWhole, IsOfCall, KeepVersions, MayBeRaised, blocks_in, handles_of};
+ghost use Rattle.nv_service.specs.Changing.{AreWhole, IsOfCall, IsReceiptOf, KeepVersions, MayBeRaised, RaisesPublished, blocks_in};
+ghost use Rattle.nv_service.specs.Refusing.{failed_by};
 
 use crate::change::{Change, ChangeEnd, change_over};
 use crate::lent::{FourCells, ThreeCells, TwoCells};
@@ -39,9 +40,9 @@ pub(crate) fn over_two<C: Commits, B: Blocks, S: Source, R: Wait>(
     requires failures { S.failed source.old < 2 ^ 64 - 1 }
     ensures cells { MayBeRaised ((inodes.0, first.old) ∷ (inodes.1, second.old) ∷ [])
         ((inodes.0, first.new) ∷ (inodes.1, second.new) ∷ []) }
-    ensures raised { OnOk result.1
-        (AreRaised ((inodes.0, first.old) ∷ (inodes.1, second.old) ∷ [])
-        ((inodes.0, first.new) ∷ (inodes.1, second.new) ∷ []) (handles_of change.entry.update)) }
+    ensures raised { IfOk result.1
+        (RaisesPublished ((inodes.0, first.old) ∷ (inodes.1, second.old) ∷ [])
+        ((inodes.0, first.new) ∷ (inodes.1, second.new) ∷ []) change.entry.update) }
     ensures number { seat.new.number ≡ seat.old.number }
     ensures notes { seat.new.notes ≡ seat.old.notes }
     ensures commits_part { seat.new.commits.parts ≡ seat.old.commits.parts }
@@ -52,13 +53,13 @@ pub(crate) fn over_two<C: Commits, B: Blocks, S: Source, R: Wait>(
     ensures counted { OnOk result.1 (seat.new.commits.amount ≡ seat.old.commits.amount + 1) }
     ensures least { IfOk result.1
         (λ receipt. C.commit + seat.new.commits.amount ≤ receipt.stamp.commit) }
-    ensures call { IfOk result.1 (λ receipt. receipt.update ≡ change.entry.update) }
+    ensures call { IfOk result.1 (IsReceiptOf change.entry.update) }
     ensures same { OnErr result.1 ((seat.new.commits.amount ≡ seat.old.commits.amount)
         × KeepVersions ((inodes.0, first.old) ∷ (inodes.1, second.old) ∷ [])
         ((inodes.0, first.new) ∷ (inodes.1, second.new) ∷ [])) }
     ensures some { OnOk result.1 (is_nothing (blank_call change.entry.update) ≡ false) }
     ensures overtaken { IfErr result.1 (IsOfCall change.entry.update) }
-    ensures failed { OnOk result.1 (S.failed source.new ≡ S.failed source.old) }
+    ensures reads { S.failed source.new ≡ S.failed source.old + failed_by result.1 }
 {
     let mut lent = TwoCells {
         ino: inodes.0,
@@ -96,10 +97,10 @@ pub(crate) fn over_three<C: Commits, B: Blocks, S: Source, R: Wait>(
     ensures cells { MayBeRaised
         ((inodes.0, first.old) ∷ (inodes.1, second.old) ∷ (inodes.2, third.old) ∷ [])
         ((inodes.0, first.new) ∷ (inodes.1, second.new) ∷ (inodes.2, third.new) ∷ []) }
-    ensures raised { OnOk result.1
-        (AreRaised ((inodes.0, first.old) ∷ (inodes.1, second.old) ∷ (inodes.2, third.old) ∷ [])
+    ensures raised { IfOk result.1
+        (RaisesPublished ((inodes.0, first.old) ∷ (inodes.1, second.old) ∷ (inodes.2, third.old) ∷ [])
         ((inodes.0, first.new) ∷ (inodes.1, second.new) ∷ (inodes.2, third.new)
-        ∷ []) (handles_of change.entry.update)) }
+        ∷ []) change.entry.update) }
     ensures number { seat.new.number ≡ seat.old.number }
     ensures notes { seat.new.notes ≡ seat.old.notes }
     ensures commits_part { seat.new.commits.parts ≡ seat.old.commits.parts }
@@ -110,14 +111,14 @@ pub(crate) fn over_three<C: Commits, B: Blocks, S: Source, R: Wait>(
     ensures counted { OnOk result.1 (seat.new.commits.amount ≡ seat.old.commits.amount + 1) }
     ensures least { IfOk result.1
         (λ receipt. C.commit + seat.new.commits.amount ≤ receipt.stamp.commit) }
-    ensures call { IfOk result.1 (λ receipt. receipt.update ≡ change.entry.update) }
+    ensures call { IfOk result.1 (IsReceiptOf change.entry.update) }
     ensures same { OnErr result.1 ((seat.new.commits.amount ≡ seat.old.commits.amount)
         × KeepVersions
         ((inodes.0, first.old) ∷ (inodes.1, second.old) ∷ (inodes.2, third.old) ∷ [])
         ((inodes.0, first.new) ∷ (inodes.1, second.new) ∷ (inodes.2, third.new) ∷ [])) }
     ensures some { OnOk result.1 (is_nothing (blank_call change.entry.update) ≡ false) }
     ensures overtaken { IfErr result.1 (IsOfCall change.entry.update) }
-    ensures failed { OnOk result.1 (S.failed source.new ≡ S.failed source.old) }
+    ensures reads { S.failed source.new ≡ S.failed source.old + failed_by result.1 }
 {
     let mut lent = ThreeCells {
         ino: inodes.0,
@@ -165,12 +166,12 @@ pub(crate) fn over_four<C: Commits, B: Blocks, S: Source, R: Wait>(
         ∷ (inodes.3, fourth.old) ∷ [])
         ((inodes.0, first.new) ∷ (inodes.1, second.new) ∷ (inodes.2, third.new)
         ∷ (inodes.3, fourth.new) ∷ []) }
-    ensures raised { OnOk result.1
-        (AreRaised
+    ensures raised { IfOk result.1
+        (RaisesPublished
         ((inodes.0, first.old) ∷ (inodes.1, second.old) ∷ (inodes.2, third.old)
         ∷ (inodes.3, fourth.old) ∷ [])
         ((inodes.0, first.new) ∷ (inodes.1, second.new) ∷ (inodes.2, third.new)
-        ∷ (inodes.3, fourth.new) ∷ []) (handles_of change.entry.update)) }
+        ∷ (inodes.3, fourth.new) ∷ []) change.entry.update) }
     ensures number { seat.new.number ≡ seat.old.number }
     ensures notes { seat.new.notes ≡ seat.old.notes }
     ensures commits_part { seat.new.commits.parts ≡ seat.old.commits.parts }
@@ -182,7 +183,7 @@ pub(crate) fn over_four<C: Commits, B: Blocks, S: Source, R: Wait>(
     ensures counted { OnOk result.1 (seat.new.commits.amount ≡ seat.old.commits.amount + 1) }
     ensures least { IfOk result.1
         (λ receipt. C.commit + seat.new.commits.amount ≤ receipt.stamp.commit) }
-    ensures call { IfOk result.1 (λ receipt. receipt.update ≡ change.entry.update) }
+    ensures call { IfOk result.1 (IsReceiptOf change.entry.update) }
     ensures same { OnErr result.1 ((seat.new.commits.amount ≡ seat.old.commits.amount)
         × KeepVersions
         ((inodes.0, first.old) ∷ (inodes.1, second.old) ∷ (inodes.2, third.old)
@@ -191,7 +192,7 @@ pub(crate) fn over_four<C: Commits, B: Blocks, S: Source, R: Wait>(
         ∷ (inodes.3, fourth.new) ∷ [])) }
     ensures some { OnOk result.1 (is_nothing (blank_call change.entry.update) ≡ false) }
     ensures overtaken { IfErr result.1 (IsOfCall change.entry.update) }
-    ensures failed { OnOk result.1 (S.failed source.new ≡ S.failed source.old) }
+    ensures reads { S.failed source.new ≡ S.failed source.old + failed_by result.1 }
 {
     let mut lent = FourCells {
         ino: inodes.0,
@@ -234,10 +235,10 @@ fn lent_three<C: Commits, B: Blocks, S: Source, R: Wait>(
     ensures cells { MayBeRaised
         ((lent.old.ino, lent.old.cell.now) ∷ (lent.old.higher.ino, lent.old.higher.cell.now) ∷ (lent.old.higher.higher.ino, lent.old.higher.higher.cell.now) ∷ [])
         ((lent.new.ino, lent.new.cell.now) ∷ (lent.new.higher.ino, lent.new.higher.cell.now) ∷ (lent.new.higher.higher.ino, lent.new.higher.higher.cell.now) ∷ []) }
-    ensures raised { OnOk result.1
-        (AreRaised ((lent.old.ino, lent.old.cell.now) ∷ (lent.old.higher.ino, lent.old.higher.cell.now) ∷ (lent.old.higher.higher.ino, lent.old.higher.higher.cell.now) ∷ [])
+    ensures raised { IfOk result.1
+        (RaisesPublished ((lent.old.ino, lent.old.cell.now) ∷ (lent.old.higher.ino, lent.old.higher.cell.now) ∷ (lent.old.higher.higher.ino, lent.old.higher.higher.cell.now) ∷ [])
         ((lent.new.ino, lent.new.cell.now) ∷ (lent.new.higher.ino, lent.new.higher.cell.now) ∷ (lent.new.higher.higher.ino, lent.new.higher.higher.cell.now)
-        ∷ []) (handles_of change.entry.update)) }
+        ∷ []) change.entry.update) }
     ensures number { seat.new.number ≡ seat.old.number }
     ensures notes { seat.new.notes ≡ seat.old.notes }
     ensures commits_part { seat.new.commits.parts ≡ seat.old.commits.parts }
@@ -248,14 +249,14 @@ fn lent_three<C: Commits, B: Blocks, S: Source, R: Wait>(
     ensures counted { OnOk result.1 (seat.new.commits.amount ≡ seat.old.commits.amount + 1) }
     ensures least { IfOk result.1
         (λ receipt. C.commit + seat.new.commits.amount ≤ receipt.stamp.commit) }
-    ensures call { IfOk result.1 (λ receipt. receipt.update ≡ change.entry.update) }
+    ensures call { IfOk result.1 (IsReceiptOf change.entry.update) }
     ensures same { OnErr result.1 ((seat.new.commits.amount ≡ seat.old.commits.amount)
         × KeepVersions
         ((lent.old.ino, lent.old.cell.now) ∷ (lent.old.higher.ino, lent.old.higher.cell.now) ∷ (lent.old.higher.higher.ino, lent.old.higher.higher.cell.now) ∷ [])
         ((lent.new.ino, lent.new.cell.now) ∷ (lent.new.higher.ino, lent.new.higher.cell.now) ∷ (lent.new.higher.higher.ino, lent.new.higher.higher.cell.now) ∷ [])) }
     ensures some { OnOk result.1 (is_nothing (blank_call change.entry.update) ≡ false) }
     ensures overtaken { IfErr result.1 (IsOfCall change.entry.update) }
-    ensures failed { OnOk result.1 (S.failed source.new ≡ S.failed source.old) }
+    ensures reads { S.failed source.new ≡ S.failed source.old + failed_by result.1 }
     ensures ino_first { lent.new.ino ≡ lent.old.ino }
     ensures first { lent.new.cell.ghost_name
         ≡ lent.old.cell.ghost_name }
@@ -296,12 +297,12 @@ fn lent_four<C: Commits, B: Blocks, S: Source, R: Wait>(
         ∷ (lent.old.higher.higher.higher.ino, lent.old.higher.higher.higher.cell.now) ∷ [])
         ((lent.new.ino, lent.new.cell.now) ∷ (lent.new.higher.ino, lent.new.higher.cell.now) ∷ (lent.new.higher.higher.ino, lent.new.higher.higher.cell.now)
         ∷ (lent.new.higher.higher.higher.ino, lent.new.higher.higher.higher.cell.now) ∷ []) }
-    ensures raised { OnOk result.1
-        (AreRaised
+    ensures raised { IfOk result.1
+        (RaisesPublished
         ((lent.old.ino, lent.old.cell.now) ∷ (lent.old.higher.ino, lent.old.higher.cell.now) ∷ (lent.old.higher.higher.ino, lent.old.higher.higher.cell.now)
         ∷ (lent.old.higher.higher.higher.ino, lent.old.higher.higher.higher.cell.now) ∷ [])
         ((lent.new.ino, lent.new.cell.now) ∷ (lent.new.higher.ino, lent.new.higher.cell.now) ∷ (lent.new.higher.higher.ino, lent.new.higher.higher.cell.now)
-        ∷ (lent.new.higher.higher.higher.ino, lent.new.higher.higher.higher.cell.now) ∷ []) (handles_of change.entry.update)) }
+        ∷ (lent.new.higher.higher.higher.ino, lent.new.higher.higher.higher.cell.now) ∷ []) change.entry.update) }
     ensures number { seat.new.number ≡ seat.old.number }
     ensures notes { seat.new.notes ≡ seat.old.notes }
     ensures commits_part { seat.new.commits.parts ≡ seat.old.commits.parts }
@@ -313,7 +314,7 @@ fn lent_four<C: Commits, B: Blocks, S: Source, R: Wait>(
     ensures counted { OnOk result.1 (seat.new.commits.amount ≡ seat.old.commits.amount + 1) }
     ensures least { IfOk result.1
         (λ receipt. C.commit + seat.new.commits.amount ≤ receipt.stamp.commit) }
-    ensures call { IfOk result.1 (λ receipt. receipt.update ≡ change.entry.update) }
+    ensures call { IfOk result.1 (IsReceiptOf change.entry.update) }
     ensures same { OnErr result.1 ((seat.new.commits.amount ≡ seat.old.commits.amount)
         × KeepVersions
         ((lent.old.ino, lent.old.cell.now) ∷ (lent.old.higher.ino, lent.old.higher.cell.now) ∷ (lent.old.higher.higher.ino, lent.old.higher.higher.cell.now)
@@ -322,7 +323,7 @@ fn lent_four<C: Commits, B: Blocks, S: Source, R: Wait>(
         ∷ (lent.new.higher.higher.higher.ino, lent.new.higher.higher.higher.cell.now) ∷ [])) }
     ensures some { OnOk result.1 (is_nothing (blank_call change.entry.update) ≡ false) }
     ensures overtaken { IfErr result.1 (IsOfCall change.entry.update) }
-    ensures failed { OnOk result.1 (S.failed source.new ≡ S.failed source.old) }
+    ensures reads { S.failed source.new ≡ S.failed source.old + failed_by result.1 }
     ensures ino_first { lent.new.ino ≡ lent.old.ino }
     ensures first { lent.new.cell.ghost_name
         ≡ lent.old.cell.ghost_name }

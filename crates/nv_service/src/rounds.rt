@@ -1,9 +1,12 @@
 //! A call that changes nodes, from its looks to its end.
 
-ghost use Rattle.std.specs.Prelude.{◌≡◌, ◌<◌, ◌-◌, ◌^◌, ℕ, IfOk, None, false, length};
+ghost use Rattle.std.specs.Prelude.{◌≡◌, ◌<◌, ◌≤◌, ◌+◌, ◌-◌, ◌^◌, ℕ, IfErr, IfOk, None, false, length};
 ghost use Rattle.nv_alloc.specs.Hand.{blocks_of};
 ghost use Rattle.nv_base.specs.Refusals.{KeepsOnErr};
 ghost use Rattle.nv_calls.specs.Prepared.{makes};
+ghost use Rattle.nv_base.specs.declared.fault.Fault.TheVariants.{Contended};
+ghost use Rattle.nv_base.specs.declared.limits.TheConstants.{LOCK_ROUNDS};
+ghost use Rattle.nv_service.specs.Refusing.{MayGiveUp, failed_by, failed_in, failed_round};
 ghost use Rattle.nv_service.specs.Rounds.{IsEndedBy, IsRoundOf};
 ghost use Rattle.nv_service.specs.Sessions.{IsChangedBy, SessionValue, answered, at_seat};
 
@@ -17,13 +20,10 @@ use crate::seen::{Seen, answer_to};
 use crate::service::Service;
 use crate::session::Session;
 use nv_alloc::Hand;
-use nv_base::{Fault, Ino};
+use nv_base::{Fault, Ino, limits};
 use nv_calls::{Answer, Receipt, Source, Update, slots_of};
 use std::mem;
 use std::sync::Wait;
-
-/// How many more rounds of looks a call may make after its first.
-const ROUNDS: u64 = 7;
 
 /// Takes the number of a new inode into a hand, where the call makes one and one is free.
 fn take_number<C: Commits, B: Blocks, R: Wait>(
@@ -57,9 +57,10 @@ enum RoundEnd {
 impl RoundEnd {
     /// By how the change ended. `nothing` is the answer of a change that commits nothing.
     fn of(end: Result<Receipt, ChangeEnd>, nothing: Answer) -> RoundEnd
-        ensures { (opening : ℕ) (before after : SessionValue) (u : Update)
+        ensures ended { (opening : ℕ) (before after : SessionValue) (u : Update)
             → IsEndedBy opening before after u end → nothing ≡ answered None u
             → IsRoundOf opening before after u result }
+        ensures reads { failed_round result ≡ failed_by end }
     {
         match end {
             Ok(receipt) => RoundEnd::Ends(Ok(Seen::Committed(receipt))),
@@ -91,6 +92,7 @@ fn round<C: Commits, B: Blocks, S: Source, R: Wait>(
     ensures ended { IsRoundOf C.commit
         (at_seat seat.old.number seat.old.commits.amount seat.old.notes)
         (at_seat seat.new.number seat.new.commits.amount seat.new.notes) update result.1 }
+    ensures reads { S.failed source.new ≡ S.failed source.old + failed_round result.1 }
 {
     let nothing = answer_to(&update, None);
     let looked = match look_names(rt, service, &update) {
@@ -109,7 +111,7 @@ fn round<C: Commits, B: Blocks, S: Source, R: Wait>(
 }
 
 /// Round after round of a call, as long as a name leads elsewhere than its look found, and at most so many behind the
-/// first. `Contended` where the last one too is overtaken.
+/// first. `Contended` where the last one too is overtaken. How many rounds were made stands last.
 fn rounds<C: Commits, B: Blocks, S: Source, R: Wait>(
     rt: &R,
     service: &Service<C, B>,
@@ -119,7 +121,8 @@ fn rounds<C: Commits, B: Blocks, S: Source, R: Wait>(
     update: Update,
     hand: Hand,
     source: &mut S,
-) -> (Hand, Result<Seen, Fault>)
+) -> (Hand, Result<Seen, Fault>, u64)
+    requires few { left < LOCK_ROUNDS }
     requires number { makes update ≡ false → number.now ≡ None }
     requires parts { (0 < seat.old.commits.parts) × (0 < seat.old.blocks.parts) }
     requires blocks { seat.old.blocks.amount ≡ length (blocks_of hand) }
@@ -133,16 +136,27 @@ fn rounds<C: Commits, B: Blocks, S: Source, R: Wait>(
     ensures same { KeepsOnErr result.1
         (at_seat seat.old.number seat.old.commits.amount seat.old.notes)
         (at_seat seat.new.number seat.new.commits.amount seat.new.notes) }
+    ensures err { IfErr result.1 (MayGiveUp update) }
+    ensures all { IfErr result.1 (λ why. why ≡ Contended → result.2 ≡ left + 1) }
+    ensures most { result.2 ≤ left + 1 }
+    ensures reads { S.failed source.new ≡ S.failed source.old + failed_in result.1 }
 {
     let (hand, end) = round(rt, service, seat, number, update, hand, source);
     match end {
-        RoundEnd::Ends(result) => (hand, result),
+        RoundEnd::Ends(result) => (hand, result, 1),
+        RoundEnd::Overtaken(_) if left == 0 => (hand, Err(Fault::Contended), 1),
         RoundEnd::Overtaken(update) => {
-            // No part of the text was asked for, so that this count is as before: no clause says so.
-            if left == 0 || source.failures() == u64::MAX {
-                return (hand, Err(Fault::Contended));
-            }
-            rounds(rt, service, seat, left - 1, number, update, hand, source)
+            let (hand, result, made) = rounds(
+                rt,
+                service,
+                seat,
+                left - 1,
+                number,
+                update,
+                hand,
+                source,
+            );
+            (hand, result, made + 1)
         }
     }
 }
@@ -162,16 +176,18 @@ impl<C: Commits, B: Blocks> Session<C, B> {
         requires failures { S.failed source.old < 2 ^ 64 - 1 }
         ensures ok { IfOk result (IsChangedBy C.commit self.old self.new update) }
         ensures same { KeepsOnErr result self.old self.new }
+        ensures err { IfErr result (MayGiveUp update) }
+        ensures reads { S.failed source.new ≡ S.failed source.old + failed_in result }
     {
         empty_hand(rt, service, &mut self.hand, &mut self.seat.blocks)?;
         let spare = Hand::new(self.alloc, &service.geometry);
         let mut hand = mem::replace(&mut self.hand, spare);
         let number = take_number(rt, service, &update, &mut hand);
-        let (mut hand, result) = rounds(
+        let (mut hand, result, _) = rounds(
             rt,
             service,
             &mut self.seat,
-            ROUNDS,
+            limits::LOCK_ROUNDS - 1,
             &number,
             update,
             hand,

@@ -1,6 +1,8 @@
 //! The parts of a world behind locks.
 
 ghost use Rattle.std.specs.Prelude.{◌≡◌, ◌+◌, ◌≤◌, [], MatchOption, Some, map, slice_get, vec_capacity, vec_len};
+ghost use Rattle.std.specs.Option.{option_map};
+ghost use Rattle.crossbeam_utils.specs.Padded.{padded_value};
 ghost use Rattle.nv_service.specs.Rests.{list_told, told_by, told_of};
 
 use crate::book::LockedBook;
@@ -54,13 +56,19 @@ impl<C: Commits, B: Blocks> Service<C, B> {
     }
 
     /// The lock of a CPU's free list, where there is such a CPU.
-    pub fn list_lock(&self, cpu: u64) -> Option<&Mutex<LockedList<B>>> {
+    pub fn list_lock(&self, cpu: u64) -> Option<&Mutex<LockedList<B>>>
+        ensures { MatchOption result (vec_len self.now.lists ≤ cpu)
+            (λ lock. option_map padded_value (slice_get self.now.lists.items cpu)
+            ≡ Some lock.now) }
+    {
         let padded = self.lists.get(cpu as usize)?;
         Some(&**padded)
     }
 
     /// The lock of the book: the commit lock.
-    pub fn book_lock(&self) -> &Mutex<LockedBook<C>> {
+    pub fn book_lock(&self) -> &Mutex<LockedBook<C>>
+        ensures { result.now ≡ padded_value self.now.book }
+    {
         &self.book
     }
 }

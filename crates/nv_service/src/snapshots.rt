@@ -1,6 +1,12 @@
 //! A snapshot is pinned, shown inode by inode, and unpinned.
 
-use crate::guards::hold;
+ghost use Rattle.std.specs.Prelude.{◌≡◌, ◌⊎◌, IfErr};
+ghost use Rattle.nv_base.specs.Refusals.{FailsEither, FailsOnly};
+ghost use Rattle.nv_base.specs.declared.fault.Fault.TheVariants as fault;
+ghost use Rattle.nv_base.specs.declared.fault.MismatchPart.TheVariants as part;
+ghost use Rattle.nv_service.specs.Refusing.{IsMisfitOrWant};
+
+use crate::guards::hold_at;
 use crate::names::{Blocks, Commits};
 use crate::service::Service;
 use nv_base::{Epoch, Fault, Handle, MismatchPart, limits};
@@ -13,7 +19,9 @@ pub(crate) fn pin<C: Commits, B: Blocks, R: Wait>(
     rt: &R,
     service: &Service<C, B>,
     snapshot: Epoch,
-) -> Result<(), Fault> {
+) -> Result<(), Fault>
+    ensures { FailsEither fault.NoSnapshot (fault.Mismatch part.Records) result }
+{
     let mut book = service.book_lock().lock(rt);
     if !book.may_pin(snapshot) {
         return Err(Fault::Mismatch(MismatchPart::Records));
@@ -26,7 +34,9 @@ pub(crate) fn unpin<C: Commits, B: Blocks, R: Wait>(
     rt: &R,
     service: &Service<C, B>,
     snapshot: Epoch,
-) -> Result<(), Fault> {
+) -> Result<(), Fault>
+    ensures { FailsOnly (fault.Mismatch part.Records) result }
+{
     let mut book = service.book_lock().lock(rt);
     if !book.is_pinned(snapshot) {
         return Err(Fault::Mismatch(MismatchPart::Records));
@@ -41,7 +51,9 @@ pub(crate) fn show_tree<C: Commits, B: Blocks, R: Wait>(
     rt: &R,
     service: &Service<C, B>,
     epoch: Epoch,
-) -> Result<Tree, Fault> {
+) -> Result<Tree, Fault>
+    ensures { IfErr result IsMisfitOrWant }
+{
     let alloc = service.alloc;
     let slots = service.cells.len();
     let mut met = vec![in alloc; false; slots]?;
@@ -61,7 +73,9 @@ pub(crate) fn show_tree<C: Commits, B: Blocks, R: Wait>(
 }
 
 /// Marks the slot of a handle as met. `Mismatch` of `Names` where there is no such slot, or it was met before.
-fn meet(met: &mut [bool], handle: &Handle) -> Result<(), Fault> {
+fn meet(met: &mut [bool], handle: &Handle) -> Result<(), Fault>
+    ensures { FailsOnly (fault.Mismatch part.Names) result }
+{
     match met.get_mut(handle.ino.number() as usize) {
         Some(seen) if !*seen => {
             *seen = true;
@@ -77,8 +91,13 @@ fn node_of<C: Commits, B: Blocks, R: Wait>(
     service: &Service<C, B>,
     handle: &Handle,
     epoch: Epoch,
-) -> Result<NodeCopy, Fault> {
-    let cell = hold(rt, service, handle.ino)?;
+) -> Result<NodeCopy, Fault>
+    ensures { IfErr result IsMisfitOrWant }
+{
+    let lock = service
+        .inode_lock(handle.ino)
+        .ok_or(Fault::Mismatch(MismatchPart::Names))?;
+    let cell = hold_at(rt, lock, handle.ino)?;
     let node = copy_on(service.alloc, Some(cell.part()), handle, epoch)?;
     node.ok_or(Fault::Mismatch(MismatchPart::Names))
 }

@@ -1,6 +1,6 @@
 //! Blocks for a change, from the free lists.
 
-ghost use Rattle.std.specs.Prelude.{◌≡◌, ◌+◌, ◌<◌, ◌≤◌, IfOk, OnErr, OnOk, drop, length, min};
+ghost use Rattle.std.specs.Prelude.{◌≡◌, ◌+◌, ◌<◌, ◌≤◌, IfErr, IfOk, OnErr, OnOk, drop, length, min};
 ghost use Rattle.nv_alloc.specs.FreeList.{IsHomeList};
 ghost use Rattle.nv_base.specs.Refusals.{FailsEither, FailsOnly, FailsOnlyWhere};
 ghost use Rattle.nv_base.specs.declared.fault.Fault.TheVariants as fault;
@@ -8,6 +8,7 @@ ghost use Rattle.nv_base.specs.declared.fault.MismatchPart.TheVariants as part;
 ghost use Rattle.nv_calls.specs.Cells.{AreCells};
 ghost use Rattle.nv_calls.specs.Prepared.{CanReady, HasLogPages};
 ghost use Rattle.nv_service.specs.Changing.{HasPassed, HasTaken};
+ghost use Rattle.nv_service.specs.Refusing.{IsWant};
 ghost use Rattle.nv_alloc.specs.Hand.{blocks_of};
 
 use crate::list::LockedList;
@@ -39,6 +40,7 @@ pub(crate) fn take_all<C: Commits, B: Blocks, L: Cells, R: Wait>(
     requires passed { HasPassed service.now.geometry.numbers.block (L.cells lent.now) hand.old
         plan.now.update wanted }
     requires part { 0 < mine.old.parts }
+    ensures err { IfErr result IsWant }
     ensures can { OnOk result (CanReady (L.cells lent.now) hand.new plan.now.update) }
     ensures pages { OnOk result (HasLogPages (L.cells lent.now) hand.new plan.now.update) }
     ensures parts { mine.new.parts ≡ mine.old.parts }

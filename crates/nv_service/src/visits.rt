@@ -1,6 +1,6 @@
 //! What a session finds in a cell is seen.
 
-ghost use Rattle.std.specs.Prelude.{◌≡◌, ℕ, IfOk};
+ghost use Rattle.std.specs.Prelude.{◌≡◌, ℕ, Err, IfErr, IfOk};
 ghost use Rattle.nv_base.specs.Refusals.{KeepsOnErr};
 ghost use Rattle.nv_calls.specs.declared.call.Call.{Call};
 ghost use Rattle.nv_service.specs.Sessions.{IsFoundAt, IsViewedBy};
@@ -28,6 +28,7 @@ impl<C: Commits, B: Blocks> Session<C, B> {
             → IfOk found (IsFoundAt cell.old.cell.state.version call)
             → IfOk result (IsViewedBy C.opened self.old self.new ino call) }
         ensures same { KeepsOnErr result self.old self.new }
+        ensures refused { IfErr result (λ why. found ≡ Err why) }
     {
         let view = found?;
         cell.meet(rt, &service.fresh, &mut self.seat.notes);

@@ -1,8 +1,9 @@
 //! Calls that are given as values.
 
-ghost use Rattle.std.specs.Prelude.{◌≡◌, IfOk};
+ghost use Rattle.std.specs.Prelude.{◌≡◌, IfErr, IfOk};
 ghost use Rattle.nv_base.specs.Refusals.{KeepsOnErr};
-ghost use Rattle.nv_service.specs.ByValue.{IsMadeAs, IsOther};
+ghost use Rattle.nv_service.specs.ByValue.{IsAnswerTo, IsMadeAs};
+ghost use Rattle.nv_service.specs.Refusing.{MayRefuse, MayRefuseMaintenance};
 
 use crate::names::{Blocks, Commits};
 use crate::seen::Seen;
@@ -23,6 +24,7 @@ impl<C: Commits, B: Blocks> Session<C, B> {
     ) -> Result<Seen, Fault>
         ensures ok { IfOk result (IsMadeAs C.commit C.opened self.old self.new call) }
         ensures same { KeepsOnErr result self.old self.new }
+        ensures err { IfErr result (MayRefuse call) }
     {
         match call {
             Call::Create { dir, name, mode } => self.create(rt, service, dir, name, mode),
@@ -56,8 +58,9 @@ impl<C: Commits, B: Blocks> Session<C, B> {
         service: &Service<C, B>,
         call: MaintenanceCall,
     ) -> Result<Seen, Fault>
-        ensures other { IfOk result IsOther }
+        ensures other { IfOk result (IsAnswerTo call) }
         ensures same { self.new ≡ self.old }
+        ensures err { IfErr result (MayRefuseMaintenance call) }
     {
         match call {
             MaintenanceCall::Snap => self.snap(rt, service),

@@ -1,7 +1,8 @@
 //! The calls that change nodes.
 
-ghost use Rattle.std.specs.Prelude.{◌-◌, ◌<◌, ◌^◌, IfOk};
+ghost use Rattle.std.specs.Prelude.{◌≡◌, ◌+◌, ◌-◌, ◌<◌, ◌^◌, IfErr, IfOk};
 ghost use Rattle.nv_base.specs.Refusals.{KeepsOnErr};
+ghost use Rattle.nv_service.specs.Refusing.{MayRefuseChange, failed_in};
 ghost use Rattle.nv_service.specs.Sessions.{IsChangedBy, IsCommittedBy};
 
 use crate::names::{Blocks, Commits};
@@ -27,13 +28,9 @@ impl<C: Commits, B: Blocks> Session<C, B> {
         ensures ok { IfOk result (IsCommittedBy C.commit self.old self.new
             (Update.Create dir name mode)) }
         ensures same { KeepsOnErr result self.old self.new }
+        ensures err { IfErr result (MayRefuseChange (Update.Create dir name mode)) }
     {
-        self.change(
-            rt,
-            service,
-            Update::Create { dir, name, mode },
-            &mut NoText::new(),
-        )
+        self.change(rt, service, Update::Create { dir, name, mode }, &mut NoText)
     }
 
     /// Makes an empty directory in a directory, with the errors of [`create`](Session::create).
@@ -48,13 +45,9 @@ impl<C: Commits, B: Blocks> Session<C, B> {
         ensures ok { IfOk result (IsCommittedBy C.commit self.old self.new
             (Update.Mkdir dir name mode)) }
         ensures same { KeepsOnErr result self.old self.new }
+        ensures err { IfErr result (MayRefuseChange (Update.Mkdir dir name mode)) }
     {
-        self.change(
-            rt,
-            service,
-            Update::Mkdir { dir, name, mode },
-            &mut NoText::new(),
-        )
+        self.change(rt, service, Update::Mkdir { dir, name, mode }, &mut NoText)
     }
 
     /// Writes so many bytes of a source into a file from an offset in bytes on. What lies between the end and the offset
@@ -75,6 +68,8 @@ impl<C: Commits, B: Blocks> Session<C, B> {
         ensures ok { IfOk result (IsChangedBy C.commit self.old self.new
             (Update.Write file offset count)) }
         ensures same { KeepsOnErr result self.old self.new }
+        ensures err { IfErr result (MayRefuseChange (Update.Write file offset count)) }
+        ensures reads { S.failed source.new ≡ S.failed source.old + failed_in result }
     {
         let update = Update::Write {
             file,
@@ -96,8 +91,9 @@ impl<C: Commits, B: Blocks> Session<C, B> {
         ensures ok { IfOk result (IsCommittedBy C.commit self.old self.new
             (Update.Size file size)) }
         ensures same { KeepsOnErr result self.old self.new }
+        ensures err { IfErr result (MayRefuseChange (Update.Size file size)) }
     {
-        self.change(rt, service, Update::Size { file, size }, &mut NoText::new())
+        self.change(rt, service, Update::Size { file, size }, &mut NoText)
     }
 
     /// Sets the mode of a node. `Stale`, `NoSpace`, `OutOfMemory`, `CommitLimit`.
@@ -111,13 +107,9 @@ impl<C: Commits, B: Blocks> Session<C, B> {
         ensures ok { IfOk result (IsCommittedBy C.commit self.old self.new
             (Update.Mode handle mode)) }
         ensures same { KeepsOnErr result self.old self.new }
+        ensures err { IfErr result (MayRefuseChange (Update.Mode handle mode)) }
     {
-        self.change(
-            rt,
-            service,
-            Update::Mode { handle, mode },
-            &mut NoText::new(),
-        )
+        self.change(rt, service, Update::Mode { handle, mode }, &mut NoText)
     }
 
     /// Takes a file's name out of a directory; the file goes. `Stale`, `NotDirectory`, `BadName`, `Missing`, `NotFile`,
@@ -132,13 +124,9 @@ impl<C: Commits, B: Blocks> Session<C, B> {
         ensures ok { IfOk result (IsCommittedBy C.commit self.old self.new
             (Update.Unlink dir name)) }
         ensures same { KeepsOnErr result self.old self.new }
+        ensures err { IfErr result (MayRefuseChange (Update.Unlink dir name)) }
     {
-        self.change(
-            rt,
-            service,
-            Update::Unlink { dir, name },
-            &mut NoText::new(),
-        )
+        self.change(rt, service, Update::Unlink { dir, name }, &mut NoText)
     }
 
     /// Takes the name of an empty directory out of a directory; the empty directory goes. Its errors are those of
@@ -153,8 +141,9 @@ impl<C: Commits, B: Blocks> Session<C, B> {
         ensures ok { IfOk result (IsCommittedBy C.commit self.old self.new
             (Update.Rmdir dir name)) }
         ensures same { KeepsOnErr result self.old self.new }
+        ensures err { IfErr result (MayRefuseChange (Update.Rmdir dir name)) }
     {
-        self.change(rt, service, Update::Rmdir { dir, name }, &mut NoText::new())
+        self.change(rt, service, Update::Rmdir { dir, name }, &mut NoText)
     }
 
     /// Gives a node another name, in the same directory or in another; a file at the new name goes. A rename onto its own
@@ -172,8 +161,9 @@ impl<C: Commits, B: Blocks> Session<C, B> {
         ensures ok { IfOk result (IsChangedBy C.commit self.old self.new
             (Update.Rename from old to new)) }
         ensures same { KeepsOnErr result self.old self.new }
+        ensures err { IfErr result (MayRefuseChange (Update.Rename from old to new)) }
     {
         let update = Update::Rename { from, old, to, new };
-        self.change(rt, service, update, &mut NoText::new())
+        self.change(rt, service, update, &mut NoText)
     }
 }

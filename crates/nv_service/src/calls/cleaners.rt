@@ -1,7 +1,9 @@
 //! The cleaners.
 
-ghost use Rattle.std.specs.Prelude.{◌≡◌, ◌≤◌, ℕ, Bool, IfOk, max, min};
+ghost use Rattle.std.specs.Prelude.{◌≡◌, ◌≤◌, ℕ, Bool, IfErr, IfOk, max, min};
 ghost use Rattle.nv_base.specs.declared.limits.TheConstants.{DRAIN};
+ghost use Rattle.nv_service.specs.Ending.{cleaner_of};
+ghost use Rattle.nv_service.specs.Refusing.{MayRefuseMaintenance};
 
 use crate::cleaners::{Manner, clean_log};
 use crate::drain::drain_deferred;
@@ -11,7 +13,7 @@ use crate::seen::Seen;
 use crate::service::Service;
 use crate::session::Session;
 use nv_base::{Fault, Ino, limits};
-use nv_calls::Answer;
+use nv_calls::{Answer, MaintenanceCall};
 use nv_clean::Cleaned;
 use std::sync::Wait;
 
@@ -26,6 +28,7 @@ impl<C: Commits, B: Blocks> Session<C, B> {
     ) -> Result<Seen, Fault>
         ensures answer { IfOk result (λ seen. (thorough : Bool) × (entries pages : ℕ)
             × (seen ≡ Seen.Other (Answer.Cleaned thorough entries pages))) }
+        ensures err { IfErr result (MayRefuseMaintenance (MaintenanceCall.Fast ino)) }
         ensures same { self.new ≡ self.old }
     {
         self.clean(rt, service, Manner::Fast, ino)
@@ -42,6 +45,7 @@ impl<C: Commits, B: Blocks> Session<C, B> {
     ) -> Result<Seen, Fault>
         ensures answer { IfOk result (λ seen. (thorough : Bool) × (entries pages : ℕ)
             × (seen ≡ Seen.Other (Answer.Cleaned thorough entries pages))) }
+        ensures err { IfErr result (MayRefuseMaintenance (MaintenanceCall.Thorough ino)) }
         ensures same { self.new ≡ self.old }
     {
         self.clean(rt, service, Manner::Thorough, ino)
@@ -57,6 +61,7 @@ impl<C: Commits, B: Blocks> Session<C, B> {
     ) -> Result<Seen, Fault>
         ensures answer { IfOk result (λ seen. (thorough : Bool) × (entries pages : ℕ)
             × (seen ≡ Seen.Other (Answer.Cleaned thorough entries pages))) }
+        ensures err { IfErr result (MayRefuseMaintenance (MaintenanceCall.Auto ino)) }
         ensures same { self.new ≡ self.old }
     {
         self.clean(rt, service, Manner::Auto, ino)
@@ -71,6 +76,7 @@ impl<C: Commits, B: Blocks> Session<C, B> {
     ) -> Result<Seen, Fault>
         ensures answer { IfOk result (λ seen. (thorough : Bool) × (entries pages : ℕ)
             × (seen ≡ Seen.Other (Answer.Cleaned thorough entries pages))) }
+        ensures err { IfErr result (MayRefuseMaintenance (cleaner_of manner ino)) }
         ensures same { self.new ≡ self.old }
     {
         let mine = &mut self.seat.blocks;
@@ -108,6 +114,7 @@ impl<C: Commits, B: Blocks> Session<C, B> {
     ) -> Result<Seen, Fault>
         ensures answer { IfOk result (λ seen. (n : ℕ) × (n ≤ max 1 (min number DRAIN))
             × (seen ≡ Seen.Other (Answer.Count n))) }
+        ensures err { IfErr result (MayRefuseMaintenance (MaintenanceCall.Drain number)) }
         ensures same { self.new ≡ self.old }
     {
         let mine = &mut self.seat.blocks;

@@ -1,6 +1,7 @@
 //! The calls on snapshots.
 
-ghost use Rattle.std.specs.Prelude.{◌≡◌, ℕ, IfOk, List};
+ghost use Rattle.std.specs.Prelude.{◌≡◌, ℕ, IfErr, IfOk, List};
+ghost use Rattle.nv_service.specs.Refusing.{MayRefuseMaintenance};
 ghost use Rattle.nv_entry.specs.declared.tree.TreeNode.{TreeNode};
 
 use crate::names::{Blocks, Commits};
@@ -9,13 +10,14 @@ use crate::service::Service;
 use crate::session::Session;
 use crate::snapshots::{pin, show_tree, unpin};
 use nv_base::{Epoch, Fault};
-use nv_calls::Answer;
+use nv_calls::{Answer, MaintenanceCall};
 use std::sync::Wait;
 
 impl<C: Commits, B: Blocks> Session<C, B> {
     /// Makes a snapshot of all nodes as they are, and answers its number. `EpochLimit`, `TooManySnapshots`.
     pub fn snap<R: Wait>(&mut self, rt: &R, service: &Service<C, B>) -> Result<Seen, Fault>
         ensures answer { IfOk result (λ seen. (s : ℕ) × (seen ≡ Seen.Other (Answer.Snapshot s))) }
+        ensures err { IfErr result (MayRefuseMaintenance MaintenanceCall.Snap) }
         ensures same { self.new ≡ self.old }
     {
         let snapshot = service.book_lock().lock(rt).make_snapshot()?;
@@ -30,6 +32,7 @@ impl<C: Commits, B: Blocks> Session<C, B> {
         snapshot: Epoch,
     ) -> Result<Seen, Fault>
         ensures answer { IfOk result (λ seen. seen ≡ Seen.Other Answer.Nothing) }
+        ensures err { IfErr result (MayRefuseMaintenance (MaintenanceCall.Drop snapshot)) }
         ensures same { self.new ≡ self.old }
     {
         service.book_lock().lock(rt).drop_snapshot(snapshot)?;
@@ -46,6 +49,7 @@ impl<C: Commits, B: Blocks> Session<C, B> {
     ) -> Result<Seen, Fault>
         ensures answer { IfOk result (λ seen. (tree : List TreeNode)
             × (seen ≡ Seen.Other (Answer.Tree tree))) }
+        ensures err { IfErr result (MayRefuseMaintenance (MaintenanceCall.Show snapshot)) }
         ensures same { self.new ≡ self.old }
     {
         pin(rt, service, snapshot)?;

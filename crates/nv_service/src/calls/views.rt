@@ -1,7 +1,8 @@
 //! The calls that read one node.
 
-ghost use Rattle.std.specs.Prelude.{IfOk};
+ghost use Rattle.std.specs.Prelude.{IfErr, IfOk};
 ghost use Rattle.nv_base.specs.Refusals.{KeepsOnErr};
+ghost use Rattle.nv_service.specs.Refusing.{MayRefuseView};
 ghost use Rattle.nv_service.specs.Sessions.{IsViewedBy};
 
 use crate::guards::hold;
@@ -27,6 +28,7 @@ impl<C: Commits, B: Blocks> Session<C, B> {
         ensures ok { IfOk result (IsViewedBy C.opened self.old self.new file.ino
             (Call.Read file offset count)) }
         ensures same { KeepsOnErr result self.old self.new }
+        ensures err { IfErr result (MayRefuseView (Call.Read file offset count)) }
     {
         let mut cell = hold(rt, service, file.ino)?;
         let found = read_on(
@@ -51,6 +53,7 @@ impl<C: Commits, B: Blocks> Session<C, B> {
         ensures ok { IfOk result (IsViewedBy C.opened self.old self.new handle.ino
             (Call.Stat handle)) }
         ensures same { KeepsOnErr result self.old self.new }
+        ensures err { IfErr result (MayRefuseView (Call.Stat handle)) }
     {
         let mut cell = hold(rt, service, handle.ino)?;
         let found = stat_on(handle.ino, cell.part(), Call::Stat { handle });
@@ -67,6 +70,7 @@ impl<C: Commits, B: Blocks> Session<C, B> {
     ) -> Result<Seen, Fault>
         ensures ok { IfOk result (IsViewedBy C.opened self.old self.new dir.ino (Call.List dir)) }
         ensures same { KeepsOnErr result self.old self.new }
+        ensures err { IfErr result (MayRefuseView (Call.List dir)) }
     {
         let mut cell = hold(rt, service, dir.ino)?;
         let found = list_on(dir.ino, cell.part(), Call::List { dir });
@@ -84,6 +88,7 @@ impl<C: Commits, B: Blocks> Session<C, B> {
         ensures ok { IfOk result (IsViewedBy C.opened self.old self.new dir.ino
             (Call.Lookup dir name)) }
         ensures same { KeepsOnErr result self.old self.new }
+        ensures err { IfErr result (MayRefuseView (Call.Lookup dir name)) }
     {
         let mut cell = hold(rt, service, dir.ino)?;
         let found = lookup_on(dir.ino, cell.part(), Call::Lookup { dir, name });

@@ -1,7 +1,8 @@
-use Rattle.std.proofs.Common.{◌≡◌, ◌+◌, arith, inl, inr, length}
+use Rattle.std.proofs.Common.{◌≡◌, arith, inl, inr, length}
 use Rattle.nv_alloc.specs.Hand.{blocks_of}
 use Rattle.nv_service.specs.Changing.{blocks_in}
 use Rattle.nv_service.proofs.Raised.{bytes_alone, room_alone, same_blocks, still_counted, still_returned, still_whole}
+use Rattle.nv_service.proofs.Refusals.{memory_wants}
 use Rattle.nv_service.proofs.change.make_change.Goals as goal
 
 pub commit_ready-requires-clause-whole : goal.commit_ready-requires-clause-whole
@@ -33,3 +34,10 @@ returns-in-Ok-clause-back g c =
     let hand = bytes_alone _ _ c.in-Ok.ensures.ok.hand_same in
     still_returned c.commit_ready.result c.take_all-taken.new.mine.amount c.in-Ok.ready.hand mid (g.L.Cells.cells c.commit_ready.new.lent) _
     (omega (arith, cells, hand, c.take_all-taken.ensures.amount, c.requires.blocks)) c.commit_ready.ensures.hand c.commit_ready.ensures.same
+
+pub returns-in-Err-ready_filled-clause-err : goal.returns-in-Err-ready_filled-clause-err
+returns-in-Err-ready_filled-clause-err g c =
+    elim c.in-Err-ready_filled.ensures.err [
+      | inl room ↦ inl (inr (memory_wants c.in-Err-ready_filled.refused.0 room.0))
+      | inr bytes ↦ inr bytes.0
+    ]

@@ -3,7 +3,7 @@ use Rattle.std.proofs.lemmas.List.{reverse-reverse}
 use Rattle.std.proofs.lemmas.List.Sorted.{sum_by-IsPermutation}
 use Rattle.std.proofs.lemmas.List.Sums.{sum_by_push}
 use Rattle.nv_cell.specs.Cell.{CellValue}
-use Rattle.nv_service.specs.Opened.{blocks_at, cell_blocks, version_of, versions_in}
+use Rattle.nv_service.specs.Opened.{blocks_at, cell_blocks, version_of}
 use Rattle.nv_service.proofs.Turning.{drop_next, map-reversed, map-reversed_last}
 use Rattle.nv_service.proofs.first_locks.lock_first_cells.Goals as goal
 

@@ -1,6 +1,5 @@
 use Rattle.std.proofs.Common.{◌≡◌, ◌≢◌, ℕ, suc, ◌+◌, ◌<◌, ◌≤◌, ◌∙◌, List, [], ◌∷◌, ap, arith, slice_index, subst, sym}
 use Rattle.nv_cell.specs.Cell.{CellValue}
-use Rattle.nv_service.specs.Changing.{handles_of}
 use Rattle.nv_service.specs.Fresh.{Owned}
 use Rattle.nv_service.specs.Locked.{LockedValue}
 use Rattle.nv_service.proofs.HeldCells.{SeenAt, at_more, at_one, err_notes, more_lent, ok_higher, one_lent}
@@ -54,4 +53,4 @@ returns-clause-higher g c =
     let rose = c.settle-2.ensures.higher up_1 in
     subst (λ (i : ℕ). slice_index before i < slice_index after i) (ap (λ (o : Owned). o.ino) c.lend-second_version.ensures.owner ∙ c.second.invariant.2)
     (omega (arith, rose, c.settle.ensures.kept c.lend-second_version.new.owner.ino, ap (λ (ns : List ℕ). slice_index ns c.lend-second_version.new.owner.ino) c.over_two-done.ensures.notes, ap (λ (ns : List ℕ). slice_index ns c.lend-second_version.new.owner.ino) c.lend-first_version.ensures.notes, ap (λ (ns : List ℕ). slice_index ns c.lend-second_version.new.owner.ino) c.lend-second_version.ensures.notes)) in
-    ok_higher c.over_two-done.result.1 old new before after (handles_of c.args.change.update) (at_more (SeenAt old new before after) 1 seen_0 (at_one (λ (k : ℕ). SeenAt old new before after (suc (k))) seen_1)) c.over_two-done.ensures.raised
+    ok_higher c.over_two-done.result.1 old new before after c.args.change.update (at_more (SeenAt old new before after) 1 seen_0 (at_one (λ (k : ℕ). SeenAt old new before after (suc (k))) seen_1)) c.over_two-done.ensures.raised

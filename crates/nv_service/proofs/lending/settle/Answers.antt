@@ -1,5 +1,3 @@
-use Rattle.std.proofs.Common.{ap, arith}
-use Rattle.nv_service.specs.Fresh.{Owned}
 use Rattle.nv_service.proofs.Told.{told_elsewhere, told_higher, told_kept}
 use Rattle.nv_service.proofs.lending.settle.Goals as goal
 

@@ -1,4 +1,4 @@
-use Rattle.std.proofs.Common.{rules, ◌≡◌, ◌+◌, ℕ, List, [], ◌∷◌, OnErr}
+use Rattle.std.proofs.Common.{rules, ◌≡◌, ℕ, List, [], ◌∷◌, OnErr}
 use Rattle.nv_cell.specs.Cell.{CellValue}
 use Rattle.nv_service.specs.Changing.{KeepVersions}
 use Rattle.nv_service.proofs.LentCells.{of_three}

@@ -1,4 +1,4 @@
-use Rattle.std.proofs.Common.{rules, ◌≡◌, ◌∙◌, length, min, arith, length-take, sym}
+use Rattle.std.proofs.Common.{rules, ◌∙◌, arith, length-take, sym}
 use Rattle.nv_alloc.specs.FreeList.{IsHomeList}
 use Rattle.nv_service.proofs.Takings.{taken_from}
 use Rattle.nv_service.proofs.taking.take_from.Goals as goal

@@ -1,4 +1,4 @@
-use Rattle.std.proofs.Common.{◌≡◌, ◌∙◌, ap, arith, rules, sym}
+use Rattle.std.proofs.Common.{◌∙◌, ap, arith, sym}
 use Rattle.nv_service.specs.Rests.{CellRestValue, Told, told_by, told_of}
 use Rattle.nv_service.proofs.Turning.{split_last}
 use Rattle.nv_service.proofs.unlocked.lock_cells.Goals as goal

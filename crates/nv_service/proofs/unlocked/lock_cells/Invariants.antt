@@ -1,4 +1,4 @@
-use Rattle.std.proofs.Common.{◌≡◌, ◌+◌, ◌≤◌, length, map, vec_len, vec_capacity}
+use Rattle.std.proofs.Common.{◌≡◌, ◌+◌, length, map, vec_len, vec_capacity}
 use Rattle.nv_service.specs.Rests.{told_by, told_of}
 use Rattle.nv_service.proofs.unlocked.lock_cells.Given as goal
 

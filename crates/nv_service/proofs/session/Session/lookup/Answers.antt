@@ -3,7 +3,9 @@ use Rattle.std.specs.Prelude.{IfOk}
 use Rattle.nv_calls.specs.declared.call.Call.TheVariants as call
 use Rattle.nv_cell.specs.Cell.{CellValue}
 use Rattle.nv_service.specs.Sessions.{IsFoundAt}
+use Rattle.nv_service.specs.Refusing.{view_faults}
 use Rattle.nv_service.proofs.Found.{found_at}
+use Rattle.nv_service.proofs.OtherRefusals.{plain_view, lookup_within}
 use Rattle.nv_service.proofs.session.Session.lookup.Goals as goal
 
 pub returns-clause-ok : goal.returns-clause-ok
@@ -13,3 +15,8 @@ returns-clause-ok g c =
     c.see.ensures.ok _ _ own
     (subst (λ (v : CellValue). IfOk c.lookup_on-found.result (IsFoundAt v.state.version (call.Lookup c.args.dir c.args.name))) same
     (found_at _ _ _ _ _ (c.lookup_on-found.ensures (λ n. []))))
+
+pub returns-clause-err : goal.returns-clause-err
+returns-clause-err g c =
+    plain_view (view_faults (call.Lookup c.args.dir c.args.name)) c.see.result c.lookup_on-found.result _ _
+    (lookup_within (λ n. []) c.args.dir.ino c.part.result.now c.args.dir c.args.name) c.see.ensures.refused (c.lookup_on-found.ensures (λ n. []))

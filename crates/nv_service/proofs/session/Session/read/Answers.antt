@@ -1,9 +1,11 @@
-use Rattle.std.proofs.Common.{rules, ◌≡◌, subst}
+use Rattle.std.proofs.Common.{rules, ◌≡◌, subst, arith, refl, []}
 use Rattle.std.specs.Prelude.{IfOk}
 use Rattle.nv_calls.specs.declared.call.Call.TheVariants as call
 use Rattle.nv_cell.specs.Cell.{CellValue}
 use Rattle.nv_service.specs.Sessions.{IsFoundAt}
+use Rattle.nv_service.specs.Refusing.{view_faults}
 use Rattle.nv_service.proofs.Found.{found_at}
+use Rattle.nv_service.proofs.OtherRefusals.{grown_view, read_within}
 use Rattle.nv_service.proofs.session.Session.read.Goals as goal
 
 pub returns-clause-ok : goal.returns-clause-ok
@@ -13,3 +15,8 @@ returns-clause-ok g c =
     c.see.ensures.ok _ _ own
     (subst (λ (v : CellValue). IfOk c.read_on-found.result (IsFoundAt v.state.version (call.Read c.args.file c.args.offset c.args.count))) same
     (found_at _ _ _ _ _ (c.read_on-found.ensures.own)))
+
+pub returns-clause-err : goal.returns-clause-err
+returns-clause-err g c =
+    grown_view (view_faults (call.Read c.args.file c.args.offset c.args.count)) c.see.result c.read_on-found.result _
+    (read_within (λ n. []) c.args.file.ino c.part.result.now c.args.file c.args.offset c.args.count) (2, omega arith, refl) c.see.ensures.refused (c.read_on-found.ensures.err (λ n. []))

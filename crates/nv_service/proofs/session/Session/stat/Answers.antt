@@ -3,7 +3,9 @@ use Rattle.std.specs.Prelude.{IfOk}
 use Rattle.nv_calls.specs.declared.call.Call.TheVariants as call
 use Rattle.nv_cell.specs.Cell.{CellValue}
 use Rattle.nv_service.specs.Sessions.{IsFoundAt}
+use Rattle.nv_service.specs.Refusing.{view_faults}
 use Rattle.nv_service.proofs.Found.{found_at}
+use Rattle.nv_service.proofs.OtherRefusals.{plain_view, stat_within}
 use Rattle.nv_service.proofs.session.Session.stat.Goals as goal
 
 pub returns-clause-ok : goal.returns-clause-ok
@@ -13,3 +15,8 @@ returns-clause-ok g c =
     c.see.ensures.ok _ _ own
     (subst (λ (v : CellValue). IfOk c.stat_on-found.result (IsFoundAt v.state.version (call.Stat c.args.handle))) same
     (found_at _ _ _ _ _ (c.stat_on-found.ensures (λ n. []))))
+
+pub returns-clause-err : goal.returns-clause-err
+returns-clause-err g c =
+    plain_view (view_faults (call.Stat c.args.handle)) c.see.result c.stat_on-found.result _ _
+    (stat_within (λ n. []) c.args.handle.ino c.part.result.now c.args.handle) c.see.ensures.refused (c.stat_on-found.ensures (λ n. []))

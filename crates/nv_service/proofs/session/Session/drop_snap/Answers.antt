@@ -1,0 +1,13 @@
+use Rattle.std.proofs.Common.{arith, refl}
+use Rattle.nv_base.specs.declared.fault.Fault.TheVariants as fault
+use Rattle.nv_calls.specs.declared.maintenance_call.MaintenanceCall.TheVariants as maintenance
+use Rattle.nv_service.specs.Refusing.{MayRefuseMaintenance, maintenance_faults}
+use Rattle.nv_service.proofs.OtherRefusals.{exits, one_of}
+use Rattle.nv_service.proofs.session.Session.drop_snap.Goals as goal
+
+pub returns-in_err-drop_snapshot-clause-err : goal.returns-in_err-drop_snapshot-clause-err
+returns-in_err-drop_snapshot-clause-err g c =
+    let call = maintenance.Drop c.args.snapshot in
+    exits (MayRefuseMaintenance call) c.from_residual.result _ c.from_residual.ensures.1
+    (one_of (maintenance_faults call) _ fault.NoSnapshot fault.Pinned (0, omega arith, refl) (1, omega arith, refl)
+    c.in_err-drop_snapshot.ensures.err)

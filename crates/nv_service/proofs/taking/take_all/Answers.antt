@@ -1,0 +1,17 @@
+use Rattle.nv_base.specs.declared.fault.MismatchPart.TheVariants as part
+use Rattle.nv_service.specs.Refusing.{IsWant}
+use Rattle.nv_service.proofs.OtherRefusals.{exits}
+use Rattle.nv_service.proofs.Refusals.{either_wants, memory_wants, space_wants}
+use Rattle.nv_service.proofs.taking.take_all.Goals as goal
+
+pub returns-in_err-make_room-clause-err : goal.returns-in_err-make_room-clause-err
+returns-in_err-make_room-clause-err g c =
+    exits IsWant c.from_residual.result _ c.from_residual.ensures.1 (memory_wants _ c.in_err-make_room.ensures.err.0)
+
+pub returns-in_err-take_blocks-clause-err : goal.returns-in_err-take_blocks-clause-err
+returns-in_err-take_blocks-clause-err g c =
+    exits IsWant c.from_residual-in_err-take_blocks.result _ c.from_residual-in_err-take_blocks.ensures.1
+    (space_wants _ part.Lists c.in_err-take_blocks.ensures.err)
+
+pub returns-clause-err : goal.returns-clause-err
+returns-clause-err g c = either_wants c.take_blocks-2.result part.Lists c.take_blocks-2.ensures.err

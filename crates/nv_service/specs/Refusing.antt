@@ -1,0 +1,148 @@
+-- By which faults a session's call may be refused.
+use Rattle.std.specs.Prelude.{◌≡◌, ◌⊎◌, ◌&&◌, ◌||◌, ℕ, Bool, true, false, List, [], ◌∷◌, ◌++◌, Contains, IsTrue, Result, Ok, Err, is_none, length}
+use Rattle.nv_base.specs.Memory.{out_of_memory}
+use Rattle.nv_base.specs.declared.fault.Fault.{Fault}
+use Rattle.nv_base.specs.declared.fault.Fault.TheVariants as fault
+use Rattle.nv_base.specs.declared.fault.MismatchPart.{MismatchPart}
+use Rattle.nv_calls.specs.declared.call.Call.{Call}
+use Rattle.nv_calls.specs.declared.call.Call.TheVariants as call
+use Rattle.nv_calls.specs.declared.looked.LookupResult.{LookupResult}
+use Rattle.nv_calls.specs.declared.maintenance_call.MaintenanceCall.{MaintenanceCall}
+use Rattle.nv_calls.specs.declared.maintenance_call.MaintenanceCall.TheVariants as maintenance
+use Rattle.nv_calls.specs.declared.update.Update.{Update}
+use Rattle.nv_calls.specs.declared.update.Update.TheVariants as update
+use Rattle.nv_service.specs.declared.change.ChangeEnd.{ChangeEnd}
+use Rattle.nv_service.specs.declared.change.ChangeEnd.TheVariants as ends
+use Rattle.nv_service.specs.declared.rounds.RoundEnd.{RoundEnd}
+use Rattle.nv_service.specs.declared.rounds.RoundEnd.TheVariants as round
+
+-- ---- the table of refusals
+
+-- what any commit may want: blocks, memory, a number
+abbrev pub wants : List Fault
+wants = fault.NoSpace ∷ out_of_memory ∷ fault.CommitLimit ∷ []
+
+abbrev pub maintenance_faults : MaintenanceCall → List Fault
+maintenance_faults maintenance.Snap = fault.EpochLimit ∷ fault.TooManySnapshots ∷ []
+maintenance_faults (maintenance.Drop snapshot) = fault.NoSnapshot ∷ fault.Pinned ∷ []
+maintenance_faults (maintenance.Show snapshot) = fault.NoSnapshot ∷ out_of_memory ∷ []
+maintenance_faults (maintenance.Drain number) = out_of_memory ∷ []
+maintenance_faults (maintenance.Fast ino) = fault.Stale ∷ out_of_memory ∷ []
+maintenance_faults (maintenance.Thorough ino) = fault.Stale ∷ fault.NoSpace ∷ out_of_memory ∷ []
+maintenance_faults (maintenance.Auto ino) = fault.Stale ∷ fault.NoSpace ∷ out_of_memory ∷ []
+
+-- the faults that the check of a change may find, by its nodes and for want of an inode number
+abbrev pub check_faults : Update → List Fault
+check_faults (update.Create dir name mode) = fault.Stale ∷ fault.NotDirectory ∷ fault.BadName ∷ fault.Exists ∷ fault.NoInode ∷ []
+check_faults (update.Mkdir dir name mode) = fault.Stale ∷ fault.NotDirectory ∷ fault.BadName ∷ fault.Exists ∷ fault.NoInode ∷ []
+check_faults (update.Write file offset count) = fault.Stale ∷ fault.NotFile ∷ fault.WriteTooBig ∷ fault.FileTooBig ∷ []
+check_faults (update.Size file size) = fault.Stale ∷ fault.NotFile ∷ fault.FileTooBig ∷ []
+check_faults (update.Mode handle mode) = fault.Stale ∷ []
+check_faults (update.Unlink dir name) = fault.Stale ∷ fault.NotDirectory ∷ fault.BadName ∷ fault.Missing ∷ fault.NotFile ∷ []
+check_faults (update.Rmdir dir name) = fault.Stale ∷ fault.NotDirectory ∷ fault.BadName ∷ fault.Missing ∷ fault.NotEmpty ∷ []
+check_faults (update.Rename from old to new) =
+    fault.Stale ∷ fault.NotDirectory ∷ fault.BadName ∷ fault.Missing ∷ fault.MoveDirectory ∷ fault.Exists ∷ []
+
+-- whether a call looks names up before it locks, so that other calls may overtake it
+abbrev pub looks_up : Update → Bool
+looks_up (update.Unlink dir name) = true
+looks_up (update.Rmdir dir name) = true
+looks_up (update.Rename from old to new) = true
+looks_up other = false
+
+-- what a write may meet beside: its text can't be read; a call that looks names up: other calls bind them anew, round after round
+abbrev pub other_faults : Update → List Fault
+other_faults (update.Write file offset count) = fault.Read ∷ []
+other_faults (update.Unlink dir name) = fault.Contended ∷ []
+other_faults (update.Rmdir dir name) = fault.Contended ∷ []
+other_faults (update.Rename from old to new) = fault.Contended ∷ []
+other_faults other = []
+
+abbrev pub change_faults : Update → List Fault
+change_faults u = check_faults u ++ other_faults u ++ wants
+
+-- what lies behind a lock is not as the call needs it: no type says all of it
+abbrev pub IsMisfit : Fault → Type 0
+IsMisfit why = (part : MismatchPart) × (why ≡ fault.Mismatch part)
+
+-- or memory is wanted
+abbrev pub IsMisfitOrWant : Fault → Type 0
+IsMisfitOrWant why = IsMisfit why ⊎ (why ≡ out_of_memory)
+
+-- THE REFUSALS OF A CALL, and no other
+abbrev pub MayRefuseChange : Update → Fault → Type 0
+MayRefuseChange u why = Contains (change_faults u) why ⊎ IsMisfit why
+
+abbrev pub MayRefuseMaintenance : MaintenanceCall → Fault → Type 0
+MayRefuseMaintenance c why = Contains (maintenance_faults c) why ⊎ IsMisfit why
+
+abbrev pub view_faults : Call → List Fault
+view_faults (call.Read file offset count) = fault.Stale ∷ fault.NotFile ∷ out_of_memory ∷ []
+view_faults (call.Stat handle) = fault.Stale ∷ []
+view_faults (call.List dir) = fault.Stale ∷ fault.NotDirectory ∷ out_of_memory ∷ []
+view_faults (call.Lookup dir name) = fault.Stale ∷ fault.NotDirectory ∷ fault.BadName ∷ fault.Missing ∷ []
+view_faults other = []
+
+abbrev pub MayRefuseView : Call → Fault → Type 0
+MayRefuseView c why = Contains (view_faults c) why ⊎ IsMisfit why
+
+-- of any call, as a value
+abbrev pub MayRefuse : Call → Fault → Type 0
+MayRefuse (call.Create dir name mode) why = MayRefuseChange (update.Create dir name mode) why
+MayRefuse (call.Mkdir dir name mode) why = MayRefuseChange (update.Mkdir dir name mode) why
+MayRefuse (call.Write file offset text) why = MayRefuseChange (update.Write file offset (length text)) why
+MayRefuse (call.Size file size) why = MayRefuseChange (update.Size file size) why
+MayRefuse (call.Mode handle mode) why = MayRefuseChange (update.Mode handle mode) why
+MayRefuse (call.Unlink dir name) why = MayRefuseChange (update.Unlink dir name) why
+MayRefuse (call.Rmdir dir name) why = MayRefuseChange (update.Rmdir dir name) why
+MayRefuse (call.Rename from old to new) why = MayRefuseChange (update.Rename from old to new) why
+MayRefuse (call.Maintenance c) why = MayRefuseMaintenance c why
+MayRefuse view why = MayRefuseView view why
+
+-- ---- the way there
+
+-- a change that passed its check may be refused so, and its text was read
+abbrev pub IsWant : Fault → Type 0
+IsWant why = Contains wants why ⊎ IsMisfit why
+
+-- how a round may be refused: by its check, by a want, by a misfit
+abbrev pub MayRefuseRound : Update → Fault → Type 0
+MayRefuseRound u why = Contains (check_faults u) why ⊎ IsWant why
+
+-- or by a failed read of its text
+abbrev pub MayEnd : Update → Fault → Type 0
+MayEnd u why = MayRefuseRound u why ⊎ (why ≡ fault.Read)
+
+-- and how the call may: also where its last round was overtaken
+abbrev pub MayGiveUp : Update → Fault → Type 0
+MayGiveUp u why = MayEnd u why ⊎ ((why ≡ fault.Contended) × (looks_up u ≡ true))
+
+-- ---- looks
+
+-- no look has found anything
+abbrev pub finds_nothing : LookupResult → Bool
+finds_nothing looked = is_none looked.first && is_none looked.second
+
+-- only a call that looks names up has found something
+abbrev pub LooksFor : Update → LookupResult → Type 0
+LooksFor u looked = IsTrue (looks_up u || finds_nothing looked)
+
+-- ---- failed reads
+
+-- how many reads of its text failed in a call that is refused so: one where that refused it
+abbrev pub reads_failed : Fault → ℕ
+reads_failed fault.Read = 1
+reads_failed other = 0
+
+abbrev pub failed_in : {A : Type 0} → Result A Fault → ℕ
+failed_in (Ok done) = 0
+failed_in (Err why) = reads_failed why
+
+abbrev pub failed_by : {A : Type 0} → Result A ChangeEnd → ℕ
+failed_by (Ok done) = 0
+failed_by (Err (ends.Refuses why)) = reads_failed why
+failed_by (Err other) = 0
+
+abbrev pub failed_round : RoundEnd → ℕ
+failed_round (round.Ends result) = failed_in result
+failed_round (round.Overtaken back) = 0
