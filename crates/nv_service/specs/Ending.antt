@@ -1,6 +1,8 @@
 -- What a call leaves in its hand, and what a cleaner needs of it.
-use Rattle.std.specs.Prelude.{◌≡◌, ◌<◌, ℕ, None, length}
+use Rattle.std.specs.Prelude.{◌≡◌, ◌<◌, ◌&&◌, ℕ, Bool, Option, Some, None, if◌then◌else◌, length, nat_lt, not}
 use Rattle.nv_alloc.specs.Hand.{blocks_of}
+use Rattle.nv_alloc.specs.InodePool.{FreeInodes}
+use Rattle.nv_alloc.specs.Numbers.{has, put_by}
 use Rattle.nv_alloc.specs.declared.hand.Hand.{Hand}
 use Rattle.nv_calls.specs.declared.maintenance_call.MaintenanceCall.{MaintenanceCall}
 use Rattle.nv_calls.specs.declared.maintenance_call.MaintenanceCall.TheVariants as maintenance
@@ -19,6 +21,20 @@ abbrev pub cleaner_of : Manner → ℕ → MaintenanceCall
 cleaner_of manner.Fast ino = maintenance.Fast ino
 cleaner_of manner.Thorough ino = maintenance.Thorough ino
 cleaner_of manner.Auto ino = maintenance.Auto ino
+
+-- a pool takes the number of a slot that is not free already
+abbrev pub takes : FreeInodes → ℕ → Bool
+takes pool ino = nat_lt ino pool.inodes && not (has pool.numbers ino)
+
+-- the pool with the number of a hand, where it takes it; and what is left over in the hand
+abbrev pub pool_with : FreeInodes → Option ℕ → FreeInodes
+pool_with pool None = pool
+pool_with pool (Some ino) =
+    if takes pool ino then record pool { numbers = put_by (λ (n : ℕ). n) ino pool.numbers } else pool
+
+abbrev pub left_over : FreeInodes → Option ℕ → Option ℕ
+left_over pool None = None
+left_over pool (Some ino) = if takes pool ino then None else Some ino
 
 -- a cell can be cleaned: there is an inode, nothing is left to publish or to retire, and the blocks of cell and hand are of
 -- that size

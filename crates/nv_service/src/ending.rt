@@ -1,15 +1,16 @@
 //! What a call has taken and not placed goes back.
 
-ghost use Rattle.std.specs.Prelude.{◌≡◌, ◌<◌, OnOk, length};
+ghost use Rattle.std.specs.Prelude.{◌≡◌, ◌⊎◌, ◌<◌, None, OnOk, length};
 ghost use Rattle.nv_alloc.specs.Hand.{blocks_of};
 ghost use Rattle.nv_base.specs.Refusals.{FailsOnly};
 ghost use Rattle.nv_base.specs.declared.fault.Fault.TheVariants.{Mismatch};
 ghost use Rattle.nv_base.specs.declared.fault.MismatchPart.TheVariants.{Lists};
 ghost use Rattle.nv_service.specs.Ending.{IsEmptyHand};
+ghost use Rattle.nv_service.specs.Ending.{IsEmptyHand, left_over, pool_with};
 
 use crate::names::{Blocks, Commits};
 use crate::service::Service;
-use nv_alloc::Hand;
+use nv_alloc::{Hand, InodePool};
 use nv_base::{Fault, MismatchPart};
 use std::sync::Wait;
 use std::sync::ledger::Share;
@@ -79,14 +80,25 @@ fn give_home<C: Commits, B: Blocks, R: Wait>(
     }
 }
 
-/// Gives the number in a hand back to the pool, where it is that of a slot and not free already.
+/// Gives the number in a hand back to the pool, where it is that of a slot and not free already. No other number is in the
+/// hand afterwards.
 fn give_number<C: Commits, B: Blocks, R: Wait>(rt: &R, service: &Service<C, B>, hand: &mut Hand)
-    ensures { hand.new ≡ record hand.old { ino = hand.new.ino } }
+    ensures { (hand.new ≡ hand.old) ⊎ (hand.new ≡ record hand.old { ino = None }) }
+{
+    if hand.ino().is_some() {
+        let mut pool = service.pool.lock(rt);
+        put_back(&mut pool, hand);
+    }
+}
+
+/// The number in a hand goes back to the pool where that takes it. Else both stay as they are.
+fn put_back(pool: &mut InodePool, hand: &mut Hand)
+    ensures pool { pool.new ≡ pool_with pool.old hand.old.ino }
+    ensures hand { hand.new ≡ record hand.old { ino = left_over pool.old hand.old.ino } }
 {
     let Some(ino) = hand.ino() else {
         return;
     };
-    let mut pool = service.pool.lock(rt);
     if pool.is_inode(ino) && !pool.has(ino) {
         hand.take_ino();
         pool.give(ino);
