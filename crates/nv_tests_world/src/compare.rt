@@ -2,12 +2,9 @@
 //! text that it would show.
 
 use nv_base::Fault;
-use nv_core::{Answer, CallFault, Reply};
 use nv_scenes::wants_memory;
-use std::alloc::Global;
 use std::fmt::Debug;
 use std::process::Abort;
-use std::test::Fail;
 
 /// Asserts that what was found is what is wanted.
 pub fn same<T: PartialEq + Debug + Drop>(rt: &impl Abort, found: T, want: T) {
@@ -24,42 +21,9 @@ pub fn refused_memory(rt: &impl Abort, fault: Fault) {
     assert!(rt; wants_memory(fault), "{fault}");
 }
 
-/// Asserts that what was found shows as what is wanted does, in a row of a table by its number: for
-/// what cannot be compared.
-pub fn same_shown<T: Debug>(
-    rt: &impl Abort,
-    alloc: Global,
-    row: usize,
-    found: &T,
-    want: &T,
-) -> Result<(), Fail> {
-    let found = format!(in alloc; "{found:?}")?;
-    same_for(rt, &row, found, format!(in alloc; "{want:?}")?);
-    Ok(())
-}
-
 /// Asserts what is to hold of a row of a table, by its number.
 pub fn holds_for(rt: &impl Abort, row: usize, holds: bool) {
     assert!(rt; holds, "row {row}");
-}
-
-/// Whether all bytes are 0.
-pub fn are_zeros(bytes: &[u8]) -> bool {
-    for byte in bytes {
-        if *byte != 0 {
-            return false;
-        }
-    }
-    true
-}
-
-/// The last reply of a whole call.
-pub fn last_reply(told: Result<Answer, CallFault>) -> Reply {
-    match told {
-        Ok(answer) => Reply::Done(answer),
-        Err(CallFault::Refused(fault)) => Reply::Refused(fault),
-        Err(CallFault::Waits) => Reply::Waits,
-    }
 }
 
 /// Adds an item to what a test notes for itself.

@@ -6,27 +6,27 @@ mod devices;
 mod growths;
 mod handed;
 mod judging;
-pub mod parts;
+mod parts;
 mod playing;
 mod queues;
-mod reports;
 mod seen;
 mod snapshots;
 mod words;
 mod wrong_books;
 mod wrong_parts;
 
-use crate::compare::{holds_for, last_reply, push, refused_memory, same};
+use crate::compare::{holds_for, push, refused_memory, same};
 use Words::{Create, List, Lookup, Mkdir, Read, Rename, Size, Stat, Unlink, Write};
 use nv_base::{Fault, Kind, Name};
 use nv_core::{Event, Reply, TreeNode, World};
 use nv_scenes::Row;
 use nv_scenes_calls::words::{At, Want, Words};
+use nv_scenes_worlds::replies::{is_wanted, last_reply};
 use playing::new_world;
 use std::alloc::Global;
 use std::process::Abort;
 use std::test::Fail;
-use words::{call, is_wanted};
+use words::call;
 
 /// An actor starts a call, goes on by a step, or goes on to the end; `Do` is the first and the last by actor 0.
 #[derive(Clone, Copy)]

@@ -4,8 +4,7 @@ ghost use Rattle.std.specs.Prelude.{◌∷◌, [], List};
 ghost use Rattle.nv_cell.specs.Room.{IsReadyFor};
 ghost use Rattle.nv_entry.specs.declared.item.Item.{Item as ItemValue};
 
-use super::devices::{Device, book_of, list_of, parts_of, pool_of, row_of};
-use super::playing::new_world;
+use super::devices::{Device, book_of, cell_of, list_of, pool_of};
 use super::queues::{has_blocks, home_of, lowest, queue_for};
 use crate::compare::{refused_memory, same};
 use nv_alloc::{Block, BlockQueue, FreeList};
@@ -197,21 +196,9 @@ fn publish(rt: &impl Abort, lent: &mut LastCell<'_>)
 
 // ---- cells
 
-/// With the last cell of a new world of a device, which is empty.
+/// With an empty cell of a device.
 fn with_cell(rt: &impl Abort, alloc: Global, parts: Parts, slot: usize, device: Device) -> Parts {
-    let other = parts_of(rt, new_world(rt, alloc, row_of(device)));
-    let (geometry, cells, lists, pool, book) = other.into_fields();
-    let mut cells = cells.into_vec();
-    let Some(cell) = cells.pop() else {
-        panic!(rt; "a world with a cell");
-    };
-    let _others = Parts {
-        geometry,
-        cells: Items::from_vec(cells),
-        lists,
-        pool,
-        book,
-    };
+    let cell = cell_of(rt, alloc, device);
     let (geometry, cells, lists, pool, book) = parts.into_fields();
     let mut cells = cells.into_vec();
     assert!(rt; slot < cells.len());

@@ -1,15 +1,14 @@
 //! Devices that have one number other than the usual one, and parts that are made for them.
 
 use super::SMALL;
-use super::playing::{alone, new_world};
 use crate::compare::refused_memory;
 use nv_alloc::{FreeList, InodePool};
 use nv_base::limits::NUMBER;
-use nv_base::{CommitNo, Epoch, Fault, Geometry, Ino};
+use nv_base::{CommitNo, Epoch, Gen, Geometry, Ino};
 use nv_book::Book;
-use nv_core::{Parts, Reply, World};
+use nv_cell::InodeCell;
+use nv_core::{Parts, World};
 use nv_scenes::{Row, geometry};
-use nv_scenes_calls::words::Words;
 use std::alloc::Global;
 use std::process::Abort;
 
@@ -24,7 +23,7 @@ pub(super) enum Device {
     Snapshots,
 }
 
-pub(super) fn row_of(device: Device) -> Row {
+fn row_of(device: Device) -> Row {
     match device {
         Device::Usual => SMALL,
         Device::Cpus => [16, 3, 4, 4, 8, 4, 3],
@@ -39,25 +38,20 @@ fn geometry_of(rt: &impl Abort, device: Device) -> Geometry {
     geometry(row_of(device)).expect(rt, "a geometry")
 }
 
-/// The parts of a world of the usual device after these calls. One that is refused memory is made once more.
-pub(super) fn parts_after(rt: &impl Abort, alloc: Global, before: &[Words]) -> Parts {
-    let mut world = new_world(rt, alloc, SMALL);
-    for words in before {
-        let (_, mut reply) = alone(rt, alloc, &mut world, 0, words);
-        if matches!(reply, Reply::Refused(Fault::OutOfMemory(_))) {
-            (_, reply) = alone(rt, alloc, &mut world, 0, words);
-        }
-        assert!(rt; !matches!(reply, Reply::Refused(_)), "a call that is made");
-    }
-    parts_of(rt, world)
-}
-
 /// The parts of a world without calls.
 pub(super) fn parts_of(rt: &impl Abort, world: World) -> Parts {
     match world.into_parts() {
         Ok(parts) => parts,
         Err(_) => panic!(rt; "a world without a call"),
     }
+}
+
+/// An empty cell of a device.
+pub(super) fn cell_of(rt: &impl Abort, alloc: Global, device: Device) -> InodeCell {
+    let numbers = geometry_of(rt, device).numbers;
+    let page = numbers.page as usize;
+    assert!(rt; 2 <= page && page <= 63 && 0 < numbers.block);
+    InodeCell::new(alloc, numbers.block, page, Gen::new(1), 0)
 }
 
 /// The list of a CPU of a device, with all its blocks.

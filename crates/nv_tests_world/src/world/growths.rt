@@ -2,39 +2,17 @@
 //! a growth of the call's own, it is refused at a step that grows something, nothing has changed, and the same call
 //! made again has its answer. `tools/refused-growths` refuses each growth of each row in turn.
 
-use super::playing::{alone, new_world};
-use super::reports::Reports;
-use super::words::is_wanted;
-use crate::compare::same_for;
-use nv_base::Fault;
-use nv_core::{Reply, World};
+use super::playing::{alone, is_refused_memory, prepared, reports_of};
+use crate::compare::{same, same_for};
+use nv_core::World;
 use nv_scenes_calls::growths::{CLEANERS, Growth, NAMES, NODES, ROOMY, Row, SNAPSHOTS, VISITS};
 use nv_scenes_calls::words::Words;
+use nv_scenes_worlds::replies::is_wanted;
 use std::alloc::Global;
 use std::process::Abort;
 
-/// The actor that makes the calls before, and the one whose call may be refused: its blocks are the upper half.
-const EARLIER: u64 = 0;
-
+/// The actor whose call may be refused: its blocks are the upper half.
 const ACTOR: u64 = 1;
-
-/// Whether a call was refused memory.
-fn is_refused(reply: &Reply) -> bool {
-    matches!(reply, Reply::Refused(Fault::OutOfMemory(_)))
-}
-
-/// A new world in which these calls were made, once more where they were refused memory.
-pub(super) fn prepared(rt: &impl Abort, alloc: Global, before: &[Words]) -> World {
-    let mut world = new_world(rt, alloc, ROOMY);
-    for words in before {
-        let (_, reply) = alone(rt, alloc, &mut world, EARLIER, words);
-        if is_refused(&reply) {
-            let (_, reply) = alone(rt, alloc, &mut world, EARLIER, words);
-            assert!(rt; !is_refused(&reply), "memory for a call");
-        }
-    }
-    world
-}
 
 /// The step of a call that was refused memory, by how many steps it has made.
 fn step_of(growths: &'static [Growth], steps: u64) -> Option<&'static str> {
@@ -44,20 +22,21 @@ fn step_of(growths: &'static [Growth], steps: u64) -> Option<&'static str> {
 
 /// Wants a world to report what one reports that never began the call.
 fn is_untouched(rt: &impl Abort, alloc: Global, world: &World, before: &[Words]) {
-    let untouched = prepared(rt, alloc, before);
-    let reports = Reports::of(rt, alloc, world, ROOMY[4]);
-    reports.are_those(rt, &Reports::of(rt, alloc, &untouched, ROOMY[4]));
+    let untouched = prepared(rt, alloc, ROOMY, before);
+    let reports = reports_of(rt, alloc, world, ROOMY[4]);
+    let wanted = reports_of(rt, alloc, &untouched, ROOMY[4]);
+    same(rt, reports.differs_from(&wanted), None);
 }
 
 /// Makes the call of a row. Where it is refused memory, tells at which step.
 fn makes(rt: &impl Abort, alloc: Global, row: &Row) -> Option<&'static str> {
     let (name, before, words, want, growths) = row;
-    let mut world = prepared(rt, alloc, before);
+    let mut world = prepared(rt, alloc, ROOMY, before);
     let (steps, reply) = alone(rt, alloc, &mut world, ACTOR, words);
     if is_wanted(&reply, want) {
         return None;
     }
-    same_for(rt, name, is_refused(&reply), true);
+    same_for(rt, name, is_refused_memory(&reply), true);
     is_untouched(rt, alloc, &world, before);
     let (_, again) = alone(rt, alloc, &mut world, ACTOR, words);
     same_for(rt, name, is_wanted(&again, want), true);

@@ -1,14 +1,14 @@
 //! Trees that are handed to a sink node by node.
 
-use super::reports::{snap_tree_of, tree_of};
+use super::playing::reports_of;
 use super::{ONE, Played, ROOT, SMALL, Step, TWO, plays_anew};
 use crate::compare::same_for;
-use crate::trees::is_alike;
 use Step::Do;
 use Words::{Create, Mkdir, Snap, Unlink, Write};
 use nv_base::{Epoch, Fault, Name};
 use nv_core::{NodeCopy, Sink, SinkFault, TreeNode, World};
 use nv_scenes_calls::words::{Want, Words};
+use nv_scenes_worlds::trees::is_alike;
 use std::process::Abort;
 
 /// Wants the nodes of a tree, one after another. It takes so many, and fails at the next one.
@@ -104,12 +104,14 @@ fn hands_each_front(rt: &impl Abort, world: &World, snapshot: Option<u64>, nodes
 #[test]
 fn nodes_are_handed_on(rt: HostRuntime) {
     let world = plays_anew(&rt, rt.alloc(), SMALL, STEPS);
-    let now = tree_of(&rt, &world);
+    let reports = reports_of(&rt, rt.alloc(), &world, SMALL[4]);
+    let now = reports.tree.as_slice();
     same_for(&rt, &"now", now.len(), 3);
-    hands_each_front(&rt, &world, None, now.as_slice());
-    let then = snap_tree_of(&rt, &world, Epoch::new(1));
+    hands_each_front(&rt, &world, None, now);
+    assert!(rt; !reports.snap_trees.is_empty());
+    let then = reports.snap_trees[0].as_slice();
     same_for(&rt, &"then", then.len(), 4);
-    hands_each_front(&rt, &world, Some(1), then.as_slice());
-    let missing = hands(&rt, &world, Some(2), then.as_slice(), 0);
+    hands_each_front(&rt, &world, Some(1), then);
+    let missing = hands(&rt, &world, Some(2), then, 0);
     same_for(&rt, &"missing", missing, (Err(Fault::NoSnapshot), 0));
 }

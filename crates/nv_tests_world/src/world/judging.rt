@@ -1,7 +1,9 @@
 //! Parts of a world after changes, and what they are answered when they are to become one.
 
+use super::SMALL;
 use super::changes::{Change, with_change};
-use super::devices::{parts_after, parts_of};
+use super::devices::parts_of;
+use super::playing::prepared;
 use super::seen::Seen;
 use crate::compare::same_for;
 use nv_base::{Fault, MismatchPart};
@@ -44,7 +46,7 @@ fn judgement(rt: &impl Abort, alloc: Global, parts: Parts) -> (Option<Fault>, Pa
 /// The parts of a row.
 fn made(rt: &impl Abort, alloc: Global, row: &Row) -> Result<Parts, Fail> {
     let (before, changes, _) = row;
-    let mut parts = parts_after(rt, alloc, before);
+    let mut parts = parts_of(rt, prepared(rt, alloc, SMALL, before));
     for change in *changes {
         parts = with_change(rt, alloc, parts, change)?;
     }

@@ -4,12 +4,9 @@
 //! The runner may refuse memory once. Where that is a growth of `from_parts`, the fault is want of memory and the parts
 //! come back: they have what the world reported, and asked for again they become a world that reports the same.
 
-use super::growths::prepared;
-use super::playing::new_world;
-use super::reports::Reports;
-use super::words::is_wanted;
+use super::playing::{new_world, prepared, reports_of};
 use super::{ONE, ROOT, SMALL, Step, TWO, reply_to};
-use crate::compare::{holds_for, refused_memory, same_for};
+use crate::compare::{holds_for, refused_memory, same, same_for};
 use Step::{Do, Go, Run, Start};
 use Words::{
     Create, Drain, List, Lookup, Mkdir, Read, Rename, Rmdir, Show, Snap, Thorough, Unlink, Write,
@@ -18,6 +15,8 @@ use nv_base::Fault;
 use nv_core::{Parts, World};
 use nv_scenes_calls::growths::ROOMY;
 use nv_scenes_calls::words::{Want, Words};
+use nv_scenes_worlds::replies::is_wanted;
+use nv_scenes_worlds::reports::Reports;
 use std::alloc::Global;
 use std::process::Abort;
 
@@ -61,7 +60,7 @@ const STEPS: &[(Step, Want, bool)] = &[
 ];
 
 /// A world that has a call comes back.
-pub fn comes_back(rt: &impl Abort, row: usize, world: World) -> World {
+fn comes_back(rt: &impl Abort, row: usize, world: World) -> World {
     match world.into_parts() {
         Ok(_) => panic!(rt; "parts of a world with a call"),
         Err((fault, world)) => {
@@ -74,12 +73,12 @@ pub fn comes_back(rt: &impl Abort, row: usize, world: World) -> World {
 /// A world of these parts, which have what was reported. It is asked for once more where a growth is refused, with the
 /// parts that come back and have it still.
 fn world_of(rt: &impl Abort, alloc: Global, parts: Parts, reports: &Reports) -> World {
-    reports.are_of(rt, &parts);
+    same(rt, reports.differs_in(&parts), None);
     let parts = match World::from_parts(alloc, parts) {
         Ok(world) => return world,
         Err((fault, parts)) => {
             refused_memory(rt, fault);
-            reports.are_of(rt, &parts);
+            same(rt, reports.differs_in(&parts), None);
             parts
         }
     };
@@ -90,7 +89,7 @@ fn world_of(rt: &impl Abort, alloc: Global, parts: Parts, reports: &Reports) -> 
 }
 
 /// A world without a call comes apart, and its parts become one that reports what was reported.
-fn is_put_together(
+fn put_together(
     rt: &impl Abort,
     alloc: Global,
     world: World,
@@ -100,23 +99,12 @@ fn is_put_together(
     match world.into_parts() {
         Ok(parts) => {
             let world = world_of(rt, alloc, parts, reports);
-            Reports::of(rt, alloc, &world, slots).are_those(rt, reports);
+            let found = reports_of(rt, alloc, &world, slots);
+            same(rt, found.differs_from(reports), None);
             world
         }
         Err(_) => panic!(rt; "a world without a call"),
     }
-}
-
-/// A world without a call comes apart, and its parts become one that reports what its twin does.
-pub fn put_together(
-    rt: &impl Abort,
-    alloc: Global,
-    world: World,
-    twin: &World,
-    slots: u64,
-) -> World {
-    let reports = Reports::of(rt, alloc, twin, slots);
-    is_put_together(rt, alloc, world, &reports, slots)
 }
 
 /// Makes the step of a row, and wants its reply.
@@ -139,7 +127,8 @@ fn comes_apart_at_rest(rt: HostRuntime) {
         world = if *has_call {
             comes_back(&rt, row, world)
         } else {
-            put_together(&rt, alloc, world, &twin, SMALL[4])
+            let reports = reports_of(&rt, alloc, &twin, SMALL[4]);
+            put_together(&rt, alloc, world, &reports, SMALL[4])
         };
     }
 }
@@ -159,7 +148,7 @@ const AT_REST: &[Words] = &[
 #[test]
 fn comes_apart_with_one_refused_growth(rt: HostRuntime) {
     let alloc = rt.alloc();
-    let world = prepared(&rt, alloc, AT_REST);
-    let reports = Reports::of(&rt, alloc, &world, ROOMY[4]);
-    is_put_together(&rt, alloc, world, &reports, ROOMY[4]);
+    let world = prepared(&rt, alloc, ROOMY, AT_REST);
+    let reports = reports_of(&rt, alloc, &world, ROOMY[4]);
+    put_together(&rt, alloc, world, &reports, ROOMY[4]);
 }

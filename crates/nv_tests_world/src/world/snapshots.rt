@@ -1,12 +1,12 @@
 //! Calls on snapshots by events and replies, and what a world reports of its snapshots.
 
-use super::reports::{is_audited, snap_tree_of, snaps_of};
+use super::playing::reports_of;
 use super::{ONE, Played, ROOT, SMALL, Step, TWO, plays_anew};
 use crate::compare::same;
 use Step::{Do, Go, Run, Start};
 use Words::{Create, Drain, Read, Show, Snap, Unlink, Write};
 use nv_base::{CommitNo, Epoch, Fault};
-use nv_core::{SnapCounts, World};
+use nv_core::{SnapCounts, Snaps};
 use nv_scenes_calls::words::{Shown, Want, Words, are_shown};
 use std::process::Abort;
 
@@ -58,8 +58,7 @@ const STEPS: &[Played] = &[
 /// these a drop puts on the deferred list, and its pins.
 const LIVING: &[(u64, u64, u64, u32)] = &[(1, 1, 1, 0), (3, 0, 0, 1), (5, 0, 0, 0)];
 
-fn has_snapshots(rt: &impl Abort, world: &World) {
-    let snaps = snaps_of(rt, world);
+fn are_living(rt: &impl Abort, snaps: &Snaps) {
     same(rt, snaps.epoch, Epoch::new(6));
     same(rt, snaps.commit, CommitNo::new(6));
     same(rt, snaps.living.len(), LIVING.len());
@@ -77,10 +76,11 @@ fn has_snapshots(rt: &impl Abort, world: &World) {
 #[test]
 fn snapshots(rt: HostRuntime) {
     let world = plays_anew(&rt, rt.alloc(), SMALL, STEPS);
-    has_snapshots(&rt, &world);
-    is_audited(&rt, &world);
-    let first = snap_tree_of(&rt, &world, Epoch::new(1));
-    same(&rt, are_shown(first.as_slice(), FIRST), true);
+    let reports = reports_of(&rt, rt.alloc(), &world, SMALL[4]);
+    are_living(&rt, &reports.snaps);
+    assert!(rt; !reports.snap_trees.is_empty());
+    let first = reports.snap_trees[0].as_slice();
+    same(&rt, are_shown(first, FIRST), true);
     let dropped = world.snap_tree(Epoch::new(4));
     same(&rt, dropped.err(), Some(Fault::NoSnapshot));
 }

@@ -8,6 +8,7 @@ use Words::{
 use nv_base::Ino;
 use nv_scenes::below;
 use nv_scenes_calls::words::{At, Words};
+use std::alloc::Global;
 use std::test::Fail;
 
 pub(super) const ROOT: At = (0, 1);
@@ -228,9 +229,13 @@ pub(super) fn cleaned_by(words: &Words) -> Option<Ino> {
     }
 }
 
-/// A call of a row.
-pub(super) fn chosen(kind: u64, seed: &mut u64) -> Result<Words, Fail> {
-    let row = CALLS.get(kind as usize).ok_or("a row")?;
-    let one = below(seed, EACH) as usize;
-    Ok(*row.get(one).ok_or("a call")?)
+/// A call of each of these rows.
+pub(super) fn chosen(alloc: Global, kinds: &[u64], seed: &mut u64) -> Result<Vec<Words>, Fail> {
+    let mut calls = Vec::new(alloc);
+    for kind in kinds {
+        let row = CALLS.get(*kind as usize).ok_or("a row")?;
+        let one = below(seed, EACH) as usize;
+        calls.push(*row.get(one).ok_or("a call")?)?;
+    }
+    Ok(calls)
 }

@@ -1,11 +1,13 @@
 //! A world with a few files, and the calls of its actors.
 
 use super::says::PREPARED;
-use crate::compare::last_reply;
-use crate::world::parts;
+use crate::compare::{same, same_for};
+use nv_base::Fault;
 use nv_core::{Event, Reply, World};
 use nv_scenes::{Row, geometry};
 use nv_scenes_calls::words::{Words, call};
+use nv_scenes_worlds::replies::last_reply;
+use nv_scenes_worlds::reports::Reports;
 use std::alloc::Global;
 use std::process::Abort;
 use std::test::Fail;
@@ -59,17 +61,35 @@ impl Scene {
             reply => Some(reply),
         }
     }
+
+    /// What the world reports.
+    fn reports(&self) -> Result<Reports, Fault> {
+        Reports::of(self.alloc, &self.world, self.row[4])
+    }
+
     /// The world comes apart, and its parts become one that reports what that of a twin does.
-    pub fn put_together(self, rt: &impl Abort, twin: &Scene) -> Scene {
+    pub fn put_together(self, rt: &impl Abort, twin: &Scene) -> Result<Scene, Fail> {
         let Scene { alloc, row, world } = self;
-        let world = parts::put_together(rt, alloc, world, &twin.world, row[4]);
-        Scene { alloc, row, world }
+        let reports = twin.reports()?;
+        let Ok(parts) = world.into_parts() else {
+            panic!(rt; "a world without a call");
+        };
+        same(rt, reports.differs_in(&parts), None);
+        let Ok(world) = World::from_parts(alloc, parts) else {
+            panic!(rt; "parts of a world");
+        };
+        let scene = Scene { alloc, row, world };
+        same(rt, scene.reports()?.differs_from(&reports), None);
+        Ok(scene)
     }
 
     /// The world has a call, and does not come apart.
     pub fn comes_back(self, rt: &impl Abort, event: usize) -> Scene {
         let Scene { alloc, row, world } = self;
-        let world = parts::comes_back(rt, event, world);
+        let Err((fault, world)) = world.into_parts() else {
+            panic!(rt; "parts of a world with a call");
+        };
+        same_for(rt, &event, fault, Fault::ActorBusy);
         Scene { alloc, row, world }
     }
 }

@@ -7,7 +7,7 @@
 use super::says::{ALL_KINDS, chosen};
 use super::scene::Scene;
 use super::snapshots::{ROW, SNAPPED};
-use crate::compare::same_shown;
+use crate::compare::same_for;
 use nv_base::Fault;
 use nv_core::{Event, Reply};
 use nv_scenes::below;
@@ -88,7 +88,7 @@ impl Pair {
         same_shown(rt, twin.alloc, events, &reply, &twin.step(again))?;
         let going = going_after(going, &reply);
         let apart = if going == 0 {
-            apart.put_together(rt, &twin)
+            apart.put_together(rt, &twin)?
         } else {
             apart.comes_back(rt, events)
         };
@@ -99,6 +99,19 @@ impl Pair {
             events: events.saturating_add(1),
         })
     }
+}
+
+/// Asserts that both reply the same to an event, by what they show.
+fn same_shown(
+    rt: &impl Abort,
+    alloc: Global,
+    event: usize,
+    reply: &Reply,
+    other: &Reply,
+) -> Result<(), Fail> {
+    let shown = format!(in alloc; "{reply:?}")?;
+    same_for(rt, &event, shown, format!(in alloc; "{other:?}")?);
+    Ok(())
 }
 
 /// How many actors have a call after a reply.
@@ -116,11 +129,7 @@ fn makes_each(rt: &impl Abort, alloc: Global, seed: &mut u64) -> Result<(), Fail
     for one in 0..ALL_KINDS {
         let other = below(seed, ALL_KINDS);
         let third = below(seed, ALL_KINDS);
-        let calls = [
-            chosen(one, seed)?,
-            chosen(other, seed)?,
-            chosen(third, seed)?,
-        ];
+        let calls = chosen(alloc, &[one, other, third], seed)?;
         pair = pair.makes_all(rt, &calls, seed)?;
     }
     Ok(())

@@ -11,12 +11,12 @@ use super::lost::{NOTHING, Sizes, is_told, lost_more, sizes_of};
 use super::says::{A, ALL_KINDS, B, C, CLEANERS, KINDS, ROOT, chosen, cleaned_by};
 use super::scene::{BLOCK, Scene};
 use crate::compare::{push, same};
-use crate::trees::are_alike;
 use Words::{Create, Drain, Mode, Show, Snap, Unlink, Write};
 use nv_base::{Epoch, Fault, Ino};
 use nv_core::{Answer, Reply, Tree, World};
 use nv_scenes::{Row, below};
 use nv_scenes_calls::words::Words;
+use nv_scenes_worlds::trees::are_alike;
 use std::alloc::Global;
 use std::process::Abort;
 use std::test::Fail;
@@ -260,10 +260,7 @@ fn is_kept(rt: &impl Abort, world: &World, number: u64, noted: &Option<Tree>) {
 
 /// A call of each of these kinds, all at once: how many entries cleaners took.
 fn mix(rt: &impl Abort, alloc: Global, kinds: &[u64], seed: &mut u64) -> Result<u64, Fail> {
-    let mut calls = Vec::new(alloc);
-    for kind in kinds {
-        calls.push(chosen(*kind, seed)?)?;
-    }
+    let calls = chosen(alloc, kinds, seed)?;
     let mut snapped = Snapped::prepared(rt, alloc)?;
     snapped.make_all(rt, &calls, seed)?;
     snapped.release_all(rt)?;

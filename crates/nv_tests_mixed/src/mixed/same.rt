@@ -4,10 +4,10 @@
 
 use super::says::MADE;
 use crate::compare::push;
-use crate::trees::have_same_path;
 use nv_base::Handle;
 use nv_core::{Answer, Reply, TreeNode};
 use nv_entry::BoundName;
+use nv_scenes_worlds::trees::have_same_path;
 use std::process::Abort;
 
 /// Handles of one world, each with that of another world in its place.

@@ -1,7 +1,7 @@
 //! Plain scans over what a world reports of its blocks.
 
 use super::scene::{BLOCK, Scene};
-use crate::compare::{are_zeros, same};
+use crate::compare::same;
 use nv_alloc::FreeRun;
 use nv_base::{Geometry, Ino};
 use nv_core::{LogCounts, TreeNode};
@@ -110,4 +110,14 @@ fn pages_of(node: &TreeNode) -> u64 {
         }
     }
     pages
+}
+
+/// Whether all bytes are 0.
+fn are_zeros(bytes: &[u8]) -> bool {
+    for byte in bytes {
+        if *byte != 0 {
+            return false;
+        }
+    }
+    true
 }

@@ -159,13 +159,11 @@ impl Mixed {
         if self.comes_of(rt, self.ended.as_slice())? {
             return Ok(true);
         }
-        if self.calls.len() == 2 {
-            return self.comes_of_any(rt, OF_TWO);
-        }
-        self.comes_of_any(rt, OF_THREE)
-    }
-
-    fn comes_of_any(&self, rt: &impl Abort, orders: &[&[usize]]) -> Result<bool, Fail> {
+        let orders = if self.calls.len() == 2 {
+            OF_TWO
+        } else {
+            OF_THREE
+        };
         for order in orders {
             if self.comes_of(rt, order)? {
                 return Ok(true);
@@ -175,54 +173,28 @@ impl Mixed {
     }
 }
 
-/// These calls, all at once.
+/// A call of each of these kinds, all at once.
 fn mix(
     rt: &impl Abort,
     alloc: Global,
     row: Row,
-    calls: &[Words],
+    kinds: &[u64],
     seed: &mut u64,
 ) -> Result<(), Fail> {
+    let calls = chosen(alloc, kinds, seed)?;
     let scene = Scene::prepared(rt, alloc, row)?;
-    let mut mixed = Mixed::started(rt, scene, Vec::from_slice(alloc, calls)?)?;
+    let mut mixed = Mixed::started(rt, scene, calls)?;
     mixed.finish(rt, seed)?;
     let is_serial = mixed.is_serial(rt)?;
     same_for(rt, &mixed.calls, is_serial, true);
     Ok(())
 }
 
-/// A call of each of these two kinds, and of these three.
-fn mix_two(
-    rt: &impl Abort,
-    alloc: Global,
-    row: Row,
-    (one, other): (u64, u64),
-    seed: &mut u64,
-) -> Result<(), Fail> {
-    let calls = [chosen(one, seed)?, chosen(other, seed)?];
-    mix(rt, alloc, row, &calls, seed)
-}
-
-fn mix_three(
-    rt: &impl Abort,
-    alloc: Global,
-    row: Row,
-    (one, other, third): (u64, u64, u64),
-    seed: &mut u64,
-) -> Result<(), Fail> {
-    let calls = [
-        chosen(one, seed)?,
-        chosen(other, seed)?,
-        chosen(third, seed)?,
-    ];
-    mix(rt, alloc, row, &calls, seed)
-}
-
 /// Each two kinds.
 fn mix_each_two(rt: &impl Abort, alloc: Global, row: Row, seed: &mut u64) -> Result<(), Fail> {
     for one in 0..KINDS {
         for other in 0..KINDS {
-            mix_two(rt, alloc, row, (one, other), seed)?;
+            mix(rt, alloc, row, &[one, other], seed)?;
         }
     }
     Ok(())
@@ -243,7 +215,7 @@ fn mix_each_three(
                 } else {
                     TIGHT
                 };
-                mix_three(rt, alloc, row, (one, other, third), &mut seed)?;
+                mix(rt, alloc, row, &[one, other, third], &mut seed)?;
             }
         }
     }
