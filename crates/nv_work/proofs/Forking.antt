@@ -15,8 +15,11 @@ use Rattle.nv_script.specs.declared.feed.LineResult.TheVariants as taken
 use Rattle.nv_script.specs.Lines.{IsLine, LineResultIs, WritesFront, WritesSome, ended}
 use Rattle.nv_script.specs.Play.{EndsBy, PlaysAll, machine_player, most_lines}
 use Rattle.nv_script.specs.Results.{AtLine, HoldsNone, Sent, TakesLine, ending_of, is_line}
-use Rattle.nv_work.specs.Work.{Fork, ForkedFails, Forks, FrontFails, IsForked, WorksBy, fork_fault, forked_of, is_fork, lines_in}
-use Rattle.nv_work.specs.Working.{AllTaken, AtFork, FrontFaultIs, FrontLineIs, ReadsForkedLine}
+use Rattle.nv_work.specs.Taken.{AllTaken, lists_of}
+use Rattle.nv_work.specs.Threads.{calls_in, forked_of, shares_of}
+use Rattle.nv_work.specs.declared.forked.ForkedLines.{ForkedLines}
+use Rattle.nv_work.specs.Work.{EndsBefore, Fork, ForkedFails, Forks, FrontFails, IsForked, fork_fault, is_fork, lines_in}
+use Rattle.nv_work.specs.Working.{AtFork, FrontFaultIs, FrontLineIs, ReadsForkedLine}
 use Rattle.nv_script.specs.Grammar.{is_skipped}
 use Rattle.nv_script.specs.Words.{words_of}
 use Rattle.nv_base.specs.Memory.{out_of_memory}
@@ -30,7 +33,7 @@ module _ (input known old new : Option (List ℕ)) (gathered : List ℕ) (number
   -- no line was left, and none was `fork`
   pub no_fork : (left : Option (List ℕ)) (ahead line : List ℕ) (last : ℕ) → last + 1 ≡ number
       → LineResultIs taken.End known (prepend_known ahead left) line
-      → WorksBy (fault.ScriptFault kind.Order last) input left (λ text. WritesFront old new text gathered)
+      → EndsBefore (fault.ScriptFault kind.Order last) input left (λ text. WritesFront old new text gathered)
   no_fork left ahead line last count end = inr (inl (
     at.lines,
     [],
@@ -47,10 +50,10 @@ module _ (input known old new : Option (List ℕ)) (gathered : List ℕ) (number
 
   -- no line was taken
   no_front_line : (t : LineResult) (why : Fault) (after left : Option (List ℕ)) (line : List ℕ) → is_line number t ≡ Err why → IsLine line
-      → LineResultIs t known after line → WorksBy why input left (λ text. WritesFront old new text gathered)
+      → LineResultIs t known after line → EndsBefore why input left (λ text. WritesFront old new text gathered)
   no_front_line t why after left line is lawful took =
       let none = no_line (FrontFails (is_some world)) input known at.lines number at.taken t why after line is lawful took in
-      subst (λ (f : Fault). WorksBy f input left (λ text. WritesFront old new text gathered)) (sym none.why_is) (inl (
+      subst (λ (f : Fault). EndsBefore f input left (λ text. WritesFront old new text gathered)) (sym none.why_is) (inl (
         at.lines,
         none.rest,
         at.text,
@@ -65,7 +68,7 @@ module _ (input known old new : Option (List ℕ)) (gathered : List ℕ) (number
     -- a line that is not played to its end, and is not `fork`
     pub front_not_played : (left : Option (List ℕ)) (why : LineFault) (to : Sent)
         → FrontFaultIs why (record { written = new; gathered = gathered }) to world line
-        → WorksBy (ending_of number why) input left (λ text. WritesFront old to.written text to.gathered)
+        → EndsBefore (ending_of number why) input left (λ text. WritesFront old to.written text to.gathered)
         × HoldsNone {A = ℕ} (Err (ending_of number why)) to.gathered
     front_not_played left (line_fault.OutOfMemory witness) to why = (
       inl (not_played input known old new gathered number world few at after line lawful here left (line_fault.OutOfMemory witness) to
@@ -73,12 +76,12 @@ module _ (input known old new : Option (List ℕ)) (gathered : List ℕ) (number
       tt,
     )
     front_not_played left line_fault.Write to why = (
-      inl (not_played input known old new gathered number world few at after line lawful here left line_fault.Write to last why),
+      not_played input known old new gathered number world few at after line lawful here left line_fault.Write to last why,
       why.3.1,
     )
     front_not_played left (line_fault.Faulty reason) to why =
         let p = played input known old new gathered number world few at after (line ++ 10 ∷ []) here in (
-          subst (λ (s : Sent). WorksBy (fault.ScriptFault reason number) input left (λ text. WritesFront old s.written text s.gathered))
+          subst (λ (s : Sent). EndsBefore (fault.ScriptFault reason number) input left (λ text. WritesFront old s.written text s.gathered))
               (sym why.1) (inl (
                 at.lines,
                 (line ++ 10 ∷ []) ++ p.0,
@@ -96,7 +99,7 @@ module _ (input known old new : Option (List ℕ)) (gathered : List ℕ) (number
 
     -- the line is `fork`
     pub at_fork : (w : World) → world ≡ Some w → is_fork line ≡ true → fork_fault true line ≡ None
-        → (f : Fork) × AtFork input after old new gathered (number + 1) f × (f.world ≡ w)
+        → (f : Fork) × AtFork input after old new gathered (number + 1) f × (f.world ≡ w) × (f.behind ≡ [])
     at_fork w some is right = (
       record { front = at.lines; text = at.text; world = w; line = line; behind = [] },
       record {
@@ -114,6 +117,7 @@ module _ (input known old new : Option (List ℕ)) (gathered : List ℕ) (number
         written = at.written;
       },
       refl,
+      refl,
     )
 
 -- a world is made where a line is `fork` without a fault
@@ -128,13 +132,14 @@ pub to_fork : (input known old : Option (List ℕ)) (from to : Sent) (number : �
     → AtLine input known old from.written from.gathered number m → (after : Option (List ℕ)) (line : List ℕ) → IsLine line
     → LineResultIs taken.Line known after line → number ≤ most_lines → (world world' : Option WorldState) → ShowsAny world m
     → FrontLineIs (Ok true) from to world line world'
-    → (f : Fork) × AtFork input after old to.written to.gathered (number + 1) f × ShowsAny world' (Some f.world)
+    → (f : Fork) × AtFork input after old to.written to.gathered (number + 1) f × (f.behind ≡ []) × ShowsAny world' (Some f.world)
 to_fork input known old from to number m few at after line lawful here last world world' shown is =
     let made = fork_world world m line shown is.1 in
     let f = at_fork input known old from.written from.gathered number m few at after line lawful here last made.0 made.1 is.0 made.2 in
     let there : m ≡ Some f.0.world = made.1 ∙ ap Some (sym f.2) in (
       f.0,
       subst (λ (s : Sent). AtFork input after old s.written s.gathered (number + 1) f.0) (sym is.2) f.1,
+      f.3,
       subst (λ (n : Option World). ShowsAny world' n) there (subst (λ (v : Option WorldState). ShowsAny v m) (sym is.3) shown),
     )
 
@@ -142,13 +147,13 @@ to_fork input known old from to number m few at after line lawful here last worl
 pub front_not_taken : (input known old new : Option (List ℕ)) (gathered : List ℕ) (number : ℕ) (world : Option World)
     (few : number ≤ 1048577) (at : AtLine input known old new gathered number world) (why : Fault) (left : Option (List ℕ))
     (ahead line : List ℕ) (to : Sent) → TakesLine (Err why) number known left ahead line (record { written = new; gathered = gathered }) to
-    → WorksBy why input left (λ text. WritesFront old to.written text to.gathered) × HoldsNone {A = ℕ} (Err why) to.gathered
+    → EndsBefore why input left (λ text. WritesFront old to.written text to.gathered) × HoldsNone {A = ℕ} (Err why) to.gathered
 front_not_taken input known old new gathered number world few at fault.Read left ahead line to t =
     let now = written_on input known old new gathered number world few at to.written to.gathered t.0 in
     (inl (reads_fail input known old to.written to.gathered number world few now left ahead line t.4 t.3 t.2), t.1)
 front_not_taken input known old new gathered number world few at fault.Write left ahead line to t =
     let part = written_some input known old new gathered number world few at left to.written t.0 in
-    (inl (none_gathered input left old to.written to.gathered t.1 part), t.1)
+    (none_gathered input left old to.written to.gathered t.1 part, t.1)
 front_not_taken input known old new gathered number world few at (fault.ScriptFault why n) left ahead line to t =
     let now = written_on input known old new gathered number world few at to.written to.gathered t.0 in (
       no_front_line input known old to.written to.gathered number world few now t.1 (fault.ScriptFault why n) (prepend_known ahead left)
@@ -198,17 +203,17 @@ module _ (input known old new : Option (List ℕ)) (gathered : List ℕ) (number
       (broken_fork input left old new' f ([] ++ p.0) p.1 (writes_some old new new' f.text gathered at.written some))
 
   fork_reads_fail : (left : Option (List ℕ)) (ahead piece : List ℕ) → Consumes known (prepend_known ahead left) piece → IsLine piece
-      → ahead ≡ [] → WorksBy fault.Read input left (λ text. WritesFront old new text gathered)
+      → ahead ≡ [] → EndsBefore fault.Read input left (λ text. WritesFront old new text gathered)
   fork_reads_fail left ahead piece more lawful none =
       let p = forks_on (prepend_known ahead left) piece more in
       let gone = Consumes-trans input known (prepend_known ahead left) (ended (lines_in f)) piece at.taken more in
       inr (f, piece ++ p.0, p.1, (piece, lawful, all_left input left ahead (ended (lines_in f) ++ piece) none gone), at.written)
 
   no_forked_line : (t : LineResult) (why : Fault) (after left : Option (List ℕ)) (line : List ℕ) → is_line number t ≡ Err why → IsLine line
-      → LineResultIs t known after line → WorksBy why input left (λ text. WritesFront old new text gathered)
+      → LineResultIs t known after line → EndsBefore why input left (λ text. WritesFront old new text gathered)
   no_forked_line t why after left line is lawful took =
       let none = no_line ForkedFails input known (lines_in f) number at.taken t why after line is lawful took in
-      subst (λ (g : Fault). WorksBy g input left (λ text. WritesFront old new text gathered)) (sym none.why_is) (inr (inr (
+      subst (λ (g : Fault). EndsBefore g input left (λ text. WritesFront old new text gathered)) (sym none.why_is) (inr (inr (
         f,
         none.rest,
         record { is = at.is; split = none.split; few = at.few },
@@ -218,17 +223,18 @@ module _ (input known old new : Option (List ℕ)) (gathered : List ℕ) (number
 
   -- there is no memory for what is read
   pub fork_starved : (why : Fault) (left : Option (List ℕ)) → why ≡ out_of_memory
-      → WorksBy why input left (λ text. WritesFront old new text gathered) × HoldsNone {A = ℕ} (Err why) gathered
+      → EndsBefore why input left (λ text. WritesFront old new text gathered) × HoldsNone {A = ℕ} (Err why) gathered
   fork_starved why left same =
       let p = forks_on known [] (Consumes-nil known) in
-      subst (λ (g : Fault). WorksBy g input left (λ text. WritesFront old new text gathered) × HoldsNone {A = ℕ} (Err g) gathered)
-      (sym same) (inr (inl (f, p.0, p.1, tt, at.written)), tt)
+      subst (λ (g : Fault). EndsBefore g input left (λ text. WritesFront old new text gathered) × HoldsNone {A = ℕ} (Err g) gathered)
+      (sym same) (inr (f, p.0, p.1, tt, at.written), tt)
 
   -- no line is left
-  pub fork_ends : (left : Option (List ℕ)) (ahead line : List ℕ) (world : Option WorldState)
+  pub fork_ends : (left : Option (List ℕ)) (ahead line : List ℕ) (world : Option WorldState) (threads : ℕ) (lines : ForkedLines)
       → LineResultIs taken.End known (prepend_known ahead left) line → ShowsAny world (Some f.world)
-      → AllTaken input left old new gathered world
-  fork_ends left ahead line world end shown = (
+      → lists_of lines ≡ shares_of threads (calls_in f.behind)
+      → AllTaken threads lines input left old new gathered world
+  fork_ends left ahead line world threads lines end shown shares = (
     f,
     record {
       is = at.is;
@@ -238,16 +244,17 @@ module _ (input known old new : Option (List ℕ)) (gathered : List ℕ) (number
     none_left left ahead end.1,
     at.written,
     shown,
+    shares,
   )
 
   module _ (after : Option (List ℕ)) (line : List ℕ) (lawful : IsLine line) (here : LineResultIs taken.Line known after line)
       (last : number ≤ most_lines) where
     -- a line that cannot be read
     pub fork_faulty : (left : Option (List ℕ)) (why : LineFault) → ReadsForkedLine (Err why) line
-        → WorksBy (ending_of number why) input left (λ text. WritesFront old new text gathered)
+        → EndsBefore (ending_of number why) input left (λ text. WritesFront old new text gathered)
         × HoldsNone {A = ℕ} (Err (ending_of number why)) gathered
     fork_faulty left (line_fault.OutOfMemory witness) is =
-        let p = forks_on after (line ++ 10 ∷ []) here in (inr (inl (f, (line ++ 10 ∷ []) ++ p.0, p.1, tt, at.written)), tt)
+        let p = forks_on after (line ++ 10 ∷ []) here in (inr (f, (line ++ 10 ∷ []) ++ p.0, p.1, tt, at.written), tt)
     fork_faulty left line_fault.Write is = absurd is
     fork_faulty left (line_fault.Faulty reason) is =
         let p = forks_on after (line ++ 10 ∷ []) here in (
@@ -263,7 +270,7 @@ module _ (input known old new : Option (List ℕ)) (gathered : List ℕ) (number
 
     -- one more line was read
     pub fork_next : ((is_skipped line ≡ true) ⊎ IsOk (forked_of (words_of line)))
-        → (g : Fork) × AtFork input after old new gathered (number + 1) g × (g.world ≡ f.world)
+        → (g : Fork) × AtFork input after old new gathered (number + 1) g × (g.world ≡ f.world) × (g.behind ≡ f.behind ++ line ∷ [])
     fork_next is =
         let all = lines_in f in
         let longer : f.front ++ f.line ∷ (f.behind ++ line ∷ []) ≡ all ++ line ∷ [] =
@@ -284,18 +291,19 @@ module _ (input known old new : Option (List ℕ)) (gathered : List ℕ) (number
             written = at.written;
           },
           refl,
+          refl,
         )
 
 -- no line was taken, behind `fork`
 pub fork_not_taken : (input known old new : Option (List ℕ)) (gathered : List ℕ) (number : ℕ) (f : Fork)
     (at : AtFork input known old new gathered number f) (why : Fault) (left : Option (List ℕ))
     (ahead line : List ℕ) (to : Sent) → TakesLine (Err why) number known left ahead line (record { written = new; gathered = gathered }) to
-    → WorksBy why input left (λ text. WritesFront old to.written text to.gathered) × HoldsNone {A = ℕ} (Err why) to.gathered
+    → EndsBefore why input left (λ text. WritesFront old to.written text to.gathered) × HoldsNone {A = ℕ} (Err why) to.gathered
 fork_not_taken input known old new gathered number f at fault.Read left ahead line to t =
     let now = fork_written input known old new to.written gathered to.gathered number f at t.0 in
     (fork_reads_fail input known old to.written to.gathered number f now left ahead line t.4 t.3 t.2, t.1)
 fork_not_taken input known old new gathered number f at fault.Write left ahead line to t =
-    (inl (fork_broken input known old new gathered number f at left to.written to.gathered t.0 t.1), t.1)
+    (fork_broken input known old new gathered number f at left to.written to.gathered t.0 t.1, t.1)
 fork_not_taken input known old new gathered number f at (fault.ScriptFault why n) left ahead line to t =
     let now = fork_written input known old new to.written gathered to.gathered number f at t.0 in (
       no_forked_line input known old to.written to.gathered number f now t.1 (fault.ScriptFault why n) (prepend_known ahead left) left

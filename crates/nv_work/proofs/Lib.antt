@@ -1,3 +1,5 @@
+pub mod Crews
 pub mod Forking
 pub mod Reported
+pub mod Seats
 pub mod Told

@@ -82,9 +82,9 @@ reported m line from to new skipped has n text plays shown sends =
 
 -- a report was not sent whole
 pub report_fault : (why : LineFault) (number : ℕ) (from to : Sent) (m : machine.World) (line : List ℕ)
-    → IsOk (command_of (words_of line)) → LineFaultIs why from to (Some m) line → Adds (Err (ending_of number why)) from to
-report_fault (line_fault.OutOfMemory witness) number from to m line right is = (is.0, is.2)
-report_fault line_fault.Write number from to m line right is = (is.0, is.3)
+    → IsOk (command_of (words_of line)) → LineFaultIs why from to (Some m) line → Adds (Err (ending_of number why)) from to []
+report_fault (line_fault.OutOfMemory witness) number from to m line right is = (is.0, ([], is.0, append-nil is.0), is.2)
+report_fault line_fault.Write number from to m line right is = (is.0, ([], is.0, append-nil is.0), is.3)
 report_fault (line_fault.Faulty reason) number from to m line right is =
     absurd (none (command_of (words_of line)) reason is.0.1 right) where
       none : (read : Parsed Command) (reason : ScriptFaultKind) → read ≡ Err reason → IsOk read → ⊥

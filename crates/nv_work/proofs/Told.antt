@@ -1,18 +1,24 @@
 -- How a script ends whose calls threads made, and what was written of its text.
-use Rattle.std.proofs.Common.{◌≡◌, ℕ, ◌⊎◌, inl, inr, List, [], ◌++◌, length, None, Option, Some, Result, Ok, Err, refl, sym, ap, subst, ◌∙◌, append_assoc, append-nil, arith}
+use Rattle.std.proofs.Common.{◌≡◌, ℕ, ◌+◌, ◌<◌, ◌⊎◌, inl, inr, List, [], ◌∷◌, ◌++◌, drop, get_or, length, map, take, None, Option, Some, Result, Ok, Err, refl, sym, ap, subst, ◌∙◌, append_assoc, append-nil, arith}
 use Rattle.std.proofs.KnownBytes.{Appends-nil}
 use Rattle.std.proofs.lemmas.Bool.{cases_lt}
+use Rattle.std.proofs.lemmas.List.{map-append, take-append-drop, take_more}
+use Rattle.std.proofs.lemmas.List.Folds.{concat-append}
 use Rattle.std.specs.Io.KnownBytes.{Appends, IsAtEnd}
+use Rattle.std.specs.List.{concat}
 use Rattle.std.specs.Prelude.{codes}
 use Rattle.nv_base.specs.declared.fault.Fault.{Fault}
 use Rattle.nv_base.specs.declared.fault.Fault.TheVariants as fault
-use Rattle.nv_machine.specs.World.{World}
-use Rattle.nv_core.specs.Worlds.{Shows, ShowsAny, WorldState}
+use Rattle.nv_machine.specs.World.{Shared, World}
+use Rattle.nv_core.specs.Worlds.{HasRun, Shows, ShowsAny, WorldState}
 use Rattle.nv_script.specs.Lines.{IsLine, WritesFront, WritesSome}
 use Rattle.nv_script.specs.Play.{EndsAfter, Plays, machine_player}
-use Rattle.nv_script.specs.Results.{EndsText, HoldsNone, Sends, Sent}
-use Rattle.nv_work.specs.Work.{EndsForked, EndsReported, EndsThreads, Fork, Forks, Works, WorksBy}
-use Rattle.nv_work.specs.Working.{Adds, RefusesThreads, ReportIs, TellsAll}
+use Rattle.nv_script.specs.Results.{EndsText, Fails, HoldsNone, Sends, Sent}
+use Rattle.nv_base.specs.declared.geometry.GeometryNumbers.{GeometryNumbers}
+use Rattle.nv_work.specs.declared.forked.ForkedCall.{ForkedCall}
+use Rattle.nv_work.specs.Threads.{AreThreadTexts, calls_in, shares_of}
+use Rattle.nv_work.specs.Work.{AreAnswersTo, BeginAlike, EndsAmong, EndsBefore, EndsForked, EndsReported, EndsThreads, FollowsFork, Fork, Forks, Works, WorksBy}
+use Rattle.nv_work.specs.Working.{Adds, ClosesAfter, RefusesThreads, ReportIs, TellsAll}
 use Rattle.nv_script.proofs.Breaks.{longer, shorter}
 use Rattle.nv_script.proofs.Endings.{broken_off, broken_played, ends_on}
 use Rattle.nv_work.proofs.Forking.{broken_fork}
@@ -28,103 +34,139 @@ module _ (input : Option (List ℕ)) (Old New : List ℕ → Type 0) (turn : (te
   forked_on : (Also : Fork → List ℕ → Type 0) → EndsForked input Old Also → EndsForked input New Also
   forked_on Also e = (e.0, e.1, e.2, e.3, turn e.0.text e.4)
 
-  threads_on : EndsThreads input Old → EndsThreads input New
-  threads_on e = (e.0, e.1, e.2, turn (e.0.text ++ e.1) e.3)
+  before_on : (why : Fault) (left : Option (List ℕ)) → EndsBefore why input left Old → EndsBefore why input left New
+  before_on (fault.ScriptFault why number) left (inl e) = inl (after_on _ e)
+  before_on (fault.ScriptFault why number) left (inr (inl e)) = inr (inl (after_on _ e))
+  before_on (fault.ScriptFault why number) left (inr (inr e)) = inr (inr (forked_on _ e))
+  before_on fault.Read left (inl e) = inl (after_on _ e)
+  before_on fault.Read left (inr e) = inr (forked_on _ e)
+  before_on fault.ActorBusy left e = forked_on _ e
+  before_on (fault.Mismatch part) left e = forked_on _ e
+  before_on fault.Write left e = ends_on (Err fault.Write) input left Old New turn e
+  before_on (fault.OutOfMemory witness) left (inl e) = inl (ends_on (Err (fault.OutOfMemory witness)) input left Old New turn e)
+  before_on (fault.OutOfMemory witness) left (inr e) = inr (forked_on _ e)
+  before_on _ left e = absurd e
 
-  reported_on : EndsReported input Old → EndsReported input New
-  reported_on e = (e.0, e.1, e.2, e.3, e.4, e.5, turn (e.0.text ++ (e.1 ++ e.2)) e.6)
+  module _ (threads : ℕ) where
+    threads_on : EndsThreads threads input Old → EndsThreads threads input New
+    threads_on e = (e.0, e.1, e.2, e.3, e.4, e.5, turn (e.0.text ++ e.1) e.6)
 
-  works_on : (r : Result (Unit {0}) Fault) (left : Option (List ℕ)) → Works r input left Old → Works r input left New
-  works_on (Ok done) left e = (reported_on e.0, e.1)
-  works_on (Err (fault.ScriptFault why number)) left (inl e) = inl (after_on _ e)
-  works_on (Err (fault.ScriptFault why number)) left (inr (inl e)) = inr (inl (after_on _ e))
-  works_on (Err (fault.ScriptFault why number)) left (inr (inr e)) = inr (inr (forked_on _ e))
-  works_on (Err fault.Read) left (inl e) = inl (after_on _ e)
-  works_on (Err fault.Read) left (inr e) = inr (forked_on _ e)
-  works_on (Err fault.ActorBusy) left e = forked_on _ e
-  works_on (Err fault.SeatsOut) left e = forked_on _ e
-  works_on (Err (fault.Mismatch part)) left e = forked_on _ e
-  works_on (Err fault.Write) left (inl e) = inl (ends_on (Err fault.Write) input left Old New turn e)
-  works_on (Err fault.Write) left (inr e) = inr (threads_on e)
-  works_on (Err (fault.OutOfMemory witness)) left (inl e) = inl (ends_on (Err (fault.OutOfMemory witness)) input left Old New turn e)
-  works_on (Err (fault.OutOfMemory witness)) left (inr (inl e)) = inr (inl (forked_on _ e))
-  works_on (Err (fault.OutOfMemory witness)) left (inr (inr e)) = inr (inr (threads_on e))
-  works_on (Err _) left e = absurd e
+    reported_on : EndsReported threads input Old → EndsReported threads input New
+    reported_on e = (e.0, e.1, e.2, e.3, e.4, e.5, e.6, e.7, turn (e.0.text ++ (concat e.1 ++ e.2)) e.8)
+
+    among_on : (why : Fault) → EndsAmong threads why input Old → EndsAmong threads why input New
+    among_on fault.Write e = threads_on e
+    among_on (fault.OutOfMemory witness) e = threads_on e
+    among_on _ e = absurd e
+
+    works_on : (r : Result (Unit {0}) Fault) (left : Option (List ℕ)) → Works threads r input left Old → Works threads r input left New
+    works_on (Ok done) left e = (reported_on e.0, e.1)
+    works_on (Err why) left (inl e) = inl (before_on why left e)
+    works_on (Err why) left (inr e) = inr (among_on why e)
 
 -- ---- a write that failed
 
--- some of the text of the lines before `fork` was written, or all of it and some more
-told_in_part : (input left old new : Option (List ℕ)) (f : Fork) (told : List ℕ) → Forks input f [] → WritesSome old new (f.text ++ told)
-    → WorksBy fault.Write input left (λ text. Appends old new text)
-told_in_part input left old new f told forks some =
-    let cut = some.1 in
-    elim (cases_lt (length some.0) (length f.text)) [
-      | inl less ↦ inl (broken_fork input left old new f [] forks (some.0, shorter f.text told some.0 cut.0 cut.1 less, some.2))
-      | inr most ↦
-          let more = longer f.text told some.0 cut.0 cut.1 most in
-          inr (f, more.0, forks, subst (λ (text : List ℕ). Appends old new text) more.1 some.2)
-    ]
+-- what was told begins as something does of which it is a front
+alike_front : (sent rest text answers : List ℕ) → text ≡ sent ++ rest → BeginAlike text answers → BeginAlike sent answers
+alike_front sent rest text answers cut alike =
+    (rest ++ alike.0, alike.1, sym (append_assoc sent rest alike.0) ∙ ap (λ t. t ++ alike.0) (sym cut) ∙ alike.2)
 
-module _ (input left old mid new : Option (List ℕ)) (gathered : List ℕ) (some : WritesSome mid new gathered) where
-  abbrev Before : List ℕ → Type 0
-  Before text = WritesFront old mid text gathered
+-- the same of texts that are the same
+pub alike_as : (text told answers all : List ℕ) → text ≡ told → answers ≡ all → BeginAlike text answers → BeginAlike told all
+alike_as text told answers all same whole alike =
+    (alike.0, alike.1, ap (λ t. t ++ alike.0) (sym same) ∙ alike.2 ∙ ap (λ t. t ++ alike.1) whole)
 
-  abbrev Broken : Type 0
-  Broken = WorksBy fault.Write input left (λ text. Appends old new text)
+module _ (threads : ℕ) where
+  -- some of the text of the lines before `fork` was written, or all of it and some more
+  told_in_part : (input left old new : Option (List ℕ)) (f : Fork) (told : List ℕ) (texts : List (List ℕ)) → Forks input f []
+      → AreAnswersTo threads f texts → BeginAlike told (concat texts) → WritesSome old new (f.text ++ told)
+      → WorksBy threads fault.Write input left (λ text. Appends old new text)
+  told_in_part input left old new f told texts forks answers alike some =
+      let cut = some.1 in
+      elim (cases_lt (length some.0) (length f.text)) [
+        | inl less ↦ inl (broken_fork input left old new f [] forks (some.0, shorter f.text told some.0 cut.0 cut.1 less, some.2))
+        | inr most ↦
+            let more = longer f.text told some.0 cut.0 cut.1 most in
+            inr (
+              f,
+              more.0,
+              texts,
+              forks,
+              answers,
+              alike_front more.0 cut.0 told (concat texts) more.2 alike,
+              subst (λ (text : List ℕ). Appends old new text) more.1 some.2,
+            )
+      ]
 
-  after_off : (Also : List (List ℕ) → List ℕ → Option World → Type 0) → EndsAfter machine_player input Before Also → Broken
-  after_off Also e = inl (broken_played input left old mid new gathered e.0 e.1 e.2 e.3 e.4 e.6 some)
+  module _ (input left old mid new : Option (List ℕ)) (gathered : List ℕ) (some : WritesSome mid new gathered) where
+    abbrev Before : List ℕ → Type 0
+    Before text = WritesFront old mid text gathered
 
-  forked_off : (Also : Fork → List ℕ → Type 0) → EndsForked input Before Also → Broken
-  forked_off Also e = inl (broken_fork input left old new e.0 e.1 e.2 (writes_some old mid new e.0.text gathered e.4 some))
+    abbrev Broken : Type 0
+    Broken = WorksBy threads fault.Write input left (λ text. Appends old new text)
 
-  threads_off : EndsThreads input Before → Broken
-  threads_off e = told_in_part input left old new e.0 e.1 e.2 (writes_some old mid new (e.0.text ++ e.1) gathered e.3 some)
+    after_off : (Also : List (List ℕ) → List ℕ → Option World → Type 0) → EndsAfter machine_player input Before Also → Broken
+    after_off Also e = inl (broken_played input left old mid new gathered e.0 e.1 e.2 e.3 e.4 e.6 some)
 
-  works_off : (r : Result (Unit {0}) Fault) → Works r input left Before → Broken
-  works_off (Ok done) e = threads_off (e.0.0, e.0.1 ++ e.0.2, e.0.4, e.0.6)
-  works_off (Err (fault.ScriptFault why number)) (inl e) = after_off _ e
-  works_off (Err (fault.ScriptFault why number)) (inr (inl e)) = after_off _ e
-  works_off (Err (fault.ScriptFault why number)) (inr (inr e)) = forked_off _ e
-  works_off (Err fault.Read) (inl e) = after_off _ e
-  works_off (Err fault.Read) (inr e) = forked_off _ e
-  works_off (Err fault.ActorBusy) e = forked_off _ e
-  works_off (Err fault.SeatsOut) e = forked_off _ e
-  works_off (Err (fault.Mismatch part)) e = forked_off _ e
-  works_off (Err fault.Write) (inl e) = inl (broken_off (Err fault.Write) input left old mid new gathered e some)
-  works_off (Err fault.Write) (inr e) = threads_off e
-  works_off (Err (fault.OutOfMemory witness)) (inl e) =
-      inl (broken_off (Err (fault.OutOfMemory witness)) input left old mid new gathered e some)
-  works_off (Err (fault.OutOfMemory witness)) (inr (inl e)) = forked_off _ e
-  works_off (Err (fault.OutOfMemory witness)) (inr (inr e)) = threads_off e
-  works_off (Err _) e = absurd e
+    forked_off : (Also : Fork → List ℕ → Type 0) → EndsForked input Before Also → Broken
+    forked_off Also e = inl (broken_fork input left old new e.0 e.1 e.2 (writes_some old mid new e.0.text gathered e.4 some))
+
+    before_off : (why : Fault) → EndsBefore why input left Before → Broken
+    before_off (fault.ScriptFault why number) (inl e) = after_off _ e
+    before_off (fault.ScriptFault why number) (inr (inl e)) = after_off _ e
+    before_off (fault.ScriptFault why number) (inr (inr e)) = forked_off _ e
+    before_off fault.Read (inl e) = after_off _ e
+    before_off fault.Read (inr e) = forked_off _ e
+    before_off fault.ActorBusy e = forked_off _ e
+    before_off (fault.Mismatch part) e = forked_off _ e
+    before_off fault.Write e = inl (broken_off (Err fault.Write) input left old mid new gathered e some)
+    before_off (fault.OutOfMemory witness) (inl e) =
+        inl (broken_off (Err (fault.OutOfMemory witness)) input left old mid new gathered e some)
+    before_off (fault.OutOfMemory witness) (inr e) = forked_off _ e
+    before_off _ e = absurd e
+
+    threads_off : EndsThreads threads input Before → Broken
+    threads_off e =
+        told_in_part input left old new e.0 e.1 e.2 e.3 e.4 e.5 (writes_some old mid new (e.0.text ++ e.1) gathered e.6 some)
+
+    among_off : (why : Fault) → EndsAmong threads why input Before → Broken
+    among_off fault.Write e = threads_off e
+    among_off (fault.OutOfMemory witness) e = threads_off e
+    among_off _ e = absurd e
+
+    works_off : (r : Result (Unit {0}) Fault) → Works threads r input left Before → Broken
+    works_off (Ok done) e =
+        let r = e.0 in
+        threads_off (r.0, concat r.1 ++ r.2, r.1, r.4, r.5, ([], r.2, append-nil (concat r.1 ++ r.2)), r.8)
+    works_off (Err why) (inl e) = before_off why e
+    works_off (Err why) (inr e) = among_off why e
 
 -- how a script ends once what is gathered was written, where nothing failed before
-pub works_text : (outcome result : Result (Unit {0}) Fault) (input left old : Option (List ℕ)) (from to : Sent)
-    → Works outcome input left (λ text. WritesFront old from.written text from.gathered)
+pub works_text : (threads : ℕ) (outcome result : Result (Unit {0}) Fault) (input left old : Option (List ℕ)) (from to : Sent)
+    → Works threads outcome input left (λ text. WritesFront old from.written text from.gathered)
     → HoldsNone outcome from.gathered → EndsText outcome result from to
-    → Works result input left (λ text. Appends old to.written text)
-works_text outcome result input left old from to e held ended = by outcome e held ended where
+    → Works threads result input left (λ text. Appends old to.written text)
+works_text threads outcome result input left old from to e held ended = by outcome e held ended where
   Was : Result (Unit {0}) Fault → Type 0
-  Was o = Works o input left (λ text. WritesFront old from.written text from.gathered)
+  Was o = Works threads o input left (λ text. WritesFront old from.written text from.gathered)
 
   Now : Result (Unit {0}) Fault → Type 0
-  Now r = Works r input left (λ text. Appends old to.written text)
+  Now r = Works threads r input left (λ text. Appends old to.written text)
 
   flushed : (o : Result (Unit {0}) Fault) → Was o → ((result ≡ o) × Appends from.written to.written from.gathered)
       ⊎ ((result ≡ Err fault.Write) × WritesSome from.written to.written from.gathered) → Now result
   flushed o e (inl all) = subst Now (sym all.0)
       (works_on input (λ text. WritesFront old from.written text from.gathered) (λ text. Appends old to.written text)
-      (λ text front. writes_end old from.written to.written text from.gathered front all.1) o left e)
-  flushed o e (inr some) = subst Now (sym some.0) (works_off input left old from.written to.written from.gathered some.1 o e)
+      (λ text front. writes_end old from.written to.written text from.gathered front all.1) threads o left e)
+  flushed o e (inr some) = subst Now (sym some.0) (works_off threads input left old from.written to.written from.gathered some.1 o e)
 
   failed : (o : Result (Unit {0}) Fault) → Was o → from.gathered ≡ [] → (result ≡ o) × (to ≡ from) → Now result
   failed o e none same =
       let rest = subst (λ (bytes : List ℕ). Appends from.written from.written bytes) (sym none) (Appends-nil from.written) in
       subst Now (sym same.0)
-      (subst (λ (t : Sent). Works o input left (λ text. Appends old t.written text)) (sym same.1)
+      (subst (λ (t : Sent). Works threads o input left (λ text. Appends old t.written text)) (sym same.1)
       (works_on input (λ text. WritesFront old from.written text from.gathered) (λ text. Appends old from.written text)
-      (λ text front. writes_end old from.written from.written text from.gathered front rest) o left e))
+      (λ text front. writes_end old from.written from.written text from.gathered front rest) threads o left e))
 
   by : (o : Result (Unit {0}) Fault) → Was o → HoldsNone o from.gathered → EndsText o result from to → Now result
   by (Ok done) e held is = flushed (Ok done) e is
@@ -132,10 +174,10 @@ works_text outcome result input left old from to e held ended = by outcome e hel
   by (Err fault.Write) e held is = failed (Err fault.Write) e held is
   by (Err (fault.ScriptFault why number)) e held is = flushed (Err (fault.ScriptFault why number)) e is
   by (Err fault.ActorBusy) e held is = flushed (Err fault.ActorBusy) e is
-  by (Err fault.SeatsOut) e held is = flushed (Err fault.SeatsOut) e is
   by (Err (fault.Mismatch part)) e held is = flushed (Err (fault.Mismatch part)) e is
   by (Err (fault.OutOfMemory witness)) e held is = flushed (Err (fault.OutOfMemory witness)) e is
-  by (Err _) e held is = absurd e
+  by (Err _) (inl e) held is = absurd e
+  by (Err _) (inr e) held is = absurd e
 
 -- ---- all lines were taken
 
@@ -155,54 +197,125 @@ pub some_shown : (world : Option WorldState) (w : WorldState) (m : World) → wo
 some_shown world w m some shown = subst (λ (o : Option WorldState). ShowsAny o (Some m)) some shown
 
 -- threads did not make their calls, or the service did not close
-pub no_threads : (input left old new : Option (List ℕ)) (gathered : List ℕ) (f : Fork) → Forks input f [] → IsAtEnd left
+pub no_threads : (threads : ℕ) (input left old new : Option (List ℕ)) (gathered : List ℕ) (f : Fork) → Forks input f [] → IsAtEnd left
     → WritesFront old new f.text gathered
     → (why : Fault) → RefusesThreads why f.world
-    → WorksBy why input left (λ text. WritesFront old new text gathered) × HoldsNone {A = Unit {0}} (Err why) gathered
-no_threads input left old new gathered f forks end written fault.ActorBusy is = ((f, [], forks, (refl, is, end), written), tt)
-no_threads input left old new gathered f forks end written fault.SeatsOut is = ((f, [], forks, (refl, end), written), tt)
-no_threads input left old new gathered f forks end written (fault.Mismatch part) is = ((f, [], forks, (refl, end), written), tt)
-no_threads input left old new gathered f forks end written (fault.OutOfMemory witness) is = (inr (inl (f, [], forks, tt, written)), tt)
-no_threads input left old new gathered f forks end written _ is = absurd is
+    → WorksBy threads why input left (λ text. WritesFront old new text gathered) × HoldsNone {A = Unit {0}} (Err why) gathered
+no_threads threads input left old new gathered f forks end written fault.ActorBusy is = (inl (f, [], forks, (refl, is, end), written), tt)
+no_threads threads input left old new gathered f forks end written (fault.Mismatch part) is = (inl (f, [], forks, (refl, end), written), tt)
+no_threads threads input left old new gathered f forks end written (fault.OutOfMemory witness) is =
+    (inl (inr (f, [], forks, tt, written)), tt)
+no_threads threads input left old new gathered f forks end written _ is = absurd is
 
--- something was told
-pub threads_told : (input left old : Option (List ℕ)) (from to : Sent) (f : Fork) → Forks input f [] → IsAtEnd left
-    → WritesFront old from.written f.text from.gathered → (r : Result (Unit {0}) Fault) → TellsAll r from to
-    → Works r input left (λ text. WritesFront old to.written text to.gathered) × HoldsNone r to.gathered
-threads_told input left old from to f forks end written (Ok done) is = (
-  ((f, is.0, is.1, is.2, forks, is.3, sent_on old from to f.text (is.0 ++ is.1) written is.4), end),
+-- the world after threads
+pub follows : (opened closed : WorldState) (fork m : World) → Shows opened fork → ClosesAfter opened closed → Shows closed m → HasRun m
+    → FollowsFork fork m
+follows opened closed fork m before came shows run = record {
+  run = run;
+  numbers = sym shows.numbers ∙ came.numbers ∙ before.numbers;
+  commit =
+      let first = ap (λ (s : Shared). s.book.commit) before.shared in
+      let last = ap (λ (s : Shared). s.book.commit) shows.shared in
+      let c = came.commit in
+      omega (arith, first, last, c);
+}
+
+-- the texts of threads are the answers to their calls
+pub answers_to : (threads : ℕ) (f : Fork) (opened : WorldState) (lists : List (List ForkedCall)) (texts : List (List ℕ))
+    → Shows opened f.world → lists ≡ shares_of threads (calls_in f.behind)
+    → AreThreadTexts opened.shared.geometry.numbers.actors lists texts → AreAnswersTo threads f texts
+answers_to threads f opened lists texts shows shares told =
+    subst (λ (g : GeometryNumbers). AreThreadTexts g.actors (shares_of threads (calls_in f.behind)) texts) shows.numbers
+    (subst (λ ls. AreThreadTexts opened.shared.geometry.numbers.actors ls texts) shares told)
+
+-- the answers of threads were told, and the reports behind them
+pub threads_told : (threads : ℕ) (input left old : Option (List ℕ)) (from to : Sent) (f : Fork) (opened closed : WorldState)
+    (texts : List (List ℕ)) → Forks input f [] → IsAtEnd left → WritesFront old from.written f.text from.gathered
+    → Shows opened f.world → ClosesAfter opened closed → AreAnswersTo threads f texts
+    → (r : Result (Unit {0}) Fault) → TellsAll r texts (Some closed) from to
+    → Works threads r input left (λ text. WritesFront old to.written text to.gathered) × HoldsNone r to.gathered
+threads_told threads input left old from to f opened closed texts forks end written before came answers (Ok done) is = (
+  (
+    (
+      f,
+      texts,
+      is.0,
+      is.1,
+      forks,
+      answers,
+      follows opened closed f.world is.1 before came is.2 is.3,
+      is.4,
+      sent_on old from to f.text (concat texts ++ is.0) written is.5,
+    ),
+    end,
+  ),
   tt,
 )
-threads_told input left old from to f forks end written (Err fault.Write) is =
+threads_told threads input left old from to f opened closed texts forks end written before came answers (Err fault.Write) is =
     let part = writes_some old from.written to.written (f.text ++ is.0) (from.gathered ++ is.0)
-    (writes_grown old from.written f.text from.gathered is.0 written) is.1.0 in
-    let all = told_in_part input left old to.written f is.0 forks part in
+    (writes_grown old from.written f.text from.gathered is.0 written) is.2.0 in
+    let all = told_in_part threads input left old to.written f is.0 texts forks answers is.1 part in
     let turned = works_on input (λ text. Appends old to.written text) (λ text. WritesFront old to.written text to.gathered)
-    (λ text whole. subst (λ (rest : List ℕ). WritesFront old to.written text rest) (sym is.1.1) (writes_all old to.written text whole))
-    (Err fault.Write) left all in
-    (turned, is.1.1)
-threads_told input left old from to f forks end written (Err (fault.OutOfMemory witness)) is =
-    (inr (inr (f, is.0, forks, sent_on old from to f.text is.0 written is.1)), tt)
-threads_told input left old from to f forks end written (Err _) is = absurd is
+    (λ text whole. subst (λ (rest : List ℕ). WritesFront old to.written text rest) (sym is.2.1) (writes_all old to.written text whole))
+    threads (Err fault.Write) left all in
+    (turned, is.2.1)
+threads_told threads input left old from to f opened closed texts forks end written before came answers (Err (fault.OutOfMemory witness)) is =
+    (inr (f, is.0, texts, forks, answers, is.1, sent_on old from to f.text is.0 written is.2), tt)
+threads_told threads input left old from to f opened closed texts forks end written before came answers (Err _) is = absurd is
 
-sends_both : (a b c : Sent) (told more : List ℕ) → Sends a b told → Sends b c more → Sends a c (told ++ more)
+-- one text was sent behind another
+pub sends_both : (a b c : Sent) (told more : List ℕ) → Sends a b told → Sends b c more → Sends a c (told ++ more)
 sends_both a b c told more first then_ = subst (λ (t : List ℕ). WritesFront a.written c.written t c.gathered)
     (append_assoc a.gathered told more)
     (writes_rest a.written b.written c.written _ _ c.gathered (writes_grown a.written b.written _ b.gathered more first) then_)
 
--- something was told behind what was told before
-pub tells_more : (a b c : Sent) (told : List ℕ) → Sends a b told → (r : Result (Unit {0}) Fault) → Adds r b c → Adds r a c
-tells_more a b c told first (Ok done) then_ = (told ++ then_.0, sends_both a b c told then_.0 first then_.1)
-tells_more a b c told first (Err fault.Write) then_ = (
-  told ++ then_.0,
-  (
-    subst (λ (t : List ℕ). WritesSome a.written c.written t) (append_assoc a.gathered told then_.0)
-        (writes_some a.written b.written c.written _ _ (writes_grown a.written b.written _ b.gathered then_.0 first) then_.1.0),
-    then_.1.1,
-  ),
+-- one text was sent, and a write of another failed
+pub fails_both : (a b c : Sent) (text more : List ℕ) → Sends a b text → Fails b c more → Fails a c (text ++ more)
+fails_both a b c text more first then_ = (
+  subst (λ (t : List ℕ). WritesSome a.written c.written t) (append_assoc a.gathered text more)
+      (writes_some a.written b.written c.written _ _ (writes_grown a.written b.written _ b.gathered more first) then_.0),
+  then_.1,
 )
-tells_more a b c told first (Err (fault.OutOfMemory witness)) then_ = (told ++ then_.0, sends_both a b c told then_.0 first then_.1)
-tells_more a b c told first (Err _) then_ = absurd then_
+
+-- ---- texts one after another
+
+module _ {V : Type 0} (f : V → List ℕ) (xs : List V) (i : ℕ) where
+  abbrev So : List ℕ
+  So = concat (map f (take i xs))
+
+  -- one more of them
+  pub texts_more : (x : V) → i < length xs → x ≡ get_or xs i x → concat (map f (take (i + 1) xs)) ≡ So ++ f x
+  texts_more x less same =
+      ap (λ l. concat (map f l)) (take_more xs i x less) ∙ ap concat (map-append f (take i xs) (get_or xs i x ∷ []))
+      ∙ concat-append (map f (take i xs)) (f (get_or xs i x) ∷ []) ∙ ap (λ t. So ++ t) (append-nil (f (get_or xs i x)))
+      ∙ ap (λ y. So ++ f y) (sym same)
+
+  -- the first of them begin as all do
+  pub texts_begin : BeginAlike So (concat (map f xs))
+  texts_begin = (
+    concat (map f (drop i xs)),
+    [],
+    sym (concat-append (map f (take i xs)) (map f (drop i xs))) ∙ ap concat (sym (map-append f (take i xs) (drop i xs)))
+        ∙ ap (λ l. concat (map f l)) (take-append-drop i xs) ∙ sym (append-nil (concat (map f xs))),
+  )
+
+-- something was told behind a text
+pub tells_more : (a b c : Sent) (text : List ℕ) → Sends a b text → (why : Fault) → Adds (Err why) b c [] → Adds (Err why) a c text
+tells_more a b c text first fault.Write then_ = (
+  text ++ then_.0,
+  ([], then_.0, append-nil (text ++ then_.0)),
+  fails_both a b c text then_.0 first then_.2,
+)
+tells_more a b c text first (fault.OutOfMemory witness) then_ =
+    (text ++ then_.0, ([], then_.0, append-nil (text ++ then_.0)), sends_both a b c text then_.0 first then_.2)
+tells_more a b c text first _ then_ = absurd then_
+
+-- a text was told in part, or with more behind it: it begins as its first part does
+pub tells_front : (a c : Sent) (text more : List ℕ) (why : Fault) → Adds (Err why) a c (text ++ more) → Adds (Err why) a c text
+tells_front a c text more fault.Write is = (is.0, (is.1.0, more ++ is.1.1, is.1.2 ∙ append_assoc text more is.1.1), is.2)
+tells_front a c text more (fault.OutOfMemory witness) is =
+    (is.0, (is.1.0, more ++ is.1.1, is.1.2 ∙ append_assoc text more is.1.1), is.2)
+tells_front a c text more _ is = absurd is
 
 tree_is_line : IsLine (codes "tree")
 tree_is_line =
@@ -226,21 +339,23 @@ audit_is_line = (
   omega arith,
 )
 
--- what threads were answered and the reports were sent
-pub tells_all : (a b c d e : Sent) (answers : List ℕ) → Sends a b answers → (m n o : World) (tree snaps : List ℕ)
+-- the answers of threads and the reports were sent
+pub tells_all : (a b c d e : Sent) (texts : List (List ℕ)) → Sends a b (concat texts) → (shown : Option WorldState) (m n o : World)
+    → ShowsAny shown (Some m) → HasRun m → (tree snaps : List ℕ)
     → Plays machine_player (Some m) (codes "tree") tree (Some n) → Plays machine_player (Some n) (codes "snaps") snaps (Some o)
     → Sends b c tree → Sends c d snaps → (r : Result (Unit {0}) Fault) (world : Option WorldState)
-    → ReportIs r (codes "audit") o d e world → TellsAll r a e
-tells_all a b c d e answers first m n o tree snaps plays more second third r world is = by r is where
+    → ReportIs r (codes "audit") o d e world → TellsAll r texts shown a e
+tells_all a b c d e texts first shown m n o shows run tree snaps plays more second third r world is = by r is where
   before : Sends b d (tree ++ snaps)
   before = sends_both b c d tree snaps second third
 
-  by : (r : Result (Unit {0}) Fault) → ReportIs r (codes "audit") o d e world → TellsAll r a e
-  by (Ok done) (p, audit, plays', shown, has, sends) =
-      let whole = sends_both a b e answers ((tree ++ snaps) ++ audit) first (sends_both b d e (tree ++ snaps) audit before sends) in (
-        answers,
+  by : (r : Result (Unit {0}) Fault) → ReportIs r (codes "audit") o d e world → TellsAll r texts shown a e
+  by (Ok done) (p, audit, plays', shown', has, sends) =
+      let whole = sends_both a b e (concat texts) ((tree ++ snaps) ++ audit) first (sends_both b d e (tree ++ snaps) audit before sends) in (
         tree ++ (snaps ++ (audit ++ [])),
         m,
+        shows,
+        run,
         (
           Some p,
           (
@@ -261,7 +376,9 @@ tells_all a b c d e answers first m n o tree snaps plays more second third r wor
             refl,
           ),
         ),
-        subst (λ (t : List ℕ). Sends a e (answers ++ t))
+        subst (λ (t : List ℕ). Sends a e (concat texts ++ t))
             (append_assoc tree snaps audit ∙ ap (λ t. tree ++ (snaps ++ t)) (sym (append-nil audit))) whole,
       )
-  by (Err why) adds = tells_more a b e answers first (Err why) (tells_more b d e (tree ++ snaps) before (Err why) adds)
+  by (Err why) adds =
+      let both = sends_both a b d (concat texts) (tree ++ snaps) first before in
+      tells_front a e (concat texts) (tree ++ snaps) why (tells_more a d e (concat texts ++ (tree ++ snaps)) both why adds)

@@ -1,2 +1,4 @@
+pub mod Taken
+pub mod Threads
 pub mod Work
 pub mod Working

@@ -1,18 +1,20 @@
--- SCRIPTS THAT THREADS PLAY: how the lines before `fork` are played, how those behind it are read, and how such a script ends. What
--- threads are answered is told by no definition.
+-- SCRIPTS THAT THREADS PLAY: how the lines before `fork` are played, how those behind it are read, what threads are answered, and how
+-- such a script ends.
 use Rattle.std.specs.Prelude.{◌≡◌, ◌⊎◌, ◌≤◌, ℕ, ◌+◌, ◌&&◌, Bool, true, false, not, if◌then◌else◌, nat_lt, List, [], ◌∷◌, ◌++◌, length, codes, bytes_eq, All, Option, Some, None, is_some, IfSome, IsOk, MatchBool, Result, Ok, Err}
 use Rattle.std.specs.Io.KnownBytes.{Appends, Consumes, IsAtEnd}
+use Rattle.std.specs.List.{concat}
 use Rattle.nv_base.specs.declared.fault.Fault.{Fault}
 use Rattle.nv_base.specs.declared.fault.Fault.TheVariants as fault
 use Rattle.nv_base.specs.declared.fault.ScriptFaultKind.{ScriptFaultKind}
 use Rattle.nv_base.specs.declared.fault.ScriptFaultKind.TheVariants as kind
 use Rattle.nv_machine.specs.World.{World}
 use Rattle.nv_core.specs.AtRest.{IsBusy}
-use Rattle.nv_script.specs.declared.command.Command.{Command}
-use Rattle.nv_script.specs.Grammar.{Parsed, command_of, is_skipped, word_at}
+use Rattle.nv_core.specs.Worlds.{HasRun}
+use Rattle.nv_script.specs.Grammar.{is_skipped, word_at}
 use Rattle.nv_script.specs.Lines.{IsLine, ended}
 use Rattle.nv_script.specs.Play.{EndsAfter, EndsBy, IsFaultBy, LineFails, PlaysAll, machine_player, most_lines}
 use Rattle.nv_script.specs.Words.{words_of}
+use Rattle.nv_work.specs.Threads.{AreThreadTexts, calls_in, forked_of, shares_of}
 
 -- the first word of a line is `fork`
 abbrev pub is_fork : List ℕ → Bool
@@ -26,10 +28,6 @@ fork_fault true line = if nat_lt 1 (length (words_of line)) then Some kind.Count
 -- the fault of a line, as long as none was `fork`
 abbrev pub FrontFails : Bool → List ℕ → ScriptFaultKind → Type 0
 FrontFails made line why = MatchBool (is_fork line) (fork_fault made line ≡ Some why) (LineFails made line why)
-
--- the command of a line behind `fork`: of another than `do` the word is unknown
-abbrev pub forked_of : List (List ℕ) → Parsed Command
-forked_of words = if bytes_eq (word_at words 0) (codes "do") then command_of words else Err kind.Word
 
 abbrev pub ForkedFails : List ℕ → ScriptFaultKind → Type 0
 ForkedFails line why = (is_skipped line ≡ false) × (forked_of (words_of line) ≡ Err why)
@@ -68,50 +66,72 @@ pub record Forks (input : Option (List ℕ)) (f : Fork) (rest : List ℕ) : Type
 abbrev pub EndsForked : (input : Option (List ℕ)) → (List ℕ → Type 0) → (Fork → List ℕ → Type 0) → Type 0
 EndsForked input Writes Also = (f : Fork) × (rest : List ℕ) × Forks input f rest × Also f rest × Writes f.text
 
--- all lines were read, and then threads were answered something, or the reports told something
-abbrev pub EndsThreads : (input : Option (List ℕ)) → (List ℕ → Type 0) → Type 0
-EndsThreads input Writes = (f : Fork) × (told : List ℕ) × Forks input f [] × Writes (f.text ++ told)
+-- each call behind `fork` has its answer, thread by thread
+abbrev pub AreAnswersTo : (threads : ℕ) → Fork → List (List ℕ) → Type 0
+AreAnswersTo threads f texts = AreThreadTexts f.world.numbers.actors (shares_of threads (calls_in f.behind)) texts
+
+-- two texts are alike as far as both go
+abbrev pub BeginAlike : List ℕ → List ℕ → Type 0
+BeginAlike one other = (rest more : List ℕ) × (one ++ rest ≡ other ++ more)
+
+-- all lines were read, and nothing else was told, or the answers of threads, or a part of these, or the reports behind them
+abbrev pub EndsThreads : (threads : ℕ) (input : Option (List ℕ)) → (List ℕ → Type 0) → Type 0
+EndsThreads threads input Writes = (f : Fork) × (told : List ℕ) × (texts : List (List ℕ)) × Forks input f []
+    × AreAnswersTo threads f texts × BeginAlike told (concat texts) × Writes (f.text ++ told)
 
 -- the texts of the reports on a world
 abbrev pub Reported : World → List ℕ → Type 0
 Reported m reports = (n : Option World)
     × PlaysAll machine_player (Some m) (codes "tree" ∷ codes "snaps" ∷ codes "audit" ∷ []) reports n
 
--- all lines were read, threads were answered something, and then the world was reported on
-abbrev pub EndsReported : (input : Option (List ℕ)) → (List ℕ → Type 0) → Type 0
-EndsReported input Writes = (f : Fork) × (answers reports : List ℕ) × (m : World) × Forks input f [] × Reported m reports
-    × Writes (f.text ++ (answers ++ reports))
+-- THE WORLD AFTER THREADS: events lead to it, its numbers are those of the world at `fork`, and no commit is lost
+pub record FollowsFork (fork m : World) : Type 0 where
+  pub run : HasRun m
+  pub numbers : m.numbers ≡ fork.numbers
+  pub commit : fork.shared.book.commit ≤ m.shared.book.commit
 
--- HOW SUCH A SCRIPT ENDS EARLY. By a fault of a line: of the next one before `fork`; of the last one, where there is none; of the next
--- one behind it. By a failed read, of whose reader no more than a piece of the next line is gone. Because an actor has a call at
--- `fork`, or the service did not close. By a failed write, or for want of memory
-abbrev pub WorksBy : Fault → (input left : Option (List ℕ)) → (List ℕ → Type 0) → Type 0
-WorksBy (fault.ScriptFault why number) input left Writes =
+-- all lines were read, each call behind `fork` was answered, and then the world after threads was reported on
+abbrev pub EndsReported : (threads : ℕ) (input : Option (List ℕ)) → (List ℕ → Type 0) → Type 0
+EndsReported threads input Writes = (f : Fork) × (texts : List (List ℕ)) × (reports : List ℕ) × (m : World) × Forks input f []
+    × AreAnswersTo threads f texts × FollowsFork f.world m × Reported m reports × Writes (f.text ++ (concat texts ++ reports))
+
+-- HOW SUCH A SCRIPT ENDS BEFORE ITS ANSWERS. By a fault of a line: of the next one before `fork`; of the last one, where there is none;
+-- of the next one behind it. By a failed read, of whose reader no more than a piece of the next line is gone. Because an actor has a call
+-- at `fork`, or the service did not close. By a failed write, or for want of memory
+abbrev pub EndsBefore : Fault → (input left : Option (List ℕ)) → (List ℕ → Type 0) → Type 0
+EndsBefore (fault.ScriptFault why number) input left Writes =
     EndsAfter machine_player input Writes (λ lines rest world.
     (number ≡ length lines + 1) × IsFaultBy (FrontFails (is_some world)) number rest why)
     ⊎ (EndsAfter machine_player input Writes (λ lines rest world.
     (number ≡ length lines) × (why ≡ kind.Order) × (rest ≡ []) × IsAtEnd left)
     ⊎ EndsForked input Writes (λ f rest. (number ≡ length (lines_in f) + 1) × IsFaultBy ForkedFails number rest why))
-WorksBy fault.Read input left Writes =
+EndsBefore fault.Read input left Writes =
     EndsAfter machine_player input Writes (λ lines rest world.
     (piece : List ℕ) × IsLine piece × Consumes input left (ended lines ++ piece))
     ⊎ EndsForked input Writes (λ f rest. (piece : List ℕ) × IsLine piece × Consumes input left (ended (lines_in f) ++ piece))
-WorksBy fault.ActorBusy input left Writes =
+EndsBefore fault.ActorBusy input left Writes =
     EndsForked input Writes (λ f rest. (rest ≡ []) × IsBusy f.world × IsAtEnd left)
-WorksBy fault.SeatsOut input left Writes = EndsForked input Writes (λ f rest. (rest ≡ []) × IsAtEnd left)
-WorksBy (fault.Mismatch _) input left Writes = EndsForked input Writes (λ f rest. (rest ≡ []) × IsAtEnd left)
-WorksBy fault.Write input left Writes = EndsBy machine_player fault.Write input left Writes ⊎ EndsThreads input Writes
-WorksBy (fault.OutOfMemory witness) input left Writes =
-    EndsBy machine_player (fault.OutOfMemory witness) input left Writes
-    ⊎ (EndsForked input Writes (λ f rest. Unit {0}) ⊎ EndsThreads input Writes)
-WorksBy _ input left Writes = ⊥
+EndsBefore (fault.Mismatch _) input left Writes = EndsForked input Writes (λ f rest. (rest ≡ []) × IsAtEnd left)
+EndsBefore fault.Write input left Writes = EndsBy machine_player fault.Write input left Writes
+EndsBefore (fault.OutOfMemory witness) input left Writes =
+    EndsBy machine_player (fault.OutOfMemory witness) input left Writes ⊎ EndsForked input Writes (λ f rest. Unit {0})
+EndsBefore _ input left Writes = ⊥
 
--- HOW IT ENDS: well, where all lines were read, and behind the text of the lines before `fork` stand what threads were answered and
--- the reports
-abbrev pub Works : Result (Unit {0}) Fault → (input left : Option (List ℕ)) → (List ℕ → Type 0) → Type 0
-Works (Ok done) input left Writes = EndsReported input Writes × IsAtEnd left
-Works (Err why) input left Writes = WorksBy why input left Writes
+-- and how it ends among its answers or its reports: by a failed write, or for want of memory
+abbrev pub EndsAmong : (threads : ℕ) → Fault → (input : Option (List ℕ)) → (List ℕ → Type 0) → Type 0
+EndsAmong threads fault.Write input Writes = EndsThreads threads input Writes
+EndsAmong threads (fault.OutOfMemory witness) input Writes = EndsThreads threads input Writes
+EndsAmong threads _ input Writes = ⊥
+
+abbrev pub WorksBy : (threads : ℕ) → Fault → (input left : Option (List ℕ)) → (List ℕ → Type 0) → Type 0
+WorksBy threads why input left Writes = EndsBefore why input left Writes ⊎ EndsAmong threads why input Writes
+
+-- HOW IT ENDS: well, where all lines were read, and behind the text of the lines before `fork` stand the answers of threads and the
+-- reports
+abbrev pub Works : (threads : ℕ) → Result (Unit {0}) Fault → (input left : Option (List ℕ)) → (List ℕ → Type 0) → Type 0
+Works threads (Ok done) input left Writes = EndsReported threads input Writes × IsAtEnd left
+Works threads (Err why) input left Writes = WorksBy threads why input left Writes
 
 -- the same, where the writer has this at first and is left with that
-abbrev pub WorksScript : Result (Unit {0}) Fault → (input left old new : Option (List ℕ)) → Type 0
-WorksScript result input left old new = Works result input left (λ text. Appends old new text)
+abbrev pub WorksScript : (threads : ℕ) → Result (Unit {0}) Fault → (input left old new : Option (List ℕ)) → Type 0
+WorksScript threads result input left old new = Works threads result input left (λ text. Appends old new text)

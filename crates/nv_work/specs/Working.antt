@@ -1,6 +1,7 @@
 -- What inner functions of a script that threads play tell each other.
-use Rattle.std.specs.Prelude.{◌≡◌, ◌⊎◌, ◌≤◌, ℕ, ◌+◌, Bool, true, false, List, [], ◌++◌, length, Option, Some, None, is_some, IsOk, Result, Ok, Err}
+use Rattle.std.specs.Prelude.{◌≡◌, ◌⊎◌, ◌≤◌, ℕ, ◌+◌, Bool, true, false, List, [], ◌++◌, length, map, Option, Some, None, is_some, IsOk, Result, Ok, Err}
 use Rattle.std.specs.Io.KnownBytes.{Consumes, IsAtEnd}
+use Rattle.std.specs.List.{concat}
 use Rattle.nv_base.specs.declared.fault.Fault.{Fault}
 use Rattle.nv_base.specs.declared.fault.Fault.TheVariants as fault
 use Rattle.nv_machine.specs.World as machine
@@ -9,12 +10,15 @@ use Rattle.nv_core.specs.Worlds.{HasRun, ShowsAny, WorldState}
 use Rattle.nv_script.specs.declared.fault.LineFault.{LineFault}
 use Rattle.nv_script.specs.declared.fault.LineFault.TheVariants as line_fault
 use Rattle.nv_script.specs.declared.command.Command.{Command}
+use Rattle.nv_script.specs.declared.command.Command.TheVariants as command
 use Rattle.nv_script.specs.Grammar.{IsLineFault, Parsed, is_skipped}
 use Rattle.nv_script.specs.Words.{words_of}
 use Rattle.nv_script.specs.Lines.{WritesFront, ended}
 use Rattle.nv_script.specs.Play.{Plays, machine_player, most_lines}
 use Rattle.nv_script.specs.Results.{Fails, HasAnyRun, HoldsNone, LineFaultIs, PlaysShown, Sends, Sent}
-use Rattle.nv_work.specs.Work.{Fork, Forks, ForkedFails, FrontFails, IsFork, Reported, WorksBy, fork_fault, forked_of, is_fork, lines_in}
+use Rattle.nv_work.specs.declared.forked.ForkedCall.{ForkedCall}
+use Rattle.nv_work.specs.Threads.{forked_of}
+use Rattle.nv_work.specs.Work.{BeginAlike, EndsBefore, Fork, Forks, ForkedFails, FrontFails, IsFork, Reported, fork_fault, is_fork, lines_in}
 
 -- whether a line is `fork`, or what is wrong with it then
 abbrev pub ReadsFork : Result Bool LineFault → Bool → List ℕ → Type 0
@@ -23,9 +27,9 @@ ReadsFork (Err (line_fault.Faulty why)) made line = (is_fork line ≡ true) × (
 ReadsFork (Err line_fault.Write) made line = ⊥
 ReadsFork (Err (line_fault.OutOfMemory witness)) made line = is_skipped line ≡ false
 
--- whether a command was read
-abbrev pub ReadsCall : {A : Type 0} → Result A LineFault → Parsed Command → Type 0
-ReadsCall (Ok call) read = IsOk read
+-- whether a call was read, and which
+abbrev pub ReadsCall : Result ForkedCall LineFault → Parsed Command → Type 0
+ReadsCall (Ok forked) read = read ≡ Ok (command.Do forked.actor forked.call)
 ReadsCall (Err fault) read = IsLineFault fault read
 
 -- a line behind `fork` was read
@@ -65,43 +69,37 @@ pub record AtFork (input known old new : Option (List ℕ)) (gathered : List ℕ
 -- the lines up to `fork` were taken and played, or the script has ended
 abbrev pub FrontIs : Result ℕ Fault → (input left known old new : Option (List ℕ)) → List ℕ → Option WorldState → Type 0
 FrontIs (Ok number) input left known old new gathered world =
-    (f : Fork) × AtFork input known old new gathered (number + 1) f × ShowsAny world (Some f.world)
+    (f : Fork) × AtFork input known old new gathered (number + 1) f × (f.behind ≡ []) × ShowsAny world (Some f.world)
 FrontIs (Err why) input left known old new gathered world =
-    WorksBy why input left (λ text. WritesFront old new text gathered) × HoldsNone {A = ℕ} (Err why) gathered
-
--- all lines were taken
-abbrev pub AllTaken : (input left old new : Option (List ℕ)) → List ℕ → Option WorldState → Type 0
-AllTaken input left old new gathered world =
-    (f : Fork) × Forks input f [] × IsAtEnd left × WritesFront old new f.text gathered × ShowsAny world (Some f.world)
-
--- the same, or the script has ended
-abbrev pub ReadsForked : {A : Type 0} → Result A Fault → (input left old new : Option (List ℕ)) → List ℕ → Option WorldState → Type 0
-ReadsForked (Ok lines) input left old new gathered world = AllTaken input left old new gathered world
-ReadsForked (Err why) input left old new gathered world =
-    WorksBy why input left (λ text. WritesFront old new text gathered) × HoldsNone {A = ℕ} (Err why) gathered
+    EndsBefore why input left (λ text. WritesFront old new text gathered) × HoldsNone {A = ℕ} (Err why) gathered
 
 -- why no threads made the calls, or the service did not close
 abbrev pub RefusesThreads : Fault → machine.World → Type 0
 RefusesThreads fault.ActorBusy m = IsBusy m
-RefusesThreads fault.SeatsOut m = Unit {0}
 RefusesThreads (fault.Mismatch part) m = Unit {0}
 RefusesThreads (fault.OutOfMemory witness) m = Unit {0}
 RefusesThreads _ m = ⊥
 
--- some text was sent, or a write of it failed
-abbrev pub Adds : Result (Unit {0}) Fault → Sent → Sent → Type 0
-Adds (Ok done) old new = (told : List ℕ) × Sends old new told
-Adds (Err fault.Write) old new = (told : List ℕ) × Fails old new told
-Adds (Err (fault.OutOfMemory witness)) old new = (told : List ℕ) × Sends old new told
-Adds (Err _) old new = ⊥
+-- a service closed into a world with the numbers of the one that it opened on, and no commit is lost
+pub record ClosesAfter (opened closed : WorldState) : Type 0 where
+  pub numbers : closed.shared.geometry.numbers ≡ opened.shared.geometry.numbers
+  pub commit : opened.shared.book.state.commit ≤ closed.shared.book.state.commit
+
+-- a text was sent; or something that begins alike, and then a write of it failed, or memory was refused
+abbrev pub Adds : Result (Unit {0}) Fault → Sent → Sent → List ℕ → Type 0
+Adds (Ok done) old new text = Sends old new text
+Adds (Err fault.Write) old new text = (told : List ℕ) × BeginAlike told text × Fails old new told
+Adds (Err (fault.OutOfMemory witness)) old new text = (told : List ℕ) × BeginAlike told text × Sends old new told
+Adds (Err _) old new text = ⊥
 
 -- a report on the world was sent, or not
 abbrev pub ReportIs : Result (Unit {0}) Fault → List ℕ → machine.World → Sent → Sent → Option WorldState → Type 0
 ReportIs (Ok done) line m old new world = (n : machine.World) × (text : List ℕ) × Plays machine_player (Some m) line text (Some n)
     × ShowsAny world (Some n) × HasRun n × Sends old new text
-ReportIs (Err why) line m old new world = Adds (Err why) old new
+ReportIs (Err why) line m old new world = Adds (Err why) old new []
 
--- the answers of threads and the reports were sent, or not all of them
-abbrev pub TellsAll : Result (Unit {0}) Fault → Sent → Sent → Type 0
-TellsAll (Ok done) old new = (answers reports : List ℕ) × (m : machine.World) × Reported m reports × Sends old new (answers ++ reports)
-TellsAll (Err why) old new = Adds (Err why) old new
+-- the answers of threads and the reports on the world that is shown were sent, or not all of them
+abbrev pub TellsAll : Result (Unit {0}) Fault → List (List ℕ) → Option WorldState → Sent → Sent → Type 0
+TellsAll (Ok done) texts world old new = (reports : List ℕ) × (m : machine.World) × ShowsAny world (Some m) × HasRun m
+    × Reported m reports × Sends old new (concat texts ++ reports)
+TellsAll (Err why) texts world old new = Adds (Err why) old new (concat texts)

@@ -1,7 +1,7 @@
 //! The line `fork`, and those behind it.
 
-ghost use Rattle.std.specs.Prelude.{◌≡◌, ◌%◌, ◌<◌, ◌≤◌, IfOk, vec_len};
-ghost use Rattle.nv_work.specs.Work.{forked_of};
+ghost use Rattle.std.specs.Prelude.{◌≡◌, ◌%◌, ◌<◌, ◌≤◌, [], IfOk, OnErr, OnOk, vec_len};
+ghost use Rattle.nv_work.specs.Threads.{calls_on, forked_of, shares_of, with_call, with_calls};
 ghost use Rattle.nv_work.specs.Working.{ReadsCall, ReadsFork, ReadsForkedLine};
 ghost use Rattle.nv_script.specs.Words.{words_of};
 
@@ -28,10 +28,13 @@ pub(crate) struct ForkedLines {
 }
 
 impl ForkedLines {
+    ghost use Rattle.nv_work.specs.Taken.{lists_of};
+
     /// No calls for so many threads.
     pub(crate) fn new(alloc: Global, threads: u64) -> Result<ForkedLines, AllocError>
         requires { 1 ≤ threads }
-        ensures { IfOk result (λ lines. vec_len lines.threads ≡ threads) }
+        ensures lists { IfOk result (λ lines. lists_of lines ≡ shares_of threads []) }
+        ensures count { IfOk result (λ lines. vec_len lines.threads ≡ threads) }
     {
         let mut lists = Vec::with_capacity(alloc, threads as usize)?;
         for _thread in 0..threads {
@@ -43,6 +46,9 @@ impl ForkedLines {
     /// Adds the call of a line to those of its thread, if it has one.
     pub(crate) fn read(&mut self, alloc: Global, line: &[u8]) -> Result<(), LineFault>
         ensures line { ReadsForkedLine result line.now }
+        ensures lists { OnOk result
+            (lists_of self.new ≡ with_calls (lists_of self.old) (calls_on line.now)) }
+        ensures same { OnErr result (lists_of self.new ≡ lists_of self.old) }
         ensures count { vec_len self.new.threads ≡ vec_len self.old.threads }
     {
         if is_skipped(line) {
@@ -53,9 +59,11 @@ impl ForkedLines {
         Ok(())
     }
 
-    /// Adds a call to those of its thread.
+    /// Adds a call at the end of those of its thread.
     fn add(&mut self, call: ForkedCall) -> Result<(), AllocError>
-        ensures { vec_len self.new.threads ≡ vec_len self.old.threads }
+        ensures lists { OnOk result (lists_of self.new ≡ with_call (lists_of self.old) call) }
+        ensures same { OnErr result (lists_of self.new ≡ lists_of self.old) }
+        ensures count { vec_len self.new.threads ≡ vec_len self.old.threads }
     {
         let thread = thread_of(call.actor, self.threads.len() as u64);
         Ok(self.threads[thread as usize].push(call)?)

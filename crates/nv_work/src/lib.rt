@@ -47,7 +47,7 @@ pub fn work<R: Read, W: Write, G: Gate + Sync, T: Threads + Wait + Sync>(
 ) -> Result<(), Fault>
     requires threads { (1 ≤ threads) × (threads ≤ 32) }
     requires cleaners { cleaners ≤ 32 }
-    ensures script { WorksScript result (R.remaining reader.old) (R.remaining reader.new)
+    ensures script { WorksScript threads result (R.remaining reader.old) (R.remaining reader.new)
         (W.contents writer.old) (W.contents writer.new) }
 {
     let mut reader = ReadCounter::new(reader);
@@ -71,7 +71,7 @@ pub fn work_counted<R: CountedRead, W: CountedWrite, G: Gate + Sync, T: Threads 
     requires cleaners { cleaners ≤ 32 }
     requires reads { R.failed reader.old < 2 ^ 64 - 1 }
     requires writes { W.failed writer.old < 2 ^ 64 - 1 }
-    ensures script { WorksScript result (R.remaining reader.old) (R.remaining reader.new)
+    ensures script { WorksScript threads result (R.remaining reader.old) (R.remaining reader.new)
         (W.contents writer.old) (W.contents writer.new) }
     ensures reads { R.failed reader.new ≡ R.failed reader.old + failed_reads result }
     ensures writes { W.failed writer.new ≡ W.failed writer.old + failed_writes result }

@@ -1,15 +1,17 @@
 //! The lines of a script that threads play.
 
-ghost use Rattle.std.specs.Prelude.{◌≡◌, ◌+◌, ◌-◌, ◌^◌, ◌<◌, ◌≤◌, ℕ, [], List, None, Option, Some, false, vec_len, IfOk, IsOk, IsSome};
+ghost use Rattle.std.specs.Prelude.{◌≡◌, ◌+◌, ◌-◌, ◌^◌, ◌<◌, ◌≤◌, ℕ, [], List, None, Option, Some, false, map, vec_len, IfOk, IsOk, IsSome};
 ghost use Rattle.std.specs.Io.KnownBytes.{prepend_known};
+ghost use Rattle.std.specs.List.{concat};
 ghost use Rattle.nv_core.specs.Worlds.{HasRun, ShowsAny};
 ghost use Rattle.nv_machine.specs.World as machine;
 ghost use Rattle.nv_script.specs.Grammar.{command_of, is_skipped};
 ghost use Rattle.nv_script.specs.Lines.{WritesFront};
 ghost use Rattle.nv_script.specs.Play.{failed_reads, failed_writes};
 ghost use Rattle.nv_script.specs.Results.{HoldsNone};
+ghost use Rattle.nv_work.specs.Taken.{ReadsForked};
 ghost use Rattle.nv_work.specs.Work.{Fork, Works};
-ghost use Rattle.nv_work.specs.Working.{Adds, AtFork, FrontIs, FrontLineIs, ReadsForked, ReportIs, TellsAll, failed_in_front};
+ghost use Rattle.nv_work.specs.Working.{Adds, AtFork, FrontIs, FrontLineIs, ReportIs, TellsAll, failed_in_front};
 ghost use Rattle.nv_script.specs.Words.{words_of};
 
 use crate::forked::{ForkedLines, is_fork};
@@ -42,7 +44,7 @@ pub(crate) fn work_lines<R: CountedRead, W: CountedWrite, G: Gate + Sync, T: Thr
     requires world { player.old.world ≡ None }
     requires reads { R.failed reader.old < 2 ^ 64 - 1 }
     requires writes { W.failed writer.old < 2 ^ 64 - 1 }
-    ensures script { Works result (R.remaining reader.old) (R.remaining reader.new)
+    ensures script { Works threads result (R.remaining reader.old) (R.remaining reader.new)
         (λ text. WritesFront (W.contents writer.old) (W.contents writer.new)
         text player.new.outbox) }
     ensures unheld { HoldsNone result player.new.outbox }
@@ -136,8 +138,8 @@ fn read_forked<R: CountedRead, W: CountedWrite>(
     ensures read { (input old : Option (List ℕ)) (f : Fork)
         → AtFork input (prepend_known player.old.feed (R.remaining reader.old)) old
         (W.contents writer.old) player.old.outbox (fork + 1) f
-        → ShowsAny player.old.world (Some f.world)
-        → ReadsForked result input (R.remaining reader.new) old (W.contents writer.new)
+        → (f.behind ≡ []) → ShowsAny player.old.world (Some f.world)
+        → ReadsForked threads result input (R.remaining reader.new) old (W.contents writer.new)
         player.new.outbox player.new.world }
     ensures count { IfOk result (λ lines. vec_len lines.threads ≡ threads) }
     ensures reads { R.failed reader.new ≡ R.failed reader.old + failed_reads result }
@@ -168,7 +170,7 @@ fn tell<W: CountedWrite>(
 ) -> Result<(), Fault>
     requires world { IsSome player.old.world }
     requires writes { W.failed writer.old < 2 ^ 64 - 1 }
-    ensures told { TellsAll result
+    ensures told { TellsAll result (map (λ text. text.items) texts.items) player.old.world
         (record { written = W.contents writer.old; gathered = player.old.outbox })
         (record { written = W.contents writer.new; gathered = player.new.outbox }) }
     ensures writes { W.failed writer.new ≡ W.failed writer.old + failed_writes result }
@@ -194,7 +196,8 @@ fn add_texts<W: CountedWrite>(
     requires writes { W.failed writer.old < 2 ^ 64 - 1 }
     ensures told { Adds result
         (record { written = W.contents writer.old; gathered = player.old.outbox })
-        (record { written = W.contents writer.new; gathered = player.new.outbox }) }
+        (record { written = W.contents writer.new; gathered = player.new.outbox })
+        (concat (map (λ text. text.items) texts.items)) }
     ensures world { player.new.world ≡ player.old.world }
     ensures writes { W.failed writer.new ≡ W.failed writer.old + failed_writes result }
     ensures same_writer { W.place writer.new ≡ W.place writer.old }

@@ -7,10 +7,10 @@ use Rattle.nv_work.proofs.work_counted.Goals as goal
 pub returns-in_err-player-clause-script : goal.returns-in_err-player-clause-script
 returns-in_err-player-clause-script g c =
     let p = err_from_is_err_and c.from_residual.result c.from_residual.ensures.1 in
-    rw (p.1, p.2) (inl (no_room (g.R.CountedRead.remaining c.args.reader.now) (g.R.CountedRead.remaining c.args.reader.now)
-    (g.W.CountedWrite.contents c.args.writer.now)))
+    rw (p.1, p.2) (inl (inl (no_room (g.R.CountedRead.remaining c.args.reader.now) (g.R.CountedRead.remaining c.args.reader.now)
+    (g.W.CountedWrite.contents c.args.writer.now))))
 
 pub returns-clause-script : goal.returns-clause-script
 returns-clause-script g c =
     let worked = c.work_lines-outcome in
-    works_text worked.result c.end.result _ _ _ _ _ worked.ensures.script worked.ensures.unheld c.end.ensures.ended
+    works_text c.args.threads worked.result c.end.result _ _ _ _ _ worked.ensures.script worked.ensures.unheld c.end.ensures.ended

@@ -1,12 +1,12 @@
-use Rattle.std.proofs.Common.{sym}
+use Rattle.std.proofs.Common.{inl, sym}
 use Rattle.std.proofs.lemmas.Result.{err_from_is_err_and}
-use Rattle.nv_work.proofs.Told.{no_threads, none_shown, some_shown, threads_told}
+use Rattle.nv_work.proofs.Told.{answers_to, no_threads, none_shown, some_shown, threads_told}
 use Rattle.nv_work.proofs.reading.work_lines.Goals as goal
 
 pub returns-in_err-fork-clause-script : goal.returns-in_err-fork-clause-script
 returns-in_err-fork-clause-script g c =
     let p = err_from_is_err_and c.from_residual.result c.from_residual.ensures.1 in
-    rw (p.1, p.2) c.in_err-fork.ensures.front.0
+    rw (p.1, p.2) (inl c.in_err-fork.ensures.front.0)
 
 pub returns-in_err-fork-clause-unheld : goal.returns-in_err-fork-clause-unheld
 returns-in_err-fork-clause-unheld g c =
@@ -17,36 +17,42 @@ pub returns-in_err-lines-clause-script : goal.returns-in_err-lines-clause-script
 returns-in_err-lines-clause-script g c =
     let p = err_from_is_err_and c.from_residual-in_err-lines.result c.from_residual-in_err-lines.ensures.1 in
     let fork = c.in_ok-fork.ensures.front in
-    rw (p.1, p.2) (c.in_err-lines.ensures.read _ _ fork.0 fork.1 fork.2).0
+    rw (p.1, p.2) (inl (c.in_err-lines.ensures.read _ _ fork.0 fork.1 fork.2 fork.3).0)
 
 pub returns-in_err-lines-clause-unheld : goal.returns-in_err-lines-clause-unheld
 returns-in_err-lines-clause-unheld g c =
     let p = err_from_is_err_and c.from_residual-in_err-lines.result c.from_residual-in_err-lines.ensures.1 in
     let fork = c.in_ok-fork.ensures.front in
-    rw (p.1, p.2) (c.in_err-lines.ensures.read _ _ fork.0 fork.1 fork.2).1
+    rw (p.1, p.2) (c.in_err-lines.ensures.read _ _ fork.0 fork.1 fork.2 fork.3).1
 
 pub unreachable-requires : goal.unreachable-requires
 unreachable-requires g c =
     let fork = c.in_ok-fork.ensures.front in
-    let all = c.in_ok-lines.ensures.read _ _ fork.0 fork.1 fork.2 in
+    let all = c.in_ok-lines.ensures.read _ _ fork.0 fork.1 fork.2 fork.3 in
     none_shown _ all.0.world (sym c.in_default.ensures.value) all.4
 
 pub returns-in_err-world-clause-script : goal.returns-in_err-world-clause-script
 returns-in_err-world-clause-script g c =
     let p = err_from_is_err_and c.from_residual-in_err-world.result c.from_residual-in_err-world.ensures.1 in
     let fork = c.in_ok-fork.ensures.front in
-    let all = c.in_ok-lines.ensures.read _ _ fork.0 fork.1 fork.2 in
+    let all = c.in_ok-lines.ensures.read _ _ fork.0 fork.1 fork.2 fork.3 in
     let shown = some_shown _ _ all.0.world (sym c.in-Some.ensures.value) all.4 in
-    rw (p.1, p.2) (no_threads _ _ _ _ _ all.0 all.1 all.2 all.3 _ (c.in_err-world.ensures all.0.world shown)).0
+    rw (p.1, p.2) (no_threads c.args.threads _ _ _ _ _ all.0 all.1 all.2 all.3 _ (c.in_err-world.ensures.err all.0.world shown)).0
 
 pub returns-clause-script : goal.returns-clause-script
 returns-clause-script g c =
     let fork = c.in_ok-fork.ensures.front in
-    let all = c.in_ok-lines.ensures.read _ _ fork.0 fork.1 fork.2 in
-    (threads_told _ _ _ _ _ all.0 all.1 all.2 all.3 c.tell.result c.tell.ensures.told).0
+    let all = c.in_ok-lines.ensures.read _ _ fork.0 fork.1 fork.2 fork.3 in
+    let shown = some_shown _ _ all.0.world (sym c.in-Some.ensures.value) all.4 in
+    let answers = answers_to c.args.threads all.0 c.in-Some.world _ _ shown all.5 c.in_ok-world.ensures.texts in
+    (threads_told c.args.threads _ _ _ _ _ all.0 c.in-Some.world c.in_ok-world.world _ all.1 all.2 all.3 shown c.in_ok-world.ensures.world
+    answers c.tell.result c.tell.ensures.told).0
 
 pub returns-clause-unheld : goal.returns-clause-unheld
 returns-clause-unheld g c =
     let fork = c.in_ok-fork.ensures.front in
-    let all = c.in_ok-lines.ensures.read _ _ fork.0 fork.1 fork.2 in
-    (threads_told _ _ _ _ _ all.0 all.1 all.2 all.3 c.tell.result c.tell.ensures.told).1
+    let all = c.in_ok-lines.ensures.read _ _ fork.0 fork.1 fork.2 fork.3 in
+    let shown = some_shown _ _ all.0.world (sym c.in-Some.ensures.value) all.4 in
+    let answers = answers_to c.args.threads all.0 c.in-Some.world _ _ shown all.5 c.in_ok-world.ensures.texts in
+    (threads_told c.args.threads _ _ _ _ _ all.0 c.in-Some.world c.in_ok-world.world _ all.1 all.2 all.3 shown c.in_ok-world.ensures.world
+    answers c.tell.result c.tell.ensures.told).1
