@@ -27,7 +27,7 @@ pub(crate) struct Job<C: Commits, B: Blocks> {
 
 /// What a thread leaves: its session, and the text of its answers. An answer without room for its text ends it.
 #[derive(Drop)]
-pub(crate) struct Played<C: Commits, B: Blocks> {
+pub(crate) struct PlayedJob<C: Commits, B: Blocks> {
     pub(crate) session: Session<C, B>,
     pub(crate) text: Result<Vec<u8>, NoMemory>,
 }
@@ -42,7 +42,7 @@ pub(crate) struct Crew<C: Commits, B: Blocks> {
 /// What all threads leave, and the sessions of the cleaners.
 #[derive(Drop)]
 pub(crate) struct Back<C: Commits, B: Blocks> {
-    pub(crate) played: Vec<Played<C, B>>,
+    pub(crate) played: Vec<PlayedJob<C, B>>,
     pub(crate) cleaners: Vec<Session<C, B>>,
 }
 
@@ -91,7 +91,7 @@ impl<C: Commits, B: Blocks> Back<C, B> {
         let mut sessions = Vec::new(alloc);
         let mut texts = Vec::new(alloc);
         for one in played {
-            let Played { session, text } = one;
+            let PlayedJob { session, text } = one;
             texts.push(text?)?;
             sessions.push(session)?;
         }
@@ -107,7 +107,7 @@ fn play<C: Commits, B: Blocks, G: Gate, R: Wait>(
     service: &Service<C, B>,
     gate: &G,
     job: Job<C, B>,
-) -> Played<C, B>
+) -> PlayedJob<C, B>
     ensures text { IfOk result.text
         (λ text. IsThreadText service.now.geometry.numbers.actors (job.thread, job.calls.items) text.items) }
     ensures seat { result.session.number ≡ job.session.number }
@@ -118,7 +118,7 @@ fn play<C: Commits, B: Blocks, G: Gate, R: Wait>(
         calls,
     } = job;
     let text = answers(rt, alloc, service, gate, thread, &mut session, calls);
-    Played { session, text }
+    PlayedJob { session, text }
 }
 
 /// The text of what these calls of a thread are answered.
@@ -305,7 +305,7 @@ fn play_all<
     gate: &G,
     jobs: Vec<Job<C, B>>,
     ended: &AtomicBool,
-) -> Result<Vec<Played<C, B>>, AllocError>
+) -> Result<Vec<PlayedJob<C, B>>, AllocError>
     ensures texts { IfOk result (λ played. AllZip
         (λ share told. IfOk told (λ text. IsThreadText service.now.geometry.numbers.actors share text.items))
         (map (λ job. (job.thread, job.calls.items)) jobs.items)
