@@ -1,0 +1,3 @@
+pub mod Nearer
+pub mod Visible
+pub mod Windows

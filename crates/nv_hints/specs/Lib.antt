@@ -1,0 +1,3 @@
+pub mod Nearest
+pub mod Recent
+pub mod Shown
