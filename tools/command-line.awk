@@ -9,9 +9,11 @@
 # The command line. The program itself is the command with the empty name. A command without subcommands takes one FILE.
 BEGIN {
     add_command("")
+    add_option("play", "summary")
     add_command("play")
     add_option("work", "threads", "<N>", 1, 32)
     add_option("work", "cleaners", "<M>", 0, 32)
+    add_option("work", "summary")
     add_command("work")
     add_option("", "version")
     subcommands[++subcommand_count] = "play"

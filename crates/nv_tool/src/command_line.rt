@@ -4,7 +4,7 @@
 
 use crate::crowd::Crowd;
 use clap::error::ErrorKind;
-use clap::{Arg, ArgMatches, Command, Error, value_parser};
+use clap::{Arg, ArgAction, ArgMatches, Command, Error, value_parser};
 use std::alloc::{AllocError, Global};
 use std::convert::AsStr;
 
@@ -56,8 +56,13 @@ actors.
 Answers go to standard output. A call that cannot be made is answered with the reason, as
 'refused E8 Exists', and the script goes on. A fault ends it: a line that is no command, or a read
 or a write that fails. What was answered stands, and the fault goes to standard error, as
-'novacore: E27 ScriptFault(2, word)' for a word in line 2 that is unknown. A FILE that can't be
-opened is the fault 'E28 Read'.
+'novacore: E27 ScriptFault(2, word)' for a word in line 2 that is unknown. Behind it stands what is
+wrong with the line, as
+
+  first.nova:2: 'do 0 wrte 1.1 0 a': 'wrte' is no call; the nearest is 'write'
+
+A FILE that can't be opened is the fault 'E28 Read'. '--summary' lists all refusals on standard
+error, each behind the number of lines that had it.
 
 Exit status: 0 if the whole script was played, 1 after a fault, 2 for a command line that is refused.";
 
@@ -97,11 +102,16 @@ The answers of each thread stand behind its number, thread by thread, and behind
 'tree', 'snaps' and 'audit' tell. Which of two calls of two threads comes first is not told: calls
 on one file or directory may be answered in either order.
 
-Faults are those of 'novacore play'. Also, a script without 'fork' ends by an 'order' fault at its
-last line, and so does a 'fork' while no file system is made; a line behind 'fork' that is no 'do'
-is a 'word' fault; and where an actor has a call at 'fork', the fault is 'E21 ActorBusy'.
+Faults are those of 'novacore play', and what is wrong stands behind them; '--summary' is as there.
+Also, a script without 'fork' ends by an 'order' fault at its last line, and so does a 'fork' while
+no file system is made; a line behind 'fork' that is no 'do' is a 'word' fault; and where an actor
+has a call at 'fork', the fault is 'E21 ActorBusy'.
 
 Exit status: 0 if the whole script was played, 1 after a fault, 2 for a command line that is refused.";
+
+const SUMMARY: &str = "summary";
+
+const SUMMARY_HELP: &str = "Tell on standard error how many lines had each refusal";
 
 const THREADS: &str = "threads";
 
@@ -122,9 +132,16 @@ const STANDARD_INPUT: &str = "-";
 #[derive(Clone, Copy, Debug, PartialEq, Eq, Drop)]
 pub(crate) enum Task<'a> {
     /// To play a script from a file, or from standard input where none is named.
-    Play { file: Option<&'a str> },
+    Play {
+        file: Option<&'a str>,
+        summary: bool,
+    },
     /// To have so many threads make the calls of a script, beside so many cleaners.
-    Work { file: Option<&'a str>, crowd: Crowd },
+    Work {
+        file: Option<&'a str>,
+        summary: bool,
+        crowd: Crowd,
+    },
 }
 
 impl<'a> Task<'a> {
@@ -137,9 +154,11 @@ impl<'a> Task<'a> {
         match matches.subcommand() {
             Some((PLAY, play)) => Ok(Task::Play {
                 file: file_of(play),
+                summary: play.get_flag(SUMMARY),
             }),
             Some((WORK, work)) => Ok(Task::Work {
                 file: file_of(work),
+                summary: work.get_flag(SUMMARY),
                 crowd: crowd_of(work),
             }),
             _ => Err(command.error(ErrorKind::MissingSubcommand, "a subcommand is missing")?),
@@ -183,7 +202,16 @@ fn play<'a>(alloc: Global) -> Result<Command<'a>, AllocError> {
     Command::new(alloc, PLAY)
         .about(PLAY_ABOUT)
         .after_help(PLAY_AFTER_HELP)
-        .arg(Arg::new(alloc, FILE).help(FILE_HELP))
+        .arg(Arg::new(alloc, FILE).help(FILE_HELP))?
+        .arg(summary(alloc))
+}
+
+/// The option by which refusals are counted.
+fn summary<'a>(alloc: Global) -> Arg<'a> {
+    Arg::new(alloc, SUMMARY)
+        .long(SUMMARY)
+        .action(ArgAction::SetTrue)
+        .help(SUMMARY_HELP)
 }
 
 /// The subcommand that has threads play a script.
@@ -205,5 +233,6 @@ fn work<'a>(alloc: Global) -> Result<Command<'a>, AllocError> {
         .after_help(WORK_AFTER_HELP)
         .arg(Arg::new(alloc, FILE).help(FILE_HELP))?
         .arg(threads)?
-        .arg(cleaners)
+        .arg(cleaners)?
+        .arg(summary(alloc))
 }

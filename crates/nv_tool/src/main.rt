@@ -8,19 +8,20 @@ mod command_line;
 mod crowd;
 #[cfg(test)]
 mod tests;
+mod told;
 
 use clap::error::ErrorKind;
 use command_line::Task;
 use crowd::Crowd;
 use nv_base::Fault;
-use nv_script::{Outcome, exit_code, fault_line, play_and_leave};
-use nv_work::{OpenGate, work};
+use nv_script::{Outcome, exit_code, fault_line};
 use std::env::Env;
 use std::process::ExitCode;
 use std::rt::Files;
 use std::sync::Wait;
 use std::thread::Threads;
 use std::{env, fs, io};
+use told::{Told, play_told, work_told};
 
 /// The line that tells of want of memory. It takes none.
 const OUT_OF_MEMORY: &str = "novacore: E1 OutOfMemory\n";
@@ -64,21 +65,31 @@ fn answered<R: Print + Eprint>(rt: &R, error: &clap::Error) -> Outcome
     }
 }
 
+/// What stands for the name of a script from standard input.
+const STANDARD_INPUT: &str = "standard input";
+
 /// Plays a script from a file, or from standard input where none is named.
 ///
 /// An answer is held back only while the script's next line is there already.
 fn play_script<R: AllocGlobal + Files + Input + Print>(
     rt: &R,
     file: Option<&str>,
-) -> Result<(), Fault> {
+    summary: bool,
+) -> Told {
     let mut writer = io::writer(rt);
     match file {
-        None => play_and_leave(rt.alloc(), &mut rt.reader(), &mut writer),
+        None => play_told(
+            rt.alloc(),
+            STANDARD_INPUT,
+            summary,
+            &mut rt.reader(),
+            &mut writer,
+        ),
         Some(path) => {
             let Ok(mut file) = fs::open(rt, path) else {
-                return Err(Fault::Read);
+                return Told::unread();
             };
-            play_and_leave(rt.alloc(), &mut file, &mut writer)
+            play_told(rt.alloc(), path, summary, &mut file, &mut writer)
         }
     }
 }
@@ -87,59 +98,51 @@ fn play_script<R: AllocGlobal + Files + Input + Print>(
 fn work_script<R: AllocGlobal + Files + Input + Print + Threads + Wait + Sync>(
     rt: &R,
     file: Option<&str>,
+    summary: bool,
     crowd: Crowd,
-) -> Result<(), Fault> {
-    let Crowd { threads, cleaners } = crowd;
+) -> Told {
     let mut writer = io::writer(rt);
     match file {
-        None => work(
+        None => work_told(
             rt,
             rt.alloc(),
+            STANDARD_INPUT,
+            summary,
+            crowd,
             &mut rt.reader(),
             &mut writer,
-            threads,
-            cleaners,
-            &OpenGate,
         ),
         Some(path) => {
             let Ok(mut file) = fs::open(rt, path) else {
-                return Err(Fault::Read);
+                return Told::unread();
             };
-            work(
-                rt,
-                rt.alloc(),
-                &mut file,
-                &mut writer,
-                threads,
-                cleaners,
-                &OpenGate,
-            )
+            work_told(rt, rt.alloc(), path, summary, crowd, &mut file, &mut writer)
         }
     }
 }
 
-/// Does what the command line asks for.
+/// Does what the command line asks for, and tells what stands behind the text of a fault.
 fn perform<R: AllocGlobal + Env + Files + Input + Print + Eprint + Threads + Wait + Sync>(
     rt: &R,
-) -> Result<Outcome, Fault> {
+) -> Result<(Outcome, Option<String>), Fault> {
     let alloc = rt.alloc();
     let words: Vec<String> = match env::args(rt) {
         Ok(words) => words.collect(alloc)?,
         Err(error) if error.kind() == io::ErrorKind::InvalidData => {
-            return Ok(answered(rt, &command_line::not_text(alloc)?));
+            return Ok((answered(rt, &command_line::not_text(alloc)?), None));
         }
-        Err(_) => return Ok(Outcome::OutOfMemory),
+        Err(_) => return Ok((Outcome::OutOfMemory, None)),
     };
     match Task::read(alloc, words.as_slice()) {
-        Ok(Task::Play { file }) => {
-            play_script(rt, file)?;
-            Ok(Outcome::Played)
-        }
-        Ok(Task::Work { file, crowd }) => {
-            work_script(rt, file, crowd)?;
-            Ok(Outcome::Played)
-        }
-        Err(error) => Ok(answered(rt, &error)),
+        Ok(Task::Play { file, summary }) => Ok(play_script(rt, file, summary).into_outcome()),
+        Ok(
+            Task::Work {
+                file,
+                summary,
+                crowd,
+            },
+        ) => Ok(work_script(rt, file, summary, crowd).into_outcome()),
+        Err(error) => Ok((answered(rt, &error), None)),
     }
 }
 
@@ -147,14 +150,17 @@ fn perform<R: AllocGlobal + Env + Files + Input + Print + Eprint + Threads + Wai
 fn run<R: AllocGlobal + Env + Files + Input + Print + Eprint + Threads + Wait + Sync>(
     rt: &R,
 ) -> Outcome {
-    let outcome = match perform(rt) {
-        Ok(outcome) => outcome,
-        Err(fault) => Outcome::Failed(fault),
+    let (outcome, behind) = match perform(rt) {
+        Ok(ended) => ended,
+        Err(fault) => (Outcome::Failed(fault), None),
     };
     match outcome {
         Outcome::Failed(fault) => tell(rt, &fault),
         Outcome::OutOfMemory => tell_of_memory(rt),
         _ => {}
+    }
+    if let Some(text) = behind {
+        let _told = rt.eprint(text);
     }
     outcome
 }

@@ -2,6 +2,7 @@
 
 mod examples;
 mod help;
+mod hints;
 mod refusals;
 mod work;
 
@@ -40,15 +41,25 @@ fn answered(alloc: Global, words: &'static [&'static str]) -> Option<(i32, Strin
 
 #[test]
 fn play_takes_one_file_or_none(rt: HostRuntime) {
-    let cases: [(&[&str], Option<&str>); 4] = [
-        (&["novacore", "play"], None),
-        (&["novacore", "play", "-"], None),
-        (&["novacore", "play", "first.nova"], Some("first.nova")),
-        (&["novacore", "play", "--", "-x"], Some("-x")),
+    let cases: [(&[&str], Option<&str>, bool); 6] = [
+        (&["novacore", "play"], None, false),
+        (&["novacore", "play", "-"], None, false),
+        (
+            &["novacore", "play", "first.nova"],
+            Some("first.nova"),
+            false,
+        ),
+        (&["novacore", "play", "--", "-x"], Some("-x"), false),
+        (&["novacore", "play", "--summary"], None, true),
+        (
+            &["novacore", "play", "a.nova", "--summary"],
+            Some("a.nova"),
+            true,
+        ),
     ];
-    for (words, file) in cases {
+    for (words, file, summary) in cases {
         let task = Task::read(rt.alloc(), words).ok();
-        assert!(rt; task == Some(Task::Play { file }), "at {words:?}");
+        assert!(rt; task == Some(Task::Play { file, summary }), "at {words:?}");
     }
 }
 
@@ -126,6 +137,6 @@ fn help_of_play_shows_what_a_script_prints(rt: HostRuntime) -> Result<(), AllocE
 
 #[test]
 fn a_missing_file_is_a_failed_read(rt: HostRuntime) {
-    let outcome = play_script(&rt, Some("no such folder/first.nova"));
-    assert!(rt; outcome == Err(Fault::Read));
+    let told = play_script(&rt, Some("no such folder/first.nova"), false);
+    assert!(rt; told.ended == Err(Fault::Read));
 }

@@ -19,13 +19,14 @@ Options:
 pub(crate) const PLAY_HELP: &str = "\
 Play a script, and print what each of its lines is answered
 
-Usage: novacore play [FILE]
+Usage: novacore play [OPTIONS] [FILE]
 
 Arguments:
   [FILE]  The script; without FILE, or where it is -, from standard input
 
 Options:
-  -h, --help  Print help
+      --summary  Tell on standard error how many lines had each refusal
+  -h, --help     Print help
 ";
 
 pub(crate) const WORK_HELP: &str = "\
@@ -39,6 +40,7 @@ Arguments:
 Options:
       --threads <N>   How many threads make the calls behind 'fork', 1 to 32 [default: 2]
       --cleaners <M>  How many cleaners run beside, 0 to 32 [default: 1]
+      --summary       Tell on standard error how many lines had each refusal
   -h, --help          Print help
 ";
 

@@ -2,7 +2,7 @@
 //! which answers them where the program is not built, does so by the same text.
 
 /// The words behind the program's name, between spaces, and the text.
-pub(crate) const REFUSALS: [(&str, &str); 23] = [
+pub(crate) const REFUSALS: [(&str, &str); 25] = [
     (
         "paly",
         "\
@@ -116,7 +116,7 @@ Usage: novacore help [COMMAND]...
         "\
 error: unexpected argument 'b' found
 
-Usage: novacore play [FILE]
+Usage: novacore play [OPTIONS] [FILE]
 
 For more information, try '--help'.
 ",
@@ -128,7 +128,7 @@ error: unexpected argument '--file' found
 
   tip: to pass '--file' as a value, use '-- --file'
 
-Usage: novacore play [FILE]
+Usage: novacore play [OPTIONS] [FILE]
 
 For more information, try '--help'.
 ",
@@ -140,7 +140,27 @@ error: unexpected argument '-V' found
 
   tip: to pass '-V' as a value, use '-- -V'
 
-Usage: novacore play [FILE]
+Usage: novacore play [OPTIONS] [FILE]
+
+For more information, try '--help'.
+",
+    ),
+    (
+        "play --summary=x",
+        "\
+error: unexpected value 'x' for '--summary' found; no more were expected
+
+Usage: novacore play --summary [FILE]
+
+For more information, try '--help'.
+",
+    ),
+    (
+        "work --summary --summary",
+        "\
+error: the argument '--summary' cannot be used multiple times
+
+Usage: novacore work [OPTIONS] [FILE]
 
 For more information, try '--help'.
 ",

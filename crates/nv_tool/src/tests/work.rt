@@ -38,7 +38,15 @@ fn work_takes_threads_and_cleaners(rt: HostRuntime) {
     for (words, file, threads, cleaners) in cases {
         let task = Task::read(rt.alloc(), words).ok();
         let crowd = Crowd::at_most(threads, cleaners);
-        assert!(rt; task == Some(Task::Work { file, crowd }), "at {words:?}");
+        let summary = false;
+        assert!(rt;
+            task == Some(Task::Work {
+                file,
+                summary,
+                crowd
+            }),
+            "at {words:?}"
+        );
     }
 }
 
@@ -102,6 +110,11 @@ fn help_of_work_shows_what_a_script_prints(rt: HostRuntime) -> Result<(), AllocE
 
 #[test]
 fn a_missing_script_for_threads_is_a_failed_read(rt: HostRuntime) {
-    let outcome = work_script(&rt, Some("no such folder/first.nova"), Crowd::usual());
-    assert!(rt; outcome == Err(Fault::Read));
+    let told = work_script(
+        &rt,
+        Some("no such folder/first.nova"),
+        false,
+        Crowd::usual(),
+    );
+    assert!(rt; told.ended == Err(Fault::Read));
 }

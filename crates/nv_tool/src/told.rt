@@ -1,0 +1,135 @@
+//! Scripts that are played, and what is told of them on standard error behind the text of their fault.
+
+ghost use Rattle.std.specs.Prelude.{◌≡◌, MatchResult};
+ghost use Rattle.nv_script.specs.Play.{PlaysScript};
+ghost use Rattle.nv_script.specs.SerialPlayer.{serial_player};
+ghost use Rattle.nv_script.specs.Serially.{PlaysAlone};
+ghost use Rattle.nv_work.specs.Work.{WorksScript};
+
+use crate::crowd::Crowd;
+use nv_base::Fault;
+use nv_hints::{By, KeptReader, Recent, Tally, TallyWriter, hint_line, push_summary};
+use nv_script::{Outcome, play_and_leave};
+use nv_work::{OpenGate, work};
+use std::alloc::{AllocError, Global};
+use std::io::{Read, Write};
+use std::sync::Wait;
+use std::thread::Threads;
+
+/// How a script ended, and what is told behind the text of its fault.
+#[derive(Drop)]
+pub(crate) struct Told {
+    pub(crate) ended: Result<(), Fault>,
+    pub(crate) behind: Option<String>,
+}
+
+impl Told {
+    /// A script that could not be read.
+    pub(crate) fn unread() -> Told
+        ensures { result.ended ≡ Err Fault.Read }
+    {
+        Told {
+            ended: Err(Fault::Read),
+            behind: None,
+        }
+    }
+
+    /// How the program ends, and what is told behind the text of a fault.
+    pub(crate) fn into_outcome(self) -> (Outcome, Option<String>)
+        ensures { MatchResult self.ended
+            (λ _. result.0 ≡ Outcome.Played) (λ fault. result.0 ≡ Outcome.Failed fault) }
+    {
+        let Told { ended, behind } = self;
+        match ended {
+            Ok(()) => (Outcome::Played, behind),
+            Err(fault) => (Outcome::Failed(fault), behind),
+        }
+    }
+}
+
+/// Plays a script of this name. The writer gets what [`play_and_leave`] writes, and nothing of what is told of it.
+pub(crate) fn play_told<R: Read, W: Write>(
+    alloc: Global,
+    script: &str,
+    summary: bool,
+    reader: &mut R,
+    writer: &mut W,
+) -> Told
+    ensures script { PlaysScript result.ended (R.remaining reader.old) (R.remaining reader.new)
+        (W.contents writer.old) (W.contents writer.new) }
+    ensures serial { PlaysAlone serial_player result.ended (R.remaining reader.old)
+        (R.remaining reader.new) (W.contents writer.old) (W.contents writer.new) }
+{
+    let mut kept = KeptReader::new(alloc, reader);
+    let mut counted = TallyWriter::new(alloc, writer, summary);
+    let ended = play_and_leave(alloc, &mut kept, &mut counted);
+    let behind = behind(
+        alloc,
+        script,
+        By::Play,
+        &ended,
+        kept.recent(),
+        counted.tally(),
+    )
+    .ok();
+    Told { ended, behind }
+}
+
+/// Has threads play a script of this name. The writer gets what [`work`] writes, and nothing of what is told of it.
+pub(crate) fn work_told<R: Read, W: Write, T: Threads + Wait + Sync>(
+    rt: &T,
+    alloc: Global,
+    script: &str,
+    summary: bool,
+    crowd: Crowd,
+    reader: &mut R,
+    writer: &mut W,
+) -> Told
+    ensures script { WorksScript result.ended (R.remaining reader.old) (R.remaining reader.new)
+        (W.contents writer.old) (W.contents writer.new) }
+{
+    let Crowd { threads, cleaners } = crowd;
+    let mut kept = KeptReader::new(alloc, reader);
+    let mut counted = TallyWriter::new(alloc, writer, summary);
+    let ended = work(
+        rt,
+        alloc,
+        &mut kept,
+        &mut counted,
+        threads,
+        cleaners,
+        &OpenGate,
+    );
+    let behind = behind(
+        alloc,
+        script,
+        By::Work,
+        &ended,
+        kept.recent(),
+        counted.tally(),
+    )
+    .ok();
+    Told { ended, behind }
+}
+
+/// What is told behind the text of a fault: what is wrong with its line, and then the refusals where they were counted.
+fn behind(
+    alloc: Global,
+    script: &str,
+    by: By,
+    ended: &Result<(), Fault>,
+    recent: &Recent,
+    tally: Option<&Tally>,
+) -> Result<String, AllocError> {
+    let mut out = match ended {
+        Ok(()) => String::new(alloc),
+        Err(fault) => match hint_line(alloc, script, by, fault, recent)? {
+            Some(line) => line,
+            None => String::new(alloc),
+        },
+    };
+    if let Some(tally) = tally {
+        push_summary(&mut out, tally)?;
+    }
+    Ok(out)
+}
