@@ -1,9 +1,11 @@
 //! How many lines of a script had each refusal.
 
+ghost use Rattle.std.specs.Prelude.{◌≡◌};
+
 use crate::form::push_name;
 use memchr::memchr;
+use nv_script::{CountedWrite, WriteFailed};
 use std::alloc::{AllocError, Global};
-use std::io;
 use std::io::Write;
 
 /// The byte that ends a line.
@@ -138,19 +140,25 @@ without room wants as many as it has pages, and 8 at once from 8 pages on. 'spac
 of a log. 'auto INO' gives log pages back, and 'drain COUNT' what no snapshot holds any more.
 ";
 
-/// A writer that counts the refusals among what it writes, where that is asked for.
+/// A writer that counts its failures, and the refusals among what it writes where that is asked for.
 #[derive(Drop)]
 pub struct TallyWriter<'a, W> {
     writer: &'a mut W,
+    failures: u64,
     alloc: Global,
     tally: Option<Tally>,
 }
 
 impl<'a, W: Write> TallyWriter<'a, W> {
-    /// Nothing is written. `counts` tells whether refusals are counted.
-    pub fn new(alloc: Global, writer: &'a mut W, counts: bool) -> TallyWriter<'a, W> {
+    /// Nothing is written, and no write has failed. `counts` tells whether refusals are counted.
+    pub fn new(alloc: Global, writer: &'a mut W, counts: bool) -> TallyWriter<'a, W>
+        ensures same { result.writer.ghost_name ≡ writer.entry.ghost_name }
+        ensures writer { result.writer.now ≡ writer.old }
+        ensures failures { result.failures ≡ 0 }
+    {
         TallyWriter {
             writer,
+            failures: 0,
             alloc,
             tally: counts.then(|| Tally::new(alloc)),
         }
@@ -162,18 +170,29 @@ impl<'a, W: Write> TallyWriter<'a, W> {
     }
 }
 
-impl<'a, W: Write> Write for TallyWriter<'a, W> {
+impl<'a, W: Write> CountedWrite for TallyWriter<'a, W> {
     ghost contents = { λ counted. W.contents counted.writer.now };
 
-    fn write(&mut self, bytes: &[u8]) -> io::Result<usize> {
-        let count = self.writer.write(bytes)?;
-        if let Some(tally) = &mut self.tally {
-            tally.add(self.alloc, &bytes[..count]);
+    ghost failed = { λ counted. counted.failures };
+
+    ghost place = { λ counted. counted.writer.ghost_name };
+
+    fn write(&mut self, bytes: &[u8]) -> Result<usize, WriteFailed> {
+        match self.writer.write(bytes) {
+            Ok(count) if count > 0 || bytes.is_empty() => {
+                if let Some(tally) = &mut self.tally {
+                    tally.add(self.alloc, &bytes[..count]);
+                }
+                Ok(count)
+            }
+            _ => {
+                self.failures += 1;
+                Err(WriteFailed)
+            }
         }
-        Ok(count)
     }
 
-    fn flush(&mut self) -> io::Result<()> {
-        self.writer.flush()
+    fn failures(&self) -> u64 {
+        self.failures
     }
 }

@@ -9,8 +9,8 @@ ghost use Rattle.nv_work.specs.Work.{WorksScript};
 use crate::crowd::Crowd;
 use nv_base::Fault;
 use nv_hints::{By, KeptReader, Recent, Tally, TallyWriter, hint_line, push_summary};
-use nv_script::{Outcome, play_and_leave};
-use nv_work::{OpenGate, work};
+use nv_script::{Outcome, play_counted_and_leave};
+use nv_work::{OpenGate, work_counted};
 use std::alloc::{AllocError, Global};
 use std::io::{Read, Write};
 use std::sync::Wait;
@@ -47,7 +47,7 @@ impl Told {
     }
 }
 
-/// Plays a script of this name. The writer gets what [`play_and_leave`] writes, and nothing of what is told of it.
+/// Plays a script of this name. The writer gets what [`play_counted_and_leave`] writes, and nothing of what is told of it.
 pub(crate) fn play_told<R: Read, W: Write>(
     alloc: Global,
     script: &str,
@@ -62,7 +62,7 @@ pub(crate) fn play_told<R: Read, W: Write>(
 {
     let mut kept = KeptReader::new(alloc, reader);
     let mut counted = TallyWriter::new(alloc, writer, summary);
-    let ended = play_and_leave(alloc, &mut kept, &mut counted);
+    let ended = play_counted_and_leave(alloc, &mut kept, &mut counted);
     let behind = behind(
         alloc,
         script,
@@ -75,7 +75,7 @@ pub(crate) fn play_told<R: Read, W: Write>(
     Told { ended, behind }
 }
 
-/// Has threads play a script of this name. The writer gets what [`work`] writes, and nothing of what is told of it.
+/// Has threads play a script of this name. The writer gets what [`work_counted`] writes, and nothing of what is told of it.
 pub(crate) fn work_told<R: Read, W: Write, T: Threads + Wait + Sync>(
     rt: &T,
     alloc: Global,
@@ -91,7 +91,7 @@ pub(crate) fn work_told<R: Read, W: Write, T: Threads + Wait + Sync>(
     let Crowd { threads, cleaners } = crowd;
     let mut kept = KeptReader::new(alloc, reader);
     let mut counted = TallyWriter::new(alloc, writer, summary);
-    let ended = work(
+    let ended = work_counted(
         rt,
         alloc,
         &mut kept,
