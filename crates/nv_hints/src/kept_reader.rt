@@ -13,12 +13,12 @@ pub struct KeptReader<'a, R> {
     reader: &'a mut R,
     failures: u64,
     alloc: Global,
-    recent: Recent,
+    recent: &'a mut Recent,
 }
 
 impl<'a, R: Read> KeptReader<'a, R> {
-    /// Nothing is read, and no read has failed.
-    pub fn new(alloc: Global, reader: &'a mut R) -> KeptReader<'a, R>
+    /// No read has failed. What is read goes behind the lines of `recent`.
+    pub fn new(alloc: Global, reader: &'a mut R, recent: &'a mut Recent) -> KeptReader<'a, R>
         ensures same { result.reader.ghost_name ≡ reader.entry.ghost_name }
         ensures reader { result.reader.now ≡ reader.old }
         ensures failures { result.failures ≡ 0 }
@@ -27,13 +27,8 @@ impl<'a, R: Read> KeptReader<'a, R> {
             reader,
             failures: 0,
             alloc,
-            recent: Recent::new(alloc),
+            recent,
         }
-    }
-
-    /// The lines that were read last.
-    pub fn recent(&self) -> &Recent {
-        &self.recent
     }
 }
 

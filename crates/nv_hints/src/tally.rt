@@ -24,15 +24,17 @@ struct Row {
 /// The refusals among lines of answers, in the order in which each came first, and the front of the line that is not at its end.
 #[derive(Drop)]
 pub struct Tally {
+    counts: bool,
     rows: Vec<Row>,
     line: Vec<u8>,
     lost: bool,
 }
 
 impl Tally {
-    /// No line is counted.
-    pub fn new(alloc: Global) -> Tally {
+    /// No line is counted so far, and none ever where `counts` does not ask for it.
+    pub fn new(alloc: Global, counts: bool) -> Tally {
         Tally {
+            counts,
             rows: Vec::new(alloc),
             line: Vec::new(alloc),
             lost: false,
@@ -41,7 +43,7 @@ impl Tally {
 
     /// Counts the lines that end in these bytes. Where memory is refused, the count is given up.
     pub fn add(&mut self, alloc: Global, bytes: &[u8]) {
-        if self.try_add(alloc, bytes).is_err() {
+        if self.counts && self.try_add(alloc, bytes).is_err() {
             self.lost = true;
         }
     }
@@ -112,8 +114,12 @@ fn behind_thread(line: &[u8]) -> &[u8] {
     }
 }
 
-/// Adds how many lines had each refusal, in the order in which each came first, and what the want of blocks means.
+/// Adds how many lines had each refusal, in the order in which each came first, and what the want of blocks means. Where none are
+/// counted, it adds nothing.
 pub fn push_summary(out: &mut String, tally: &Tally) -> Result<(), AllocError> {
+    if !tally.counts {
+        return Ok(());
+    }
     if tally.lost {
         return out.push_str("refused lines: not counted, since memory was refused\n");
     }
@@ -140,18 +146,18 @@ without room wants as many as it has pages, and 8 at once from 8 pages on. 'spac
 of a log. 'auto INO' gives log pages back, and 'drain COUNT' what no snapshot holds any more.
 ";
 
-/// A writer that counts its failures, and the refusals among what it writes where that is asked for.
+/// A writer that counts its failures, and the refusals among what it writes where its tally counts them.
 #[derive(Drop)]
 pub struct TallyWriter<'a, W> {
     writer: &'a mut W,
     failures: u64,
     alloc: Global,
-    tally: Option<Tally>,
+    tally: &'a mut Tally,
 }
 
 impl<'a, W: Write> TallyWriter<'a, W> {
-    /// Nothing is written, and no write has failed. `counts` tells whether refusals are counted.
-    pub fn new(alloc: Global, writer: &'a mut W, counts: bool) -> TallyWriter<'a, W>
+    /// No write has failed. What is written goes to the `tally`.
+    pub fn new(alloc: Global, writer: &'a mut W, tally: &'a mut Tally) -> TallyWriter<'a, W>
         ensures same { result.writer.ghost_name ≡ writer.entry.ghost_name }
         ensures writer { result.writer.now ≡ writer.old }
         ensures failures { result.failures ≡ 0 }
@@ -160,13 +166,8 @@ impl<'a, W: Write> TallyWriter<'a, W> {
             writer,
             failures: 0,
             alloc,
-            tally: counts.then(|| Tally::new(alloc)),
+            tally,
         }
-    }
-
-    /// The refusals so far, where they are counted.
-    pub fn tally(&self) -> Option<&Tally> {
-        self.tally.as_ref()
     }
 }
 
@@ -180,9 +181,7 @@ impl<'a, W: Write> CountedWrite for TallyWriter<'a, W> {
     fn write(&mut self, bytes: &[u8]) -> Result<usize, WriteFailed> {
         match self.writer.write(bytes) {
             Ok(count) if count > 0 || bytes.is_empty() => {
-                if let Some(tally) = &mut self.tally {
-                    tally.add(self.alloc, &bytes[..count]);
-                }
+                self.tally.add(self.alloc, &bytes[..count]);
                 Ok(count)
             }
             _ => {

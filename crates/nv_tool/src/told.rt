@@ -60,19 +60,29 @@ pub(crate) fn play_told<R: Read, W: Write>(
     ensures serial { PlaysAlone serial_player result.ended (R.remaining reader.old)
         (R.remaining reader.new) (W.contents writer.old) (W.contents writer.new) }
 {
-    let mut kept = KeptReader::new(alloc, reader);
-    let mut counted = TallyWriter::new(alloc, writer, summary);
-    let ended = play_counted_and_leave(alloc, &mut kept, &mut counted);
-    let behind = behind(
-        alloc,
-        script,
-        By::Play,
-        &ended,
-        kept.recent(),
-        counted.tally(),
-    )
-    .ok();
+    let mut recent = Recent::new(alloc);
+    let mut tally = Tally::new(alloc, summary);
+    let ended = play_kept(alloc, reader, writer, &mut recent, &mut tally);
+    let behind = behind(alloc, script, By::Play, &ended, &recent, &tally).ok();
     Told { ended, behind }
+}
+
+/// Plays a script, keeps the lines that are read last, and counts the refusals where that is asked for.
+fn play_kept<R: Read, W: Write>(
+    alloc: Global,
+    reader: &mut R,
+    writer: &mut W,
+    recent: &mut Recent,
+    tally: &mut Tally,
+) -> Result<(), Fault>
+    ensures script { PlaysScript result (R.remaining reader.old) (R.remaining reader.new)
+        (W.contents writer.old) (W.contents writer.new) }
+    ensures serial { PlaysAlone serial_player result (R.remaining reader.old)
+        (R.remaining reader.new) (W.contents writer.old) (W.contents writer.new) }
+{
+    let mut reader = KeptReader::new(alloc, reader, recent);
+    let mut writer = TallyWriter::new(alloc, writer, tally);
+    play_counted_and_leave(alloc, &mut reader, &mut writer)
 }
 
 /// Has threads play a script of this name. The writer gets what [`work_counted`] writes, and nothing of what is told of it.
@@ -85,31 +95,41 @@ pub(crate) fn work_told<R: Read, W: Write, T: Threads + Wait + Sync>(
     reader: &mut R,
     writer: &mut W,
 ) -> Told
-    ensures script { WorksScript result.ended (R.remaining reader.old) (R.remaining reader.new)
-        (W.contents writer.old) (W.contents writer.new) }
+    ensures script { WorksScript crowd.threads result.ended (R.remaining reader.old)
+        (R.remaining reader.new) (W.contents writer.old) (W.contents writer.new) }
+{
+    let mut recent = Recent::new(alloc);
+    let mut tally = Tally::new(alloc, summary);
+    let ended = work_kept(rt, alloc, crowd, reader, writer, &mut recent, &mut tally);
+    let behind = behind(alloc, script, By::Work, &ended, &recent, &tally).ok();
+    Told { ended, behind }
+}
+
+/// Has threads play a script, keeps the lines that are read last, and counts the refusals where that is asked for.
+fn work_kept<R: Read, W: Write, T: Threads + Wait + Sync>(
+    rt: &T,
+    alloc: Global,
+    crowd: Crowd,
+    reader: &mut R,
+    writer: &mut W,
+    recent: &mut Recent,
+    tally: &mut Tally,
+) -> Result<(), Fault>
+    ensures script { WorksScript crowd.threads result (R.remaining reader.old)
+        (R.remaining reader.new) (W.contents writer.old) (W.contents writer.new) }
 {
     let Crowd { threads, cleaners } = crowd;
-    let mut kept = KeptReader::new(alloc, reader);
-    let mut counted = TallyWriter::new(alloc, writer, summary);
-    let ended = work_counted(
+    let mut reader = KeptReader::new(alloc, reader, recent);
+    let mut writer = TallyWriter::new(alloc, writer, tally);
+    work_counted(
         rt,
         alloc,
-        &mut kept,
-        &mut counted,
+        &mut reader,
+        &mut writer,
         threads,
         cleaners,
         &OpenGate,
-    );
-    let behind = behind(
-        alloc,
-        script,
-        By::Work,
-        &ended,
-        kept.recent(),
-        counted.tally(),
     )
-    .ok();
-    Told { ended, behind }
 }
 
 /// What is told behind the text of a fault: what is wrong with its line, and then the refusals where they were counted.
@@ -119,7 +139,7 @@ fn behind(
     by: By,
     ended: &Result<(), Fault>,
     recent: &Recent,
-    tally: Option<&Tally>,
+    tally: &Tally,
 ) -> Result<String, AllocError> {
     let mut out = match ended {
         Ok(()) => String::new(alloc),
@@ -128,8 +148,6 @@ fn behind(
             None => String::new(alloc),
         },
     };
-    if let Some(tally) = tally {
-        push_summary(&mut out, tally)?;
-    }
+    push_summary(&mut out, tally)?;
     Ok(out)
 }
