@@ -1,14 +1,15 @@
 -- What a service that closes tells of its world, and why it does not close.
-use Rattle.std.proofs.Common.{◌≡◌, ◌∙◌, ◌⊎◌, ℕ, List, All, map, slice_index_or, subst, sym, ⊎_elim}
+use Rattle.std.proofs.Common.{◌≡◌, ◌∙◌, ◌⊎◌, ℕ, List, All, ap, length, map, slice_index_or, subst, sym, ⊎_elim}
 use Rattle.nv_base.specs.Memory.{out_of_memory}
 use Rattle.nv_base.specs.declared.fault.Fault.{Fault}
 use Rattle.nv_base.specs.declared.fault.Fault.TheVariants.{Mismatch, SeatsOut}
 use Rattle.nv_base.specs.declared.fault.MismatchPart.TheVariants.{Lists}
+use Rattle.nv_base.specs.declared.geometry.Geometry.{Geometry}
 use Rattle.nv_cell.specs.Cell.{CellValue}
 use Rattle.nv_core.specs.AtRest.{IsMismatchOf}
 use Rattle.nv_core.specs.declared.parts.Parts.{Parts}
-use Rattle.nv_service.specs.Closing.{IsDifference, IsNotOlder}
-use Rattle.nv_service.specs.Rests.{AreInPlace, CellRestValue, IsKnown, told_by, told_of}
+use Rattle.nv_service.specs.Closing.{AreBeside, IsDifference, IsNotOlder}
+use Rattle.nv_service.specs.Rests.{AreAllSlots, AreInPlace, CellRestValue, IsKnown, told_by, told_of}
 use Rattle.nv_service.specs.Sessions.{SessionValue}
 use Rattle.nv_service.proofs.NotOlder.{not_older}
 
@@ -19,6 +20,13 @@ pub none_older : (opened : List ℕ) (sessions : List SessionValue) (rests : Lis
     → All (λ (s : SessionValue). IsNotOlder opened s.seen cells) sessions
 none_older opened sessions rests cells fit placed known =
     λ k d lt. not_older opened (slice_index_or sessions k d).seen rests cells fit placed (known k d lt)
+
+-- what lay beside cells is as it came out of their locks
+pub beside : (geometry : Geometry) (slots : ℕ) (parts : Parts) (rests cells : List CellRestValue) → cells ≡ rests
+    → parts.geometry ≡ geometry → length cells ≡ slots → AreAllSlots rests → map told_by rests ≡ map told_of parts.cells
+    → AreBeside geometry slots parts cells
+beside geometry slots parts rests cells same device count order told =
+    record { device = device; count = count; order = subst AreAllSlots (sym same) order; told = ap (map told_by) same ∙ told }
 
 -- the seats are not why parts differ
 pub not_seats : (parts : Parts) (cells : List CellRestValue) (fault : Fault)

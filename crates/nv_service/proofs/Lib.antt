@@ -15,6 +15,7 @@ pub mod PartBlocks
 mod Raised
 mod ReadyOver
 mod Refusals
+mod Slots
 mod Takings
 mod Told
 pub mod Turning

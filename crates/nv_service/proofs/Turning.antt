@@ -35,6 +35,13 @@ split_last f g xs front x ys start y same is to =
     same_from_push (map f front) (map g start) (f x) (g y)
     (sym (ap (map f) is ∙ map-append f front (x ∷ [])) ∙ same ∙ ap (map g) to ∙ map-append g start (y ∷ []))
 
+-- and with one more behind both
+pub joined_last : {A B T : Type 0} (f : A → T) (g : B → T) (xs more : List A) (x : A) (ys further : List B) (y : B)
+    → map f xs ≡ map g ys → more ≡ xs ++ x ∷ [] → further ≡ ys ++ y ∷ [] → f x ≡ g y → map f more ≡ map g further
+joined_last f g xs more x ys further y same is to last =
+    ap (map f) is ∙ map-append f xs (x ∷ []) ∙ ap (λ ts. ts ++ f x ∷ []) same ∙ ap (λ t. map g ys ++ t ∷ []) last
+    ∙ sym (ap (map g) to ∙ map-append g ys (y ∷ []))
+
 -- what is left of a list behind one more
 pub drop_next : {A : Type 0} (k : ℕ) (xs : List A) (y : A) (ys : List A) → drop k xs ≡ y ∷ ys → drop (k + 1) xs ≡ ys
 drop_next k [] y ys is = absurd (nil_not y ys (sym (drop_nil k) ∙ is)) where

@@ -1,19 +1,27 @@
 -- What a service closes with, and why it refuses.
-use Rattle.std.specs.Prelude.{◌≡◌, ◌⊎◌, ℕ, ◌<◌, ◌≤◌, List, length, slice_index, slice_index_or}
+use Rattle.std.specs.Prelude.{◌≡◌, ◌⊎◌, ℕ, ◌<◌, ◌≤◌, List, length, map, slice_index, slice_index_or}
 use Rattle.nv_base.specs.declared.fault.Fault.{Fault}
 use Rattle.nv_base.specs.declared.fault.Fault.TheVariants.{Mismatch}
 use Rattle.nv_base.specs.declared.fault.MismatchPart.TheVariants.{Lists}
+use Rattle.nv_base.specs.declared.geometry.Geometry.{Geometry}
 use Rattle.nv_cell.specs.Cell.{CellValue}
 use Rattle.nv_core.specs.AtRest.{IsMismatchOf}
 use Rattle.nv_core.specs.declared.parts.Parts.{Parts}
 use Rattle.nv_service.specs.Locked.{version_at}
-use Rattle.nv_service.specs.Rests.{AreInPlace, CellRestValue}
+use Rattle.nv_service.specs.Rests.{AreAllSlots, AreInPlace, CellRestValue, told_by, told_of}
 
 -- no cell is older than what was seen of its inode
 abbrev pub IsNotOlder : List ℕ → List ℕ → List CellValue → Type 0
 IsNotOlder opened seen cells =
     (ino : ℕ) (d : CellValue) → ino < length cells
     → version_at opened ino (slice_index seen ino) ≤ (slice_index_or cells ino d).state.version
+
+-- parts of a device, and what lay beside its cells: of each slot, in their order, both tell the same blocks and version
+pub record AreBeside (geometry : Geometry) (slots : ℕ) (parts : Parts) (cells : List CellRestValue) : Type 0 where
+  pub device : parts.geometry ≡ geometry
+  pub count : length cells ≡ slots
+  pub order : AreAllSlots cells
+  pub told : map told_by cells ≡ map told_of parts.cells
 
 -- WHY PARTS ARE NOT AT REST: one differs from those of a world at rest, or a cell came out of another slot's lock
 abbrev pub IsDifference : Parts → List CellRestValue → Fault → Type 0

@@ -5,6 +5,7 @@ pub mod Closing
 pub mod Committing
 pub mod Ending
 pub mod Fresh
+pub mod Judging
 pub mod Locked
 pub mod Names
 pub mod Opened

@@ -1,11 +1,14 @@
 -- What lies beside a part under its lock.
-use Rattle.std.specs.Prelude.{◌≡◌, ℕ, ◌<◌, ◌≤◌, List, length, slice_index, slice_index_or}
+use Rattle.std.specs.Prelude.{◌≡◌, ℕ, ◌<◌, ◌≤◌, List, length, map, slice_index, slice_index_or}
+use Rattle.std.specs.List.{range_with_len}
 use Rattle.nv_alloc.specs.FreeList.{FreeBlocks}
 use Rattle.nv_cell.specs.Cell.{CellValue, block_total}
 use Rattle.nv_service.specs.Locked.{version_at}
 
--- the number of an inode, how many blocks the share beside its cell has, and the version at which its owner owns it
+-- the slot that a cell was taken out of, the number of its inode, how many blocks the share beside it has, and the version
+-- at which the inode's owner owns it
 pub record CellRestValue : Type 0 where
+  pub slot : ℕ
   pub ino : ℕ
   pub blocks : ℕ
   pub version : ℕ
@@ -28,6 +31,13 @@ list_told list = length list.blocks
 -- no more was seen of an inode than its owner has
 abbrev pub IsKnown : List ℕ → List ℕ → CellRestValue → Type 0
 IsKnown opened seen rest = version_at opened rest.ino (slice_index seen rest.ino) ≤ rest.version
+
+-- all slots, each at its place
+abbrev pub slot_of : CellRestValue → ℕ
+slot_of rest = rest.slot
+
+abbrev pub AreAllSlots : List CellRestValue → Type 0
+AreAllSlots rests = map slot_of rests ≡ range_with_len 0 (length rests)
 
 -- each cell came out of the lock of its inode's slot
 abbrev pub AreInPlace : List CellRestValue → Type 0

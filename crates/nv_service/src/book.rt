@@ -27,14 +27,15 @@ pub struct LockedBook<C: Commits> {
 }
 
 impl<C: Commits> Model for LockedBook<C> {
-    ghost use Rattle.std.specs.Prelude.{◌≡◌, ◌+◌};
+    ghost use Rattle.std.specs.Prelude.{◌≡◌, ◌+◌, ◌≤◌};
     ghost use Rattle.nv_book.specs.Book.{BookValue};
 
     ghost Value = { BookValue };
 
     ghost view = { λ b. b.book };
 
-    ghost invariant = { λ b. b.book.state.commit ≡ C.commit + b.commits.total };
+    ghost invariant = { λ b. (b.book.state.commit ≡ C.commit + b.commits.total)
+        × (C.epoch ≤ b.book.state.snaps.epoch) };
 }
 
 impl<C: Commits> LockedBook<C> {

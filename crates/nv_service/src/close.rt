@@ -7,21 +7,23 @@ ghost use Rattle.nv_base.specs.declared.fault.Fault.TheVariants.{SeatsOut};
 ghost use Rattle.nv_core.specs.AtRest.{AreJudged, at_rest, parts_of};
 ghost use Rattle.nv_core.specs.Worlds.{Shows};
 ghost use Rattle.nv_core.specs.declared.parts.Parts.{Parts};
-ghost use Rattle.nv_service.specs.Closing.{IsDifference, IsNotOlder};
+ghost use Rattle.nv_service.specs.Closing.{AreBeside, IsDifference, IsNotOlder};
+ghost use Rattle.nv_service.specs.Judging.{IsFound};
 ghost use Rattle.nv_service.specs.Opening.{blocks_in};
-ghost use Rattle.nv_service.specs.Rests.{AreInPlace, CellRestValue, list_told, told_by, told_of};
+ghost use Rattle.nv_service.specs.Rests.{AreAllSlots, CellRestValue, list_told, told_by, told_of};
 ghost use Rattle.nv_service.specs.Seats.{AreSeats};
 
 use crate::book::LockedBook;
+use crate::judge::Judge;
 use crate::names::{Blocks, Commits};
-use crate::rests::{CellRest, ListRest, Rests, are_in_place};
+use crate::rests::{CellRest, ListRest, Rests};
 use crate::seats::are_seats;
 use crate::service::Service;
 use crate::session::Session;
 use crate::unlocked::{lock_cells, lock_lists, unlock_cells, unlock_lists};
 use crossbeam_utils::CachePadded;
 use nv_alloc::FreeList;
-use nv_base::{Fault, Items, MismatchPart};
+use nv_base::{Fault, Items};
 use nv_cell::InodeCell;
 use nv_core::{Parts, World};
 use std::alloc::Global;
@@ -67,13 +69,15 @@ impl<C: Commits, B: Blocks> PartRoom<C, B> {
 }
 
 impl<C: Commits, B: Blocks> Service<C, B> {
-    /// Makes the world again, of parts that are at rest, in which no actor has a call. It has all commits of the sessions,
-    /// and no inode is older than a session has seen it.
+    /// Makes the world again, of parts that are at rest, in which no actor has a call. It has all commits of the sessions
+    /// and the device of the opening, its epoch is no earlier one, and no inode is older than at the opening or than a
+    /// session has seen it.
     ///
     /// `SeatsOut` where the sessions are not those that were given out, each once; `OutOfMemory` where room was refused;
     /// `Mismatch` with the first part that differs from those of a world at rest: a hand that has blocks or a number makes
-    /// the lists differ. The same service and sessions come back, and no share and no note was joined. No lock is taken,
-    /// and the time is that of [`World::from_parts`].
+    /// the lists differ. [`Service::found`] has the part from then on. The same service and sessions come back, each cell
+    /// behind the lock of the slot where it lay, and no share and no note was joined. No lock is taken, and the time is that
+    /// of [`World::from_parts`].
     pub fn close<R: Wait>(
         self,
         rt: &R,
@@ -87,6 +91,9 @@ impl<C: Commits, B: Blocks> Service<C, B> {
             (AreSeats self.seating.given (map (λ s. s.number) sessions.items)) }
         ensures commit { IfOk result (λ world. world.shared.book.state.commit
             ≡ C.commit + sum_by (λ s. s.commits) sessions.items) }
+        ensures epoch { IfOk result (λ world. C.epoch ≤ world.shared.book.state.snaps.epoch) }
+        ensures versions { IfOk result (λ world.
+            IsNotOlder C.opened [] world.shared.cells.items) }
         ensures seen { IfOk result (λ world. All (λ s.
             IsNotOlder C.opened s.seen world.shared.cells.items) sessions.items) }
         ensures blocks { IfOk result (λ world.
@@ -95,7 +102,10 @@ impl<C: Commits, B: Blocks> Service<C, B> {
             ↔ (¬ AreSeats self.seating.given (map (λ s. s.number) sessions.items))) }
         ensures err { IfErr result (λ refused. (refused.0 ≡ SeatsOut) ⊎ (refused.0 ≡ out_of_memory)
             ⊎ ((parts : Parts) × (cells : List CellRestValue)
-            × (parts.geometry ≡ self.geometry) × IsDifference parts cells refused.0)) }
+            × AreBeside self.geometry (vec_len self.cells.locks) parts cells
+            × IsDifference parts cells refused.0)) }
+        ensures found { IfErr result (λ refused.
+            IsFound self.judge refused.1.judge refused.0) }
         ensures service { IfErr result (λ refused. (refused.1.total ≡ self.total)
             × (refused.1.geometry ≡ self.geometry)
             × (refused.1.seating.given ≡ self.seating.given)) }
@@ -108,27 +118,30 @@ impl<C: Commits, B: Blocks> Service<C, B> {
             Ok(room) => room,
             Err(fault) => return Err((fault, self, sessions)),
         };
-        let (parts, rests) = self.apart(room);
-        match world_of(alloc, parts, &rests.cells) {
+        let (parts, rests, mut judge) = self.apart(room);
+        match judge.world_of(alloc, parts, &rests.cells) {
             Ok(world) => {
                 rests.join(rt, sessions);
                 Ok(world)
             }
-            Err((fault, parts)) => Err((fault, rests.together(parts), sessions)),
+            Err((fault, parts)) => Err((fault, rests.together(parts, judge), sessions)),
         }
     }
 }
 
 impl<C: Commits, B: Blocks> Rests<C, B> {
     /// Puts the parts behind their locks again.
-    fn together(self, parts: Parts) -> Service<C, B>
+    fn together(self, parts: Parts, judge: Judge) -> Service<C, B>
         requires cells { map told_by self.cells.items ≡ map told_of parts.cells }
+        requires slots { AreAllSlots self.cells.items }
         requires lists { self.lists.items ≡ map list_told parts.lists }
         requires commits { parts.book.state.commit ≡ C.commit + self.commits.total }
+        requires epoch { C.epoch ≤ parts.book.state.snaps.epoch }
         requires geometry { parts.geometry ≡ self.geometry }
         ensures total { result.total ≡ self.total }
         ensures geometry { result.geometry ≡ self.geometry }
         ensures given { result.seating.given ≡ self.seating.given }
+        ensures judge { result.judge ≡ judge }
     {
         let Rests {
             alloc,
@@ -155,33 +168,7 @@ impl<C: Commits, B: Blocks> Rests<C, B> {
             fresh,
             seating,
             total,
+            judge,
         }
-    }
-}
-
-/// The world of these parts, where each cell came out of its own slot's lock: else the lists differ.
-fn world_of<C: Commits, B: Blocks>(
-    alloc: Global,
-    parts: Parts,
-    cells: &[CellRest<C, B>],
-) -> Result<World, (Fault, Parts)>
-    ensures shows { IfOk result (λ world. Shows world (at_rest parts)) }
-    ensures parts { IfOk result (λ world. parts_of world.shared ≡ parts) }
-    ensures judged { OnOk result (AreJudged parts) }
-    ensures placed { OnOk result (AreInPlace cells.now) }
-    ensures err { IfErr result (λ refused.
-        (refused.0 ≡ out_of_memory) ⊎ IsDifference parts cells.now refused.0) }
-    ensures same { IfErr result (λ refused. refused.1 ≡ parts) }
-{
-    let world = match World::from_parts(alloc, parts) {
-        Ok(world) => world,
-        Err(refused) => return Err(refused),
-    };
-    if are_in_place(cells) {
-        return Ok(world);
-    }
-    match world.into_parts() {
-        Ok(parts) => Err((Fault::Mismatch(MismatchPart::Lists), parts)),
-        Err(_) => unreachable!(),
     }
 }

@@ -7,6 +7,7 @@ ghost use Rattle.nv_base.specs.declared.limits.TheConstants.{ACTORS};
 ghost use Rattle.nv_service.specs.Opened.{cell_blocks, list_blocks, versions_in};
 
 use crate::cell::LockedCell;
+use crate::cell_locks::CellLocks;
 use crate::list::LockedList;
 use crate::names::{Blocks, Commits};
 use crate::passes::{Fresh, Maker};
@@ -21,7 +22,7 @@ use std::sync::{Mutex, ledger};
 
 /// Room for the locks of a service that is to be opened: of its cells, its lists and its seats.
 pub(crate) struct LockRoom<C: Commits, B: Blocks> {
-    pub(crate) cells: Vec<Mutex<LockedCell<C, B>>>,
+    pub(crate) cells: CellLocks<C, B>,
     pub(crate) lists: Vec<CachePadded<Mutex<LockedList<B>>>>,
     pub(crate) seats: Vec<Mutex<FreeSeat<C, B>>>,
 }
@@ -30,7 +31,7 @@ impl<C: Commits, B: Blocks> LockRoom<C, B> {
     /// Room for so many cells and lists, and for all seats.
     pub(crate) fn new(alloc: Global, cells: u64, lists: u64) -> Result<LockRoom<C, B>, Fault>
         ensures cells { IfOk result (λ room.
-            (room.cells.items ≡ []) × (cells ≤ vec_capacity room.cells)) }
+            (vec_len room.cells.locks ≡ 0) × (cells ≤ vec_capacity room.cells.locks)) }
         ensures lists { IfOk result (λ room.
             (room.lists.items ≡ []) × (lists ≤ vec_capacity room.lists)) }
         ensures seats { IfOk result (λ room.
@@ -41,7 +42,7 @@ impl<C: Commits, B: Blocks> LockRoom<C, B> {
         let cells: Vec<Mutex<LockedCell<C, B>>> = Vec::with_capacity(alloc, cells as usize)?;
         match Vec::with_capacity(alloc, lists as usize) {
             Ok(lists) => Ok(LockRoom {
-                cells,
+                cells: CellLocks::new(cells),
                 lists,
                 seats,
             }),
@@ -54,7 +55,7 @@ impl<C: Commits, B: Blocks> LockRoom<C, B> {
 
     /// Gives the room back.
     pub(crate) fn destroy_empty(self)
-        requires { (vec_len self.cells ≡ 0) × (vec_len self.lists ≡ 0) }
+        requires { (vec_len self.cells.locks ≡ 0) × (vec_len self.lists ≡ 0) }
     {
         let LockRoom {
             cells,
@@ -73,13 +74,13 @@ pub(crate) fn lock_first_cells<C: Commits, B: Blocks>(
     book: &mut ledger::Book<B>,
     rest: &mut Share<B>,
     mut cells: Vec<InodeCell>,
-    mut into: Vec<Mutex<LockedCell<C, B>>>,
-) -> Vec<Mutex<LockedCell<C, B>>>
+    mut into: CellLocks<C, B>,
+) -> CellLocks<C, B>
     requires opened { C.opened ≡ versions_in cells.items }
     requires maker { maker.old ≡ 0 }
     requires rest { (vec_len cells < rest.old.parts) × (rest.old.amount ≡ 0) }
-    requires room { (into.items ≡ []) × (vec_len cells ≤ vec_capacity into) }
-    ensures count { vec_len result ≡ vec_len cells }
+    requires room { (vec_len into.locks ≡ 0) × (vec_len cells ≤ vec_capacity into.locks) }
+    ensures count { vec_len result.locks ≡ vec_len cells }
     ensures rest { (rest.new.parts + vec_len cells ≡ rest.old.parts) × (rest.new.amount ≡ 0) }
     ensures total { book.new.total ≡ book.old.total + cell_blocks cells.items }
 {
@@ -89,12 +90,12 @@ pub(crate) fn lock_first_cells<C: Commits, B: Blocks>(
         book.add(&mut blocks, cell.blocks());
         let ino = Ino::new(into.len() as u64);
         let owner = maker.owner(fresh);
-        into.push_reserved(Mutex::new(LockedCell {
+        into.add(LockedCell {
             ino,
             cell,
             blocks,
             owner,
-        }));
+        });
     }
     cells.destroy_empty();
     into

@@ -79,6 +79,7 @@ pub(crate) fn gather_cells<C: Commits, B: Blocks, R: Wait>(
 {
     for rest in rests {
         let CellRest {
+            slot: _,
             ino: _,
             blocks: held,
             mut owner,

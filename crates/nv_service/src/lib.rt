@@ -8,6 +8,7 @@
 mod book;
 mod calls;
 mod cell;
+mod cell_locks;
 mod change;
 mod checking;
 mod clean;
@@ -21,6 +22,7 @@ mod fresh;
 mod gather;
 mod guards;
 mod held;
+mod judge;
 mod lending;
 mod lent;
 mod list;

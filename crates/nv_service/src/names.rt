@@ -27,6 +27,9 @@ pub trait Commits: Ledger {
     // The number of the last commit.
     ghost commit: { ℕ };
 
+    // The epoch.
+    ghost epoch: { ℕ };
+
     // The version of each inode.
     ghost opened: { List ℕ };
 
@@ -41,6 +44,8 @@ impl Commits for Brand {
     ghost whole = { 0 };
 
     ghost commit = { 0 };
+
+    ghost epoch = { 0 };
 
     ghost opened = { [] };
 

@@ -1,6 +1,6 @@
 //! A service opens: the parts of a world go behind locks.
 
-ghost use Rattle.std.specs.Prelude.{◌≡◌, ◌⊎◌, ◌+◌, ◌≤◌, IfErr, IfOk, [], length, vec_capacity};
+ghost use Rattle.std.specs.Prelude.{◌≡◌, ◌⊎◌, ◌+◌, ◌≤◌, IfErr, IfOk, OnOk, [], length, vec_capacity, vec_len};
 ghost use Rattle.nv_base.specs.Memory.{out_of_memory};
 ghost use Rattle.nv_base.specs.declared.fault.Fault.TheVariants.{ActorBusy};
 ghost use Rattle.nv_base.specs.declared.limits.TheConstants.{ACTORS};
@@ -13,6 +13,7 @@ ghost use Rattle.nv_service.specs.Opening.{blocks_in};
 
 use crate::book::LockedBook;
 use crate::first_locks::{LockRoom, lock_first_cells, lock_first_lists};
+use crate::judge::Judge;
 use crate::names::{Blocks, Commits, Names, Opened};
 use crate::seats::{Reserve, Seating, free_seats};
 use crate::service::Service;
@@ -25,7 +26,7 @@ use std::sync::Mutex;
 impl<C: Commits, B: Blocks> Service<C, B> {
     /// Puts a world's parts behind locks, with a share of the blocks beside each list and cell and the owner of an inode
     /// beside its cell. The names are those of the two ledgers, and these say what stands now: the number of the last
-    /// commit, and the version of each inode.
+    /// commit, the epoch, and the version of each inode.
     ///
     /// `OutOfMemory` where room was refused, before anything else; `ActorBusy` where an actor has a call. World and names
     /// come back as they were.
@@ -38,11 +39,13 @@ impl<C: Commits, B: Blocks> Service<C, B> {
         requires blocks { AreBlockNames names B.name B.parts B.whole B.placed
             world.shared.geometry.numbers }
         requires stood { (C.commit ≡ world.shared.book.state.commit)
+            × (C.epoch ≡ world.shared.book.state.snaps.epoch)
             × (C.opened ≡ versions_in world.shared.cells.items) }
         ensures blocks { IfOk result (λ service.
             service.total.amount ≡ blocks_in (parts_of world.shared)) }
         ensures geometry { IfOk result (λ service. service.geometry ≡ world.shared.geometry) }
         ensures seats { IfOk result (λ service. service.seating.given ≡ 0) }
+        ensures idle { (m : machine.World) → Shows world m → OnOk result (¬ IsBusy m) }
         ensures err { (m : machine.World) → Shows world m → IfErr result (λ refused.
             (refused.0 ≡ out_of_memory) ⊎ ((refused.0 ≡ ActorBusy) × IsBusy m)) }
         ensures same { IfErr result (λ refused. (refused.1 ≡ world) × (refused.2 ≡ names)) }
@@ -68,11 +71,13 @@ impl<C: Commits, B: Blocks> Service<C, B> {
         requires blocks { AreBlockNames names B.name B.parts B.whole B.placed
             parts.geometry.numbers }
         requires stood { (C.commit ≡ parts.book.state.commit)
+            × (C.epoch ≡ parts.book.state.snaps.epoch)
             × (C.opened ≡ versions_in parts.cells) }
         requires slots { (length parts.cells ≡ parts.geometry.numbers.inodes)
             × (length parts.lists ≡ parts.geometry.numbers.cpus) }
         requires device { blocks_in parts ≡ parts.geometry.numbers.blocks }
-        requires cells { (room.cells.items ≡ []) × (length parts.cells ≤ vec_capacity room.cells) }
+        requires cells { (vec_len room.cells.locks ≡ 0)
+            × (length parts.cells ≤ vec_capacity room.cells.locks) }
         requires lists { (room.lists.items ≡ []) × (length parts.lists ≤ vec_capacity room.lists) }
         requires seats { (room.seats.items ≡ []) × (ACTORS ≤ vec_capacity room.seats) }
         ensures blocks { result.total.amount ≡ blocks_in parts }
@@ -131,6 +136,7 @@ impl<C: Commits, B: Blocks> Service<C, B> {
             fresh,
             seating,
             total: counts.close(),
+            judge: Judge::new(),
         }
     }
 }

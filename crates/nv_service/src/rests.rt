@@ -1,9 +1,9 @@
 //! What lies beside a part under its lock.
 
-ghost use Rattle.std.specs.Prelude.{◌≡◌, ◌+◌, ◌≤◌, ◌↔◌, All, IsTrue, sum_by, vec_capacity, vec_len};
+ghost use Rattle.std.specs.Prelude.{◌≡◌, ◌+◌, ◌≤◌, ◌↔◌, [], All, IsTrue, sum_by, vec_capacity, vec_len};
 ghost use Rattle.nv_service.specs.Rests.{AreInPlace, IsKnown};
 
-use crate::cell::LockedCell;
+use crate::cell_locks::{CellLocks, Slot};
 use crate::gather::{gather_cells, gather_lists, gather_seats, gather_sessions};
 use crate::list::LockedList;
 use crate::names::{Blocks, Commits};
@@ -17,9 +17,11 @@ use std::marker::Model;
 use std::sync::ledger::{Share, Total};
 use std::sync::{Mutex, Wait, ledger};
 
-/// What lies beside a cell: the number of its inode, the share of its blocks, and the pass that owns the inode.
+/// What lies beside a cell: the slot that it was taken out of, the number of its inode, the share of its blocks, and the
+/// pass that owns the inode.
 #[derive(Drop)]
 pub(crate) struct CellRest<C: Commits, B: Blocks> {
+    pub(crate) slot: Slot,
     pub(crate) ino: Ino,
     pub(crate) blocks: Share<B>,
     pub(crate) owner: Owner<C>,
@@ -33,6 +35,7 @@ impl<C: Commits, B: Blocks> Model for CellRest<C, B> {
     ghost Value = { CellRestValue };
 
     ghost view = { λ r. record {
+      slot = r.slot;
       ino = r.ino;
       blocks = r.blocks.amount;
       version = version_at C.opened r.ino r.owner.version;
@@ -62,7 +65,7 @@ impl<B: Blocks> Model for ListRest<B> {
 pub(crate) struct Rests<C: Commits, B: Blocks> {
     pub(crate) alloc: Global,
     pub(crate) geometry: Geometry,
-    pub(crate) cell_locks: Vec<Mutex<LockedCell<C, B>>>,
+    pub(crate) cell_locks: CellLocks<C, B>,
     pub(crate) cells: Vec<CellRest<C, B>>,
     pub(crate) list_locks: Vec<CachePadded<Mutex<LockedList<B>>>>,
     pub(crate) lists: Vec<ListRest<B>>,
@@ -70,8 +73,8 @@ pub(crate) struct Rests<C: Commits, B: Blocks> {
     pub(crate) fresh: Fresh<C>,
     pub(crate) seating: Seating<C, B>,
     pub(crate) total: Total<B>,
-    ghost no_locks: { (vec_len cell_locks ≡ 0) × (vec_len list_locks ≡ 0) },
-    ghost room: { (vec_len cells ≤ vec_capacity cell_locks)
+    ghost no_locks: { (vec_len cell_locks.locks ≡ 0) × (vec_len list_locks ≡ 0) },
+    ghost room: { (vec_len cells ≤ vec_capacity cell_locks.locks)
         × (vec_len lists ≤ vec_capacity list_locks) },
     ghost placed: { vec_len cells + vec_len lists ≡ B.placed },
     ghost all_parts: { total.parts ≡ B.whole },
@@ -80,13 +83,15 @@ pub(crate) struct Rests<C: Commits, B: Blocks> {
 
 impl<C: Commits, B: Blocks> Rests<C, B> {
     /// Takes in all shares, those of the sessions too, and what all have seen: the commits of the sessions are all that
-    /// the ledger counts, no session has seen more of an inode than its owner has, and no list and no cell has a block
+    /// the ledger counts, no owner's version is below that of the opening, no session has seen more of an inode than its owner
+    /// has, and no list and no cell has a block
     /// that is not of the total. What the hands of the sessions hold ends here.
     pub(crate) fn join<R: Wait>(self, rt: &R, sessions: Vec<Session<C, B>>)
         requires seats { vec_len sessions ≡ self.seating.given }
         ensures commits { self.commits.total ≡ sum_by (λ s. s.commits) sessions.items }
         ensures blocks { sum_by (λ r. r) self.lists.items + sum_by (λ r. r.blocks) self.cells.items
             ≤ self.total.amount }
+        ensures versions { All (IsKnown C.opened []) self.cells.items }
         ensures seen { All (λ s. All (IsKnown C.opened s.seen) self.cells.items) sessions.items }
     {
         let Rests {

@@ -3,11 +3,13 @@
 ghost use Rattle.std.specs.Prelude.{◌≡◌, ◌+◌, ◌≤◌, [], MatchOption, Some, map, slice_get, vec_capacity, vec_len};
 ghost use Rattle.std.specs.Option.{option_map};
 ghost use Rattle.crossbeam_utils.specs.Padded.{padded_value};
-ghost use Rattle.nv_service.specs.Rests.{list_told, told_by, told_of};
+ghost use Rattle.nv_service.specs.Rests.{AreAllSlots, list_told, told_by, told_of};
 
 use crate::book::LockedBook;
 use crate::cell::LockedCell;
+use crate::cell_locks::CellLocks;
 use crate::close::PartRoom;
+use crate::judge::Judge;
 use crate::list::LockedList;
 use crate::names::{Blocks, Commits};
 use crate::passes::Fresh;
@@ -16,7 +18,7 @@ use crate::seats::Seating;
 use crate::unlocked::{unlock_cells, unlock_lists};
 use crossbeam_utils::CachePadded;
 use nv_alloc::InodePool;
-use nv_base::{Geometry, Ino, Items};
+use nv_base::{Geometry, Ino, Items, MismatchPart};
 use nv_core::Parts;
 use std::alloc::Global;
 use std::sync::Mutex;
@@ -27,14 +29,15 @@ use std::sync::ledger::Total;
 pub struct Service<C: Commits, B: Blocks> {
     pub(crate) alloc: Global,
     pub(crate) geometry: Geometry,
-    pub(crate) cells: Vec<Mutex<LockedCell<C, B>>>,
+    pub(crate) cells: CellLocks<C, B>,
     pub(crate) lists: Vec<CachePadded<Mutex<LockedList<B>>>>,
     pub(crate) pool: CachePadded<Mutex<InodePool>>,
     pub(crate) book: CachePadded<Mutex<LockedBook<C>>>,
     pub(crate) fresh: Fresh<C>,
     pub(crate) seating: Seating<C, B>,
     pub(crate) total: Total<B>,
-    ghost placed: { vec_len cells + vec_len lists ≡ B.placed },
+    pub(crate) judge: Judge,
+    ghost placed: { vec_len cells.locks + vec_len lists ≡ B.placed },
     ghost all_parts: { total.parts ≡ B.whole },
     ghost all_blocks: { total.amount ≡ geometry.numbers.blocks },
 }
@@ -49,8 +52,8 @@ impl<C: Commits, B: Blocks> Service<C, B> {
 
     /// The lock of an inode's cell, where there is such a slot: each slot has its own.
     pub fn inode_lock(&self, ino: Ino) -> Option<&Mutex<LockedCell<C, B>>>
-        ensures { MatchOption result (vec_len self.now.cells ≤ ino)
-            (λ lock. slice_get self.now.cells.items ino ≡ Some lock.now) }
+        ensures { MatchOption result (vec_len self.now.cells.locks ≤ ino)
+            (λ lock. slice_get self.now.cells.locks.items ino ≡ Some lock.now) }
     {
         self.cells.get(ino.number() as usize)
     }
@@ -71,24 +74,36 @@ impl<C: Commits, B: Blocks> Service<C, B> {
     {
         &self.book
     }
+
+    /// The part that was found to differ when [`Service::close`] was last refused by a `Mismatch`, if it ever was.
+    pub fn found(&self) -> Option<MismatchPart>
+        ensures { result ≡ self.now.judge.found }
+    {
+        self.judge.found()
+    }
 }
 
 impl<C: Commits, B: Blocks> Service<C, B> {
-    /// Takes all values out of their locks: the parts, and what lay beside them.
-    pub(crate) fn apart(self, room: PartRoom<C, B>) -> (Parts, Rests<C, B>)
-        requires cells { (room.cells.items ≡ []) × (vec_len self.cells ≤ vec_capacity room.cells) }
+    /// Takes all values out of their locks: the parts, and what lay beside them. The judge comes out too.
+    pub(crate) fn apart(self, room: PartRoom<C, B>) -> (Parts, Rests<C, B>, Judge)
+        requires cells { (room.cells.items ≡ [])
+            × (vec_len self.cells.locks ≤ vec_capacity room.cells) }
         requires cell_rests { (room.cell_rests.items ≡ [])
-            × (vec_len self.cells ≤ vec_capacity room.cell_rests) }
+            × (vec_len self.cells.locks ≤ vec_capacity room.cell_rests) }
         requires lists { (room.lists.items ≡ []) × (vec_len self.lists ≤ vec_capacity room.lists) }
         requires list_rests { (room.list_rests.items ≡ [])
             × (vec_len self.lists ≤ vec_capacity room.list_rests) }
         ensures cells { map told_by result.1.cells.items ≡ map told_of result.0.cells }
+        ensures count { vec_len result.1.cells ≡ vec_len self.cells.locks }
+        ensures slots { AreAllSlots result.1.cells.items }
         ensures lists { result.1.lists.items ≡ map list_told result.0.lists }
         ensures commits { result.0.book.state.commit ≡ C.commit + result.1.commits.total }
+        ensures epoch { C.epoch ≤ result.0.book.state.snaps.epoch }
         ensures geometry { (result.0.geometry ≡ self.geometry)
             × (result.1.geometry ≡ self.geometry) }
         ensures total { result.1.total ≡ self.total }
         ensures given { result.1.seating.given ≡ self.seating.given }
+        ensures judge { result.2 ≡ self.judge }
     {
         let Service {
             alloc,
@@ -100,6 +115,7 @@ impl<C: Commits, B: Blocks> Service<C, B> {
             fresh,
             seating,
             total,
+            judge,
         } = self;
         let PartRoom {
             cells,
@@ -129,7 +145,7 @@ impl<C: Commits, B: Blocks> Service<C, B> {
             seating,
             total,
         };
-        (parts, rests)
+        (parts, rests, judge)
     }
 }
 
@@ -146,6 +162,7 @@ impl<C: Commits, B: Blocks> Drop for Service<C, B> {
             fresh: _,
             seating: _,
             total: _,
+            judge: _,
         } = self;
         dismantle_cells(cells);
         dismantle_lists(lists);
@@ -153,9 +170,9 @@ impl<C: Commits, B: Blocks> Drop for Service<C, B> {
 }
 
 /// Takes all cells apart with their blocks.
-fn dismantle_cells<C: Commits, B: Blocks>(mut locks: Vec<Mutex<LockedCell<C, B>>>) {
-    while let Some(lock) = locks.pop() {
-        lock.into_inner().dismantle();
+fn dismantle_cells<C: Commits, B: Blocks>(mut locks: CellLocks<C, B>) {
+    while let Some((_slot, locked)) = locks.take_last() {
+        locked.dismantle();
     }
     locks.destroy_empty();
 }

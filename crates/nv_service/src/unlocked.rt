@@ -1,9 +1,10 @@
 //! Locked parts are taken apart for a world, and put together again where it is refused.
 
 ghost use Rattle.std.specs.Prelude.{◌≡◌, ◌≤◌, [], length, map, vec_capacity, vec_len};
-ghost use Rattle.nv_service.specs.Rests.{list_told, told_by, told_of};
+ghost use Rattle.nv_service.specs.Rests.{AreAllSlots, list_told, told_by, told_of};
 
 use crate::cell::LockedCell;
+use crate::cell_locks::CellLocks;
 use crate::list::LockedList;
 use crate::names::{Blocks, Commits};
 use crate::rests::{CellRest, ListRest};
@@ -15,56 +16,72 @@ use std::sync::Mutex;
 /// The locks of cells, which are empty afterwards and keep their room; the cells and what lay beside them, in room that
 /// was made before.
 pub(crate) fn unlock_cells<C: Commits, B: Blocks>(
-    locks: &mut Vec<Mutex<LockedCell<C, B>>>,
+    locks: &mut CellLocks<C, B>,
     mut cells: Vec<InodeCell>,
     mut rests: Vec<CellRest<C, B>>,
 ) -> (Vec<InodeCell>, Vec<CellRest<C, B>>)
     requires empty { (cells.items ≡ []) × (rests.items ≡ []) }
-    requires room { (vec_len locks.old ≤ vec_capacity cells)
-        × (vec_len locks.old ≤ vec_capacity rests) }
-    ensures locks { (vec_len locks.new ≡ 0) × (vec_capacity locks.new ≡ vec_capacity locks.old) }
-    ensures count { vec_len result.1 ≡ vec_len locks.old }
+    requires room { (vec_len locks.old.locks ≤ vec_capacity cells)
+        × (vec_len locks.old.locks ≤ vec_capacity rests) }
+    ensures locks { (vec_len locks.new.locks ≡ 0)
+        × (vec_capacity locks.new.locks ≡ vec_capacity locks.old.locks) }
+    ensures count { vec_len result.1 ≡ vec_len locks.old.locks }
     ensures fit { map told_by result.1.items ≡ map told_of result.0.items }
+    ensures slots { AreAllSlots result.1.items }
 {
-    while let Some(lock) = locks.pop() {
+    while let Some((slot, locked)) = locks.take_last() {
         let LockedCell {
             ino,
             cell,
             blocks,
             owner,
-        } = lock.into_inner();
+        } = locked;
         cells.push_reserved(cell);
-        rests.push_reserved(CellRest { ino, blocks, owner });
+        rests.push_reserved(CellRest {
+            slot,
+            ino,
+            blocks,
+            owner,
+        });
     }
     cells.reverse();
     rests.reverse();
     (cells, rests)
 }
 
-/// Puts cells and what lay beside them behind locks.
+/// Puts cells and what lay beside them behind locks again, each behind that of the slot that it was taken out of.
 pub(crate) fn lock_cells<C: Commits, B: Blocks>(
     mut cells: Vec<InodeCell>,
     mut rests: Vec<CellRest<C, B>>,
-    locks: &mut Vec<Mutex<LockedCell<C, B>>>,
+    locks: &mut CellLocks<C, B>,
 )
     requires fit { map told_by rests.items ≡ map told_of cells.items }
-    requires room { (vec_len locks.old ≡ 0) × (vec_len rests ≤ vec_capacity locks.old) }
-    ensures { vec_len locks.new ≡ vec_len rests }
+    requires slots { AreAllSlots rests.items }
+    requires room { (vec_len locks.old.locks ≡ 0)
+        × (vec_len rests ≤ vec_capacity locks.old.locks) }
+    ensures { vec_len locks.new.locks ≡ vec_len rests }
 {
+    cells.reverse();
+    rests.reverse();
     while let Some(cell) = cells.pop() {
         let Some(rest) = rests.pop() else {
             unreachable!()
         };
-        let CellRest { ino, blocks, owner } = rest;
-        locks.push_reserved(Mutex::new(LockedCell {
+        let CellRest {
+            slot,
+            ino,
+            blocks,
+            owner,
+        } = rest;
+        let locked = LockedCell {
             ino,
             cell,
             blocks,
             owner,
-        }));
+        };
+        locks.put_back(slot, locked);
     }
     cells.destroy_empty();
-    locks.reverse();
 }
 
 /// The same of free lists: out of their locks.

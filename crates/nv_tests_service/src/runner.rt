@@ -59,6 +59,7 @@ fn run<
     requires blocks { AreBlockNames names B.name B.parts B.whole B.placed
         world.shared.geometry.numbers }
     requires stood { (C.commit ≡ world.shared.book.state.commit)
+        × (C.epoch ≡ world.shared.book.state.snaps.epoch)
         × (C.opened ≡ versions_in world.shared.cells.items) }
 {
     let service = opened::<C, B>(rt, alloc, world, names);
@@ -77,6 +78,7 @@ pub fn opened<C: Commits, B: Blocks>(
     requires blocks { AreBlockNames names B.name B.parts B.whole B.placed
         world.shared.geometry.numbers }
     requires stood { (C.commit ≡ world.shared.book.state.commit)
+        × (C.epoch ≡ world.shared.book.state.snaps.epoch)
         × (C.opened ≡ versions_in world.shared.cells.items) }
 {
     let (world, names) = match Service::open(alloc, world, names) {
@@ -147,6 +149,7 @@ fn refused_as_busy<C: Commits, B: Blocks>(
     requires blocks { AreBlockNames names B.name B.parts B.whole B.placed
         world.shared.geometry.numbers }
     requires stood { (C.commit ≡ world.shared.book.state.commit)
+        × (C.epoch ≡ world.shared.book.state.snaps.epoch)
         × (C.opened ≡ versions_in world.shared.cells.items) }
 {
     match Service::<C, B>::open(alloc, world, names) {

@@ -53,6 +53,7 @@ fn run_in_threads<
     requires blocks { AreBlockNames names B.name B.parts B.whole B.placed
         world.shared.geometry.numbers }
     requires stood { (C.commit ≡ world.shared.book.state.commit)
+        × (C.epoch ≡ world.shared.book.state.snaps.epoch)
         × (C.opened ≡ versions_in world.shared.cells.items) }
 {
     let mut service = opened::<C, B>(rt, alloc, world, names);

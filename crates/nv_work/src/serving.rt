@@ -63,6 +63,7 @@ fn serve<
     requires blocks { AreBlockNames names B.name B.parts B.whole B.placed
         world.shared.geometry.numbers }
     requires stood { (C.commit ≡ world.shared.book.state.commit)
+        × (C.epoch ≡ world.shared.book.state.snaps.epoch)
         × (C.opened ≡ versions_in world.shared.cells.items) }
     requires seats { (vec_len lines.threads ≤ 32) × (cleaners ≤ 32) }
     ensures texts { IfOk result (λ played. AreThreadTexts world.shared.geometry.numbers.actors

@@ -10,7 +10,7 @@ use Rattle.nv_service.proofs.first_locks.lock_first_cells.Goals as goal
 pub loop-cell-init : goal.loop-cell-init
 loop-cell-init g c =
     let opened = g.C.Commits.opened in
-    let none : vec_len c.args.into ≡ 0 = search rules in
+    let none : vec_len c.args.into.locks ≡ 0 = c.requires.room.0 in
     record {
       opened = ap (λ (xs : List CellValue). reverse (map version_of xs)) c.reverse.ensures.items
           ∙ ap reverse (sym (map-reversed version_of c.args.cells.items)) ∙ reverse-reverse (map version_of c.args.cells.items)
@@ -27,10 +27,10 @@ pub loop-cell-preserved : goal.loop-cell-preserved
 loop-cell-preserved g c =
     let opened = g.C.Commits.opened in
     let i = c.loop-cell.invariant in
-    let k = vec_len c.loop-cell.into in
+    let k = vec_len c.loop-cell.into.locks in
     let front = c.pop.new.self.items in
     let cell = c.in-Some.cell in
-    let more = c.push_reserved.ensures.len in
+    let more = c.add-in-Some.ensures.count in
     let last = c.in-Some.ensures.items in
     let turned =
     sym i.opened ∙ map-reversed_last version_of c.loop-cell.cells.items front cell last in
@@ -49,7 +49,7 @@ loop-cell-preserved g c =
         ap cell_blocks last,
         sum_by_push blocks_at front cell,
       );
-      room = c.push_reserved.ensures.capacity ∙ i.room;
+      room = c.add-in-Some.ensures.room ∙ i.room;
     }
 
 pub returns-clause-total : goal.returns-clause-total

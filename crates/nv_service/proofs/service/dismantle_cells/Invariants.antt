@@ -1,5 +1,5 @@
-use Rattle.std.proofs.Common.{length}
+use Rattle.std.proofs.Common.{vec_len}
 use Rattle.nv_service.proofs.service.dismantle_cells.Given as goal
 
-abbrev pub decreases-loop-lock : goal.decreases-loop-lock
-decreases-loop-lock g l = length l.locks.items
+abbrev pub decreases-loop-slot : goal.decreases-loop-slot
+decreases-loop-slot g l = vec_len l.locks.locks

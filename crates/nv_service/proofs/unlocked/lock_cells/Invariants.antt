@@ -1,5 +1,6 @@
 use Rattle.std.proofs.Common.{◌≡◌, ◌+◌, length, map, vec_len, vec_capacity}
-use Rattle.nv_service.specs.Rests.{told_by, told_of}
+use Rattle.nv_service.specs.Rests.{slot_of, told_by, told_of}
+use Rattle.nv_service.proofs.Slots.{falling}
 use Rattle.nv_service.proofs.unlocked.lock_cells.Given as goal
 
 abbrev pub decreases-loop-cell : goal.decreases-loop-cell
@@ -7,8 +8,9 @@ decreases-loop-cell g l = length l.cells.items
 
 abbrev pub invariant-loop-cell : goal.invariant-loop-cell
 invariant-loop-cell g l = record {
-  locks : vec_capacity l.locks ≡ vec_capacity l.initial.locks;
-  count : vec_len l.rests + vec_len l.locks ≡ vec_len l.initial.rests;
+  locks : vec_capacity l.locks.locks ≡ vec_capacity l.initial.locks.locks;
+  count : vec_len l.rests + vec_len l.locks.locks ≡ vec_len l.initial.rests;
   parts : vec_len l.cells ≡ vec_len l.rests;
   fit : map told_by l.rests.items ≡ map told_of l.cells.items;
+  slots : map slot_of l.rests.items ≡ falling (vec_len l.locks.locks) (vec_len l.rests);
 }

@@ -1,16 +1,18 @@
-use Rattle.std.proofs.Common.{◌≡◌, ◌+◌, ◌≤◌, length, map, vec_len, vec_capacity}
-use Rattle.nv_service.specs.Rests.{told_by, told_of}
+use Rattle.std.proofs.Common.{◌≡◌, ◌+◌, ◌≤◌, map, vec_len, vec_capacity}
+use Rattle.nv_service.specs.Rests.{slot_of, told_by, told_of}
+use Rattle.nv_service.proofs.Slots.{falling}
 use Rattle.nv_service.proofs.unlocked.unlock_cells.Given as goal
 
-abbrev pub decreases-loop-lock : goal.decreases-loop-lock
-decreases-loop-lock g l = length l.locks.items
+abbrev pub decreases-loop-slot : goal.decreases-loop-slot
+decreases-loop-slot g l = vec_len l.locks.locks
 
-abbrev pub invariant-loop-lock : goal.invariant-loop-lock
-invariant-loop-lock g l = record {
-  locks : vec_capacity l.locks ≡ vec_capacity l.initial.locks;
-  count : vec_len l.locks + vec_len l.rests ≡ vec_len l.initial.locks;
+abbrev pub invariant-loop-slot : goal.invariant-loop-slot
+invariant-loop-slot g l = record {
+  locks : vec_capacity l.locks.locks ≡ vec_capacity l.initial.locks.locks;
+  count : vec_len l.locks.locks + vec_len l.rests ≡ vec_len l.initial.locks.locks;
   parts : vec_len l.cells ≡ vec_len l.rests;
   fit : map told_by l.rests.items ≡ map told_of l.cells.items;
-  part_room : vec_len l.locks + vec_len l.cells ≤ vec_capacity l.cells;
-  rest_room : vec_len l.locks + vec_len l.rests ≤ vec_capacity l.rests;
+  slots : map slot_of l.rests.items ≡ falling (vec_len l.locks.locks) (vec_len l.rests);
+  part_room : vec_len l.locks.locks + vec_len l.cells ≤ vec_capacity l.cells;
+  rest_room : vec_len l.locks.locks + vec_len l.rests ≤ vec_capacity l.rests;
 }

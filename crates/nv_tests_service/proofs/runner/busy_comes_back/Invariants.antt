@@ -9,7 +9,7 @@ abbrev pub ghosts-refused_as_busy-B-Ledger : goal.ghosts-refused_as_busy-B-Ledge
 ghosts-refused_as_busy-B-Ledger g a = record { name = a.names.blocks.name; parts = a.names.blocks.parts }
 
 abbrev pub ghosts-refused_as_busy-C-Commits : goal.ghosts-refused_as_busy-C-Commits
-ghosts-refused_as_busy-C-Commits g a = record { whole = a.names.commits.parts; commit = a.world.shared.book.state.commit; opened = versions_in a.world.shared.cells.items; table = a.names.table }
+ghosts-refused_as_busy-C-Commits g a = record { whole = a.names.commits.parts; commit = a.world.shared.book.state.commit; epoch = a.world.shared.book.state.snaps.epoch; opened = versions_in a.world.shared.cells.items; table = a.names.table }
 
 abbrev pub ghosts-refused_as_busy-B-Blocks : goal.ghosts-refused_as_busy-B-Blocks
 ghosts-refused_as_busy-B-Blocks g a = record { whole = a.names.blocks.parts; placed = placed_parts a.world.shared.geometry.numbers }

@@ -9,7 +9,7 @@ abbrev pub ghosts-run-B-Ledger : goal.ghosts-run-B-Ledger
 ghosts-run-B-Ledger g a = record { name = a.names.blocks.name; parts = a.names.blocks.parts }
 
 abbrev pub ghosts-run-C-Commits : goal.ghosts-run-C-Commits
-ghosts-run-C-Commits g a = record { whole = a.names.commits.parts; commit = a.world.shared.book.state.commit; opened = versions_in a.world.shared.cells.items; table = a.names.table }
+ghosts-run-C-Commits g a = record { whole = a.names.commits.parts; commit = a.world.shared.book.state.commit; epoch = a.world.shared.book.state.snaps.epoch; opened = versions_in a.world.shared.cells.items; table = a.names.table }
 
 abbrev pub ghosts-run-B-Blocks : goal.ghosts-run-B-Blocks
 ghosts-run-B-Blocks g a = record { whole = a.names.blocks.parts; placed = placed_parts a.world.shared.geometry.numbers }

@@ -9,7 +9,7 @@ abbrev pub ghosts-run_in_threads-B-Ledger : goal.ghosts-run_in_threads-B-Ledger
 ghosts-run_in_threads-B-Ledger g a = record { name = a.names.blocks.name; parts = a.names.blocks.parts }
 
 abbrev pub ghosts-run_in_threads-C-Commits : goal.ghosts-run_in_threads-C-Commits
-ghosts-run_in_threads-C-Commits g a = record { whole = a.names.commits.parts; commit = a.world.shared.book.state.commit; opened = versions_in a.world.shared.cells.items; table = a.names.table }
+ghosts-run_in_threads-C-Commits g a = record { whole = a.names.commits.parts; commit = a.world.shared.book.state.commit; epoch = a.world.shared.book.state.snaps.epoch; opened = versions_in a.world.shared.cells.items; table = a.names.table }
 
 abbrev pub ghosts-run_in_threads-B-Blocks : goal.ghosts-run_in_threads-B-Blocks
 ghosts-run_in_threads-B-Blocks g a = record { whole = a.names.blocks.parts; placed = placed_parts a.world.shared.geometry.numbers }

@@ -12,6 +12,7 @@ abbrev pub ghosts-serve-C-Commits : goal.ghosts-serve-C-Commits
 ghosts-serve-C-Commits g a = record {
   whole = a.names.commits.parts;
   commit = a.world.shared.book.state.commit;
+  epoch = a.world.shared.book.state.snaps.epoch;
   opened = versions_in a.world.shared.cells.items;
   table = a.names.table;
 }

@@ -1,4 +1,4 @@
-use Rattle.std.proofs.Common.{◌∙◌, List, ap, arith, inl, inr, map, subst, sym}
+use Rattle.std.proofs.Common.{◌∙◌, List, [], ap, arith, inl, inr, map, subst, sym, vec_len}
 use Rattle.std.proofs.lemmas.List.{length-map}
 use Rattle.nv_base.specs.declared.geometry.Geometry.{Geometry}
 use Rattle.nv_core.specs.declared.parts.Parts.{Parts}
@@ -6,7 +6,8 @@ use Rattle.nv_service.specs.Opening.{blocks_in}
 use Rattle.nv_service.specs.Rests.{AreInPlace, told_of}
 use Rattle.nv_service.specs.Seats.{AreSeats}
 use Rattle.nv_service.specs.Sessions.{SessionValue}
-use Rattle.nv_service.proofs.Closes.{none_older, not_seats}
+use Rattle.nv_service.proofs.Closes.{beside, none_older, not_seats}
+use Rattle.nv_service.proofs.NotOlder.{not_older}
 use Rattle.nv_service.proofs.PartBlocks.{judged_blocks}
 use Rattle.nv_service.proofs.service.Service.close.Goals as goal
 
@@ -25,6 +26,13 @@ join-requires g c =
         c.apart-parts.ensures.given,
       );
     }
+
+pub returns-in-Ok-world_of-clause-versions : goal.returns-in-Ok-world_of-clause-versions
+returns-in-Ok-world_of-clause-versions g c =
+    let made = c.in-Ok-world_of.ensures in
+    not_older g.C.Commits.opened [] c.apart-parts.result.1.cells.items c.in-Ok-world_of.world.shared.cells.items
+    (c.apart-parts.ensures.cells ∙ ap (λ (p : Parts). map told_of p.cells) (sym made.parts)) (subst AreInPlace c.deref-2.ensures.value made.placed)
+    c.join.ensures.versions
 
 pub returns-in-Ok-world_of-clause-seen : goal.returns-in-Ok-world_of-clause-seen
 returns-in-Ok-world_of-clause-seen g c =
@@ -49,7 +57,12 @@ returns-in-Err-world_of-clause-out g c =
 
 pub returns-in-Err-world_of-clause-err : goal.returns-in-Err-world_of-clause-err
 returns-in-Err-world_of-clause-err g c =
+    let out = c.apart-parts.ensures in
+    let lay =
+    beside c.args.self.geometry (vec_len c.args.self.cells.locks) c.apart-parts.result.0 c.apart-parts.result.1.cells.items
+    c.deref-2.result.now c.deref-2.ensures.value out.geometry.0 (omega (arith, c.deref-2.ensures.len, out.count)) out.slots
+    out.cells in
     elim c.in-Err-world_of.ensures.err [
       | inl memory ↦ inr (inl memory)
-      | inr differs ↦ inr (inr (c.apart-parts.result.0, c.deref-2.result.now, c.apart-parts.ensures.geometry.0, differs))
+      | inr differs ↦ inr (inr (c.apart-parts.result.0, c.deref-2.result.now, lay, differs))
     ]

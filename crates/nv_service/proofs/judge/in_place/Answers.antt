@@ -1,6 +1,6 @@
 use Rattle.nv_core.specs.AtRest.{at_rest}
 use Rattle.nv_service.proofs.PartBlocks.{none_busy}
-use Rattle.nv_service.proofs.close.world_of.Goals as goal
+use Rattle.nv_service.proofs.judge.in_place.Goals as goal
 
 -- a world at rest comes apart
 pub unreachable-requires : goal.unreachable-requires

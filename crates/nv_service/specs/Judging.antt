@@ -1,0 +1,20 @@
+-- What a judge of parts tells.
+use Rattle.std.specs.Prelude.{◌≡◌, Bool, Option, Some, not}
+use Rattle.nv_base.specs.declared.fault.Fault.{Fault}
+use Rattle.nv_base.specs.declared.fault.Fault.TheVariants.{Mismatch}
+use Rattle.nv_base.specs.declared.fault.MismatchPart.{MismatchPart}
+
+-- the part that was found to differ last, and a turn, which is another one each time that a part is
+pub record JudgeValue : Type 0 where
+  pub turn : Bool
+  pub found : Option MismatchPart
+
+-- once parts were refused by this fault
+abbrev pub after_refusal : Fault → JudgeValue → JudgeValue
+after_refusal (Mismatch part) judge = record { turn = not judge.turn; found = Some part }
+after_refusal other judge = judge
+
+-- A DIFFERENCE WAS FOUND by the judge since
+abbrev pub IsFound : JudgeValue → JudgeValue → Fault → Type 0
+IsFound old new (Mismatch part) = (new.turn ≡ not old.turn) × (new.found ≡ Some part)
+IsFound old new other = Unit {0}
