@@ -14,6 +14,8 @@ mod closing;
 #[cfg(test)]
 mod compare;
 #[cfg(test)]
+mod differing;
+#[cfg(test)]
 mod each_call;
 #[cfg(test)]
 mod failing;
@@ -27,6 +29,8 @@ mod refusals;
 mod reports;
 #[cfg(test)]
 mod runner;
+#[cfg(test)]
+mod seats;
 #[cfg(test)]
 mod shows;
 #[cfg(test)]
