@@ -15,10 +15,11 @@ no_told = record { blocks = 0; version = 0 }
 -- no owner's version is below that of the opening
 pub known_from_start : (opened seen : List ℕ) (rests : List CellRestValue) → All (IsKnown opened seen) rests
     → All (IsKnown opened []) rests
-known_from_start opened seen rests known k d lt =
+known_from_start opened seen rests known = λ k d lt.
     let rest = slice_index_or rests k d in
     let none : slice_index [] rest.ino ≡ 0 = refl in
-    omega (arith, known k d lt, none)
+    let met : version_at opened rest.ino (slice_index seen rest.ino) ≤ rest.version = known k d lt in
+    omega (arith, met, none)
 
 -- no cell is older than what was seen, where its owner knows as much
 pub not_older : (opened seen : List ℕ) (rests : List CellRestValue) (cells : List CellValue)

@@ -31,7 +31,8 @@ impl<C: Commits, B: Blocks> CellLocks<C, B> {
     /// No locks, in room that was made before.
     pub(crate) fn new(room: Vec<Mutex<LockedCell<C, B>>>) -> CellLocks<C, B>
         requires { room.items ≡ [] }
-        ensures { result.locks ≡ room }
+        ensures none { vec_len result.locks ≡ 0 }
+        ensures room { vec_capacity result.locks ≡ vec_capacity room }
     {
         CellLocks { locks: room }
     }

@@ -1,4 +1,4 @@
-use Rattle.std.proofs.Common.{◌∙◌, List, [], ap, arith, inl, inr, map, subst, sym, vec_len}
+use Rattle.std.proofs.Common.{◌∙◌, ◌≤◌, List, [], ap, arith, inl, inr, map, subst, sym, vec_len}
 use Rattle.std.proofs.lemmas.List.{length-map}
 use Rattle.nv_base.specs.declared.geometry.Geometry.{Geometry}
 use Rattle.nv_core.specs.declared.parts.Parts.{Parts}
@@ -26,6 +26,11 @@ join-requires g c =
         c.apart-parts.ensures.given,
       );
     }
+
+pub returns-in-Ok-world_of-clause-epoch : goal.returns-in-Ok-world_of-clause-epoch
+returns-in-Ok-world_of-clause-epoch g c =
+    subst (λ (p : Parts). g.C.Commits.epoch ≤ p.book.state.snaps.epoch) (sym c.in-Ok-world_of.ensures.parts)
+    c.apart-parts.ensures.epoch
 
 pub returns-in-Ok-world_of-clause-versions : goal.returns-in-Ok-world_of-clause-versions
 returns-in-Ok-world_of-clause-versions g c =
