@@ -1,5 +1,5 @@
 -- Two players whose worlds go alike play a script alike, where none of its lines makes a single step.
-use Rattle.std.proofs.Common.{◌≡◌, ◌∙◌, inl, inr, ℕ, ◌++◌, Bool, true, false, List, [], ◌∷◌, Option, Some, None, Result, Ok, Err, is_some, ap, append_assoc, refl, subst, sym}
+use Rattle.std.proofs.Common.{◌≡◌, ◌∙◌, ◌⊎◌, inl, inr, ℕ, ◌+◌, ◌++◌, length, Bool, true, false, List, [], ◌∷◌, Option, Some, None, Result, Ok, Err, is_some, ap, append_assoc, refl, subst, sym}
 use Rattle.std.specs.Prelude.{MatchBool, nat_lt}
 use Rattle.nv_base.specs.Limits.{first_bad_field}
 use Rattle.nv_base.specs.declared.fault.Fault.{Fault}
@@ -10,8 +10,8 @@ use Rattle.nv_entry.specs.declared.tree.TreeNode.{TreeNode}
 use Rattle.nv_script.specs.declared.command.Command.{Command}
 use Rattle.nv_script.specs.declared.command.Command.TheVariants as command
 use Rattle.nv_script.specs.Grammar.{command_of, is_skipped}
-use Rattle.nv_script.specs.Lines.{IsLine, ended}
-use Rattle.nv_script.specs.Play.{Ends, EndsBy, Formats, IsFault, ListsFront, ListsWords, Played, Player, Plays, PlaysAll, PlaysWords, Reports, ShowsLog, ShowsTree, Stops, StopsAt, Tells, WorldReports}
+use Rattle.nv_script.specs.Lines.{IsCutOff, IsLine, ended}
+use Rattle.nv_script.specs.Play.{Ends, EndsBy, Formats, IsFault, ListsFront, ListsWords, Played, Player, Plays, PlaysFrom, PlaysWords, Reports, ShowsLog, ShowsTree, Stops, StopsAt, Tells, WorldReports}
 use Rattle.nv_script.specs.Serially.{HasNoSteps, makes_steps}
 use Rattle.nv_script.specs.Texts.{lists_lines, log_line, snaps_lines, space_line}
 use Rattle.nv_script.specs.Words.{words_of}
@@ -21,12 +21,13 @@ use Rattle.nv_script.proofs.Lines.{ended-push}
 abbrev pub IsWhole : List ℕ → Type 0
 IsWhole line = (c : Command) → command_of (words_of line) ≡ Ok c → makes_steps c ≡ false
 
--- as one world goes, so does the other: from the start, and by each command that makes no step
+-- as one world goes, so does the other: from the start, and by each command that makes no step; and the same stands before answers
 pub record GoAlike (P Q : Player) (Like : P.World → Q.World → Type 0) : Type 0 where
   pub start : (numbers : GeometryNumbers) → first_bad_field numbers ≡ None → Like (P.empty numbers) (Q.empty numbers)
   pub acts : (m : P.World) (s : Q.World) (c : Command) (text : List ℕ) (n : P.World) → Like m s → makes_steps c ≡ false
       → P.Acts m c text n → (t : Q.World) × Q.Acts s c text t × Like n t
   pub lists : (m : P.World) (s : Q.World) (c : Command) → Like m s → P.listed m c ≡ Q.listed s c
+  pub heads : (number : ℕ) (line : List ℕ) → P.head number line ≡ Q.head number line
 
 -- two worlds report the same
 pub record ReportAlike (a b : WorldReports) : Type 0 where
@@ -118,13 +119,16 @@ module _ (P Q : Player) (Like : P.World → Q.World → Type 0) (alike : GoAlike
   AreWhole [] = Unit {0}
   AreWhole (line ∷ lines) = (IsLine line → IsWhole line) × AreWhole lines
 
-  lines_alike : (m : Option P.World) (s : Option Q.World) (lines : List (List ℕ)) (text : List ℕ) (n : Option P.World) → AreLike m s
-      → AreWhole lines → PlaysAll P m lines text n → (t : Option Q.World) × PlaysAll Q s lines text t × AreLike n t
-  lines_alike m s [] text n like whole plays = (s, (plays.0, refl), subst (λ (w : Option P.World). AreLike w s) (sym plays.1) like)
-  lines_alike m s (line ∷ lines) text n like whole plays =
+  lines_alike : (number : ℕ) (m : Option P.World) (s : Option Q.World) (lines : List (List ℕ)) (text : List ℕ) (n : Option P.World)
+      → AreLike m s → AreWhole lines → PlaysFrom P number m lines text n
+      → (t : Option Q.World) × PlaysFrom Q number s lines text t × AreLike n t
+  lines_alike number m s [] text n like whole plays =
+      (s, (plays.0, refl), subst (λ (w : Option P.World). AreLike w s) (sym plays.1) like)
+  lines_alike number m s (line ∷ lines) text n like whole plays =
       let one = line_alike m s line plays.0 plays.2 like (whole.0 plays.3) plays.4 in
-      let more = lines_alike plays.2 one.0 lines plays.1 n one.2 whole.1 plays.5 in
-      (more.0, (plays.0, plays.1, one.0, plays.3, one.1, more.1, plays.6), more.2)
+      let more = lines_alike (number + 1) plays.2 one.0 lines plays.1 n one.2 whole.1 plays.5 in
+      let text_is = plays.6 ∙ ap (λ (h : List ℕ). (h ++ plays.0) ++ plays.1) (alike.heads number line) in
+      (more.0, (plays.0, plays.1, one.0, plays.3, one.1, more.1, text_is), more.2)
 
   -- ---- of the bytes that the reader has
 
@@ -155,7 +159,7 @@ module _ (P Q : Player) (Like : P.World → Q.World → Type 0) (alike : GoAlike
       → Played P (Some bytes) lines rest text world → PlayedAlike bytes lines rest text world
   played_alike bytes lines rest text world none played =
       let whole = lines_whole bytes [] lines rest none played.split in
-      let all = lines_alike None None lines text world tt whole played.plays in
+      let all = lines_alike 1 None None lines text world tt whole played.plays in
       record { world' = all.0; played = record { split = played.split; few = played.few; plays = all.1 }; like = all.2 }
 
   made_alike : (world : Option P.World) (world' : Option Q.World) → AreLike world world' → is_some world ≡ is_some world'
@@ -169,19 +173,27 @@ module _ (P Q : Player) (Like : P.World → Q.World → Type 0) (alike : GoAlike
   lists_alike None world' words sent like lists = absurd lists
   lists_alike (Some m) None words sent like lists = absurd like
   lists_alike (Some m) (Some s) words sent like lists =
-      (lists.0, lists.1, subst (λ (nodes : Option (List TreeNode)). ListsFront nodes sent) (alike.lists m s lists.0 like) lists.2)
+      let same = alike.lists m s lists.0 like in (
+        lists.0,
+        lists.1,
+        lists.2,
+        subst (λ (nodes : Option (List TreeNode)). (sent ≡ []) ⊎ ListsFront nodes sent) same lists.3,
+      )
 
-  stops_at_alike : (world : Option P.World) (world' : Option Q.World) (line sent : List ℕ) → AreLike world world'
-      → StopsAt P world line sent → StopsAt Q world' line sent
-  stops_at_alike world world' line sent like (skipped, inl none) = (skipped, inl none)
-  stops_at_alike world world' line sent like (skipped, inr lists) =
-      (skipped, inr (lists_alike world world' (words_of line) sent like lists))
+  stops_at_alike : (head head' : List ℕ) (world : Option P.World) (world' : Option Q.World) (line sent : List ℕ) → head ≡ head'
+      → AreLike world world' → StopsAt P head world line sent → StopsAt Q head' world' line sent
+  stops_at_alike head head' world world' line sent same like (skipped, inl none) = (skipped, inl none)
+  stops_at_alike head head' world world' line sent same like (skipped, inr (front, lists, is)) = (
+    skipped,
+    inr (front, lists_alike world world' (words_of line) front like lists, is ∙ ap (λ (h : List ℕ). h ++ front) same),
+  )
 
   stops_alike : (lines : List (List ℕ)) (rest : List ℕ) (world : Option P.World) (world' : Option Q.World) (sent : List ℕ)
       → AreLike world world' → Stops P lines rest world sent → Stops Q lines rest world' sent
   stops_alike lines rest world world' sent like (inl first) = inl first
   stops_alike lines rest world world' sent like (inr (line, after, lawful, is, at)) =
-      inr (line, after, lawful, is, stops_at_alike world world' line sent like at)
+      let same = alike.heads (length lines + 1) line in
+      inr (line, after, lawful, is, stops_at_alike _ _ world world' line sent same like at)
 
   ends_by_alike : (why : Fault) (bytes : List ℕ) (left : Option (List ℕ)) (Writes : List ℕ → Type 0) → HasNoSteps bytes
       → EndsBy P why (Some bytes) left Writes → EndsBy Q why (Some bytes) left Writes
@@ -200,7 +212,8 @@ module _ (P Q : Player) (Like : P.World → Q.World → Type 0) (alike : GoAlike
       let off = e.6 in
       let whole = line_whole bytes e.0 off.0 e.1 off.1 none e.5.split off.5 off.4 in
       let next = line_alike e.4 q.world' off.0 off.2 off.3 q.like whole off.6 in
-      (e.0, e.1, e.2, e.3, q.world', q.played, (off.0, off.1, off.2, next.0, off.4, off.5, next.1, off.7), e.7)
+      let cut = subst (λ (h : List ℕ). IsCutOff e.3 (h ++ off.2)) (alike.heads (length e.0 + 1) off.0) off.7 in
+      (e.0, e.1, e.2, e.3, q.world', q.played, (off.0, off.1, off.2, next.0, off.4, off.5, next.1, cut), e.7)
   ends_by_alike _ bytes left Writes none e = absurd e
 
   -- THE LAW

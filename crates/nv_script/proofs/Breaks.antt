@@ -1,9 +1,9 @@
 -- The line in whose text a front of the text of some lines ends.
-use Rattle.std.proofs.Common.{◌≡◌, ℕ, ◌<◌, ◌≤◌, inl, inr, List, [], ◌∷◌, ◌++◌, length, Option, refl, ap, ◌∙◌, append_assoc, sym, arith}
+use Rattle.std.proofs.Common.{◌≡◌, ℕ, ◌+◌, ◌<◌, ◌≤◌, inl, inr, List, [], ◌∷◌, ◌++◌, length, Option, refl, ap, ◌∙◌, append_assoc, sym, arith}
 use Rattle.std.proofs.lemmas.Bool.{cases_lt}
 use Rattle.nv_machine.specs.World.{World}
 use Rattle.nv_script.specs.Lines.{IsCutOff, IsLine}
-use Rattle.nv_script.specs.Play.{Plays, PlaysAll, machine_player}
+use Rattle.nv_script.specs.Play.{Plays, PlaysFrom, machine_player, machine_player_with}
 
 -- where two splits of a text are, the one that ends first is a front of the other's front
 pub shorter : (a b c d : List ℕ) → a ++ b ≡ c ++ d → length c < length a → IsCutOff c a
@@ -24,8 +24,8 @@ longer (x ∷ a) b (y ∷ c) d same most =
     let rest = longer a b c d tail (omega arith) in
     (rest.0, (let more = rest.1 in cc), rest.2)
 
--- the lines before it, it and those after it; the text before its own, and what is there of its own
-pub record BreaksAt (old : Option World) (lines : List (List ℕ)) (front : List ℕ) : Type 0 where
+-- the lines before it, it, which has this number, and those after it; the text before its own, and what is there of its own
+pub record BreaksAt (head : ℕ → List ℕ → List ℕ) (number : ℕ) (old : Option World) (lines : List (List ℕ)) (front : List ℕ) : Type 0 where
   pub before : List (List ℕ)
   pub line : List ℕ
   pub after : List (List ℕ)
@@ -34,23 +34,27 @@ pub record BreaksAt (old : Option World) (lines : List (List ℕ)) (front : List
   pub own : List ℕ
   pub world : Option World
   pub new : Option World
+  pub place : ℕ
+  pub place_is : place ≡ number + length before
   pub split : lines ≡ before ++ line ∷ after
   pub front_is : front ≡ text ++ sent
-  pub played : PlaysAll machine_player old before text world
+  pub played : PlaysFrom (machine_player_with head) number old before text world
   pub lawful : IsLine line
   pub plays : Plays machine_player world line own new
-  pub cut_off : IsCutOff sent own
+  pub cut_off : IsCutOff sent (head place line ++ own)
 
 none_of : (front : List ℕ) → IsCutOff front [] → ⊥
 none_of [] cut = let same = cut.1 in let some = cut.2 in omega (arith, ap length same)
 none_of (byte ∷ front) cut = let same = cut.1 in cc
 
-pub breaks_at : (old : Option World) (lines : List (List ℕ)) (text front : List ℕ) (new : Option World)
-    → PlaysAll machine_player old lines text new → IsCutOff front text → BreaksAt old lines front
-breaks_at old [] text front new all cut = absurd (none_of front (cut.0, sym all.0 ∙ cut.1, cut.2))
-breaks_at old (line ∷ lines) text front new all cut =
-    let same : all.0 ++ all.1 ≡ front ++ cut.0 = sym all.6 ∙ cut.1 in
-    elim (cases_lt (length front) (length all.0)) [
+pub breaks_at : (head : ℕ → List ℕ → List ℕ) (number : ℕ) (old : Option World) (lines : List (List ℕ)) (text front : List ℕ)
+    (new : Option World) → PlaysFrom (machine_player_with head) number old lines text new → IsCutOff front text
+    → BreaksAt head number old lines front
+breaks_at head number old [] text front new all cut = absurd (none_of front (cut.0, sym all.0 ∙ cut.1, cut.2))
+breaks_at head number old (line ∷ lines) text front new all cut =
+    let own = head number line ++ all.0 in
+    let same : own ++ all.1 ≡ front ++ cut.0 = sym all.6 ∙ cut.1 in
+    elim (cases_lt (length front) (length own)) [
       | inl less ↦ record {
         before = [];
         line = line;
@@ -60,27 +64,31 @@ breaks_at old (line ∷ lines) text front new all cut =
         own = all.0;
         world = old;
         new = all.2;
+        place = number;
+        place_is = omega arith;
         split = refl;
         front_is = refl;
         played = (refl, refl);
         lawful = all.3;
         plays = all.4;
-        cut_off = shorter all.0 all.1 front cut.0 same less;
+        cut_off = shorter own all.1 front cut.0 same less;
       }
       | inr most ↦
-          let more = longer all.0 all.1 front cut.0 same most in
-          let at = breaks_at all.2 lines all.1 more.0 new all.5 (cut.0, more.2, cut.2) in
+          let more = longer own all.1 front cut.0 same most in
+          let at = breaks_at head (number + 1) all.2 lines all.1 more.0 new all.5 (cut.0, more.2, cut.2) in
           record {
             before = line ∷ at.before;
             line = at.line;
             after = at.after;
-            text = all.0 ++ at.text;
+            text = own ++ at.text;
             sent = at.sent;
             own = at.own;
             world = at.world;
             new = at.new;
+            place = at.place;
+            place_is = (let is = at.place_is in omega (arith, is));
             split = ap (λ (ls : List (List ℕ)). line ∷ ls) at.split;
-            front_is = more.1 ∙ ap (λ t. all.0 ++ t) at.front_is ∙ sym (append_assoc all.0 at.text at.sent);
+            front_is = more.1 ∙ ap (λ t. own ++ t) at.front_is ∙ sym (append_assoc own at.text at.sent);
             played = (all.0, at.text, all.2, all.3, all.4, at.played, refl);
             lawful = at.lawful;
             plays = at.plays;

@@ -35,6 +35,13 @@ writes_rest a b c text left left' first then_ =
     let same : text ≡ (first.0 ++ then_.0) ++ left' = first.1 ∙ ap (λ t. first.0 ++ t) then_.1 ∙ sym (append_assoc first.0 then_.0 left') in
     (first.0 ++ then_.0, same, Appends-trans a b c first.0 then_.0 first.2 then_.2)
 
+-- more was written behind what was left, and of both a front
+pub writes_behind : (a b c : Option (List ℕ)) (old head mid text left : List ℕ) → WritesFront a b (old ++ head) mid
+    → WritesFront b c (mid ++ text) left → WritesFront a c (old ++ (head ++ text)) left
+writes_behind a b c old head mid text left first then_ =
+    subst (λ (t : List ℕ). WritesFront a c t left) (append_assoc old head text)
+    (writes_rest a b c ((old ++ head) ++ text) (mid ++ text) left (writes_grown a b (old ++ head) mid text first) then_)
+
 -- all that was left was written
 pub writes_end : (a b c : Option (List ℕ)) (text left : List ℕ) → WritesFront a b text left → Appends b c left → Appends a c text
 writes_end a b c text left first then_ = subst (λ (t : List ℕ). Appends a c t) (sym first.1)
@@ -64,3 +71,15 @@ writes_all_and_some a b c text more first then_ =
     let cut = then_.1 in
     let same : text ++ more ≡ (text ++ then_.0) ++ cut.0 = ap (λ t. text ++ t) cut.1 ∙ sym (append_assoc text then_.0 cut.0) in
     (text ++ then_.0, (cut.0, same, cut.2), Appends-trans a b c text then_.0 first then_.2)
+
+-- of what was written behind what was left, a write failed
+pub writes_some_behind : (a b c : Option (List ℕ)) (old head mid text : List ℕ) → WritesFront a b (old ++ head) mid
+    → WritesSome b c (mid ++ text) → WritesSome a c (old ++ (head ++ text))
+writes_some_behind a b c old head mid text first then_ =
+    subst (λ (t : List ℕ). WritesSome a c t) (append_assoc old head text)
+    (writes_some a b c ((old ++ head) ++ text) (mid ++ text) (writes_grown a b (old ++ head) mid text first) then_)
+
+-- some was written of a text that goes on
+pub writes_some_first : (a b : Option (List ℕ)) (old head text : List ℕ) → WritesSome a b (old ++ head) → WritesSome a b (old ++ (head ++ text))
+writes_some_first a b old head text some =
+    subst (λ (t : List ℕ). WritesSome a b t) (append_assoc old head text) (writes_some_of a b (old ++ head) text some)

@@ -1,7 +1,9 @@
 pub mod Ahead
 pub mod Alike
+pub mod Answering
 pub mod Breaks
 pub mod Commands
+pub mod Echoes
 pub mod Endings
 pub mod Escapes
 pub mod Failures
@@ -19,5 +21,7 @@ pub mod SerialAlike
 pub mod SerialReports
 pub mod SerialRows
 pub mod SerialTexts
+pub mod Solid
 pub mod Taken
+pub mod Told
 pub mod Spelled

@@ -1,5 +1,5 @@
 -- Events lead to each world that a script plays on, so that its reports are what a scan counts.
-use Rattle.std.proofs.Common.{◌≡◌, ◌∙◌, ℕ, ◌++◌, ◌≤◌, Bool, true, false, List, [], ◌∷◌, Option, Some, None, ap, arith, inl, inr, refl, subst, sym}
+use Rattle.std.proofs.Common.{◌≡◌, ◌∙◌, ℕ, ◌+◌, ◌++◌, ◌≤◌, Bool, true, false, List, [], ◌∷◌, Option, Some, None, ap, arith, inl, inr, refl, subst, sym}
 use Rattle.std.specs.Prelude.{MatchBool, min, nat_le, nat_lt, length}
 use Rattle.std.specs.List.{AllByRecursion}
 use Rattle.std.proofs.lemmas.Bool.{and_parts, leb-true}
@@ -26,7 +26,7 @@ use Rattle.nv_core.proofs.ScannedReports.{lists_scanned, logs_scanned, snaps_sca
 use Rattle.nv_script.specs.declared.command.Command.{Command}
 use Rattle.nv_script.specs.declared.command.Command.TheVariants as command
 use Rattle.nv_script.specs.Grammar.{is_skipped}
-use Rattle.nv_script.specs.Play.{Acts, ActsBy, Formats, Plays, PlaysAll, PlaysWords, Reports, ShowsLog, ShowsTree, machine_player, nodes_at, reports_by_scan, reports_of}
+use Rattle.nv_script.specs.Play.{Acts, ActsBy, Formats, Plays, PlaysAll, PlaysFrom, PlaysWords, Reports, ShowsLog, ShowsTree, machine_player, machine_player_with, no_head, nodes_at, reports_by_scan, reports_of}
 use Rattle.nv_script.specs.Results.{HasAnyRun}
 use Rattle.nv_script.specs.Texts.{lists_lines, log_line, snaps_lines, space_line}
 use Rattle.nv_script.specs.Words.{words_of}
@@ -151,14 +151,18 @@ run_line m line text n plays has = go (is_skipped line) plays where
   go true skips = subst HasAnyRun (sym skips.1) has
   go false words = run_words m (words_of line) text n words has
 
-run_lines : (m : Option World) (lines : List (List ℕ)) (text : List ℕ) (n : Option World)
-    → PlaysAll machine_player m lines text n → HasAnyRun m → HasAnyRun n
-run_lines m [] text n plays has = subst HasAnyRun (sym plays.1) has
-run_lines m (line ∷ lines) text n plays has =
-    run_lines plays.2 lines plays.1 n plays.5 (run_line m line plays.0 plays.2 plays.4 has)
+run_lines : (head : ℕ → List ℕ → List ℕ) (number : ℕ) (m : Option World) (lines : List (List ℕ)) (text : List ℕ) (n : Option World)
+    → PlaysFrom (machine_player_with head) number m lines text n → HasAnyRun m → HasAnyRun n
+run_lines head number m [] text n plays has = subst HasAnyRun (sym plays.1) has
+run_lines head number m (line ∷ lines) text n plays has =
+    run_lines head (number + 1) plays.2 lines plays.1 n plays.5 (run_line m line plays.0 plays.2 plays.4 has)
+
+pub plays_run_by : (head : ℕ → List ℕ → List ℕ) (lines : List (List ℕ)) (text : List ℕ) (n : Option World)
+    → PlaysAll (machine_player_with head) None lines text n → HasAnyRun n
+plays_run_by head lines text n plays = run_lines head 1 None lines text n plays tt
 
 pub plays_run : (lines : List (List ℕ)) (text : List ℕ) (n : Option World) → PlaysAll machine_player None lines text n → HasAnyRun n
-plays_run lines text n plays = run_lines None lines text n plays tt
+plays_run lines text n plays = plays_run_by no_head lines text n plays
 
 -- ---- reports
 

@@ -166,7 +166,7 @@ module _ (law : CallsAreSerial) where
 
   -- THE PLAYERS GO ALIKE
   pub go_alike : GoAlike machine_player serial_player StandsAs
-  go_alike = record { start = stands_new; acts = acts_told; lists = lists_told }
+  go_alike = record { start = stands_new; acts = acts_told; lists = lists_told; heads = λ number line. refl }
 
   -- THE LAW of scripts whose lines make no step
   pub plays_alone : (result : Result (Unit {0}) Fault) (input left old new : Option (List ℕ)) → PlaysScript result input left old new

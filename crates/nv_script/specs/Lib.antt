@@ -1,3 +1,4 @@
+pub mod Echo
 pub mod Grammar
 pub mod Lines
 pub mod Play

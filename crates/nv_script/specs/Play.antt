@@ -30,13 +30,14 @@ use Rattle.nv_script.specs.Texts.{line_of, lists_lines, log_line, node_line, ref
 use Rattle.nv_script.specs.Words.{words_of}
 use Rattle.nv_base.specs.Memory.{out_of_memory}
 
--- WHO PLAYS A SCRIPT: the kind of its worlds, the empty one of a geometry, what a command on a world writes and leaves,
--- and the nodes of the tree that a command lists
+-- WHO PLAYS A SCRIPT: the kind of its worlds, the empty one of a geometry, what a command on a world is answered and leaves,
+-- the nodes of the tree that a command lists, and what is written before the answers to the line with a number
 pub record Player : Type 1 where
   pub World : Type 0
   pub empty : GeometryNumbers → World
   pub Acts : World → Command → List ℕ → World → Type 0
   pub listed : World → Command → Option (List TreeNode)
+  pub head : ℕ → List ℕ → List ℕ
 
 -- ---- commands on a world of any kind
 
@@ -146,17 +147,21 @@ PlaysWords player (Some old) words text new =
     (command : Command) × (world : player.World) × (command_of words ≡ Ok command) × player.Acts old command text world
     × (new ≡ Some world)
 
--- one line without a fault; one that is skipped writes and changes nothing
+-- one line without a fault, and its answers; one that is skipped has none and changes nothing
 abbrev pub Plays : (player : Player) → Option player.World → List ℕ → List ℕ → Option player.World → Type 0
 Plays player old line text new =
     MatchBool (is_skipped line) ((text ≡ []) × (new ≡ old)) (PlaysWords player old (words_of line) text new)
 
--- some lines, one after another
-abbrev pub PlaysAll : (player : Player) → Option player.World → List (List ℕ) → List ℕ → Option player.World → Type 0
-PlaysAll player old [] text new = (text ≡ []) × (new ≡ old)
-PlaysAll player old (line ∷ lines) text new =
+-- some lines, one after another, of which the first has this number
+abbrev pub PlaysFrom : (player : Player) → ℕ → Option player.World → List (List ℕ) → List ℕ → Option player.World → Type 0
+PlaysFrom player number old [] text new = (text ≡ []) × (new ≡ old)
+PlaysFrom player number old (line ∷ lines) text new =
     (first rest : List ℕ) × (mid : Option player.World) × IsLine line × Plays player old line first mid
-    × PlaysAll player mid lines rest new × (text ≡ first ++ rest)
+    × PlaysFrom player (number + 1) mid lines rest new × (text ≡ (player.head number line ++ first) ++ rest)
+
+-- the same of the first lines of a script
+abbrev pub PlaysAll : (player : Player) → Option player.World → List (List ℕ) → List ℕ → Option player.World → Type 0
+PlaysAll player old lines text new = PlaysFrom player 1 old lines text new
 
 -- the first lines of what the reader had, what they wrote, the world after them, and the bytes past them
 pub record Played (player : Player) (input : Option (List ℕ)) (lines : List (List ℕ)) (rest text : List ℕ)
@@ -165,25 +170,27 @@ pub record Played (player : Player) (input : Option (List ℕ)) (lines : List (L
   pub few : length lines ≤ most_lines
   pub plays : PlaysAll player None lines text world
 
--- the first lines of the tree that these words ask for
+-- these words ask for a tree, and these are its first lines
 abbrev pub ListsWords : (player : Player) → Option player.World → List (List ℕ) → List ℕ → Type 0
 ListsWords player None words sent = ⊥
-ListsWords player (Some old) words sent =
-    (command : Command) × (command_of words ≡ Ok command) × ListsFront (player.listed old command) sent
+ListsWords player (Some old) words sent = (command : Command) × (command_of words ≡ Ok command) × (is_list command ≡ true)
+    × ((sent ≡ []) ⊎ ListsFront (player.listed old command) sent)
 
--- the next line was played, and of its text these bytes alone were written
-abbrev pub BreaksOff : (player : Player) → List ℕ → Option player.World → List ℕ → Type 0
-BreaksOff player bytes world sent = (line rest text : List ℕ) × (new : Option player.World) × IsLine line
-    × (bytes ≡ (line ++ 10 ∷ []) ++ rest) × Plays player world line text new × IsCutOff sent text
+-- the next line, which has this number, was played, and of its text these bytes alone were written
+abbrev pub BreaksOff : (player : Player) → ℕ → List ℕ → Option player.World → List ℕ → Type 0
+BreaksOff player number bytes world sent = (line rest text : List ℕ) × (new : Option player.World) × IsLine line
+    × (bytes ≡ (line ++ 10 ∷ []) ++ rest) × Plays player world line text new × IsCutOff sent (player.head number line ++ text)
 
--- memory is refused at a command: nothing of its text is written, or whole lines of a tree
-abbrev pub StopsAt : (player : Player) → Option player.World → (line sent : List ℕ) → Type 0
-StopsAt player world line sent = (is_skipped line ≡ false) × ((sent ≡ []) ⊎ ListsWords player world (words_of line) sent)
+-- memory is refused at a command: nothing of its text is written, or what stands before its answers and whole lines of a tree
+abbrev pub StopsAt : (player : Player) → (head : List ℕ) → Option player.World → (line sent : List ℕ) → Type 0
+StopsAt player head world line sent = (is_skipped line ≡ false)
+    × ((sent ≡ []) ⊎ ((front : List ℕ) × ListsWords player world (words_of line) front × (sent ≡ head ++ front)))
 
 -- memory is refused before the first line, or at the next one
 abbrev pub Stops : (player : Player) → List (List ℕ) → List ℕ → Option player.World → List ℕ → Type 0
 Stops player lines bytes world sent = ((lines ≡ []) × (sent ≡ []))
-    ⊎ ((line rest : List ℕ) × IsLine line × (bytes ≡ (line ++ 10 ∷ []) ++ rest) × StopsAt player world line sent)
+    ⊎ ((line rest : List ℕ) × IsLine line × (bytes ≡ (line ++ 10 ∷ []) ++ rest)
+    × StopsAt player (player.head (length lines + 1) line) world line sent)
 
 -- all lines were played and their text was written, and nothing is left
 abbrev pub EndsWell : (player : Player) → (input left : Option (List ℕ)) → (List ℕ → Type 0) → Type 0
@@ -210,7 +217,7 @@ EndsBy player (fault.OutOfMemory _) input left Writes =
     (lines : List (List ℕ)) × (rest text sent : List ℕ) × (world : Option player.World) × Played player input lines rest text world
     × Stops player lines rest world sent × Writes (text ++ sent)
 EndsBy player fault.Write input left Writes = (lines : List (List ℕ)) × (rest text sent : List ℕ) × (world : Option player.World)
-    × Played player input lines rest text world × BreaksOff player rest world sent × Writes (text ++ sent)
+    × Played player input lines rest text world × BreaksOff player (length lines + 1) rest world sent × Writes (text ++ sent)
 EndsBy player _ input left Writes = ⊥
 
 -- how a script ends: what the reader has at first and is left with, and what is written
@@ -270,8 +277,22 @@ ActsBy told old report text new = Tells told old report text new
 abbrev pub Acts : World → Command → List ℕ → World → Type 0
 Acts old command text new = ActsBy (reports_by_scan old) old command text new
 
+-- the machine, with this before the answers to each line
+abbrev pub machine_player_with : (ℕ → List ℕ → List ℕ) → Player
+machine_player_with head = record {
+  World = World;
+  empty = formatted;
+  Acts = Acts;
+  listed = λ w. nodes_listed (reports_by_scan w);
+  head = head;
+}
+
+-- nothing stands before answers
+abbrev pub no_head : ℕ → List ℕ → List ℕ
+no_head number line = []
+
 abbrev pub machine_player : Player
-machine_player = record { World = World; empty = formatted; Acts = Acts; listed = λ w. nodes_listed (reports_by_scan w) }
+machine_player = machine_player_with no_head
 
 -- HOW THE MACHINE ENDS A SCRIPT, where the writer has this at first and is left with that
 abbrev pub PlaysScript : Result (Unit {0}) Fault → (input left old new : Option (List ℕ)) → Type 0

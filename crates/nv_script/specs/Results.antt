@@ -18,7 +18,7 @@ use Rattle.nv_script.specs.declared.fault.LineFault.TheVariants as line_fault
 use Rattle.nv_script.specs.declared.feed.LineResult.{LineResult}
 use Rattle.nv_script.specs.declared.feed.LineResult.TheVariants as taken
 use Rattle.nv_script.specs.Lines.{IsLine, LineResultIs, WritesFront, WritesSome, ended}
-use Rattle.nv_script.specs.Play.{EndsBy, EndsWell, Formats, LineFails, ListsFront, Plays, PlaysAll, StopsAt, machine_player, most_lines}
+use Rattle.nv_script.specs.Play.{EndsBy, EndsWell, Formats, LineFails, ListsFront, Plays, PlaysAll, StopsAt, machine_player, machine_player_with, most_lines, no_head}
 use Rattle.nv_script.specs.Texts.{line_of, node_line, refused_line, tree_lines}
 use Rattle.nv_base.specs.Memory.{out_of_memory}
 
@@ -50,25 +50,36 @@ SendsBut rest old new text = WritesFront old.written new.written (old.gathered +
 abbrev pub Fails : Sent → Sent → List ℕ → Type 0
 Fails old new text = WritesSome old.written new.written (old.gathered ++ text) × (new.gathered ≡ [])
 
--- what became of one line that was not played to its end: memory was refused at a command, a write failed, or
--- the line has a fault, and then nothing has changed
+-- what became of one line that was not played to its end, where this stands before its answers: memory was refused at a
+-- command, a write failed, or the line has a fault, and then nothing has changed
+abbrev pub LineFaultBehind : (head : List ℕ) → LineFault → Sent → Sent → Option machine.World → List ℕ → Type 0
+LineFaultBehind head (line_fault.OutOfMemory _) old new m line =
+    (text : List ℕ) × StopsAt machine_player head m line text × Sends old new text
+LineFaultBehind head line_fault.Write old new m line =
+    (text : List ℕ) × (n : Option machine.World) × Plays machine_player m line text n × Fails old new (head ++ text)
+LineFaultBehind head (line_fault.Faulty fault) old new m line = LineFails (is_some m) line fault × (new ≡ old)
+
+-- the same where nothing stands before them
 abbrev pub LineFaultIs : LineFault → Sent → Sent → Option machine.World → List ℕ → Type 0
-LineFaultIs (line_fault.OutOfMemory _) old new m line = (text : List ℕ) × StopsAt machine_player m line text × Sends old new text
-LineFaultIs line_fault.Write old new m line =
-    (text : List ℕ) × (n : Option machine.World) × Plays machine_player m line text n × Fails old new text
-LineFaultIs (line_fault.Faulty fault) old new m line = LineFails (is_some m) line fault × (new ≡ old)
+LineFaultIs fault old new m line = LineFaultBehind [] fault old new m line
 
 -- what became of one line, and of the text that it writes
-abbrev pub LineIs : {A : Type 0} → Result A LineFault → Sent → Sent → Option WorldState → List ℕ → List ℕ → Option WorldState → Type 0
-LineIs (Ok done) old new world line rest world' = PlaysShown world line (SendsBut rest old new) world'
-LineIs (Err fault) old new world line rest world' =
-    (m : Option machine.World) → ShowsAny world m → HasAnyRun m → LineFaultIs fault old new m line
+abbrev pub LineIs : {A : Type 0} → (head : List ℕ) → Result A LineFault → Sent → Sent → Option WorldState → List ℕ → List ℕ
+    → Option WorldState → Type 0
+LineIs head (Ok done) old new world line rest world' = PlaysShown world line (λ text. SendsBut rest old new (head ++ text)) world'
+LineIs head (Err fault) old new world line rest world' =
+    (m : Option machine.World) → ShowsAny world m → HasAnyRun m → LineFaultBehind head fault old new m line
 
 -- the same where all of its text was sent
+abbrev pub AnswersBehind : {A : Type 0} → (head : List ℕ) → Result A LineFault → Sent → Sent → Option WorldState → List ℕ
+    → Option WorldState → Type 0
+AnswersBehind head (Ok done) old new world line world' = PlaysShown world line (λ text. Sends old new (head ++ text)) world'
+AnswersBehind head (Err fault) old new world line world' =
+    (m : Option machine.World) → ShowsAny world m → HasAnyRun m → LineFaultBehind head fault old new m line
+
+-- and where nothing stands before its answers
 abbrev pub AnswersLine : {A : Type 0} → Result A LineFault → Sent → Sent → Option WorldState → List ℕ → Option WorldState → Type 0
-AnswersLine (Ok done) old new world line world' = PlaysShown world line (Sends old new) world'
-AnswersLine (Err fault) old new world line world' =
-    (m : Option machine.World) → ShowsAny world m → HasAnyRun m → LineFaultIs fault old new m line
+AnswersLine {A = A} result old new world line world' = AnswersBehind {A = A} [] result old new world line world'
 
 -- why a text was not sent
 abbrev pub IsNotSent : LineFault → Sent → Sent → List ℕ → Type 0
@@ -81,13 +92,16 @@ abbrev pub ListsText : Option (List TreeNode) → List ℕ → Type 0
 ListsText None text = text ≡ refused_line fault.NoSnapshot
 ListsText (Some nodes) text = (text ≡ tree_lines nodes) ⊎ (text ≡ refused_line out_of_memory)
 
--- what became of a tree's text
+-- what became of a tree's text, behind this
+abbrev pub ListBehind : (head : List ℕ) → Result (Unit {0}) LineFault → Sent → Sent → List ℕ → Option (List TreeNode) → Type 0
+ListBehind head (Ok done) old new rest nodes = (text : List ℕ) × ListsText nodes text × SendsBut rest old new (head ++ text)
+ListBehind head (Err (line_fault.OutOfMemory _)) old new rest nodes =
+    (text : List ℕ) × ((text ≡ []) ⊎ ListsFront nodes text) × Sends old new (head ++ text)
+ListBehind head (Err line_fault.Write) old new rest nodes = (text : List ℕ) × ListsText nodes text × Fails old new (head ++ text)
+ListBehind head (Err (line_fault.Faulty fault)) old new rest nodes = ⊥
+
 abbrev pub ListIs : Result (Unit {0}) LineFault → Sent → Sent → List ℕ → Option (List TreeNode) → Type 0
-ListIs (Ok done) old new rest nodes = (text : List ℕ) × ListsText nodes text × SendsBut rest old new text
-ListIs (Err (line_fault.OutOfMemory _)) old new rest nodes =
-    (text : List ℕ) × ((text ≡ []) ⊎ ListsFront nodes text) × Sends old new text
-ListIs (Err line_fault.Write) old new rest nodes = (text : List ℕ) × ListsText nodes text × Fails old new text
-ListIs (Err (line_fault.Faulty fault)) old new rest nodes = ⊥
+ListIs result old new rest nodes = ListBehind [] result old new rest nodes
 
 -- memory was refused before the first node, or past it
 abbrev pub StopsList : Bool → Option (List TreeNode) → Sent → Sent → Type 0
@@ -174,15 +188,19 @@ TakesLine (Err (fault.ScriptFault why at)) number known left ahead line old new 
     × (is_line number t ≡ Err (fault.ScriptFault why at)) × IsLine line × LineResultIs t known (prepend_known ahead left) line
 TakesLine (Err _) number known left ahead line old new = ⊥
 
--- what holds before the line with a number: the lines before it were taken and played, and their text was written
--- but for its end, which is gathered
-pub record AtLine (input known old new : Option (List ℕ)) (gathered : List ℕ) (number : ℕ) (world : Option machine.World) : Type 0 where
+-- what holds before the line with a number, where this stands before answers: the lines before it were taken and played, and
+-- their text was written but for its end, which is gathered
+pub record AtLineBy (head : ℕ → List ℕ → List ℕ) (input known old new : Option (List ℕ)) (gathered : List ℕ) (number : ℕ)
+    (world : Option machine.World) : Type 0 where
   pub lines : List (List ℕ)
   pub text : List ℕ
   pub count : length lines + 1 ≡ number
   pub taken : Consumes input known (ended lines)
-  pub plays : PlaysAll machine_player None lines text world
+  pub plays : PlaysAll (machine_player_with head) None lines text world
   pub written : WritesFront old new text gathered
+
+abbrev pub AtLine : (input known old new : Option (List ℕ)) → List ℕ → ℕ → Option machine.World → Type 0
+AtLine input known old new gathered number world = AtLineBy no_head input known old new gathered number world
 
 -- once a read or a write failed, nothing is gathered
 abbrev pub HoldsNone : {A : Type 0} → Result A Fault → List ℕ → Type 0
@@ -198,10 +216,12 @@ EndsText outcome result old new = ((result ≡ outcome) × Appends old.written n
     ⊎ ((result ≡ Err fault.Write) × WritesSome old.written new.written old.gathered)
 
 -- after the line with a number, which is one of the allowed: the script goes on, or this is its end
-abbrev pub TurnIs : Result Bool Fault → (input left known old new : Option (List ℕ)) → List ℕ → ℕ → Option WorldState → Type 0
-TurnIs (Ok true) input left known old new gathered number world =
-    (number ≤ most_lines) × (n : Option machine.World) × AtLine input known old new gathered (number + 1) n × ShowsAny world n
-TurnIs (Ok false) input left known old new gathered number world =
-    EndsWell machine_player input left (λ text. WritesFront old new text gathered)
-TurnIs (Err why) input left known old new gathered number world =
-    EndsBy machine_player why input left (λ text. WritesFront old new text gathered) × HoldsNone {A = Bool} (Err why) gathered
+abbrev pub TurnIs : (head : ℕ → List ℕ → List ℕ) → Result Bool Fault → (input left known old new : Option (List ℕ)) → List ℕ → ℕ
+    → Option WorldState → Type 0
+TurnIs head (Ok true) input left known old new gathered number world =
+    (number ≤ most_lines) × (n : Option machine.World) × AtLineBy head input known old new gathered (number + 1) n × ShowsAny world n
+TurnIs head (Ok false) input left known old new gathered number world =
+    EndsWell (machine_player_with head) input left (λ text. WritesFront old new text gathered)
+TurnIs head (Err why) input left known old new gathered number world =
+    EndsBy (machine_player_with head) why input left (λ text. WritesFront old new text gathered)
+    × HoldsNone {A = Bool} (Err why) gathered

@@ -9,7 +9,7 @@ use Rattle.nv_script.specs.declared.command.Command.{Command}
 use Rattle.nv_script.specs.declared.command.Command.TheVariants as command
 use Rattle.nv_script.specs.Grammar.{command_of}
 use Rattle.nv_script.specs.Lines.{IsLine, ended}
-use Rattle.nv_script.specs.Play.{Answers, Ends, Player, Tells, WorldReports, nodes_listed}
+use Rattle.nv_script.specs.Play.{Answers, Ends, Player, Tells, WorldReports, no_head, nodes_listed}
 use Rattle.nv_script.specs.Words.{words_of}
 
 -- a `start`, a `go` or a `run`
@@ -31,7 +31,7 @@ module _ {W : Type 0} (empty : GeometryNumbers → W) (reports : W → WorldRepo
   ActsAlone old report text new = Tells (reports old) old report text new
 
   abbrev pub player_of_calls : Player
-  player_of_calls = record { World = W; empty = empty; Acts = ActsAlone; listed = λ w. nodes_listed (reports w) }
+  player_of_calls = record { World = W; empty = empty; Acts = ActsAlone; listed = λ w. nodes_listed (reports w); head = no_head }
 
 -- HOW A SCRIPT ENDS, where the reader's bytes are known and no line of them makes single steps: as this player plays it
 abbrev pub PlaysAlone : Player → Result (Unit {0}) Fault → (input left old new : Option (List ℕ)) → Type 0

@@ -1,6 +1,7 @@
 //! What lines do to a world, and what they write.
 
-ghost use Rattle.std.specs.Prelude.{◌≡◌, ◌≢◌, ◌<◌, ◌+◌, ◌-◌, ◌^◌, [], None, IfOk, OnOk, false};
+ghost use Rattle.std.specs.Prelude.{◌≡◌, ◌≢◌, ◌<◌, ◌+◌, ◌-◌, ◌^◌, [], None, IfOk, OnOk, false, true};
+ghost use Rattle.nv_script.specs.Grammar.{is_skipped};
 ghost use Rattle.nv_base.specs.Limits.{first_bad_field};
 ghost use Rattle.nv_script.specs.declared.command.Command.TheVariants.{Audit};
 ghost use Rattle.nv_script.specs.Play.{ActsBy, is_list, reports_of};
@@ -15,24 +16,28 @@ use crate::outbox::Outbox;
 use crate::text::{
     push_lists, push_log, push_refused, push_reply, push_snaps, push_space, push_told,
 };
-use crate::trees::write_tree;
+use crate::trees::write_tree_behind;
 use crate::word::words;
 use nv_base::{Epoch, Fault, Geometry, GeometryNumbers, Ino};
 use nv_core::World;
 use std::alloc::{AllocError, Global};
 
-/// Plays one line, which has no line end. The text that it writes is in `out` then, in place of what that held, except
-/// for the lines of a tree's nodes, which are sent before.
+/// Plays one line, which has no line end, with `head` before its answers. A line that is skipped has none.
+///
+/// What it is answered is in `out` then, in place of what that held, except for the lines of a tree's nodes. These are sent before,
+/// and so is the head.
 pub(crate) fn play_line<W: CountedWrite>(
     alloc: Global,
     world: &mut Option<World>,
     line: &[u8],
+    head: &[u8],
     out: &mut Vec<u8>,
     outbox: &mut Outbox,
     writer: &mut W,
 ) -> Result<(), LineFault>
-    requires { W.failed writer.old < 2 ^ 64 - 1 }
-    ensures line { LineIs result (record { written = W.contents writer.old; gathered = outbox.old })
+    requires skipped { is_skipped line.now ≡ true → head.now ≡ [] }
+    requires failures { W.failed writer.old < 2 ^ 64 - 1 }
+    ensures line { LineIs head.now result (record { written = W.contents writer.old; gathered = outbox.old })
         (record { written = W.contents writer.new; gathered = outbox.new })
         world.old line.now out.new.items world.new }
     ensures failed { W.failed writer.new ≡ W.failed writer.old + failed_in_line result }
@@ -46,18 +51,19 @@ pub(crate) fn play_line<W: CountedWrite>(
     match world {
         None => {
             let numbers = read_format(words.as_slice())?;
-            Ok(format(alloc, world, &numbers, out)?)
+            format(alloc, world, &numbers, out)?;
+            Ok(outbox.add(writer, head)?)
         }
         Some(world) => {
             let command = read_command(alloc, words.as_slice())?;
             match command {
-                Command::Tree => write_tree(world, None, out, outbox, writer),
+                Command::Tree => write_tree_behind(head, world, None, out, outbox, writer),
                 Command::SnapTree(s) => {
-                    write_tree(world, Some(Epoch::new(s)), out, outbox, writer)
+                    write_tree_behind(head, world, Some(Epoch::new(s)), out, outbox, writer)
                 }
                 _ => {
                     act(world, command, out)?;
-                    Ok(())
+                    Ok(outbox.add(writer, head)?)
                 }
             }
         }

@@ -10,6 +10,7 @@ mod asked;
 mod call;
 pub mod command;
 mod counted;
+mod echo;
 pub mod fault;
 pub mod feed;
 mod field;
@@ -24,6 +25,9 @@ mod trees;
 pub mod word;
 
 pub use counted::{CountedRead, CountedWrite, ReadCounter, ReadFailed, WriteCounter, WriteFailed};
+pub use echo::Echo;
 pub use outcome::{Outcome, exit_code, fault_line};
-pub use script::{play, play_and_leave, play_counted, play_counted_and_leave};
+pub use script::{
+    play, play_and_leave, play_counted, play_counted_and_leave, play_echoed_and_leave,
+};
 pub use text::fault_text;

@@ -1,17 +1,20 @@
 //! A script while it is played.
 
-ghost use Rattle.std.specs.Prelude.{◌≡◌, ℕ, ◌+◌, ◌-◌, ◌^◌, ◌<◌, ◌≤◌, ◌⊎◌, List, [], Option, IfOk, OnErr, OnOk, MatchResult, None};
+ghost use Rattle.std.specs.Prelude.{◌≡◌, ℕ, ◌+◌, ◌-◌, ◌^◌, ◌<◌, ◌≤◌, ◌⊎◌, List, [], Option, IfOk, OnErr, OnOk, MatchResult, None, true};
 ghost use Rattle.std.specs.List.{Contains};
 ghost use Rattle.std.specs.Io.KnownBytes.{prepend_known};
 ghost use Rattle.std.specs.Vec.{vec_capacity};
 ghost use Rattle.nv_machine.specs.World as machine;
 ghost use Rattle.nv_core.specs.Worlds.{ShowsAny};
+ghost use Rattle.nv_script.specs.Grammar.{is_skipped};
 ghost use Rattle.nv_script.specs.Lines.{WritesFront, WritesSome};
-ghost use Rattle.nv_script.specs.Play.{Ends, PlaysScript, failed_reads, failed_writes, machine_player};
-ghost use Rattle.nv_script.specs.Results.{AnswersLine, AtLine, HoldsNone, TakesLine, TurnIs, ending_of, failed_in_line, is_line};
+ghost use Rattle.nv_script.specs.Echo.{PlaysEchoed, before_answers};
+ghost use Rattle.nv_script.specs.Play.{Ends, failed_reads, failed_writes, machine_player_with};
+ghost use Rattle.nv_script.specs.Results.{AnswersBehind, AnswersLine, AtLineBy, HoldsNone, TakesLine, TurnIs, ending_of, failed_in_line, is_line};
 
 use crate::act::play_line;
 use crate::counted::{CountedRead, CountedWrite, WriteFailed};
+use crate::echo::{Echo, make_head};
 use crate::fault::LineFault;
 use crate::feed::{Feed, LineResult, MAX_LINE_BYTES};
 use crate::outbox::Outbox;
@@ -25,12 +28,13 @@ pub const MAX_LINES: u64 = 1_048_576;
 /// The room for a line's text that is made at first. A longer text makes more.
 const TEXT_BYTES: usize = 4096;
 
-/// A script while it is played: what is read ahead, the line that was taken last and its text, what is to be
-/// written, and the world.
+/// A script while it is played: what is read ahead, the line that was taken last, what stands before its answers and these, what
+/// is to be written, and the world.
 #[derive(Drop)]
 pub struct Player {
     pub feed: Feed,
     pub line: Vec<u8>,
+    head: Vec<u8>,
     text: Vec<u8>,
     pub outbox: Outbox,
     pub world: Option<World>,
@@ -47,6 +51,7 @@ impl Player {
         Ok(Player {
             feed: Feed::new(alloc)?,
             line: Vec::with_capacity(alloc, MAX_LINE_BYTES)?,
+            head: Vec::new(alloc),
             text: Vec::with_capacity(alloc, TEXT_BYTES)?,
             outbox: Outbox::new(alloc)?,
             world: None,
@@ -57,6 +62,7 @@ impl Player {
     pub(crate) fn play<R: CountedRead, W: CountedWrite>(
         &mut self,
         alloc: Global,
+        echo: Echo,
         reader: &mut R,
         writer: &mut W,
     ) -> Result<(), Fault>
@@ -65,14 +71,14 @@ impl Player {
         requires world { self.old.world ≡ None }
         requires reads { R.failed reader.old < 2 ^ 64 - 1 }
         requires writes { W.failed writer.old < 2 ^ 64 - 1 }
-        ensures script { PlaysScript result (R.remaining reader.old) (R.remaining reader.new)
+        ensures script { PlaysEchoed echo result (R.remaining reader.old) (R.remaining reader.new)
             (W.contents writer.old) (W.contents writer.new) }
         ensures reads { R.failed reader.new ≡ R.failed reader.old + failed_reads result }
         ensures writes { W.failed writer.new ≡ W.failed writer.old + failed_writes result }
         ensures same_reader { R.place reader.new ≡ R.place reader.old }
         ensures same_writer { W.place writer.new ≡ W.place writer.old }
     {
-        let outcome = self.play_lines(alloc, reader, writer);
+        let outcome = self.play_lines(alloc, echo, reader, writer);
         self.outbox.end(writer, outcome)
     }
 
@@ -80,6 +86,7 @@ impl Player {
     fn play_lines<R: CountedRead, W: CountedWrite>(
         &mut self,
         alloc: Global,
+        echo: Echo,
         reader: &mut R,
         writer: &mut W,
     ) -> Result<(), Fault>
@@ -88,8 +95,8 @@ impl Player {
         requires world { self.old.world ≡ None }
         requires reads { R.failed reader.old < 2 ^ 64 - 1 }
         requires writes { W.failed writer.old < 2 ^ 64 - 1 }
-        ensures script { Ends machine_player result (R.remaining reader.old) (R.remaining reader.new)
-            (λ text. WritesFront (W.contents writer.old) (W.contents writer.new)
+        ensures script { Ends (machine_player_with (before_answers echo)) result
+            (R.remaining reader.old) (R.remaining reader.new) (λ text. WritesFront (W.contents writer.old) (W.contents writer.new)
             text self.new.outbox) }
         ensures unheld { HoldsNone result self.new.outbox }
         ensures reads { R.failed reader.new ≡ R.failed reader.old + failed_reads result }
@@ -98,7 +105,7 @@ impl Player {
         ensures same_writer { W.place writer.new ≡ W.place writer.old }
     {
         for number in 1..=MAX_LINES + 1 {
-            if !self.turn(alloc, number, reader, writer)? {
+            if !self.turn(alloc, echo, number, reader, writer)? {
                 return Ok(());
             }
         }
@@ -110,6 +117,7 @@ impl Player {
     fn turn<R: CountedRead, W: CountedWrite>(
         &mut self,
         alloc: Global,
+        echo: Echo,
         number: u64,
         reader: &mut R,
         writer: &mut W,
@@ -119,9 +127,9 @@ impl Player {
         requires writes { W.failed writer.old < 2 ^ 64 - 1 }
         ensures turn { (input old : Option (List ℕ)) (m : Option machine.World)
             → ShowsAny self.old.world m
-            → AtLine input (prepend_known self.old.feed (R.remaining reader.old))
+            → AtLineBy (before_answers echo) input (prepend_known self.old.feed (R.remaining reader.old))
             old (W.contents writer.old) self.old.outbox number m
-            → TurnIs result input (R.remaining reader.new)
+            → TurnIs (before_answers echo) result input (R.remaining reader.new)
             (prepend_known self.new.feed (R.remaining reader.new))
             old (W.contents writer.new) self.new.outbox number self.new.world }
         ensures reads { R.failed reader.new ≡ R.failed reader.old + failed_reads result }
@@ -132,7 +140,7 @@ impl Player {
         if !self.take(number, reader, writer)? {
             return Ok(false);
         }
-        match self.play_taken(alloc, writer) {
+        match self.play_echoed(alloc, echo, number, writer) {
             Ok(()) => Ok(true),
             Err(fault) => Err(ending_of(number, fault)),
         }
@@ -168,6 +176,43 @@ impl Player {
         is_line(number, taken)
     }
 
+    /// Plays the line that was taken last, which has this number, and gathers its text.
+    fn play_echoed<W: CountedWrite>(
+        &mut self,
+        alloc: Global,
+        echo: Echo,
+        number: u64,
+        writer: &mut W,
+    ) -> Result<(), LineFault>
+        requires { W.failed writer.old < 2 ^ 64 - 1 }
+        ensures line { AnswersBehind (before_answers echo number self.old.line.items) result
+            (record { written = W.contents writer.old; gathered = self.old.outbox })
+            (record { written = W.contents writer.new; gathered = self.new.outbox })
+            self.old.world self.old.line.items self.new.world }
+        ensures failed { W.failed writer.new ≡ W.failed writer.old + failed_in_line result }
+        ensures same_writer { W.place writer.new ≡ W.place writer.old }
+        ensures feed { self.new.feed ≡ self.old.feed }
+    {
+        let Player {
+            line,
+            head,
+            text,
+            outbox,
+            world,
+            ..
+        } = self;
+        make_head(echo, number, line.as_slice(), head)?;
+        answer_line(
+            alloc,
+            world,
+            line.as_slice(),
+            head.as_slice(),
+            text,
+            outbox,
+            writer,
+        )
+    }
+
     /// Plays the line that was taken last, and gathers its text.
     pub fn play_taken<W: CountedWrite>(
         &mut self,
@@ -190,7 +235,7 @@ impl Player {
             world,
             ..
         } = self;
-        answer_line(alloc, world, line.as_slice(), text, outbox, writer)
+        answer_line(alloc, world, line.as_slice(), &[], text, outbox, writer)
     }
 
     /// Plays a line that was not taken, and gathers its text.
@@ -214,28 +259,30 @@ impl Player {
             world,
             ..
         } = self;
-        answer_line(alloc, world, line, text, outbox, writer)
+        answer_line(alloc, world, line, &[], text, outbox, writer)
     }
 }
 
-/// Plays a line, and gathers its text, for which there is room in `text`.
+/// Plays a line, and gathers a head, which a line that is skipped has none of, and its answers, for which there is room in `text`.
 fn answer_line<W: CountedWrite>(
     alloc: Global,
     world: &mut Option<World>,
     line: &[u8],
+    head: &[u8],
     text: &mut Vec<u8>,
     outbox: &mut Outbox,
     writer: &mut W,
 ) -> Result<(), LineFault>
-    requires { W.failed writer.old < 2 ^ 64 - 1 }
-    ensures line { AnswersLine result
+    requires skipped { is_skipped line.now ≡ true → head.now ≡ [] }
+    requires failures { W.failed writer.old < 2 ^ 64 - 1 }
+    ensures line { AnswersBehind head.now result
         (record { written = W.contents writer.old; gathered = outbox.old })
         (record { written = W.contents writer.new; gathered = outbox.new })
         world.old line.now world.new }
     ensures failed { W.failed writer.new ≡ W.failed writer.old + failed_in_line result }
     ensures same_writer { W.place writer.new ≡ W.place writer.old }
 {
-    play_line(alloc, world, line, text, outbox, writer)?;
+    play_line(alloc, world, line, head, text, outbox, writer)?;
     let Ok(()) = outbox.add(writer, text.as_slice()) else {
         return Err(LineFault::Write);
     };

@@ -1,11 +1,13 @@
 //! A whole script: bytes in, bytes out.
 
 ghost use Rattle.std.specs.Prelude.{◌≡◌, ◌+◌, ◌-◌, ◌^◌, ◌<◌};
+ghost use Rattle.nv_script.specs.Echo.{PlaysEchoed, PlaysWithoutEchoes};
 ghost use Rattle.nv_script.specs.Play.{PlaysScript, failed_reads, failed_writes};
 ghost use Rattle.nv_script.specs.SerialPlayer.{serial_player};
 ghost use Rattle.nv_script.specs.Serially.{PlaysAlone};
 
 use crate::counted::{CountedRead, CountedWrite, ReadCounter, WriteCounter};
+use crate::echo::Echo;
 use crate::player::Player;
 use nv_base::Fault;
 use std::alloc::Global;
@@ -81,7 +83,7 @@ pub fn play_counted<R: CountedRead, W: CountedWrite>(
     ensures same_writer { W.place writer.new ≡ W.place writer.old }
 {
     let mut player = Player::new(alloc)?;
-    player.play(alloc, reader, writer)
+    player.play(alloc, Echo::Off, reader, writer)
 }
 
 /// Plays a script as [`play_counted`] does, and does not take its world apart.
@@ -102,7 +104,48 @@ pub fn play_counted_and_leave<R: CountedRead, W: CountedWrite>(
     ensures same_writer { W.place writer.new ≡ W.place writer.old }
 {
     let mut player = Player::new(alloc)?;
-    let outcome = player.play(alloc, reader, writer);
+    let outcome = player.play(alloc, Echo::Off, reader, writer);
+    mem::forget(player);
+    outcome
+}
+
+/// Plays a script as [`play_and_leave`] does, and writes a line `> NUMBER TEXT` before the answers to each command: the number of
+/// its line, counted from 1, and the line as it stands.
+///
+/// Without these lines the output is that of [`play`]. They are the ones that begin with `> ` and have another space: a line of an
+/// answer that begins so, as the one of a file with the name `>`, has none. A line with a fault has no echo.
+pub fn play_echoed_and_leave<R: Read, W: Write>(
+    alloc: Global,
+    reader: &mut R,
+    writer: &mut W,
+) -> Result<(), Fault>
+    ensures script { PlaysEchoed Echo.On result (R.remaining reader.old) (R.remaining reader.new)
+        (W.contents writer.old) (W.contents writer.new) }
+    ensures plain { PlaysWithoutEchoes result (R.remaining reader.old) (R.remaining reader.new)
+        (W.contents writer.old) (W.contents writer.new) }
+{
+    let mut reader = ReadCounter::new(reader);
+    let mut writer = WriteCounter::new(writer);
+    echo_counted_and_leave(alloc, &mut reader, &mut writer)
+}
+
+/// The same from a reader and to a writer that count their failures.
+fn echo_counted_and_leave<R: CountedRead, W: CountedWrite>(
+    alloc: Global,
+    reader: &mut R,
+    writer: &mut W,
+) -> Result<(), Fault>
+    requires reads { R.failed reader.old < 2 ^ 64 - 1 }
+    requires writes { W.failed writer.old < 2 ^ 64 - 1 }
+    ensures script { PlaysEchoed Echo.On result (R.remaining reader.old) (R.remaining reader.new)
+        (W.contents writer.old) (W.contents writer.new) }
+    ensures plain { PlaysWithoutEchoes result (R.remaining reader.old) (R.remaining reader.new)
+        (W.contents writer.old) (W.contents writer.new) }
+    ensures same_reader { R.place reader.new ≡ R.place reader.old }
+    ensures same_writer { W.place writer.new ≡ W.place writer.old }
+{
+    let mut player = Player::new(alloc)?;
+    let outcome = player.play(alloc, Echo::On, reader, writer);
     mem::forget(player);
     outcome
 }

@@ -5,7 +5,7 @@ ghost use Rattle.nv_core.specs.Worlds.{Shows};
 ghost use Rattle.nv_entry.specs.declared.tree.TreeNode.{TreeNode};
 ghost use Rattle.nv_machine.specs.World as machine;
 ghost use Rattle.nv_script.specs.Play.{nodes_at};
-ghost use Rattle.nv_script.specs.Results.{HandsLines, IsNotSent, ListIs, Sends, Sent, failed_in_line, failed_in_tree};
+ghost use Rattle.nv_script.specs.Results.{HandsLines, IsNotSent, ListBehind, ListIs, Sends, Sent, failed_in_line, failed_in_tree};
 ghost use Rattle.nv_script.specs.Texts.{node_line};
 
 use crate::counted::CountedWrite;
@@ -97,8 +97,31 @@ fn write_node<W: CountedWrite>(
     Ok(outbox.add(writer, line.as_slice())?)
 }
 
+/// Writes a head, and behind it the lines of a tree.
+pub(crate) fn write_tree_behind<W: CountedWrite>(
+    head: &[u8],
+    world: &World,
+    snapshot: Option<Epoch>,
+    out: &mut Vec<u8>,
+    outbox: &mut Outbox,
+    writer: &mut W,
+) -> Result<(), LineFault>
+    requires { W.failed writer.old < 2 ^ 64 - 1 }
+    ensures lines { (m : machine.World) → Shows world.now m
+        → ListBehind head.now result (record { written = W.contents writer.old; gathered = outbox.old })
+        (record { written = W.contents writer.new; gathered = outbox.new })
+        out.new.items (nodes_at m snapshot) }
+    ensures failed { W.failed writer.new ≡ W.failed writer.old + failed_in_line result }
+    ensures same_writer { W.place writer.new ≡ W.place writer.old }
+{
+    let Ok(()) = outbox.add(writer, head) else {
+        return Err(LineFault::Write);
+    };
+    write_tree(world, snapshot, out, outbox, writer)
+}
+
 /// Writes the lines of a tree, of the one now or of a snapshot. The last line is left in `out`, or the one of a refusal.
-pub(crate) fn write_tree<W: CountedWrite>(
+fn write_tree<W: CountedWrite>(
     world: &World,
     snapshot: Option<Epoch>,
     out: &mut Vec<u8>,

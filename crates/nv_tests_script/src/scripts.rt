@@ -8,7 +8,7 @@ use crate::snapshots::OF_SNAPSHOTS;
 use crate::worked::{Row, WORKED};
 use nv_base::{Fault, ScriptFaultKind};
 use nv_scenes::want_of_memory;
-use nv_script::{fault_line, fault_text, play};
+use nv_script::{fault_line, fault_text, play, play_echoed_and_leave};
 use std::alloc::{AllocError, Global};
 use std::cell::Cell;
 use std::io;
@@ -307,4 +307,49 @@ fn a_fault_is_told_in_one_line(rt: HostRuntime) -> Result<(), Fail> {
         same(&rt, fault_line(rt.alloc(), &fault)?.as_str(), want);
     }
     Ok(())
+}
+
+/// A script, and what it writes with an echo: a comment and an empty line have none, nor has the line with a fault. One name in the
+/// answer to line 7 looks like the beginning of an echo.
+const ECHOED_SCRIPT: &str = "\
+# a comment
+format blocks=16 cpus=99 block=4 page=4 inodes=8 snaps=4 actors=3
+format blocks=16 cpus=2 block=4 page=4 inodes=8 snaps=4 actors=3
+
+do 0 create 0.1 > 420
+do 0 unlink 0.1 b
+do 0 list 0.1
+tree
+wrte
+";
+
+const ECHOED_ANSWERS: &str = "\
+> 2 format blocks=16 cpus=99 block=4 page=4 inodes=8 snaps=4 actors=3
+refused E2 BadGeometry(cpus)
+> 3 format blocks=16 cpus=2 block=4 page=4 inodes=8 snaps=4 actors=3
+formatted
+> 5 do 0 create 0.1 > 420
+done 1.1
+> 6 do 0 unlink 0.1 b
+refused E7 Missing
+> 7 do 0 list 0.1
+done 1
+> 1.1
+> 8 tree
+/ d 493
+/> f 420 0
+end
+";
+
+#[test]
+fn an_echo_stands_before_the_answers_to_a_command(rt: HostRuntime) {
+    let mut reader = ECHOED_SCRIPT.as_bytes();
+    let mut written = Vec::new(rt.alloc());
+    let ended = play_echoed_and_leave(rt.alloc(), &mut reader, &mut written);
+    same(
+        &rt,
+        ended,
+        Err(Fault::ScriptFault(ScriptFaultKind::Word, 9)),
+    );
+    same(&rt, written.as_slice(), ECHOED_ANSWERS.as_bytes());
 }

@@ -12,7 +12,7 @@ use Rattle.nv_base.specs.declared.fault.Fault.TheVariants as fault
 use Rattle.nv_machine.specs.World.{Shared, World}
 use Rattle.nv_core.specs.Worlds.{HasRun, Shows, ShowsAny, WorldState}
 use Rattle.nv_script.specs.Lines.{IsLine, WritesFront, WritesSome}
-use Rattle.nv_script.specs.Play.{EndsAfter, Plays, machine_player}
+use Rattle.nv_script.specs.Play.{EndsAfter, Plays, machine_player, no_head}
 use Rattle.nv_script.specs.Results.{EndsText, Fails, HoldsNone, Sends, Sent}
 use Rattle.nv_base.specs.declared.geometry.GeometryNumbers.{GeometryNumbers}
 use Rattle.nv_work.specs.declared.forked.ForkedCall.{ForkedCall}
@@ -42,8 +42,8 @@ module _ (input : Option (List ℕ)) (Old New : List ℕ → Type 0) (turn : (te
   before_on fault.Read left (inr e) = inr (forked_on _ e)
   before_on fault.ActorBusy left e = forked_on _ e
   before_on (fault.Mismatch part) left e = forked_on _ e
-  before_on fault.Write left e = ends_on (Err fault.Write) input left Old New turn e
-  before_on (fault.OutOfMemory witness) left (inl e) = inl (ends_on (Err (fault.OutOfMemory witness)) input left Old New turn e)
+  before_on fault.Write left e = ends_on no_head (Err fault.Write) input left Old New turn e
+  before_on (fault.OutOfMemory witness) left (inl e) = inl (ends_on no_head (Err (fault.OutOfMemory witness)) input left Old New turn e)
   before_on (fault.OutOfMemory witness) left (inr e) = inr (forked_on _ e)
   before_on _ left e = absurd e
 
@@ -106,7 +106,7 @@ module _ (threads : ℕ) where
     Broken = WorksBy threads fault.Write input left (λ text. Appends old new text)
 
     after_off : (Also : List (List ℕ) → List ℕ → Option World → Type 0) → EndsAfter machine_player input Before Also → Broken
-    after_off Also e = inl (broken_played input left old mid new gathered e.0 e.1 e.2 e.3 e.4 e.6 some)
+    after_off Also e = inl (broken_played no_head input left old mid new gathered e.0 e.1 e.2 e.3 e.4 e.6 some)
 
     forked_off : (Also : Fork → List ℕ → Type 0) → EndsForked input Before Also → Broken
     forked_off Also e = inl (broken_fork input left old new e.0 e.1 e.2 (writes_some old mid new e.0.text gathered e.4 some))
@@ -119,9 +119,9 @@ module _ (threads : ℕ) where
     before_off fault.Read (inr e) = forked_off _ e
     before_off fault.ActorBusy e = forked_off _ e
     before_off (fault.Mismatch part) e = forked_off _ e
-    before_off fault.Write e = inl (broken_off (Err fault.Write) input left old mid new gathered e some)
+    before_off fault.Write e = inl (broken_off no_head (Err fault.Write) input left old mid new gathered e some)
     before_off (fault.OutOfMemory witness) (inl e) =
-        inl (broken_off (Err (fault.OutOfMemory witness)) input left old mid new gathered e some)
+        inl (broken_off no_head (Err (fault.OutOfMemory witness)) input left old mid new gathered e some)
     before_off (fault.OutOfMemory witness) (inr e) = forked_off _ e
     before_off _ e = absurd e
 

@@ -1,5 +1,6 @@
+use Rattle.std.proofs.Common.{[]}
 use Rattle.nv_script.proofs.Endings.{answers_at}
 use Rattle.nv_script.proofs.player.Player.play_taken.Goals as goal
 
 pub returns-clause-line : goal.returns-clause-line
-returns-clause-line g c = answers_at c.answer_line.result _ _ _ _ _ _ c.as_slice.ensures.value c.answer_line.ensures.line
+returns-clause-line g c = answers_at [] c.answer_line.result _ _ _ _ _ _ c.as_slice.ensures.value c.answer_line.ensures.line

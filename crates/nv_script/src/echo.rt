@@ -1,0 +1,47 @@
+//! What stands before the answers to a line.
+
+ghost use Rattle.std.specs.Prelude.{◌≡◌, ◌++◌, IsErr, OnOk, false};
+ghost use Rattle.nv_script.specs.Echo.{before_answers, echo_line};
+ghost use Rattle.nv_script.specs.Grammar.{is_skipped};
+
+use crate::command::is_skipped;
+use crate::word::push_number;
+use std::alloc::AllocError;
+
+/// Whether the line of a command stands before its answers.
+#[derive(Clone, Copy, Debug, PartialEq, Eq, Drop)]
+pub enum Echo {
+    /// Answers alone are written.
+    Off,
+    /// The number and the text of the line come first.
+    On,
+}
+
+/// Makes what stands before the answers to the line with this number, in place of what `head` held.
+pub(crate) fn make_head(
+    echo: Echo,
+    number: u64,
+    line: &[u8],
+    head: &mut Vec<u8>,
+) -> Result<(), AllocError>
+    ensures made { OnOk result (head.new.items ≡ before_answers echo number line.now) }
+    ensures command { IsErr result → is_skipped line.now ≡ false }
+{
+    head.clear();
+    match echo {
+        Echo::Off => Ok(()),
+        Echo::On if is_skipped(line) => Ok(()),
+        Echo::On => push_echo(head, number, line),
+    }
+}
+
+/// Adds the echo of a command.
+fn push_echo(out: &mut Vec<u8>, number: u64, line: &[u8]) -> Result<(), AllocError>
+    ensures { OnOk result (out.new.items ≡ out.old.items ++ echo_line number line.now) }
+{
+    out.extend_from_slice(b"> ")?;
+    push_number(out, number)?;
+    out.push(b' ')?;
+    out.extend_from_slice(line)?;
+    Ok(out.push(b'\n')?)
+}
