@@ -54,7 +54,7 @@ module _ {S : Type 0} (failed : S → ℕ) (sent : S → Sent) (begun : S → Bo
   abbrev pub Halts : AtNode S
   Halts old node new =
       IsNotSent (why new) (sent old) (sent new) (node_line node) × (writer new ≡ writer old) × (outbox new ≡ outbox old)
-      × (count new ≡ count old + failed_in_line (Err (why new))) × (place new ≡ place old)
+      × (count new ≡ count old + failed_in_line {A = Unit {0}} (Err (why new))) × (place new ≡ place old)
 
   -- the writer and the outbox are the same, and so many writes failed
   abbrev pub IsSame : ℕ → S → S → Type 0

@@ -12,6 +12,7 @@ pub mod Handed
 pub mod Handles
 pub mod Known
 pub mod Lines
+pub mod Looked
 pub mod Numbers
 pub mod Plain
 pub mod Played

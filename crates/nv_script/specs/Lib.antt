@@ -9,3 +9,4 @@ pub mod Words
 pub mod Outcomes
 pub mod Serially
 pub mod SerialPlayer
+pub mod Sound

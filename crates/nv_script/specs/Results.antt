@@ -142,13 +142,13 @@ Gathers true old text new = new ≡ old ++ text
 Gathers false old text new = new ≡ old
 
 -- how many writes fail in a line that ends so
-abbrev pub failed_in_line : Result (Unit {0}) LineFault → ℕ
+abbrev pub failed_in_line : {A : Type 0} → Result A LineFault → ℕ
 failed_in_line (Err line_fault.Write) = 1
 failed_in_line _ = 0
 
 -- and in a tree's lines, of which one was not sent for this reason
 abbrev pub failed_in_tree : Result (Unit {0}) Fault → LineFault → ℕ
-failed_in_tree (Err fault.Write) why = failed_in_line (Err why)
+failed_in_tree (Err fault.Write) why = failed_in_line {A = Unit {0}} (Err why)
 failed_in_tree _ why = 0
 
 -- that nothing differs is told only with what stands for an audit

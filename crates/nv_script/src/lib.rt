@@ -15,6 +15,7 @@ pub mod fault;
 pub mod feed;
 mod field;
 mod format;
+pub mod look;
 pub mod outbox;
 mod outcome;
 pub mod player;

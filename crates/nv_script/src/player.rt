@@ -7,6 +7,7 @@ ghost use Rattle.std.specs.Vec.{vec_capacity};
 ghost use Rattle.nv_machine.specs.World as machine;
 ghost use Rattle.nv_core.specs.Worlds.{ShowsAny};
 ghost use Rattle.nv_script.specs.Grammar.{is_skipped};
+ghost use Rattle.nv_script.specs.Sound.{AnswersSound, HasShown};
 ghost use Rattle.nv_script.specs.Lines.{WritesFront, WritesSome};
 ghost use Rattle.nv_script.specs.Echo.{PlaysEchoed, before_answers};
 ghost use Rattle.nv_script.specs.Play.{Ends, failed_reads, failed_writes, machine_player_with};
@@ -17,6 +18,7 @@ use crate::counted::{CountedRead, CountedWrite, WriteFailed};
 use crate::echo::{Echo, make_head};
 use crate::fault::LineFault;
 use crate::feed::{Feed, LineResult, MAX_LINE_BYTES};
+use crate::look::look_at;
 use crate::outbox::Outbox;
 use nv_base::{Fault, ScriptFaultKind};
 use nv_core::World;
@@ -238,6 +240,32 @@ impl Player {
         answer_line(alloc, world, line.as_slice(), &[], text, outbox, writer)
     }
 
+    /// Plays the line that was taken last, and gathers its text, where it has no fault. Else its fault is told, and nothing has changed.
+    pub fn play_sound<W: CountedWrite>(
+        &mut self,
+        alloc: Global,
+        writer: &mut W,
+    ) -> Result<Option<ScriptFaultKind>, LineFault>
+        requires { W.failed writer.old < 2 ^ 64 - 1 }
+        ensures line { AnswersSound result
+            (record { written = W.contents writer.old; gathered = self.old.outbox })
+            (record { written = W.contents writer.new; gathered = self.new.outbox })
+            self.old.world self.old.line.items self.new.world }
+        ensures failed { W.failed writer.new ≡ W.failed writer.old + failed_in_line result }
+        ensures same_writer { W.place writer.new ≡ W.place writer.old }
+        ensures feed { self.new.feed ≡ self.old.feed }
+    {
+        shows_some(&self.world);
+        match look_at(alloc, self.world.is_some(), self.line.as_slice()) {
+            Ok(()) => {
+                self.play_taken(alloc, writer)?;
+                Ok(None)
+            }
+            Err(LineFault::Faulty(kind)) => Ok(Some(kind)),
+            Err(fault) => Err(fault),
+        }
+    }
+
     /// Plays a line that was not taken, and gathers its text.
     pub fn play_line<W: CountedWrite>(
         &mut self,
@@ -287,6 +315,15 @@ fn answer_line<W: CountedWrite>(
         return Err(LineFault::Write);
     };
     Ok(())
+}
+
+/// Events lead to what a world shows, where there is one.
+fn shows_some(world: &Option<World>)
+    ensures { HasShown world.now }
+{
+    if let Some(world) = world {
+        world.consistent();
+    }
 }
 
 /// Writes what is gathered, where the reader is to be asked for the next line: nothing is held back then.

@@ -48,7 +48,7 @@ impl<'a, W: CountedWrite> Sink for NodeLines<'a, W> {
         (record { written = W.contents new.writer.now; gathered = new.outbox.now }) (node_line node)
         × (new.writer.ghost_name ≡ old.writer.ghost_name)
         × (new.outbox.ghost_name ≡ old.outbox.ghost_name)
-        × (W.failed new.writer.now ≡ W.failed old.writer.now + failed_in_line (Err new.fault))
+        × (W.failed new.writer.now ≡ W.failed old.writer.now + failed_in_line {A = Unit {0}} (Err new.fault))
         × (W.place new.writer.now ≡ W.place old.writer.now) };
 
     fn node(&mut self, path: &[Name], node: &NodeCopy) -> Result<(), SinkFault> {
