@@ -18,6 +18,8 @@ mod growths;
 #[cfg(test)]
 mod lines;
 #[cfg(test)]
+mod looked;
+#[cfg(test)]
 mod pieces;
 #[cfg(test)]
 mod rows;
