@@ -15,10 +15,10 @@ pub fn look_at(alloc: Global, is_made: bool, line: &[u8]) -> Result<(), LineFaul
         return Ok(());
     }
     let words = words(alloc, line)?;
-    if is_made {
-        read_command(alloc, words.as_slice())?;
-    } else {
+    if !is_made {
         read_format(words.as_slice())?;
+        return Ok(());
     }
+    read_command(alloc, words.as_slice())?;
     Ok(())
 }
