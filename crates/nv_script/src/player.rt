@@ -321,8 +321,9 @@ fn answer_line<W: CountedWrite>(
 fn shows_some(world: &Option<World>)
     ensures { HasShown world.now }
 {
-    if let Some(world) = world {
-        world.consistent();
+    match world {
+        Some(world) => world.consistent(),
+        None => {}
     }
 }
 
