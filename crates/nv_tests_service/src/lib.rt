@@ -14,6 +14,8 @@ mod closing;
 #[cfg(test)]
 mod compare;
 #[cfg(test)]
+mod contended;
+#[cfg(test)]
 mod differing;
 #[cfg(test)]
 mod each_call;
@@ -21,6 +23,8 @@ mod each_call;
 mod failing;
 #[cfg(test)]
 mod growths;
+#[cfg(test)]
+mod meetings;
 #[cfg(test)]
 mod own_files;
 #[cfg(test)]
