@@ -12,7 +12,7 @@ use Rattle.nv_calls.specs.declared.update.Update.TheVariants as update
 use Rattle.nv_base.specs.Memory.{out_of_memory}
 use Rattle.nv_base.specs.declared.fault.Fault.{Fault}
 use Rattle.nv_base.specs.declared.fault.Fault.TheVariants as fault
-use Rattle.nv_core.specs.AtRest.{IsMismatchOf}
+use Rattle.nv_core.specs.AtRest.{IsBusy, IsMismatchOf}
 use Rattle.nv_core.specs.declared.parts.Parts.{Parts}
 use Rattle.nv_machine.specs.World.{World}
 use Rattle.nv_service.specs.ByValue.{IsMadeAs}
@@ -99,17 +99,18 @@ made_seat opening opened before after (call.Maintenance c) s is = ap (λ (s : Se
 
 -- ---- a service that does not close
 
-mismatch : (why : Fault) (parts : Parts) (m : World) → IsMismatchOf parts why → RefusesThreads why m
-mismatch (fault.Mismatch part) parts m is = tt
-mismatch _ parts m is = absurd is
+mismatch : (why : Fault) (parts : Parts) (m : World) → ¬ IsBusy m → IsMismatchOf parts why → RefusesThreads why m
+mismatch (fault.Mismatch part) parts m idle is = idle
+mismatch _ parts m idle is = absurd is
 
 -- where all seats came back it is for want of memory, or because parts differ
-pub not_closed : (why : Fault) (m : World) (Back : Type 0) (Of : Parts → Type 0) → Back → (why ≡ fault.SeatsOut → Back → ⊥)
+pub not_closed : (why : Fault) (m : World) (Back : Type 0) (Of : Parts → List CellRestValue → Type 0) → ¬ IsBusy m → Back
+    → (why ≡ fault.SeatsOut → Back → ⊥)
     → (why ≡ fault.SeatsOut) ⊎ ((why ≡ out_of_memory)
-    ⊎ ((parts : Parts) × (cells : List CellRestValue) × Of parts × IsDifference parts cells why))
+    ⊎ ((parts : Parts) × (cells : List CellRestValue) × Of parts cells × IsDifference parts cells why))
     → RefusesThreads why m
-not_closed why m Back Of back none (inl out) = absurd (none out back)
-not_closed why m Back Of back none (inr (inl starved)) = subst (λ (f : Fault). RefusesThreads f m) (sym starved) tt
-not_closed why m Back Of back none (inr (inr (parts, cells, of, inl is))) = mismatch why parts m is
-not_closed why m Back Of back none (inr (inr (parts, cells, of, inr is))) =
-    subst (λ (f : Fault). RefusesThreads f m) (sym is.0) tt
+not_closed why m Back Of idle back none (inl out) = absurd (none out back)
+not_closed why m Back Of idle back none (inr (inl starved)) = subst (λ (f : Fault). RefusesThreads f m) (sym starved) tt
+not_closed why m Back Of idle back none (inr (inr (parts, cells, of, inl is))) = mismatch why parts m idle is
+not_closed why m Back Of idle back none (inr (inr (parts, cells, of, inr is))) =
+    subst (λ (f : Fault). RefusesThreads f m) (sym is.0) idle

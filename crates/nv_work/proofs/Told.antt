@@ -10,6 +10,7 @@ use Rattle.std.specs.Prelude.{codes}
 use Rattle.nv_base.specs.declared.fault.Fault.{Fault}
 use Rattle.nv_base.specs.declared.fault.Fault.TheVariants as fault
 use Rattle.nv_machine.specs.World.{Shared, World}
+use Rattle.nv_core.specs.AtRest.{IsBusy}
 use Rattle.nv_core.specs.Worlds.{HasRun, Shows, ShowsAny, WorldState}
 use Rattle.nv_script.specs.Lines.{IsLine, WritesFront, WritesSome}
 use Rattle.nv_script.specs.Play.{EndsAfter, Plays, machine_player, no_head}
@@ -202,7 +203,7 @@ pub no_threads : (threads : ℕ) (input left old new : Option (List ℕ)) (gathe
     → (why : Fault) → RefusesThreads why f.world
     → WorksBy threads why input left (λ text. WritesFront old new text gathered) × HoldsNone {A = Unit {0}} (Err why) gathered
 no_threads threads input left old new gathered f forks end written fault.ActorBusy is = (inl (f, [], forks, (refl, is, end), written), tt)
-no_threads threads input left old new gathered f forks end written (fault.Mismatch part) is = (inl (f, [], forks, (refl, end), written), tt)
+no_threads threads input left old new gathered f forks end written (fault.Mismatch part) is = (inl (f, [], forks, (refl, is, end), written), tt)
 no_threads threads input left old new gathered f forks end written (fault.OutOfMemory witness) is =
     (inl (inr (f, [], forks, tt, written)), tt)
 no_threads threads input left old new gathered f forks end written _ is = absurd is
@@ -222,11 +223,13 @@ follows opened closed fork m before came shows run = record {
 
 -- the texts of threads are the answers to their calls
 pub answers_to : (threads : ℕ) (f : Fork) (opened : WorldState) (lists : List (List ForkedCall)) (texts : List (List ℕ))
-    → Shows opened f.world → lists ≡ shares_of threads (calls_in f.behind)
+    → ¬ IsBusy f.world → Shows opened f.world → lists ≡ shares_of threads (calls_in f.behind)
     → AreThreadTexts opened.shared.geometry.numbers.actors lists texts → AreAnswersTo threads f texts
-answers_to threads f opened lists texts shows shares told =
-    subst (λ (g : GeometryNumbers). AreThreadTexts g.actors (shares_of threads (calls_in f.behind)) texts) shows.numbers
-    (subst (λ ls. AreThreadTexts opened.shared.geometry.numbers.actors ls texts) shares told)
+answers_to threads f opened lists texts idle shows shares told = (
+  idle,
+  subst (λ (g : GeometryNumbers). AreThreadTexts g.actors (shares_of threads (calls_in f.behind)) texts) shows.numbers
+      (subst (λ ls. AreThreadTexts opened.shared.geometry.numbers.actors ls texts) shares told),
+)
 
 -- the answers of threads were told, and the reports behind them
 pub threads_told : (threads : ℕ) (input left old : Option (List ℕ)) (from to : Sent) (f : Fork) (opened closed : WorldState)

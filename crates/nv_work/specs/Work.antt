@@ -66,9 +66,10 @@ pub record Forks (input : Option (List ℕ)) (f : Fork) (rest : List ℕ) : Type
 abbrev pub EndsForked : (input : Option (List ℕ)) → (List ℕ → Type 0) → (Fork → List ℕ → Type 0) → Type 0
 EndsForked input Writes Also = (f : Fork) × (rest : List ℕ) × Forks input f rest × Also f rest × Writes f.text
 
--- each call behind `fork` has its answer, thread by thread
+-- no actor has a call at `fork`, and each call behind it has its answer, thread by thread
 abbrev pub AreAnswersTo : (threads : ℕ) → Fork → List (List ℕ) → Type 0
-AreAnswersTo threads f texts = AreThreadTexts f.world.numbers.actors (shares_of threads (calls_in f.behind)) texts
+AreAnswersTo threads f texts =
+    (¬ IsBusy f.world) × AreThreadTexts f.world.numbers.actors (shares_of threads (calls_in f.behind)) texts
 
 -- two texts are alike as far as both go
 abbrev pub BeginAlike : List ℕ → List ℕ → Type 0
@@ -97,7 +98,7 @@ EndsReported threads input Writes = (f : Fork) × (texts : List (List ℕ)) × (
 
 -- HOW SUCH A SCRIPT ENDS BEFORE ITS ANSWERS. By a fault of a line: of the next one before `fork`; of the last one, where there is none;
 -- of the next one behind it. By a failed read, of whose reader no more than a piece of the next line is gone. Because an actor has a call
--- at `fork`, or the service did not close. By a failed write, or for want of memory
+-- at `fork`, or because none has and the service did not close. By a failed write, or for want of memory
 abbrev pub EndsBefore : Fault → (input left : Option (List ℕ)) → (List ℕ → Type 0) → Type 0
 EndsBefore (fault.ScriptFault why number) input left Writes =
     EndsAfter machine_player input Writes (λ lines rest world.
@@ -111,7 +112,8 @@ EndsBefore fault.Read input left Writes =
     ⊎ EndsForked input Writes (λ f rest. (piece : List ℕ) × IsLine piece × Consumes input left (ended (lines_in f) ++ piece))
 EndsBefore fault.ActorBusy input left Writes =
     EndsForked input Writes (λ f rest. (rest ≡ []) × IsBusy f.world × IsAtEnd left)
-EndsBefore (fault.Mismatch _) input left Writes = EndsForked input Writes (λ f rest. (rest ≡ []) × IsAtEnd left)
+EndsBefore (fault.Mismatch _) input left Writes =
+    EndsForked input Writes (λ f rest. (rest ≡ []) × (¬ IsBusy f.world) × IsAtEnd left)
 EndsBefore fault.Write input left Writes = EndsBy machine_player fault.Write input left Writes
 EndsBefore (fault.OutOfMemory witness) input left Writes =
     EndsBy machine_player (fault.OutOfMemory witness) input left Writes ⊎ EndsForked input Writes (λ f rest. Unit {0})

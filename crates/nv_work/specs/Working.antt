@@ -73,10 +73,10 @@ FrontIs (Ok number) input left known old new gathered world =
 FrontIs (Err why) input left known old new gathered world =
     EndsBefore why input left (λ text. WritesFront old new text gathered) × HoldsNone {A = ℕ} (Err why) gathered
 
--- why no threads made the calls, or the service did not close
+-- why no threads made the calls, or the service on a world without calls did not close
 abbrev pub RefusesThreads : Fault → machine.World → Type 0
 RefusesThreads fault.ActorBusy m = IsBusy m
-RefusesThreads (fault.Mismatch part) m = Unit {0}
+RefusesThreads (fault.Mismatch part) m = ¬ IsBusy m
 RefusesThreads (fault.OutOfMemory witness) m = Unit {0}
 RefusesThreads _ m = ⊥
 

@@ -4,6 +4,7 @@ ghost use Rattle.std.specs.Prelude.{◌≡◌, ◌+◌, ◌++◌, ◌≤◌, IfE
 ghost use Rattle.std.specs.List.{enumerate_from, range_with_len};
 ghost use Rattle.nv_base.specs.Memory.{out_of_memory};
 ghost use Rattle.nv_base.specs.Refusals.{FailsOnly};
+ghost use Rattle.nv_core.specs.AtRest.{IsBusy};
 ghost use Rattle.nv_core.specs.Worlds.{Shows};
 ghost use Rattle.nv_machine.specs.World as machine;
 ghost use Rattle.nv_service.specs.Names.{AreBlockNames, AreCommitNames};
@@ -37,6 +38,7 @@ pub(crate) fn play_in_threads<G: Gate + Sync, R: Threads + Wait + Sync>(
     ensures texts { IfOk result (λ played. AreThreadTexts world.shared.geometry.numbers.actors
         (lists_of lines) (map (λ text. text.items) played.1.items)) }
     ensures world { IfOk result (λ played. ClosesAfter world played.0) }
+    ensures idle { (m : machine.World) → Shows world m → OnOk result (¬ IsBusy m) }
     ensures err { (m : machine.World) → Shows world m
         → IfErr result (λ fault. RefusesThreads fault m) }
 {
@@ -69,6 +71,7 @@ fn serve<
     ensures texts { IfOk result (λ played. AreThreadTexts world.shared.geometry.numbers.actors
         (lists_of lines) (map (λ text. text.items) played.1.items)) }
     ensures world { IfOk result (λ played. ClosesAfter world played.0) }
+    ensures idle { (m : machine.World) → Shows world m → OnOk result (¬ IsBusy m) }
     ensures err { (m : machine.World) → Shows world m
         → IfErr result (λ fault. RefusesThreads fault m) }
 {

@@ -44,7 +44,8 @@ returns-clause-script g c =
     let fork = c.in_ok-fork.ensures.front in
     let all = c.in_ok-lines.ensures.read _ _ fork.0 fork.1 fork.2 fork.3 in
     let shown = some_shown _ _ all.0.world (sym c.in-Some.ensures.value) all.4 in
-    let answers = answers_to c.args.threads all.0 c.in-Some.world _ _ shown all.5 c.in_ok-world.ensures.texts in
+    let answers = answers_to c.args.threads all.0 c.in-Some.world _ _ (c.in_ok-world.ensures.idle all.0.world shown) shown all.5
+    c.in_ok-world.ensures.texts in
     (threads_told c.args.threads _ _ _ _ _ all.0 c.in-Some.world c.in_ok-world.world _ all.1 all.2 all.3 shown c.in_ok-world.ensures.world
     answers c.tell.result c.tell.ensures.told).0
 
@@ -53,6 +54,7 @@ returns-clause-unheld g c =
     let fork = c.in_ok-fork.ensures.front in
     let all = c.in_ok-lines.ensures.read _ _ fork.0 fork.1 fork.2 fork.3 in
     let shown = some_shown _ _ all.0.world (sym c.in-Some.ensures.value) all.4 in
-    let answers = answers_to c.args.threads all.0 c.in-Some.world _ _ shown all.5 c.in_ok-world.ensures.texts in
+    let answers = answers_to c.args.threads all.0 c.in-Some.world _ _ (c.in_ok-world.ensures.idle all.0.world shown) shown all.5
+    c.in_ok-world.ensures.texts in
     (threads_told c.args.threads _ _ _ _ _ all.0 c.in-Some.world c.in_ok-world.world _ all.1 all.2 all.3 shown c.in_ok-world.ensures.world
     answers c.tell.result c.tell.ensures.told).1

@@ -24,4 +24,4 @@ returns-in-Err-close-clause-err g c = λ m shown.
     ∙ c.in_ok-crew.ensures.numbers)) in
     let back = subst (λ (given : ℕ). AreSeats given (map (λ s. s.number) c.in_ok-sessions.sessions.items)) (sym c.in_ok-crew.ensures.given)
     (subst (AreSeats many) (sym numbers) (are_in_a_row many)) in
-    not_closed _ m _ _ back c.in-Err-close.ensures.out.0 c.in-Err-close.ensures.err
+    not_closed _ m _ _ (c.in-Ok.ensures.idle m shown) back c.in-Err-close.ensures.out.0 c.in-Err-close.ensures.err
