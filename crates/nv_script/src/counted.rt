@@ -1,6 +1,7 @@
 //! Readers and writers that tell of each call that fails, and how any reader or writer becomes one.
 ghost use Rattle.std.specs.Prelude.{◌≡◌};
 
+use nv_core::World;
 use std::io::{Read, Write};
 
 /// A read failed.
@@ -36,6 +37,10 @@ pub trait CountedRead {
     /// How many reads failed.
     fn failures(&self) -> u64
         ensures { result ≡ failed self.now };
+
+    /// Comes before the line of this number is taken, with the world as it stands then. A reader that tells how far a script has
+    /// come does so here, and others do nothing.
+    fn before_line(&self, _number: u64, _world: Option<&World>) {}
 }
 
 /// A writer that counts its failures. Contracts see the bytes that it holds, where they are known, how many writes

@@ -29,6 +29,7 @@ pub use counted::{CountedRead, CountedWrite, ReadCounter, ReadFailed, WriteCount
 pub use echo::Echo;
 pub use outcome::{Outcome, exit_code, fault_line};
 pub use script::{
-    play, play_and_leave, play_counted, play_counted_and_leave, play_echoed_and_leave,
+    echo_counted_and_leave, play, play_and_leave, play_counted, play_counted_and_leave,
+    play_echoed_and_leave,
 };
 pub use text::fault_text;

@@ -169,6 +169,7 @@ impl Player {
         ensures same_reader { R.place reader.new ≡ R.place reader.old }
         ensures same_writer { W.place writer.new ≡ W.place writer.old }
     {
+        reader.before_line(number, self.world.as_ref());
         let Ok(()) = write_before_read(&self.feed, &mut self.outbox, writer) else {
             return Err(Fault::Write);
         };

@@ -129,8 +129,8 @@ pub fn play_echoed_and_leave<R: Read, W: Write>(
     echo_counted_and_leave(alloc, &mut reader, &mut writer)
 }
 
-/// The same from a reader and to a writer that count their failures.
-fn echo_counted_and_leave<R: CountedRead, W: CountedWrite>(
+/// Plays a script as [`play_echoed_and_leave`] does, from a reader and to a writer that count their failures.
+pub fn echo_counted_and_leave<R: CountedRead, W: CountedWrite>(
     alloc: Global,
     reader: &mut R,
     writer: &mut W,
