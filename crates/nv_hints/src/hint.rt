@@ -228,7 +228,7 @@ fn push_unread(alloc: Global, out: &mut String, words: &[&[u8]]) -> Result<(), A
 }
 
 /// What a word of this kind is, except where it is a setting.
-fn awaited(kind: Kind) -> Option<&'static str> {
+pub(crate) fn awaited(kind: Kind) -> Option<&'static str> {
     match kind {
         Kind::Handle => Some("a handle is an inode number, '.' and a generation, as 1.1"),
         Kind::Number => Some("a number is 1 to 20 decimal digits, below 2 to the power of 64"),

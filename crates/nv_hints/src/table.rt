@@ -24,12 +24,13 @@ pub(crate) struct Part {
     pub(crate) kind: Kind,
 }
 
-/// A command or a call: its name, the words behind that, and how many of these may be left out.
+/// A command or a call: its name, the words behind that, how many of these may be left out, and what it does.
 #[derive(Clone, Copy, Drop)]
 pub(crate) struct Form {
     pub(crate) name: &'static [u8],
     pub(crate) parts: &'static [Part],
     pub(crate) optional: usize,
+    pub(crate) about: &'static str,
 }
 
 const ACTOR: Part = Part {
@@ -140,61 +141,73 @@ static COMMANDS: [Form; 12] = [
         name: b"format",
         parts: &SETTINGS,
         optional: 0,
+        about: "makes an empty file system of these numbers; comes first, and once",
     },
     Form {
         name: b"do",
         parts: &[ACTOR],
         optional: 0,
+        about: "has an actor make a call",
     },
     Form {
         name: b"start",
         parts: &[ACTOR],
         optional: 0,
+        about: "has an actor start a call, and makes no step of it",
     },
     Form {
         name: b"go",
         parts: &[ACTOR, STEPS],
         optional: 1,
+        about: "makes N steps of the actor's call, or one",
     },
     Form {
         name: b"run",
         parts: &[ACTOR],
         optional: 0,
+        about: "makes steps of the actor's call until it waits or ends",
     },
     Form {
         name: b"tree",
         parts: &[],
         optional: 0,
+        about: "lists all files and directories",
     },
     Form {
         name: b"stree",
         parts: &[SNAPSHOT],
         optional: 0,
+        about: "lists them as they stood when a snapshot was made",
     },
     Form {
         name: b"snaps",
         parts: &[],
         optional: 0,
+        about: "tells the epoch, the last commit and the living snapshots",
     },
     Form {
         name: b"space",
         parts: &[],
         optional: 0,
+        about: "counts the blocks by where they are",
     },
     Form {
         name: b"lists",
         parts: &[],
         optional: 0,
+        about: "lists the free blocks of each CPU",
     },
     Form {
         name: b"log",
         parts: &[INO],
         optional: 0,
+        about: "shows how full the log of a file or directory is",
     },
     Form {
         name: b"audit",
         parts: &[],
         optional: 0,
+        about: "compares what is kept with one scan of all logs",
     },
 ];
 
@@ -204,96 +217,115 @@ static CALLS: [Form; 19] = [
         name: b"create",
         parts: &[DIR, NAME, MODE],
         optional: 0,
+        about: "makes an empty file in a directory",
     },
     Form {
         name: b"mkdir",
         parts: &[DIR, NAME, MODE],
         optional: 0,
+        about: "makes an empty directory in a directory",
     },
     Form {
         name: b"write",
         parts: &[FILE, OFFSET, TEXT],
         optional: 0,
+        about: "writes bytes from an offset on; a space in a text is %20",
     },
     Form {
         name: b"read",
         parts: &[FILE, OFFSET, COUNT],
         optional: 0,
+        about: "reads at most so many bytes from an offset on",
     },
     Form {
         name: b"size",
         parts: &[FILE, SIZE],
         optional: 0,
+        about: "cuts a file, or makes it longer with zeros",
     },
     Form {
         name: b"mode",
         parts: &[HANDLE, MODE],
         optional: 0,
+        about: "sets the mode of a file or directory",
     },
     Form {
         name: b"stat",
         parts: &[HANDLE],
         optional: 0,
+        about: "tells kind, mode, size and the last commit",
     },
     Form {
         name: b"list",
         parts: &[DIR],
         optional: 0,
+        about: "lists the names of a directory",
     },
     Form {
         name: b"lookup",
         parts: &[DIR, NAME],
         optional: 0,
+        about: "finds what a name leads to",
     },
     Form {
         name: b"unlink",
         parts: &[DIR, NAME],
         optional: 0,
+        about: "takes away a file",
     },
     Form {
         name: b"rmdir",
         parts: &[DIR, NAME],
         optional: 0,
+        about: "takes away an empty directory",
     },
     Form {
         name: b"rename",
         parts: &[DIR, NAME, DIR, NAME],
         optional: 0,
+        about: "moves a file or a name",
     },
     Form {
         name: b"snap",
         parts: &[],
         optional: 0,
+        about: "makes a snapshot of all that stands now",
     },
     Form {
         name: b"drop",
         parts: &[SNAPSHOT],
         optional: 0,
+        about: "ends a snapshot",
     },
     Form {
         name: b"show",
         parts: &[SNAPSHOT],
         optional: 0,
+        about: "lists all that stood at a snapshot, and pins it meanwhile",
     },
     Form {
         name: b"drain",
         parts: &[RECORDS],
         optional: 0,
+        about: "gives back what no snapshot holds any more, at most so many records",
     },
     Form {
         name: b"fast",
         parts: &[INO],
         optional: 0,
+        about: "takes log pages out of which nothing is needed",
     },
     Form {
         name: b"thorough",
         parts: &[INO],
         optional: 0,
+        about: "moves what is needed of a log to as few pages as it fills",
     },
     Form {
         name: b"auto",
         parts: &[INO],
         optional: 0,
+        about: "does the one of the two that pays",
     },
 ];
 
