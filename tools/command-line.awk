@@ -9,7 +9,9 @@
 # The command line. The program itself is the command with the empty name. A command without subcommands takes one FILE.
 BEGIN {
     add_command("")
+    add_option("play", "echo")
     add_option("play", "summary")
+    add_option("play", "quiet")
     add_command("play")
     add_option("work", "threads", "<N>", 1, 32)
     add_option("work", "cleaners", "<M>", 0, 32)

@@ -5,6 +5,7 @@
 use crate::crowd::Crowd;
 use clap::error::ErrorKind;
 use clap::{Arg, ArgAction, ArgMatches, Command, Error, value_parser};
+use nv_script::Echo;
 use std::alloc::{AllocError, Global};
 use std::convert::AsStr;
 
@@ -53,11 +54,15 @@ how many entries and pages the log lost, and the tree and all snapshots stay as 
 'do' makes a call whole; 'start', 'go' and 'run' take it step by step, between the steps of other
 actors.
 
-Answers go to standard output. A call that cannot be made is answered with the reason, as
-'refused E8 Exists', and the script goes on. A fault ends it: a line that is no command, or a read
-or a write that fails. What was answered stands, and the fault goes to standard error, as
-'novacore: E27 ScriptFault(2, word)' for a word in line 2 that is unknown. Behind it stands what is
-wrong with the line, as
+Answers go to standard output. By '--echo' the number and the text of each command come before its
+answers, as '> 2 do 0 create 0.1 notes 420' before 'done 1.1'. Where no FILE is named and standard
+input is a terminal, each line is asked for, and a line with a fault is told and not played. 'help'
+shows all commands there, 'help write' the words of one, and Ctrl-D ends.
+
+A call that cannot be made is answered with the reason, as 'refused E8 Exists', and the script goes
+on. A fault ends it: a line that is no command, or a read or a write that fails. What was answered
+stands, and the fault goes to standard error, as 'novacore: E27 ScriptFault(2, word)' for a word in
+line 2 that is unknown. Behind it stands what is wrong with the line, as
 
   first.nova:2: 'do 0 wrte 1.1 0 a': 'wrte' is no call; the nearest is 'write'
 
@@ -109,6 +114,14 @@ has a call at 'fork', the fault is 'E21 ActorBusy'.
 
 Exit status: 0 if the whole script was played, 1 after a fault, 2 for a command line that is refused.";
 
+const ECHO: &str = "echo";
+
+const ECHO_HELP: &str = "Write '> NUMBER TEXT' before the answers to each line that is a command";
+
+const QUIET: &str = "quiet";
+
+const QUIET_HELP: &str = "Don't tell at a terminal how far a FILE has been played";
+
 const SUMMARY: &str = "summary";
 
 const SUMMARY_HELP: &str = "Tell on standard error how many lines had each refusal";
@@ -128,13 +141,22 @@ const FILE_HELP: &str = "The script; without FILE, or where it is -, from standa
 /// What stands for standard input in place of a file.
 const STANDARD_INPUT: &str = "-";
 
+/// How a script is played: whether commands stand before their answers, whether refusals are counted, and whether nothing tells
+/// how far it has come.
+#[derive(Clone, Copy, Debug, PartialEq, Eq, Drop)]
+pub(crate) struct Manner {
+    pub(crate) echo: Echo,
+    pub(crate) summary: bool,
+    pub(crate) quiet: bool,
+}
+
 /// What a command line asks for.
 #[derive(Clone, Copy, Debug, PartialEq, Eq, Drop)]
 pub(crate) enum Task<'a> {
     /// To play a script from a file, or from standard input where none is named.
     Play {
         file: Option<&'a str>,
-        summary: bool,
+        manner: Manner,
     },
     /// To have so many threads make the calls of a script, beside so many cleaners.
     Work {
@@ -154,7 +176,7 @@ impl<'a> Task<'a> {
         match matches.subcommand() {
             Some((PLAY, play)) => Ok(Task::Play {
                 file: file_of(play),
-                summary: play.get_flag(SUMMARY),
+                manner: manner_of(play),
             }),
             Some((WORK, work)) => Ok(Task::Work {
                 file: file_of(work),
@@ -169,6 +191,20 @@ impl<'a> Task<'a> {
 /// The script's file, if one is named.
 fn file_of<'a>(matches: &ArgMatches<'a>) -> Option<&'a str> {
     matches.get_str(FILE).filter(|file| *file != STANDARD_INPUT)
+}
+
+/// How a script is to be played.
+fn manner_of(matches: &ArgMatches<'_>) -> Manner {
+    let echo = if matches.get_flag(ECHO) {
+        Echo::On
+    } else {
+        Echo::Off
+    };
+    Manner {
+        echo,
+        summary: matches.get_flag(SUMMARY),
+        quiet: matches.get_flag(QUIET),
+    }
 }
 
 /// How many threads and cleaners are asked for. Others than those of the help are refused before.
@@ -203,15 +239,17 @@ fn play<'a>(alloc: Global) -> Result<Command<'a>, AllocError> {
         .about(PLAY_ABOUT)
         .after_help(PLAY_AFTER_HELP)
         .arg(Arg::new(alloc, FILE).help(FILE_HELP))?
-        .arg(summary(alloc))
+        .arg(flag(alloc, ECHO, ECHO_HELP))?
+        .arg(flag(alloc, SUMMARY, SUMMARY_HELP))?
+        .arg(flag(alloc, QUIET, QUIET_HELP))
 }
 
-/// The option by which refusals are counted.
-fn summary<'a>(alloc: Global) -> Arg<'a> {
-    Arg::new(alloc, SUMMARY)
-        .long(SUMMARY)
+/// An option that is given or not.
+fn flag<'a>(alloc: Global, name: &'static str, help: &'static str) -> Arg<'a> {
+    Arg::new(alloc, name)
+        .long(name)
         .action(ArgAction::SetTrue)
-        .help(SUMMARY_HELP)
+        .help(help)
 }
 
 /// The subcommand that has threads play a script.
@@ -234,5 +272,5 @@ fn work<'a>(alloc: Global) -> Result<Command<'a>, AllocError> {
         .arg(Arg::new(alloc, FILE).help(FILE_HELP))?
         .arg(threads)?
         .arg(cleaners)?
-        .arg(summary(alloc))
+        .arg(flag(alloc, SUMMARY, SUMMARY_HELP))
 }

@@ -6,22 +6,29 @@ ghost use Rattle.clap.specs.Words.{kind_of};
 
 mod command_line;
 mod crowd;
+mod progress;
+mod terminal;
 #[cfg(test)]
 mod tests;
 mod told;
+mod watched;
 
 use clap::error::ErrorKind;
-use command_line::Task;
+use command_line::{Manner, Task};
 use crowd::Crowd;
 use nv_base::Fault;
-use nv_script::{Outcome, exit_code, fault_line};
+use nv_script::{Echo, Outcome, exit_code, fault_line};
+use progress::{Progress, lines_of};
 use std::env::Env;
+use std::io::{IsTerminal, Read, Write};
 use std::process::ExitCode;
 use std::rt::Files;
 use std::sync::Wait;
 use std::thread::Threads;
+use std::time::Clock;
 use std::{env, fs, io};
-use told::{Told, play_told, work_told};
+use terminal::converse;
+use told::{STANDARD_INPUT, Told, echo_told, play_told, work_told};
 
 /// The line that tells of want of memory. It takes none.
 const OUT_OF_MEMORY: &str = "novacore: E1 OutOfMemory\n";
@@ -65,33 +72,60 @@ fn answered<R: Print + Eprint>(rt: &R, error: &clap::Error) -> Outcome
     }
 }
 
-/// What stands for the name of a script from standard input.
-const STANDARD_INPUT: &str = "standard input";
+/// Which of the standard streams are a terminal.
+#[derive(Clone, Copy)]
+pub(crate) struct Terminals {
+    input: bool,
+    output: bool,
+    error: bool,
+}
 
-/// Plays a script from a file, or from standard input where none is named.
+/// Plays a script of this name as it is asked for.
+fn play_by<R: AllocGlobal + Clock + Eprint, S: Read, W: Write>(
+    rt: &R,
+    script: &str,
+    manner: Manner,
+    progress: Option<&Progress<'_, R>>,
+    reader: &mut S,
+    writer: &mut W,
+) -> Told {
+    let Manner { echo, summary, .. } = manner;
+    match echo {
+        Echo::Off => play_told(rt.alloc(), script, summary, progress, reader, writer),
+        Echo::On => echo_told(rt.alloc(), script, summary, progress, reader, writer),
+    }
+}
+
+/// Plays a script from a file, or from standard input where none is named, and line by line where that is a terminal.
 ///
 /// An answer is held back only while the script's next line is there already.
-fn play_script<R: AllocGlobal + Files + Input + Print>(
+fn play_script<R: AllocGlobal + Clock + Eprint + Files + Input + Print>(
     rt: &R,
     file: Option<&str>,
-    summary: bool,
+    manner: Manner,
+    terminals: Terminals,
 ) -> Told {
     let mut writer = io::writer(rt);
-    match file {
-        None => play_told(
-            rt.alloc(),
-            STANDARD_INPUT,
-            summary,
-            &mut rt.reader(),
-            &mut writer,
-        ),
-        Some(path) => {
-            let Ok(mut file) = fs::open(rt, path) else {
-                return Told::unread();
-            };
-            play_told(rt.alloc(), path, summary, &mut file, &mut writer)
+    let Some(path) = file else {
+        let mut reader = rt.reader();
+        if terminals.input {
+            return converse(rt, rt.alloc(), manner.summary, &mut reader, &mut writer);
         }
+        return play_by(rt, STANDARD_INPUT, manner, None, &mut reader, &mut writer);
+    };
+    let Ok(mut file) = fs::open(rt, path) else {
+        return Told::unread();
+    };
+    let progress = if terminals.error && !manner.quiet {
+        Progress::begin(rt, lines_of(rt, path), terminals.output)
+    } else {
+        None
+    };
+    let told = play_by(rt, path, manner, progress.as_ref(), &mut file, &mut writer);
+    if let Some(progress) = progress {
+        progress.take_away();
     }
+    told
 }
 
 /// Has threads play a script from a file, or from standard input where none is named.
@@ -122,8 +156,9 @@ fn work_script<R: AllocGlobal + Files + Input + Print + Threads + Wait + Sync>(
 }
 
 /// Does what the command line asks for, and tells what stands behind the text of a fault.
-fn perform<R: AllocGlobal + Env + Files + Input + Print + Eprint + Threads + Wait + Sync>(
+fn perform<R: AllocGlobal + Clock + Env + Files + Input + Print + Eprint + Threads + Wait + Sync>(
     rt: &R,
+    terminals: Terminals,
 ) -> Result<(Outcome, Option<String>), Fault> {
     let alloc = rt.alloc();
     let words: Vec<String> = match env::args(rt) {
@@ -134,7 +169,9 @@ fn perform<R: AllocGlobal + Env + Files + Input + Print + Eprint + Threads + Wai
         Err(_) => return Ok((Outcome::OutOfMemory, None)),
     };
     match Task::read(alloc, words.as_slice()) {
-        Ok(Task::Play { file, summary }) => Ok(play_script(rt, file, summary).into_outcome()),
+        Ok(Task::Play { file, manner }) => {
+            Ok(play_script(rt, file, manner, terminals).into_outcome())
+        }
         Ok(
             Task::Work {
                 file,
@@ -147,10 +184,11 @@ fn perform<R: AllocGlobal + Env + Files + Input + Print + Eprint + Threads + Wai
 }
 
 /// Does what the command line asks for, and tells of a fault.
-fn run<R: AllocGlobal + Env + Files + Input + Print + Eprint + Threads + Wait + Sync>(
+fn run<R: AllocGlobal + Clock + Env + Files + Input + Print + Eprint + Threads + Wait + Sync>(
     rt: &R,
+    terminals: Terminals,
 ) -> Outcome {
-    let (outcome, behind) = match perform(rt) {
+    let (outcome, behind) = match perform(rt, terminals) {
         Ok(ended) => ended,
         Err(fault) => (Outcome::Failed(fault), None),
     };
@@ -166,5 +204,10 @@ fn run<R: AllocGlobal + Env + Files + Input + Print + Eprint + Threads + Wait + 
 }
 
 fn main(rt: HostRuntime) -> ExitCode {
-    exit_code(run(&rt))
+    let terminals = Terminals {
+        input: rt.stdin().is_terminal(),
+        output: rt.stdout().is_terminal(),
+        error: rt.stderr().is_terminal(),
+    };
+    exit_code(run(&rt, terminals))
 }

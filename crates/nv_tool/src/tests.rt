@@ -1,16 +1,18 @@
 //! Command lines, what they ask for and what they are answered.
 
+mod echo;
 mod examples;
 mod help;
 mod hints;
 mod refusals;
+mod terminal;
 mod work;
 
-use crate::command_line::{AFTER_HELP, PLAY_AFTER_HELP, Task, WORK_AFTER_HELP};
-use crate::play_script;
+use crate::command_line::{AFTER_HELP, Manner, PLAY_AFTER_HELP, Task, WORK_AFTER_HELP};
+use crate::{Terminals, play_script};
 use help::{HELP, HELP_OF_HELP, PLAY_HELP, WORK_HELP};
 use nv_base::Fault;
-use nv_script::play;
+use nv_script::{Echo, play};
 use refusals::REFUSALS;
 use std::alloc::{AllocError, Global};
 
@@ -39,27 +41,52 @@ fn answered(alloc: Global, words: &'static [&'static str]) -> Option<(i32, Strin
     Some((error.exit_code(), text))
 }
 
+/// No option of `play`.
+const PLAIN: Manner = Manner {
+    echo: Echo::Off,
+    summary: false,
+    quiet: false,
+};
+
 #[test]
 fn play_takes_one_file_or_none(rt: HostRuntime) {
-    let cases: [(&[&str], Option<&str>, bool); 6] = [
-        (&["novacore", "play"], None, false),
-        (&["novacore", "play", "-"], None, false),
+    let cases: [(&[&str], Option<&str>); 4] = [
+        (&["novacore", "play"], None),
+        (&["novacore", "play", "-"], None),
+        (&["novacore", "play", "first.nova"], Some("first.nova")),
+        (&["novacore", "play", "--", "-x"], Some("-x")),
+    ];
+    for (words, file) in cases {
+        let task = Task::read(rt.alloc(), words).ok();
+        let manner = PLAIN;
+        assert!(rt; task == Some(Task::Play { file, manner }), "at {words:?}");
+    }
+}
+
+#[test]
+fn play_takes_options(rt: HostRuntime) {
+    let cases: [(&[&str], Echo, bool, bool); 4] = [
+        (&["novacore", "play", "--echo"], Echo::On, false, false),
+        (&["novacore", "play", "--summary"], Echo::Off, true, false),
+        (&["novacore", "play", "--quiet"], Echo::Off, false, true),
         (
-            &["novacore", "play", "first.nova"],
-            Some("first.nova"),
-            false,
-        ),
-        (&["novacore", "play", "--", "-x"], Some("-x"), false),
-        (&["novacore", "play", "--summary"], None, true),
-        (
-            &["novacore", "play", "a.nova", "--summary"],
-            Some("a.nova"),
+            &["novacore", "play", "--quiet", "--summary", "--echo"],
+            Echo::On,
+            true,
             true,
         ),
     ];
-    for (words, file, summary) in cases {
+    for (words, echo, summary, quiet) in cases {
         let task = Task::read(rt.alloc(), words).ok();
-        assert!(rt; task == Some(Task::Play { file, summary }), "at {words:?}");
+        let manner = Manner {
+            echo,
+            summary,
+            quiet,
+        };
+        assert!(rt;
+            task == Some(Task::Play { file: None, manner }),
+            "at {words:?}"
+        );
     }
 }
 
@@ -137,6 +164,11 @@ fn help_of_play_shows_what_a_script_prints(rt: HostRuntime) -> Result<(), AllocE
 
 #[test]
 fn a_missing_file_is_a_failed_read(rt: HostRuntime) {
-    let told = play_script(&rt, Some("no such folder/first.nova"), false);
+    let none = Terminals {
+        input: false,
+        output: false,
+        error: false,
+    };
+    let told = play_script(&rt, Some("no such folder/first.nova"), PLAIN, none);
     assert!(rt; told.ended == Err(Fault::Read));
 }

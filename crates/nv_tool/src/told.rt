@@ -1,20 +1,27 @@
 //! Scripts that are played, and what is told of them on standard error behind the text of their fault.
 
 ghost use Rattle.std.specs.Prelude.{◌≡◌, MatchResult};
+ghost use Rattle.nv_script.specs.Echo.{PlaysEchoed, PlaysWithoutEchoes};
 ghost use Rattle.nv_script.specs.Play.{PlaysScript};
 ghost use Rattle.nv_script.specs.SerialPlayer.{serial_player};
 ghost use Rattle.nv_script.specs.Serially.{PlaysAlone};
 ghost use Rattle.nv_work.specs.Work.{WorksScript};
 
 use crate::crowd::Crowd;
+use crate::progress::Progress;
+use crate::watched::{WatchedReader, WatchedWriter};
 use nv_base::Fault;
 use nv_hints::{By, KeptReader, Recent, Tally, TallyWriter, hint_line, push_summary};
-use nv_script::{Outcome, play_counted_and_leave};
+use nv_script::{Echo, Outcome, echo_counted_and_leave, play_counted_and_leave};
 use nv_work::{OpenGate, work_counted};
 use std::alloc::{AllocError, Global};
 use std::io::{Read, Write};
 use std::sync::Wait;
 use std::thread::Threads;
+use std::time::Clock;
+
+/// What stands for the name of a script from standard input.
+pub(crate) const STANDARD_INPUT: &str = "standard input";
 
 /// How a script ended, and what is told behind the text of its fault.
 #[derive(Drop)]
@@ -24,6 +31,21 @@ pub(crate) struct Told {
 }
 
 impl Told {
+    /// A script of this name that ended so, after these lines and refusals.
+    pub(crate) fn of(
+        alloc: Global,
+        script: &str,
+        by: By,
+        ended: Result<(), Fault>,
+        recent: &Recent,
+        tally: &Tally,
+    ) -> Told
+        ensures { result.ended ≡ ended }
+    {
+        let behind = behind(alloc, script, by, &ended, recent, tally).ok();
+        Told { ended, behind }
+    }
+
     /// A script that could not be read.
     pub(crate) fn unread() -> Told
         ensures { result.ended ≡ Err Fault.Read }
@@ -48,10 +70,11 @@ impl Told {
 }
 
 /// Plays a script of this name. The writer gets what [`play_counted_and_leave`] writes, and nothing of what is told of it.
-pub(crate) fn play_told<R: Read, W: Write>(
+pub(crate) fn play_told<R: Read, W: Write, T: Clock + Eprint>(
     alloc: Global,
     script: &str,
     summary: bool,
+    progress: Option<&Progress<'_, T>>,
     reader: &mut R,
     writer: &mut W,
 ) -> Told
@@ -62,14 +85,14 @@ pub(crate) fn play_told<R: Read, W: Write>(
 {
     let mut recent = Recent::new(alloc);
     let mut tally = Tally::new(alloc, summary);
-    let ended = play_kept(alloc, reader, writer, &mut recent, &mut tally);
-    let behind = behind(alloc, script, By::Play, &ended, &recent, &tally).ok();
-    Told { ended, behind }
+    let ended = play_kept(alloc, progress, reader, writer, &mut recent, &mut tally);
+    Told::of(alloc, script, By::Play, ended, &recent, &tally)
 }
 
 /// Plays a script, keeps the lines that are read last, and counts the refusals where that is asked for.
-fn play_kept<R: Read, W: Write>(
+fn play_kept<R: Read, W: Write, T: Clock + Eprint>(
     alloc: Global,
+    progress: Option<&Progress<'_, T>>,
     reader: &mut R,
     writer: &mut W,
     recent: &mut Recent,
@@ -80,9 +103,61 @@ fn play_kept<R: Read, W: Write>(
     ensures serial { PlaysAlone serial_player result (R.remaining reader.old)
         (R.remaining reader.new) (W.contents writer.old) (W.contents writer.new) }
 {
-    let mut reader = KeptReader::new(alloc, reader, recent);
-    let mut writer = TallyWriter::new(alloc, writer, tally);
+    let mut reader = WatchedReader {
+        reader: KeptReader::new(alloc, reader, recent),
+        progress,
+    };
+    let mut writer = WatchedWriter {
+        writer: TallyWriter::new(alloc, writer, tally),
+        progress,
+    };
     play_counted_and_leave(alloc, &mut reader, &mut writer)
+}
+
+/// Plays a script of this name, and writes each command before its answers. The writer gets what [`echo_counted_and_leave`]
+/// writes, and nothing of what is told of it.
+pub(crate) fn echo_told<R: Read, W: Write, T: Clock + Eprint>(
+    alloc: Global,
+    script: &str,
+    summary: bool,
+    progress: Option<&Progress<'_, T>>,
+    reader: &mut R,
+    writer: &mut W,
+) -> Told
+    ensures script { PlaysEchoed Echo.On result.ended (R.remaining reader.old)
+        (R.remaining reader.new) (W.contents writer.old) (W.contents writer.new) }
+    ensures plain { PlaysWithoutEchoes result.ended (R.remaining reader.old)
+        (R.remaining reader.new) (W.contents writer.old) (W.contents writer.new) }
+{
+    let mut recent = Recent::new(alloc);
+    let mut tally = Tally::new(alloc, summary);
+    let ended = echo_kept(alloc, progress, reader, writer, &mut recent, &mut tally);
+    Told::of(alloc, script, By::Play, ended, &recent, &tally)
+}
+
+/// The same with the lines that are kept and the refusals that are counted.
+fn echo_kept<R: Read, W: Write, T: Clock + Eprint>(
+    alloc: Global,
+    progress: Option<&Progress<'_, T>>,
+    reader: &mut R,
+    writer: &mut W,
+    recent: &mut Recent,
+    tally: &mut Tally,
+) -> Result<(), Fault>
+    ensures script { PlaysEchoed Echo.On result (R.remaining reader.old) (R.remaining reader.new)
+        (W.contents writer.old) (W.contents writer.new) }
+    ensures plain { PlaysWithoutEchoes result (R.remaining reader.old) (R.remaining reader.new)
+        (W.contents writer.old) (W.contents writer.new) }
+{
+    let mut reader = WatchedReader {
+        reader: KeptReader::new(alloc, reader, recent),
+        progress,
+    };
+    let mut writer = WatchedWriter {
+        writer: TallyWriter::new(alloc, writer, tally),
+        progress,
+    };
+    echo_counted_and_leave(alloc, &mut reader, &mut writer)
 }
 
 /// Has threads play a script of this name. The writer gets what [`work_counted`] writes, and nothing of what is told of it.
@@ -101,8 +176,7 @@ pub(crate) fn work_told<R: Read, W: Write, T: Threads + Wait + Sync>(
     let mut recent = Recent::new(alloc);
     let mut tally = Tally::new(alloc, summary);
     let ended = work_kept(rt, alloc, crowd, reader, writer, &mut recent, &mut tally);
-    let behind = behind(alloc, script, By::Work, &ended, &recent, &tally).ok();
-    Told { ended, behind }
+    Told::of(alloc, script, By::Work, ended, &recent, &tally)
 }
 
 /// Has threads play a script, keeps the lines that are read last, and counts the refusals where that is asked for.

@@ -25,7 +25,9 @@ Arguments:
   [FILE]  The script; without FILE, or where it is -, from standard input
 
 Options:
+      --echo     Write '> NUMBER TEXT' before the answers to each line that is a command
       --summary  Tell on standard error how many lines had each refusal
+      --quiet    Don't tell at a terminal how far a FILE has been played
   -h, --help     Print help
 ";
 

@@ -1,6 +1,7 @@
 //! What stands on standard error behind the fault of a faulty script.
 
 use crate::crowd::Crowd;
+use crate::progress::Progress;
 use crate::told::{Told, play_told, work_told};
 use nv_base::{Fault, ScriptFaultKind};
 use nv_hints::{By, Recent, hint_line};
@@ -233,7 +234,8 @@ fn joined(alloc: Global, front: &[u8], back: &[u8]) -> Result<Vec<u8>, AllocErro
 fn played<R: Abort>(rt: &R, alloc: Global, script: &[u8], summary: bool) -> Told {
     let mut reader = script;
     let mut written = Vec::new(alloc);
-    let told = play_told(alloc, "s.nova", summary, &mut reader, &mut written);
+    let none: Option<&Progress<'_, HostRuntime>> = None;
+    let told = play_told(alloc, "s.nova", summary, none, &mut reader, &mut written);
     let mut again = script;
     let mut wanted = Vec::new(alloc);
     let outcome = play(alloc, &mut again, &mut wanted);

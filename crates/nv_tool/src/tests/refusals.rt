@@ -2,7 +2,7 @@
 //! which answers them where the program is not built, does so by the same text.
 
 /// The words behind the program's name, between spaces, and the text.
-pub(crate) const REFUSALS: [(&str, &str); 25] = [
+pub(crate) const REFUSALS: [(&str, &str); 27] = [
     (
         "paly",
         "\
@@ -151,6 +151,28 @@ For more information, try '--help'.
 error: unexpected value 'x' for '--summary' found; no more were expected
 
 Usage: novacore play --summary [FILE]
+
+For more information, try '--help'.
+",
+    ),
+    (
+        "play --ech",
+        "\
+error: unexpected argument '--ech' found
+
+  tip: a similar argument exists: '--echo'
+
+Usage: novacore play --echo [FILE]
+
+For more information, try '--help'.
+",
+    ),
+    (
+        "play --quiet a --echo --quiet",
+        "\
+error: the argument '--quiet' cannot be used multiple times
+
+Usage: novacore play [OPTIONS] [FILE]
 
 For more information, try '--help'.
 ",
