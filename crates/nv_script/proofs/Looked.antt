@@ -1,6 +1,5 @@
 -- A line that was looked at before it is played.
-use Rattle.std.proofs.Common.{◌≡◌, ◌∙◌, ℕ, Bool, true, false, List, [], Option, Some, None, is_some, Result, Ok, Err, inl, refl, sym, subst}
-use Rattle.std.proofs.lemmas.Bool.{false≢true}
+use Rattle.std.proofs.Common.{◌≡◌, ℕ, Bool, false, List, [], Option, Some, None, is_some, Result, Ok, Err, inl, refl, sym, subst}
 use Rattle.nv_base.specs.declared.fault.ScriptFaultKind.{ScriptFaultKind}
 use Rattle.nv_base.specs.declared.geometry.GeometryNumbers.{GeometryNumbers}
 use Rattle.nv_machine.specs.Starts.{IsStart}
@@ -10,11 +9,10 @@ use Rattle.nv_core.specs.Consistent.{IsConsistentWorld}
 use Rattle.nv_core.specs.Worlds.{ShowsAny, WorldState}
 use Rattle.nv_script.specs.declared.fault.LineFault.{LineFault}
 use Rattle.nv_script.specs.declared.fault.LineFault.TheVariants as line_fault
-use Rattle.nv_script.specs.Grammar.{IsLineFault, Parsed, is_skipped}
-use Rattle.nv_script.specs.Play.{LineFails, WordsFail}
+use Rattle.nv_script.specs.Grammar.{is_skipped}
+use Rattle.nv_script.specs.Play.{LineFails}
 use Rattle.nv_script.specs.Results.{AnswersLine, Sent}
 use Rattle.nv_script.specs.Sound.{AnswersSound, HasShown, IsSound, LooksAt}
-use Rattle.nv_script.specs.Words.{words_of}
 use Rattle.nv_script.proofs.Handed.{sends_none}
 
 -- ---- what a world shows
@@ -36,24 +34,6 @@ as_many None None shown = refl
 as_many None (Some m) shown = absurd shown
 as_many (Some w) None shown = absurd shown
 as_many (Some w) (Some m) shown = refl
-
--- ---- what was found
-
--- an empty line or a comment has no fault
-pub skipped_sound : (made : Bool) (line : List ℕ) → is_skipped line ≡ true → IsSound made line
-skipped_sound made line skipped why fails = absurd (false≢true (sym fails.0 ∙ skipped))
-
--- words that were read have none
-pub read_sound : (made : Bool) (line : List ℕ) → ((why : ScriptFaultKind) → WordsFail made (words_of line) why → ⊥) → IsSound made line
-read_sound made line read why fails = read why fails.1
-
--- the fault of words is that of their line
-pub unread_looked : {A : Type 0} (why : LineFault) (made : Bool) (line : List ℕ) (parsed : Parsed A) → is_skipped line ≡ false
-    → IsLineFault why parsed → ((kind : ScriptFaultKind) → parsed ≡ Err kind → WordsFail made (words_of line) kind)
-    → LooksAt (Err why) made line
-unread_looked (line_fault.OutOfMemory _) made line parsed skipped is fails = skipped
-unread_looked line_fault.Write made line parsed skipped is fails = absurd is
-unread_looked (line_fault.Faulty kind) made line parsed skipped is fails = (skipped, fails kind is)
 
 -- ---- what is answered then
 

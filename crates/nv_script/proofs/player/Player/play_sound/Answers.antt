@@ -9,6 +9,11 @@ returns-in_err-play_taken-in-Ok-clause-line g c =
     let sound = sound_at _ _ _ _ c.is_some.ensures c.as_slice.ensures.value c.in-Ok.ensures in
     rw (p.1, p.2) (sound_unplayed _ _ _ _ _ _ c.shows_some.ensures sound c.in_err-play_taken.ensures.line)
 
-pub returns-in-Ok-clause-line : goal.returns-in-Ok-clause-line
-returns-in-Ok-clause-line g c =
+pub returns-in_ok-play_taken-in-Ok-clause-line : goal.returns-in_ok-play_taken-in-Ok-clause-line
+returns-in_ok-play_taken-in-Ok-clause-line g c =
     (sound_at _ _ _ _ c.is_some.ensures c.as_slice.ensures.value c.in-Ok.ensures, c.in_ok-play_taken.ensures.line)
+
+pub returns-in-Err-Faulty-clause-line : goal.returns-in-Err-Faulty-clause-line
+returns-in-Err-Faulty-clause-line g c =
+    let is = rw c.in-Err-Faulty.field-0-is at c.in-Err-Faulty.ensures in
+    (fault_told _ _ _ _ _ c.is_some.ensures c.as_slice.ensures.value is, refl, refl)
