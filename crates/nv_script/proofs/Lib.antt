@@ -1,6 +1,7 @@
 pub mod Ahead
 pub mod Alike
 pub mod Answering
+pub mod Asking
 pub mod Breaks
 pub mod Commands
 pub mod Echoes

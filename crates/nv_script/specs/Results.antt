@@ -13,13 +13,16 @@ use Rattle.nv_machine.specs.Format.{formatted}
 use Rattle.nv_machine.specs.World as machine
 use Rattle.nv_core.specs.Worlds.{HasRun, Shows, ShowsAny, WorldState}
 use Rattle.nv_script.specs.declared.asked.Asked.{Asked}
+use Rattle.nv_script.specs.declared.command.Command.TheVariants as command
 use Rattle.nv_script.specs.declared.fault.LineFault.{LineFault}
 use Rattle.nv_script.specs.declared.fault.LineFault.TheVariants as line_fault
 use Rattle.nv_script.specs.declared.feed.LineResult.{LineResult}
 use Rattle.nv_script.specs.declared.feed.LineResult.TheVariants as taken
+use Rattle.nv_script.specs.Grammar.{command_of, is_skipped}
 use Rattle.nv_script.specs.Lines.{IsLine, LineResultIs, WritesFront, WritesSome, ended}
 use Rattle.nv_script.specs.Play.{EndsBy, EndsWell, Formats, LineFails, ListsFront, Plays, PlaysAll, StopsAt, machine_player, machine_player_with, most_lines, no_head}
 use Rattle.nv_script.specs.Texts.{line_of, node_line, refused_line, tree_lines}
+use Rattle.nv_script.specs.Words.{words_of}
 use Rattle.nv_base.specs.Memory.{out_of_memory}
 
 -- events lead to a world, where there is one
@@ -155,6 +158,10 @@ failed_in_tree _ why = 0
 abbrev pub TellsAudit : Option Asked → List ℕ → Type 0
 TellsAudit None text = text ≡ refused_line out_of_memory
 TellsAudit (Some asked) text = text ≡ line_of (codes "audit ok")
+
+-- a line asks for an audit of the world
+abbrev pub AsksAudit : Option WorldState → List ℕ → Type 0
+AsksAudit world line = IsSome world × (is_skipped line ≡ false) × (command_of (words_of line) ≡ Ok command.Audit)
 
 -- how a line's fault ends the script
 abbrev pub ending_of : ℕ → LineFault → Fault

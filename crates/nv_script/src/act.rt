@@ -5,7 +5,7 @@ ghost use Rattle.nv_script.specs.Grammar.{is_skipped};
 ghost use Rattle.nv_base.specs.Limits.{first_bad_field};
 ghost use Rattle.nv_script.specs.declared.command.Command.TheVariants.{Audit};
 ghost use Rattle.nv_script.specs.Play.{ActsBy, is_list, reports_of};
-ghost use Rattle.nv_script.specs.Results.{IsNewWorld, LineIs, MakesWorld, TellsAudit, failed_in_line};
+ghost use Rattle.nv_script.specs.Results.{AsksAudit, IsNewWorld, LineIs, MakesWorld, TellsAudit, failed_in_line};
 ghost use Rattle.nv_core.specs.Worlds.{Leads};
 
 use crate::asked::Asked;
@@ -25,7 +25,7 @@ use std::alloc::{AllocError, Global};
 /// Plays one line, which has no line end, with `head` before its answers. A line that is skipped has none.
 ///
 /// What it is answered is in `out` then, in place of what that held, except for the lines of a tree's nodes. These are sent before,
-/// and so is the head.
+/// and so is the head. What stands for an audit is handed on.
 pub(crate) fn play_line<W: CountedWrite>(
     alloc: Global,
     world: &mut Option<World>,
@@ -34,36 +34,44 @@ pub(crate) fn play_line<W: CountedWrite>(
     out: &mut Vec<u8>,
     outbox: &mut Outbox,
     writer: &mut W,
-) -> Result<(), LineFault>
+) -> Result<Option<Asked>, LineFault>
     requires skipped { is_skipped line.now ≡ true → head.now ≡ [] }
     requires failures { W.failed writer.old < 2 ^ 64 - 1 }
     ensures line { LineIs head.now result (record { written = W.contents writer.old; gathered = outbox.old })
         (record { written = W.contents writer.new; gathered = outbox.new })
         world.old line.now out.new.items world.new }
+    ensures asked { IfOk result (λ asked.
+        AsksAudit world.old line.now → TellsAudit asked out.new.items) }
     ensures failed { W.failed writer.new ≡ W.failed writer.old + failed_in_line result }
     ensures same_writer { W.place writer.new ≡ W.place writer.old }
 {
     out.clear();
     if is_skipped(line) {
-        return Ok(());
+        return Ok(None);
     }
     let words = words(alloc, line)?;
     match world {
         None => {
             let numbers = read_format(words.as_slice())?;
             format(alloc, world, &numbers, out)?;
-            Ok(outbox.add(writer, head)?)
+            outbox.add(writer, head)?;
+            Ok(None)
         }
         Some(world) => {
             let command = read_command(alloc, words.as_slice())?;
             match command {
-                Command::Tree => write_tree_behind(head, world, None, out, outbox, writer),
+                Command::Tree => {
+                    write_tree_behind(head, world, None, out, outbox, writer)?;
+                    Ok(None)
+                }
                 Command::SnapTree(s) => {
-                    write_tree_behind(head, world, Some(Epoch::new(s)), out, outbox, writer)
+                    write_tree_behind(head, world, Some(Epoch::new(s)), out, outbox, writer)?;
+                    Ok(None)
                 }
                 _ => {
-                    act(world, command, out)?;
-                    Ok(outbox.add(writer, head)?)
+                    let asked = act(world, command, out)?;
+                    outbox.add(writer, head)?;
+                    Ok(asked)
                 }
             }
         }

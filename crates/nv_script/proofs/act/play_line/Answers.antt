@@ -1,8 +1,9 @@
-use Rattle.std.proofs.Common.{◌≡◌, ◌∙◌, [], None, Ok, Some, ap, refl, rules, sym}
+use Rattle.std.proofs.Common.{◌≡◌, ◌∙◌, [], None, Err, Ok, Some, ap, refl, rules, sym}
 use Rattle.std.proofs.lemmas.Result.{err_from_is_err_and}
 use Rattle.nv_script.specs.declared.command.Command.TheVariants as command
 use Rattle.nv_script.specs.Grammar.{command_of, format_of, texts}
 use Rattle.nv_script.specs.Words.{words_of}
+use Rattle.nv_script.proofs.Asking.{asks_by, no_world_asks, other_asks, skipped_asks}
 use Rattle.nv_script.proofs.Played.{formats, headed, lists_line, played, starved, unheaded}
 use Rattle.nv_script.proofs.act.play_line.Goals as goal
 
@@ -30,26 +31,60 @@ returns-in-None-clause-line g c =
     (ap format_of (sym words) ∙ sym c.in_ok-numbers-in-None.ensures) c.in_ok-format-in-None.ensures in
     headed c.args.head.now _ _ c.args.world.now c.format.new.world c.args.line.now c.format.new.out.items plays c.in_ok-add-in-None.ensures.sent
 
+pub returns-in_err-write_tree_behind-in-Tree-clause-line : goal.returns-in_err-write_tree_behind-in-Tree-clause-line
+returns-in_err-write_tree_behind-in-Tree-clause-line g c =
+    let words : texts c.as_slice-in-Some.result.now ≡ words_of c.args.line.now = search (rules) in
+    let read : command_of (texts c.as_slice-in-Some.result.now) ≡ Ok c.in_ok-command-in-Some.command = c.in_ok-command-in-Some.ensures in
+    let p = err_from_is_err_and c.from_residual-in_err-write_tree_behind-in-Tree.result
+    c.from_residual-in_err-write_tree_behind-in-Tree.ensures.1 in
+    rw (p.1, p.2) (lists_line c.args.head.now (Err c.in_err-write_tree_behind-in-Tree.field-0) _ _ c.args.world.now c.in-Some.world
+    c.args.line.now c.write_tree_behind.new.out.items command.Tree c.in-Some.is (sym c.is_skipped.ensures ∙ c.if-is_skipped.false)
+    (ap command_of (sym words) ∙ read ∙ ap Ok c.in-Tree.is) refl c.in_err-write_tree_behind-in-Tree.ensures.lines)
+
 pub returns-in-Tree-clause-line : goal.returns-in-Tree-clause-line
 returns-in-Tree-clause-line g c =
     let words : texts c.as_slice-in-Some.result.now ≡ words_of c.args.line.now = search (rules) in
     let read : command_of (texts c.as_slice-in-Some.result.now) ≡ Ok c.in_ok-command-in-Some.command = c.in_ok-command-in-Some.ensures in
-    lists_line c.args.head.now c.write_tree_behind.result _ _ c.args.world.now c.in-Some.world c.args.line.now _ command.Tree c.in-Some.is
+    lists_line c.args.head.now (Ok tt) _ _ c.args.world.now c.in-Some.world c.args.line.now _ command.Tree c.in-Some.is
     (sym c.is_skipped.ensures ∙ c.if-is_skipped.false) (ap command_of (sym words) ∙ read ∙ ap Ok c.in-Tree.is) refl
-    c.write_tree_behind.ensures.lines
+    c.in_ok-write_tree_behind-in-Tree.ensures.lines
+
+pub returns-in-Tree-clause-asked : goal.returns-in-Tree-clause-asked
+returns-in-Tree-clause-asked g c = λ asks.
+    let words : texts c.as_slice-in-Some.result.now ≡ words_of c.args.line.now = search (rules) in
+    let read : command_of (texts c.as_slice-in-Some.result.now) ≡ Ok c.in_ok-command-in-Some.command = c.in_ok-command-in-Some.ensures in
+    other_asks command.Tree c.args.world.now c.args.line.now (ap command_of (sym words) ∙ read ∙ ap Ok c.in-Tree.is) refl asks
+
+pub returns-in_err-write_tree_behind-in-SnapTree-clause-line : goal.returns-in_err-write_tree_behind-in-SnapTree-clause-line
+returns-in_err-write_tree_behind-in-SnapTree-clause-line g c =
+    let words : texts c.as_slice-in-Some.result.now ≡ words_of c.args.line.now = search (rules) in
+    let read : command_of (texts c.as_slice-in-Some.result.now) ≡ Ok c.in_ok-command-in-Some.command = c.in_ok-command-in-Some.ensures in
+    let p = err_from_is_err_and c.from_residual-in_err-write_tree_behind-in-SnapTree.result
+    c.from_residual-in_err-write_tree_behind-in-SnapTree.ensures.1 in
+    rw (p.1, p.2) (lists_line c.args.head.now (Err c.in_err-write_tree_behind-in-SnapTree.field-0) _ _ c.args.world.now c.in-Some.world
+    c.args.line.now c.write_tree_behind-in-SnapTree.new.out.items (command.SnapTree c.in-SnapTree.s) c.in-Some.is
+    (sym c.is_skipped.ensures ∙ c.if-is_skipped.false) (ap command_of (sym words) ∙ read ∙ ap Ok c.in-SnapTree.is) refl
+    (λ m shown. rw c.new.ensures at (c.in_err-write_tree_behind-in-SnapTree.ensures.lines m shown)))
 
 pub returns-in-SnapTree-clause-line : goal.returns-in-SnapTree-clause-line
 returns-in-SnapTree-clause-line g c =
     let words : texts c.as_slice-in-Some.result.now ≡ words_of c.args.line.now = search (rules) in
     let read : command_of (texts c.as_slice-in-Some.result.now) ≡ Ok c.in_ok-command-in-Some.command = c.in_ok-command-in-Some.ensures in
-    lists_line c.args.head.now c.write_tree_behind-in-SnapTree.result _ _ c.args.world.now c.in-Some.world c.args.line.now _
+    lists_line c.args.head.now (Ok tt) _ _ c.args.world.now c.in-Some.world c.args.line.now _
     (command.SnapTree c.in-SnapTree.s)
     c.in-Some.is (sym c.is_skipped.ensures ∙ c.if-is_skipped.false) (ap command_of (sym words) ∙ read ∙ ap Ok c.in-SnapTree.is) refl
-    (λ m shown. rw c.new.ensures at (c.write_tree_behind-in-SnapTree.ensures.lines m shown))
+    (λ m shown. rw c.new.ensures at (c.in_ok-write_tree_behind-in-SnapTree.ensures.lines m shown))
 
-pub returns-in_err-act-in_default-clause-line : goal.returns-in_err-act-in_default-clause-line
-returns-in_err-act-in_default-clause-line g c =
-    let p = err_from_is_err_and c.from_residual-in_err-act-in_default.result c.from_residual-in_err-act-in_default.ensures.1 in
+pub returns-in-SnapTree-clause-asked : goal.returns-in-SnapTree-clause-asked
+returns-in-SnapTree-clause-asked g c = λ asks.
+    let words : texts c.as_slice-in-Some.result.now ≡ words_of c.args.line.now = search (rules) in
+    let read : command_of (texts c.as_slice-in-Some.result.now) ≡ Ok c.in_ok-command-in-Some.command = c.in_ok-command-in-Some.ensures in
+    other_asks (command.SnapTree c.in-SnapTree.s) c.args.world.now c.args.line.now
+    (ap command_of (sym words) ∙ read ∙ ap Ok c.in-SnapTree.is) refl asks
+
+pub returns-in_err-asked-in_default-clause-line : goal.returns-in_err-asked-in_default-clause-line
+returns-in_err-asked-in_default-clause-line g c =
+    let p = err_from_is_err_and c.from_residual-in_err-asked-in_default.result c.from_residual-in_err-asked-in_default.ensures.1 in
     rw (p.1, p.2) (starved c.args.head.now _ c.args.world.now c.args.line.now c.act.new.out.items (Some c.act.new.world)
     (sym c.is_skipped.ensures ∙ c.if-is_skipped.false))
 
@@ -60,7 +95,7 @@ returns-in_err-add-in_default-clause-line g c =
     let p = err_from_is_err_and c.from_residual-in_err-add-in_default.result c.from_residual-in_err-add-in_default.ensures.1 in
     let plays = played c.args.world.now c.in-Some.world c.act.new.world c.args.line.now c.act.new.out.items
     c.in_ok-command-in-Some.command c.in-Some.is (sym c.is_skipped.ensures ∙ c.if-is_skipped.false)
-    (ap command_of (sym words) ∙ read) c.in_ok-act-in_default.ensures.acts in
+    (ap command_of (sym words) ∙ read) c.in_ok-asked-in_default.ensures.acts in
     rw (p.1, p.2) (unheaded c.args.head.now _ _ c.args.world.now (Some c.act.new.world) c.args.line.now c.act.new.out.items [] None plays
     c.in_err-add-in_default.ensures.sent)
 
@@ -70,5 +105,18 @@ returns-clause-line g c =
     let read : command_of (texts c.as_slice-in-Some.result.now) ≡ Ok c.in_ok-command-in-Some.command = c.in_ok-command-in-Some.ensures in
     let plays = played c.args.world.now c.in-Some.world c.act.new.world c.args.line.now c.act.new.out.items
     c.in_ok-command-in-Some.command c.in-Some.is (sym c.is_skipped.ensures ∙ c.if-is_skipped.false)
-    (ap command_of (sym words) ∙ read) c.in_ok-act-in_default.ensures.acts in
+    (ap command_of (sym words) ∙ read) c.in_ok-asked-in_default.ensures.acts in
     headed c.args.head.now _ _ c.args.world.now (Some c.act.new.world) c.args.line.now c.act.new.out.items plays c.in_ok-add-in_default.ensures.sent
+
+pub returns-clause-asked : goal.returns-clause-asked
+returns-clause-asked g c = λ asks.
+    let words : texts c.as_slice-in-Some.result.now ≡ words_of c.args.line.now = search (rules) in
+    let read : command_of (texts c.as_slice-in-Some.result.now) ≡ Ok c.in_ok-command-in-Some.command = c.in_ok-command-in-Some.ensures in
+    c.in_ok-asked-in_default.ensures.asked (asks_by c.args.world.now c.args.line.now _ (ap command_of (sym words) ∙ read) asks)
+
+pub returns-in-None-clause-asked : goal.returns-in-None-clause-asked
+returns-in-None-clause-asked g c = λ asks. no_world_asks c.args.world.now c.args.line.now c.in-None.is asks
+
+pub returns-then-is_skipped-clause-asked : goal.returns-then-is_skipped-clause-asked
+returns-then-is_skipped-clause-asked g c = λ asks.
+    skipped_asks c.args.world.now c.args.line.now (sym c.is_skipped.ensures ∙ c.if-is_skipped.true) asks
