@@ -141,7 +141,7 @@ static COMMANDS: [Form; 12] = [
         name: b"format",
         parts: &SETTINGS,
         optional: 0,
-        about: "makes an empty file system of these numbers; comes first, and once",
+        about: "makes an empty file system; comes first, and once",
     },
     Form {
         name: b"do",
