@@ -72,7 +72,7 @@ impl<'a, T: Clock + Eprint> Progress<'a, T> {
 
     /// Tells how many lines and commits were made in a time.
     fn tell(&self, done: u64, commits: u64, time: Duration) {
-        let each = done / time.as_secs().max(1);
+        let each = per_second(done, time);
         let _told = match self.lines {
             Some(lines) => eprint!(self.rt;
                 "{AWAY}{done} of {lines} lines, {each} a second, {commits} commits"
@@ -96,6 +96,13 @@ impl<'a, T: Clock + Eprint> Progress<'a, T> {
             self.shown.set(false);
         }
     }
+}
+
+/// How many lines a second so many are in a time.
+fn per_second(lines: u64, time: Duration) -> u64 {
+    let seconds = time.as_secs().saturating_mul(1000);
+    let millis = seconds.saturating_add(u64::from(time.subsec_millis()));
+    lines.saturating_mul(1000) / millis.max(1)
 }
 
 /// How many commits were made. It goes over all records, and tells of none where it gets no memory.

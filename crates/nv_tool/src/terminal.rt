@@ -84,28 +84,55 @@ impl<'a, T: Eprint> Session<'a, T> {
         reader: &mut R,
         writer: &mut W,
     ) -> Result<bool, Fault> {
+        if !self.take(player, number, reader, writer)? {
+            return Ok(false);
+        }
+        self.answer(player, number, writer)?;
+        let mut writer = TallyWriter::new(self.alloc, writer, &mut self.tally);
+        player.outbox.end(&mut writer, Ok(()))?;
+        self.recent.add(self.alloc, b"\n");
+        Ok(true)
+    }
+
+    /// Takes the line of this number, and says whether there is one.
+    fn take<R: Read, W: Write>(
+        &mut self,
+        player: &mut Player,
+        number: u64,
+        reader: &mut R,
+        writer: &mut W,
+    ) -> Result<bool, Fault> {
         let mut reader = ReadCounter::new(reader);
         let mut writer = TallyWriter::new(self.alloc, writer, &mut self.tally);
         let taken = player.take(number, &mut reader, &mut writer);
         self.recent.add(self.alloc, player.line.as_slice());
-        if taken != Ok(true) {
+        if !matches!(taken, Ok(true)) {
             // No line end was typed.
             say(self.rt, "\n");
-            return taken;
         }
-        if !help(self.rt, self.alloc, player.line.as_slice())? {
-            match player.play_sound(self.alloc, &mut writer) {
-                Ok(None) => {}
-                Ok(Some(kind)) => {
-                    let fault = Fault::ScriptFault(kind, number);
-                    tell(self.rt, self.alloc, &fault, &self.recent)?;
-                }
-                Err(fault) => return Err(ending_of(number, fault)),
+        taken
+    }
+
+    /// Answers the line that was taken last: with help, with its fault, or as the player does.
+    fn answer<W: Write>(
+        &mut self,
+        player: &mut Player,
+        number: u64,
+        writer: &mut W,
+    ) -> Result<(), Fault> {
+        if help(self.rt, self.alloc, player.line.as_slice())? {
+            return Ok(());
+        }
+        let mut writer = TallyWriter::new(self.alloc, writer, &mut self.tally);
+        match player.play_sound(self.alloc, &mut writer) {
+            Ok(None) => Ok(()),
+            Ok(Some(kind)) => {
+                let fault = Fault::ScriptFault(kind, number);
+                tell(self.rt, self.alloc, &fault, &self.recent)?;
+                Ok(())
             }
+            Err(fault) => Err(ending_of(number, fault)),
         }
-        player.outbox.end(&mut writer, Ok(()))?;
-        self.recent.add(self.alloc, b"\n");
-        Ok(true)
     }
 }
 

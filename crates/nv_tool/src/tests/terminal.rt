@@ -149,9 +149,9 @@ fn help_shows_all_commands_and_calls(rt: HostRuntime) -> Result<(), AllocError> 
 /// What is told of a script of eighteen lines, where the clock is read before each and once more where something is told.
 const SHOWN: &str = "\
 \r\x1b[K9 of 18 lines, 9 a second, 8 commits\
-\r\x1b[K12 of 18 lines, 12 a second, 11 commits\
-\r\x1b[K15 of 18 lines, 15 a second, 14 commits\
-\r\x1b[K18 of 18 lines, 9 a second, 17 commits\
+\r\x1b[K12 of 18 lines, 8 a second, 11 commits\
+\r\x1b[K15 of 18 lines, 8 a second, 14 commits\
+\r\x1b[K18 of 18 lines, 8 a second, 17 commits\
 \r\x1b[K";
 
 /// Plays a script of eighteen lines, of which each but the first makes a commit, and says what was told.
