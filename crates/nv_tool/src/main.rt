@@ -81,11 +81,11 @@ pub(crate) struct Terminals {
 }
 
 /// Plays a script of this name as it is asked for.
-fn play_by<R: AllocGlobal + Clock + Eprint, S: Read, W: Write>(
+fn play_by<'p, R: AllocGlobal + Clock + Eprint, S: Read, W: Write>(
     rt: &R,
     script: &str,
     manner: Manner,
-    progress: Option<&Progress<'_, R>>,
+    progress: Option<&'p Progress<'p, R>>,
     reader: &mut S,
     writer: &mut W,
 ) -> Told {

@@ -70,11 +70,11 @@ impl Told {
 }
 
 /// Plays a script of this name. The writer gets what [`play_counted_and_leave`] writes, and nothing of what is told of it.
-pub(crate) fn play_told<R: Read, W: Write, T: Clock + Eprint>(
+pub(crate) fn play_told<'p, R: Read, W: Write, T: Clock + Eprint>(
     alloc: Global,
     script: &str,
     summary: bool,
-    progress: Option<&Progress<'_, T>>,
+    progress: Option<&'p Progress<'p, T>>,
     reader: &mut R,
     writer: &mut W,
 ) -> Told
@@ -90,9 +90,9 @@ pub(crate) fn play_told<R: Read, W: Write, T: Clock + Eprint>(
 }
 
 /// Plays a script, keeps the lines that are read last, and counts the refusals where that is asked for.
-fn play_kept<R: Read, W: Write, T: Clock + Eprint>(
+fn play_kept<'p, R: Read, W: Write, T: Clock + Eprint>(
     alloc: Global,
-    progress: Option<&Progress<'_, T>>,
+    progress: Option<&'p Progress<'p, T>>,
     reader: &mut R,
     writer: &mut W,
     recent: &mut Recent,
@@ -116,11 +116,11 @@ fn play_kept<R: Read, W: Write, T: Clock + Eprint>(
 
 /// Plays a script of this name, and writes each command before its answers. The writer gets what [`echo_counted_and_leave`]
 /// writes, and nothing of what is told of it.
-pub(crate) fn echo_told<R: Read, W: Write, T: Clock + Eprint>(
+pub(crate) fn echo_told<'p, R: Read, W: Write, T: Clock + Eprint>(
     alloc: Global,
     script: &str,
     summary: bool,
-    progress: Option<&Progress<'_, T>>,
+    progress: Option<&'p Progress<'p, T>>,
     reader: &mut R,
     writer: &mut W,
 ) -> Told
@@ -136,9 +136,9 @@ pub(crate) fn echo_told<R: Read, W: Write, T: Clock + Eprint>(
 }
 
 /// The same with the lines that are kept and the refusals that are counted.
-fn echo_kept<R: Read, W: Write, T: Clock + Eprint>(
+fn echo_kept<'p, R: Read, W: Write, T: Clock + Eprint>(
     alloc: Global,
-    progress: Option<&Progress<'_, T>>,
+    progress: Option<&'p Progress<'p, T>>,
     reader: &mut R,
     writer: &mut W,
     recent: &mut Recent,
