@@ -11,7 +11,7 @@ use Rattle.nv_script.specs.declared.fault.LineFault.{LineFault}
 use Rattle.nv_script.specs.declared.fault.LineFault.TheVariants as line_fault
 use Rattle.nv_script.specs.Grammar.{is_skipped}
 use Rattle.nv_script.specs.Play.{LineFails}
-use Rattle.nv_script.specs.Results.{AnswersLine, Sent}
+use Rattle.nv_script.specs.Results.{AnswersLine, Sent, failed_in_line}
 use Rattle.nv_script.specs.Sound.{AnswersSound, HasShown, IsSound, LooksAt}
 use Rattle.nv_script.proofs.Handed.{sends_none}
 
@@ -51,6 +51,12 @@ not_looked (line_fault.Faulty kind) s world made slice line same other is = absu
 not_looked line_fault.Write s world made slice line same other is = absurd is
 not_looked (line_fault.OutOfMemory witness) s world made slice line same other is =
     (tt, λ m shown run. ([], (subst (λ (bytes : List ℕ). is_skipped bytes ≡ false) same is, inl refl), sends_none s))
+
+pub none_failed : (why : LineFault) (made : Bool) (line : List ℕ) → LooksAt (Err why) made line
+    → failed_in_line {A = Option ScriptFaultKind} (Err why) ≡ 0
+none_failed (line_fault.OutOfMemory witness) made line is = refl
+none_failed line_fault.Write made line is = absurd is
+none_failed (line_fault.Faulty kind) made line is = refl
 
 pub sound_at : (world : Option WorldState) (made : Bool) (slice line : List ℕ) → made ≡ is_some world → slice ≡ line
     → LooksAt (Ok tt) made slice → IsSound (is_some world) line

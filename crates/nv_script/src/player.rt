@@ -262,8 +262,10 @@ impl Player {
                 self.play_taken(alloc, writer)?;
                 Ok(None)
             }
-            Err(LineFault::Faulty(kind)) => Ok(Some(kind)),
-            Err(fault) => Err(fault),
+            Err(fault) => match fault {
+                LineFault::Faulty(kind) => Ok(Some(kind)),
+                _ => Err(fault),
+            },
         }
     }
 

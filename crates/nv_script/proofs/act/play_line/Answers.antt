@@ -2,6 +2,7 @@ use Rattle.std.proofs.Common.{◌≡◌, ◌∙◌, [], None, Err, Ok, Some, ap,
 use Rattle.std.proofs.lemmas.Result.{err_from_is_err_and}
 use Rattle.nv_script.specs.declared.command.Command.TheVariants as command
 use Rattle.nv_script.specs.Grammar.{command_of, format_of, texts}
+use Rattle.nv_script.specs.Results.{Sent}
 use Rattle.nv_script.specs.Words.{words_of}
 use Rattle.nv_script.proofs.Asking.{asks_by, no_world_asks, other_asks, skipped_asks}
 use Rattle.nv_script.proofs.Played.{formats, headed, lists_line, played, starved, unheaded}
@@ -37,7 +38,7 @@ returns-in_err-write_tree_behind-in-Tree-clause-line g c =
     let read : command_of (texts c.as_slice-in-Some.result.now) ≡ Ok c.in_ok-command-in-Some.command = c.in_ok-command-in-Some.ensures in
     let p = err_from_is_err_and c.from_residual-in_err-write_tree_behind-in-Tree.result
     c.from_residual-in_err-write_tree_behind-in-Tree.ensures.1 in
-    rw (p.1, p.2) (lists_line c.args.head.now (Err c.in_err-write_tree_behind-in-Tree.field-0) _ _ c.args.world.now c.in-Some.world
+    rw (p.1, p.2) (lists_line c.args.head.now (Err c.in_err-write_tree_behind-in-Tree.field-0.0) _ _ c.args.world.now c.in-Some.world
     c.args.line.now c.write_tree_behind.new.out.items command.Tree c.in-Some.is (sym c.is_skipped.ensures ∙ c.if-is_skipped.false)
     (ap command_of (sym words) ∙ read ∙ ap Ok c.in-Tree.is) refl c.in_err-write_tree_behind-in-Tree.ensures.lines)
 
@@ -45,8 +46,12 @@ pub returns-in-Tree-clause-line : goal.returns-in-Tree-clause-line
 returns-in-Tree-clause-line g c =
     let words : texts c.as_slice-in-Some.result.now ≡ words_of c.args.line.now = search (rules) in
     let read : command_of (texts c.as_slice-in-Some.result.now) ≡ Ok c.in_ok-command-in-Some.command = c.in_ok-command-in-Some.ensures in
-    lists_line c.args.head.now (Ok tt) _ _ c.args.world.now c.in-Some.world c.args.line.now _ command.Tree c.in-Some.is
-    (sym c.is_skipped.ensures ∙ c.if-is_skipped.false) (ap command_of (sym words) ∙ read ∙ ap Ok c.in-Tree.is) refl
+    let to : Sent = record {
+      written = g.W.CountedWrite.contents c.write_tree_behind.new.writer;
+      gathered = c.write_tree_behind.new.outbox;
+    } in
+    lists_line c.args.head.now (Ok tt) _ to c.args.world.now c.in-Some.world c.args.line.now c.write_tree_behind.new.out.items command.Tree
+    c.in-Some.is (sym c.is_skipped.ensures ∙ c.if-is_skipped.false) (ap command_of (sym words) ∙ read ∙ ap Ok c.in-Tree.is) refl
     c.in_ok-write_tree_behind-in-Tree.ensures.lines
 
 pub returns-in-Tree-clause-asked : goal.returns-in-Tree-clause-asked
@@ -61,7 +66,7 @@ returns-in_err-write_tree_behind-in-SnapTree-clause-line g c =
     let read : command_of (texts c.as_slice-in-Some.result.now) ≡ Ok c.in_ok-command-in-Some.command = c.in_ok-command-in-Some.ensures in
     let p = err_from_is_err_and c.from_residual-in_err-write_tree_behind-in-SnapTree.result
     c.from_residual-in_err-write_tree_behind-in-SnapTree.ensures.1 in
-    rw (p.1, p.2) (lists_line c.args.head.now (Err c.in_err-write_tree_behind-in-SnapTree.field-0) _ _ c.args.world.now c.in-Some.world
+    rw (p.1, p.2) (lists_line c.args.head.now (Err c.in_err-write_tree_behind-in-SnapTree.field-0.0) _ _ c.args.world.now c.in-Some.world
     c.args.line.now c.write_tree_behind-in-SnapTree.new.out.items (command.SnapTree c.in-SnapTree.s) c.in-Some.is
     (sym c.is_skipped.ensures ∙ c.if-is_skipped.false) (ap command_of (sym words) ∙ read ∙ ap Ok c.in-SnapTree.is) refl
     (λ m shown. rw c.new.ensures at (c.in_err-write_tree_behind-in-SnapTree.ensures.lines m shown)))
@@ -70,7 +75,11 @@ pub returns-in-SnapTree-clause-line : goal.returns-in-SnapTree-clause-line
 returns-in-SnapTree-clause-line g c =
     let words : texts c.as_slice-in-Some.result.now ≡ words_of c.args.line.now = search (rules) in
     let read : command_of (texts c.as_slice-in-Some.result.now) ≡ Ok c.in_ok-command-in-Some.command = c.in_ok-command-in-Some.ensures in
-    lists_line c.args.head.now (Ok tt) _ _ c.args.world.now c.in-Some.world c.args.line.now _
+    let to : Sent = record {
+      written = g.W.CountedWrite.contents c.write_tree_behind-in-SnapTree.new.writer;
+      gathered = c.write_tree_behind-in-SnapTree.new.outbox;
+    } in
+    lists_line c.args.head.now (Ok tt) _ to c.args.world.now c.in-Some.world c.args.line.now c.write_tree_behind-in-SnapTree.new.out.items
     (command.SnapTree c.in-SnapTree.s)
     c.in-Some.is (sym c.is_skipped.ensures ∙ c.if-is_skipped.false) (ap command_of (sym words) ∙ read ∙ ap Ok c.in-SnapTree.is) refl
     (λ m shown. rw c.new.ensures at (c.in_ok-write_tree_behind-in-SnapTree.ensures.lines m shown))
