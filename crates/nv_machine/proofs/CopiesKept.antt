@@ -25,7 +25,7 @@ use Rattle.nv_machine.proofs.SnapshotCopies.{AreAlike, Lives, deed_alike, lived,
 
 -- ---- who lives after a deed lived before it, but for a new snapshot
 
-work_lives : (d : Deed) (l : Living) (n : ℕ) → is_make d ≡ false → Lives (snaps_after d l) n → Lives l n
+pub work_lives : (d : Deed) (l : Living) (n : ℕ) → is_make d ≡ false → Lives (snaps_after d l) n → Lives l n
 work_lives (Maintains Make) l n e is = cc
 work_lives (Maintains (Drop snapshot)) l n e is = lived_then l n snapshot is
 work_lives (Maintains (Pin snapshot)) l n e is = lived l n snapshot (λ pins. pins + 1) is

@@ -65,7 +65,7 @@ kind_is other written t e = cc
 
 -- ---- it leaves cells and journals
 
-abbrev Leaves : Shared → Shared → Type 0
+abbrev pub Leaves : Shared → Shared → Type 0
 Leaves s t = (t.cells ≡ s.cells) × (t.book.journals ≡ s.book.journals)
 
 made_keeps : (k : Next) (block a : ℕ) (granted : Bool) (s : Shared) (h : HandState) (r : Running) → k ≡ Maintenance Make
@@ -74,7 +74,7 @@ made_keeps k block a granted s h r e =
     subst (λ (n : Next). AfterTurn (λ (t : Shared) (x : HandState). Leaves s t) (kind_turn n block a granted s h r)) (sym e)
     (turn_keeps (λ (t : Shared) (x : HandState). Leaves s t) (Maintenance Make) block a granted s h r (refl, refl) (refl, refl))
 
-event_leaves : (w : World) (e : Event) → is_make (deed_of w e) ≡ true → Leaves w.shared (step w e).world.shared
+pub event_leaves : (w : World) (e : Event) → is_make (deed_of w e) ≡ true → Leaves w.shared (step w e).world.shared
 event_leaves w e = event_deed (λ (d : Deed) (v : World). is_make d ≡ true → Leaves w.shared v.shared) w (λ make. cc) e
     (λ actor c there is make. cc)
     (λ actor granted r there is make. turned_shared (Leaves w.shared) (turn_at w actor granted r) actor w (refl, refl)
@@ -94,14 +94,14 @@ make_copies w e made epoch handle =
 
 -- ---- the nodes at the end of this epoch are those of now
 
-all_up : (commit epoch : ℕ) (log : List Entry) → AllByRecursion (λ (e : Entry). (e.id.commit < commit) × (e.epoch ≤ epoch)) log
+pub all_up : (commit epoch : ℕ) (log : List Entry) → AllByRecursion (λ (e : Entry). (e.id.commit < commit) × (e.epoch ≤ epoch)) log
     → up_to epoch log ≡ log
 all_up commit epoch [] all = refl
 all_up commit epoch (e ∷ log) all =
     ap (λ (b : Bool). cond b (e ∷ up_to epoch log) (up_to epoch log)) (le-leb e.epoch epoch all.0.1)
     ∙ ap (λ (l : List Entry). e ∷ l) (all_up commit epoch log all.1)
 
-all_front : (P : Entry → Type 0) (n : ℕ) (log : List Entry) → AllByRecursion P log → AllByRecursion P (take n log)
+pub all_front : (P : Entry → Type 0) (n : ℕ) (log : List Entry) → AllByRecursion P log → AllByRecursion P (take n log)
 all_front P zero [] all = tt
 all_front P (suc n) [] all = tt
 all_front P zero (e ∷ log) all = tt

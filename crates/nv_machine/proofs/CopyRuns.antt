@@ -63,7 +63,7 @@ appending_commits Close written ino e = refl
 appending_commits other written ino e = cc
 
 module _ (w : World) (known : IsReached w) (epoch : ℕ) (lt : epoch < w.shared.book.snaps.epoch) where
-  own_later : (actor : ℕ) (r : Running) → (actor_at w actor).running ≡ Some r → commits_at r.next ≡ true → epoch < r.epoch
+  pub own_later : (actor : ℕ) (r : Running) → (actor_at w actor).running ≡ Some r → commits_at r.next ≡ true → epoch < r.epoch
   own_later actor r is commits =
       let in_order : CommitsIn w.shared (Some r) = subst (CommitsIn w.shared) is (known.order.each actor) in
       let same = (in_order commits).epoch in

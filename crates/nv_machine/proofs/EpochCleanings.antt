@@ -57,11 +57,11 @@ dies_by block epoch (e ∷ log) rest key all is =
     go false is rec = rec is
 
 -- the part of a pair that the epoch holds, by its number
-record IsUncovered (block : ℕ) (log : List Entry) (n : ℕ) : Type 0 where
-  low : n < part_total log
-  uncovered : is_covered block log n ≡ false
+pub record IsUncovered (block : ℕ) (log : List Entry) (n : ℕ) : Type 0 where
+  pub low : n < part_total log
+  pub uncovered : is_covered block log n ≡ false
 
-held_uncovered : (block epoch : ℕ) (log rest : List Entry) (n : ℕ) (pair : Pair)
+pub held_uncovered : (block epoch : ℕ) (log rest : List Entry) (n : ℕ) (pair : Pair)
     → AllByRecursion (λ (e : Entry). e.epoch ≤ epoch) log → AreAfter epoch rest
     → slice_get (pairs block (log ++ rest)) n ≡ Some pair → holds epoch pair ≡ true → IsUncovered block log n
 held_uncovered block epoch [] rest n pair all after is held =

@@ -77,7 +77,7 @@ module _ (g : GeometryNumbers) (w : World) (known : IsKnown g w) (actor : ℕ) (
   free : IsFree (settled_slots w.shared) r.made
   free = passed.free makes
 
-  not_used : IsUsed w.shared r.made → ⊥
+  pub not_used : IsUsed w.shared r.made → ⊥
   not_used (inl past) = let own = free.own in omega (arith, own, past)
   not_used (inr own) =
       let none = ap (λ (l : List Entry). length l) free.empty in
@@ -120,7 +120,7 @@ module _ (g : GeometryNumbers) (w : World) (known : IsKnown g w) (actor : ℕ) (
 
 -- ---- all that were made are used
 
-used_as : (s : Shared) (a b : Handle) → same_handle a b ≡ true → IsUsed s a → IsUsed s b
+pub used_as : (s : Shared) (a b : Handle) → same_handle a b ≡ true → IsUsed s a → IsUsed s b
 used_as s a b same used =
     let parts = and_parts (a.ino == b.ino) (a.generation == b.generation) same in
     subst (λ (n : ℕ). IsUsedAt s n b.generation) (eqb-true a.ino b.ino parts.0)
@@ -147,7 +147,7 @@ module _ (g : GeometryNumbers) (w : World) (known : IsKnown g w) (handle : Handl
   none_made Commits running keeps made = cc
   none_made other running keeps made = cc
 
-  event_made : (e : Event) → has_handle (made_at (deed_of w e) (actor_at w (actor_of e)).running) handle ≡ true
+  pub event_made : (e : Event) → has_handle (made_at (deed_of w e) (actor_at w (actor_of e)).running) handle ≡ true
       → IsUsed (step w e).world.shared handle
   event_made = by_points w (λ (e : Event). has_handle (made_at (deed_of w e) (actor_at w (actor_of e)).running) handle ≡ true
       → IsUsed (step w e).world.shared handle)
@@ -158,7 +158,7 @@ module _ (g : GeometryNumbers) (w : World) (known : IsKnown g w) (handle : Handl
       (now_used g w known actor granted r there is e one.makes))
       (λ e keeps made. absurd (none_made (deed_of w e) (actor_at w (actor_of e)).running keeps made))
 
-has_either : (xs ys : List Handle) (handle : Handle) → has_handle (xs ++ ys) handle ≡ true
+pub has_either : (xs ys : List Handle) (handle : Handle) → has_handle (xs ++ ys) handle ≡ true
     → (has_handle xs handle ≡ true) ⊎ (has_handle ys handle ≡ true)
 has_either [] ys handle e = inr e
 has_either (x ∷ xs) ys handle e = elim (or_cases (same_handle x handle) (has_handle (xs ++ ys) handle) e) [
@@ -181,7 +181,7 @@ events_made g (e ∷ events) w handle known made =
     ]
 
 -- a handle that leads to a node is used
-node_used : (s : Shared) (handle : Handle) → IsSome (node_in (settled_nodes s) handle) → IsUsed s handle
+pub node_used : (s : Shared) (handle : Handle) → IsSome (node_in (settled_nodes s) handle) → IsUsed s handle
 node_used s handle some = let there = node_there s handle some in inr (sym there.0, there.1)
 
 -- ---- the laws
