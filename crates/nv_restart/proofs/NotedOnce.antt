@@ -27,7 +27,7 @@ NotesOnce s = are_apart (all_notes s.book.journals) ≡ true
 
 -- ---- lists of notes
 
-none_noted : (journals : List (List OldTail)) → AreClosed journals → all_notes journals ≡ []
+pub none_noted : (journals : List (List OldTail)) → AreClosed journals → all_notes journals ≡ []
 none_noted [] closed = refl
 none_noted (tails ∷ journals) closed = rw (closed.0, none_noted journals closed.1) refl
 

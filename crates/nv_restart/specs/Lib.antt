@@ -1,2 +1,4 @@
 pub mod Mounted
+pub mod Restarted
 pub mod Snapshots
+pub mod Stops

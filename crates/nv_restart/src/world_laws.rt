@@ -3,13 +3,15 @@
 
 ghost use Rattle.std.specs.Prelude.{◌≡◌, List, true};
 ghost use Rattle.nv_audit.specs.Image.{all_notes};
-ghost use Rattle.nv_audit.specs.Mounted.{are_apart};
+ghost use Rattle.nv_audit.specs.Mounted.{are_apart, are_journals_good};
 ghost use Rattle.nv_base.specs.declared.geometry.GeometryNumbers.{GeometryNumbers};
 ghost use Rattle.nv_book.specs.declared.record.Record.{Record};
 ghost use Rattle.nv_machine.specs.Starts.{IsStart};
 ghost use Rattle.nv_machine.specs.Step.{after};
 ghost use Rattle.nv_machine.specs.World.{Event, World};
+ghost use Rattle.nv_restart.specs.Restarted.{image_of};
 ghost use Rattle.nv_restart.specs.Snapshots.{SnapshotsFit};
+ghost use Rattle.nv_restart.specs.Stops.{AreHeldLawful, AreInRange};
 
 /// From any start on, no inode stands twice in what the open journals have noted.
 pub fn journals_note_no_inode_twice()
@@ -24,4 +26,27 @@ pub fn snapshots_stay_few()
     ensures { (g : GeometryNumbers) (start : World) (records : List Record) (events : List Event)
         → IsStart g start records → SnapshotsFit start.shared.book.snaps
         → SnapshotsFit (after start events).shared.book.snaps }
+{}
+
+/// From a start on whose generations are in their range, and where a slot of the last one has no
+/// page, so it stays.
+pub fn generations_stay_in_range()
+    ensures { (g : GeometryNumbers) (start : World) (records : List Record) (events : List Event)
+        → IsStart g start records → AreInRange start.shared
+        → AreInRange (after start events).shared }
+{}
+
+/// From a start on where each settled log of which a living snapshot holds a pair is lawful from
+/// nothing on, so it stays, also where the inode is gone.
+pub fn held_logs_stay_lawful()
+    ensures { (g : GeometryNumbers) (start : World) (records : List Record) (events : List Event)
+        → IsStart g start records → AreHeldLawful g.block start.shared
+        → AreHeldLawful g.block (after start events).shared }
+{}
+
+/// What the open journals have noted is of inodes that have a page, and within their tails.
+pub fn journals_note_what_is_there()
+    ensures { (g : GeometryNumbers) (start : World) (records : List Record) (events : List Event)
+        → IsStart g start records
+        → are_journals_good (image_of (after start events)) ≡ true }
 {}
