@@ -1,33 +1,30 @@
 -- What holds of the cells, blocks and free lists that a mount makes of an image without a fault.
-use Rattle.std.proofs.Common.{◌≡◌, ℕ, ◌+◌, ◌<◌, ◌≤◌, ◌==◌, ◌++◌, ◌∙◌, inl, inr, Bool, true, false, cond, nat_lt, List, [], ◌∷◌, Option, Some, None, ap, arith, length, refl, subst, sym}
-use Rattle.std.specs.Prelude.{if◌then◌else◌, option_and_then, slice_index_or}
+use Rattle.std.proofs.Common.{◌≡◌, ℕ, ◌+◌, ◌<◌, ◌≤◌, ◌++◌, ◌∙◌, inl, inr, Bool, true, false, cond, nat_lt, List, Some, None, ap, arith, length, refl, subst, sym}
+use Rattle.std.specs.Prelude.{if◌then◌else◌, slice_index_or}
 use Rattle.std.specs.List.{flat_map, range_with_len}
 use Rattle.std.specs.Option.{option_map}
-use Rattle.std.proofs.lemmas.Bool.{cases_lt, eqb-true}
+use Rattle.std.proofs.lemmas.Bool.{cases_lt}
 use Rattle.std.proofs.lemmas.List.{get_or_past}
-use Rattle.std.proofs.lemmas.List.FromFn.{get_or-map-range_with_len, length-map-range_with_len}
-use Rattle.std.proofs.lemmas.Option.{none-some, same_Some}
+use Rattle.std.proofs.lemmas.List.FromFn.{get_or-map-range_with_len}
 use Rattle.nv_alloc.specs.Block.{AreSized, BlockValue, block_by, number_of, numbers_of}
 use Rattle.nv_alloc.specs.FreeList.{IsHomeList}
 use Rattle.nv_alloc.specs.Numbers.{IsEachOnce, has, times}
 use Rattle.nv_alloc.proofs.Lists.{times-append}
 use Rattle.nv_audit.specs.Faults.{AreOrdered, FitsGeometry, FitsSlot, IsFaultless, IsNeededPage}
 use Rattle.nv_audit.specs.Image.{ImageValue, SlotImageValue, image_blocks, image_numbers, no_slot, slot_numbers, slot_of}
-use Rattle.nv_audit.specs.Mounted.{block_anew, cell_of, cell_with, cut_log, free_block, is_over, list_anew, marks_anew, tail_of, used_anew}
+use Rattle.nv_audit.specs.Mounted.{cell_of, cell_with, cut_log, free_block, is_over, list_anew, tail_of, used_anew}
 use Rattle.nv_base.specs.Limits.{IsWithinLimits}
 use Rattle.nv_base.specs.declared.fault.ImageFault.TheVariants as fault
 use Rattle.nv_base.specs.declared.geometry.GeometryNumbers.{GeometryNumbers}
 use Rattle.nv_cell.specs.Cell.{CellState, IsCell, empty_cell, log_of, of_part, page_block, stored_in}
-use Rattle.nv_cell.specs.Marks.{is_there, mark_at}
-use Rattle.nv_cell.specs.declared.mark.Mark.{Mark}
 use Rattle.nv_cell.proofs.ValuesNow.{IsLog-take}
-use Rattle.nv_entry.specs.Covered.{part_total}
 use Rattle.nv_entry.specs.Log.{IsLog}
 use Rattle.nv_entry.specs.declared.item.Entry.{Entry}
 use Rattle.nv_log.specs.Image.{IsPaged}
 use Rattle.nv_machine.specs.Kept.{AreApart}
 use Rattle.nv_machine.specs.Numbers.{all_blocks, free_of, held_by_actor}
 use Rattle.nv_machine.specs.World.{World, cell_at, no_cell, no_list}
+use Rattle.nv_restart.proofs.BlocksAnew.{apart_anew, told}
 use Rattle.nv_restart.proofs.Cells.{cell_is, empty_is, log_is}
 use Rattle.nv_restart.proofs.Slots.{by_cell, cell_past, cell_there}
 use Rattle.nv_restart.proofs.FreeLists.{each_once, fewer_parts, its_block, list_home}
@@ -135,91 +132,23 @@ module _ (image : ImageValue) (limits : IsWithinLimits image.numbers)
 
   pub apart : (ino : ℕ) → ino < length image.slots → IsOver ino ≡ false
       → AreApart (its_cell ino).blocks
-  apart ino lt left n m b c at_n at_m same =
-      let one = told n b at_n in
-      let two = told m c at_m in
-      let run : OnceFor (its_cell ino) =
-      subst OnceFor (left_is ino left) (faultless fault.Run ino lt).once in
-      run n m b.number (record { there = one.0; says = one.1 })
-      (record { there = two.0; says = two.1 ∙ ap (λ (x : ℕ). Some x) (sym same) })
-    where
-      abbrev_log : List Entry
-      abbrev_log = cut_log image ino
+  apart ino lt left =
+      apart_anew g image.snapshots (tail_of image ino) (slot_of image ino)
+      (λ n m number there also says other.
+      run n m number (record { there = there; says = own n ∙ says })
+      (record { there = also; says = own m ∙ other })) where
+        run : OnceFor (its_cell ino)
+        run = subst OnceFor (left_is ino left) (faultless fault.Run ino lt).once
 
-      marks : List Mark
-      marks = marks_anew image.snapshots g.block (cut_log image ino)
-
-      its_number : (number : ℕ) (x : BlockValue) (blocks : List BlockValue)
-          → block_by blocks number ≡ Some x → x.number ≡ number
-      its_number number x [] e = cc
-      its_number number x (y ∷ blocks) e =
-          go (y.number == number) refl e (its_number number x blocks) where
-            go : (d : Bool) → (y.number == number) ≡ d
-                → cond d (Some y) (block_by blocks number) ≡ Some x
-                → (block_by blocks number ≡ Some x → x.number ≡ number) → x.number ≡ number
-            go true q e more = ap (λ (z : BlockValue). z.number) (sym (same_Some y x e))
-                ∙ eqb-true y.number number q
-            go false q e more = more e
-
-      of : (k : ℕ) (x : BlockValue) (d : Bool) → is_there (mark_at marks k) ≡ d → (o : Option ℕ)
-          → page_block g.block (cut_log image ino) k ≡ o
-          → cond d (option_and_then (block_by (slot_of image ino).blocks) o) None ≡ Some x
-          → (is_there (mark_at marks k) ≡ true)
-          × (page_block g.block (cut_log image ino) k ≡ Some x.number)
-      of k x false e o says is = absurd (none-some x is)
-      of k x true e None says is = absurd (none-some x is)
-      of k x true e (Some number) says is = (
-        e,
-        says ∙ ap (λ (z : ℕ). Some z)
-            (sym (its_number number x (slot_of image ino).blocks is)),
-      )
-
-      told : (k : ℕ) (x : BlockValue) → slice_index_or (its_cell ino).blocks k None ≡ Some x
-          → (is_there (mark_at marks k) ≡ true)
-          × (page_block g.block (log_of (its_cell ino)) k ≡ Some x.number)
-      told k x is = elim (cases_lt k (part_total (cut_log image ino))) [
-        | inl low ↦
-            let at = get_or-map-range_with_len
-            (block_anew (slot_of image ino).blocks g.block (cut_log image ino) marks) 0
-            (part_total (cut_log image ino)) k k None low (omega arith) in
-            let both = of k x (is_there (mark_at marks k)) refl
-            (page_block g.block (cut_log image ino) k) refl (sym at ∙ is) in
-            (both.0, ap (λ (l : List Entry). page_block g.block l k) (whole ino) ∙ both.1)
-        | inr past ↦ absurd (none-some x (sym (get_or_past (its_cell ino).blocks k None
-            (omega (
-              arith,
-              past,
-              length-map-range_with_len
-                  (block_anew (slot_of image ino).blocks g.block (cut_log image ino) marks) 0
-                  (part_total (cut_log image ino)),
-            ))) ∙ is))
-      ]
+        own : (k : ℕ) → page_block g.block (log_of (its_cell ino)) k
+            ≡ page_block g.block (cut_log image ino) k
+        own k = ap (λ (l : List Entry). page_block g.block l k) (whole ino)
 
   pub among : (ino m : ℕ) (b : BlockValue) → slice_index_or (its_cell ino).blocks m None ≡ Some b
       → has (numbers_of (slot_of image ino).blocks) b.number ≡ true
-  among ino m b is = elim (cases_lt m (part_total (cut_log image ino))) [
-    | inl low ↦ of (is_there (mark_at marks m)) (page_block g.block (cut_log image ino) m)
-        (sym (get_or-map-range_with_len
-        (block_anew (slot_of image ino).blocks g.block (cut_log image ino) marks) 0
-        (part_total (cut_log image ino)) m m None low (omega arith)) ∙ is)
-    | inr past ↦ absurd (none-some b (sym (get_or_past (its_cell ino).blocks m None
-        (omega (
-          arith,
-          past,
-          length-map-range_with_len
-              (block_anew (slot_of image ino).blocks g.block (cut_log image ino) marks) 0
-              (part_total (cut_log image ino)),
-        ))) ∙ is))
-  ] where
-    marks : List Mark
-    marks = marks_anew image.snapshots g.block (cut_log image ino)
-
-    of : (d : Bool) (o : Option ℕ)
-        → cond d (option_and_then (block_by (slot_of image ino).blocks) o) None ≡ Some b
-        → has (numbers_of (slot_of image ino).blocks) b.number ≡ true
-    of false o e = absurd (none-some b e)
-    of true None e = absurd (none-some b e)
-    of true (Some number) e = found_there (slot_of image ino).blocks number b e
+  among ino m b is =
+      found_there (slot_of image ino).blocks b.number b
+      (told g image.snapshots (tail_of image ino) (slot_of image ino) m b is).found
 
   pub fewer_in : (k ino : ℕ) → ino < length image.slots
       → times k (stored_in (cell_of image ino)) ≤ times k (slot_numbers (slot_of image ino))

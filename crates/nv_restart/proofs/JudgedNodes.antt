@@ -62,7 +62,7 @@ names_differ_in bytes block log = go (value_now block log KindKey) where
 
 -- ---- the node of a cell
 
-slot_is : (when : When) (cells : List CellState) (ino : ℕ)
+pub slot_is : (when : When) (cells : List CellState) (ino : ℕ)
     → slot_at (slots_when when cells) ino ≡ node_when when (slice_index_or cells ino no_cell)
 slot_is Now [] ino = refl
 slot_is (At epoch) [] ino = refl
@@ -84,10 +84,10 @@ at_other : (g h : ℕ) (log : List Entry) (kind : Option Kind) → (g == h) ≡ 
 at_other g h log None other = refl
 at_other g h log (Some kind) other = rw (ne_eqb h g (λ same. eqb-false g h other (sym same))) refl
 
-abbrev copy_by : CellState → ℕ → List Entry → Option NodeCopy
+abbrev pub copy_by : CellState → ℕ → List Entry → Option NodeCopy
 copy_by cell generation log = if generation == cell.generation then node_now (bytes_among cell.blocks) cell.block log else None
 
-shown_by : (cell : CellState) (generation : ℕ) (log : List Entry)
+pub shown_by : (cell : CellState) (generation : ℕ) (log : List Entry)
     → option_map (shown generation) (copy_by cell generation log)
     ≡ (if is_of generation (node_by cell log) then node_by cell log else None)
 shown_by cell generation log = go (generation == cell.generation) refl where
@@ -127,7 +127,7 @@ module _ (s : Shared) where
         subst (λ (o : Option NodeCopy). NamesDiffer (names_of_node o)) (sym (is handle))
         (differ_by (cell_at s handle.ino) handle.generation (seen when (log_of (cell_at s handle.ino))))
 
-  plain : (b : Bool) (commit : ℕ) (copy : Option NodeCopy)
+  pub plain : (b : Bool) (commit : ℕ) (copy : Option NodeCopy)
       → option_map (λ (p : PlainNode). p.node) (if b then stamped commit copy else None) ≡ (if b then copy else None)
   plain false commit copy = refl
   plain true commit None = refl

@@ -1,3 +1,4 @@
+pub mod BlocksAnew
 pub mod CellBlocks
 pub mod Cells
 pub mod Deaths
@@ -15,7 +16,14 @@ pub mod NotedOnce
 pub mod NotedTails
 pub mod Records
 pub mod Slots
+pub mod SoundEnds
 pub mod Start
 pub mod TreeSlots
+pub mod Unheld
+pub mod WorldBlocks
+pub mod WorldCells
+pub mod WorldImages
 pub mod WorldJournals
+pub mod WorldRuns
 pub mod WorldSlots
+pub mod WorldTrees

@@ -2,6 +2,7 @@
 //! nothing.
 
 ghost use Rattle.std.specs.Prelude.{◌≡◌, List, true};
+ghost use Rattle.nv_audit.specs.Faults.{IsFaultless};
 ghost use Rattle.nv_audit.specs.Image.{all_notes};
 ghost use Rattle.nv_audit.specs.Mounted.{are_apart, are_journals_good};
 ghost use Rattle.nv_base.specs.declared.geometry.GeometryNumbers.{GeometryNumbers};
@@ -11,7 +12,7 @@ ghost use Rattle.nv_machine.specs.Step.{after};
 ghost use Rattle.nv_machine.specs.World.{Event, World};
 ghost use Rattle.nv_restart.specs.Restarted.{image_of};
 ghost use Rattle.nv_restart.specs.Snapshots.{SnapshotsFit};
-ghost use Rattle.nv_restart.specs.Stops.{AreHeldLawful, AreInRange};
+ghost use Rattle.nv_restart.specs.Stops.{AreHeldLawful, AreInRange, MayStop};
 
 /// From any start on, no inode stands twice in what the open journals have noted.
 pub fn journals_note_no_inode_twice()
@@ -49,4 +50,14 @@ pub fn journals_note_what_is_there()
     ensures { (g : GeometryNumbers) (start : World) (records : List Record) (events : List Event)
         → IsStart g start records
         → are_journals_good (image_of (after start events)) ≡ true }
+{}
+
+/// From a start on that may stop, each world may stop, and its IMAGE HAS NO FAULT.
+pub fn images_of_worlds_have_no_fault()
+    ensures may { (g : GeometryNumbers) (start : World) (records : List Record) (events : List Event)
+        → IsStart g start records → MayStop g.block start.shared
+        → MayStop g.block (after start events).shared }
+    ensures faultless { (g : GeometryNumbers) (start : World) (records : List Record)
+        (events : List Event) → IsStart g start records → MayStop g.block start.shared
+        → IsFaultless (image_of (after start events)) }
 {}
