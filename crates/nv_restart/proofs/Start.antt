@@ -142,6 +142,35 @@ module _ (image : ImageValue) (limits : IsWithinLimits image.numbers)
       ends_some page [] len are some = absurd (omega (arith, are, some))
       ends_some page (e ∷ ends) len are some = omega arith
 
+  -- so the slot of a log with an entry is not of the last generation
+  pub cut_early : (ino : ℕ) → ino < length image.slots → has_entry (cut_log image ino) ≡ true
+      → (slot_of image ino).generation < NUMBER
+  cut_early ino lt there =
+      let fit = sized_in image limits faultless ino lt in
+      let most = fit.most in
+      elim (cases_lt (slot_of image ino).generation NUMBER) [
+        | inl low ↦ low
+        | inr past ↦ absurd (
+            let none = ap (λ (l : List BlockValue). length l)
+            (fit.last (omega (arith, past, most))) in
+            let page = has_page ino some_entry in
+            omega (arith, none, page))
+      ]
+    where
+      len_take : (t : ℕ) (es : List Entry) → 0 < length (take t es) → 0 < length es
+      len_take zero es some = absurd (omega (arith, some))
+      len_take (suc t) [] some = absurd (omega (arith, some))
+      len_take (suc t) (e ∷ es) some = omega arith
+
+      has_len : (es : List Entry) → has_entry es ≡ true → 0 < length es
+      has_len [] e = absurd (false≢true e)
+      has_len (x ∷ es) e = omega arith
+
+      some_entry : 0 < length (slot_of image ino).chain.entries
+      some_entry =
+          len_take (tail_of image ino) (slot_of image ino).chain.entries
+          (has_len (cut_log image ino) there)
+
   early : (ino : ℕ) → ino < length image.slots → has_inode (cell_of image ino) ≡ true
       → (cell_of image ino).generation < NUMBER
   early ino lt =
@@ -149,34 +178,7 @@ module _ (image : ImageValue) (limits : IsWithinLimits image.numbers)
       (tail_of image ino) (slot_of image ino)
       (λ over there. absurd (false≢true there))
       (λ left there.
-      below (some_entry there)) where
-        len_take : (t : ℕ) (es : List Entry) → 0 < length (take t es) → 0 < length es
-        len_take zero es some = absurd (omega (arith, some))
-        len_take (suc t) [] some = absurd (omega (arith, some))
-        len_take (suc t) (e ∷ es) some = omega arith
-
-        has_len : (es : List Entry) → has_entry es ≡ true → 0 < length es
-        has_len [] e = absurd (false≢true e)
-        has_len (x ∷ es) e = omega arith
-
-        some_entry : has_inode (its_cell ino) ≡ true → 0 < length (slot_of image ino).chain.entries
-        some_entry there = len_take (tail_of image ino) (slot_of image ino).chain.entries
-            (has_len (cut_log image ino) (sym (ap has_entry (whole image limits faultless ino))
-            ∙ there))
-
-        below : 0 < length (slot_of image ino).chain.entries
-            → (slot_of image ino).generation < NUMBER
-        below some =
-            let fit = sized_in image limits faultless ino lt in
-            let most = fit.most in
-            elim (cases_lt (slot_of image ino).generation NUMBER) [
-              | inl low ↦ low
-              | inr past ↦ absurd (
-                  let none = ap (λ (l : List BlockValue). length l)
-                  (fit.last (omega (arith, past, most))) in
-                  let page = has_page ino some in
-                  omega (arith, none, page))
-            ]
+      cut_early ino lt (sym (ap has_entry (whole image limits faultless ino)) ∙ there))
 
   -- ---- the whole
 

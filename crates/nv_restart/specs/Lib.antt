@@ -1,3 +1,4 @@
+pub mod Happenings
 pub mod Mounted
 pub mod Restarted
 pub mod Snapshots

@@ -2,6 +2,7 @@
 //! from there.
 #![tactic(auto)]
 
+pub mod history_laws;
 pub mod judged_laws;
 pub mod mount_laws;
 pub mod world_laws;

@@ -1,0 +1,145 @@
+-- The plain world beside a history is that of the world which it leads to.
+use Rattle.std.proofs.Common.{◌≡◌, ℕ, ◌+◌, ◌++◌, ◌∙◌, true, false, List, [], ◌∷◌, length, map, Option, ap, refl, subst, sym}
+use Rattle.std.specs.List.{Contains}
+use Rattle.std.proofs.Math.Path.{fun_ext}
+use Rattle.nv_audit.specs.Mounted as mounted
+use Rattle.nv_base.specs.Limits.{IsWithinLimits}
+use Rattle.nv_base.specs.declared.geometry.GeometryNumbers.{GeometryNumbers}
+use Rattle.nv_base.specs.declared.numbers.Handle.{Handle}
+use Rattle.nv_book.specs.declared.record.Record.{Record}
+use Rattle.nv_entry.specs.declared.node.NodeCopy.{NodeCopy}
+use Rattle.nv_epoch.proofs.Last.{contains_first, contains_later}
+use Rattle.nv_epoch.specs.SnapList.{numbers}
+use Rattle.nv_epoch.specs.declared.snapshot.Snapshot.{Snapshot}
+use Rattle.nv_machine.proofs.CommitNumbers.{events_counted}
+use Rattle.nv_machine.proofs.CopiesAll.{after_one, all_read}
+use Rattle.nv_machine.proofs.CopiesKept.{ReadsAs}
+use Rattle.nv_machine.proofs.FitsPlain.{plain_nodes}
+use Rattle.nv_machine.proofs.PlainStart.{plain_start}
+use Rattle.nv_machine.proofs.SnapRuns.{in_step}
+use Rattle.nv_machine.proofs.SnapshotCopies.{AreAlike, IsAlike}
+use Rattle.nv_machine.specs.Format.{formatted}
+use Rattle.nv_machine.specs.PlainRun.{Copy, Plain, copy_in, new_plain, plain_after, plain_of, plain_step}
+use Rattle.nv_machine.specs.Settled.{settled_copies}
+use Rattle.nv_machine.specs.Starts.{IsStart}
+use Rattle.nv_machine.specs.Step.{after, step}
+use Rattle.nv_machine.specs.World.{Event, Shared, World}
+use Rattle.nv_restart.proofs.Happenings.{one}
+use Rattle.nv_restart.proofs.SameCopies.{same_copies}
+use Rattle.nv_restart.proofs.SameNodes.{same_nodes}
+use Rattle.nv_restart.specs.Happenings.{Happening, IsReached, On, Stop, after_all, happen, plain_after_all, plain_happens, plain_stopped, unpinned}
+use Rattle.nv_restart.specs.Restarted.{restarted}
+use Rattle.nv_restart.specs.Stops.{MayStop}
+
+-- ---- the plain world of a run
+
+copy_same : (inodes : ℕ) (s : Shared) (snapshot : Snapshot) (copy : Copy)
+    → IsAlike (ReadsAs inodes s) snapshot copy → copy ≡ copy_in s snapshot
+copy_same inodes s snapshot copy is =
+    let nodes = sym (fun_ext is.nodes.0) in
+    λ i. record { snapshot = sym is.number i; nodes = nodes i; pins = sym is.pins i }
+
+copies_same : (inodes : ℕ) (s : Shared) (living : List Snapshot) (copies : List Copy)
+    → AreAlike (ReadsAs inodes s) living copies → copies ≡ map (copy_in s) living
+copies_same inodes s [] [] are = refl
+copies_same inodes s [] (copy ∷ copies) are = absurd are
+copies_same inodes s (snapshot ∷ living) [] are = absurd are
+copies_same inodes s (snapshot ∷ living) (copy ∷ copies) are =
+    ap (λ (c : Copy). c ∷ copies) (copy_same inodes s snapshot copy are.0)
+    ∙ ap (λ (cs : List Copy). copy_in s snapshot ∷ cs) (copies_same inodes s living copies are.1)
+
+same_plain : (p q : Plain) → p.nodes ≡ q.nodes → p.commit ≡ q.commit → p.epoch ≡ q.epoch
+    → p.copies ≡ q.copies → p ≡ q
+same_plain p q nodes commit epoch copies = λ i. record {
+  nodes = nodes i;
+  commit = commit i;
+  epoch = epoch i;
+  copies = copies i;
+}
+
+plain_is : (g : GeometryNumbers) (start : World) (records : List Record) (events : List Event)
+    → IsStart g start records
+    → plain_after start events (plain_of start) ≡ plain_of (after start events)
+plain_is g start records events is =
+    let beside : Plain = plain_after start events (plain_of start) in
+    let w : World = after start events in
+    same_plain beside (plain_of w) (sym (fun_ext (plain_nodes g start records events is)))
+    (sym (events_counted events start (plain_of start) refl))
+    (sym (in_step g start records events is).epoch)
+    (copies_same (length start.shared.cells) w.shared w.shared.book.snaps.living beside.copies
+    (all_read g start records is events))
+
+plain_one : (events : List Event) (w : World) (p : Plain) (e : Event)
+    → plain_after w (events ++ e ∷ []) p ≡ plain_step (after w events) e (plain_after w events p)
+plain_one [] w p e = refl
+plain_one (x ∷ events) w p e = plain_one events (step w x).world (plain_step w x p) e
+
+-- the plain world of a world behind one more event
+plain_steps : (g : GeometryNumbers) (start : World) (records : List Record) (events : List Event)
+    → IsStart g start records → (e : Event)
+    → plain_step (after start events) e (plain_of (after start events))
+    ≡ plain_of (step (after start events) e).world
+plain_steps g start records events is e =
+    ap (plain_step (after start events) e) (sym (plain_is g start records events is))
+    ∙ sym (plain_one events start (plain_of start) e)
+    ∙ plain_is g start records (events ++ e ∷ []) is
+    ∙ ap plain_of (sym (after_one events start e))
+
+-- ---- a stop
+
+-- copies of snapshots that read the same
+same_copy : (s t : Shared) (living : List Snapshot)
+    → ((epoch : ℕ) → Contains (numbers living) epoch
+    → settled_copies t epoch ≡ settled_copies s epoch)
+    → map (copy_in t) (map mounted.unpinned (numbers living))
+    ≡ map unpinned (map (copy_in s) living)
+same_copy s t [] same = refl
+same_copy s t (snapshot ∷ living) same =
+    let rest = map unpinned (map (copy_in s) living) in
+    let own : Copy → List Copy = λ copy. copy ∷ rest in
+    ap (λ (l : List Copy). copy_in t (mounted.unpinned snapshot.number) ∷ l)
+    (same_copy s t living
+    (λ epoch lives. same epoch (contains_later snapshot.number (numbers living) epoch lives)))
+    ∙ ap (λ (nodes : Handle → Option NodeCopy).
+    own (record { snapshot = snapshot.number; nodes = nodes; pins = 0 }))
+    (same snapshot.number (contains_first snapshot.number (numbers living)))
+
+module _ (g : GeometryNumbers) (start : World) (records : List Record) (events : List Event)
+    (is_start : IsStart g start records) (may : MayStop g.block start.shared) where
+  abbrev w : World
+  w = after start events
+
+  -- A STOP LEAVES THE PLAIN WORLD, but for pins
+  pub plain_stops : plain_of (restarted w) ≡ plain_stopped (plain_of w)
+  plain_stops =
+      same_plain (plain_of (restarted w)) (plain_stopped (plain_of w))
+      (fun_ext (same_nodes g start records events is_start)) refl refl
+      (same_copy w.shared (restarted w).shared w.shared.book.snaps.living
+      (λ epoch lives. fun_ext (same_copies g start records events is_start may epoch lives)))
+
+-- ---- a history
+
+module _ (g : GeometryNumbers) where
+  pub stopped : (w : World) → IsReached g w → plain_of (restarted w) ≡ plain_stopped (plain_of w)
+  stopped w is =
+      subst (λ (v : World). plain_of (restarted v) ≡ plain_stopped (plain_of v)) is.leads
+      (plain_stops g is.start is.records is.events is.is_start is.may)
+
+  plain_happening : (w : World) (h : Happening) → IsReached g w
+      → plain_happens w h (plain_of w) ≡ plain_of (happen w h)
+  plain_happening w (On e) is =
+      subst (λ (v : World). plain_step v e (plain_of v) ≡ plain_of (step v e).world) is.leads
+      (plain_steps g is.start is.records is.events is.is_start e)
+  plain_happening w (Stop true) is = sym (stopped w is)
+  plain_happening w (Stop false) is = refl
+
+  pub all_plain : (happenings : List Happening) (w : World) → IsReached g w
+      → plain_after_all w happenings (plain_of w) ≡ plain_of (after_all w happenings)
+  all_plain [] w is = refl
+  all_plain (h ∷ happenings) w is =
+      ap (plain_after_all (happen w h) happenings) (plain_happening w h is)
+      ∙ all_plain happenings (happen w h) (one g w h is)
+
+  pub new_is : IsWithinLimits g → plain_of (formatted g) ≡ new_plain
+  new_is within =
+      same_plain (plain_of (formatted g)) new_plain (fun_ext (plain_start g within)) refl refl refl

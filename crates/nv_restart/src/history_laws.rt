@@ -1,0 +1,96 @@
+//! Laws of histories, in which the machine stops and goes on. Each is the contract of a function
+//! that does nothing.
+
+ghost use Rattle.std.specs.Prelude.{◌≡◌, ◌<◌, ℕ, Bool, List, [], ◌∷◌, Some, false, length, true};
+ghost use Rattle.std.specs.List.{Contains};
+ghost use Rattle.nv_audit.specs.Mounted.{records_anew};
+ghost use Rattle.nv_base.specs.Limits.{IsWithinLimits};
+ghost use Rattle.nv_base.specs.declared.geometry.GeometryNumbers.{GeometryNumbers};
+ghost use Rattle.nv_base.specs.declared.numbers.Handle.{Handle};
+ghost use Rattle.nv_book.specs.declared.record.Record.{Record};
+ghost use Rattle.nv_entry.specs.Tree.{root};
+ghost use Rattle.nv_epoch.specs.SnapList.{ids, pins_of};
+ghost use Rattle.nv_machine.specs.Format.{formatted};
+ghost use Rattle.nv_machine.specs.Hands.{makes_inode};
+ghost use Rattle.nv_machine.specs.Made.{has_handle};
+ghost use Rattle.nv_machine.specs.PlainRun.{Commits, deed_of, new_plain, plain_of};
+ghost use Rattle.nv_machine.specs.Reading.{ArePins};
+ghost use Rattle.nv_machine.specs.Sequence.{beginning};
+ghost use Rattle.nv_machine.specs.Settled.{settled_copies, settled_nodes};
+ghost use Rattle.nv_machine.specs.Starts.{AreIdle, IsStart};
+ghost use Rattle.nv_machine.specs.Step.{after};
+ghost use Rattle.nv_machine.specs.World.{Event, Go, Running, World, actor_at};
+ghost use Rattle.nv_restart.specs.Happenings.{Happening, IsReached, after_all, all_made, plain_after_all, plain_stopped};
+ghost use Rattle.nv_restart.specs.Restarted.{image_of, restarted};
+ghost use Rattle.nv_restart.specs.Stops.{MayStop};
+
+/// A STOP LEADS TO A START, with the records anew: where the machine stops between any two events,
+/// a run may start in the world that goes on, which may stop in its turn.
+pub fn stops_lead_to_starts()
+    ensures starts { (g : GeometryNumbers) (start : World) (records : List Record)
+        (events : List Event) → IsStart g start records → MayStop g.block start.shared
+        → IsStart g (restarted (after start events)) (records_anew (image_of (after start events))) }
+    ensures may { (g : GeometryNumbers) (start : World) (records : List Record)
+        (events : List Event) → IsStart g start records → MayStop g.block start.shared
+        → MayStop g.block (restarted (after start events)).shared }
+{}
+
+/// A STOP LEAVES EVERY SETTLED NODE, with the commit that changed it last. So each call that is past
+/// its commit point is wholly there, and no other has left anything.
+pub fn stops_leave_nodes()
+    ensures { (g : GeometryNumbers) (start : World) (records : List Record) (events : List Event)
+        → IsStart g start records → (handle : Handle)
+        → settled_nodes (restarted (after start events)).shared handle
+        ≡ settled_nodes (after start events).shared handle }
+{}
+
+/// A stop leaves the copy of each living snapshot.
+pub fn stops_leave_copies()
+    ensures { (g : GeometryNumbers) (start : World) (records : List Record) (events : List Event)
+        → IsStart g start records → MayStop g.block start.shared → (epoch : ℕ)
+        → Contains (ids (after start events).shared.book.snaps) epoch → (handle : Handle)
+        → settled_copies (restarted (after start events)).shared epoch handle
+        ≡ settled_copies (after start events).shared epoch handle }
+{}
+
+/// After a stop every actor is idle with an empty hand, no record is deferred, and no snapshot is
+/// pinned.
+pub fn stops_leave_nothing_under_way()
+    ensures idle { (g : GeometryNumbers) (start : World) (records : List Record) (events : List Event)
+        → IsStart g start records → MayStop g.block start.shared
+        → AreIdle (restarted (after start events)) }
+    ensures deferred { (w : World) → (restarted w).shared.book.deferred ≡ [] }
+    ensures pins { (g : GeometryNumbers) (start : World) (records : List Record) (events : List Event)
+        → IsStart g start records → MayStop g.block start.shared → (snapshot : ℕ)
+        → ArePins 0 (pins_of (restarted (after start events)).shared.book.snaps snapshot) }
+{}
+
+/// Where some events lead to a world from a start that may stop, so it is of each world to which
+/// events and stops lead from there, and of a new one. So each law of runs holds in any history.
+pub fn histories_are_runs()
+    ensures later { (g : GeometryNumbers) (happenings : List Happening) (w : World) → IsReached g w
+        → IsReached g (after_all w happenings) }
+    ensures new { (g : GeometryNumbers) → IsWithinLimits g → IsReached g (formatted g) }
+{}
+
+/// THE PLAIN WORLD beside a history is that of the world to which it leads: nodes, commit number,
+/// epoch and copies. A stop takes all pins off, and changes nothing else there.
+pub fn histories_show_the_plain_world()
+    ensures stopped { (g : GeometryNumbers) (w : World) → IsReached g w
+        → plain_of (restarted w) ≡ plain_stopped (plain_of w) }
+    ensures beside { (g : GeometryNumbers) (happenings : List Happening) (w : World) → IsReached g w
+        → plain_after_all w happenings (plain_of w) ≡ plain_of (after_all w happenings) }
+    ensures new { (g : GeometryNumbers) → IsWithinLimits g → plain_of (formatted g) ≡ new_plain }
+{}
+
+/// No handle is made twice in a history, also where an inode is erased by a stop: no commit point
+/// has made the handle that one makes now, and it is not the root's.
+pub fn histories_make_no_handle_twice()
+    ensures { (g : GeometryNumbers) (happenings : List Happening) (w : World) → IsReached g w
+        → (actor : ℕ) (granted : Bool) (r : Running)
+        → actor < length (after_all w happenings).actors
+        → (actor_at (after_all w happenings) actor).running ≡ Some r
+        → deed_of (after_all w happenings) (Go actor granted) ≡ Commits
+        → makes_inode (beginning r.call) ≡ true
+        → has_handle (root ∷ all_made w happenings) r.made ≡ false }
+{}
