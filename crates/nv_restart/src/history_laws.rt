@@ -29,14 +29,15 @@ ghost use Rattle.nv_restart.specs.Stops.{MayStop};
 pub fn stops_lead_to_starts()
     ensures starts { (g : GeometryNumbers) (start : World) (records : List Record)
         (events : List Event) → IsStart g start records → MayStop g.block start.shared
-        → IsStart g (restarted (after start events)) (records_anew (image_of (after start events))) }
+        → IsStart g (restarted (after start events))
+        (records_anew (image_of (after start events))) }
     ensures may { (g : GeometryNumbers) (start : World) (records : List Record)
         (events : List Event) → IsStart g start records → MayStop g.block start.shared
         → MayStop g.block (restarted (after start events)).shared }
 {}
 
-/// A STOP LEAVES EVERY SETTLED NODE, with the commit that changed it last. So each call that is past
-/// its commit point is wholly there, and no other has left anything.
+/// A STOP LEAVES EVERY SETTLED NODE, with the commit that changed it last. So each call that is
+/// past its commit point is wholly there, and no other has left anything.
 pub fn stops_leave_nodes()
     ensures { (g : GeometryNumbers) (start : World) (records : List Record) (events : List Event)
         → IsStart g start records → (handle : Handle)
@@ -56,12 +57,12 @@ pub fn stops_leave_copies()
 /// After a stop every actor is idle with an empty hand, no record is deferred, and no snapshot is
 /// pinned.
 pub fn stops_leave_nothing_under_way()
-    ensures idle { (g : GeometryNumbers) (start : World) (records : List Record) (events : List Event)
-        → IsStart g start records → MayStop g.block start.shared
+    ensures idle { (g : GeometryNumbers) (start : World) (records : List Record)
+        (events : List Event) → IsStart g start records → MayStop g.block start.shared
         → AreIdle (restarted (after start events)) }
     ensures deferred { (w : World) → (restarted w).shared.book.deferred ≡ [] }
-    ensures pins { (g : GeometryNumbers) (start : World) (records : List Record) (events : List Event)
-        → IsStart g start records → MayStop g.block start.shared → (snapshot : ℕ)
+    ensures pins { (g : GeometryNumbers) (start : World) (records : List Record)
+        (events : List Event) → IsStart g start records → MayStop g.block start.shared → (snapshot : ℕ)
         → ArePins 0 (pins_of (restarted (after start events)).shared.book.snaps snapshot) }
 {}
 

@@ -54,8 +54,8 @@ pub fn journals_note_what_is_there()
 
 /// From a start on that may stop, each world may stop, and its IMAGE HAS NO FAULT.
 pub fn images_of_worlds_have_no_fault()
-    ensures may { (g : GeometryNumbers) (start : World) (records : List Record) (events : List Event)
-        → IsStart g start records → MayStop g.block start.shared
+    ensures may { (g : GeometryNumbers) (start : World) (records : List Record)
+        (events : List Event) → IsStart g start records → MayStop g.block start.shared
         → MayStop g.block (after start events).shared }
     ensures faultless { (g : GeometryNumbers) (start : World) (records : List Record)
         (events : List Event) → IsStart g start records → MayStop g.block start.shared
