@@ -85,7 +85,7 @@ fn play_by<'p, R: AllocGlobal + Clock + Eprint, S: Read, W: Write>(
     rt: &R,
     script: &str,
     manner: Manner,
-    progress: Option<&'p Progress<'p, R>>,
+    progress: &'p Progress<'p, R>,
     reader: &mut S,
     writer: &mut W,
 ) -> Told {
@@ -96,35 +96,69 @@ fn play_by<'p, R: AllocGlobal + Clock + Eprint, S: Read, W: Write>(
     }
 }
 
-/// Plays a script from a file, or from standard input where none is named, and line by line where that is a terminal.
+/// Plays a script from a file, or from standard input where none is named.
 ///
 /// An answer is held back only while the script's next line is there already.
+fn play_file<'p, R: AllocGlobal + Clock + Eprint + Files + Input + Print>(
+    rt: &R,
+    file: Option<&str>,
+    manner: Manner,
+    progress: &'p Progress<'p, R>,
+) -> Told {
+    let mut writer = io::writer(rt);
+    match file {
+        None => play_by(
+            rt,
+            STANDARD_INPUT,
+            manner,
+            progress,
+            &mut rt.reader(),
+            &mut writer,
+        ),
+        Some(path) => {
+            let Ok(mut file) = fs::open(rt, path) else {
+                return Told::unread();
+            };
+            play_by(rt, path, manner, progress, &mut file, &mut writer)
+        }
+    }
+}
+
+/// What tells how far the script of a file has come, where someone sees it.
+fn progress_of<'a, R: Clock + Eprint + Files>(
+    rt: &'a R,
+    file: Option<&str>,
+    manner: Manner,
+    terminals: Terminals,
+) -> Progress<'a, R> {
+    match file {
+        Some(path) if terminals.error && !manner.quiet => {
+            Progress::begin(rt, lines_of(rt, path), terminals.output)
+        }
+        _ => Progress::silent(rt),
+    }
+}
+
+/// Plays a script from a file, or from standard input where none is named, and line by line where that is a terminal.
 fn play_script<R: AllocGlobal + Clock + Eprint + Files + Input + Print>(
     rt: &R,
     file: Option<&str>,
     manner: Manner,
     terminals: Terminals,
 ) -> Told {
-    let mut writer = io::writer(rt);
-    let Some(path) = file else {
-        let mut reader = rt.reader();
-        if terminals.input {
-            return converse(rt, rt.alloc(), manner.summary, &mut reader, &mut writer);
-        }
-        return play_by(rt, STANDARD_INPUT, manner, None, &mut reader, &mut writer);
-    };
-    let Ok(mut file) = fs::open(rt, path) else {
-        return Told::unread();
-    };
-    let progress = if terminals.error && !manner.quiet {
-        Progress::begin(rt, lines_of(rt, path), terminals.output)
-    } else {
-        None
-    };
-    let told = play_by(rt, path, manner, progress.as_ref(), &mut file, &mut writer);
-    if let Some(progress) = progress {
-        progress.take_away();
+    if file.is_none() && terminals.input {
+        let mut writer = io::writer(rt);
+        return converse(
+            rt,
+            rt.alloc(),
+            manner.summary,
+            &mut rt.reader(),
+            &mut writer,
+        );
     }
+    let progress = progress_of(rt, file, manner, terminals);
+    let told = play_file(rt, file, manner, &progress);
+    progress.take_away();
     told
 }
 

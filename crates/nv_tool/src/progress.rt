@@ -19,54 +19,65 @@ const AWAY: &str = "\r\x1b[K";
 /// The bytes of a file that are read at once where its lines are counted.
 const PIECE_BYTES: usize = 4096;
 
-/// How far the script of a file has come, and when that is told next.
+/// How far a script has come, and when that is told next, if it is told at all.
 #[derive(Drop)]
 pub(crate) struct Progress<'a, T> {
     rt: &'a T,
     lines: Option<u64>,
-    begun: Instant,
-    next: Cell<Instant>,
+    begun: Option<Instant>,
+    next: Cell<Option<Instant>>,
     shown: Cell<bool>,
     beside_answers: bool,
 }
 
 impl<'a, T: Clock + Eprint> Progress<'a, T> {
-    /// A script of so many lines begins. Nothing is told where there is no clock. `beside_answers` says that answers go to the
-    /// same terminal.
-    pub(crate) fn begin(
-        rt: &'a T,
-        lines: Option<u64>,
-        beside_answers: bool,
-    ) -> Option<Progress<'a, T>> {
-        let begun = Instant::now(rt).ok()?;
-        let next = begun.checked_add(Duration::from_millis(FIRST_MILLIS))?;
-        Some(Progress {
+    /// Nothing is told.
+    pub(crate) fn silent(rt: &'a T) -> Progress<'a, T> {
+        Progress {
+            rt,
+            lines: None,
+            begun: None,
+            next: Cell::new(None),
+            shown: Cell::new(false),
+            beside_answers: false,
+        }
+    }
+
+    /// A script of so many lines begins, if their number is known. Nothing is told where there is no clock. `beside_answers` says
+    /// that answers go to the same terminal.
+    pub(crate) fn begin(rt: &'a T, lines: Option<u64>, beside_answers: bool) -> Progress<'a, T> {
+        let Ok(begun) = Instant::now(rt) else {
+            return Progress::silent(rt);
+        };
+        Progress {
             rt,
             lines,
-            begun,
-            next: Cell::new(next),
+            begun: Some(begun),
+            next: Cell::new(begun.checked_add(Duration::from_millis(FIRST_MILLIS))),
             shown: Cell::new(false),
             beside_answers,
-        })
+        }
     }
 
     /// Tells how far the script has come before the line of this number, where it is time to.
     pub(crate) fn before_line(&self, number: u64, world: Option<&World>) {
+        let (Some(begun), Some(next)) = (self.begun, self.next.get()) else {
+            return;
+        };
         let Ok(now) = Instant::now(self.rt) else {
             return;
         };
-        if now < self.next.get() {
+        if now < next {
             return;
         }
         self.tell(
             number.saturating_sub(1),
             commits_of(world),
-            now.duration_since(self.begun),
+            now.duration_since(begun),
         );
-        if let Ok(told) = Instant::now(self.rt)
-            && let Some(next) = told.checked_add(Duration::from_millis(BETWEEN_MILLIS))
-        {
-            self.next.set(next);
+        if let Ok(told) = Instant::now(self.rt) {
+            self.next
+                .set(told.checked_add(Duration::from_millis(BETWEEN_MILLIS)));
         }
     }
 

@@ -74,7 +74,7 @@ pub(crate) fn play_told<'p, R: Read, W: Write, T: Clock + Eprint>(
     alloc: Global,
     script: &str,
     summary: bool,
-    progress: Option<&'p Progress<'p, T>>,
+    progress: &'p Progress<'p, T>,
     reader: &mut R,
     writer: &mut W,
 ) -> Told
@@ -92,7 +92,7 @@ pub(crate) fn play_told<'p, R: Read, W: Write, T: Clock + Eprint>(
 /// Plays a script, keeps the lines that are read last, and counts the refusals where that is asked for.
 fn play_kept<'p, R: Read, W: Write, T: Clock + Eprint>(
     alloc: Global,
-    progress: Option<&'p Progress<'p, T>>,
+    progress: &'p Progress<'p, T>,
     reader: &mut R,
     writer: &mut W,
     recent: &mut Recent,
@@ -103,14 +103,8 @@ fn play_kept<'p, R: Read, W: Write, T: Clock + Eprint>(
     ensures serial { PlaysAlone serial_player result (R.remaining reader.old)
         (R.remaining reader.new) (W.contents writer.old) (W.contents writer.new) }
 {
-    let mut reader = WatchedReader {
-        reader: KeptReader::new(alloc, reader, recent),
-        progress,
-    };
-    let mut writer = WatchedWriter {
-        writer: TallyWriter::new(alloc, writer, tally),
-        progress,
-    };
+    let mut reader = WatchedReader::new(alloc, reader, recent, progress);
+    let mut writer = WatchedWriter::new(alloc, writer, tally, progress);
     play_counted_and_leave(alloc, &mut reader, &mut writer)
 }
 
@@ -120,7 +114,7 @@ pub(crate) fn echo_told<'p, R: Read, W: Write, T: Clock + Eprint>(
     alloc: Global,
     script: &str,
     summary: bool,
-    progress: Option<&'p Progress<'p, T>>,
+    progress: &'p Progress<'p, T>,
     reader: &mut R,
     writer: &mut W,
 ) -> Told
@@ -138,7 +132,7 @@ pub(crate) fn echo_told<'p, R: Read, W: Write, T: Clock + Eprint>(
 /// The same with the lines that are kept and the refusals that are counted.
 fn echo_kept<'p, R: Read, W: Write, T: Clock + Eprint>(
     alloc: Global,
-    progress: Option<&'p Progress<'p, T>>,
+    progress: &'p Progress<'p, T>,
     reader: &mut R,
     writer: &mut W,
     recent: &mut Recent,
@@ -149,14 +143,8 @@ fn echo_kept<'p, R: Read, W: Write, T: Clock + Eprint>(
     ensures plain { PlaysWithoutEchoes result (R.remaining reader.old) (R.remaining reader.new)
         (W.contents writer.old) (W.contents writer.new) }
 {
-    let mut reader = WatchedReader {
-        reader: KeptReader::new(alloc, reader, recent),
-        progress,
-    };
-    let mut writer = WatchedWriter {
-        writer: TallyWriter::new(alloc, writer, tally),
-        progress,
-    };
+    let mut reader = WatchedReader::new(alloc, reader, recent, progress);
+    let mut writer = WatchedWriter::new(alloc, writer, tally, progress);
     echo_counted_and_leave(alloc, &mut reader, &mut writer)
 }
 

@@ -3,6 +3,7 @@
 use super::PLAIN;
 use crate::command_line::Manner;
 use crate::play_by;
+use crate::progress::Progress;
 use nv_script::Echo;
 
 const SCRIPT: &[u8] = b"\
@@ -54,7 +55,8 @@ fn commands_stand_before_their_answers(rt: HostRuntime) {
     ] {
         let mut reader = SCRIPT;
         let mut written = Vec::new(rt.alloc());
-        let ended = play_by(&rt, "s.nova", manner, None, &mut reader, &mut written);
+        let progress = Progress::silent(&rt);
+        let ended = play_by(&rt, "s.nova", manner, &progress, &mut reader, &mut written);
         assert!(rt; written.as_slice() == answers);
         assert!(rt;
             ended

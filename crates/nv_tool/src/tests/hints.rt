@@ -10,6 +10,7 @@ use std::alloc::{AllocError, Global};
 use std::process::Abort;
 use std::sync::Wait;
 use std::thread::Threads;
+use std::time::Clock;
 
 /// What stands before most faulty lines, which are line 3 then.
 const MADE: &[u8] =
@@ -231,11 +232,18 @@ fn joined(alloc: Global, front: &[u8], back: &[u8]) -> Result<Vec<u8>, AllocErro
 }
 
 /// Plays a script, and asserts that it writes what `play` writes.
-fn played<R: Abort>(rt: &R, alloc: Global, script: &[u8], summary: bool) -> Told {
+fn played<R: Abort + Clock + Eprint>(rt: &R, alloc: Global, script: &[u8], summary: bool) -> Told {
     let mut reader = script;
     let mut written = Vec::new(alloc);
-    let none: Option<&Progress<'_, HostRuntime>> = None;
-    let told = play_told(alloc, "s.nova", summary, none, &mut reader, &mut written);
+    let progress = Progress::silent(rt);
+    let told = play_told(
+        alloc,
+        "s.nova",
+        summary,
+        &progress,
+        &mut reader,
+        &mut written,
+    );
     let mut again = script;
     let mut wanted = Vec::new(alloc);
     let outcome = play(alloc, &mut again, &mut wanted);

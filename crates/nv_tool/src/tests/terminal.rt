@@ -171,18 +171,9 @@ fn watched<R: Abort>(
     let progress = Progress::begin(&screen, Some(18), beside_answers);
     let mut reader = script.as_slice();
     let mut written = Vec::new(alloc);
-    let told = play_told(
-        alloc,
-        "s.nova",
-        false,
-        progress.as_ref(),
-        &mut reader,
-        &mut written,
-    );
+    let told = play_told(alloc, "s.nova", false, &progress, &mut reader, &mut written);
     assert!(rt; told.ended.is_ok());
-    if let Some(progress) = progress {
-        progress.take_away();
-    }
+    progress.take_away();
     Ok(screen.into_text())
 }
 
