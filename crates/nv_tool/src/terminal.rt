@@ -18,12 +18,12 @@ const WELCOME: &str =
 
 const NO_SUCH: &str = "there is no command and no call of this name: 'help' shows all\n";
 
-/// A session: where it is told on standard error, what was typed last, and the refusals among its answers.
+/// A session: where it is told on standard error, and what was typed last. The refusals among its answers are counted beside it,
+/// since a writer that counts borrows what it counts in.
 struct Session<'a, T> {
     rt: &'a T,
     alloc: Global,
     recent: Recent,
-    tally: Tally,
 }
 
 /// Plays the lines that are typed, as they come. A line with a fault changes nothing. The end of the lines ends it well. A read or
@@ -39,24 +39,28 @@ pub(crate) fn converse<T: Eprint, R: Read, W: Write>(
         rt,
         alloc,
         recent: Recent::new(alloc),
-        tally: Tally::new(alloc, summary),
     };
-    let ended = session.play(reader, writer);
+    let mut tally = Tally::new(alloc, summary);
+    let ended = session.play(reader, writer, &mut tally);
     let Session {
         rt: _,
         alloc: _,
         recent,
-        tally,
     } = session;
     Told::of(alloc, STANDARD_INPUT, By::Play, ended, &recent, &tally)
 }
 
 impl<'a, T: Eprint> Session<'a, T> {
     /// Plays all lines. The world is not taken apart behind them.
-    fn play<R: Read, W: Write>(&mut self, reader: &mut R, writer: &mut W) -> Result<(), Fault> {
+    fn play<R: Read, W: Write>(
+        &mut self,
+        reader: &mut R,
+        writer: &mut W,
+        tally: &mut Tally,
+    ) -> Result<(), Fault> {
         let mut player = Player::new(self.alloc)?;
         say(self.rt, WELCOME);
-        let ended = self.play_lines(&mut player, reader, writer);
+        let ended = self.play_lines(&mut player, reader, writer, tally);
         mem::forget(player);
         ended
     }
@@ -66,10 +70,11 @@ impl<'a, T: Eprint> Session<'a, T> {
         player: &mut Player,
         reader: &mut R,
         writer: &mut W,
+        tally: &mut Tally,
     ) -> Result<(), Fault> {
         for number in 1..=MAX_LINES + 1 {
             say(self.rt, PROMPT);
-            if !self.turn(player, number, reader, writer)? {
+            if !self.turn(player, number, reader, writer, tally)? {
                 return Ok(());
             }
         }
@@ -83,13 +88,13 @@ impl<'a, T: Eprint> Session<'a, T> {
         number: u64,
         reader: &mut R,
         writer: &mut W,
+        tally: &mut Tally,
     ) -> Result<bool, Fault> {
-        if !self.take(player, number, reader, writer)? {
+        if !self.take(player, number, reader, writer, tally)? {
             return Ok(false);
         }
-        self.answer(player, number, writer)?;
-        let mut writer = TallyWriter::new(self.alloc, writer, &mut self.tally);
-        player.outbox.end(&mut writer, Ok(()))?;
+        self.answer(player, number, writer, tally)?;
+        end_answers(self.alloc, player, writer, tally)?;
         self.recent.add(self.alloc, b"\n");
         Ok(true)
     }
@@ -101,9 +106,10 @@ impl<'a, T: Eprint> Session<'a, T> {
         number: u64,
         reader: &mut R,
         writer: &mut W,
+        tally: &mut Tally,
     ) -> Result<bool, Fault> {
         let mut reader = ReadCounter::new(reader);
-        let mut writer = TallyWriter::new(self.alloc, writer, &mut self.tally);
+        let mut writer = TallyWriter::new(self.alloc, writer, tally);
         let taken = player.take(number, &mut reader, &mut writer);
         self.recent.add(self.alloc, player.line.as_slice());
         if !matches!(taken, Ok(true)) {
@@ -119,11 +125,12 @@ impl<'a, T: Eprint> Session<'a, T> {
         player: &mut Player,
         number: u64,
         writer: &mut W,
+        tally: &mut Tally,
     ) -> Result<(), Fault> {
         if help(self.rt, self.alloc, player.line.as_slice())? {
             return Ok(());
         }
-        let mut writer = TallyWriter::new(self.alloc, writer, &mut self.tally);
+        let mut writer = TallyWriter::new(self.alloc, writer, tally);
         match player.play_sound(self.alloc, &mut writer) {
             Ok(None) => Ok(()),
             Ok(Some(kind)) => {
@@ -134,6 +141,18 @@ impl<'a, T: Eprint> Session<'a, T> {
             Err(fault) => Err(ending_of(number, fault)),
         }
     }
+}
+
+/// Writes the answers that are gathered.
+fn end_answers<W: Write>(
+    alloc: Global,
+    player: &mut Player,
+    writer: &mut W,
+    tally: &mut Tally,
+) -> Result<(), Fault> {
+    let mut writer = TallyWriter::new(alloc, writer, tally);
+    player.outbox.end(&mut writer, Ok(()))?;
+    Ok(())
 }
 
 /// Tells of the fault of the line that was typed last.
