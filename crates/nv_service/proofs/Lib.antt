@@ -16,6 +16,7 @@ mod Raised
 mod ReadyOver
 mod Refusals
 mod Slots
+mod Snapping
 mod Takings
 mod Told
 pub mod Turning

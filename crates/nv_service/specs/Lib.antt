@@ -15,3 +15,4 @@ pub mod Rests
 pub mod Rounds
 pub mod Seats
 pub mod Sessions
+pub mod Snapped
