@@ -15,6 +15,7 @@ pub mod PartBlocks
 mod Raised
 mod ReadyOver
 mod Refusals
+mod Seated
 mod Slots
 mod Snapping
 mod Takings

@@ -122,6 +122,8 @@ impl<C: Commits> LockedBook<C> {
         ensures parts { mine.new.parts ≡ mine.old.parts }
         ensures same { OnErr result ((self.new ≡ self.old) × (mine.new.amount ≡ mine.old.amount)) }
     {
+        // It tells that the numbers of the living snapshots rise.
+        let _epoch = self.book.snaps().epoch();
         self.book.drop_snapshot(s)?;
         self.snap_book.add(mine, 1);
         Ok(())

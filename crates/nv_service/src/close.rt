@@ -70,9 +70,9 @@ impl<C: Commits, B: Blocks> PartRoom<C, B> {
 }
 
 impl<C: Commits, B: Blocks> Service<C, B> {
-    /// Makes the world again, of parts that are at rest, in which no actor has a call. It has all commits of the sessions
-    /// and the device of the opening, as many snapshots as the makings and drops of the sessions leave, and no inode is older than at the opening or than a
-    /// session has seen it.
+    /// Makes the world again, of parts that are at rest, in which no actor has a call. It has all commits of the sessions,
+    /// the device of the opening, and as many living snapshots as the makings and drops of the sessions leave. No inode is
+    /// older than at the opening or than a session has seen it.
     ///
     /// `SeatsOut` where the sessions are not those that were given out, each once; `OutOfMemory` where room was refused;
     /// `Mismatch` with the first part that differs from those of a world at rest: a hand that has blocks or a number makes

@@ -83,10 +83,10 @@ pub(crate) struct Rests<C: Commits, B: Blocks> {
 }
 
 impl<C: Commits, B: Blocks> Rests<C, B> {
-    /// Takes in all shares, those of the sessions too, and what all have seen: the commits of the sessions are all that
-    /// the ledger counts, and so are their makings and drops of snapshots; no owner's version is below that of the opening, no session has seen more of an inode than its owner
-    /// has, and no list and no cell has a block
-    /// that is not of the total. What the hands of the sessions hold ends here.
+    /// Takes in all shares, those of the sessions too, and what all have seen: the commits of the sessions are all that the
+    /// ledger counts, and so are their makings and drops of snapshots; no owner's version is below that of the opening, no
+    /// session has seen more of an inode than its owner has, and no list and no cell has a block that is not of the total.
+    /// What the hands of the sessions hold ends here.
     pub(crate) fn join<R: Wait>(self, rt: &R, sessions: Vec<Session<C, B>>)
         requires seats { vec_len sessions ≡ self.seating.given }
         ensures commits { self.commits.total ≡ sum_by (λ s. s.commits) sessions.items }

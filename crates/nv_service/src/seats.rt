@@ -88,7 +88,7 @@ impl<C: Commits, B: Blocks> FreeSeat<C, B> {
     }
 }
 
-/// The seats of a service: those that no session has, how many were given out, and what is left of both ledgers. Tokens
+/// The seats of a service: those that no session has, how many were given out, and what is left of the ledgers. Tokens
 /// are no `Sync`, so each free seat and the rest lie behind locks of their own.
 #[derive(Drop)]
 pub(crate) struct Seating<C: Commits, B: Blocks> {
@@ -98,7 +98,7 @@ pub(crate) struct Seating<C: Commits, B: Blocks> {
     ghost all_seats: { vec_len free + given ≡ ACTORS },
 }
 
-/// What no seat and no lock of a part has: the rest of both ledgers, with nothing, and a pass that takes in what sessions
+/// What no seat and no lock of a part has: the rest of the ledgers, with nothing, and a pass that takes in what sessions
 /// have seen.
 #[derive(Drop)]
 pub(crate) struct Reserve<C: Commits, B: Blocks> {
