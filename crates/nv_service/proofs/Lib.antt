@@ -21,4 +21,5 @@ mod Snapping
 mod Takings
 mod Told
 pub mod Turning
+mod Turns
 pub mod Versions

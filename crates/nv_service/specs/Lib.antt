@@ -1,3 +1,4 @@
+pub mod Asking
 pub mod ByValue
 pub mod Changing
 pub mod Cleaning

@@ -159,6 +159,7 @@ fn make_change<C: Commits, B: Blocks, L: Cells, S: Source, R: Wait>(
         &mut hand,
         wanted,
         &mut seat.blocks,
+        &mut seat.asking,
     );
     if let Err(fault) = taken {
         return Err((fault, hand));

@@ -41,6 +41,7 @@ pub(crate) fn gather_sessions<C: Commits, B: Blocks>(
             commits: made,
             blocks: held,
             notes: seen,
+            asking: _,
         } = seat;
         commits.merge(made);
         snapped.merge(counted);

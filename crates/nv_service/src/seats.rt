@@ -10,6 +10,7 @@ ghost use Rattle.nv_base.specs.declared.limits.TheConstants.{ACTORS};
 ghost use Rattle.nv_alloc.specs.Numbers.{times};
 ghost use Rattle.nv_service.specs.Seats.{AreSeats, new_session};
 
+use crate::asking::Asking;
 use crate::names::{Blocks, Commits, Cut, SnapLedger};
 use crate::passes::{Fresh, Maker, Notes};
 use crate::seat::Seat;
@@ -78,6 +79,7 @@ impl<C: Commits, B: Blocks> FreeSeat<C, B> {
             commits,
             blocks,
             notes,
+            asking: Asking::new(),
         };
         Session {
             alloc,
