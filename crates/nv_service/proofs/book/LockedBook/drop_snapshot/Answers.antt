@@ -1,8 +1,12 @@
-use Rattle.std.proofs.Common.{ap, arith, refl, subst, sym}
+use Rattle.std.proofs.Common.{◌≡◌, ◌⊎◌, ap, arith, refl, subst, sym}
+use Rattle.std.specs.Prelude.{Err}
+use Rattle.nv_base.specs.declared.fault.Fault.{Fault}
+use Rattle.nv_base.specs.declared.fault.Fault.TheVariants as fault
 use Rattle.nv_book.specs.Book.{BookValue}
 use Rattle.nv_epoch.specs.Holders.{IsRising}
-use Rattle.nv_epoch.specs.SnapList.{Snapshots, after_removal, ids}
+use Rattle.nv_epoch.specs.SnapList.{Snapshots, after_removal, ids, pins_of}
 use Rattle.nv_service.specs.Snapped.{AreSnapped}
+use Rattle.nv_service.proofs.OtherRefusals.{drop_fails, exits}
 use Rattle.nv_service.proofs.Snapping.{IsCounted, dropped_one}
 use Rattle.nv_service.proofs.book.LockedBook.drop_snapshot.Goals as goal
 
@@ -26,3 +30,9 @@ invariant_of-self-2 g c =
       subst (λ (b : BookValue). AreSnapped living epoch b.state.snaps c.add.new.self.total) (sym is)
           (subst (AreSnapped living epoch (after_removal snaps c.args.s)) (sym c.add.ensures.total) counted),
     )
+
+pub returns-in_err-drop_snapshot-clause-err : goal.returns-in_err-drop_snapshot-clause-err
+returns-in_err-drop_snapshot-clause-err g c =
+    let e = c.in_err-drop_snapshot.ensures in
+    exits (λ (why : Fault). (why ≡ fault.NoSnapshot) ⊎ (why ≡ fault.Pinned)) c.from_residual.result _ c.from_residual.ensures.1
+    (drop_fails (Err _) (pins_of c.self.inside.book.state.snaps c.args.s) e.dropped e.no_snapshot e.pinned)

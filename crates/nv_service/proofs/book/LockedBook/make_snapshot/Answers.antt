@@ -1,7 +1,11 @@
-use Rattle.std.proofs.Common.{ap, arith, subst, sym}
+use Rattle.std.proofs.Common.{◌≡◌, ◌⊎◌, ap, arith, subst, sym}
+use Rattle.std.specs.Prelude.{Err}
+use Rattle.nv_base.specs.declared.fault.Fault.{Fault}
+use Rattle.nv_base.specs.declared.fault.Fault.TheVariants as fault
 use Rattle.nv_book.specs.Book.{BookValue}
-use Rattle.nv_epoch.specs.SnapList.{after_making}
+use Rattle.nv_epoch.specs.SnapList.{IsSound, after_making}
 use Rattle.nv_service.specs.Snapped.{AreSnapped}
+use Rattle.nv_service.proofs.OtherRefusals.{exits, making_fails}
 use Rattle.nv_service.proofs.Snapping.{IsCounted, made_one}
 use Rattle.nv_service.proofs.book.LockedBook.make_snapshot.Goals as goal
 
@@ -22,3 +26,10 @@ invariant_of-self-2 g c =
       subst (λ (b : BookValue). AreSnapped living epoch b.state.snaps c.add.new.self.total) (sym is)
           (subst (AreSnapped living epoch (after_making snaps)) (sym c.add.ensures.total) counted),
     )
+
+pub returns-in_err-snapshot-clause-err : goal.returns-in_err-snapshot-clause-err
+returns-in_err-snapshot-clause-err g c =
+    let e = c.in_err-snapshot.ensures in
+    let sound = subst IsSound c.snaps.ensures.snaps c.epoch-epoch.ensures.sound in
+    exits (λ (why : Fault). (why ≡ fault.EpochLimit) ⊎ (why ≡ fault.TooManySnapshots)) c.from_residual.result _ c.from_residual.ensures.1
+    (making_fails (Err _) c.self.inside.book.state.snaps sound e.made e.epoch_limit e.too_many)
