@@ -22,7 +22,7 @@ returns-clause-err g c = either_wants c.take_blocks-2.result part.Lists c.take_b
 pub returns-in_err-make_room-clause-short : goal.returns-in_err-make_room-clause-short
 returns-in_err-make_room-clause-short g c =
     let old = c.args.asking.now.turn in
-    turned_out c.from_residual.result _ old old c.from_residual.ensures.1 (memory_keeps _ old c.in_err-make_room.ensures.err.0)
+    turned_out c.from_residual.result _ old old c.from_residual.ensures.1 (memory_keeps _ c.in_err-make_room.ensures.err.0 old)
 
 pub returns-in_err-take_blocks-clause-short : goal.returns-in_err-take_blocks-clause-short
 returns-in_err-take_blocks-clause-short g c =

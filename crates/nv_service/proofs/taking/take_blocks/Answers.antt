@@ -7,4 +7,4 @@ pub returns-in_err-take_here-clause-short : goal.returns-in_err-take_here-clause
 returns-in_err-take_here-clause-short g c =
     let old = c.args.asking.now.turn in
     turned_out c.from_residual.result _ old c.take_here.new.asking.turn c.from_residual.ensures.1
-    (c.take_here.ensures.turn ∙ c.loop.invariant.turn ∙ misfit_keeps _ part.Lists old c.in_err-take_here.ensures.err)
+    (c.take_here.ensures.turn ∙ c.loop.invariant.turn ∙ misfit_keeps _ part.Lists c.in_err-take_here.ensures.err old)
