@@ -28,8 +28,8 @@ loop-session-preserved g c =
         seat.snapped.1,
         sum_by_push (λ (s : SessionValue). s.snapped) c.loop-session.yielded session,
       );
-      block_parts = omega (arith, i.block_parts, c.merge-3.ensures.parts, seat.parts.1, one);
-      block_amount = omega (arith, i.block_amount, c.merge-3.ensures.amount);
+      block_parts = omega (arith, i.block_parts, c.merge-in-loop-session-2.ensures.parts, seat.parts.1, one);
+      block_amount = omega (arith, i.block_amount, c.merge-in-loop-session-2.ensures.amount);
       before = λ n. let was = i.before n in let more = c.join.ensures.mine n in omega (arith, was, more);
       seen = All-push (λ (s : SessionValue). (n : ℕ) → slice_index s.seen n ≤ slice_index c.join.new.self n)
           c.loop-session.yielded session

@@ -30,9 +30,10 @@ join-requires g c =
 
 pub returns-in-Ok-world_of-clause-snapshots : goal.returns-in-Ok-world_of-clause-snapshots
 returns-in-Ok-world_of-clause-snapshots g c =
-    let C = g.C.Commits in
-    subst (λ (n : ℕ). AreSnapped C.living C.epoch c.in-Ok-world_of.world.shared.book.state.snaps n) c.join.ensures.snapshots
-    (subst (λ (p : Parts). AreSnapped C.living C.epoch p.book.state.snaps c.apart-parts.result.1.snap_book.total)
+    let living = g.C.Commits.living in
+    let epoch = g.C.Commits.epoch in
+    subst (λ (n : ℕ). AreSnapped living epoch c.in-Ok-world_of.world.shared.book.state.snaps n) c.join.ensures.snapshots
+    (subst (λ (p : Parts). AreSnapped living epoch p.book.state.snaps c.apart-parts.result.1.snap_book.total)
     (sym c.in-Ok-world_of.ensures.parts) c.apart-parts.ensures.snapshots)
 
 pub returns-in-Ok-world_of-clause-versions : goal.returns-in-Ok-world_of-clause-versions
