@@ -34,8 +34,8 @@ pub(crate) enum Manner {
 /// Cleans the log of an inode under its lock, also of one that is gone and not yet erased. `number` is that of the seat,
 /// whose CPU's list is asked first for pages. The hand gets the pages that the log loses.
 ///
-/// `Stale` where there is no such slot, or no inode in it; `NoSpace` where the lists have too few pages; `OutOfMemory`
-/// where room was refused; `Mismatch` where the cell is not as a cleaner needs it.
+/// `Stale` where there is no such slot, or no inode in it; `NoSpace` where each list was asked and they had too few pages
+/// together; `OutOfMemory` where room was refused; `Mismatch` where the cell is not as a cleaner needs it.
 pub(crate) fn clean_log<C: Commits, B: Blocks, R: Wait>(
     rt: &R,
     service: &Service<C, B>,
@@ -52,6 +52,7 @@ pub(crate) fn clean_log<C: Commits, B: Blocks, R: Wait>(
     ensures err { IfErr result (MayRefuseMaintenance (cleaner_of manner ino)) }
     ensures parts { mine.new.parts ≡ mine.old.parts }
     ensures amount { mine.new.amount ≡ length (blocks_of hand.new) }
+    ensures short { asking.new.turn ≡ turned_in result asking.old.turn }
 {
     let mut cell = hold(rt, service, ino)?;
     test_cell(&service.geometry, cell.part(), hand)?;
