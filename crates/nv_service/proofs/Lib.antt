@@ -15,8 +15,11 @@ pub mod PartBlocks
 mod Raised
 mod ReadyOver
 mod Refusals
+mod Seated
 mod Slots
+mod Snapping
 mod Takings
 mod Told
 pub mod Turning
+mod Turns
 pub mod Versions

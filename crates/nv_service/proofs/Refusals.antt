@@ -39,7 +39,7 @@ use Rattle.nv_calls.specs.declared.update.Update.TheVariants as update
 use Rattle.nv_cell.specs.Cell.{CellValue}
 use Rattle.nv_service.specs.Changing.{EndsCheck, directories_there, misnamed}
 use Rattle.nv_service.specs.Committing.{RefusesCommit}
-use Rattle.nv_service.specs.Refusing.{IsWant, LooksFor, MayEnd, MayGiveUp, MayRefuseChange, MayRefuseRound, check_faults, failed_in, looks_up, other_faults, reads_failed, wants}
+use Rattle.nv_service.specs.Refusing.{IsWant, LooksFor, MayEnd, MayGiveUp, MayRefuseChange, MayRefuseCheck, MayRefuseRound, check_faults, failed_in, looks_up, other_faults, reads_failed, wants}
 use Rattle.nv_service.proofs.Misnamed.{misnamed_else, told_as_it_is}
 
 -- ---- lists of faults
@@ -224,7 +224,7 @@ refuses : (block : ℕ) (nodes : Handle → Option NodeCopy) (before : LookupRes
     → ends.Refuses why ≡ misnamed (directories_there nodes u) told
     → check_ends (early nodes (blank_call u)) (same_looked (looked nodes (blank_call u)) before) (late block nodes before (blank_call u))
     (has || not (makes u)) (is_nothing (blank_call u)) ≡ Some told
-    → MayRefuseRound u why
+    → MayRefuseCheck u why
 refuses block nodes before has u told why is h = elim (misnamed_else (directories_there nodes u) told) [
   | inl same ↦
       let e = early nodes (blank_call u) in
@@ -235,22 +235,27 @@ refuses block nodes before has u told why is h = elim (misnamed_else (directorie
       (h ∙ ap (λ (end : CheckEnd). Some end) refused))
   | inr other ↦
       let named = other.1 in
-      let wrong : why ≡ fault.Mismatch part.Names = cc in inr (misfits why part.Names wrong)
+      let wrong : why ≡ fault.Mismatch part.Names = cc in inr (part.Names, wrong)
 ]
 
 pub check_refuses : (block : ℕ) (cells : List (ℕ × CellValue)) (before : LookupResult) (u : Update) (hand : Hand) (why : Fault)
-    → EndsCheck block cells before u hand (ends.Refuses why) → MayRefuseRound u why
+    → EndsCheck block cells before u hand (ends.Refuses why) → MayRefuseCheck u why
 check_refuses block cells before u hand why (inl (f, is, inl lists)) =
     let wrong = lists.0 in
-    let same : why ≡ fault.Mismatch part.Lists = cc in inr (misfits why part.Lists same)
+    let same : why ≡ fault.Mismatch part.Lists = cc in inr (part.Lists, same)
 check_refuses block cells before u hand why (inl (f, is, inr index)) =
     let wrong = index.0 in
-    let same : why ≡ fault.Mismatch part.Index = cc in inr (misfits why part.Index same)
+    let same : why ≡ fault.Mismatch part.Index = cc in inr (part.Index, same)
 check_refuses block cells before u hand why (inr (inl refused)) =
     let is = refused.0 in
-    let same : why ≡ fault.Mismatch part.Lists = cc in inr (misfits why part.Lists same)
+    let same : why ≡ fault.Mismatch part.Lists = cc in inr (part.Lists, same)
 check_refuses block cells before u hand why (inr (inr told)) =
     refuses block (nodes_in cells) before (is_some hand.ino) u told.0 why told.1 told.2
+
+-- and so may a round
+pub of_round : (u : Update) (why : Fault) → MayRefuseCheck u why → MayRefuseRound u why
+of_round u why (inl has) = inl has
+of_round u why (inr misfit) = inr (inr misfit)
 
 -- each call may find a stale handle
 stale_in : (u : Update) → Contains (check_faults u) fault.Stale
@@ -296,7 +301,7 @@ refused_as faults (Ok passed) why all is = cc
 refused_as faults (Err f) why all is = let same : f ≡ why = cc in subst (Contains faults) same all
 
 pub look_refuses : (nodes : Handle → Option NodeCopy) (u : Update) (place : ℕ) (why : Fault)
-    → look_tests place (look_refusal nodes (blank_call u)) ≡ Err why → MayRefuseRound u why
+    → look_tests place (look_refusal nodes (blank_call u)) ≡ Err why → MayRefuseCheck u why
 look_refuses nodes u zero why is = inl (refused_as (check_faults u) (look_refusal nodes (blank_call u)) why (look_within nodes u) is)
 look_refuses nodes u (suc place) why is = cc
 
@@ -306,7 +311,7 @@ pub look_err : (result : Result LookupResult Fault) (u : Update) (place ino : �
     MatchResult result
     (λ found. (look_tests place (look_refusal nodes c) ≡ passes) × (found ≡ seen_at (directories c) place (looked nodes c) before))
     (λ why. look_tests place (look_refusal nodes c) ≡ Err why))
-    → IfErr result (MayRefuseRound u)
+    → IfErr result (MayRefuseCheck u)
 look_err (Ok found) u place ino cell before is = tt
 look_err (Err why) u place ino cell before is =
     let none : ℕ → List ℕ = λ n. [] in

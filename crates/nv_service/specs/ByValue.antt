@@ -1,5 +1,5 @@
 -- What a call that is given as a value leaves of a session.
-use Rattle.std.specs.Prelude.{◌≡◌, ◌≤◌, ℕ, Bool, List, length, max, min}
+use Rattle.std.specs.Prelude.{◌≡◌, ◌≤◌, ℕ, ◌+◌, Bool, List, length, max, min}
 use Rattle.nv_entry.specs.declared.tree.TreeNode.{TreeNode}
 use Rattle.nv_base.specs.declared.limits.TheConstants.{DRAIN}
 use Rattle.nv_calls.specs.declared.answer.Answer.TheVariants as answer
@@ -25,6 +25,16 @@ IsAnswerTo (maintenance.Drain number) seen = (n : ℕ) × (n ≤ max 1 (min numb
 IsAnswerTo (maintenance.Fast ino) seen = HasCleaned seen
 IsAnswerTo (maintenance.Thorough ino) seen = HasCleaned seen
 IsAnswerTo (maintenance.Auto ino) seen = HasCleaned seen
+
+-- a making or a drop counts as one of the session's
+abbrev pub once_snapped : SessionValue → SessionValue
+once_snapped before = record before { snapped = before.snapped + 1 }
+
+-- what a call on snapshots or of a cleaner leaves of a session
+abbrev pub after_maintenance : MaintenanceCall → SessionValue → SessionValue
+after_maintenance maintenance.Snap before = once_snapped before
+after_maintenance (maintenance.Drop snapshot) before = once_snapped before
+after_maintenance other before = before
 
 -- it is what the method of its name leaves
 abbrev pub IsMadeAs : ℕ → List ℕ → SessionValue → SessionValue → Call → Seen → Type 0
@@ -52,4 +62,4 @@ IsMadeAs opening opened before after (call.List dir) seen =
     IsViewedBy opened before after dir.ino (call.List dir) seen
 IsMadeAs opening opened before after (call.Lookup dir name) seen =
     IsViewedBy opened before after dir.ino (call.Lookup dir name) seen
-IsMadeAs opening opened before after (call.Maintenance c) seen = (after ≡ before) × IsAnswerTo c seen
+IsMadeAs opening opened before after (call.Maintenance c) seen = (after ≡ after_maintenance c before) × IsAnswerTo c seen

@@ -1,3 +1,4 @@
+pub mod Asking
 pub mod ByValue
 pub mod Changing
 pub mod Cleaning
@@ -15,3 +16,4 @@ pub mod Rests
 pub mod Rounds
 pub mod Seats
 pub mod Sessions
+pub mod Snapped

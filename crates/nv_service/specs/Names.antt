@@ -9,13 +9,14 @@ pub record LedgerValue : Type 0 where
   pub name : ℕ
   pub parts : ℕ
 
--- the ledger of commits, the ledger of blocks, and the table of the freshness cell
+-- the ledger of commits, that of makings and drops of snapshots, that of blocks, and the table of the freshness cell
 pub record NamesValue : Type 0 where
   pub commits : LedgerValue
+  pub snapshots : LedgerValue
   pub blocks : LedgerValue
   pub table : TableId
 
--- the ledger of commits has a part for each seat, and one that no seat has
+-- the ledgers of commits and of snapshots have a part for each seat, and one that no seat has
 abbrev pub commit_parts : ℕ
 commit_parts = ACTORS + 1
 
@@ -35,6 +36,11 @@ pub record AreCommitNames (names : NamesValue) (name parts whole : ℕ) (table :
   pub same_parts : names.commits.parts ≡ parts
   pub all_parts : whole ≡ parts
   pub same_table : names.table ≡ table
+
+-- the names are those of a ledger of makings and drops of snapshots
+pub record AreSnapshotNames (names : NamesValue) (name parts : ℕ) : Type 0 where
+  pub same_name : names.snapshots.name ≡ name
+  pub same_parts : names.snapshots.parts ≡ parts
 
 -- the names are those of a ledger of blocks that a type stands for, over a device with these numbers
 pub record AreBlockNames (names : NamesValue) (name parts whole placed : ℕ)

@@ -105,6 +105,10 @@ MayRefuse view why = MayRefuseView view why
 abbrev pub IsWant : Fault → Type 0
 IsWant why = Contains wants why ⊎ IsMisfit why
 
+-- how a look or a check may refuse: by the nodes, by a misfit, and never for want of anything
+abbrev pub MayRefuseCheck : Update → Fault → Type 0
+MayRefuseCheck u why = Contains (check_faults u) why ⊎ IsMisfit why
+
 -- how a round may be refused: by its check, by a want, by a misfit
 abbrev pub MayRefuseRound : Update → Fault → Type 0
 MayRefuseRound u why = Contains (check_faults u) why ⊎ IsWant why

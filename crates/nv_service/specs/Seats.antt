@@ -5,7 +5,7 @@ use Rattle.nv_service.specs.Sessions.{SessionValue}
 
 -- the session of a seat that was just given out
 abbrev pub new_session : ℕ → SessionValue
-new_session number = record { number = number; commits = 0; seen = [] }
+new_session number = record { number = number; commits = 0; snapped = 0; seen = [] }
 
 -- the sessions of so many seats, by number: as many, and each seat's once
 pub record AreSeats (seats : ℕ) (numbers : List ℕ) : Type 0 where

@@ -16,16 +16,17 @@ use Rattle.nv_service.specs.Locked.{version_at}
 use Rattle.nv_service.specs.declared.seen.Seen.{Seen}
 use Rattle.nv_service.specs.declared.seen.Seen.TheVariants as seen
 
--- the number of its seat, its commits since the opening, and the versions that it has seen, by inode, counted from the
--- opening on
+-- the number of its seat, its commits since the opening, its makings and drops of snapshots since, and the versions that it
+-- has seen, by inode, counted from the opening on
 pub record SessionValue : Type 0 where
   pub number : ℕ
   pub commits : ℕ
+  pub snapped : ℕ
   pub seen : List ℕ
 
--- that of a seat with so many commits, which has seen these versions
+-- that of a seat with so many commits, which has seen these versions and made and dropped no snapshot
 abbrev pub at_seat : ℕ → ℕ → List ℕ → SessionValue
-at_seat number commits seen = record { number = number; commits = commits; seen = seen }
+at_seat number commits seen = record { number = number; commits = commits; snapped = 0; seen = seen }
 
 -- ---- what a call has seen
 
@@ -58,6 +59,7 @@ pub record HasReceipt (opening : ℕ) (before after : SessionValue) (u : Update)
   pub number : opening + after.commits ≤ receipt.stamp.commit
   pub higher : SeesPublished before.seen after.seen u receipt
   pub kept : (i : ℕ) → slice_index before.seen i ≤ slice_index after.seen i
+  pub snapped : after.snapped ≡ before.snapped
   pub seat : after.number ≡ before.number
 
 -- the session has committed this very call
@@ -87,6 +89,7 @@ pub record HasView (opened : List ℕ) (before after : SessionValue) (ino : ℕ)
   pub seen : version_at opened ino (slice_index after.seen ino) ≡ view.version
   pub elsewhere : (i : ℕ) → i ≢ ino → slice_index after.seen i ≡ slice_index before.seen i
   pub commits : after.commits ≡ before.commits
+  pub snapped : after.snapped ≡ before.snapped
   pub seat : after.number ≡ before.number
 
 -- the session has read this very call's inode

@@ -12,30 +12,32 @@ ghost use Rattle.nv_book.specs.Records.{block_count};
 ghost use Rattle.nv_epoch.specs.Holders.{next_older};
 ghost use Rattle.nv_epoch.specs.SnapList.{ids, pins_of};
 
-use crate::names::Commits;
+use crate::names::{Commits, SnapLedger};
 use nv_base::{CommitNo, Epoch, Fault};
 use nv_book::{Book, Record};
 use std::marker::Model;
 use std::sync::ledger;
 use std::sync::ledger::Share;
 
-/// The book, with the ledger that counts its commits.
+/// The book, with the ledgers that count its commits, and its makings and drops of snapshots.
 #[derive(Drop)]
 pub struct LockedBook<C: Commits> {
     pub(crate) book: Book,
     pub(crate) commits: ledger::Book<C>,
+    pub(crate) snap_book: ledger::Book<SnapLedger<C>>,
 }
 
 impl<C: Commits> Model for LockedBook<C> {
-    ghost use Rattle.std.specs.Prelude.{◌≡◌, ◌+◌, ◌≤◌};
+    ghost use Rattle.std.specs.Prelude.{◌≡◌, ◌+◌};
     ghost use Rattle.nv_book.specs.Book.{BookValue};
+    ghost use Rattle.nv_service.specs.Snapped.{AreSnapped};
 
     ghost Value = { BookValue };
 
     ghost view = { λ b. b.book };
 
     ghost invariant = { λ b. (b.book.state.commit ≡ C.commit + b.commits.total)
-        × (C.epoch ≤ b.book.state.snaps.epoch) };
+        × AreSnapped C.living C.epoch b.book.state.snaps b.snap_book.total };
 }
 
 impl<C: Commits> LockedBook<C> {
@@ -73,8 +75,9 @@ impl<C: Commits> LockedBook<C> {
         Ok(fixed)
     }
 
-    /// Makes a snapshot of the current epoch, as [`Book::make_snapshot`] does. It is no commit.
-    pub(crate) fn make_snapshot(&mut self) -> Result<Epoch, Fault>
+    /// Makes a snapshot of the current epoch, as [`Book::make_snapshot`] does, and counts it in the share. It is no commit.
+    pub(crate) fn make_snapshot(&mut self, mine: &mut Share<SnapLedger<C>>) -> Result<Epoch, Fault>
+        requires part { 0 < mine.old.parts }
         ensures made { IsOk result ↔ ((self.old.state.snaps.epoch < NUMBER)
             × (length self.old.state.snaps.living < self.old.state.snaps.most)) }
         ensures epoch_limit { IsRefusedBy result fault.EpochLimit
@@ -86,15 +89,24 @@ impl<C: Commits> LockedBook<C> {
         ensures err { FailsEither fault.EpochLimit fault.TooManySnapshots result }
         ensures ok { OnOk result (self.new
             ≡ record self.old { state = after_make_snapshot self.old.state }) }
-        ensures same { KeepsOnErr result self.old self.new }
+        ensures counted { OnOk result (mine.new.amount ≡ mine.old.amount + 1) }
+        ensures parts { mine.new.parts ≡ mine.old.parts }
+        ensures same { OnErr result ((self.new ≡ self.old) × (mine.new.amount ≡ mine.old.amount)) }
     {
         // It tells that no epoch is past the last one, and that no more snapshots live than may.
         let _epoch = self.book.snaps().epoch();
-        self.book.make_snapshot()
+        let snapshot = self.book.make_snapshot()?;
+        self.snap_book.add(mine, 1);
+        Ok(snapshot)
     }
 
-    /// Drops the snapshot `s`, as [`Book::drop_snapshot`] does.
-    pub(crate) fn drop_snapshot(&mut self, s: Epoch) -> Result<(), Fault>
+    /// Drops the snapshot `s`, as [`Book::drop_snapshot`] does, and counts it in the share.
+    pub(crate) fn drop_snapshot(
+        &mut self,
+        s: Epoch,
+        mine: &mut Share<SnapLedger<C>>,
+    ) -> Result<(), Fault>
+        requires part { 0 < mine.old.parts }
         ensures dropped { IsOk result ↔ (pins_of self.old.state.snaps s ≡ Some 0) }
         ensures no_snapshot { IsRefusedBy result fault.NoSnapshot
             ↔ (pins_of self.old.state.snaps s ≡ None) }
@@ -106,9 +118,15 @@ impl<C: Commits> LockedBook<C> {
         ensures gain { OnOk result (block_count self.new.state.deferred
             ≡ block_count self.old.state.deferred
             + gain_of s (next_older (ids self.old.state.snaps) s) self.old.state.manifests) }
-        ensures same { KeepsOnErr result self.old self.new }
+        ensures counted { OnOk result (mine.new.amount ≡ mine.old.amount + 1) }
+        ensures parts { mine.new.parts ≡ mine.old.parts }
+        ensures same { OnErr result ((self.new ≡ self.old) × (mine.new.amount ≡ mine.old.amount)) }
     {
-        self.book.drop_snapshot(s)
+        // It tells that the numbers of the living snapshots rise.
+        let _epoch = self.book.snaps().epoch();
+        self.book.drop_snapshot(s)?;
+        self.snap_book.add(mine, 1);
+        Ok(())
     }
 
     /// Whether the snapshot `s`, if it lives, may have one more pin.

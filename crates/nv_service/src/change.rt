@@ -5,6 +5,7 @@ ghost use Rattle.nv_alloc.specs.Hand.{blocks_of};
 ghost use Rattle.nv_calls.specs.Cells.{AreCells};
 ghost use Rattle.nv_calls.specs.AllCalls.{is_nothing};
 ghost use Rattle.nv_calls.specs.Updates.{blank_call};
+ghost use Rattle.nv_service.specs.Asking.{IsNoShortage, turned_by, turned_end};
 ghost use Rattle.nv_service.specs.Changing.{AreWhole, HasPassed, IsOfCall, IsReceiptOf, KeepVersions, MayBeRaised, RaisesPublished, blocks_in};
 ghost use Rattle.nv_service.specs.Committing.{IsReadyOver};
 ghost use Rattle.nv_service.specs.Refusing.{IsWant, LooksFor, MayEnd, failed_by, reads_failed};
@@ -78,6 +79,7 @@ pub(crate) fn change_over<C: Commits, B: Blocks, L: Cells, S: Source, R: Wait>(
     ensures some { OnOk result.1 (is_nothing (blank_call change.entry.update) ≡ false) }
     ensures overtaken { IfErr result.1 (IsOfCall change.entry.update) }
     ensures reads { S.failed source.new ≡ S.failed source.old + failed_by result.1 }
+    ensures short { seat.new.asking.turn ≡ turned_end result.1 seat.old.asking.turn }
     ensures frame { L.frame lent.new ≡ L.frame lent.old }
 {
     let Change {
@@ -148,6 +150,9 @@ fn make_change<C: Commits, B: Blocks, L: Cells, S: Source, R: Wait>(
     ensures reads { OnOk result (S.failed source.new ≡ S.failed source.old) }
     ensures failed_reads { IfErr result (λ refused.
         S.failed source.new ≡ S.failed source.old + reads_failed refused.0) }
+    ensures enough { OnOk result (seat.new.asking.turn ≡ seat.old.asking.turn) }
+    ensures short { IfErr result (λ refused.
+        seat.new.asking.turn ≡ turned_by refused.0 seat.old.asking.turn) }
     ensures frame { L.frame lent.new ≡ L.frame lent.old }
 {
     let taken = take_all(
@@ -159,6 +164,7 @@ fn make_change<C: Commits, B: Blocks, L: Cells, S: Source, R: Wait>(
         &mut hand,
         wanted,
         &mut seat.blocks,
+        &mut seat.asking,
     );
     if let Err(fault) = taken {
         return Err((fault, hand));
@@ -191,6 +197,7 @@ fn commit_ready<C: Commits, B: Blocks, L: Cells, R: Wait>(
     ensures least { IfOk result (λ done. C.commit + mine.new.amount ≤ done.0.stamp.commit) }
     ensures call { IfOk result (λ done. IsReceiptOf ready.update done.0) }
     ensures err { IfErr result (λ refused. IsWant refused.0) }
+    ensures space { IfErr result (λ refused. IsNoShortage refused.0) }
     ensures parts { mine.new.parts ≡ mine.old.parts }
     ensures hand { IfErr result (λ refused. refused.1 ≡ ready.hand) }
     ensures same { OnErr result ((L.cells lent.new ≡ L.cells lent.old)

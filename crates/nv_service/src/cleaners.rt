@@ -6,9 +6,11 @@ ghost use Rattle.nv_clean.specs.Plans.{wanted_of};
 ghost use Rattle.nv_base.specs.Memory.{out_of_memory};
 ghost use Rattle.nv_base.specs.Refusals.{FailsOnly};
 ghost use Rattle.nv_base.specs.declared.fault.Fault.TheVariants.{NoSpace, Stale};
+ghost use Rattle.nv_service.specs.Asking.{turned_in};
 ghost use Rattle.nv_service.specs.Ending.{CanClean, IsEmptyHand, cleaner_of};
 ghost use Rattle.nv_service.specs.Refusing.{IsMisfit, IsMisfitOrWant, MayRefuseMaintenance};
 
+use crate::asking::Asking;
 use crate::cell::LockedCell;
 use crate::guards::hold;
 use crate::names::{Blocks, Commits};
@@ -32,14 +34,15 @@ pub(crate) enum Manner {
 /// Cleans the log of an inode under its lock, also of one that is gone and not yet erased. `number` is that of the seat,
 /// whose CPU's list is asked first for pages. The hand gets the pages that the log loses.
 ///
-/// `Stale` where there is no such slot, or no inode in it; `NoSpace` where the lists have too few pages; `OutOfMemory`
-/// where room was refused; `Mismatch` where the cell is not as a cleaner needs it.
+/// `Stale` where there is no such slot, or no inode in it; `NoSpace` where each list was asked and they had too few pages
+/// together; `OutOfMemory` where room was refused; `Mismatch` where the cell is not as a cleaner needs it.
 pub(crate) fn clean_log<C: Commits, B: Blocks, R: Wait>(
     rt: &R,
     service: &Service<C, B>,
     number: u64,
     hand: &mut Hand,
     mine: &mut Share<B>,
+    asking: &mut Asking,
     manner: Manner,
     ino: Ino,
 ) -> Result<Cleaned, Fault>
@@ -49,6 +52,7 @@ pub(crate) fn clean_log<C: Commits, B: Blocks, R: Wait>(
     ensures err { IfErr result (MayRefuseMaintenance (cleaner_of manner ino)) }
     ensures parts { mine.new.parts ≡ mine.old.parts }
     ensures amount { mine.new.amount ≡ length (blocks_of hand.new) }
+    ensures short { asking.new.turn ≡ turned_in result asking.old.turn }
 {
     let mut cell = hold(rt, service, ino)?;
     test_cell(&service.geometry, cell.part(), hand)?;
@@ -56,12 +60,12 @@ pub(crate) fn clean_log<C: Commits, B: Blocks, R: Wait>(
         Manner::Fast => unlink_pages(service, &mut *cell, hand, mine),
         Manner::Thorough => {
             let walk = wanted(service.alloc, cell.part())?;
-            move_entries(rt, service, number, &mut *cell, walk, hand, mine)
+            move_entries(rt, service, number, &mut *cell, walk, hand, mine, asking)
         }
         Manner::Auto => {
             let walk = wanted(service.alloc, cell.part())?;
             if prefers_thorough(&walk, cell.part().len()) {
-                move_entries(rt, service, number, &mut *cell, walk, hand, mine)
+                move_entries(rt, service, number, &mut *cell, walk, hand, mine, asking)
             } else {
                 unlink_pages(service, &mut *cell, hand, mine)
             }
@@ -112,6 +116,7 @@ fn unlink_pages<C: Commits, B: Blocks>(
 }
 
 /// Moves the entries that stay to fresh pages, which it takes first. Where all stay it takes none, and changes nothing.
+/// `NoSpace` comes only where each list was asked.
 fn move_entries<C: Commits, B: Blocks, R: Wait>(
     rt: &R,
     service: &Service<C, B>,
@@ -120,6 +125,7 @@ fn move_entries<C: Commits, B: Blocks, R: Wait>(
     walk: Wanted,
     hand: &mut Hand,
     mine: &mut Share<B>,
+    asking: &mut Asking,
 ) -> Result<Cleaned, Fault>
     requires can { CanClean service.now.geometry.numbers.block cell.old.cell.state hand.old }
     requires walk { walk ≡ wanted_of cell.old.cell.state }
@@ -129,11 +135,12 @@ fn move_entries<C: Commits, B: Blocks, R: Wait>(
     ensures err { IfErr result (λ why. (why ≡ NoSpace) ⊎ IsMisfitOrWant why) }
     ensures parts { mine.new.parts ≡ mine.old.parts }
     ensures amount { mine.new.amount ≡ length (blocks_of hand.new) }
+    ensures short { asking.new.turn ≡ turned_in result asking.old.turn }
 {
     if !walk.is_all() {
         let pages = walk.pages() as u64;
         hand.pages.reserve(pages)?;
-        take_blocks(rt, service, number, pages, &mut hand.pages, mine)?;
+        take_blocks(rt, service, number, pages, &mut hand.pages, mine, asking)?;
     }
     Ok(cell.compact(walk, hand, mine))
 }

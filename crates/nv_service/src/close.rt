@@ -12,6 +12,7 @@ ghost use Rattle.nv_service.specs.Judging.{IsFound};
 ghost use Rattle.nv_service.specs.Opening.{blocks_in};
 ghost use Rattle.nv_service.specs.Rests.{AreAllSlots, CellRestValue, list_told, told_by, told_of};
 ghost use Rattle.nv_service.specs.Seats.{AreSeats};
+ghost use Rattle.nv_service.specs.Snapped.{AreSnapped};
 
 use crate::book::LockedBook;
 use crate::judge::Judge;
@@ -69,9 +70,9 @@ impl<C: Commits, B: Blocks> PartRoom<C, B> {
 }
 
 impl<C: Commits, B: Blocks> Service<C, B> {
-    /// Makes the world again, of parts that are at rest, in which no actor has a call. It has all commits of the sessions
-    /// and the device of the opening, its epoch is no earlier one, and no inode is older than at the opening or than a
-    /// session has seen it.
+    /// Makes the world again, of parts that are at rest, in which no actor has a call. It has all commits of the sessions,
+    /// the device of the opening, and as many living snapshots as the makings and drops of the sessions leave. No inode is
+    /// older than at the opening or than a session has seen it.
     ///
     /// `SeatsOut` where the sessions are not those that were given out, each once; `OutOfMemory` where room was refused;
     /// `Mismatch` with the first part that differs from those of a world at rest: a hand that has blocks or a number makes
@@ -91,7 +92,8 @@ impl<C: Commits, B: Blocks> Service<C, B> {
             (AreSeats self.seating.given (map (λ s. s.number) sessions.items)) }
         ensures commit { IfOk result (λ world. world.shared.book.state.commit
             ≡ C.commit + sum_by (λ s. s.commits) sessions.items) }
-        ensures epoch { IfOk result (λ world. C.epoch ≤ world.shared.book.state.snaps.epoch) }
+        ensures snapshots { IfOk result (λ world. AreSnapped C.living C.epoch
+            world.shared.book.state.snaps (sum_by (λ s. s.snapped) sessions.items)) }
         ensures versions { IfOk result (λ world.
             IsNotOlder C.opened [] world.shared.cells.items) }
         ensures seen { IfOk result (λ world. All (λ s.
@@ -136,7 +138,8 @@ impl<C: Commits, B: Blocks> Rests<C, B> {
         requires slots { AreAllSlots self.cells.items }
         requires lists { self.lists.items ≡ map list_told parts.lists }
         requires commits { parts.book.state.commit ≡ C.commit + self.commits.total }
-        requires epoch { C.epoch ≤ parts.book.state.snaps.epoch }
+        requires snapshots { AreSnapped C.living C.epoch parts.book.state.snaps
+            self.snap_book.total }
         requires geometry { parts.geometry ≡ self.geometry }
         ensures total { result.total ≡ self.total }
         ensures geometry { result.geometry ≡ self.geometry }
@@ -151,6 +154,7 @@ impl<C: Commits, B: Blocks> Rests<C, B> {
             mut list_locks,
             lists: list_rests,
             commits,
+            snap_book,
             fresh,
             seating,
             total,
@@ -164,7 +168,11 @@ impl<C: Commits, B: Blocks> Rests<C, B> {
             cells: cell_locks,
             lists: list_locks,
             pool: CachePadded::new(Mutex::new(pool)),
-            book: CachePadded::new(Mutex::new(LockedBook { book, commits })),
+            book: CachePadded::new(Mutex::new(LockedBook {
+                book,
+                commits,
+                snap_book,
+            })),
             fresh,
             seating,
             total,

@@ -3,7 +3,7 @@
 ghost use Rattle.std.specs.Prelude.{◌≡◌, ℕ, ◌+◌, ◌≤◌, All, slice_index, sum_by, vec_len};
 ghost use Rattle.nv_service.specs.Rests.{IsKnown};
 
-use crate::names::{Blocks, Commits};
+use crate::names::{Blocks, Commits, SnapLedger};
 use crate::passes::{Fresh, Notes};
 use crate::rests::{CellRest, ListRest};
 use crate::seat::Seat;
@@ -12,17 +12,22 @@ use crate::session::Session;
 use std::sync::ledger::Share;
 use std::sync::{Mutex, Wait};
 
-/// Takes all sessions in: their commits, the blocks of their hands, and what they have seen.
+/// Takes all sessions in: their commits, their makings and drops of snapshots, the blocks of their hands, and what they
+/// have seen.
 pub(crate) fn gather_sessions<C: Commits, B: Blocks>(
     fresh: &Fresh<C>,
     sessions: Vec<Session<C, B>>,
     commits: &mut Share<C>,
+    snapped: &mut Share<SnapLedger<C>>,
     blocks: &mut Share<B>,
     notes: &mut Notes<C>,
 )
     ensures parts { commits.new.parts ≡ commits.old.parts + vec_len sessions }
     ensures amount { commits.new.amount
         ≡ commits.old.amount + sum_by (λ s. s.commits) sessions.items }
+    ensures snap_parts { snapped.new.parts ≡ snapped.old.parts + vec_len sessions }
+    ensures snap_amount { snapped.new.amount
+        ≡ snapped.old.amount + sum_by (λ s. s.snapped) sessions.items }
     ensures block_parts { blocks.new.parts ≡ blocks.old.parts + vec_len sessions }
     ensures block_amount { blocks.old.amount ≤ blocks.new.amount }
     ensures before { (i : ℕ) → slice_index notes.old i ≤ slice_index notes.new i }
@@ -30,13 +35,16 @@ pub(crate) fn gather_sessions<C: Commits, B: Blocks>(
         sessions.items }
 {
     for session in sessions {
+        let (seat, counted) = session.into_seat();
         let Seat {
             number: _,
             commits: made,
             blocks: held,
             notes: seen,
-        } = session.into_seat();
+            asking: _,
+        } = seat;
         commits.merge(made);
+        snapped.merge(counted);
         blocks.merge(held);
         notes.join(fresh, seen);
     }
@@ -46,20 +54,25 @@ pub(crate) fn gather_sessions<C: Commits, B: Blocks>(
 pub(crate) fn gather_seats<C: Commits, B: Blocks>(
     seats: Vec<Mutex<FreeSeat<C, B>>>,
     commits: &mut Share<C>,
+    snapped: &mut Share<SnapLedger<C>>,
     blocks: &mut Share<B>,
 )
     ensures parts { commits.new.parts ≡ commits.old.parts + vec_len seats }
     ensures amount { commits.new.amount ≡ commits.old.amount }
+    ensures snap_parts { snapped.new.parts ≡ snapped.old.parts + vec_len seats }
+    ensures snap_amount { snapped.new.amount ≡ snapped.old.amount }
     ensures block_parts { blocks.new.parts ≡ blocks.old.parts + vec_len seats }
     ensures block_amount { blocks.new.amount ≡ blocks.old.amount }
 {
     for seat in seats {
         let FreeSeat {
             commits: none,
+            snapped: no_snapshot,
             blocks: held,
             notes: _,
         } = seat.into_inner();
         commits.merge(none);
+        snapped.merge(no_snapshot);
         blocks.merge(held);
     }
 }

@@ -6,6 +6,7 @@ ghost use Rattle.nv_alloc.specs.Hand.{blocks_of};
 ghost use Rattle.nv_base.specs.Refusals.{FailsEither, FailsOnly};
 ghost use Rattle.nv_base.specs.declared.fault.Fault.TheVariants as fault;
 ghost use Rattle.nv_base.specs.declared.fault.MismatchPart.TheVariants as part;
+ghost use Rattle.nv_service.specs.Asking.{turned_end};
 ghost use Rattle.nv_service.specs.Refusing.{failed_by};
 ghost use Rattle.nv_service.specs.Rounds.{IsEndedBy};
 ghost use Rattle.nv_service.specs.Sessions.{at_seat};
@@ -85,6 +86,7 @@ pub(crate) fn change_slots<C: Commits, B: Blocks, S: Source, R: Wait>(
         (at_seat seat.new.number seat.new.commits.amount seat.new.notes)
         change.entry.update result.1 }
     ensures reads { S.failed source.new ≡ S.failed source.old + failed_by result.1 }
+    ensures short { seat.new.asking.turn ≡ turned_end result.1 seat.old.asking.turn }
 {
     match slots.as_slice() {
         [one] => over_one(rt, service, seat, *one, change, source),
@@ -124,6 +126,7 @@ fn over_one<C: Commits, B: Blocks, S: Source, R: Wait>(
         (at_seat seat.new.number seat.new.commits.amount seat.new.notes)
         change.entry.update result.1 }
     ensures reads { S.failed source.new ≡ S.failed source.old + failed_by result.1 }
+    ensures short { seat.new.asking.turn ≡ turned_end result.1 seat.old.asking.turn }
 {
     match hold(rt, service, slot) {
         Ok(mut cell) => change_one(rt, service, seat, &mut *cell, change, source),
@@ -152,6 +155,7 @@ fn over_two<C: Commits, B: Blocks, S: Source, R: Wait>(
         (at_seat seat.new.number seat.new.commits.amount seat.new.notes)
         change.entry.update result.1 }
     ensures reads { S.failed source.new ≡ S.failed source.old + failed_by result.1 }
+    ensures short { seat.new.asking.turn ≡ turned_end result.1 seat.old.asking.turn }
 {
     let mut first = match hold(rt, service, slots.0) {
         Ok(cell) => cell,
@@ -186,6 +190,7 @@ fn over_three<C: Commits, B: Blocks, S: Source, R: Wait>(
         (at_seat seat.new.number seat.new.commits.amount seat.new.notes)
         change.entry.update result.1 }
     ensures reads { S.failed source.new ≡ S.failed source.old + failed_by result.1 }
+    ensures short { seat.new.asking.turn ≡ turned_end result.1 seat.old.asking.turn }
 {
     let mut first = match hold(rt, service, slots.0) {
         Ok(cell) => cell,
@@ -233,6 +238,7 @@ fn over_four<C: Commits, B: Blocks, S: Source, R: Wait>(
         (at_seat seat.new.number seat.new.commits.amount seat.new.notes)
         change.entry.update result.1 }
     ensures reads { S.failed source.new ≡ S.failed source.old + failed_by result.1 }
+    ensures short { seat.new.asking.turn ≡ turned_end result.1 seat.old.asking.turn }
 {
     let mut first = match hold(rt, service, slots.0) {
         Ok(cell) => cell,

@@ -4,6 +4,7 @@ ghost use Rattle.std.specs.Prelude.{◌≡◌, ◌+◌, ◌-◌, ◌<◌, ◌≤
 ghost use Rattle.nv_alloc.specs.Hand.{blocks_of};
 ghost use Rattle.nv_calls.specs.AllCalls.{is_nothing};
 ghost use Rattle.nv_calls.specs.Updates.{blank_call};
+ghost use Rattle.nv_service.specs.Asking.{turned_end};
 ghost use Rattle.nv_service.specs.Changing.{IsOfCall, IsReceiptOf, SeesPublished};
 ghost use Rattle.nv_service.specs.Refusing.{failed_by};
 
@@ -53,6 +54,7 @@ pub(crate) fn change_one<C: Commits, B: Blocks, S: Source, R: Wait>(
     ensures some { OnOk result.1 (is_nothing (blank_call change.entry.update) ≡ false) }
     ensures overtaken { IfErr result.1 (IsOfCall change.entry.update) }
     ensures reads { S.failed source.new ≡ S.failed source.old + failed_by result.1 }
+    ensures short { seat.new.asking.turn ≡ turned_end result.1 seat.old.asking.turn }
 {
     let version = lend(
         rt,
@@ -114,6 +116,7 @@ pub(crate) fn change_two<C: Commits, B: Blocks, S: Source, R: Wait>(
     ensures some { OnOk result.1 (is_nothing (blank_call change.entry.update) ≡ false) }
     ensures overtaken { IfErr result.1 (IsOfCall change.entry.update) }
     ensures reads { S.failed source.new ≡ S.failed source.old + failed_by result.1 }
+    ensures short { seat.new.asking.turn ≡ turned_end result.1 seat.old.asking.turn }
 {
     let first_version = lend(
         rt,
@@ -202,6 +205,7 @@ pub(crate) fn change_three<C: Commits, B: Blocks, S: Source, R: Wait>(
     ensures some { OnOk result.1 (is_nothing (blank_call change.entry.update) ≡ false) }
     ensures overtaken { IfErr result.1 (IsOfCall change.entry.update) }
     ensures reads { S.failed source.new ≡ S.failed source.old + failed_by result.1 }
+    ensures short { seat.new.asking.turn ≡ turned_end result.1 seat.old.asking.turn }
 {
     let first_version = lend(
         rt,
@@ -313,6 +317,7 @@ pub(crate) fn change_four<C: Commits, B: Blocks, S: Source, R: Wait>(
     ensures some { OnOk result.1 (is_nothing (blank_call change.entry.update) ≡ false) }
     ensures overtaken { IfErr result.1 (IsOfCall change.entry.update) }
     ensures reads { S.failed source.new ≡ S.failed source.old + failed_by result.1 }
+    ensures short { seat.new.asking.turn ≡ turned_end result.1 seat.old.asking.turn }
 {
     let first_version = lend(
         rt,

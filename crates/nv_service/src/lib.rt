@@ -5,6 +5,7 @@
 //! pass that owns an inode at its version. Nobody sees an older cell than he has seen.
 #![tactic(auto)]
 
+mod asking;
 mod book;
 mod calls;
 mod cell;

@@ -3,7 +3,7 @@
 ghost use Rattle.std.specs.Prelude.{◌<◌, IfErr, IfOk, length};
 ghost use Rattle.nv_calls.specs.Looks.{directories};
 ghost use Rattle.nv_calls.specs.Updates.{blank_call};
-ghost use Rattle.nv_service.specs.Refusing.{LooksFor, MayRefuseRound};
+ghost use Rattle.nv_service.specs.Refusing.{LooksFor, MayRefuseCheck};
 
 use crate::guards::hold_at;
 use crate::names::{Blocks, Commits};
@@ -23,7 +23,7 @@ pub(crate) fn look_names<C: Commits, B: Blocks, R: Wait>(
     update: &Update,
 ) -> Result<LookupResult, Fault>
     ensures found { IfOk result (LooksFor update.now) }
-    ensures err { IfErr result (MayRefuseRound update.now) }
+    ensures err { IfErr result (MayRefuseCheck update.now) }
 {
     let mut looked = LookupResult {
         first: None,
@@ -44,7 +44,7 @@ fn look_name<C: Commits, B: Blocks, R: Wait>(
     before: &LookupResult,
 ) -> Result<LookupResult, Fault>
     requires { place < length (directories (blank_call update.now)) }
-    ensures { IfErr result (MayRefuseRound update.now) }
+    ensures { IfErr result (MayRefuseCheck update.now) }
 {
     let ino = directory(update, place).ino;
     let Some(lock) = service.inode_lock(ino) else {

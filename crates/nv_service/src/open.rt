@@ -7,7 +7,7 @@ ghost use Rattle.nv_base.specs.declared.limits.TheConstants.{ACTORS};
 ghost use Rattle.nv_core.specs.AtRest.{IsBusy, parts_of};
 ghost use Rattle.nv_core.specs.Worlds.{Shows};
 ghost use Rattle.nv_machine.specs.World as machine;
-ghost use Rattle.nv_service.specs.Names.{AreBlockNames, AreCommitNames};
+ghost use Rattle.nv_service.specs.Names.{AreBlockNames, AreCommitNames, AreSnapshotNames};
 ghost use Rattle.nv_service.specs.Opened.{versions_in};
 ghost use Rattle.nv_service.specs.Opening.{blocks_in};
 
@@ -25,8 +25,8 @@ use std::sync::Mutex;
 
 impl<C: Commits, B: Blocks> Service<C, B> {
     /// Puts a world's parts behind locks, with a share of the blocks beside each list and cell and the owner of an inode
-    /// beside its cell. The names are those of the two ledgers, and these say what stands now: the number of the last
-    /// commit, the epoch, and the version of each inode.
+    /// beside its cell. The names are those of the ledgers, and these say what stands now: the number of the last
+    /// commit, the epoch, how many snapshots live, and the version of each inode.
     ///
     /// `OutOfMemory` where room was refused, before anything else; `ActorBusy` where an actor has a call. World and names
     /// come back as they were.
@@ -36,10 +36,12 @@ impl<C: Commits, B: Blocks> Service<C, B> {
         names: Names,
     ) -> Result<Service<C, B>, (Fault, World, Names)>
         requires commits { AreCommitNames names C.name C.parts C.whole C.table }
+        requires snapshots { AreSnapshotNames names C.snap_name C.snap_parts }
         requires blocks { AreBlockNames names B.name B.parts B.whole B.placed
             world.shared.geometry.numbers }
         requires stood { (C.commit ≡ world.shared.book.state.commit)
             × (C.epoch ≡ world.shared.book.state.snaps.epoch)
+            × (C.living ≡ length world.shared.book.state.snaps.living)
             × (C.opened ≡ versions_in world.shared.cells.items) }
         ensures blocks { IfOk result (λ service.
             service.total.amount ≡ blocks_in (parts_of world.shared)) }
@@ -68,10 +70,12 @@ impl<C: Commits, B: Blocks> Service<C, B> {
     /// A service of these parts, in room that was made before.
     fn of_parts(alloc: Global, parts: Parts, names: Names, room: LockRoom<C, B>) -> Service<C, B>
         requires commits { AreCommitNames names C.name C.parts C.whole C.table }
+        requires snapshots { AreSnapshotNames names C.snap_name C.snap_parts }
         requires blocks { AreBlockNames names B.name B.parts B.whole B.placed
             parts.geometry.numbers }
         requires stood { (C.commit ≡ parts.book.state.commit)
             × (C.epoch ≡ parts.book.state.snaps.epoch)
+            × (C.living ≡ length parts.book.state.snaps.living)
             × (C.opened ≡ versions_in parts.cells) }
         requires slots { (length parts.cells ≡ parts.geometry.numbers.inodes)
             × (length parts.lists ≡ parts.geometry.numbers.cpus) }
@@ -91,6 +95,8 @@ impl<C: Commits, B: Blocks> Service<C, B> {
             mut maker,
             commits,
             all_commits: mut spare_commits,
+            snap_book,
+            all_snapped: mut spare_snapped,
             blocks: mut counts,
             all_blocks: mut spare_blocks,
         } = names.open::<C, B>(&geometry);
@@ -112,6 +118,7 @@ impl<C: Commits, B: Blocks> Service<C, B> {
             &fresh,
             &mut maker,
             &mut spare_commits,
+            &mut spare_snapped,
             &mut spare_blocks,
             seats,
         );
@@ -119,6 +126,7 @@ impl<C: Commits, B: Blocks> Service<C, B> {
             cut,
             notes: maker.seen(&fresh),
             commits: spare_commits,
+            snapped: spare_snapped,
             blocks: spare_blocks,
         };
         let seating = Seating {
@@ -132,7 +140,11 @@ impl<C: Commits, B: Blocks> Service<C, B> {
             cells,
             lists,
             pool: CachePadded::new(Mutex::new(pool)),
-            book: CachePadded::new(Mutex::new(LockedBook { book, commits })),
+            book: CachePadded::new(Mutex::new(LockedBook {
+                book,
+                commits,
+                snap_book,
+            })),
             fresh,
             seating,
             total: counts.close(),

@@ -5,6 +5,7 @@ ghost use Rattle.nv_alloc.specs.Hand.{blocks_of};
 ghost use Rattle.nv_calls.specs.Cells.{AreCells};
 ghost use Rattle.nv_calls.specs.AllCalls.{is_nothing};
 ghost use Rattle.nv_calls.specs.Updates.{blank_call};
+ghost use Rattle.nv_service.specs.Asking.{turned_end};
 ghost use Rattle.nv_service.specs.Changing.{AreWhole, IsOfCall, IsReceiptOf, KeepVersions, MayBeRaised, RaisesPublished, blocks_in};
 ghost use Rattle.nv_service.specs.Refusing.{failed_by};
 
@@ -60,6 +61,7 @@ pub(crate) fn over_two<C: Commits, B: Blocks, S: Source, R: Wait>(
     ensures some { OnOk result.1 (is_nothing (blank_call change.entry.update) ≡ false) }
     ensures overtaken { IfErr result.1 (IsOfCall change.entry.update) }
     ensures reads { S.failed source.new ≡ S.failed source.old + failed_by result.1 }
+    ensures short { seat.new.asking.turn ≡ turned_end result.1 seat.old.asking.turn }
 {
     let mut lent = TwoCells {
         ino: inodes.0,
@@ -119,6 +121,7 @@ pub(crate) fn over_three<C: Commits, B: Blocks, S: Source, R: Wait>(
     ensures some { OnOk result.1 (is_nothing (blank_call change.entry.update) ≡ false) }
     ensures overtaken { IfErr result.1 (IsOfCall change.entry.update) }
     ensures reads { S.failed source.new ≡ S.failed source.old + failed_by result.1 }
+    ensures short { seat.new.asking.turn ≡ turned_end result.1 seat.old.asking.turn }
 {
     let mut lent = ThreeCells {
         ino: inodes.0,
@@ -193,6 +196,7 @@ pub(crate) fn over_four<C: Commits, B: Blocks, S: Source, R: Wait>(
     ensures some { OnOk result.1 (is_nothing (blank_call change.entry.update) ≡ false) }
     ensures overtaken { IfErr result.1 (IsOfCall change.entry.update) }
     ensures reads { S.failed source.new ≡ S.failed source.old + failed_by result.1 }
+    ensures short { seat.new.asking.turn ≡ turned_end result.1 seat.old.asking.turn }
 {
     let mut lent = FourCells {
         ino: inodes.0,
@@ -257,6 +261,7 @@ fn lent_three<C: Commits, B: Blocks, S: Source, R: Wait>(
     ensures some { OnOk result.1 (is_nothing (blank_call change.entry.update) ≡ false) }
     ensures overtaken { IfErr result.1 (IsOfCall change.entry.update) }
     ensures reads { S.failed source.new ≡ S.failed source.old + failed_by result.1 }
+    ensures short { seat.new.asking.turn ≡ turned_end result.1 seat.old.asking.turn }
     ensures ino_first { lent.new.ino ≡ lent.old.ino }
     ensures first { lent.new.cell.ghost_name
         ≡ lent.old.cell.ghost_name }
@@ -324,6 +329,7 @@ fn lent_four<C: Commits, B: Blocks, S: Source, R: Wait>(
     ensures some { OnOk result.1 (is_nothing (blank_call change.entry.update) ≡ false) }
     ensures overtaken { IfErr result.1 (IsOfCall change.entry.update) }
     ensures reads { S.failed source.new ≡ S.failed source.old + failed_by result.1 }
+    ensures short { seat.new.asking.turn ≡ turned_end result.1 seat.old.asking.turn }
     ensures ino_first { lent.new.ino ≡ lent.old.ino }
     ensures first { lent.new.cell.ghost_name
         ≡ lent.old.cell.ghost_name }

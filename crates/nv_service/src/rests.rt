@@ -6,7 +6,7 @@ ghost use Rattle.nv_service.specs.Rests.{AreInPlace, IsKnown};
 use crate::cell_locks::{CellLocks, Slot};
 use crate::gather::{gather_cells, gather_lists, gather_seats, gather_sessions};
 use crate::list::LockedList;
-use crate::names::{Blocks, Commits};
+use crate::names::{Blocks, Commits, SnapLedger};
 use crate::passes::{Fresh, Owner};
 use crate::seats::{Reserve, Seating};
 use crate::session::Session;
@@ -70,6 +70,7 @@ pub(crate) struct Rests<C: Commits, B: Blocks> {
     pub(crate) list_locks: Vec<CachePadded<Mutex<LockedList<B>>>>,
     pub(crate) lists: Vec<ListRest<B>>,
     pub(crate) commits: ledger::Book<C>,
+    pub(crate) snap_book: ledger::Book<SnapLedger<C>>,
     pub(crate) fresh: Fresh<C>,
     pub(crate) seating: Seating<C, B>,
     pub(crate) total: Total<B>,
@@ -82,13 +83,14 @@ pub(crate) struct Rests<C: Commits, B: Blocks> {
 }
 
 impl<C: Commits, B: Blocks> Rests<C, B> {
-    /// Takes in all shares, those of the sessions too, and what all have seen: the commits of the sessions are all that
-    /// the ledger counts, no owner's version is below that of the opening, no session has seen more of an inode than its owner
-    /// has, and no list and no cell has a block
-    /// that is not of the total. What the hands of the sessions hold ends here.
+    /// Takes in all shares, those of the sessions too, and what all have seen: the commits of the sessions are all that the
+    /// ledger counts, and so are their makings and drops of snapshots; no owner's version is below that of the opening, no
+    /// session has seen more of an inode than its owner has, and no list and no cell has a block that is not of the total.
+    /// What the hands of the sessions hold ends here.
     pub(crate) fn join<R: Wait>(self, rt: &R, sessions: Vec<Session<C, B>>)
         requires seats { vec_len sessions ≡ self.seating.given }
         ensures commits { self.commits.total ≡ sum_by (λ s. s.commits) sessions.items }
+        ensures snapshots { self.snap_book.total ≡ sum_by (λ s. s.snapped) sessions.items }
         ensures blocks { sum_by (λ r. r) self.lists.items + sum_by (λ r. r.blocks) self.cells.items
             ≤ self.total.amount }
         ensures versions { All (IsKnown C.opened []) self.cells.items }
@@ -102,6 +104,7 @@ impl<C: Commits, B: Blocks> Rests<C, B> {
             list_locks,
             lists,
             mut commits,
+            mut snap_book,
             fresh,
             seating,
             total,
@@ -117,14 +120,23 @@ impl<C: Commits, B: Blocks> Rests<C, B> {
             cut: _,
             mut notes,
             commits: mut made,
+            mut snapped,
             blocks: mut held,
         } = reserve.into_inner();
-        gather_sessions(&fresh, sessions, &mut made, &mut held, &mut notes);
-        gather_seats(free, &mut made, &mut held);
+        gather_sessions(
+            &fresh,
+            sessions,
+            &mut made,
+            &mut snapped,
+            &mut held,
+            &mut notes,
+        );
+        gather_seats(free, &mut made, &mut snapped, &mut held);
         gather_cells(rt, &fresh, &mut notes, cells, &mut held);
         gather_lists(lists, &mut held);
         total.audit(&mut held);
         commits.audit(&mut made);
+        snap_book.audit(&mut snapped);
     }
 }
 

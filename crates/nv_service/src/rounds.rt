@@ -1,11 +1,12 @@
 //! A call that changes nodes, from its looks to its end.
 
-ghost use Rattle.std.specs.Prelude.{◌≡◌, ◌<◌, ◌≤◌, ◌+◌, ◌-◌, ◌^◌, ℕ, IfErr, IfOk, None, false, length};
+ghost use Rattle.std.specs.Prelude.{◌≡◌, ◌<◌, ◌≤◌, ◌+◌, ◌-◌, ◌^◌, ℕ, Bool, IfErr, IfOk, None, false, length};
 ghost use Rattle.nv_alloc.specs.Hand.{blocks_of};
 ghost use Rattle.nv_base.specs.Refusals.{KeepsOnErr};
 ghost use Rattle.nv_calls.specs.Prepared.{makes};
 ghost use Rattle.nv_base.specs.declared.fault.Fault.TheVariants.{Contended};
 ghost use Rattle.nv_base.specs.declared.limits.TheConstants.{LOCK_ROUNDS};
+ghost use Rattle.nv_service.specs.Asking.{turned_end, turned_in, turned_round};
 ghost use Rattle.nv_service.specs.Refusing.{MayGiveUp, failed_by, failed_in, failed_round};
 ghost use Rattle.nv_service.specs.Rounds.{IsEndedBy, IsRoundOf};
 ghost use Rattle.nv_service.specs.Sessions.{IsChangedBy, SessionValue, answered, at_seat};
@@ -61,6 +62,7 @@ impl RoundEnd {
             → IsEndedBy opening before after u end → nothing ≡ answered None u
             → IsRoundOf opening before after u result }
         ensures reads { failed_round result ≡ failed_by end }
+        ensures short { (turn : Bool) → turned_round result turn ≡ turned_end end turn }
     {
         match end {
             Ok(receipt) => RoundEnd::Ends(Ok(Seen::Committed(receipt))),
@@ -93,6 +95,7 @@ fn round<C: Commits, B: Blocks, S: Source, R: Wait>(
         (at_seat seat.old.number seat.old.commits.amount seat.old.notes)
         (at_seat seat.new.number seat.new.commits.amount seat.new.notes) update result.1 }
     ensures reads { S.failed source.new ≡ S.failed source.old + failed_round result.1 }
+    ensures short { seat.new.asking.turn ≡ turned_round result.1 seat.old.asking.turn }
 {
     let nothing = answer_to(&update, None);
     let looked = match look_names(rt, service, &update) {
@@ -111,7 +114,8 @@ fn round<C: Commits, B: Blocks, S: Source, R: Wait>(
 }
 
 /// Round after round of a call, as long as a name leads elsewhere than its look found, and at most so many behind the
-/// first. `Contended` where the last one too is overtaken. How many rounds were made stands last.
+/// first. `Contended` where the last one too is overtaken. How many rounds were made stands last. `NoSpace` comes only where
+/// a taking of blocks has asked each CPU's list.
 fn rounds<C: Commits, B: Blocks, S: Source, R: Wait>(
     rt: &R,
     service: &Service<C, B>,
@@ -140,6 +144,7 @@ fn rounds<C: Commits, B: Blocks, S: Source, R: Wait>(
     ensures all { IfErr result.1 (λ why. why ≡ Contended → result.2 ≡ left + 1) }
     ensures most { result.2 ≤ left + 1 }
     ensures reads { S.failed source.new ≡ S.failed source.old + failed_in result.1 }
+    ensures short { seat.new.asking.turn ≡ turned_in result.1 seat.old.asking.turn }
 {
     let (hand, end) = round(rt, service, seat, number, update, hand, source);
     match end {

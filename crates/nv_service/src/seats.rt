@@ -10,7 +10,8 @@ ghost use Rattle.nv_base.specs.declared.limits.TheConstants.{ACTORS};
 ghost use Rattle.nv_alloc.specs.Numbers.{times};
 ghost use Rattle.nv_service.specs.Seats.{AreSeats, new_session};
 
-use crate::names::{Blocks, Commits, Cut};
+use crate::asking::Asking;
+use crate::names::{Blocks, Commits, Cut, SnapLedger};
 use crate::passes::{Fresh, Maker, Notes};
 use crate::seat::Seat;
 use crate::service::Service;
@@ -25,10 +26,13 @@ use std::sync::ledger::Share;
 #[derive(Drop)]
 pub(crate) struct FreeSeat<C: Commits, B: Blocks> {
     pub(crate) commits: Share<C>,
+    pub(crate) snapped: Share<SnapLedger<C>>,
     pub(crate) blocks: Share<B>,
     pub(crate) notes: Notes<C>,
     ghost commit_part: { commits.parts ≡ 1 },
     ghost no_commit: { commits.amount ≡ 0 },
+    ghost snap_part: { snapped.parts ≡ 1 },
+    ghost none_snapped: { snapped.amount ≡ 0 },
     ghost block_part: { blocks.parts ≡ 1 },
     ghost no_block: { blocks.amount ≡ 0 },
     ghost nothing_seen: { notes ≡ [] },
@@ -40,16 +44,21 @@ impl<C: Commits, B: Blocks> FreeSeat<C, B> {
         fresh: &Fresh<C>,
         maker: &mut Maker<C>,
         commits: &mut Share<C>,
+        snapped: &mut Share<SnapLedger<C>>,
         blocks: &mut Share<B>,
     ) -> FreeSeat<C, B>
-        requires parts { (0 < commits.old.parts) × (0 < blocks.old.parts) }
-        requires nothing { (commits.old.amount ≡ 0) × (blocks.old.amount ≡ 0) }
+        requires parts { (0 < commits.old.parts) × (0 < snapped.old.parts)
+            × (0 < blocks.old.parts) }
+        requires nothing { (commits.old.amount ≡ 0) × (snapped.old.amount ≡ 0)
+            × (blocks.old.amount ≡ 0) }
         ensures commits { (commits.new.parts + 1 ≡ commits.old.parts) × (commits.new.amount ≡ 0) }
+        ensures snapped { (snapped.new.parts + 1 ≡ snapped.old.parts) × (snapped.new.amount ≡ 0) }
         ensures blocks { (blocks.new.parts + 1 ≡ blocks.old.parts) × (blocks.new.amount ≡ 0) }
         ensures maker { maker.new ≡ maker.old }
     {
         FreeSeat {
             commits: commits.split_off(1, 0),
+            snapped: snapped.split_off(1, 0),
             blocks: blocks.split_off(1, 0),
             notes: maker.seen(fresh),
         }
@@ -61,6 +70,7 @@ impl<C: Commits, B: Blocks> FreeSeat<C, B> {
     {
         let FreeSeat {
             commits,
+            snapped,
             blocks,
             notes,
         } = self;
@@ -69,16 +79,18 @@ impl<C: Commits, B: Blocks> FreeSeat<C, B> {
             commits,
             blocks,
             notes,
+            asking: Asking::new(),
         };
         Session {
             alloc,
             seat,
+            snapped,
             hand: Hand::new(alloc, geometry),
         }
     }
 }
 
-/// The seats of a service: those that no session has, how many were given out, and what is left of both ledgers. Tokens
+/// The seats of a service: those that no session has, how many were given out, and what is left of the ledgers. Tokens
 /// are no `Sync`, so each free seat and the rest lie behind locks of their own.
 #[derive(Drop)]
 pub(crate) struct Seating<C: Commits, B: Blocks> {
@@ -88,16 +100,19 @@ pub(crate) struct Seating<C: Commits, B: Blocks> {
     ghost all_seats: { vec_len free + given ≡ ACTORS },
 }
 
-/// What no seat and no lock of a part has: the rest of both ledgers, with nothing, and a pass that takes in what sessions
+/// What no seat and no lock of a part has: the rest of the ledgers, with nothing, and a pass that takes in what sessions
 /// have seen.
 #[derive(Drop)]
 pub(crate) struct Reserve<C: Commits, B: Blocks> {
     pub(crate) cut: Cut<C>,
     pub(crate) notes: Notes<C>,
     pub(crate) commits: Share<C>,
+    pub(crate) snapped: Share<SnapLedger<C>>,
     pub(crate) blocks: Share<B>,
     ghost commit_parts: { commits.parts + ACTORS ≡ C.whole },
     ghost no_commit: { commits.amount ≡ 0 },
+    ghost snap_parts: { snapped.parts + ACTORS ≡ C.snap_parts },
+    ghost none_snapped: { snapped.amount ≡ 0 },
     ghost block_parts: { blocks.parts + ACTORS + B.placed ≡ B.whole },
     ghost no_block: { blocks.amount ≡ 0 },
 }
@@ -159,18 +174,22 @@ pub(crate) fn free_seats<C: Commits, B: Blocks>(
     fresh: &Fresh<C>,
     maker: &mut Maker<C>,
     commits: &mut Share<C>,
+    snapped: &mut Share<SnapLedger<C>>,
     blocks: &mut Share<B>,
     mut into: Vec<Mutex<FreeSeat<C, B>>>,
 ) -> Vec<Mutex<FreeSeat<C, B>>>
-    requires parts { (ACTORS ≤ commits.old.parts) × (ACTORS ≤ blocks.old.parts) }
-    requires nothing { (commits.old.amount ≡ 0) × (blocks.old.amount ≡ 0) }
+    requires parts { (ACTORS ≤ commits.old.parts) × (ACTORS ≤ snapped.old.parts)
+        × (ACTORS ≤ blocks.old.parts) }
+    requires nothing { (commits.old.amount ≡ 0) × (snapped.old.amount ≡ 0)
+        × (blocks.old.amount ≡ 0) }
     requires room { (vec_len into ≡ 0) × (ACTORS ≤ vec_capacity into) }
     ensures count { vec_len result ≡ ACTORS }
     ensures commits { (commits.new.parts + ACTORS ≡ commits.old.parts) × (commits.new.amount ≡ 0) }
+    ensures snapped { (snapped.new.parts + ACTORS ≡ snapped.old.parts) × (snapped.new.amount ≡ 0) }
     ensures blocks { (blocks.new.parts + ACTORS ≡ blocks.old.parts) × (blocks.new.amount ≡ 0) }
 {
     for _ in 0..limits::ACTORS {
-        into.push_reserved(Mutex::new(FreeSeat::split(fresh, maker, commits, blocks)));
+        into.push_reserved(Mutex::new(FreeSeat::split(fresh, maker, commits, snapped, blocks)));
     }
     into
 }

@@ -4,6 +4,7 @@ ghost use Rattle.std.specs.Prelude.{◌≡◌, ◌+◌, ◌≤◌, [], MatchOpti
 ghost use Rattle.std.specs.Option.{option_map};
 ghost use Rattle.crossbeam_utils.specs.Padded.{padded_value};
 ghost use Rattle.nv_service.specs.Rests.{AreAllSlots, list_told, told_by, told_of};
+ghost use Rattle.nv_service.specs.Snapped.{AreSnapped};
 
 use crate::book::LockedBook;
 use crate::cell::LockedCell;
@@ -98,7 +99,8 @@ impl<C: Commits, B: Blocks> Service<C, B> {
         ensures slots { AreAllSlots result.1.cells.items }
         ensures lists { result.1.lists.items ≡ map list_told result.0.lists }
         ensures commits { result.0.book.state.commit ≡ C.commit + result.1.commits.total }
-        ensures epoch { C.epoch ≤ result.0.book.state.snaps.epoch }
+        ensures snapshots { AreSnapped C.living C.epoch result.0.book.state.snaps
+            result.1.snap_book.total }
         ensures geometry { (result.0.geometry ≡ self.geometry)
             × (result.1.geometry ≡ self.geometry) }
         ensures total { result.1.total ≡ self.total }
@@ -125,7 +127,11 @@ impl<C: Commits, B: Blocks> Service<C, B> {
         } = room;
         let (cells, cell_rests) = unlock_cells(&mut cell_locks, cells, cell_rests);
         let (lists, list_rests) = unlock_lists(&mut list_locks, lists, list_rests);
-        let LockedBook { book, commits } = book.into_inner().into_inner();
+        let LockedBook {
+            book,
+            commits,
+            snap_book,
+        } = book.into_inner().into_inner();
         let parts = Parts {
             geometry,
             cells: Items::from_vec(cells),
@@ -141,6 +147,7 @@ impl<C: Commits, B: Blocks> Service<C, B> {
             list_locks,
             lists: list_rests,
             commits,
+            snap_book,
             fresh,
             seating,
             total,

@@ -2,17 +2,19 @@
 
 ghost use Rattle.std.specs.Prelude.{◌≡◌};
 
-use crate::names::{Blocks, Commits};
+use crate::names::{Blocks, Commits, SnapLedger};
 use crate::seat::Seat;
 use nv_alloc::Hand;
 use std::alloc::Global;
 use std::marker::Model;
+use std::sync::ledger::Share;
 
 /// A session makes calls on the service, one after another, from any thread. It keeps the blocks and the inode number that
 /// no list and no pool took back: as long as there are any, a call that needs blocks is refused.
 pub struct Session<C: Commits, B: Blocks> {
     pub(crate) alloc: Global,
     pub(crate) seat: Seat<C, B>,
+    pub(crate) snapped: Share<SnapLedger<C>>,
     pub(crate) hand: Hand,
 }
 
@@ -26,28 +28,32 @@ impl<C: Commits, B: Blocks> Model for Session<C, B> {
     ghost view = { λ s. record {
       number = s.seat.number;
       commits = s.seat.commits.amount;
+      snapped = s.snapped.amount;
       seen = s.seat.notes;
     } };
 
     ghost invariant = { λ s. (s.seat.commits.parts ≡ 1)
         × (s.seat.blocks.parts ≡ 1)
+        × (s.snapped.parts ≡ 1)
         × (s.seat.blocks.amount ≡ length (blocks_of s.hand)) };
 }
 
 impl<C: Commits, B: Blocks> Session<C, B> {
-    /// The seat. What the hand holds ends here.
-    pub(crate) fn into_seat(self) -> Seat<C, B>
-        ensures parts { (result.commits.parts ≡ 1) × (result.blocks.parts ≡ 1) }
-        ensures commits { result.commits.amount ≡ self.commits }
-        ensures seen { result.notes ≡ self.seen }
+    /// The seat, and the share of makings and drops of snapshots. What the hand holds ends here.
+    pub(crate) fn into_seat(self) -> (Seat<C, B>, Share<SnapLedger<C>>)
+        ensures parts { (result.0.commits.parts ≡ 1) × (result.0.blocks.parts ≡ 1) }
+        ensures commits { result.0.commits.amount ≡ self.commits }
+        ensures snapped { (result.1.parts ≡ 1) × (result.1.amount ≡ self.snapped) }
+        ensures seen { result.0.notes ≡ self.seen }
     {
         let Session {
             alloc: _,
             seat,
+            snapped,
             hand,
         } = self;
         hand.dismantle();
-        seat
+        (seat, snapped)
     }
 }
 
@@ -57,6 +63,7 @@ impl<C: Commits, B: Blocks> Drop for Session<C, B> {
         let Session {
             alloc: _,
             seat: _,
+            snapped: _,
             hand,
         } = self;
         hand.dismantle();

@@ -1,7 +1,7 @@
 //! A service is opened on a world, worked with and closed. No test needs to know what its ledgers are named.
 
-ghost use Rattle.std.specs.Prelude.{◌≡◌};
-ghost use Rattle.nv_service.specs.Names.{AreBlockNames, AreCommitNames, block_parts};
+ghost use Rattle.std.specs.Prelude.{◌≡◌, length};
+ghost use Rattle.nv_service.specs.Names.{AreBlockNames, AreCommitNames, AreSnapshotNames, block_parts};
 ghost use Rattle.nv_service.specs.Opened.{versions_in};
 
 use crate::compare::{refused_memory, same};
@@ -56,10 +56,12 @@ fn run<
     R: Threads + Wait + Abort + Sync,
 >(rt: &R, alloc: Global, world: World, names: Names, work: &mut W) -> World
     requires commits { AreCommitNames names C.name C.parts C.whole C.table }
+    requires snapshots { AreSnapshotNames names C.snap_name C.snap_parts }
     requires blocks { AreBlockNames names B.name B.parts B.whole B.placed
         world.shared.geometry.numbers }
     requires stood { (C.commit ≡ world.shared.book.state.commit)
         × (C.epoch ≡ world.shared.book.state.snaps.epoch)
+        × (C.living ≡ length world.shared.book.state.snaps.living)
         × (C.opened ≡ versions_in world.shared.cells.items) }
 {
     let service = opened::<C, B>(rt, alloc, world, names);
@@ -75,10 +77,12 @@ pub fn opened<C: Commits, B: Blocks>(
     names: Names,
 ) -> Service<C, B>
     requires commits { AreCommitNames names C.name C.parts C.whole C.table }
+    requires snapshots { AreSnapshotNames names C.snap_name C.snap_parts }
     requires blocks { AreBlockNames names B.name B.parts B.whole B.placed
         world.shared.geometry.numbers }
     requires stood { (C.commit ≡ world.shared.book.state.commit)
         × (C.epoch ≡ world.shared.book.state.snaps.epoch)
+        × (C.living ≡ length world.shared.book.state.snaps.living)
         × (C.opened ≡ versions_in world.shared.cells.items) }
 {
     let (world, names) = match Service::open(alloc, world, names) {
@@ -146,10 +150,12 @@ fn refused_as_busy<C: Commits, B: Blocks>(
     names: Names,
 ) -> World
     requires commits { AreCommitNames names C.name C.parts C.whole C.table }
+    requires snapshots { AreSnapshotNames names C.snap_name C.snap_parts }
     requires blocks { AreBlockNames names B.name B.parts B.whole B.placed
         world.shared.geometry.numbers }
     requires stood { (C.commit ≡ world.shared.book.state.commit)
         × (C.epoch ≡ world.shared.book.state.snaps.epoch)
+        × (C.living ≡ length world.shared.book.state.snaps.living)
         × (C.opened ≡ versions_in world.shared.cells.items) }
 {
     match Service::<C, B>::open(alloc, world, names) {

@@ -1,7 +1,7 @@
 //! A service is opened on a world, several sessions work with it, each in a thread of its own, and it is closed.
 
-ghost use Rattle.std.specs.Prelude.{◌≡◌};
-ghost use Rattle.nv_service.specs.Names.{AreBlockNames, AreCommitNames};
+ghost use Rattle.std.specs.Prelude.{◌≡◌, length};
+ghost use Rattle.nv_service.specs.Names.{AreBlockNames, AreCommitNames, AreSnapshotNames};
 ghost use Rattle.nv_service.specs.Opened.{versions_in};
 
 use crate::runner::{closed, new_names, opened, seated};
@@ -50,10 +50,12 @@ fn run_in_threads<
     R: Threads + Wait + Abort + Sync,
 >(rt: &R, alloc: Global, world: World, names: Names, count: u64, acts: &A) -> World
     requires commits { AreCommitNames names C.name C.parts C.whole C.table }
+    requires snapshots { AreSnapshotNames names C.snap_name C.snap_parts }
     requires blocks { AreBlockNames names B.name B.parts B.whole B.placed
         world.shared.geometry.numbers }
     requires stood { (C.commit ≡ world.shared.book.state.commit)
         × (C.epoch ≡ world.shared.book.state.snaps.epoch)
+        × (C.living ≡ length world.shared.book.state.snaps.living)
         × (C.opened ≡ versions_in world.shared.cells.items) }
 {
     let mut service = opened::<C, B>(rt, alloc, world, names);

@@ -1,5 +1,5 @@
 -- The seats of threads and cleaners, and that a call leaves a session on its seat.
-use Rattle.std.proofs.Common.{◌≡◌, ◌≢◌, ℕ, ◌+◌, ◌<◌, ◌≤◌, ◌⊎◌, inl, inr, zero, suc, List, [], ◌∷◌, length, map, refl, ap, sym, subst, arith}
+use Rattle.std.proofs.Common.{◌≡◌, ◌≢◌, ℕ, ◌+◌, ◌<◌, ◌≤◌, ◌⊎◌, inl, inr, zero, suc, List, [], ◌∷◌, ◌∙◌, length, map, refl, ap, sym, subst, arith}
 use Rattle.std.proofs.lemmas.Bool.{cases_eq, eq-eqb, ne_eqb}
 use Rattle.std.proofs.lemmas.List.FromFn.{length-range_with_len}
 use Rattle.std.specs.List.{range_with_len}
@@ -7,6 +7,8 @@ use Rattle.nv_alloc.proofs.Lists.{times-cons}
 use Rattle.nv_alloc.specs.Numbers.{times}
 use Rattle.nv_calls.specs.declared.call.Call.{Call}
 use Rattle.nv_calls.specs.declared.call.Call.TheVariants as call
+use Rattle.nv_calls.specs.declared.maintenance_call.MaintenanceCall.{MaintenanceCall}
+use Rattle.nv_calls.specs.declared.maintenance_call.MaintenanceCall.TheVariants as maintenance
 use Rattle.nv_calls.specs.declared.update.Update.{Update}
 use Rattle.nv_calls.specs.declared.update.Update.TheVariants as update
 use Rattle.nv_base.specs.Memory.{out_of_memory}
@@ -15,7 +17,7 @@ use Rattle.nv_base.specs.declared.fault.Fault.TheVariants as fault
 use Rattle.nv_core.specs.AtRest.{IsBusy, IsMismatchOf}
 use Rattle.nv_core.specs.declared.parts.Parts.{Parts}
 use Rattle.nv_machine.specs.World.{World}
-use Rattle.nv_service.specs.ByValue.{IsMadeAs}
+use Rattle.nv_service.specs.ByValue.{IsMadeAs, after_maintenance}
 use Rattle.nv_service.specs.Closing.{IsDifference}
 use Rattle.nv_service.specs.Rests.{CellRestValue}
 use Rattle.nv_service.specs.Seats.{AreSeats, new_session}
@@ -79,6 +81,15 @@ viewed_seat opened before after ino c (seen.Viewed view) is = is.seat
 viewed_seat opened before after ino c (seen.Committed receipt) is = absurd is
 viewed_seat opened before after ino c (seen.Other answer) is = absurd is
 
+maintained_seat : (c : MaintenanceCall) (before : SessionValue) → (after_maintenance c before).number ≡ before.number
+maintained_seat maintenance.Snap before = refl
+maintained_seat (maintenance.Drop snapshot) before = refl
+maintained_seat (maintenance.Show snapshot) before = refl
+maintained_seat (maintenance.Drain number) before = refl
+maintained_seat (maintenance.Fast ino) before = refl
+maintained_seat (maintenance.Thorough ino) before = refl
+maintained_seat (maintenance.Auto ino) before = refl
+
 pub made_seat : (opening : ℕ) (opened : List ℕ) (before after : SessionValue) (c : Call) (s : Seen)
     → IsMadeAs opening opened before after c s → after.number ≡ before.number
 made_seat opening opened before after (call.Create dir name mode) s is = committed_seat opening before after _ s is
@@ -95,7 +106,7 @@ made_seat opening opened before after (call.Read file offset count) s is = viewe
 made_seat opening opened before after (call.Stat handle) s is = viewed_seat opened before after _ _ s is
 made_seat opening opened before after (call.List dir) s is = viewed_seat opened before after _ _ s is
 made_seat opening opened before after (call.Lookup dir name) s is = viewed_seat opened before after _ _ s is
-made_seat opening opened before after (call.Maintenance c) s is = ap (λ (s : SessionValue). s.number) is.0
+made_seat opening opened before after (call.Maintenance c) s is = ap (λ (s : SessionValue). s.number) is.0 ∙ maintained_seat c before
 
 -- ---- a service that does not close
 

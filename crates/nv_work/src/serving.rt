@@ -1,13 +1,13 @@
 //! A service on a world, for the threads of a script.
 
-ghost use Rattle.std.specs.Prelude.{◌≡◌, ◌+◌, ◌++◌, ◌≤◌, IfErr, IfOk, OnOk, map, vec_len};
+ghost use Rattle.std.specs.Prelude.{◌≡◌, ◌+◌, ◌++◌, ◌≤◌, IfErr, IfOk, OnOk, length, map, vec_len};
 ghost use Rattle.std.specs.List.{enumerate_from, range_with_len};
 ghost use Rattle.nv_base.specs.Memory.{out_of_memory};
 ghost use Rattle.nv_base.specs.Refusals.{FailsOnly};
 ghost use Rattle.nv_core.specs.AtRest.{IsBusy};
 ghost use Rattle.nv_core.specs.Worlds.{Shows};
 ghost use Rattle.nv_machine.specs.World as machine;
-ghost use Rattle.nv_service.specs.Names.{AreBlockNames, AreCommitNames};
+ghost use Rattle.nv_service.specs.Names.{AreBlockNames, AreCommitNames, AreSnapshotNames};
 ghost use Rattle.nv_service.specs.Opened.{versions_in};
 ghost use Rattle.nv_work.specs.Taken.{lists_of};
 ghost use Rattle.nv_work.specs.Threads.{AreThreadTexts};
@@ -62,10 +62,12 @@ fn serve<
     gate: &G,
 ) -> Result<(World, Vec<Vec<u8>>), Fault>
     requires commits { AreCommitNames names C.name C.parts C.whole C.table }
+    requires snapshots { AreSnapshotNames names C.snap_name C.snap_parts }
     requires blocks { AreBlockNames names B.name B.parts B.whole B.placed
         world.shared.geometry.numbers }
     requires stood { (C.commit ≡ world.shared.book.state.commit)
         × (C.epoch ≡ world.shared.book.state.snaps.epoch)
+        × (C.living ≡ length world.shared.book.state.snaps.living)
         × (C.opened ≡ versions_in world.shared.cells.items) }
     requires seats { (vec_len lines.threads ≤ 32) × (cleaners ≤ 32) }
     ensures texts { IfOk result (λ played. AreThreadTexts world.shared.geometry.numbers.actors

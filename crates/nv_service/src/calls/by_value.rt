@@ -1,8 +1,8 @@
 //! Calls that are given as values.
 
-ghost use Rattle.std.specs.Prelude.{◌≡◌, IfErr, IfOk};
+ghost use Rattle.std.specs.Prelude.{◌≡◌, IfErr, IfOk, OnOk};
 ghost use Rattle.nv_base.specs.Refusals.{KeepsOnErr};
-ghost use Rattle.nv_service.specs.ByValue.{IsAnswerTo, IsMadeAs};
+ghost use Rattle.nv_service.specs.ByValue.{IsAnswerTo, IsMadeAs, after_maintenance};
 ghost use Rattle.nv_service.specs.Refusing.{MayRefuse, MayRefuseMaintenance};
 
 use crate::names::{Blocks, Commits};
@@ -59,7 +59,8 @@ impl<C: Commits, B: Blocks> Session<C, B> {
         call: MaintenanceCall,
     ) -> Result<Seen, Fault>
         ensures other { IfOk result (IsAnswerTo call) }
-        ensures same { self.new ≡ self.old }
+        ensures left { OnOk result (self.new ≡ after_maintenance call self.old) }
+        ensures same { KeepsOnErr result self.old self.new }
         ensures err { IfErr result (MayRefuseMaintenance call) }
     {
         match call {

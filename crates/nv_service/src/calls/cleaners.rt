@@ -87,6 +87,7 @@ impl<C: Commits, B: Blocks> Session<C, B> {
             self.seat.number,
             &mut self.hand,
             mine,
+            &mut self.seat.asking,
             manner,
             ino,
         );

@@ -1,6 +1,8 @@
 //! The calls on snapshots.
 
-ghost use Rattle.std.specs.Prelude.{◌≡◌, ℕ, IfErr, IfOk, List};
+ghost use Rattle.std.specs.Prelude.{◌≡◌, ℕ, IfErr, IfOk, List, OnOk};
+ghost use Rattle.nv_base.specs.Refusals.{KeepsOnErr};
+ghost use Rattle.nv_service.specs.ByValue.{once_snapped};
 ghost use Rattle.nv_service.specs.Refusing.{MayRefuseMaintenance};
 ghost use Rattle.nv_entry.specs.declared.tree.TreeNode.{TreeNode};
 
@@ -14,17 +16,20 @@ use nv_calls::{Answer, MaintenanceCall};
 use std::sync::Wait;
 
 impl<C: Commits, B: Blocks> Session<C, B> {
-    /// Makes a snapshot of all nodes as they are, and answers its number. `EpochLimit`, `TooManySnapshots`.
+    /// Makes a snapshot of all nodes as they are, and answers its number. It counts in the session. `EpochLimit`,
+    /// `TooManySnapshots`.
     pub fn snap<R: Wait>(&mut self, rt: &R, service: &Service<C, B>) -> Result<Seen, Fault>
         ensures answer { IfOk result (λ seen. (s : ℕ) × (seen ≡ Seen.Other (Answer.Snapshot s))) }
         ensures err { IfErr result (MayRefuseMaintenance MaintenanceCall.Snap) }
-        ensures same { self.new ≡ self.old }
+        ensures counted { OnOk result (self.new ≡ once_snapped self.old) }
+        ensures same { KeepsOnErr result self.old self.new }
     {
-        let snapshot = service.book_lock().lock(rt).make_snapshot()?;
+        let mine = &mut self.snapped;
+        let snapshot = service.book_lock().lock(rt).make_snapshot(mine)?;
         Ok(Seen::Other(Answer::Snapshot(snapshot)))
     }
 
-    /// Drops a snapshot: what no older one holds either is deferred. `NoSnapshot`, `Pinned`.
+    /// Drops a snapshot: what no older one holds either is deferred. It counts in the session. `NoSnapshot`, `Pinned`.
     pub fn drop_snap<R: Wait>(
         &mut self,
         rt: &R,
@@ -33,9 +38,11 @@ impl<C: Commits, B: Blocks> Session<C, B> {
     ) -> Result<Seen, Fault>
         ensures answer { IfOk result (λ seen. seen ≡ Seen.Other Answer.Nothing) }
         ensures err { IfErr result (MayRefuseMaintenance (MaintenanceCall.Drop snapshot)) }
-        ensures same { self.new ≡ self.old }
+        ensures counted { OnOk result (self.new ≡ once_snapped self.old) }
+        ensures same { KeepsOnErr result self.old self.new }
     {
-        service.book_lock().lock(rt).drop_snapshot(snapshot)?;
+        let mine = &mut self.snapped;
+        service.book_lock().lock(rt).drop_snapshot(snapshot, mine)?;
         Ok(Seen::Other(Answer::Nothing))
     }
 

@@ -5,6 +5,7 @@ use Rattle.nv_service.specs.Changing.{blocks_in}
 use Rattle.nv_service.specs.Changing.{IsReceiptOf, RaisesPublished}
 use Rattle.nv_service.proofs.Raised.{all_published, kept_blocks, may_be_raised, receipt_is}
 use Rattle.nv_service.proofs.Refusals.{commit_wants}
+use Rattle.nv_service.proofs.Turns.{commit_keeps}
 use Rattle.nv_service.proofs.change.commit_ready.Goals as goal
 
 pub returns-in-Ok-clause-cells : goal.returns-in-Ok-clause-cells
@@ -33,3 +34,7 @@ returns-in-Ok-clause-blocks g c =
 pub returns-clause-err : goal.returns-clause-err
 returns-clause-err g c =
     commit_wants c.deref_mut.result.now (g.L.Cells.cells c.args.lent.now) c.args.ready _ c.in-Err.fault c.in-Err.ensures.err
+
+pub returns-clause-space : goal.returns-clause-space
+returns-clause-space g c =
+    commit_keeps c.deref_mut.result.now (g.L.Cells.cells c.args.lent.now) c.args.ready _ c.in-Err.fault c.in-Err.ensures.err

@@ -1,7 +1,8 @@
-use Rattle.std.proofs.Common.{rules, ◌≡◌, subst, sym}
-use Rattle.nv_book.specs.Book.{BookValue, after_enter}
+use Rattle.std.proofs.Common.{rules, ◌≡◌, ◌+◌, subst, sym}
+use Rattle.nv_book.specs.Book.{BookState, BookValue, after_enter}
 use Rattle.nv_calls.specs.CanCommit.{CanCommit, IsClosed}
 use Rattle.nv_service.specs.Committing.{TakeNext}
+use Rattle.nv_service.specs.Snapped.{AreSnapped}
 use Rattle.nv_service.proofs.ReadyOver.{can, placed}
 use Rattle.nv_service.proofs.commit.commit_over.Goals as goal
 
@@ -17,3 +18,10 @@ commit_on-requires g c =
     let is : c.book-2.inside.book ≡ (record { state = after_enter c.args.seat book; room = c.args.ready.need }) = search rules in
     subst (λ (b : BookValue). CanCommit cells b c.args.cpu c.args.ready) (sym is)
     (can cells c.args.ready c.requires.ready book c.args.seat c.args.cpu take closed)
+
+pub invariant_of-book : goal.invariant_of-book
+invariant_of-book g c =
+    subst
+    (λ (s : BookState). (s.commit ≡ g.C.Commits.commit + c.book-2.inside.commits.total)
+    × AreSnapped g.C.Commits.living g.C.Commits.epoch s.snaps c.book-2.inside.snap_book.total) (sym c.commit_on.ensures.book)
+    c.book-2.invariant

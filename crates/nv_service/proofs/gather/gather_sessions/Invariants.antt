@@ -7,6 +7,9 @@ invariant-loop-session g l = record {
   parts : l.commits.parts ≡ l.initial.commits.parts + length l.yielded;
   amount : l.commits.amount
       ≡ l.initial.commits.amount + sum_by (λ (s : SessionValue). s.commits) l.yielded;
+  snap_parts : l.snapped.parts ≡ l.initial.snapped.parts + length l.yielded;
+  snap_amount : l.snapped.amount
+      ≡ l.initial.snapped.amount + sum_by (λ (s : SessionValue). s.snapped) l.yielded;
   block_parts : l.blocks.parts ≡ l.initial.blocks.parts + length l.yielded;
   block_amount : l.initial.blocks.amount ≤ l.blocks.amount;
   before : (i : ℕ) → slice_index l.initial.notes i ≤ slice_index l.notes i;

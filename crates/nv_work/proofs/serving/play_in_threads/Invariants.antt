@@ -1,3 +1,4 @@
+use Rattle.std.proofs.Common.{length}
 use Rattle.nv_service.specs.Names.{placed_parts}
 use Rattle.nv_service.specs.Opened.{versions_in}
 use Rattle.nv_work.proofs.serving.play_in_threads.Given as goal
@@ -13,8 +14,11 @@ ghosts-serve-C-Commits g a = record {
   whole = a.names.commits.parts;
   commit = a.world.shared.book.state.commit;
   epoch = a.world.shared.book.state.snaps.epoch;
+  living = length a.world.shared.book.state.snaps.living;
   opened = versions_in a.world.shared.cells.items;
   table = a.names.table;
+  snap_name = a.names.snapshots.name;
+  snap_parts = a.names.snapshots.parts;
 }
 
 abbrev pub ghosts-serve-B-Blocks : goal.ghosts-serve-B-Blocks

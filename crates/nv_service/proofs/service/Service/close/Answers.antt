@@ -1,4 +1,4 @@
-use Rattle.std.proofs.Common.{◌∙◌, ◌≤◌, List, [], ap, arith, inl, inr, map, subst, sym, vec_len}
+use Rattle.std.proofs.Common.{◌∙◌, ℕ, List, [], ap, arith, inl, inr, map, subst, sym, vec_len}
 use Rattle.std.proofs.lemmas.List.{length-map}
 use Rattle.nv_base.specs.declared.geometry.Geometry.{Geometry}
 use Rattle.nv_core.specs.declared.parts.Parts.{Parts}
@@ -6,6 +6,7 @@ use Rattle.nv_service.specs.Opening.{blocks_in}
 use Rattle.nv_service.specs.Rests.{AreInPlace, told_of}
 use Rattle.nv_service.specs.Seats.{AreSeats}
 use Rattle.nv_service.specs.Sessions.{SessionValue}
+use Rattle.nv_service.specs.Snapped.{AreSnapped}
 use Rattle.nv_service.proofs.Closes.{beside, none_older, not_seats}
 use Rattle.nv_service.proofs.NotOlder.{not_older}
 use Rattle.nv_service.proofs.PartBlocks.{judged_blocks}
@@ -27,10 +28,13 @@ join-requires g c =
       );
     }
 
-pub returns-in-Ok-world_of-clause-epoch : goal.returns-in-Ok-world_of-clause-epoch
-returns-in-Ok-world_of-clause-epoch g c =
-    subst (λ (p : Parts). g.C.Commits.epoch ≤ p.book.state.snaps.epoch) (sym c.in-Ok-world_of.ensures.parts)
-    c.apart-parts.ensures.epoch
+pub returns-in-Ok-world_of-clause-snapshots : goal.returns-in-Ok-world_of-clause-snapshots
+returns-in-Ok-world_of-clause-snapshots g c =
+    let living = g.C.Commits.living in
+    let epoch = g.C.Commits.epoch in
+    subst (λ (n : ℕ). AreSnapped living epoch c.in-Ok-world_of.world.shared.book.state.snaps n) c.join.ensures.snapshots
+    (subst (λ (p : Parts). AreSnapped living epoch p.book.state.snaps c.apart-parts.result.1.snap_book.total)
+    (sym c.in-Ok-world_of.ensures.parts) c.apart-parts.ensures.snapshots)
 
 pub returns-in-Ok-world_of-clause-versions : goal.returns-in-Ok-world_of-clause-versions
 returns-in-Ok-world_of-clause-versions g c =

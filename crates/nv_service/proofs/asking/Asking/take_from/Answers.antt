@@ -1,7 +1,7 @@
 use Rattle.std.proofs.Common.{rules, ◌∙◌, arith, length-take, sym}
 use Rattle.nv_alloc.specs.FreeList.{IsHomeList}
 use Rattle.nv_service.proofs.Takings.{taken_from}
-use Rattle.nv_service.proofs.taking.take_from.Goals as goal
+use Rattle.nv_service.proofs.asking.Asking.take_from.Goals as goal
 
 pub returns-clause-taken : goal.returns-clause-taken
 returns-clause-taken g c =

@@ -1,0 +1,38 @@
+use Rattle.std.proofs.Common.{◌≡◌, ◌⊎◌, ap, arith, refl, subst, sym}
+use Rattle.std.specs.Prelude.{Err}
+use Rattle.nv_base.specs.declared.fault.Fault.{Fault}
+use Rattle.nv_base.specs.declared.fault.Fault.TheVariants as fault
+use Rattle.nv_book.specs.Book.{BookValue}
+use Rattle.nv_epoch.specs.Holders.{IsRising}
+use Rattle.nv_epoch.specs.SnapList.{Snapshots, after_removal, ids, pins_of}
+use Rattle.nv_service.specs.Snapped.{AreSnapped}
+use Rattle.nv_service.proofs.OtherRefusals.{drop_fails, exits}
+use Rattle.nv_service.proofs.Snapping.{IsCounted, dropped_one}
+use Rattle.nv_service.proofs.book.LockedBook.drop_snapshot.Goals as goal
+
+pub invariant_of-self : goal.invariant_of-self
+invariant_of-self g c =
+    subst
+    (IsCounted g.C.Commits.commit g.C.Commits.living g.C.Commits.epoch c.self.inside.commits.total c.self.inside.snap_book.total)
+    (sym c.in_err-drop_snapshot.ensures.same) c.self.invariant
+
+pub invariant_of-self-2 : goal.invariant_of-self-2
+invariant_of-self-2 g c =
+    let is = c.in_ok-drop_snapshot.ensures.ok in
+    let living = g.C.Commits.living in
+    let epoch = g.C.Commits.epoch in
+    let snaps = c.self.inside.book.state.snaps in
+    let rising = subst (λ (list : Snapshots). IsRising (ids list)) c.snaps.ensures.snaps c.epoch-epoch.ensures.sound.rising in
+    let counted =
+    dropped_one living epoch c.self.inside.snap_book.total snaps c.args.s 0 rising (c.in_ok-drop_snapshot.ensures.dropped.0 refl)
+    c.self.invariant.1 in (
+      omega (arith, c.self.invariant.0, ap (λ (b : BookValue). b.state.commit) is),
+      subst (λ (b : BookValue). AreSnapped living epoch b.state.snaps c.add.new.self.total) (sym is)
+          (subst (AreSnapped living epoch (after_removal snaps c.args.s)) (sym c.add.ensures.total) counted),
+    )
+
+pub returns-in_err-drop_snapshot-clause-err : goal.returns-in_err-drop_snapshot-clause-err
+returns-in_err-drop_snapshot-clause-err g c =
+    let e = c.in_err-drop_snapshot.ensures in
+    exits (λ (why : Fault). (why ≡ fault.NoSnapshot) ⊎ (why ≡ fault.Pinned)) c.from_residual.result _ c.from_residual.ensures.1
+    (drop_fails (Err _) (pins_of c.self.inside.book.state.snaps c.args.s) e.dropped e.no_snapshot e.pinned)
