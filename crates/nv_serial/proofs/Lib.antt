@@ -10,6 +10,7 @@ pub mod AtRestPlain
 pub mod AtRestReports
 pub mod AtRestSnaps
 pub mod AtRestSpace
+pub mod AtRestStops
 pub mod AtRestTests
 pub mod AtRestTrees
 pub mod CleanAtRest

@@ -10,3 +10,4 @@ pub mod Row
 pub mod Serial
 pub mod Shown
 pub mod Snapshots
+pub mod Stopped

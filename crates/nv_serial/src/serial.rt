@@ -1,6 +1,8 @@
-//! Laws of calls that are made alone, from any start on and whatever events came before.
+//! Laws of calls that are made alone, from any start on and whatever events came before, and of a
+//! stop between two of them.
 
 ghost use Rattle.std.specs.Prelude.{◌≡◌, ◌⊎◌, ◌++◌, ℕ, Bool, List, [], ◌∷◌, Some, false};
+ghost use Rattle.nv_audit.specs.Mounted.{records_anew};
 ghost use Rattle.nv_base.specs.Memory.{out_of_memory};
 ghost use Rattle.nv_base.specs.declared.fault.Fault.{Fault};
 ghost use Rattle.nv_base.specs.declared.geometry.GeometryNumbers.{GeometryNumbers};
@@ -13,10 +15,13 @@ ghost use Rattle.nv_machine.specs.Needed.{IsAtRest};
 ghost use Rattle.nv_machine.specs.Starts.{IsStart};
 ghost use Rattle.nv_machine.specs.Step.{after, step};
 ghost use Rattle.nv_machine.specs.World.{Done, Enter, Event, Go, Refused, Running, Start, Started, World, actor_at};
+ghost use Rattle.nv_restart.specs.Restarted.{image_of, restarted};
+ghost use Rattle.nv_restart.specs.Stops.{MayStop};
 ghost use Rattle.nv_serial.specs.Law.{CallsAreSerial, grows_nothing, serial_after};
 ghost use Rattle.nv_serial.specs.OneCall.{serial_call};
 ghost use Rattle.nv_serial.specs.Row.{IsPlannedByRow};
 ghost use Rattle.nv_serial.specs.Serial.{refused, told};
+ghost use Rattle.nv_serial.specs.Stopped.{serial_stopped};
 
 /// A call on files and directories that is made alone has, once it is ready, the plan of the first numbers of the row of
 /// free blocks that stood at its start, from its own CPU on, as its data; and as its log pages it has the next ones.
@@ -71,4 +76,22 @@ pub fn file_calls_alone_are_serial()
 /// lookup, a making and a drop never are. An actor that is not there is refused as such. Then no call runs again.
 pub fn calls_are_serial()
     ensures { CallsAreSerial }
+{}
+
+/// A STOP where no call runs leaves the world with numbers as that world says, with the records
+/// anew, and then no call runs. So what calls are answered from there on is told by that world
+/// alone. Its plain world stays. Each log keeps its entries on their pages, and loses the pages
+/// without one. An inode that is gone and of which no living snapshot holds a pair leaves its slot
+/// empty, in the next generation. A record stands for each pair that is not current and that a
+/// living snapshot holds, by rising slot and in the order of its log.
+pub fn stops_are_serial()
+    ensures left { (g : GeometryNumbers) (start : World) (records : List Record)
+        (events : List Event) → IsStart g start records → MayStop g.block start.shared
+        → IsAtRest (after start events)
+        → serial_after g (restarted (after start events))
+        (records_anew (image_of (after start events))) []
+        ≡ serial_stopped (serial_after g start records events) }
+    ensures rest { (g : GeometryNumbers) (start : World) (records : List Record)
+        (events : List Event) → IsStart g start records → MayStop g.block start.shared
+        → IsAtRest (restarted (after start events)) }
 {}
