@@ -1,4 +1,5 @@
--- No handle is made twice in a history: one that was made stays used, since the generation of an erased slot rises.
+-- No handle is made twice in a history: one that was made stays used, since the generation of an
+-- erased slot rises.
 use Rattle.std.proofs.Common.{◌≡◌, ◌⊎◌, ℕ, ◌+◌, ◌<◌, ◌≤◌, ◌++◌, ◌∙◌, inl, inr, Bool, true, false, List, [], ◌∷◌, length, Some, ap, arith, refl, subst, sym, take}
 use Rattle.std.proofs.lemmas.Bool.{cases_lt, false≢true, or_cases}
 use Rattle.std.proofs.lemmas.List.{get_or_past}

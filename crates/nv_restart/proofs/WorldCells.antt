@@ -1,4 +1,5 @@
--- The slots of a world's image: their chains, and the cells that a mount makes of them, whose blocks are those of the world.
+-- The slots of a world's image: their chains, and the cells that a mount makes of them, whose
+-- blocks are those of the world.
 use Rattle.std.proofs.Common.{◌≡◌, ℕ, zero, suc, ◌<◌, ◌≤◌, ◌==◌, ◌∙◌, Bool, true, false, ap₂, cond, not, List, [], ◌∷◌, Option, Some, None, ap, arith, length, refl, subst, sym, take}
 use Rattle.std.specs.Prelude.{option_and_then, option_to_list, slice_get, slice_index_or}
 use Rattle.std.specs.List.{AllByRecursion, flat_map}
@@ -53,14 +54,16 @@ use Rattle.nv_restart.specs.Restarted.{image_of, slot_image}
 
 -- ---- lists
 
-pub total_take : (u v : ℕ) (es : List Entry) → u ≤ v → part_total (take u es) ≤ part_total (take v es)
+pub total_take : (u v : ℕ) (es : List Entry) → u ≤ v
+    → part_total (take u es) ≤ part_total (take v es)
 total_take zero v es le = omega arith
 total_take (suc u) zero es le = absurd (omega (arith, le))
 total_take (suc u) (suc v) [] le = omega arith
 total_take (suc u) (suc v) (e ∷ es) le = omega (arith, total_take u v es (omega (arith, le)))
 
 -- where blocks are apart, that of a number is found
-pub found_same : (t n : ℕ) (b : BlockValue) (slots : List (Option BlockValue)) → AreApart slots → n < t
+pub found_same : (t n : ℕ) (b : BlockValue) (slots : List (Option BlockValue)) → AreApart slots
+    → n < t
     → slice_index_or slots n None ≡ Some b
     → block_by (flat_map option_to_list (take t slots)) b.number ≡ Some b
 found_same zero n b slots apart lt at = absurd (omega (arith, lt))

@@ -67,7 +67,8 @@ pub fn stops_leave_nothing_under_way()
     ensures deferred { (w : World) → (restarted w).shared.book.deferred ≡ [] }
     ensures pins { (g : GeometryNumbers) (start : World) (records : List Record)
         (events : List Event) → IsStart g start records → MayStop g.block start.shared
-        → (snapshot : ℕ) → ArePins 0 (pins_of (restarted (after start events)).shared.book.snaps snapshot) }
+        → (snapshot : ℕ)
+        → ArePins 0 (pins_of (restarted (after start events)).shared.book.snaps snapshot) }
 {}
 
 /// After a stop each free list is what one scan of all logs and of the snapshot list leaves, number
