@@ -141,11 +141,11 @@ module _ (s : Shared) where
       → IsTree (slots_when when s.cells) → AreTree nodes
   tree_when when nodes is tree =
       are_tree nodes (slots_when when s.cells) (are_when when nodes is) differ tree where
-    differ : (handle : Handle) → NamesDiffer (names_under nodes handle)
-    differ handle =
-        subst (λ (o : Option NodeCopy). NamesDiffer (names_of_node o)) (sym (is handle))
-        (differ_by (cell_at s handle.ino) handle.generation
-        (seen when (log_of (cell_at s handle.ino))))
+        differ : (handle : Handle) → NamesDiffer (names_under nodes handle)
+        differ handle =
+            subst (λ (o : Option NodeCopy). NamesDiffer (names_of_node o)) (sym (is handle))
+            (differ_by (cell_at s handle.ino) handle.generation
+            (seen when (log_of (cell_at s handle.ino))))
 
   pub plain : (b : Bool) (commit : ℕ) (copy : Option NodeCopy)
       → option_map (λ (p : PlainNode). p.node) (if b then stamped commit copy else None)

@@ -103,7 +103,7 @@ module _ (nodes : Handle → Option NodeCopy) (slots : Slots)
         found.0,
         named dir found.0 found.1,
         same_node nodes slots are found.0.to handle (leading dir found.0 found.1) is
-        (found.2 ∙ sym ino),
+            (found.2 ∙ sym ino),
       )
 
   root_there : is_node slots root ≡ true
@@ -188,7 +188,7 @@ module _ (nodes : Handle → Option NodeCopy) (slots : Slots)
   way [] handle at = ap (λ (h : Handle). h.ino) at
   way (dir ∷ above) handle ((b, has, to), rest) = (
     subst (λ (h : Handle). 1 ≤ times h.ino (leads slots dir.ino)) to
-    (led nodes slots are dir b has),
+        (led nodes slots are dir b has),
     way above dir rest,
   )
 
