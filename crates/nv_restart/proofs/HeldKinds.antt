@@ -1,6 +1,5 @@
 -- WHAT A LIVING SNAPSHOT HOLDS PAIRS OF IS LAWFUL FROM NOTHING ON, whatever events come: it holds
--- the kind too, which a cleaning keeps.
--- and a making finds, and a commit is of a later epoch.
+-- the kind too, which a cleaning keeps and a making finds, and a commit is of a later epoch.
 use Rattle.std.proofs.Common.{◌≡◌, ℕ, ◌+◌, ◌<◌, ◌≤◌, ◌++◌, ◌∙◌, inl, inr, Bool, true, false, cond, List, [], ◌∷◌, length, Option, Some, None, IsSome, is_some, ap, arith, refl, subst, sym, take}
 use Rattle.std.specs.Prelude.{slice_get, slice_index_or}
 use Rattle.std.specs.List.{Contains}

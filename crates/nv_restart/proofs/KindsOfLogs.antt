@@ -1,6 +1,5 @@
 -- Of what a log has and has not covered it has the kind too, where it is of its shape; and a log
--- with a kind is lawful from nothing
--- on.
+-- with a kind is lawful from nothing on.
 use Rattle.std.proofs.Common.{◌≡◌, ℕ, zero, suc, ◌-◌, ◌<◌, ◌||◌, ◌++◌, ◌∙◌, inl, inr, Bool, true, false, if◌then◌else◌, nat_lt, List, [], ◌∷◌, length, Option, Some, None, is_some, ap, arith, refl, subst, sym}
 use Rattle.std.specs.Prelude.{slice_get, slice_index_or}
 use Rattle.std.specs.List.{AllByRecursion, Contains, list_any}

@@ -5,7 +5,7 @@ use Rattle.std.specs.Prelude.{option_and_then, option_to_list, slice_get, slice_
 use Rattle.std.specs.List.{AllByRecursion, flat_map}
 use Rattle.std.specs.Option.{option_map}
 use Rattle.std.proofs.lemmas.Bool.{eq-eqb, eqb-true}
-use Rattle.std.proofs.lemmas.List.{length-map}
+use Rattle.std.proofs.lemmas.List.{length-map, take-take}
 use Rattle.std.proofs.lemmas.Option.{none-some, same_Some}
 use Rattle.nv_alloc.specs.Block.{AreSized, BlockValue, block_by, number_of}
 use Rattle.nv_audit.specs.Image.{ImageValue, SlotImageValue, slot_of}
@@ -14,6 +14,7 @@ use Rattle.nv_audit.specs.Sound.{EndsAtSize}
 use Rattle.nv_base.specs.Limits.{IsWithinLimits}
 use Rattle.nv_base.specs.declared.geometry.GeometryNumbers.{GeometryNumbers}
 use Rattle.nv_book.specs.declared.record.Record.{Record}
+use Rattle.nv_cell.proofs.Publishing.{total_take as front_total}
 use Rattle.nv_cell.proofs.ValuesNow.{IsLog-take}
 use Rattle.nv_cell.specs.Cell.{AreSlotsSized, CellState, IsCell, log_of, page_block}
 use Rattle.nv_cell.specs.Marks.{is_current, is_there, mark_at}
@@ -56,10 +57,9 @@ use Rattle.nv_restart.specs.Restarted.{image_of, slot_image}
 
 pub total_take : (u v : ℕ) (es : List Entry) → u ≤ v
     → part_total (take u es) ≤ part_total (take v es)
-total_take zero v es le = omega arith
-total_take (suc u) zero es le = absurd (omega (arith, le))
-total_take (suc u) (suc v) [] le = omega arith
-total_take (suc u) (suc v) (e ∷ es) le = omega (arith, total_take u v es (omega (arith, le)))
+total_take u v es le =
+    subst (λ (l : List Entry). part_total l ≤ part_total (take v es)) (take-take u v es le)
+    (front_total (take v es) u)
 
 -- where blocks are apart, that of a number is found
 pub found_same : (t n : ℕ) (b : BlockValue) (slots : List (Option BlockValue)) → AreApart slots
