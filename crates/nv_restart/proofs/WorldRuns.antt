@@ -151,7 +151,7 @@ module _ (living : List ℕ) (cell : CellState) (t : ℕ) (few : t ≤ cell.chai
         ∙ ap (number_named (log ++ rest)) there.name
         ∙ number_front log rest (pair_name pair) n (its_number cell.block log log_is n pair got))
 
-    none : mark_at cell.marks n ≡ Out → is_held living there.pair ≡ false
+    none : mark_at cell.marks n ≡ Out → is_held living pair ≡ false
     none e =
         none_held living there.pair pair there.holders
         (out there.n there.pair
