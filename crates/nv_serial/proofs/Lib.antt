@@ -53,6 +53,7 @@ pub mod SnapAlone
 pub mod SnapCalls
 pub mod SnapFirst
 pub mod SnapshotRows
+pub mod StopRows
 pub mod Takes
 pub mod TakesBehind
 pub mod TakesRuns
