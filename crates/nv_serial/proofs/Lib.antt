@@ -47,6 +47,7 @@ pub mod RefusedLaw
 pub mod RenameRows
 pub mod Row
 pub mod Scripts
+pub mod SerialHistories
 pub mod ShowAlone
 pub mod SlotLists
 pub mod SnapAlone

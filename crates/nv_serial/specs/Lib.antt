@@ -2,6 +2,7 @@ pub mod Cleaning
 pub mod Committed
 pub mod FileCalls
 pub mod Free
+pub mod Histories
 pub mod Law
 pub mod LogPages
 pub mod OneCall

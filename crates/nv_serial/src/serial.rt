@@ -3,6 +3,7 @@
 
 ghost use Rattle.std.specs.Prelude.{◌≡◌, ◌⊎◌, ◌++◌, ℕ, Bool, List, [], ◌∷◌, Some, false};
 ghost use Rattle.nv_audit.specs.Mounted.{records_anew};
+ghost use Rattle.nv_base.specs.Limits.{IsWithinLimits};
 ghost use Rattle.nv_base.specs.Memory.{out_of_memory};
 ghost use Rattle.nv_base.specs.declared.fault.Fault.{Fault};
 ghost use Rattle.nv_base.specs.declared.geometry.GeometryNumbers.{GeometryNumbers};
@@ -11,16 +12,18 @@ ghost use Rattle.nv_calls.specs.declared.answer.Answer.{Answer};
 ghost use Rattle.nv_calls.specs.declared.call.Call.{Call};
 ghost use Rattle.nv_machine.specs.Alone.{goes};
 ghost use Rattle.nv_machine.specs.EndsDecided.{is_maintenance};
+ghost use Rattle.nv_machine.specs.Format.{formatted};
 ghost use Rattle.nv_machine.specs.Needed.{IsAtRest};
 ghost use Rattle.nv_machine.specs.Starts.{IsStart};
-ghost use Rattle.nv_machine.specs.Step.{after, step};
-ghost use Rattle.nv_machine.specs.World.{Done, Enter, Event, Go, Refused, Running, Start, Started, World, actor_at};
+ghost use Rattle.nv_machine.specs.Step.{after, replies, step};
+ghost use Rattle.nv_machine.specs.World.{Done, Enter, Event, Go, Refused, Reply, Running, Start, Started, World, actor_at};
 ghost use Rattle.nv_restart.specs.Restarted.{image_of, restarted};
 ghost use Rattle.nv_restart.specs.Stops.{MayStop};
-ghost use Rattle.nv_serial.specs.Law.{CallsAreSerial, grows_nothing, serial_after};
+ghost use Rattle.nv_serial.specs.Histories.{IsServed, StandsAs};
+ghost use Rattle.nv_serial.specs.Law.{AreRepliesTo, CallsAreSerial, alone, grows_nothing, serial_after};
 ghost use Rattle.nv_serial.specs.OneCall.{serial_call};
 ghost use Rattle.nv_serial.specs.Row.{IsPlannedByRow};
-ghost use Rattle.nv_serial.specs.Serial.{refused, told};
+ghost use Rattle.nv_serial.specs.Serial.{Serial, new_serial, refused, told};
 ghost use Rattle.nv_serial.specs.Stopped.{serial_stopped};
 
 /// A call on files and directories that is made alone has, once it is ready, the plan of the first numbers of the row of
@@ -94,4 +97,18 @@ pub fn stops_are_serial()
     ensures rest { (g : GeometryNumbers) (start : World) (records : List Record)
         (events : List Event) → IsStart g start records → MayStop g.block start.shared
         → IsAtRest (restarted (after start events)) }
+{}
+
+/// IN A HISTORY of calls that are made one at a time and of stops between them, each world of the
+/// machine stands as a world with numbers: a new world as the new one, and the world after a call
+/// or a stop as what that call or that stop leaves there.
+pub fn histories_are_serial()
+    ensures new { (g : GeometryNumbers) → IsWithinLimits g
+        → StandsAs g (formatted g) (new_serial g) }
+    ensures called { (g : GeometryNumbers) (w : World) (s : Serial) (actor : ℕ) (c : Call)
+        (grants : List Bool) (last : Reply) → StandsAs g w s
+        → AreRepliesTo grants (replies w (alone actor c grants)) last
+        → IsServed g w s actor c grants last }
+    ensures stopped { (g : GeometryNumbers) (w : World) (s : Serial) → StandsAs g w s
+        → StandsAs g (restarted w) (serial_stopped s) }
 {}
