@@ -137,6 +137,7 @@ pub mod OverOwnSteps
 pub mod OwnSteps
 pub mod HandlesStayUsed
 pub mod NewHandles
+pub mod PlainOfRuns
 pub mod PlainStart
 pub mod DecidedRefusals
 pub mod LowestTaken

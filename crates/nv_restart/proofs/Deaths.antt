@@ -66,11 +66,6 @@ dead_records living ino epoch (pair ∷ ps) all =
       go true more = (own pair.death refl, more)
       go false more = more
 
-pub all_weaker : (P Q : Entry → Type 0) → ((x : Entry) → P x → Q x) → (xs : List Entry)
-    → AllByRecursion P xs → AllByRecursion Q xs
-all_weaker P Q gives [] all = tt
-all_weaker P Q gives (x ∷ xs) all = (gives x all.0, all_weaker P Q gives xs all.1)
-
 -- so do ids and epochs of a log
 pub each_earlier : (commit epoch : ℕ) (log : List Entry) → AreNoLater commit epoch log
     → AllByRecursion (λ (e : Entry). (e.id.commit < commit + 1) × (e.epoch ≤ epoch)) log

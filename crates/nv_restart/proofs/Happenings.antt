@@ -1,4 +1,5 @@
--- What happenings lead to is what events lead to from some start: so each law of runs holds in any history.
+-- What happenings lead to is what events lead to from some start: so each law of runs holds in any
+-- history.
 use Rattle.std.proofs.Common.{◌≡◌, ◌++◌, ◌∙◌, true, false, List, [], ◌∷◌, refl, subst, sym}
 use Rattle.nv_audit.specs.Mounted.{records_anew}
 use Rattle.nv_base.specs.Limits.{IsWithinLimits}

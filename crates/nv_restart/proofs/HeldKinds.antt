@@ -1,5 +1,5 @@
--- WHAT A LIVING SNAPSHOT HOLDS PAIRS OF IS LAWFUL FROM NOTHING ON, whatever events come: it holds the kind too, which a cleaning keeps
--- and a making finds, and a commit is of a later epoch.
+-- WHAT A LIVING SNAPSHOT HOLDS PAIRS OF IS LAWFUL FROM NOTHING ON, whatever events come: it holds
+-- the kind too, which a cleaning keeps and a making finds, and a commit is of a later epoch.
 use Rattle.std.proofs.Common.{◌≡◌, ℕ, ◌+◌, ◌<◌, ◌≤◌, ◌++◌, ◌∙◌, inl, inr, Bool, true, false, cond, List, [], ◌∷◌, length, Option, Some, None, IsSome, is_some, ap, arith, refl, subst, sym, take}
 use Rattle.std.specs.Prelude.{slice_get, slice_index_or}
 use Rattle.std.specs.List.{Contains}
@@ -168,7 +168,8 @@ module _ (g : GeometryNumbers) (w : World) (known : IsKnown g w) (epoch : ℕ)
         let new = clean_cell r.next s h in
         let ready = cleanable w actor r known.reached.apart.cleanable runs in
         let held =
-        cleans_held r.next w.numbers.block actor s h r is (before w actor r known.reached.locks runs)
+        cleans_held r.next w.numbers.block actor s h r is
+        (before w actor r known.reached.locks runs)
         grown ready in
         let rises : IsLog old.chain.entries = (known.reached.order.logs slot).ordered in
         let marks = slot_marks w known.rs known.listed known.marked slot
@@ -261,7 +262,8 @@ module _ (g : GeometryNumbers) (w : World) (e : Event) (is : IsStepped g w e)
         (subst IsSome
         (pins_at-push w.shared.book.snaps.living
         (record { number = w.shared.book.snaps.epoch; pins = 0 }) epoch
-        ∙ ap (λ (b : Bool). option_or (pins_at w.shared.book.snaps.living epoch) (cond b (Some 0) None))
+        ∙ ap (λ (b : Bool).
+        option_or (pins_at w.shared.book.snaps.living epoch) (cond b (Some 0) None))
         (ne_eqb w.shared.book.snaps.epoch epoch (λ same. omega (arith, lt, same))))
         (subst (λ (x : Snapshots). Lives x epoch)
         (makes (deed_of w e) w.shared.book.snaps make) lives_after)))
@@ -406,11 +408,13 @@ module _ (g : GeometryNumbers) (start : World) (records : List Record)
               (subst (IsShaped g.block) (sym parts)
               (record { lawful = all; last = (shaped ino).last })) n lt uncovered
 
-      from_lawful : AreHeldLawful g.block shared → KeepsKind g.block (log_at epoch (cell_at shared ino))
+      from_lawful : AreHeldLawful g.block shared
+          → KeepsKind g.block (log_at epoch (cell_at shared ino))
       from_lawful lawful = subst (KeepsKind g.block) says (front_has lawful)
 
       -- a log whose kind a snapshot has, of which it holds this pair
-      to_lawful : (n : ℕ) (pair : Pair) → slice_get (pairs g.block (settled shared ino)) n ≡ Some pair
+      to_lawful : (n : ℕ) (pair : Pair)
+          → slice_get (pairs g.block (settled shared ino)) n ≡ Some pair
           → holds epoch pair ≡ true → KeepsKind g.block (log_at epoch (cell_at shared ino))
           → AreLawful g.block (items_of (settled shared ino)) None
       to_lawful n pair got holding keep =

@@ -39,7 +39,8 @@ use Rattle.nv_restart.proofs.TreeSlots.{slots_tree}
 -- ---- the node of a log
 
 node_shown : (bytes : ℕ → List ℕ) (block generation : ℕ) (log : List Entry)
-    → option_map (shown generation) (node_now bytes block log) ≡ option_map (named generation log) (stored block log).kind
+    → option_map (shown generation) (node_now bytes block log)
+    ≡ option_map (named generation log) (stored block log).kind
 node_shown bytes block generation log = go (value_now block log KindKey) where
   go : (v : Option Datum) → option_map (shown generation) (node_of_kind v bytes block log)
       ≡ option_map (named generation log) (option_and_then kind_in v)
@@ -50,7 +51,8 @@ node_shown bytes block generation log = go (value_now block log KindKey) where
   go (Some (datum.Node x)) = refl
   go (Some (datum.Block x)) = refl
 
-names_differ_in : (bytes : ℕ → List ℕ) (block : ℕ) (log : List Entry) → NamesDiffer (names_of_node (node_now bytes block log))
+names_differ_in : (bytes : ℕ → List ℕ) (block : ℕ) (log : List Entry)
+    → NamesDiffer (names_of_node (node_now bytes block log))
 names_differ_in bytes block log = go (value_now block log KindKey) where
   go : (v : Option Datum) → NamesDiffer (names_of_node (node_of_kind v bytes block log))
   go None = tt
@@ -76,32 +78,43 @@ at_own : (g h : ℕ) (log : List Entry) (kind : Option Kind) → g ≡ h
 at_own g h log None same = refl
 at_own g h log (Some kind) same =
     subst (λ (n : ℕ). option_map (named g log) (Some kind)
-    ≡ (if is_of g (option_map (named n log) (Some kind)) then option_map (named n log) (Some kind) else None))
+    ≡ (if is_of g (option_map (named n log) (Some kind))
+    then option_map (named n log) (Some kind)
+    else None))
     same (rw (eq-eqb g g refl) refl)
 
 at_other : (g h : ℕ) (log : List Entry) (kind : Option Kind) → (g == h) ≡ false
-    → None ≡ (if is_of g (option_map (named h log) kind) then option_map (named h log) kind else None)
+    → None
+    ≡ (if is_of g (option_map (named h log) kind) then option_map (named h log) kind else None)
 at_other g h log None other = refl
 at_other g h log (Some kind) other = rw (ne_eqb h g (λ same. eqb-false g h other (sym same))) refl
 
 abbrev pub copy_by : CellState → ℕ → List Entry → Option NodeCopy
-copy_by cell generation log = if generation == cell.generation then node_now (bytes_among cell.blocks) cell.block log else None
+copy_by cell generation log =
+    if generation == cell.generation
+    then node_now (bytes_among cell.blocks) cell.block log
+    else None
 
 pub shown_by : (cell : CellState) (generation : ℕ) (log : List Entry)
     → option_map (shown generation) (copy_by cell generation log)
     ≡ (if is_of generation (node_by cell log) then node_by cell log else None)
 shown_by cell generation log = go (generation == cell.generation) refl where
   go : (b : Bool) → (generation == cell.generation) ≡ b
-      → option_map (shown generation) (if b then node_now (bytes_among cell.blocks) cell.block log else None)
+      → option_map (shown generation)
+      (if b then node_now (bytes_among cell.blocks) cell.block log else None)
       ≡ (if is_of generation (node_by cell log) then node_by cell log else None)
   go true e =
       node_shown (bytes_among cell.blocks) cell.block generation log
-      ∙ at_own generation cell.generation log (stored cell.block log).kind (eqb-true generation cell.generation e)
+      ∙ at_own generation cell.generation log (stored cell.block log).kind
+      (eqb-true generation cell.generation e)
   go false e = at_other generation cell.generation log (stored cell.block log).kind e
 
-differ_by : (cell : CellState) (generation : ℕ) (log : List Entry) → NamesDiffer (names_of_node (copy_by cell generation log))
+differ_by : (cell : CellState) (generation : ℕ) (log : List Entry)
+    → NamesDiffer (names_of_node (copy_by cell generation log))
 differ_by cell generation log = go (generation == cell.generation) where
-  go : (b : Bool) → NamesDiffer (names_of_node (if b then node_now (bytes_among cell.blocks) cell.block log else None))
+  go : (b : Bool)
+      → NamesDiffer (names_of_node
+      (if b then node_now (bytes_among cell.blocks) cell.block log else None))
   go true = names_differ_in (bytes_among cell.blocks) cell.block log
   go false = tt
 
@@ -112,23 +125,31 @@ module _ (s : Shared) where
   copy_when when handle =
       copy_by (cell_at s handle.ino) handle.generation (seen when (log_of (cell_at s handle.ino)))
 
-  pub are_when : (when : When) (nodes : Handle → Option NodeCopy) → ((handle : Handle) → nodes handle ≡ copy_when when handle)
-      → (handle : Handle) → option_map (shown handle.generation) (nodes handle) ≡ under (slots_when when s.cells) handle
+  pub are_when : (when : When) (nodes : Handle → Option NodeCopy)
+      → ((handle : Handle) → nodes handle ≡ copy_when when handle)
+      → (handle : Handle) → option_map (shown handle.generation) (nodes handle)
+      ≡ under (slots_when when s.cells) handle
   are_when when nodes is handle =
       ap (option_map (shown handle.generation)) (is handle)
-      ∙ shown_by (cell_at s handle.ino) handle.generation (seen when (log_of (cell_at s handle.ino)))
-      ∙ ap (λ (o : Option NamedNode). if is_of handle.generation o then o else None) (sym (slot_is when s.cells handle.ino))
+      ∙ shown_by (cell_at s handle.ino) handle.generation
+      (seen when (log_of (cell_at s handle.ino)))
+      ∙ ap (λ (o : Option NamedNode). if is_of handle.generation o then o else None)
+      (sym (slot_is when s.cells handle.ino))
 
-  tree_when : (when : When) (nodes : Handle → Option NodeCopy) → ((handle : Handle) → nodes handle ≡ copy_when when handle)
+  tree_when : (when : When) (nodes : Handle → Option NodeCopy)
+      → ((handle : Handle) → nodes handle ≡ copy_when when handle)
       → IsTree (slots_when when s.cells) → AreTree nodes
-  tree_when when nodes is tree = are_tree nodes (slots_when when s.cells) (are_when when nodes is) differ tree where
-    differ : (handle : Handle) → NamesDiffer (names_under nodes handle)
-    differ handle =
-        subst (λ (o : Option NodeCopy). NamesDiffer (names_of_node o)) (sym (is handle))
-        (differ_by (cell_at s handle.ino) handle.generation (seen when (log_of (cell_at s handle.ino))))
+  tree_when when nodes is tree =
+      are_tree nodes (slots_when when s.cells) (are_when when nodes is) differ tree where
+        differ : (handle : Handle) → NamesDiffer (names_under nodes handle)
+        differ handle =
+            subst (λ (o : Option NodeCopy). NamesDiffer (names_of_node o)) (sym (is handle))
+            (differ_by (cell_at s handle.ino) handle.generation
+            (seen when (log_of (cell_at s handle.ino))))
 
   pub plain : (b : Bool) (commit : ℕ) (copy : Option NodeCopy)
-      → option_map (λ (p : PlainNode). p.node) (if b then stamped commit copy else None) ≡ (if b then copy else None)
+      → option_map (λ (p : PlainNode). p.node) (if b then stamped commit copy else None)
+      ≡ (if b then copy else None)
   plain false commit copy = refl
   plain true commit None = refl
   plain true commit (Some copy) = refl
@@ -142,15 +163,18 @@ module _ (s : Shared) where
         (node_now (bytes_among cell.blocks) cell.block (settled s handle.ino))
         ∙ ap (copy_by cell handle.generation) (settled_is s handle.ino closed)
 
-    pub at_is : (snapshot : ℕ) (handle : Handle) → settled_copies s snapshot handle ≡ copy_when (At snapshot) handle
+    pub at_is : (snapshot : ℕ) (handle : Handle)
+        → settled_copies s snapshot handle ≡ copy_when (At snapshot) handle
     at_is snapshot handle =
-        ap (λ (log : List Entry). copy_by (cell_at s handle.ino) handle.generation (up_to snapshot log))
+        ap (λ (log : List Entry).
+        copy_by (cell_at s handle.ino) handle.generation (up_to snapshot log))
         (settled_is s handle.ino closed)
 
     pub tree_now : AreTrees (ids s.book.snaps) s.cells → AreTree (node_in (settled_nodes s))
     tree_now trees = tree_when Now (node_in (settled_nodes s)) now_is trees.now
 
-    pub tree_at : AreTrees (ids s.book.snaps) s.cells → (snapshot : ℕ) → Contains (ids s.book.snaps) snapshot
+    pub tree_at : AreTrees (ids s.book.snaps) s.cells → (snapshot : ℕ)
+        → Contains (ids s.book.snaps) snapshot
         → AreTree (settled_copies s snapshot)
     tree_at trees snapshot (k, lt, at) =
         tree_when (At snapshot) (settled_copies s snapshot) (at_is snapshot)
@@ -158,10 +182,13 @@ module _ (s : Shared) where
 
     -- and the other way round
     pub trees_stand : AreTree (node_in (settled_nodes s))
-        → ((snapshot : ℕ) → Contains (ids s.book.snaps) snapshot → AreTree (settled_copies s snapshot))
+        → ((snapshot : ℕ) → Contains (ids s.book.snaps) snapshot
+        → AreTree (settled_copies s snapshot))
         → AreTrees (ids s.book.snaps) s.cells
     trees_stand now copies = record {
-      now = slots_tree (node_in (settled_nodes s)) (slots_when Now s.cells) (are_when Now (node_in (settled_nodes s)) now_is) now;
+      now =
+          slots_tree (node_in (settled_nodes s)) (slots_when Now s.cells)
+          (are_when Now (node_in (settled_nodes s)) now_is) now;
       at = λ k d lt.
           let snapshot = slice_index_or (ids s.book.snaps) k d in
           slots_tree (settled_copies s snapshot) (slots_when (At snapshot) s.cells)

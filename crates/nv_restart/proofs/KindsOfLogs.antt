@@ -1,5 +1,5 @@
--- Of what a log has and has not covered it has the kind too, where it is of its shape; and a log with a kind is lawful from nothing
--- on.
+-- Of what a log has and has not covered it has the kind too, where it is of its shape; and a log
+-- with a kind is lawful from nothing on.
 use Rattle.std.proofs.Common.{◌≡◌, ℕ, zero, suc, ◌-◌, ◌<◌, ◌||◌, ◌++◌, ◌∙◌, inl, inr, Bool, true, false, if◌then◌else◌, nat_lt, List, [], ◌∷◌, length, Option, Some, None, is_some, ap, arith, refl, subst, sym}
 use Rattle.std.specs.Prelude.{slice_get, slice_index_or}
 use Rattle.std.specs.List.{AllByRecursion, Contains, list_any}
@@ -113,7 +113,8 @@ none_told : (block : ℕ) (item : Item) (kind : Kind) → IsLawful block item (S
 none_told block (Init other mode) kind lawful = absurd lawful
 none_told block other kind lawful = refl
 
-none_behind : (block : ℕ) (kind : Kind) (log : List Entry) → AreLawful block (items_of log) (Some kind)
+none_behind : (block : ℕ) (kind : Kind) (log : List Entry)
+    → AreLawful block (items_of log) (Some kind)
     → IsGoneLast (items_of log) → kinds_after (items_of log) None ≡ None
 none_behind block kind [] all last = refl
 none_behind block kind (e ∷ []) all last = none_told block e.item kind all.0
@@ -178,7 +179,8 @@ module _ (block : ℕ) (front rest : List Entry) where
     last = last_front is.last;
   })
 
-  -- A LOG WHOSE FRONT HAS A KIND is lawful from nothing on: behind its first entry no item tells one
+  -- A LOG WHOSE FRONT HAS A KIND is lawful from nothing on: behind its first entry no item tells
+  -- one
   pub told_lawful : IsLeftShaped block (front ++ rest)
       → is_some (kinds_after (items_of front) None) ≡ true
       → AreLawful block (items_of (front ++ rest)) None

@@ -23,6 +23,7 @@ pub mod SameNodes
 pub mod Slots
 pub mod SoundEnds
 pub mod Start
+pub mod StopLists
 pub mod TreeSlots
 pub mod Unheld
 pub mod UsedHandles

@@ -1,5 +1,5 @@
 -- The plain world beside a history is that of the world which it leads to.
-use Rattle.std.proofs.Common.{◌≡◌, ℕ, ◌+◌, ◌++◌, ◌∙◌, true, false, List, [], ◌∷◌, length, map, Option, ap, refl, subst, sym}
+use Rattle.std.proofs.Common.{◌≡◌, ℕ, ◌++◌, ◌∙◌, true, false, List, [], ◌∷◌, map, Option, ap, refl, subst, sym}
 use Rattle.std.specs.List.{Contains}
 use Rattle.std.proofs.Math.Path.{fun_ext}
 use Rattle.nv_audit.specs.Mounted as mounted
@@ -11,15 +11,11 @@ use Rattle.nv_entry.specs.declared.node.NodeCopy.{NodeCopy}
 use Rattle.nv_epoch.proofs.Last.{contains_first, contains_later}
 use Rattle.nv_epoch.specs.SnapList.{numbers}
 use Rattle.nv_epoch.specs.declared.snapshot.Snapshot.{Snapshot}
-use Rattle.nv_machine.proofs.CommitNumbers.{events_counted}
-use Rattle.nv_machine.proofs.CopiesAll.{after_one, all_read}
-use Rattle.nv_machine.proofs.CopiesKept.{ReadsAs}
-use Rattle.nv_machine.proofs.FitsPlain.{plain_nodes}
+use Rattle.nv_machine.proofs.CopiesAll.{after_one}
+use Rattle.nv_machine.proofs.PlainOfRuns.{plain_is, plain_more, same_plain}
 use Rattle.nv_machine.proofs.PlainStart.{plain_start}
-use Rattle.nv_machine.proofs.SnapRuns.{in_step}
-use Rattle.nv_machine.proofs.SnapshotCopies.{AreAlike, IsAlike}
 use Rattle.nv_machine.specs.Format.{formatted}
-use Rattle.nv_machine.specs.PlainRun.{Copy, Plain, copy_in, new_plain, plain_after, plain_of, plain_step}
+use Rattle.nv_machine.specs.PlainRun.{Copy, Plain, copy_in, new_plain, plain_of, plain_step}
 use Rattle.nv_machine.specs.Settled.{settled_copies}
 use Rattle.nv_machine.specs.Starts.{IsStart}
 use Rattle.nv_machine.specs.Step.{after, step}
@@ -31,57 +27,15 @@ use Rattle.nv_restart.specs.Happenings.{Happening, IsReached, On, Stop, after_al
 use Rattle.nv_restart.specs.Restarted.{restarted}
 use Rattle.nv_restart.specs.Stops.{MayStop}
 
--- ---- the plain world of a run
+-- ---- the plain world of a world behind one more event
 
-copy_same : (inodes : ℕ) (s : Shared) (snapshot : Snapshot) (copy : Copy)
-    → IsAlike (ReadsAs inodes s) snapshot copy → copy ≡ copy_in s snapshot
-copy_same inodes s snapshot copy is =
-    let nodes = sym (fun_ext is.nodes.0) in
-    λ i. record { snapshot = sym is.number i; nodes = nodes i; pins = sym is.pins i }
-
-copies_same : (inodes : ℕ) (s : Shared) (living : List Snapshot) (copies : List Copy)
-    → AreAlike (ReadsAs inodes s) living copies → copies ≡ map (copy_in s) living
-copies_same inodes s [] [] are = refl
-copies_same inodes s [] (copy ∷ copies) are = absurd are
-copies_same inodes s (snapshot ∷ living) [] are = absurd are
-copies_same inodes s (snapshot ∷ living) (copy ∷ copies) are =
-    ap (λ (c : Copy). c ∷ copies) (copy_same inodes s snapshot copy are.0)
-    ∙ ap (λ (cs : List Copy). copy_in s snapshot ∷ cs) (copies_same inodes s living copies are.1)
-
-same_plain : (p q : Plain) → p.nodes ≡ q.nodes → p.commit ≡ q.commit → p.epoch ≡ q.epoch
-    → p.copies ≡ q.copies → p ≡ q
-same_plain p q nodes commit epoch copies = λ i. record {
-  nodes = nodes i;
-  commit = commit i;
-  epoch = epoch i;
-  copies = copies i;
-}
-
-plain_is : (g : GeometryNumbers) (start : World) (records : List Record) (events : List Event)
-    → IsStart g start records
-    → plain_after start events (plain_of start) ≡ plain_of (after start events)
-plain_is g start records events is =
-    let beside : Plain = plain_after start events (plain_of start) in
-    let w : World = after start events in
-    same_plain beside (plain_of w) (sym (fun_ext (plain_nodes g start records events is)))
-    (sym (events_counted events start (plain_of start) refl))
-    (sym (in_step g start records events is).epoch)
-    (copies_same (length start.shared.cells) w.shared w.shared.book.snaps.living beside.copies
-    (all_read g start records is events))
-
-plain_one : (events : List Event) (w : World) (p : Plain) (e : Event)
-    → plain_after w (events ++ e ∷ []) p ≡ plain_step (after w events) e (plain_after w events p)
-plain_one [] w p e = refl
-plain_one (x ∷ events) w p e = plain_one events (step w x).world (plain_step w x p) e
-
--- the plain world of a world behind one more event
 plain_steps : (g : GeometryNumbers) (start : World) (records : List Record) (events : List Event)
     → IsStart g start records → (e : Event)
     → plain_step (after start events) e (plain_of (after start events))
     ≡ plain_of (step (after start events) e).world
 plain_steps g start records events is e =
     ap (plain_step (after start events) e) (sym (plain_is g start records events is))
-    ∙ sym (plain_one events start (plain_of start) e)
+    ∙ sym (plain_more events start e (plain_of start))
     ∙ plain_is g start records (events ++ e ∷ []) is
     ∙ ap plain_of (sym (after_one events start e))
 

@@ -82,7 +82,8 @@ module _ (g : GeometryNumbers) (start : World) (records : List Record) (events :
         same_node cell new (settled_tail s.book.journals ino cell.chain.tail)
         (sym (of_world.size g start records events is_start ino lt))
         (of_world.same_bytes g start records events is_start ino lt) in
-        let same : new.generation ≡ cell.generation = ap (λ (slot : SlotImageValue). slot.generation) (slot_is w ino) in
+        let same : new.generation ≡ cell.generation =
+        ap (λ (slot : SlotImageValue). slot.generation) (slot_is w ino) in
         ap (Under generation new) own
         ∙ ap₂ (λ (m : ℕ) (x : Option PlainNode). cond (generation == m) x None) same node
 

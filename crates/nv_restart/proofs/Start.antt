@@ -40,7 +40,7 @@ use Rattle.nv_machine.specs.Reading.{ArePins}
 use Rattle.nv_machine.specs.Recorded.{is_kept, is_record_of, recorded_in}
 use Rattle.nv_machine.specs.Starts.{IsStart}
 use Rattle.nv_machine.specs.World.{World, cell_at, idle, no_cell}
-use Rattle.nv_machine.proofs.EachElement.{all_append}
+use Rattle.nv_machine.proofs.EachElement.{all_append, all_weaker}
 use Rattle.nv_machine.proofs.FiledLists.{count}
 use Rattle.nv_machine.proofs.LocksOverEvents.{all_same}
 use Rattle.nv_machine.proofs.NewWorld.{none_closed}
@@ -51,7 +51,7 @@ use Rattle.nv_restart.proofs.Marks.{none_killed, out_unheld}
 use Rattle.nv_restart.proofs.Records.{anew_filed, once, paired}
 use Rattle.nv_restart.proofs.Slots.{by_cell, cell_there, left_keeps, same_ids}
 use Rattle.nv_restart.specs.Mounted.{mounted}
-use Rattle.nv_restart.proofs.Deaths.{all_weaker, dead_pairs, dead_records, each_earlier}
+use Rattle.nv_restart.proofs.Deaths.{dead_pairs, dead_records, each_earlier}
 use Rattle.nv_restart.proofs.Faultless.{fits, paged, ordered, few, rising_log, cut_rises, whole, sized_in, one_cell, at_slot, in_slots, blocks_once, list_is}
 
 -- ---- numbers and pins

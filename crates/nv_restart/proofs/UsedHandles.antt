@@ -1,4 +1,5 @@
--- No handle is made twice in a history: one that was made stays used, since the generation of an erased slot rises.
+-- No handle is made twice in a history: one that was made stays used, since the generation of an
+-- erased slot rises.
 use Rattle.std.proofs.Common.{◌≡◌, ◌⊎◌, ℕ, ◌+◌, ◌<◌, ◌≤◌, ◌++◌, ◌∙◌, inl, inr, Bool, true, false, List, [], ◌∷◌, length, Some, ap, arith, refl, subst, sym, take}
 use Rattle.std.proofs.lemmas.Bool.{cases_lt, false≢true, or_cases}
 use Rattle.std.proofs.lemmas.List.{get_or_past}
@@ -15,6 +16,7 @@ use Rattle.nv_epoch.specs.SnapList.{ids}
 use Rattle.nv_journal.specs.Journal.{settled_tail}
 use Rattle.nv_machine.proofs.CommitEffects.{take_none}
 use Rattle.nv_machine.proofs.DirectoriesChanged.{some_directory}
+use Rattle.nv_machine.proofs.DrainRuns.{after_both}
 use Rattle.nv_machine.proofs.EveryWorld.{all_known, reached}
 use Rattle.nv_machine.proofs.FitsEvents.{IsKnown}
 use Rattle.nv_machine.proofs.HandlesStayUsed.{IsUsed, IsUsedAt, events_used}
@@ -115,10 +117,6 @@ module _ (g : GeometryNumbers) (start : World) (records : List Record) (events :
 
 -- ---- happenings
 
-after_append : (xs ys : List Event) (w : World) → after w (xs ++ ys) ≡ after (after w xs) ys
-after_append [] ys w = refl
-after_append (x ∷ xs) ys w = after_append xs ys (step w x).world
-
 module _ (g : GeometryNumbers) (handle : Handle) where
   known_of : (w : World) → IsReached g w → IsKnown g w
   known_of w is =
@@ -130,7 +128,7 @@ module _ (g : GeometryNumbers) (handle : Handle) where
       subst (λ (v : World). IsUsed v.shared handle → IsUsed (step v e).world.shared handle) is.leads
       (events_used (e ∷ []) (after is.start is.events) handle
       (λ before.
-      subst machine.IsReached (after_append is.events before is.start)
+      subst machine.IsReached (after_both is.events before is.start)
       (reached g is.start is.records (is.events ++ before) is.is_start))) used
   one_used w (Stop true) is used =
       subst (λ (v : World). IsUsed v.shared handle → IsUsed (restarted v).shared handle) is.leads

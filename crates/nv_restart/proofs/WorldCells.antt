@@ -1,10 +1,11 @@
--- The slots of a world's image: their chains, and the cells that a mount makes of them, whose blocks are those of the world.
+-- The slots of a world's image: their chains, and the cells that a mount makes of them, whose
+-- blocks are those of the world.
 use Rattle.std.proofs.Common.{◌≡◌, ℕ, zero, suc, ◌<◌, ◌≤◌, ◌==◌, ◌∙◌, Bool, true, false, ap₂, cond, not, List, [], ◌∷◌, Option, Some, None, ap, arith, length, refl, subst, sym, take}
 use Rattle.std.specs.Prelude.{option_and_then, option_to_list, slice_get, slice_index_or}
 use Rattle.std.specs.List.{AllByRecursion, flat_map}
 use Rattle.std.specs.Option.{option_map}
 use Rattle.std.proofs.lemmas.Bool.{eq-eqb, eqb-true}
-use Rattle.std.proofs.lemmas.List.{length-map}
+use Rattle.std.proofs.lemmas.List.{length-map, take-take}
 use Rattle.std.proofs.lemmas.Option.{none-some, same_Some}
 use Rattle.nv_alloc.specs.Block.{AreSized, BlockValue, block_by, number_of}
 use Rattle.nv_audit.specs.Image.{ImageValue, SlotImageValue, slot_of}
@@ -13,6 +14,7 @@ use Rattle.nv_audit.specs.Sound.{EndsAtSize}
 use Rattle.nv_base.specs.Limits.{IsWithinLimits}
 use Rattle.nv_base.specs.declared.geometry.GeometryNumbers.{GeometryNumbers}
 use Rattle.nv_book.specs.declared.record.Record.{Record}
+use Rattle.nv_cell.proofs.Publishing.{total_take as front_total}
 use Rattle.nv_cell.proofs.ValuesNow.{IsLog-take}
 use Rattle.nv_cell.specs.Cell.{AreSlotsSized, CellState, IsCell, log_of, page_block}
 use Rattle.nv_cell.specs.Marks.{is_current, is_there, mark_at}
@@ -53,14 +55,15 @@ use Rattle.nv_restart.specs.Restarted.{image_of, slot_image}
 
 -- ---- lists
 
-pub total_take : (u v : ℕ) (es : List Entry) → u ≤ v → part_total (take u es) ≤ part_total (take v es)
-total_take zero v es le = omega arith
-total_take (suc u) zero es le = absurd (omega (arith, le))
-total_take (suc u) (suc v) [] le = omega arith
-total_take (suc u) (suc v) (e ∷ es) le = omega (arith, total_take u v es (omega (arith, le)))
+pub total_take : (u v : ℕ) (es : List Entry) → u ≤ v
+    → part_total (take u es) ≤ part_total (take v es)
+total_take u v es le =
+    subst (λ (l : List Entry). part_total l ≤ part_total (take v es)) (take-take u v es le)
+    (front_total (take v es) u)
 
 -- where blocks are apart, that of a number is found
-pub found_same : (t n : ℕ) (b : BlockValue) (slots : List (Option BlockValue)) → AreApart slots → n < t
+pub found_same : (t n : ℕ) (b : BlockValue) (slots : List (Option BlockValue)) → AreApart slots
+    → n < t
     → slice_index_or slots n None ≡ Some b
     → block_by (flat_map option_to_list (take t slots)) b.number ≡ Some b
 found_same zero n b slots apart lt at = absurd (omega (arith, lt))

@@ -133,7 +133,8 @@ module _ (g : GeometryNumbers) (start : World) (records : List Record) (events :
   shape : (ino : ℕ) → IsLeftShaped g.block (settled s ino)
   shape ino = all_shaped g start records events is_start ino
 
-  -- a log that is not erased is lawful from nothing on: its inode is there, or a snapshot holds a pair
+  -- a log that is not erased is lawful from nothing on: its inode is there, or a snapshot holds a
+  -- pair
   left_lawful : (ino : ℕ) → is_over living g.block (settled s ino) ≡ false
       → AreLawful g.block (items_of (settled s ino)) None
   left_lawful ino left =
@@ -163,7 +164,8 @@ module _ (g : GeometryNumbers) (start : World) (records : List Record) (events :
         (subst (λ (n : GeometryNumbers). IsShaped n.block (settled s ino)) (sym same)
         (record {
           lawful = left_lawful ino
-              (sym (ap₂ (λ (n : GeometryNumbers) (l : List Entry). is_over living n.block l) same cut)
+              (sym (ap₂ (λ (n : GeometryNumbers) (l : List Entry).
+              is_over living n.block l) same cut)
               ∙ left);
           last = (shape ino).last;
         })));

@@ -1,4 +1,5 @@
--- What the open journals of a world have noted is good: each is of an inode that has a page, and lies within its tail.
+-- What the open journals of a world have noted is good: each is of an inode that has a page, and
+-- lies within its tail.
 use Rattle.std.proofs.Common.{◌≡◌, ℕ, suc, zero, ◌+◌, ◌<◌, ◌≤◌, ◌==◌, ◌&&◌, ◌%◌, ◌||◌, ◌++◌, ◌∙◌, Bool, true, false, cond, filter, nat_le, nat_lt, not, List, [], ◌∷◌, Option, Some, None, ap, arith, length, refl, subst, sym}
 use Rattle.std.specs.Prelude.{slice_get}
 use Rattle.std.specs.List.{find, list_all}
@@ -211,7 +212,8 @@ module _ (g : GeometryNumbers) (start : World) (records : List Record) (events :
       paged = at_cell (λ (c : CellState). 0 < length c.chain.entries → 0 < length c.chain.blocks)
           s note.ino
           (λ lt some. some_page g.page (cell_at s note.ino).chain
-          (on_pages g is_start.limits w (records_after start events records) whole note.ino lt) some)
+          (on_pages g is_start.limits w (records_after start events records) whole note.ino lt)
+          some)
           (λ some. absurd (omega (arith, some))) long
 
       is_good : is_note_good image note ≡ true
@@ -248,7 +250,8 @@ module _ (g : GeometryNumbers) (start : World) (records : List Record) (events :
         ∙ has_filter (is_written r.plan) r.slots ino there)
 
     noted_good : (k : Next) → r.next ≡ k → held_at k r.slots ≡ r.slots
-        → ((ino : ℕ) → has (written_slots r) ino ≡ true → is_appended k (written_slots r) ino ≡ true)
+        → ((ino : ℕ) → has (written_slots r) ino ≡ true
+        → is_appended k (written_slots r) ino ≡ true)
         → HasNoted s (b % length s.lists) (written_slots r) → AllGood
     noted_good k next all appended noted =
         each_good (is_note_good image) notes

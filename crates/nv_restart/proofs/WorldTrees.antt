@@ -90,11 +90,13 @@ module _ (g : GeometryNumbers) (start : World) (records : List Record) (events :
         let new = cell_with w.numbers living (tail_of image ino) (slot_of image ino) in
         let log : log_of new ≡ settled s ino =
         of_world.its_log g start records events is_start ino ∙ cut in
-        let same : new.generation ≡ cell.generation = ap (λ (slot : SlotImageValue). slot.generation) (slot_is w ino) in
+        let same : new.generation ≡ cell.generation =
+        ap (λ (slot : SlotImageValue). slot.generation) (slot_is w ino) in
         shown_by cell generation (seen when (settled s ino))
         ∙ ap (own_node generation)
         (ap₂ (λ (n block : ℕ).
-        option_map (named n (seen when (settled s ino))) (stored block (seen when (settled s ino))).kind)
+        option_map (named n (seen when (settled s ino)))
+        (stored block (seen when (settled s ino))).kind)
         (sym same) size
         ∙ ap (λ (l : List Entry). node_by new (seen when l)) (sym log))
 
@@ -108,7 +110,9 @@ module _ (g : GeometryNumbers) (start : World) (records : List Record) (events :
         nothing (generation == cell.generation) ∙ no_log when where
           nothing : (b : Bool)
               → option_map (shown generation)
-              (if b then node_now (bytes_among cell.blocks) cell.block (seen when (settled s ino)) else None)
+              (if b
+              then node_now (bytes_among cell.blocks) cell.block (seen when (settled s ino))
+              else None)
               ≡ None
           nothing true = ap (option_map (shown generation)) (none (bytes_among cell.blocks))
           nothing false = refl
@@ -139,7 +143,8 @@ module _ (g : GeometryNumbers) (start : World) (records : List Record) (events :
       (copy_by c generation
       (seen when (take (settled_tail s.book.journals ino c.chain.tail) c.chain.entries))))
       (get_or_past s.cells ino no_cell past)
-      ∙ ap (λ (l : List Entry). option_map (shown generation) (copy_by no_cell generation (seen when l)))
+      ∙ ap (λ (l : List Entry).
+      option_map (shown generation) (copy_by no_cell generation (seen when l)))
       (take_none (settled_tail s.book.journals ino 0))
       ∙ at when (generation == no_cell.generation)
     where

@@ -12,7 +12,8 @@ use Rattle.nv_machine.specs.World.{World, idle}
 -- each page of a log that is to be there has its block among these
 abbrev pub AreThere : ℕ → List ℕ → List BlockValue → List Entry → Type 0
 AreThere block living blocks log =
-    (n number : ℕ) → is_there (mark_at (marks_anew living block log) n) ≡ true → page_block block log n ≡ Some number
+    (n number : ℕ) → is_there (mark_at (marks_anew living block log) n) ≡ true
+    → page_block block log n ≡ Some number
     → option_map number_of (block_by blocks number) ≡ Some number
 
 -- THE WORLD THAT A MOUNT MAKES: no lock is held, and every actor is idle

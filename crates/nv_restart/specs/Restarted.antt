@@ -9,7 +9,8 @@ use Rattle.nv_epoch.specs.SnapList.{ids}
 use Rattle.nv_machine.specs.World.{World}
 use Rattle.nv_restart.specs.Mounted.{mounted}
 
--- the data blocks of the published parts of a cell; those of entries past the tail are still in a hand
+-- the data blocks of the published parts of a cell; those of entries past the tail are still in a
+-- hand
 abbrev pub data_blocks : CellState → List BlockValue
 data_blocks cell = flat_map option_to_list (take (part_total (log_of cell)) cell.blocks)
 

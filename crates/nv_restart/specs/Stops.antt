@@ -21,7 +21,8 @@ pub record IsInRange (cell : CellState) : Type 0 where
 abbrev pub AreInRange : Shared → Type 0
 AreInRange s = (ino : ℕ) → ino < length s.cells → IsInRange (cell_at s ino)
 
--- a log of which one of these snapshots holds a pair is lawful from nothing on, also where its inode is gone
+-- a log of which one of these snapshots holds a pair is lawful from nothing on, also where its
+-- inode is gone
 abbrev pub IsHeldLawful : ℕ → List ℕ → List Entry → Type 0
 IsHeldLawful block living log =
     list_any (is_held living) (pairs block log) ≡ true → AreLawful block (items_of log) None

@@ -12,14 +12,18 @@ ghost use Rattle.nv_entry.specs.Tree.{root};
 ghost use Rattle.nv_epoch.specs.SnapList.{ids, pins_of};
 ghost use Rattle.nv_machine.specs.Format.{formatted};
 ghost use Rattle.nv_machine.specs.Hands.{makes_inode};
+ghost use Rattle.nv_machine.specs.Held.{free_by_logs};
 ghost use Rattle.nv_machine.specs.Made.{has_handle};
+ghost use Rattle.nv_machine.specs.Needed.{free_but_needed};
+ghost use Rattle.nv_machine.specs.Numbers.{free_of};
 ghost use Rattle.nv_machine.specs.PlainRun.{Commits, deed_of, new_plain, plain_of};
+ghost use Rattle.nv_machine.specs.PoolScan.{pool_from_scratch};
 ghost use Rattle.nv_machine.specs.Reading.{ArePins};
 ghost use Rattle.nv_machine.specs.Sequence.{beginning};
 ghost use Rattle.nv_machine.specs.Settled.{settled_copies, settled_nodes};
 ghost use Rattle.nv_machine.specs.Starts.{AreIdle, IsStart};
 ghost use Rattle.nv_machine.specs.Step.{after};
-ghost use Rattle.nv_machine.specs.World.{Event, Go, Running, World, actor_at};
+ghost use Rattle.nv_machine.specs.World.{Event, Go, Running, World, actor_at, list_at};
 ghost use Rattle.nv_restart.specs.Happenings.{Happening, IsReached, after_all, all_made, plain_after_all, plain_stopped};
 ghost use Rattle.nv_restart.specs.Restarted.{image_of, restarted};
 ghost use Rattle.nv_restart.specs.Stops.{MayStop};
@@ -62,8 +66,29 @@ pub fn stops_leave_nothing_under_way()
         → AreIdle (restarted (after start events)) }
     ensures deferred { (w : World) → (restarted w).shared.book.deferred ≡ [] }
     ensures pins { (g : GeometryNumbers) (start : World) (records : List Record)
-        (events : List Event) → IsStart g start records → MayStop g.block start.shared → (snapshot : ℕ)
+        (events : List Event) → IsStart g start records → MayStop g.block start.shared
+        → (snapshot : ℕ)
         → ArePins 0 (pins_of (restarted (after start events)).shared.book.snaps snapshot) }
+{}
+
+/// After a stop each free list is what one scan of all logs and of the snapshot list leaves, number
+/// by number. No hand has a block and nothing is deferred. So a free list has each block of its
+/// home range except for log pages and for the pages of pairs that are current or that a living
+/// snapshot holds. The pool has the numbers of the slots without an inode that are not of the last
+/// generation.
+pub fn stops_leave_what_a_scan_leaves()
+    ensures scanned { (g : GeometryNumbers) (start : World) (records : List Record)
+        (events : List Event) (cpu : ℕ) → IsStart g start records → MayStop g.block start.shared
+        → cpu < g.cpus → free_of (list_at (restarted (after start events)).shared cpu)
+        ≡ free_by_logs g (restarted (after start events)) cpu }
+    ensures needed { (g : GeometryNumbers) (start : World) (records : List Record)
+        (events : List Event) (cpu : ℕ) → IsStart g start records → MayStop g.block start.shared
+        → cpu < g.cpus → free_of (list_at (restarted (after start events)).shared cpu)
+        ≡ free_but_needed g (restarted (after start events)) cpu }
+    ensures pool { (g : GeometryNumbers) (start : World) (records : List Record)
+        (events : List Event) → IsStart g start records → MayStop g.block start.shared
+        → (restarted (after start events)).shared.pool.numbers
+        ≡ pool_from_scratch g (restarted (after start events)) }
 {}
 
 /// Where some events lead to a world from a start that may stop, so it is of each world to which

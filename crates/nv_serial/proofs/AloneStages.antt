@@ -29,6 +29,7 @@ use Rattle.nv_machine.proofs.EveryWorld.{all_numbers}
 use Rattle.nv_machine.proofs.LoopSteps.{is_on_files}
 use Rattle.nv_machine.proofs.NextSteps.{Known, KnowsNext}
 use Rattle.nv_machine.proofs.OverEvents.{go_deed, others_stay, own_goes, runs_inside, turn_at, with_call}
+use Rattle.nv_machine.proofs.PlainOfRuns.{plain_more}
 use Rattle.nv_machine.proofs.SingleEvents.{goes as goes_by_turn}
 use Rattle.nv_machine.proofs.StepWays.{After, AfterBy, Going, Telling}
 
@@ -57,11 +58,6 @@ records_more : (events : List Event) (w : World) (e : Event) (rs : List Record)
     → records_after w (events ++ e ∷ []) rs ≡ records_in (after w events) e (records_after w events rs)
 records_more [] w e rs = refl
 records_more (x ∷ events) w e rs = records_more events (step w x).world e (records_in w x rs)
-
-plain_more : (events : List Event) (w : World) (e : Event) (p : Plain)
-    → plain_after w (events ++ e ∷ []) p ≡ plain_step (after w events) e (plain_after w events p)
-plain_more [] w e p = refl
-plain_more (x ∷ events) w e p = plain_more events (step w x).world e (plain_step w x p)
 
 pub beside_more : (events : List Event) (w : World) (e : Event) (b : Beside)
     → beside_after w (events ++ e ∷ []) b ≡ beside_step (after w events) e (beside_after w events b)

@@ -1,67 +1,17 @@
--- The plain world beside a run is that of the world which the run leads to, with its commit, epoch
--- and copies: so the world with numbers is told by that world and the list of its records.
-use Rattle.std.proofs.Common.{◌≡◌, ◌∙◌, List, [], ◌∷◌, ap, length, map, refl, sym, ℕ}
-use Rattle.std.proofs.Math.Path.{fun_ext}
+-- The world with numbers after events is told by the world to which they lead, with its records.
+use Rattle.std.proofs.Common.{◌≡◌, List, ap}
 use Rattle.nv_base.specs.declared.geometry.GeometryNumbers.{GeometryNumbers}
 use Rattle.nv_book.specs.declared.record.Record.{Record}
-use Rattle.nv_epoch.specs.declared.snapshot.Snapshot.{Snapshot}
-use Rattle.nv_machine.specs.PlainRun.{Copy, Plain, copy_in, plain_after, plain_of}
+use Rattle.nv_machine.specs.PlainRun.{Plain}
 use Rattle.nv_machine.specs.Recorded.{records_after}
 use Rattle.nv_machine.specs.Starts.{IsStart}
 use Rattle.nv_machine.specs.Step.{after}
-use Rattle.nv_machine.specs.World.{Event, Shared, World}
-use Rattle.nv_machine.proofs.CommitNumbers.{events_counted}
-use Rattle.nv_machine.proofs.CopiesAll.{all_read}
-use Rattle.nv_machine.proofs.CopiesKept.{ReadsAs}
-use Rattle.nv_machine.proofs.FitsPlain.{plain_nodes}
-use Rattle.nv_machine.proofs.SnapRuns.{in_step}
-use Rattle.nv_machine.proofs.SnapshotCopies.{AreAlike, IsAlike}
+use Rattle.nv_machine.specs.World.{Event, World}
+use Rattle.nv_machine.proofs.PlainOfRuns.{plain_is}
 use Rattle.nv_serial.specs.Law.{serial_after}
 use Rattle.nv_serial.specs.Serial.{Serial}
 use Rattle.nv_serial.proofs.AtRestLogs.{told_by}
 
-copy_same : (inodes : ℕ) (s : Shared) (snapshot : Snapshot) (copy : Copy)
-    → IsAlike (ReadsAs inodes s) snapshot copy
-    → copy ≡ copy_in s snapshot
-copy_same inodes s snapshot copy is =
-    let nodes = sym (fun_ext is.nodes.0) in
-    λ i. record { snapshot = sym is.number i; nodes = nodes i; pins = sym is.pins i }
-
-copies_same : (inodes : ℕ) (s : Shared) (living : List Snapshot) (copies : List Copy)
-    → AreAlike (ReadsAs inodes s) living copies
-    → copies ≡ map (copy_in s) living
-copies_same inodes s [] [] are = refl
-copies_same inodes s [] (copy ∷ copies) are = absurd are
-copies_same inodes s (snapshot ∷ living) [] are = absurd are
-copies_same inodes s (snapshot ∷ living) (copy ∷ copies) are =
-    ap (λ (c : Copy). c ∷ copies) (copy_same inodes s snapshot copy are.0)
-    ∙ ap (λ (cs : List Copy). copy_in s snapshot ∷ cs) (copies_same inodes s living copies are.1)
-
-same_plain : (p q : Plain) → p.nodes ≡ q.nodes → p.commit ≡ q.commit → p.epoch ≡ q.epoch → p.copies
-    ≡ q.copies → p ≡ q
-same_plain p q nodes commit epoch copies = λ i. record {
-  nodes = nodes i;
-  commit = commit i;
-  epoch =
-      epoch i;
-  copies = copies i;
-}
-
--- THE PLAIN WORLD of a run is that of the world which it leads to
-pub plain_is : (g : GeometryNumbers) (start : World) (records : List Record) (events : List Event)
-    → IsStart g start records
-    → plain_after start events (plain_of start) ≡ plain_of (after start events)
-plain_is g start records events is =
-    let beside : Plain = plain_after start events (plain_of start) in
-    let w : World = after start events in
-    same_plain beside (plain_of w)
-    (sym (fun_ext (plain_nodes g start records events is)))
-    (sym (events_counted events start (plain_of start) refl))
-    (sym (in_step g start records events is).epoch)
-    (copies_same (length start.shared.cells) w.shared w.shared.book.snaps.living beside.copies
-    (all_read g start records is events))
-
--- THE WORLD WITH NUMBERS after events is that of the world to which they lead, with its records
 pub serial_is : (g : GeometryNumbers) (start : World) (records : List Record) (events : List Event)
     → IsStart g start records
     → serial_after g start records events ≡ told_by g (after start events)

@@ -18,6 +18,7 @@ use Rattle.nv_machine.specs.World.{Actor, Auto, Event, Fast, HandState, Judge, L
 use Rattle.nv_machine.proofs.CallsStay.{IsCallOf}
 use Rattle.nv_machine.proofs.CopiesAll.{after_one}
 use Rattle.nv_machine.proofs.OverEvents.{begun_at, others_stay}
+use Rattle.nv_machine.proofs.PlainOfRuns.{plain_is}
 use Rattle.nv_machine.proofs.WorldsAtRest.{start_again}
 use Rattle.nv_serial.specs.Law.{AreRepliesTo, IsMadeAlone, IsOutcome, IsSerialCall, alone, serial_after}
 use Rattle.nv_serial.specs.OneCall.{serial_call}
@@ -25,7 +26,7 @@ use Rattle.nv_serial.specs.Serial.{Serial}
 use Rattle.nv_serial.specs.Shown.{slot_told}
 use Rattle.nv_serial.proofs.AloneStages.{Beside, beside_after, beside_more, begun_call}
 use Rattle.nv_serial.proofs.AtRestLogs.{told_by}
-use Rattle.nv_serial.proofs.AtRestPlain.{plain_is, serial_is}
+use Rattle.nv_serial.proofs.AtRestPlain.{serial_is}
 use Rattle.nv_serial.proofs.CleanRuns.{IsRunOut, IsUnder, run}
 use Rattle.nv_serial.proofs.CleanStages.{IsBare, Stands}
 use Rattle.nv_serial.proofs.SnapAlone.{heads, tails}

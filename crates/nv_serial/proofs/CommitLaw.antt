@@ -31,6 +31,7 @@ use Rattle.nv_machine.proofs.AloneRuns.{told_alone}
 use Rattle.nv_machine.proofs.CopiesAll.{after_one}
 use Rattle.nv_machine.proofs.DecidedNext.{no_visit}
 use Rattle.nv_machine.proofs.EndingsStay.{no_node_tells}
+use Rattle.nv_machine.proofs.PlainOfRuns.{plain_is}
 use Rattle.nv_machine.proofs.WorldSizes.{of_numbers}
 use Rattle.nv_machine.proofs.WorldsAtRest.{start_again}
 use Rattle.nv_serial.specs.Committed.{committed, needs}
@@ -45,7 +46,7 @@ use Rattle.nv_serial.proofs.AloneStages.{Beside, beside_after}
 use Rattle.nv_serial.proofs.AtRestLists.{pool_is, row_is}
 use Rattle.nv_serial.proofs.AtRestLogs.{slot_is, told_by}
 use Rattle.nv_serial.proofs.AtRestNodes.{plan_is, wanted_is}
-use Rattle.nv_serial.proofs.AtRestPlain.{plain_is, serial_is}
+use Rattle.nv_serial.proofs.AtRestPlain.{serial_is}
 use Rattle.nv_serial.proofs.CommitRuns.{alone_done, alone_refused, is_final, rest_then}
 use Rattle.nv_serial.proofs.CommitSlots.{needs_are}
 use Rattle.nv_serial.proofs.CommitStages.{IsAnswered, IsCommitted, IsDone, IsUnchanged}

@@ -56,7 +56,7 @@ before_log = refl
 abbrev three_bytes : Line
 three_bytes = write 0 (codes "xyz")
 
-abbrev grown : Serial
+abbrev pub grown : Serial
 grown = (line before three_bytes).world
 
 grown_replies : play before (three_bytes ∷ read 0 9 ∷ by 0 (call.Stat (handle 1 1)) ∷ [])

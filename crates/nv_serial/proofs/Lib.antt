@@ -10,6 +10,7 @@ pub mod AtRestPlain
 pub mod AtRestReports
 pub mod AtRestSnaps
 pub mod AtRestSpace
+pub mod AtRestStops
 pub mod AtRestTests
 pub mod AtRestTrees
 pub mod CleanAtRest
@@ -46,12 +47,14 @@ pub mod RefusedLaw
 pub mod RenameRows
 pub mod Row
 pub mod Scripts
+pub mod SerialHistories
 pub mod ShowAlone
 pub mod SlotLists
 pub mod SnapAlone
 pub mod SnapCalls
 pub mod SnapFirst
 pub mod SnapshotRows
+pub mod StopRows
 pub mod Takes
 pub mod TakesBehind
 pub mod TakesRuns

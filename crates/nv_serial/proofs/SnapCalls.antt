@@ -14,6 +14,7 @@ use Rattle.nv_machine.specs.Step.{after, replies, start_step, step}
 use Rattle.nv_machine.specs.World.{Actor, Event, Moved, Refused, Reply, Running, Shared, Start, Started, World, actor_at, empty_hand}
 use Rattle.nv_machine.proofs.NextSteps.{Known}
 use Rattle.nv_machine.proofs.OverEvents.{others_stay, started, turn_at, with_call}
+use Rattle.nv_machine.proofs.PlainOfRuns.{plain_is}
 use Rattle.nv_machine.proofs.SingleEvents.{starts}
 use Rattle.nv_machine.proofs.WorldsAtRest.{start_again}
 use Rattle.nv_serial.specs.Law.{AreRepliesTo, IsMadeAlone, IsOutcome, IsSerialCall, alone, serial_after}
@@ -22,7 +23,7 @@ use Rattle.nv_serial.specs.Serial.{Outcome, Serial, refused}
 use Rattle.nv_serial.specs.Shown.{slot_told}
 use Rattle.nv_serial.proofs.AloneStages.{Beside}
 use Rattle.nv_serial.proofs.AtRestLogs.{told_by}
-use Rattle.nv_serial.proofs.AtRestPlain.{plain_is, serial_is}
+use Rattle.nv_serial.proofs.AtRestPlain.{serial_is}
 use Rattle.nv_serial.proofs.CommitLaw.{there_is}
 use Rattle.nv_serial.proofs.SnapAlone.{HasEnded, Holds, HoldsThen, Now, OthersRest, at_first, heads, numbered, run, tails}
 

@@ -2,6 +2,7 @@ pub mod Cleaning
 pub mod Committed
 pub mod FileCalls
 pub mod Free
+pub mod Histories
 pub mod Law
 pub mod LogPages
 pub mod OneCall
@@ -10,3 +11,4 @@ pub mod Row
 pub mod Serial
 pub mod Shown
 pub mod Snapshots
+pub mod Stopped

@@ -1,6 +1,9 @@
-//! Laws of calls that are made alone, from any start on and whatever events came before.
+//! Laws of calls that are made alone, from any start on and whatever events came before, and of a
+//! stop between two of them.
 
 ghost use Rattle.std.specs.Prelude.{◌≡◌, ◌⊎◌, ◌++◌, ℕ, Bool, List, [], ◌∷◌, Some, false};
+ghost use Rattle.nv_audit.specs.Mounted.{records_anew};
+ghost use Rattle.nv_base.specs.Limits.{IsWithinLimits};
 ghost use Rattle.nv_base.specs.Memory.{out_of_memory};
 ghost use Rattle.nv_base.specs.declared.fault.Fault.{Fault};
 ghost use Rattle.nv_base.specs.declared.geometry.GeometryNumbers.{GeometryNumbers};
@@ -9,14 +12,19 @@ ghost use Rattle.nv_calls.specs.declared.answer.Answer.{Answer};
 ghost use Rattle.nv_calls.specs.declared.call.Call.{Call};
 ghost use Rattle.nv_machine.specs.Alone.{goes};
 ghost use Rattle.nv_machine.specs.EndsDecided.{is_maintenance};
+ghost use Rattle.nv_machine.specs.Format.{formatted};
 ghost use Rattle.nv_machine.specs.Needed.{IsAtRest};
 ghost use Rattle.nv_machine.specs.Starts.{IsStart};
-ghost use Rattle.nv_machine.specs.Step.{after, step};
-ghost use Rattle.nv_machine.specs.World.{Done, Enter, Event, Go, Refused, Running, Start, Started, World, actor_at};
-ghost use Rattle.nv_serial.specs.Law.{CallsAreSerial, grows_nothing, serial_after};
+ghost use Rattle.nv_machine.specs.Step.{after, replies, step};
+ghost use Rattle.nv_machine.specs.World.{Done, Enter, Event, Go, Refused, Reply, Running, Start, Started, World, actor_at};
+ghost use Rattle.nv_restart.specs.Restarted.{image_of, restarted};
+ghost use Rattle.nv_restart.specs.Stops.{MayStop};
+ghost use Rattle.nv_serial.specs.Histories.{IsServed, StandsAs};
+ghost use Rattle.nv_serial.specs.Law.{AreRepliesTo, CallsAreSerial, alone, grows_nothing, serial_after};
 ghost use Rattle.nv_serial.specs.OneCall.{serial_call};
 ghost use Rattle.nv_serial.specs.Row.{IsPlannedByRow};
-ghost use Rattle.nv_serial.specs.Serial.{refused, told};
+ghost use Rattle.nv_serial.specs.Serial.{Serial, new_serial, refused, told};
+ghost use Rattle.nv_serial.specs.Stopped.{serial_stopped};
 
 /// A call on files and directories that is made alone has, once it is ready, the plan of the first numbers of the row of
 /// free blocks that stood at its start, from its own CPU on, as its data; and as its log pages it has the next ones.
@@ -71,4 +79,36 @@ pub fn file_calls_alone_are_serial()
 /// lookup, a making and a drop never are. An actor that is not there is refused as such. Then no call runs again.
 pub fn calls_are_serial()
     ensures { CallsAreSerial }
+{}
+
+/// A STOP where no call runs leaves the world with numbers as that world says, with the records
+/// anew, and then no call runs. So what calls are answered from there on is told by that world
+/// alone. Its plain world stays. Each log keeps its entries on their pages, and loses the pages
+/// without one. An inode that is gone and of which no living snapshot holds a pair leaves its slot
+/// empty, in the next generation. A record stands for each pair that is not current and that a
+/// living snapshot holds, by rising slot and in the order of its log.
+pub fn stops_are_serial()
+    ensures left { (g : GeometryNumbers) (start : World) (records : List Record)
+        (events : List Event) → IsStart g start records → MayStop g.block start.shared
+        → IsAtRest (after start events)
+        → serial_after g (restarted (after start events))
+        (records_anew (image_of (after start events))) []
+        ≡ serial_stopped (serial_after g start records events) }
+    ensures rest { (g : GeometryNumbers) (start : World) (records : List Record)
+        (events : List Event) → IsStart g start records → MayStop g.block start.shared
+        → IsAtRest (restarted (after start events)) }
+{}
+
+/// IN A HISTORY of calls that are made one at a time and of stops between them, each world of the
+/// machine stands as a world with numbers: a new world as the new one, and the world after a call
+/// or a stop as what that call or that stop leaves there.
+pub fn histories_are_serial()
+    ensures new { (g : GeometryNumbers) → IsWithinLimits g
+        → StandsAs g (formatted g) (new_serial g) }
+    ensures called { (g : GeometryNumbers) (w : World) (s : Serial) (actor : ℕ) (c : Call)
+        (grants : List Bool) (last : Reply) → StandsAs g w s
+        → AreRepliesTo grants (replies w (alone actor c grants)) last
+        → IsServed g w s actor c grants last }
+    ensures stopped { (g : GeometryNumbers) (w : World) (s : Serial) → StandsAs g w s
+        → StandsAs g (restarted w) (serial_stopped s) }
 {}

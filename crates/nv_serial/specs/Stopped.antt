@@ -1,0 +1,33 @@
+-- What a stop leaves of a world with numbers in which no call runs.
+use Rattle.std.specs.Prelude.{ℕ, ◌+◌, Bool, if◌then◌else◌, List, [], filter, length, map}
+use Rattle.std.specs.List.{flat_map, range_with_len}
+use Rattle.nv_audit.specs.Mounted.{is_over, log_records}
+use Rattle.nv_book.specs.declared.record.Record.{Record}
+use Rattle.nv_cell.specs.Readers.{has_entry}
+use Rattle.nv_serial.specs.LogPages.{Page, entries_in}
+use Rattle.nv_serial.specs.Serial.{NumberedSlot, Serial, living, log_in}
+
+-- a page without an entry goes
+abbrev pub stays : Page → Bool
+stays p = has_entry p.entries
+
+-- an inode that is gone and of which no living snapshot holds a pair leaves its slot empty, in the
+-- next generation
+abbrev pub slot_stopped : (snapshots : List ℕ) → (block : ℕ) → NumberedSlot → NumberedSlot
+slot_stopped snapshots block slot =
+    if is_over snapshots block (entries_in slot.pages)
+    then record { generation = slot.generation + 1; pages = [] }
+    else record slot { pages = filter stays slot.pages }
+
+-- a slot has a record of each pair that is not current and that a living snapshot holds, in the
+-- order of its log
+abbrev pub records_stopped : Serial → ℕ → List Record
+records_stopped s ino = log_records s.numbers.block (living s) ino (log_in s ino)
+
+-- THE WORLD AFTER A STOP, with the records by rising slot. The plain world stays: no show runs, so
+-- no snapshot is pinned
+abbrev pub serial_stopped : Serial → Serial
+serial_stopped s = record s {
+  slots = map (slot_stopped (living s) s.numbers.block) s.slots;
+  records = flat_map (records_stopped s) (range_with_len 0 (length s.slots));
+}
