@@ -15,7 +15,7 @@ use Rattle.nv_machine.proofs.CopiesAll.{after_one}
 use Rattle.nv_machine.proofs.PlainOfRuns.{plain_is, plain_more, same_plain}
 use Rattle.nv_machine.proofs.PlainStart.{plain_start}
 use Rattle.nv_machine.specs.Format.{formatted}
-use Rattle.nv_machine.specs.PlainRun.{Copy, Plain, copy_in, new_plain, plain_of, plain_step}
+use Rattle.nv_machine.specs.PlainRun.{Copy, copy_in, new_plain, plain_of, plain_step}
 use Rattle.nv_machine.specs.Settled.{settled_copies}
 use Rattle.nv_machine.specs.Starts.{IsStart}
 use Rattle.nv_machine.specs.Step.{after, step}
