@@ -261,9 +261,13 @@ class Code:
             clauses=clauses,
             start=place,
             end=tokens[last][1],
-            is_law=tokens[here][0] == "{" and last == here + 1 and bool(clauses),
+            is_law=bool(clauses) and self._is_of_nothing(at + 2),
             is_test=bool(attributes and "#[test" in attributes[1]),
         )
+
+    def _is_of_nothing(self, at):
+        """Whether the function whose name stands before this place takes nothing and gives nothing: such a one is a law."""
+        return [it for it, _ in self.tokens[at : at + 2]] == ["(", ")"] and self.tokens[at + 2][0] != "->"
 
     def held(self):
         """What always holds of the types of this file."""
