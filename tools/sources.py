@@ -209,14 +209,20 @@ class Code:
             found.append((names[-1] if names else "", place, self.ends.get(place, place)))
         return found
 
+    def public_traits(self):
+        """The blocks of public traits, whose methods are public too."""
+        heads = (at for at, (token, _) in enumerate(self.tokens) if at and token == "trait" and self.tokens[at - 1][0] == "pub")
+        return [(here, self.ends.get(here, here)) for here in map(self._opening, heads)]
+
     def functions(self):
         """The functions, in order."""
-        owners, found = self.owners(), []
+        owners, traits, found = self.owners(), self.public_traits(), []
         for at, (token, place) in enumerate(self.tokens):
             if token != "fn" or at + 1 >= len(self.tokens) or not self.tokens[at + 1][0].isidentifier():
                 continue
             made = self._function(at, place, owners)
             if made:
+                made.is_public |= any(begin < at < end for begin, end in traits)
                 found.append(made)
         return found
 
