@@ -309,10 +309,10 @@ class Code:
         return at
 
     def types(self):
-        """The types that the file declares, each with its line and its comment."""
+        """The types and traits that the file declares, each with its line and its comment."""
         found = {}
         for at, (token, place) in enumerate(self.tokens):
-            if token in ("struct", "enum") and at + 1 < len(self.tokens):
+            if token in ("struct", "enum", "trait") and at + 1 < len(self.tokens):
                 line = self.line_of(place)
                 found[self.tokens[at + 1][0]] = (line, self.comment_above(line))
         return found
