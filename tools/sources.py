@@ -358,7 +358,7 @@ def definitions_in(path):
         head.append(line[2:].strip())
     for at, line in enumerate(lines):
         it = HEAD.match(line)
-        if not it or it[2] == "mod":
+        if not it or it[2] in ("mod", "use"):
             continue
         fields = []
         if it[1]:
