@@ -326,7 +326,7 @@ class Code:
         return "\n".join(found)
 
 
-HEAD = re.compile(r"^(?:abbrev )?pub (?:(record|data) )?([^\s:(]+)")
+HEAD = re.compile(r"^(?:abbrev |unfoldable )?pub (?:(record|data) )?([^\s:(]+)")
 INNER = re.compile(r"^  (?:pub )?([^\s:]+) :")
 
 
