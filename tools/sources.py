@@ -409,23 +409,13 @@ def edits(crate):
     """The wrong bodies of a crate: those in the gate, then those outside it."""
     found = []
     for folder, in_gate in ((ROOT / "crates" / crate / "must-fail", True), (ROOT / "wrong-bodies" / crate, False)):
-        told = told_beside(folder)
         for path in sorted(folder.glob("*.edit")):
             text = path.read_text(encoding="utf-8")
             files_ = re.findall(r"^file: *(\S+)", text, re.M)
             said = re.findall(r"^(?:# )?promise: *(.+?) *$", text, re.M)
             found.append(
-                Edit(crate, relative(path), files_[0] if files_ else "", re.findall(r"^old: (.*)$", text, re.M), said + told.get(path.stem, []), in_gate)
+                Edit(crate, relative(path), files_[0] if files_ else "", re.findall(r"^old: (.*)$", text, re.M), said, in_gate)
             )
-    return found
-
-
-def told_beside(folder):
-    """What a file `promises.md` beside edits says that each of them breaks."""
-    found, path = {}, folder / "promises.md"
-    if path.is_file():
-        for name, said in re.findall(r"^- `([^`]+)`: `([^`]+)`$", path.read_text(encoding="utf-8"), re.M):
-            found.setdefault(name, []).append(said)
     return found
 
 

@@ -4,7 +4,7 @@ use Rattle.std.proofs.lemmas.Bool.{eq-eqb}
 use Rattle.std.proofs.lemmas.List.{map-append, take-append-drop, append-nil}
 use Rattle.nv_alloc.specs.Block.{AreSized, BlockValue, number_of, numbers_of, put_block, put_blocks}
 use Rattle.nv_alloc.specs.FreeList.{FreeBlocks, is_home}
-use Rattle.nv_alloc.specs.Giving.{after_giving, after_offer, kept_of, takes}
+use Rattle.nv_alloc.specs.Giving.{after_giving, after_offer, not_taken, takes}
 use Rattle.nv_alloc.specs.Numbers.{has, times}
 use Rattle.nv_alloc.proofs.Lists.{times-append, times-cons, times-put_by, has-times}
 
@@ -33,12 +33,12 @@ times-offered n list b rest = go (takes list b) where
   go false = omega (arith, times-cons n b.number (numbers_of rest), times-cons n b.number (numbers_of list.blocks))
 
 pub times-given : (n : ℕ) (list : FreeBlocks) (bs : List BlockValue)
-    → times n (numbers_of (kept_of list bs)) + times n (numbers_of (after_giving list bs).blocks) ≡ times n (numbers_of bs) + times n
+    → times n (numbers_of (not_taken list bs)) + times n (numbers_of (after_giving list bs).blocks) ≡ times n (numbers_of bs) + times n
     (numbers_of list.blocks)
 times-given n list [] = refl
 times-given n list (b ∷ bs) =
     let rest = times-given n (after_offer list b) bs in
-    let offered = times-offered n list b (kept_of (after_offer list b) bs) in
+    let offered = times-offered n list b (not_taken (after_offer list b) bs) in
     omega (arith, rest, offered, times-cons n b.number (numbers_of bs), times-cons n b.number (numbers_of list.blocks))
 
 -- ---- one more block of those that are offered
@@ -49,12 +49,12 @@ after_giving-append list [] cs = refl
 after_giving-append list (b ∷ bs) cs = after_giving-append (after_offer list b) bs cs
 
 pub kept_of-append : (list : FreeBlocks) (bs cs : List BlockValue)
-    → kept_of list (bs ++ cs) ≡ kept_of list bs ++ kept_of (after_giving list bs) cs
+    → not_taken list (bs ++ cs) ≡ not_taken list bs ++ not_taken (after_giving list bs) cs
 kept_of-append list [] cs = refl
 kept_of-append list (b ∷ bs) cs =
     let first = cond (takes list b) [] (b ∷ []) in
     ap (λ xs. first ++ xs) (kept_of-append (after_offer list b) bs cs)
-    ∙ sym (append_assoc first (kept_of (after_offer list b) bs) (kept_of (after_giving (after_offer list b) bs) cs))
+    ∙ sym (append_assoc first (not_taken (after_offer list b) bs) (not_taken (after_giving (after_offer list b) bs) cs))
 
 -- one more item of a list
 pub cut_more : {X : Type 0} (k : ℕ) (xs : List X) (b : X) (rest : List X) → drop k xs ≡ b ∷ rest
@@ -69,7 +69,7 @@ cut_more (suc k) (x ∷ xs) b rest e =
 
 -- the blocks from `at` on are still to be offered, and those before were offered
 pub record IsUnderway (all : List BlockValue) (old now : FreeBlocks) (left : List BlockValue) (at : ℕ) : Type 0 where
-  pub items : left ≡ drop at all ++ kept_of old (take at all)
+  pub items : left ≡ drop at all ++ not_taken old (take at all)
   pub given : now ≡ after_giving old (take at all)
 
 -- what is left after one more was offered
@@ -80,14 +80,14 @@ underway all old now left rest at b lt u e = go (drop at all) refl where
   go : (xs : List BlockValue) → drop at all ≡ xs → IsUnderway all old (after_offer now b) (rest ++ cond (takes now b) [] (b ∷ [])) (at + 1)
   go [] q = absurd (omega (arith, ap length q, length-drop at all))
   go (x ∷ xs) q =
-      let f : x ∷ (xs ++ kept_of old (take at all)) ≡ b ∷ rest = ap (λ ys. ys ++ kept_of old (take at all)) (sym q) ∙ sym u.items ∙ e in
+      let f : x ∷ (xs ++ not_taken old (take at all)) ≡ b ∷ rest = ap (λ ys. ys ++ not_taken old (take at all)) (sym q) ∙ sym u.items ∙ e in
       let first : x ≡ b = cc in
-      let behind : rest ≡ xs ++ kept_of old (take at all) = cc in
+      let behind : rest ≡ xs ++ not_taken old (take at all) = cc in
       let cut = cut_more at all b xs (q ∙ ap (λ y. y ∷ xs) first) in
-      let last : kept_of (after_giving old (take at all)) (b ∷ []) ≡ cond (takes now b) [] (b ∷ []) = ap (λ l. kept_of l (b ∷ []))
+      let last : not_taken (after_giving old (take at all)) (b ∷ []) ≡ cond (takes now b) [] (b ∷ []) = ap (λ l. not_taken l (b ∷ []))
       (sym u.given) ∙ append-nil (cond (takes now b) [] (b ∷ [])) in
       record {
-        items = rw (cut.0, cut.1, kept_of-append old (take at all) (b ∷ []), last, behind) (append_assoc xs (kept_of old (take at all))
+        items = rw (cut.0, cut.1, kept_of-append old (take at all) (b ∷ []), last, behind) (append_assoc xs (not_taken old (take at all))
             (cond (takes now b) [] (b ∷ [])));
         given = rw (cut.1, after_giving-append old (take at all) (b ∷ [])) (ap (λ l. after_offer l b) u.given);
       }
@@ -96,7 +96,7 @@ underway all old now left rest at b lt u e = go (drop at all) refl where
 
 -- where each number stands once, what is at home goes there, and the rest is kept
 pub record GoesHome (list : FreeBlocks) (bs : List BlockValue) : Type 0 where
-  pub kept : kept_of list bs ≡ filter (λ b. not (is_home list b.number)) bs
+  pub kept : not_taken list bs ≡ filter (λ b. not (is_home list b.number)) bs
   pub given : after_giving list bs ≡ record list { blocks = put_blocks (filter (λ b. is_home list b.number) bs) list.blocks }
 
 pub goes_home : (list : FreeBlocks) (bs : List BlockValue) → AreSized list.size bs
@@ -132,9 +132,9 @@ goes_home list (b ∷ bs) sized once = go (is_home list b.number) refl (λ l s o
       let rest = ih list sized.1 (λ n. omega (arith, one n)) in
       record { kept = rw (test, q) (ap (λ xs. b ∷ xs) rest.kept); given = rw (test, q) rest.given }
 
-pub AreSized-kept : (size : ℕ) (list : FreeBlocks) (bs : List BlockValue) → AreSized size bs → AreSized size (kept_of list bs)
+pub AreSized-kept : (size : ℕ) (list : FreeBlocks) (bs : List BlockValue) → AreSized size bs → AreSized size (not_taken list bs)
 AreSized-kept size list [] h = tt
 AreSized-kept size list (b ∷ bs) h = go (takes list b) (AreSized-kept size (after_offer list b) bs h.1) where
-  go : (t : Bool) → AreSized size (kept_of (after_offer list b) bs) → AreSized size (cond t [] (b ∷ []) ++ kept_of (after_offer list b) bs)
+  go : (t : Bool) → AreSized size (not_taken (after_offer list b) bs) → AreSized size (cond t [] (b ∷ []) ++ not_taken (after_offer list b) bs)
   go true rest = rest
   go false rest = (h.0, rest)

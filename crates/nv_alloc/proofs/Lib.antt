@@ -1,6 +1,8 @@
 pub mod Lists
 pub mod Slots
 pub mod Shelves
+pub mod AllLists
+pub mod ZeroBlocks
 pub mod GivingLemmas
 pub mod Trees
 pub mod RunLemmas

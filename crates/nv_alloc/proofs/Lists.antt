@@ -1,6 +1,6 @@
 -- Lists of numbers.
-use Rattle.std.proofs.Common.{◌≡◌, ◌≢◌, ℕ, ◌+◌, ◌<◌, ◌≤◌, ◌==◌, ◌++◌, Bool, true, false, cond, nat_lt, List, [], ◌∷◌, length, map, arith, refl, zero-add, ap, ◌∙◌, subst}
-use Rattle.std.proofs.lemmas.Bool.{eqb-true, eq-eqb, ne_eqb, lt-ltb}
+use Rattle.std.proofs.Common.{◌≡◌, ◌≢◌, ℕ, zero, suc, ◌+◌, ◌<◌, ◌≤◌, ◌==◌, ◌++◌, Bool, true, false, cond, nat_lt, List, [], ◌∷◌, length, map, get_or, take, arith, refl, zero-add, ap, ◌∙◌, subst}
+use Rattle.std.proofs.lemmas.Bool.{eqb-true, eq-eqb, ne_eqb, le-ltb, lt-ltb}
 use Rattle.std.proofs.lemmas.List.Sums.{sum_by-append, sum_by-cons}
 use Rattle.std.specs.List.{AllByRecursion}
 use Rattle.nv_alloc.specs.Numbers.{IsRising, has, times, put_by}
@@ -68,6 +68,34 @@ pub put_by-first : {X : Type 0} (number : X → ℕ) (x : X) (xs : List X) → A
     → put_by number x xs ≡ x ∷ xs
 put_by-first number x [] h = refl
 put_by-first number x (y ∷ ys) h = rw (lt-ltb (number x) (number y) h.0) refl
+
+-- ---- a rising list, number by number
+
+at_least : (m : ℕ) (ns : List ℕ) (i : ℕ) → AllByRecursion (λ n. m < n) ns → i < length ns → m < get_or ns i 0
+at_least m [] i h lt = absurd (omega (arith, lt))
+at_least m (n ∷ ns) zero h lt = h.0
+at_least m (n ∷ ns) (suc i) h lt = at_least m ns i h.1 (omega (arith, lt))
+
+-- the next number is not among those before it, and put in it goes behind them
+pub has-next : (ns : List ℕ) (i : ℕ) → IsRising ns → i < length ns → has (take i ns) (get_or ns i 0) ≡ false
+has-next [] i r lt = absurd (omega (arith, lt))
+has-next (n ∷ ns) zero r lt = refl
+has-next (n ∷ ns) (suc i) r lt =
+    let ne : n ≢ get_or ns i 0 = omega (arith, at_least n ns i r.0 (omega (arith, lt))) in
+    has-other n (get_or ns i 0) (take i ns) ne ∙ has-next ns i r.1 (omega (arith, lt))
+
+pub put_by-next : (ns : List ℕ) (i : ℕ) → IsRising ns → i < length ns → put_by (λ n. n) (get_or ns i 0) (take i ns) ≡ take (i + 1) ns
+put_by-next [] i r lt = absurd (omega (arith, lt))
+put_by-next (n ∷ ns) zero r lt = refl
+put_by-next (n ∷ ns) (suc i) r lt =
+    let more : suc i + 1 ≡ suc (i + 1) = omega arith in
+    rw (more, le-ltb (get_or ns i 0) n (omega (arith, at_least n ns i r.0 (omega (arith, lt)))))
+    (ap (λ ms. n ∷ ms) (put_by-next ns i r.1 (omega (arith, lt))))
+
+pub all_at : (many : ℕ) (ns : List ℕ) (i : ℕ) → AllByRecursion (λ n. n < many) ns → i < length ns → get_or ns i 0 < many
+all_at many [] i h lt = absurd (omega (arith, lt))
+all_at many (n ∷ ns) zero h lt = h.0
+all_at many (n ∷ ns) (suc i) h lt = all_at many ns i h.1 (omega (arith, lt))
 
 -- ---- a free list from scratch
 

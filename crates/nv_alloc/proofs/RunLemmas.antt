@@ -9,7 +9,7 @@ use Rattle.nv_alloc.specs.Block.{BlockValue, numbers_of}
 use Rattle.nv_alloc.specs.FreeList.{ArePlaced}
 use Rattle.nv_alloc.specs.Numbers.{IsRising}
 use Rattle.nv_alloc.specs.Places.{present}
-use Rattle.nv_alloc.specs.Runs.{join, runs_of, numbers_in, HaveGaps, IsCutInto}
+use Rattle.nv_alloc.specs.Runs.{join, free_runs_of, numbers_in, HaveGaps, IsCutInto}
 use Rattle.nv_alloc.proofs.Slots.{placed_above}
 
 -- the first run, if there is one, begins above the number
@@ -24,9 +24,9 @@ join_starts n m (run ∷ runs) h = go (run.first == m + 1) refl where
   go true e = rw e h
   go false e = rw e h
 
-runs_start : (n : ℕ) (numbers : List ℕ) → AllByRecursion (λ m. n < m) numbers → StartAbove n (runs_of numbers)
+runs_start : (n : ℕ) (numbers : List ℕ) → AllByRecursion (λ m. n < m) numbers → StartAbove n (free_runs_of numbers)
 runs_start n [] h = tt
-runs_start n (m ∷ ms) h = join_starts n m (runs_of ms) h.0
+runs_start n (m ∷ ms) h = join_starts n m (free_runs_of ms) h.0
 
 -- a run that begins later is not joined
 join_apart : (n : ℕ) (runs : List FreeRun) → StartAbove (n + 1) runs → join n runs ≡ record { first = n; last = n } ∷ runs
@@ -58,7 +58,7 @@ skip_gap (suc gap) (Some b ∷ slots) h = let e : true ≡ false = h 0 (omega ar
 
 -- what begins with an empty slot has no block of the first number
 ends : (s : ℕ) (slots : List (Option BlockValue)) → ArePlaced s slots → (0 < length slots → is_some (get_or slots 0 None) ≢ true)
-    → StartAbove s (runs_of (numbers_of (present slots)))
+    → StartAbove s (free_runs_of (numbers_of (present slots)))
 ends s [] p at = tt
 ends s (None ∷ slots) p at = runs_start s (numbers_of (present slots)) (placed_above (s + 1) s slots (omega arith) p)
 ends s (Some b ∷ slots) p at = absurd (at (omega arith) refl)
@@ -67,18 +67,18 @@ ends s (Some b ∷ slots) p at = absurd (at (omega arith) refl)
 pub take_run : (len s : ℕ) (slots : List (Option BlockValue)) → ArePlaced s slots
     → ((k : ℕ) → k < suc len → is_some (get_or slots k None) ≡ true)
     → (suc len < length slots → is_some (get_or slots (suc len) None) ≢ true)
-    → runs_of (numbers_of (present slots)) ≡ record { first = s; last = s + len } ∷ runs_of (numbers_of (present (drop (suc len) slots)))
+    → free_runs_of (numbers_of (present slots)) ≡ record { first = s; last = s + len } ∷ free_runs_of (numbers_of (present (drop (suc len) slots)))
 take_run len s [] p some at = let e : false ≡ true = some 0 (omega arith) in cc
 take_run len s (None ∷ slots) p some at = let e : false ≡ true = some 0 (omega arith) in cc
 take_run zero s (Some b ∷ slots) p some at =
-    let apart = join_apart s (runs_of (numbers_of (present slots))) (ends (s + 1) slots p.1 (λ h. at (omega arith))) in
+    let apart = join_apart s (free_runs_of (numbers_of (present slots))) (ends (s + 1) slots p.1 (λ h. at (omega arith))) in
     let last : s ≡ s + 0 = omega arith in
-    rw p.0 (apart ∙ ap (λ n. record { first = s; last = n } ∷ runs_of (numbers_of (present slots))) last)
+    rw p.0 (apart ∙ ap (λ n. record { first = s; last = n } ∷ free_runs_of (numbers_of (present slots))) last)
 take_run (suc len) s (Some b ∷ slots) p some at =
     let rest = take_run len (s + 1) slots p.1 (λ k lt. some (suc k) (omega arith)) (λ lt. at (omega arith)) in
     let last : s + 1 + len ≡ s + suc len = omega arith in
-    rw (p.0, rest) (join_next s (s + 1 + len) (runs_of (numbers_of (present (drop (suc len) slots))))
-    ∙ ap (λ n. record { first = s; last = n } ∷ runs_of (numbers_of (present (drop (suc len) slots)))) last)
+    rw (p.0, rest) (join_next s (s + 1 + len) (free_runs_of (numbers_of (present (drop (suc len) slots))))
+    ∙ ap (λ n. record { first = s; last = n } ∷ free_runs_of (numbers_of (present (drop (suc len) slots)))) last)
 
 -- no block is left where neither a gap nor a run is
 pub no_run : (slots : List (Option BlockValue)) → (0 < length slots → is_some (get_or slots 0 None) ≢ false)
@@ -108,7 +108,7 @@ first_left gap slots rest e at lt h =
 pub none_left : (gap len : ℕ) (slots rest after : List (Option BlockValue)) → rest ≡ drop gap slots → after ≡ drop len rest
     → ((k : ℕ) → k < gap → is_some (get_or slots k None) ≡ false) → (gap < length slots → is_some (get_or slots gap None) ≢ false)
     → (len < length rest → is_some (get_or rest len None) ≢ true) → len ≡ 0
-    → (runs_of (numbers_of (present slots)) ≡ []) × (runs_of (numbers_of (present after)) ≡ [])
+    → (free_runs_of (numbers_of (present slots)) ≡ []) × (free_runs_of (numbers_of (present after)) ≡ [])
 none_left gap len slots rest after e f before at run zero_len =
     let empty : rest ≡ [] = no_run rest (first_left gap slots rest e at) (λ lt h. run (omega (arith, zero_len, lt)) (rw zero_len h)) in
     let skipped : present slots ≡ present rest = skip_gap gap slots before ∙ ap present (sym e) in
@@ -119,7 +119,7 @@ pub one_run : (start gap len : ℕ) (slots rest after : List (Option BlockValue)
     → ArePlaced start slots
     → ((k : ℕ) → k < gap → is_some (get_or slots k None) ≡ false)
     → ((k : ℕ) → k < len → is_some (get_or rest k None) ≡ true) → (len < length rest → is_some (get_or rest len None) ≢ true) → len ≢ 0
-    → runs_of (numbers_of (present slots)) ≡ record { first = start + gap; last = start + gap + len - 1 } ∷ runs_of (numbers_of
+    → free_runs_of (numbers_of (present slots)) ≡ record { first = start + gap; last = start + gap + len - 1 } ∷ free_runs_of (numbers_of
     (present after))
 one_run start gap zero slots rest after e f placed before some at more = absurd (more refl)
 one_run start gap (suc len) slots rest after e f placed before some at more =
@@ -127,7 +127,7 @@ one_run start gap (suc len) slots rest after e f placed before some at more =
     let skipped : present slots ≡ present rest = skip_gap gap slots before ∙ ap present (sym e) in
     let last : start + gap + len ≡ start + gap + suc len - 1 = omega arith in
     rw (skipped, f) (take_run len (start + gap) rest cut some at
-    ∙ ap (λ n. record { first = start + gap; last = n } ∷ runs_of (numbers_of (present (drop (suc len) rest)))) last)
+    ∙ ap (λ n. record { first = start + gap; last = n } ∷ free_runs_of (numbers_of (present (drop (suc len) rest)))) last)
 
 -- ---- the runs of a rising list
 
@@ -159,12 +159,12 @@ numbers_in-join n (run ∷ runs) g = go (run.first == n + 1) refl (some run runs
   go true e h = let f = eqb-true run.first (n + 1) e in rw (e, f, first_of_range n run.last (omega (arith, f, h))) refl
   go false e h = rw (e, one_number n) refl
 
-pub cut : (numbers : List ℕ) → IsRising numbers → IsCutInto numbers (runs_of numbers)
+pub cut : (numbers : List ℕ) → IsRising numbers → IsCutInto numbers (free_runs_of numbers)
 cut [] r = record { all = refl; maximal = tt }
 cut (n ∷ numbers) r =
     let rest = cut numbers r.1 in
     record {
-      all = numbers_in-join n (runs_of numbers) rest.maximal
+      all = numbers_in-join n (free_runs_of numbers) rest.maximal
           ∙ ap (λ ms. n ∷ ms) rest.all;
-      maximal = HaveGaps-join n (runs_of numbers) rest.maximal (runs_start n numbers r.0);
+      maximal = HaveGaps-join n (free_runs_of numbers) rest.maximal (runs_start n numbers r.0);
     }

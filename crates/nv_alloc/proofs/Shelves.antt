@@ -4,14 +4,14 @@ use Rattle.std.proofs.lemmas.Bool.{cases_lt, eqb-true, leb-true, leb-false, ltb-
 use Rattle.std.proofs.lemmas.List.{get_or_default, get_or_past, length-map, length-replicate, map-set, length-set}
 use Rattle.std.specs.List.{AllByRecursion, range_with_len}
 use Rattle.std.specs.Option.{is_some}
-use Rattle.nv_alloc.specs.Block.{AreSized, BlockValue, numbers_of, put_block, zero_block}
+use Rattle.nv_alloc.specs.Block.{AreSized, BlockValue, block_by, numbers_of, put_block, without_block, zero_block}
 use Rattle.nv_alloc.specs.FreeList.{FreeBlocks, IsFreeList, IsShelf, is_home}
 use Rattle.nv_alloc.specs.Giving.{takes}
 use Rattle.nv_alloc.specs.Numbers.{IsRising, has, put_by}
 use Rattle.nv_alloc.specs.InodePool.{IsPool}
 use Rattle.nv_alloc.specs.Places.{IsLowest, places, present}
 use Rattle.nv_alloc.proofs.Lists.{has-below, length-put_by}
-use Rattle.nv_alloc.proofs.Slots.{some_there, present-empty, present-take, ArePlaced-take, ArePlaced-put, present-put, has-present, numbers-present, placed_above, length-present, full_slots, present-full, ArePlaced-full, flags-full, length-full, length-present-full, places-empty, places-take, places-put, has-places, places-rising, places-within, length-places}
+use Rattle.nv_alloc.proofs.Slots.{some_there, present-empty, present-take, ArePlaced-take, ArePlaced-put, present-put, has-present, numbers-present, placed_above, length-present, block_by-present, present-out, length-out, sized-out, sized_at, no_block, present-none, ArePlaced-none, flags-none, full_slots, present-full, ArePlaced-full, flags-full, length-full, length-present-full, places-empty, places-take, places-put, has-places, places-rising, places-within, length-places}
 
 within_flags : (flags : List Bool) (k : ℕ) → get_or flags k false ≡ true → k < length flags
 within_flags flags k e = go (cases_lt k (length flags)) where
@@ -127,6 +127,56 @@ module _ {start size count : ℕ} {slots : List (Option BlockValue)} {free : Lis
     pub taken_sized : (b : BlockValue) → Some b ≡ x → length b.bytes ≡ size
     taken_sized b n = (subst (AreSized size) (shelf_taken b n) shelf.sized).0
 
+  -- the block of a number that is free, out of its slot
+  pub free_home : (n : ℕ) → has (numbers_of (present slots)) n ≡ true → (start ≤ n) × (n < start + length slots)
+  free_home n there = go (cases_lt n start) (cases_lt n (start + length slots)) where
+    strange : (n < start) ⊎ (start + length slots ≤ n) → (start ≤ n) × (n < start + length slots)
+    strange out = let q : false ≡ true = sym (shelf_strange n out) ∙ there in cc
+
+    go : (n < start) ⊎ (start ≤ n) → (n < start + length slots) ⊎ (start + length slots ≤ n) → (start ≤ n) × (n < start + length slots)
+    go (inl low) b = strange (inl low)
+    go (inr first) (inl h) = (first, h)
+    go (inr first) (inr high) = strange (inr high)
+
+  module _ (n k : ℕ) (there : has (numbers_of (present slots)) n ≡ true) (e : k ≡ n - start) where
+    at_place : n ≡ start + k
+    at_place = let home = free_home n there in omega (arith, home.0, e)
+
+    pub free_within : k < length slots
+    free_within = let home = free_home n there in omega (arith, home.0, home.1, e)
+
+    pub free_left : present (set slots k None) ≡ without_block n (present slots)
+    free_left = present-out k start n slots shelf.placed at_place
+
+    module _ (x : Option BlockValue) (at : x ≡ get_or slots k x) where
+      slot_is : x ≡ get_or slots k None
+      slot_is = at ∙ get_or_default slots k x None free_within
+
+      pub free_some : None ≡ x → ⊥
+      free_some none =
+          let q : true ≡ false = sym there ∙ has-present k start n slots shelf.placed at_place ∙ ap is_some (sym (none ∙ slot_is)) in cc
+
+      pub free_block : (b : BlockValue) → Some b ≡ x → block_by (present slots) n ≡ Some b
+      free_block b some = block_by-present k start n slots shelf.placed at_place ∙ sym (some ∙ slot_is)
+
+      pub free_sized : (b : BlockValue) → Some b ≡ x → length b.bytes ≡ size
+      free_sized b some = sized_at size k slots b shelf.sized (sym (some ∙ slot_is))
+
+      pub free_out : (b : BlockValue) → Some b ≡ x → IsShelf start size (set slots k None) (set free k false) (count - 1)
+      free_out b some = record {
+        placed = ArePlaced-take k start slots shelf.placed;
+        flags = ap (λ fs. set fs k false) shelf.flags ∙ sym (map-set is_some slots k None);
+        counted = let more = length-out k slots b (sym (some ∙ slot_is)) in omega (arith, more, shelf.counted);
+        sized = sized-out size k slots shelf.sized;
+        small = omega (arith, shelf.small, length-set slots k None);
+      }
+
+  pub free_counted : (n : ℕ) → has (numbers_of (present slots)) n ≡ true → 0 < count
+  free_counted n there = go (present slots) refl there where
+    go : (bs : List BlockValue) → present slots ≡ bs → has (numbers_of bs) n ≡ true → 0 < count
+    go [] e h = cc
+    go (b ∷ bs) e h = omega (arith, ap length e, shelf.counted)
+
   -- a block that the list takes, in the slot of its number
   pub record IsGiven (k : ℕ) (b : BlockValue) : Type 0 where
     pub is_free : get_or slots k None ≡ None
@@ -157,6 +207,17 @@ module _ {start size count : ℕ} {slots : List (Option BlockValue)} {free : Lis
         none : (o : Option BlockValue) → is_some o ≡ false → o ≡ None
         none None q = refl
         none (Some b) q = cc
+
+pub shelf_bare : (size start count : ℕ) (slots : List (Option BlockValue)) (free : List Bool) → slots ≡ replicate count None
+    → free ≡ replicate count false → start + count < 2 ^ 32
+    → IsShelf start size slots free 0
+shelf_bare size start count slots free e f small = rw (e, f) (record {
+  placed = ArePlaced-none start count;
+  flags = flags-none count;
+  counted = sym (ap length (present-none count));
+  sized = rw (present-none count) tt;
+  small = omega (arith, small, length-replicate count no_block);
+})
 
 pub shelf_full : (size start count : ℕ) (slots : List (Option BlockValue)) (free : List Bool) → slots ≡ full_slots size start count
     → free ≡ replicate count true → start + count < 2 ^ 32

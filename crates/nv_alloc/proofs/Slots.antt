@@ -1,11 +1,11 @@
 -- Sets of places, and slots with blocks in them.
 use Rattle.std.proofs.Common.{◌≡◌, ◌≢◌, ℕ, zero, suc, ◌+◌, ◌<◌, ◌≤◌, Bool, true, false, List, [], ◌∷◌, Option, Some, None, length, map, set, get_or, replicate, arith, refl, ap, sym, subst, ◌∙◌}
-use Rattle.std.proofs.lemmas.Bool.{le-ltb}
+use Rattle.std.proofs.lemmas.Bool.{eq-eqb, le-ltb, ne_eqb}
 use Rattle.std.proofs.lemmas.List.{length-map}
 use Rattle.std.proofs.lemmas.List.FromFn.{length-range_with_len}
 use Rattle.std.specs.List.{AllByRecursion, range_with_len}
 use Rattle.std.specs.Option.{is_some}
-use Rattle.nv_alloc.specs.Block.{BlockValue, number_of, numbers_of, put_block, zero_block}
+use Rattle.nv_alloc.specs.Block.{AreSized, BlockValue, block_by, number_of, numbers_of, put_block, without_block, zero_block}
 use Rattle.nv_alloc.specs.FreeList.{ArePlaced}
 use Rattle.nv_alloc.specs.Numbers.{IsRising, has, put_by}
 use Rattle.nv_alloc.specs.Places.{places, present}
@@ -147,6 +147,83 @@ present-put (suc k) s (None ∷ slots) b p h free e = present-put k (s + 1) slot
 present-put (suc k) s (Some x ∷ slots) b p h free e =
     rw (le-ltb b.number x.number (omega (arith, e, p.0))) (ap (λ bs. x ∷ bs) (present-put k (s + 1) slots b p.1 (omega (arith, h)) free
     (omega (arith, e))))
+
+-- ---- the block of a number, out of its slot
+
+block_by-below : (n : ℕ) (bs : List BlockValue) → AllByRecursion (λ m. n < m) (numbers_of bs) → block_by bs n ≡ None
+block_by-below n [] h = refl
+block_by-below n (b ∷ bs) h = let ne : b.number ≢ n = omega (arith, h.0) in rw (ne_eqb b.number n ne) (block_by-below n bs h.1)
+
+without-below : (n : ℕ) (bs : List BlockValue) → AllByRecursion (λ m. n < m) (numbers_of bs) → without_block n bs ≡ bs
+without-below n [] h = refl
+without-below n (b ∷ bs) h = let ne : b.number ≢ n = omega (arith, h.0) in
+    rw (ne_eqb b.number n ne) (ap (λ cs. b ∷ cs) (without-below n bs h.1))
+
+pub block_by-present : (k s n : ℕ) (slots : List (Option BlockValue)) → ArePlaced s slots → n ≡ s + k
+    → block_by (present slots) n ≡ get_or slots k None
+block_by-present k s n [] p e = refl
+block_by-present zero s n (None ∷ slots) p e = block_by-below n (present slots) (placed_above (s + 1) n slots (omega (arith, e)) p)
+block_by-present zero s n (Some x ∷ slots) p e = rw (eq-eqb x.number n (omega (arith, p.0, e))) refl
+block_by-present (suc k) s n (None ∷ slots) p e = block_by-present k (s + 1) n slots p (omega (arith, e))
+block_by-present (suc k) s n (Some x ∷ slots) p e =
+    let ne : x.number ≢ n = omega (arith, p.0, e) in
+    rw (ne_eqb x.number n ne) (block_by-present k (s + 1) n slots p.1 (omega (arith, e)))
+
+pub present-out : (k s n : ℕ) (slots : List (Option BlockValue)) → ArePlaced s slots → n ≡ s + k
+    → present (set slots k None) ≡ without_block n (present slots)
+present-out k s n [] p e = refl
+present-out zero s n (None ∷ slots) p e = sym (without-below n (present slots) (placed_above (s + 1) n slots (omega (arith, e)) p))
+present-out zero s n (Some x ∷ slots) p e =
+    rw (eq-eqb x.number n (omega (arith, p.0, e)))
+    (sym (without-below n (present slots) (placed_above (s + 1) n slots (omega (arith, e)) p.1)))
+present-out (suc k) s n (None ∷ slots) p e = present-out k (s + 1) n slots p (omega (arith, e))
+present-out (suc k) s n (Some x ∷ slots) p e =
+    let ne : x.number ≢ n = omega (arith, p.0, e) in
+    rw (ne_eqb x.number n ne) (ap (λ bs. x ∷ bs) (present-out k (s + 1) n slots p.1 (omega (arith, e))))
+
+pub length-out : (k : ℕ) (slots : List (Option BlockValue)) (b : BlockValue) → get_or slots k None ≡ Some b
+    → length (present slots) ≡ length (present (set slots k None)) + 1
+length-out k [] b e = cc
+length-out zero (None ∷ slots) b e = cc
+length-out zero (Some x ∷ slots) b e = omega arith
+length-out (suc k) (None ∷ slots) b e = length-out k slots b e
+length-out (suc k) (Some x ∷ slots) b e = let q = length-out k slots b e in omega (arith, q)
+
+pub sized-out : (size k : ℕ) (slots : List (Option BlockValue)) → AreSized size (present slots) → AreSized size (present (set slots k None))
+sized-out size k [] s = s
+sized-out size zero (None ∷ slots) s = s
+sized-out size zero (Some x ∷ slots) s = s.1
+sized-out size (suc k) (None ∷ slots) s = sized-out size k slots s
+sized-out size (suc k) (Some x ∷ slots) s = (s.0, sized-out size k slots s.1)
+
+pub sized_at : (size k : ℕ) (slots : List (Option BlockValue)) (b : BlockValue) → AreSized size (present slots)
+    → get_or slots k None ≡ Some b → length b.bytes ≡ size
+sized_at size k [] b s e = cc
+sized_at size zero (None ∷ slots) b s e = cc
+sized_at size zero (Some x ∷ slots) b s e = let q : x ≡ b = cc in rw (← q) s.0
+sized_at size (suc k) (None ∷ slots) b s e = sized_at size k slots b s e
+sized_at size (suc k) (Some x ∷ slots) b s e = sized_at size k slots b s.1 e
+
+-- ---- slots that are all empty
+
+abbrev pub no_block : Option BlockValue
+no_block = None
+
+pub present-none : (count : ℕ) → present (replicate count no_block) ≡ []
+present-none zero = refl
+present-none (suc count) = present-none count
+
+pub ArePlaced-none : (s count : ℕ) → ArePlaced s (replicate count None)
+ArePlaced-none s zero = tt
+ArePlaced-none s (suc count) = ArePlaced-none (s + 1) count
+
+pub flags-none : (count : ℕ) → replicate count false ≡ map is_some (replicate count no_block)
+flags-none zero = refl
+flags-none (suc count) = ap (λ fs. false ∷ fs) (flags-none count)
+
+pub places-none : (low count : ℕ) → places low (replicate count false) ≡ []
+places-none low zero = refl
+places-none low (suc count) = places-none (low + 1) count
 
 -- ---- slots that are all full
 

@@ -1,7 +1,7 @@
 -- The tree over a set of places.
-use Rattle.std.proofs.Common.{◌≡◌, ℕ, zero, suc, ◌+◌, ◌-◌, ◌*◌, ◌/◌, ◌%◌, ◌<◌, ◌≤◌, ◌⊎◌, inl, inr, Bool, true, false, nat_lt, min, List, Some, None, length, map, drop, take, ◌++◌, set, get_or, replicate, arith, refl, ap, ◌∙◌, subst, length-drop}
+use Rattle.std.proofs.Common.{◌≡◌, ℕ, zero, suc, ◌+◌, ◌-◌, ◌*◌, ◌/◌, ◌%◌, ◌^◌, ◌<◌, ◌≤◌, ◌⊎◌, inl, inr, Bool, true, false, nat_lt, min, List, Some, None, length, map, drop, take, ◌++◌, set, get_or, replicate, arith, refl, ap, sym, ◌∙◌, subst, length-drop}
 use Rattle.std.proofs.lemmas.Bool.{cases_lt, lt-ltb, le-ltb}
-use Rattle.std.proofs.lemmas.List.{map-set, get_or-map, get_or-drop, get_or_past, ext_get_or}
+use Rattle.std.proofs.lemmas.List.{map-set, get_or-map, get_or-drop, get_or_past, get_or-replicate, ext_get_or, length-replicate}
 use Rattle.std.proofs.lemmas.Grind.{common_steps}
 use Rattle.nv_alloc.specs.Places.{IsNode, IsTree, IsLowest, flags_of}
 
@@ -110,6 +110,27 @@ flags_of-full len tree size own = ext_get_or false (flags_of len tree) (replicat
     (arith, common_steps, length-flags_of len tree size))
     (λ k h. let lt : k < len = omega (arith, length-flags_of len tree size, h) in
     get_or-flags_of len tree k size lt ∙ rw (own k lt, lt-ltb k len lt) (grind (arith, common_steps)))
+
+-- no node of an empty set has a place
+pub tree-empty : (len : ℕ) → len < 2 ^ 32 → IsTree len (replicate (2 * len) len)
+tree-empty len small =
+    let at : (i : ℕ) → i < 2 * len → get_or (replicate (2 * len) len) i 0 ≡ len = λ i h. get_or-replicate (2 * len) i len 0 h in
+    record {
+      size = length-replicate (2 * len) len;
+      small = small;
+      leaf = λ k h. inr (at (len + k) (omega (arith, h)));
+      node = λ i some h. omega
+          (arith, at i (omega (arith, h)), at (2 * i) (omega (arith, h)), at (2 * i + 1) (omega (arith, h)));
+    }
+
+pub flags_of-empty : (len : ℕ) → flags_of len (replicate (2 * len) len) ≡ replicate len false
+flags_of-empty len =
+    let size = length-replicate (2 * len) len in
+    ext_get_or false (flags_of len (replicate (2 * len) len)) (replicate len false) (length-flags_of len _ size
+    ∙ sym (length-replicate len false))
+    (λ k h. let lt : k < len = omega (arith, length-flags_of len (replicate (2 * len) len) size, h) in
+    get_or-flags_of len _ k size lt ∙ rw (get_or-replicate (2 * len) (len + k) len 0 (omega (arith, lt)), le-ltb len len (omega arith))
+    (sym (get_or-replicate len k false false lt)))
 
 -- a list that is written over whole
 pub whole : {X : Type 0} (n : ℕ) (xs ys : List X) → length xs ≡ n → length ys ≡ n → take n (xs ++ drop (length xs) ys) ≡ xs

@@ -1,5 +1,5 @@
 -- Blocks: their numbers, and lists of them.
-use Rattle.std.specs.Prelude.{◌≡◌, ℕ, ◌==◌, if◌then◌else◌, List, [], ◌∷◌, Option, Some, None, length, map, replicate}
+use Rattle.std.specs.Prelude.{◌≡◌, ℕ, ◌==◌, not, if◌then◌else◌, List, [], ◌∷◌, Option, Some, None, filter, length, map, replicate}
 use Rattle.std.specs.List.{AllByRecursion, range_with_len}
 use Rattle.nv_alloc.specs.Numbers.{put_by}
 
@@ -8,9 +8,11 @@ pub record BlockValue : Type 0 where
   pub number : ℕ
   pub bytes : List ℕ
 
+-- the number of a block
 abbrev pub number_of : BlockValue → ℕ
 number_of block = block.number
 
+-- the numbers of blocks, in order
 abbrev pub numbers_of : List BlockValue → List ℕ
 numbers_of blocks = map number_of blocks
 
@@ -19,6 +21,10 @@ abbrev pub block_by : List BlockValue → ℕ → Option BlockValue
 block_by [] number = None
 block_by (b ∷ blocks) number = if b.number == number then Some b else block_by blocks number
 
+-- the blocks but that of a number
+abbrev pub without_block : ℕ → List BlockValue → List BlockValue
+without_block number blocks = filter (λ block. not (block.number == number)) blocks
+
 -- each block has this many bytes
 abbrev pub AreSized : ℕ → List BlockValue → Type 0
 AreSized size blocks = AllByRecursion (λ block. length block.bytes ≡ size) blocks
@@ -26,6 +32,10 @@ AreSized size blocks = AllByRecursion (λ block. length block.bytes ≡ size) bl
 -- a block of this number, all of whose bytes are 0
 abbrev pub zero_block : ℕ → ℕ → BlockValue
 zero_block size number = record { number = number; bytes = replicate size 0 }
+
+-- a block with 0 in place of each of its bytes
+abbrev pub zeroed : BlockValue → BlockValue
+zeroed block = zero_block (length block.bytes) block.number
 
 -- the blocks from `low` on, `len` of them, all of whose bytes are 0
 abbrev pub zero_blocks : ℕ → ℕ → ℕ → List BlockValue

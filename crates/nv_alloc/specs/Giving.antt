@@ -18,6 +18,6 @@ after_giving list [] = list
 after_giving list (block ∷ blocks) = after_giving (after_offer list block) blocks
 
 -- the blocks that it did not take
-abbrev pub kept_of : FreeBlocks → List BlockValue → List BlockValue
-kept_of list [] = []
-kept_of list (block ∷ blocks) = (if takes list block then [] else block ∷ []) ++ kept_of (after_offer list block) blocks
+abbrev pub not_taken : FreeBlocks → List BlockValue → List BlockValue
+not_taken list [] = []
+not_taken list (block ∷ blocks) = (if takes list block then [] else block ∷ []) ++ not_taken (after_offer list block) blocks

@@ -2,7 +2,7 @@
 use Rattle.std.specs.Prelude.{ℕ, ◌+◌, ◌-◌, List, length}
 use Rattle.nv_alloc.specs.Block.{BlockValue}
 use Rattle.nv_alloc.specs.FreeList.{FreeBlocks}
-use Rattle.nv_alloc.specs.Giving.{kept_of}
+use Rattle.nv_alloc.specs.Giving.{not_taken}
 
 -- blocks in the order taken, the bytes of each, and how many more blocks there is room for
 pub record QueueValue : Type 0 where
@@ -13,4 +13,4 @@ pub record QueueValue : Type 0 where
 -- the queue once its blocks were offered to the list
 abbrev pub after_home : FreeBlocks → QueueValue → QueueValue
 after_home list queue =
-    record queue { blocks = kept_of list queue.blocks; room = queue.room + length queue.blocks - length (kept_of list queue.blocks) }
+    record queue { blocks = not_taken list queue.blocks; room = queue.room + length queue.blocks - length (not_taken list queue.blocks) }

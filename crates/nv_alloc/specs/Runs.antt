@@ -9,10 +9,12 @@ join n [] = record { first = n; last = n } ∷ []
 join n (run ∷ runs) =
     if run.first == n + 1 then record { first = n; last = run.last } ∷ runs else record { first = n; last = n } ∷ run ∷ runs
 
--- the maximal runs of a rising list, in rising order
-abbrev pub runs_of : List ℕ → List FreeRun
-runs_of [] = []
-runs_of (n ∷ numbers) = join n (runs_of numbers)
+-- the maximal runs of a rising list, in rising order.
+-- Block runs: the maximal runs of consecutive numbers of a rising list. Example: 3, 5, 6, 7 has the block runs 3
+-- and 5 to 7.
+abbrev pub free_runs_of : List ℕ → List FreeRun
+free_runs_of [] = []
+free_runs_of (n ∷ numbers) = join n (free_runs_of numbers)
 
 -- all numbers of the runs, in order
 abbrev pub numbers_in : List FreeRun → List ℕ

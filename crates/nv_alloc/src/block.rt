@@ -2,7 +2,7 @@
 
 ghost use Rattle.std.specs.Prelude.{◌≡◌, IfOk, length};
 ghost use Rattle.std.specs.Borrow.{sem};
-ghost use Rattle.nv_alloc.specs.Block.{zero_block};
+ghost use Rattle.nv_alloc.specs.Block.{zero_block, zeroed};
 ghost use Rattle.nv_alloc.specs.Lends.{LendsBytes};
 
 use nv_base::BlockNo;
@@ -33,12 +33,15 @@ impl Block {
         Ok(Block { number, bytes })
     }
 
+    /// The block's number.
     pub fn number(&self) -> BlockNo
+        // Readers tell the number and the bytes of a block.
         ensures { result ≡ self.now.number }
     {
         self.number
     }
 
+    /// The block's bytes.
     pub fn bytes(&self) -> &[u8]
         ensures { result.now ≡ self.now.bytes }
     {
@@ -47,6 +50,7 @@ impl Block {
 
     /// The bytes, to be written in place. They stay as many as they are.
     pub fn bytes_mut(&mut self) -> &mut [u8]
+        // A block's bytes are written in place, as many as they are, and nothing else changes.
         ensures* writes_back { sem 𝓛 (LendsBytes self.entry result) }
         ensures value { result.now ≡ self.old.bytes }
     {
@@ -56,9 +60,18 @@ impl Block {
     /// Writes all bytes of the block.
     pub fn write(&mut self, bytes: &[u8])
         requires { length bytes.now ≡ length self.old.bytes }
+        // A block has the bytes that it was given.
         ensures { self.new ≡ record self.old { bytes = bytes.now } }
     {
         self.bytes.copy_from_slice(bytes);
+    }
+
+    /// Writes 0 to all bytes.
+    pub fn clear(&mut self)
+        // All bytes of a block are 0 then.
+        ensures { self.new ≡ zeroed self.old }
+    {
+        self.bytes.fill(0);
     }
 
     /// Takes the block apart, and its number is gone: for the owner of a whole device that is let go.

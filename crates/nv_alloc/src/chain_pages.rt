@@ -2,7 +2,7 @@
 
 ghost use Rattle.std.specs.Prelude.{◌≡◌, ◌<◌, ◌^◌, [], ◌==◌, length};
 ghost use Rattle.std.specs.VecDeque.Iter.{deque_iter_rest};
-ghost use Rattle.nv_alloc.specs.Giving.{after_giving, kept_of};
+ghost use Rattle.nv_alloc.specs.Giving.{after_giving, not_taken};
 
 use crate::giving::{dismantle, fit_in_memory, give_blocks};
 use crate::{Block, FreeList};
@@ -40,6 +40,7 @@ impl ChainPages {
 
     /// How many pages are held.
     pub fn len(&self) -> u64
+        // The log pages of a whole chain are put in, told and taken out.
         ensures { result ≡ length self.now }
     {
         self.blocks.len() as u64
@@ -52,12 +53,14 @@ impl ChainPages {
         fit_in_memory(&self.blocks);
     }
 
+    /// Whether no page is held.
     pub fn is_empty(&self) -> bool
         ensures { result ≡ (length self.now == 0) }
     {
         self.blocks.is_empty()
     }
 
+    /// The pages, in their order.
     pub fn iter(&self) -> vec_deque::Iter<'_, Block>
         ensures { deque_iter_rest result ≡ self.now }
     {
@@ -82,7 +85,8 @@ impl ChainPages {
 
     /// Gives the list the pages that it takes, one after another, and keeps the others in their order.
     pub fn give_blocks(&mut self, list: &mut FreeList)
-        ensures kept { self.new ≡ kept_of list.old self.old }
+        // Log pages that a list takes go home, and the rest stays in order, with no condition.
+        ensures kept { self.new ≡ not_taken list.old self.old }
         ensures given { list.new ≡ after_giving list.old self.old }
     {
         give_blocks(&mut self.blocks, list);

@@ -2,7 +2,7 @@
 
 ghost use Rattle.std.specs.Prelude.{◌≡◌, ◌<◌, ◌≤◌, ◌^◌, [], MatchOption, All, Any, length};
 ghost use Rattle.std.specs.VecDeque.{deque_capacity};
-ghost use Rattle.nv_alloc.specs.Giving.{after_giving, kept_of};
+ghost use Rattle.nv_alloc.specs.Giving.{after_giving, not_taken};
 
 use crate::{Block, FreeList};
 use std::collections::VecDeque;
@@ -10,7 +10,7 @@ use std::mem::size_of_val;
 
 /// Gives the list the blocks that it takes, one after another, and keeps the others in their order.
 pub(crate) fn give_blocks(blocks: &mut VecDeque<Block>, list: &mut FreeList)
-    ensures kept { blocks.new.items ≡ kept_of list.old blocks.old.items }
+    ensures kept { blocks.new.items ≡ not_taken list.old blocks.old.items }
     ensures given { list.new ≡ after_giving list.old blocks.old.items }
     ensures capacity { deque_capacity blocks.new ≡ deque_capacity blocks.old }
 {

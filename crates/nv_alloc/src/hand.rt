@@ -3,7 +3,7 @@
 ghost use Rattle.std.specs.Prelude.{◌≡◌, ◌==◌, ◌&&◌, ◌++◌, [], Some, None, fold, is_none, length};
 ghost use Rattle.std.specs.VecDeque.Iter.{deque_iter_rest};
 ghost use Rattle.nv_alloc.specs.Block.{numbers_of};
-ghost use Rattle.nv_alloc.specs.Giving.{after_giving, kept_of};
+ghost use Rattle.nv_alloc.specs.Giving.{after_giving, not_taken};
 ghost use Rattle.nv_alloc.specs.Numbers.{lower, lowest};
 ghost use Rattle.nv_alloc.specs.Queue.{after_home};
 
@@ -14,6 +14,7 @@ use std::collections::vec_deque;
 
 /// What a call has taken and not yet placed: data blocks and log pages, each in the order taken, at most one
 /// whole chain's pages, and at most one inode number.
+/// Only tested: a hand is `Send` and `Sync`.
 pub struct Hand {
     pub data: BlockQueue,
     pub pages: BlockQueue,
@@ -42,6 +43,7 @@ impl Hand {
 
     /// Whether the hand holds no block and no inode number.
     pub fn is_empty(&self) -> bool
+        // Whether a hand holds nothing is told.
         ensures { result ≡ ((length self.now.data.blocks == 0)
             && (length self.now.pages.blocks == 0) && (length self.now.chain == 0) && is_none self.now.ino) }
     {
@@ -50,6 +52,7 @@ impl Hand {
 
     /// How many blocks are held. Costs a few reads.
     pub fn len(&self) -> u64
+        // How many blocks a hand holds is told, log pages and those of a chain with them.
         ensures { result ≡ length (blocks_of self.now) }
     {
         // Blocks take memory, so that their number is far below that of a u64.
@@ -61,6 +64,7 @@ impl Hand {
 
     /// The inode number that is held.
     pub fn ino(&self) -> Option<Ino>
+        // A hand holds at most one inode number, which is taken out once.
         ensures { result ≡ self.now.ino }
     {
         self.ino
@@ -84,6 +88,7 @@ impl Hand {
 
     /// The first CPU that is home of a block held, by the numbers of the CPUs. Costs the number of blocks held.
     pub fn first_home_cpu(&self, geometry: &Geometry) -> Option<u64>
+        // The first CPU that is home of a block in the hand is told.
         ensures { IsFirstHomeCpu geometry.now.numbers.blocks geometry.now.numbers.cpus
             (numbers_of (blocks_of self.now)) result }
     {
@@ -105,13 +110,15 @@ impl Hand {
 
     /// Gives the list the blocks that it takes, data blocks first and pages of a chain last, and keeps the others.
     pub fn give_blocks(&mut self, list: &mut FreeList)
+        // Of all in a hand what a list takes goes home, the rest stays in order.
         ensures data { self.new.data ≡ after_home list.old self.old.data }
         ensures pages { self.new.pages
             ≡ after_home (after_giving list.old self.old.data.blocks) self.old.pages }
         ensures chain { self.new.chain
-            ≡ kept_of (after_giving list.old (self.old.data.blocks ++ self.old.pages.blocks))
+            ≡ not_taken (after_giving list.old (self.old.data.blocks ++ self.old.pages.blocks))
             self.old.chain }
         ensures given { list.new ≡ after_giving list.old (blocks_of self.old) }
+        // No condition is asked of it; the inode number stays in the hand.
         ensures ino { self.new.ino ≡ self.old.ino }
     {
         self.data.give_blocks(list);

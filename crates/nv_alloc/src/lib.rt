@@ -10,6 +10,7 @@ mod chain_pages;
 mod free_list;
 mod giving;
 mod hand;
+mod homes;
 mod inode_pool;
 mod laws;
 mod places;
@@ -20,6 +21,7 @@ pub use block::Block;
 pub use chain_pages::ChainPages;
 pub use free_list::FreeList;
 pub use hand::Hand;
+pub use homes::{give_home, take_from_home};
 pub use inode_pool::InodePool;
 pub use laws::{
     each_number_once_goes_home, no_move_loses_a_number, rising_list_of_unused_is_from_scratch,

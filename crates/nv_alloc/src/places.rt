@@ -24,6 +24,7 @@ impl Model for PlaceSet {
 
     ghost view = { λ s. flags_of s.len s.tree.items };
 
+    // Each leaf of the tree has its own place or none, and each node the lowest place below it.
     ghost invariant = { λ s. IsTree s.len s.tree.items };
 }
 
@@ -34,6 +35,14 @@ impl PlaceSet {
     {
         let mut tree = vec![in alloc; len; 2 * len as usize]?;
         fill(&mut tree, len);
+        Ok(PlaceSet { tree, len })
+    }
+
+    /// The set of none of the places below `len`.
+    pub(crate) fn empty(alloc: Global, len: u32) -> Result<PlaceSet, AllocError>
+        ensures { IfOk result (λ set. set ≡ replicate len false) }
+    {
+        let tree = vec![in alloc; len; 2 * len as usize]?;
         Ok(PlaceSet { tree, len })
     }
 

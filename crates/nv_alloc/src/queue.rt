@@ -38,6 +38,7 @@ impl Model for BlockQueue {
       room = deque_capacity q.blocks - deque_len q.blocks;
     } };
 
+    // Each block has as many bytes as the queue says.
     ghost invariant = { λ q. AreSized q.size q.blocks.items };
 }
 
@@ -56,7 +57,9 @@ impl BlockQueue {
 
     /// Makes room for `n` more blocks: `OutOfMemory` where there is none, and nothing has changed.
     pub fn reserve(&mut self, n: u64) -> Result<(), Fault>
+        // Room for blocks is made before they come.
         ensures ok { OnOk result (self.new ≡ record self.old { room = max self.old.room n }) }
+        // A refused growth changes nothing and comes only where room was missing.
         ensures err { FailsOnlyWhere out_of_memory (self.old.room < n) result }
         ensures same { KeepsOnErr result self.old self.new }
     {
@@ -66,6 +69,7 @@ impl BlockQueue {
 
     /// How many more blocks fit without memory.
     pub fn room(&self) -> u64
+        // Readers tell the room and the blocks of a queue.
         ensures { result ≡ self.now.room }
     {
         (self.blocks.capacity() - self.blocks.len()) as u64
@@ -73,6 +77,7 @@ impl BlockQueue {
 
     /// The bytes of each block.
     pub fn block_bytes(&self) -> usize
+        // All blocks of a queue have as many bytes as it tells.
         ensures size { result ≡ self.now.size }
         ensures sized { AreSized self.now.size self.now.blocks }
     {
@@ -93,6 +98,7 @@ impl BlockQueue {
         fit_in_memory(&self.blocks);
     }
 
+    /// Whether the queue has no block.
     pub fn is_empty(&self) -> bool
         ensures { result ≡ (length self.now.blocks == 0) }
     {
@@ -109,6 +115,7 @@ impl BlockQueue {
     /// The bytes of the block at this place, counted from 0 in the order taken, to be written in place.
     pub fn bytes_mut(&mut self, place: usize) -> &mut [u8]
         requires { place < length self.old.blocks }
+        // The bytes of one block are written in place; no other block changes.
         ensures* writes_back { sem 𝓛 (LendsBytesAt self.entry place result) }
         ensures value { (block : BlockValue) →
             result.now ≡ (slice_index_or self.old.blocks place block).bytes }
@@ -122,6 +129,7 @@ impl BlockQueue {
     pub fn put(&mut self, block: Block)
         requires room { 0 < self.old.room }
         requires sized { length block.bytes ≡ self.old.size }
+        // Queues are first in, first out: a block goes to the end.
         ensures { self.new ≡ record self.old {
           blocks = self.old.blocks ++ block ∷ [];
           room = self.old.room - 1;
@@ -132,6 +140,7 @@ impl BlockQueue {
 
     /// Takes out the block that has been held longest.
     pub fn take_next(&mut self) -> Option<Block>
+        // The first block of a queue is taken, and the rest stays in order.
         ensures block { result ≡ slice_get self.old.blocks 0 }
         ensures rest { self.new ≡ record self.old {
           blocks = drop 1 self.old.blocks;
@@ -143,6 +152,7 @@ impl BlockQueue {
 
     /// Takes out all blocks, without memory, and with them the room that they stood in.
     pub fn take_all(&mut self) -> Vec<Block>
+        // All blocks of a queue are taken in order, and their room goes with them.
         ensures blocks { result.items ≡ self.old.blocks }
         ensures rest { self.new ≡ record self.old { blocks = []; room = 0 } }
     {
@@ -152,6 +162,7 @@ impl BlockQueue {
 
     /// Gives the list the blocks that it takes, one after another, and keeps the others in their order.
     pub fn give_blocks(&mut self, list: &mut FreeList)
+        // All that a list takes goes home to it, and the rest stays in order, with no condition.
         ensures kept { self.new ≡ after_home list.old self.old }
         ensures given { list.new ≡ after_giving list.old self.old.blocks }
     {

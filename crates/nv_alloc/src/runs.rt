@@ -5,7 +5,7 @@ ghost use Rattle.std.specs.Iterator.{YieldsFirst, item_count};
 ghost use Rattle.nv_alloc.specs.Block.{numbers_of};
 ghost use Rattle.nv_alloc.specs.FreeList.{ArePlaced};
 ghost use Rattle.nv_alloc.specs.Places.{present};
-ghost use Rattle.nv_alloc.specs.Runs.{runs_of};
+ghost use Rattle.nv_alloc.specs.Runs.{free_runs_of};
 
 use crate::Block;
 use nv_base::BlockNo;
@@ -31,13 +31,14 @@ impl<'a> Model for Runs<'a> {
     ghost use Rattle.nv_alloc.specs.Block.{numbers_of};
     ghost use Rattle.nv_alloc.specs.FreeList.{ArePlaced};
     ghost use Rattle.nv_alloc.specs.Places.{present};
-    ghost use Rattle.nv_alloc.specs.Runs.{runs_of};
+    ghost use Rattle.nv_alloc.specs.Runs.{free_runs_of};
     ghost use Rattle.nv_alloc.specs.declared.runs.FreeRun.{FreeRun};
 
     ghost Value = { List FreeRun };
 
-    ghost view = { λ r. runs_of (numbers_of (present r.slots.now)) };
+    ghost view = { λ r. free_runs_of (numbers_of (present r.slots.now)) };
 
+    // Each place that is left has the block of its number; places end below 2^32.
     ghost invariant = { λ r. ArePlaced r.start r.slots.now
         × (r.start + length r.slots.now < 2 ^ 32) };
 }
@@ -46,7 +47,7 @@ impl<'a> Runs<'a> {
     pub(crate) fn new(slots: &'a [Option<Block>], start: u64) -> Runs<'a>
         requires placed { ArePlaced start slots.now }
         requires small { start + length slots.now < 2 ^ 32 }
-        ensures { result ≡ runs_of (numbers_of (present slots.now)) }
+        ensures { result ≡ free_runs_of (numbers_of (present slots.now)) }
     {
         Runs { slots, start }
     }

@@ -11,7 +11,7 @@ use Rattle.nv_audit.proofs.Counting.{times_first}
 
 -- ---- a list in another order
 
-times_moved : (xs ys : List ℕ) (n : ℕ) → IsPermutation xs ys → times n ys ≡ times n xs
+pub times_moved : (xs ys : List ℕ) (n : ℕ) → IsPermutation xs ys → times n ys ≡ times n xs
 times_moved xs ys n moved = sum_by-IsPermutation (λ m. if m == n then 1 else 0) xs ys moved
 
 pub once_moved : (xs ys : List ℕ) → IsPermutation xs ys → IsOnce xs → IsOnce ys

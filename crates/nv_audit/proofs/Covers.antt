@@ -4,57 +4,52 @@ use Rattle.std.specs.Prelude.{option_and_then, slice_get}
 use Rattle.std.specs.Option.{option_map}
 use Rattle.std.proofs.lemmas.List.{append_assoc, append-nil, at_drop_all, drop_more, map-append, reverse-append, reverse-reverse, take_all, take_more}
 use Rattle.std.proofs.lemmas.Option.{slice_get-get_or}
-use Rattle.nv_cell.specs.Cell.{CellState, IsCell, log_of}
 use Rattle.nv_cell.proofs.Numbers.{own_place_of}
 use Rattle.nv_entry.specs.Keys.{Key, KindKey, ModeKey, NameKey, PageKey, SizeKey, covers, key_of, parts_of}
-use Rattle.nv_entry.specs.Log.{first_cover, pair_of, pairs, pairs_of}
+use Rattle.nv_entry.specs.Log.{IsLog, first_cover, pair_of, pairs, pairs_of}
 use Rattle.nv_entry.specs.declared.held.Pair.{Pair}
 use Rattle.nv_entry.specs.declared.item.Entry.{Entry}
 use Rattle.nv_entry.specs.declared.part.Part.{Part}
 use Rattle.nv_findex.specs.Pages.{ref_at}
-use Rattle.nv_log.specs.Chain.{place_of}
+use Rattle.nv_log.specs.Chain.{place_of_id}
 use Rattle.nv_audit.specs.Deaths.{Puts, cover_before, cover_in, covers_of, epoch_of, page_cover}
 use Rattle.nv_audit.specs.declared.first_covers.FirstCovers.{FirstCovers}
-use Rattle.nv_audit.proofs.NumberedPairs.{published}
 
 -- ---- the table
 
--- it tells of these entries of a cell which covers each key first
-abbrev pub AreCovers : CellState → List Entry → FirstCovers → Type 0
-AreCovers cell later c = (key : Key) → cover_in cell c key ≡ first_cover cell.block later key
+-- it tells of these entries of a log which covers each key first
+abbrev pub AreCovers : ℕ → List Entry → List Entry → FirstCovers → Type 0
+AreCovers block log later c = (key : Key) → cover_in log c key ≡ first_cover block later key
 
 -- an entry has the id by which its epoch is found
-pub own_epoch : (cell : CellState) (i : ℕ) (e : Entry) → IsCell cell → i < length (log_of cell) → e ≡ get_or (log_of cell) i e
-    → epoch_of cell e.id ≡ Some e.epoch
-own_epoch cell i e is lt at =
-    let es = cell.chain.entries in
-    let p = published es cell.chain.tail i lt in
-    let same : get_or es i e ≡ e = sym (at ∙ p.same e) in
-    let place : place_of es e.id ≡ Some i = ap (λ (x : Entry). place_of es x.id) (sym same) ∙ own_place_of es i e is.chain.rising p.within in
-    let got : slice_get (log_of cell) i ≡ Some e = slice_get-get_or (log_of cell) i e lt ∙ ap Some (sym at) in
-    ap (λ (o : Option ℕ). option_map (λ (x : Entry). x.epoch) (option_and_then (slice_get (log_of cell)) o)) place
+pub own_epoch : (log : List Entry) (i : ℕ) (e : Entry) → IsLog log → i < length log → e ≡ get_or log i e
+    → epoch_of log e.id ≡ Some e.epoch
+own_epoch log i e is lt at =
+    let place : place_of_id log e.id ≡ Some i = ap (λ (x : Entry). place_of_id log x.id) at ∙ own_place_of log i e is lt in
+    let got : slice_get log i ≡ Some e = slice_get-get_or log i e lt ∙ ap Some (sym at) in
+    ap (λ (o : Option ℕ). option_map (λ (x : Entry). x.epoch) (option_and_then (slice_get log) o)) place
     ∙ ap (option_map (λ (x : Entry). x.epoch)) got
 
 -- one more entry is put
-pub covers_more : (cell : CellState) (e : Entry) (later : List Entry) (old new : FirstCovers) → epoch_of cell e.id ≡ Some e.epoch
-    → AreCovers cell later old → Puts cell.block e old new → AreCovers cell (e ∷ later) new
-covers_more cell e later old new own are put KindKey = put.kind ∙ ap (cover_before cell.block e KindKey) (are KindKey)
-covers_more cell e later old new own are put ModeKey = put.mode ∙ ap (cover_before cell.block e ModeKey) (are ModeKey)
-covers_more cell e later old new own are put SizeKey = put.size ∙ ap (cover_before cell.block e SizeKey) (are SizeKey)
-covers_more cell e later old new own are put (NameKey name) =
-    put.names name ∙ ap (cover_before cell.block e (NameKey name)) (are (NameKey name))
-covers_more cell e later old new own are put (PageKey page) =
-    ap (option_and_then (epoch_of cell)) (put.pages page) ∙ go (covers cell.block e.item (PageKey page)) where
-      go : (b : Bool) → option_and_then (epoch_of cell) (cond b (Some e.id) (page_cover old.pages page))
-          ≡ cond b (Some e.epoch) (first_cover cell.block later (PageKey page))
+pub covers_more : (block : ℕ) (log : List Entry) (e : Entry) (later : List Entry) (old new : FirstCovers)
+    → epoch_of log e.id ≡ Some e.epoch → AreCovers block log later old → Puts block e old new → AreCovers block log (e ∷ later) new
+covers_more block log e later old new own are put KindKey = put.kind ∙ ap (cover_before block e KindKey) (are KindKey)
+covers_more block log e later old new own are put ModeKey = put.mode ∙ ap (cover_before block e ModeKey) (are ModeKey)
+covers_more block log e later old new own are put SizeKey = put.size ∙ ap (cover_before block e SizeKey) (are SizeKey)
+covers_more block log e later old new own are put (NameKey name) =
+    put.names name ∙ ap (cover_before block e (NameKey name)) (are (NameKey name))
+covers_more block log e later old new own are put (PageKey page) =
+    ap (option_and_then (epoch_of log)) (put.pages page) ∙ go (covers block e.item (PageKey page)) where
+      go : (b : Bool) → option_and_then (epoch_of log) (cond b (Some e.id) (page_cover old.pages page))
+          ≡ cond b (Some e.epoch) (first_cover block later (PageKey page))
       go true = own
       go false = are (PageKey page)
 
 -- no page is set where there is no run
-pub no_page : (cell : CellState) (page : ℕ)
-    → option_and_then (epoch_of cell) (page_cover (record { pages = []; room = 0 }) page) ≡ None
+pub no_page : (log : List Entry) (page : ℕ)
+    → option_and_then (epoch_of log) (page_cover (record { pages = []; room = 0 }) page) ≡ None
 unfolding ref_at
-no_page cell page = refl
+no_page log page = refl
 
 -- ---- deaths
 
@@ -62,10 +57,10 @@ abbrev pub death_of : Pair → Option ℕ
 death_of pair = pair.death
 
 -- it tells when the parts of the entry before them died
-pub covers_told : (cell : CellState) (e : Entry) (later : List Entry) (c : FirstCovers) → AreCovers cell later c
-    → covers_of cell c e ≡ map death_of (pairs_of cell.block e later)
-covers_told cell e later c are = go (parts_of e.item) where
-  go : (ps : List Part) → map (λ (part : Part). cover_in cell c (key_of e.item part)) ps ≡ map death_of (map (pair_of cell.block e later) ps)
+pub covers_told : (block : ℕ) (log : List Entry) (e : Entry) (later : List Entry) (c : FirstCovers) → AreCovers block log later c
+    → covers_of log c e ≡ map death_of (pairs_of block e later)
+covers_told block log e later c are = go (parts_of e.item) where
+  go : (ps : List Part) → map (λ (part : Part). cover_in log c (key_of e.item part)) ps ≡ map death_of (map (pair_of block e later) ps)
   go [] = refl
   go (p ∷ ps) = ap₂ (λ (x : Option ℕ) (xs : List (Option ℕ)). x ∷ xs) (are (key_of e.item p)) (go ps)
 
@@ -115,36 +110,36 @@ behind log i n e next lt is =
     drop_more log i e lt ∙ ap (λ (x : Entry). x ∷ drop (i + 1) log) (sym is) ∙ ap (λ (m : ℕ). e ∷ drop m log) next
 
 -- no entry is put yet
-pub covers_none : (cell : CellState) (n : ℕ) (c : FirstCovers) → length (log_of cell) ≤ n → ((key : Key) → cover_in cell c key ≡ None)
-    → AreCovers cell (drop n (log_of cell)) c
-covers_none cell n c past none key =
-    none key ∙ sym (at_drop_all (λ (es : List Entry). first_cover cell.block es key) (log_of cell) n past)
+pub covers_none : (block : ℕ) (log : List Entry) (n : ℕ) (c : FirstCovers) → length log ≤ n
+    → ((key : Key) → cover_in log c key ≡ None) → AreCovers block log (drop n log) c
+covers_none block log n c past none key =
+    none key ∙ sym (at_drop_all (λ (es : List Entry). first_cover block es key) log n past)
 
-pub deaths_none : (cell : CellState) (n : ℕ) (items : List (Option ℕ)) → length (log_of cell) ≤ n → items ≡ []
-    → items ≡ reverse (map death_of (pairs cell.block (drop n (log_of cell))))
-deaths_none cell n items past none =
-    none ∙ sym (at_drop_all (λ (es : List Entry). reverse (map death_of (pairs cell.block es))) (log_of cell) n past)
+pub deaths_none : (block : ℕ) (log : List Entry) (n : ℕ) (items : List (Option ℕ)) → length log ≤ n → items ≡ []
+    → items ≡ reverse (map death_of (pairs block (drop n log)))
+deaths_none block log n items past none =
+    none ∙ sym (at_drop_all (λ (es : List Entry). reverse (map death_of (pairs block es))) log n past)
 
 -- the entry at a place is put
-pub covers_step : (cell : CellState) (i n : ℕ) (e : Entry) (old new : FirstCovers) → IsCell cell → i + 1 ≡ n
-    → i < length (log_of cell) → e ≡ get_or (log_of cell) i e → AreCovers cell (drop n (log_of cell)) old
-    → Puts cell.block e old new → AreCovers cell (drop i (log_of cell)) new
-covers_step cell i n e old new is next lt at are put =
-    subst (λ (es : List Entry). AreCovers cell es new) (sym (behind (log_of cell) i n e next lt at))
-    (covers_more cell e (drop n (log_of cell)) old new (own_epoch cell i e is lt at) are put)
+pub covers_step : (block : ℕ) (log : List Entry) (i n : ℕ) (e : Entry) (old new : FirstCovers) → IsLog log → i + 1 ≡ n
+    → i < length log → e ≡ get_or log i e → AreCovers block log (drop n log) old → Puts block e old new
+    → AreCovers block log (drop i log) new
+covers_step block log i n e old new is next lt at are put =
+    subst (λ (es : List Entry). AreCovers block log es new) (sym (behind log i n e next lt at))
+    (covers_more block log e (drop n log) old new (own_epoch log i e is lt at) are put)
 
-pub deaths_step : (cell : CellState) (i n : ℕ) (e : Entry) (c : FirstCovers) (old new : List (Option ℕ)) → i + 1 ≡ n
-    → i < length (log_of cell) → e ≡ get_or (log_of cell) i e → AreCovers cell (drop n (log_of cell)) c
-    → old ≡ reverse (map death_of (pairs cell.block (drop n (log_of cell)))) → new ≡ old ++ reverse (covers_of cell c e)
-    → new ≡ reverse (map death_of (pairs cell.block (drop i (log_of cell))))
-deaths_step cell i n e c old new next lt at are told put =
-    let later : List Entry = drop n (log_of cell) in
-    deaths_more cell.block e later (covers_of cell c e) old new (covers_told cell e later c are) told put
-    ∙ ap (λ (es : List Entry). reverse (map death_of (pairs cell.block es))) (sym (behind (log_of cell) i n e next lt at))
+pub deaths_step : (block : ℕ) (log : List Entry) (i n : ℕ) (e : Entry) (c : FirstCovers) (old new : List (Option ℕ)) → i + 1 ≡ n
+    → i < length log → e ≡ get_or log i e → AreCovers block log (drop n log) c
+    → old ≡ reverse (map death_of (pairs block (drop n log))) → new ≡ old ++ reverse (covers_of log c e)
+    → new ≡ reverse (map death_of (pairs block (drop i log)))
+deaths_step block log i n e c old new next lt at are told put =
+    let later : List Entry = drop n log in
+    deaths_more block e later (covers_of log c e) old new (covers_told block log e later c are) told put
+    ∙ ap (λ (es : List Entry). reverse (map death_of (pairs block es))) (sym (behind log i n e next lt at))
 
 -- all are put
-pub deaths_all : (cell : CellState) (n : ℕ) (items : List (Option ℕ)) → n ≡ 0
-    → items ≡ reverse (map death_of (pairs cell.block (drop n (log_of cell)))) → reverse items ≡ map death_of (pairs cell.block (log_of cell))
-deaths_all cell n items none are =
-    ap reverse (are ∙ ap (λ (m : ℕ). reverse (map death_of (pairs cell.block (drop m (log_of cell))))) none)
-    ∙ reverse-reverse (map death_of (pairs cell.block (log_of cell)))
+pub deaths_all : (block : ℕ) (log : List Entry) (n : ℕ) (items : List (Option ℕ)) → n ≡ 0
+    → items ≡ reverse (map death_of (pairs block (drop n log))) → reverse items ≡ map death_of (pairs block log)
+deaths_all block log n items none are =
+    ap reverse (are ∙ ap (λ (m : ℕ). reverse (map death_of (pairs block (drop m log)))) none)
+    ∙ reverse-reverse (map death_of (pairs block log))

@@ -1,13 +1,13 @@
 -- Lists of block numbers, of which each is to stand once.
-use Rattle.std.proofs.Common.{◌≡◌, ℕ, ◌+◌, ◌-◌, ◌<◌, ◌≤◌, ◌==◌, ◌++◌, inl, false, refl, inr, Bool, true, List, [], ◌∷◌, length, take, drop, get_or, set, cond, nat_lt, arith, ap, sym, subst, ◌∙◌}
+use Rattle.std.proofs.Common.{◌≡◌, ℕ, zero, suc, ◌+◌, ◌-◌, ◌<◌, ◌≤◌, ◌==◌, ◌++◌, inl, false, refl, inr, Bool, true, List, [], ◌∷◌, length, take, drop, get_or, set, cond, nat_lt, arith, ap, sym, subst, ◌∙◌}
 use Rattle.std.specs.List.{range_with_len}
 use Rattle.std.proofs.Math.Seq.{take-length}
 use Rattle.std.proofs.lemmas.Bool.{cases_lt, eqb-true, le-ltb, lt-ltb, ne_eqb}
 use Rattle.std.proofs.lemmas.List.{drop_more, take-append-drop, take_more}
 use Rattle.nv_alloc.specs.Numbers.{IsEachOnce, times}
 use Rattle.nv_alloc.proofs.Lists.{has-times, times-append, times-no, times-yes}
-use Rattle.nv_audit.specs.Blocks.{AreAllSet, IsUnmarked}
-use Rattle.nv_audit.specs.Lists.{AreMarked, mark_at}
+use Rattle.nv_audit.specs.Blocks.{AreAllSet, AreMarksOnce, AreOnceBelow, IsUnmarked}
+use Rattle.nv_audit.specs.Lists.{AreMarked}
 use Rattle.nv_audit.specs.Tree.{IsOnce}
 use Rattle.nv_audit.proofs.Counting.{has_if_some, some_if_has, times_first}
 use Rattle.nv_audit.proofs.PartBlocks.{range_split}
@@ -39,23 +39,18 @@ cut_at numbers i n lt is =
     ∙ take-append-drop i numbers
 
 pub next_unmarked : (blocks : ℕ) (numbers : List ℕ) (i : ℕ) (marks : List Bool) (n : ℕ) → i < length numbers → n ≡ get_or numbers i n
-    → AreMarkedOnce blocks numbers i marks → IsEachOnce blocks numbers → IsUnmarked marks n
-next_unmarked blocks numbers i marks n lt is are each =
+    → AreMarkedOnce blocks numbers i marks → AreOnceBelow blocks numbers → IsUnmarked marks n
+next_unmarked blocks numbers i marks n lt is are all =
     let before = take i numbers in
     let rest = drop (i + 1) numbers in
     let parts = ap (times n) (sym (cut_at numbers i n lt is)) ∙ times-append n before (n ∷ rest) in
     let first = times_first n rest in
-    elim (cases_lt n blocks) [
-      | inl less ↦
-          let one : times n numbers ≡ 1 = each n ∙ ap (λ (b : Bool). cond b 1 0) (lt-ltb n blocks less) in
-          record {
-            within = omega (arith, less, are.marked.len);
-            unset = are.marked.marked n less ∙ has-times n before (omega (arith, parts, first, one));
-          }
-      | inr from ↦
-          let none : times n numbers ≡ 0 = each n ∙ ap (λ (b : Bool). cond b 1 0) (le-ltb n blocks (omega (arith, from))) in
-          absurd (omega (arith, parts, first, none))
-    ]
+    let less : n < blocks = all.within n (omega (arith, parts, first)) in
+    let none : times n before ≡ 0 = omega (arith, parts, first, all.once n) in
+    record {
+      within = omega (arith, less, are.marked.len);
+      unset = are.marked.marked n less ∙ has-times n before none;
+    }
 
 one_more_once : (m : ℕ) (before : List ℕ) (n : ℕ) → times n before ≡ 0 → IsOnce before → times m (before ++ n ∷ []) ≤ 1
 one_more_once m before n none once = go (n == m) refl where
@@ -92,28 +87,58 @@ mark_next blocks numbers i marks n lt is are new =
 
 -- ---- the whole list
 
-pub each_if_set : (blocks : ℕ) (numbers : List ℕ) (i : ℕ) (marks : List Bool) → i ≡ length numbers
-    → AreMarkedOnce blocks numbers i marks → AreAllSet marks → IsEachOnce blocks numbers
-each_if_set blocks numbers i marks ended are set n =
-    let all : take i numbers ≡ numbers = take_whole numbers i ended in
-    let once = subst IsOnce all are.once n in
+pub all_marked : (blocks : ℕ) (numbers : List ℕ) (i : ℕ) (marks : List Bool) → i ≡ length numbers
+    → AreMarkedOnce blocks numbers i marks → AreMarksOnce blocks numbers marks
+all_marked blocks numbers i marks ended are = record {
+  marked = subst (λ (ns : List ℕ). AreMarked blocks ns marks) all are.marked;
+  below = record {
+    within = λ n some. elim (cases_lt n blocks) [
+      | inl less ↦ less
+      | inr from ↦
+          absurd (omega (arith, some, sym (ap (times n) all) ∙ are.below n (omega (arith, from))))
+    ];
+    once = subst IsOnce all are.once;
+  };
+} where
+  all : take i numbers ≡ numbers
+  all = take_whole numbers i ended
+
+pub each_once_below : (blocks : ℕ) (numbers : List ℕ) → IsEachOnce blocks numbers → AreOnceBelow blocks numbers
+each_once_below blocks numbers each = record {
+  within = λ n some. elim (cases_lt n blocks) [
+    | inl less ↦ less
+    | inr from ↦
+        let none : times n numbers ≡ 0 = each n ∙ ap (λ (b : Bool). cond b 1 0) (le-ltb n blocks (omega (arith, from))) in
+        absurd (omega (arith, some, none))
+  ];
+  once = λ n. elim (cases_lt n blocks) [
+    | inl less ↦
+        let one : times n numbers ≡ 1 = each n ∙ ap (λ (b : Bool). cond b 1 0) (lt-ltb n blocks less) in omega (arith, one)
+    | inr from ↦
+        let none : times n numbers ≡ 0 = each n ∙ ap (λ (b : Bool). cond b 1 0) (le-ltb n blocks (omega (arith, from))) in
+        omega (arith, none)
+  ];
+}
+
+pub each_if_set : (blocks : ℕ) (numbers : List ℕ) (marks : List Bool) → AreMarksOnce blocks numbers marks → AreAllSet marks
+    → IsEachOnce blocks numbers
+each_if_set blocks numbers marks are set n =
     elim (cases_lt n blocks) [
       | inl less ↦
           let marked = sym (are.marked.marked n less) ∙ set n (omega (arith, less, are.marked.len)) in
-          let some = some_if_has n (take i numbers) marked in
-          let same = ap (times n) all in
-          let one : times n numbers ≡ 1 = omega (arith, once, some, same) in
+          let some = some_if_has n numbers marked in
+          let one : times n numbers ≡ 1 = omega (arith, are.below.once n, some) in
           one ∙ sym (ap (λ (b : Bool). cond b 1 0) (lt-ltb n blocks less))
-      | inr from ↦
-          sym (ap (times n) all) ∙ are.below n (omega (arith, from))
-          ∙ sym (ap (λ (b : Bool). cond b 1 0) (le-ltb n blocks (omega (arith, from))))
+      | inr from ↦ none n from (times n numbers) refl
     ]
+  where
+    none : (n : ℕ) → blocks ≤ n → (t : ℕ) → times n numbers ≡ t → times n numbers ≡ cond (nat_lt n blocks) 1 0
+    none n from zero e = e ∙ sym (ap (λ (b : Bool). cond b 1 0) (le-ltb n blocks (omega (arith, from))))
+    none n from (suc t) e = absurd (let less = are.below.within n (omega (arith, e)) in omega (arith, less, from))
 
-pub set_if_each : (blocks : ℕ) (numbers : List ℕ) (i : ℕ) (marks : List Bool) → i ≡ length numbers
-    → AreMarkedOnce blocks numbers i marks → IsEachOnce blocks numbers → AreAllSet marks
-set_if_each blocks numbers i marks ended are each n lt =
-    let all : take i numbers ≡ numbers = take_whole numbers i ended in
+pub set_if_each : (blocks : ℕ) (numbers : List ℕ) (marks : List Bool) → AreMarksOnce blocks numbers marks
+    → IsEachOnce blocks numbers → AreAllSet marks
+set_if_each blocks numbers marks are each n lt =
     let less : n < blocks = omega (arith, lt, are.marked.len) in
     let one : times n numbers ≡ 1 = each n ∙ ap (λ (b : Bool). cond b 1 0) (lt-ltb n blocks less) in
-    let same = ap (times n) all in
-    are.marked.marked n less ∙ has_if_some n (take i numbers) (omega (arith, one, same))
+    are.marked.marked n less ∙ has_if_some n numbers (omega (arith, one))

@@ -8,10 +8,12 @@ use Rattle.nv_base.specs.declared.fault.MismatchPart.TheVariants.{Index, Names, 
 use Rattle.nv_base.specs.declared.geometry.GeometryNumbers.{GeometryNumbers}
 use Rattle.nv_book.specs.Book.{BookState}
 use Rattle.nv_cell.specs.Cell.{CellState}
+use Rattle.nv_epoch.specs.SnapList.{ids}
 use Rattle.nv_audit.specs.Resting.{HasCounts, HasIndex, HasShape, IsFirstAtRest, IsFirstOfInode, IsFirstOfInodes, IsInodeAtRest}
 
 -- what an audit finds of an inode whose index and names do not differ
-pub counts_told : (book : BookState) (ino : ℕ) (cell : CellState) (o : Option MismatchPart) → HasIndex cell → HasShape cell
+pub counts_told : (book : BookState) (ino : ℕ) (cell : CellState) (o : Option MismatchPart) → HasIndex cell
+    → HasShape (ids book.snaps) cell
     → MatchOption o (HasCounts book ino cell) (λ p. (p ≡ Counts) × (¬ HasCounts book ino cell))
     → MatchOption o (IsInodeAtRest book ino cell) (λ p. IsFirstOfInode p book ino cell)
 counts_told book ino cell None index names told = record { index = index; names = names; counts = told }

@@ -8,7 +8,7 @@ use Rattle.nv_cell.specs.Readers.{marks_by_entry}
 use Rattle.nv_cell.specs.declared.mark.Mark.{Mark}
 use Rattle.nv_entry.specs.Covered.{part_count, part_total}
 use Rattle.nv_entry.specs.declared.item.Entry.{Entry}
-use Rattle.nv_audit.specs.KeptParts.{ArePartsOf, is_kept}
+use Rattle.nv_audit.specs.KeptParts.{ArePartsOf, is_marked_as_kept}
 use Rattle.nv_audit.specs.declared.kept_parts.KeptParts.{KeptParts}
 
 take_nil : {X : Type 0} (n : ℕ) → take {A = X} n [] ≡ []
@@ -41,7 +41,7 @@ more_marks (e ∷ es) marks (suc i) lt =
 pub record AreGathered (cell : CellState) (i : ℕ) (parts : KeptParts) : Type 0 where
   pub len : length parts.firsts.items ≡ i
   pub firsts : (k : ℕ) → k < i → slice_index_or parts.firsts.items k 0 ≡ part_base (log_of cell) k
-  pub left : parts.left.items ≡ map is_kept (take (part_base (log_of cell) i) cell.marks)
+  pub left : parts.left.items ≡ map is_marked_as_kept (take (part_base (log_of cell) i) cell.marks)
 
 part_base_most : (es : List Entry) (i : ℕ) → part_base es i ≤ part_total es
 part_base_most [] zero = omega arith
@@ -60,17 +60,17 @@ module _ (cell : CellState) (is : IsCell cell) where
   pub log_length : length (log_of cell) ≡ cell.chain.tail
   log_length = length-take-le cell.chain.tail cell.chain.entries is.chain.within
 
-  gathered_len : (i : ℕ) (left : List Bool) → left ≡ map is_kept (take (part_base (log_of cell) i) cell.marks)
+  gathered_len : (i : ℕ) (left : List Bool) → left ≡ map is_marked_as_kept (take (part_base (log_of cell) i) cell.marks)
       → length left ≡ part_base (log_of cell) i
   gathered_len i left h =
       let most = part_base_most (log_of cell) i in
       let fits = length-take-le (part_base (log_of cell) i) cell.marks (omega (arith, most, is.marks.len)) in
-      ap (λ (l : List Bool). length l) h ∙ length-map (take (part_base (log_of cell) i) cell.marks) is_kept ∙ fits
+      ap (λ (l : List Bool). length l) h ∙ length-map (take (part_base (log_of cell) i) cell.marks) is_marked_as_kept ∙ fits
 
   -- those of one entry more
   pub gathered_more : (i first : ℕ) (old new : KeptParts) → i < length (log_of cell) → AreGathered cell i old
       → first ≡ length old.left.items → new.firsts.items ≡ old.firsts.items ++ first ∷ []
-      → new.left.items ≡ old.left.items ++ map is_kept (slice_index_or (marks_by_entry (log_of cell) cell.marks) i [])
+      → new.left.items ≡ old.left.items ++ map is_marked_as_kept (slice_index_or (marks_by_entry (log_of cell) cell.marks) i [])
       → AreGathered cell (i + 1) new
   gathered_more i first old new lt before size firsts left = record {
     len = ap (λ (l : List ℕ). length l) firsts ∙ length-append old.firsts.items (first ∷ []) ∙ ap (λ (k : ℕ). k + 1) before.len;
@@ -84,9 +84,9 @@ module _ (cell : CellState) (is : IsCell cell) where
           ap (λ (l : List ℕ). slice_index_or l k 0) firsts ∙ read_last old.firsts.items first k same
           ∙ size ∙ gathered_len i old.left.items before.left ∙ ap (part_base (log_of cell)) (sym at)
     ];
-    left = left ∙ ap (λ l. l ++ map is_kept own) before.left
-        ∙ sym (map-append is_kept (take (part_base (log_of cell) i) cell.marks) own)
-        ∙ ap (map is_kept) (more_marks (log_of cell) cell.marks i lt);
+    left = left ∙ ap (λ l. l ++ map is_marked_as_kept own) before.left
+        ∙ sym (map-append is_marked_as_kept (take (part_base (log_of cell) i) cell.marks) own)
+        ∙ ap (map is_marked_as_kept) (more_marks (log_of cell) cell.marks i lt);
   } where
     own : List Mark
     own = slice_index_or (marks_by_entry (log_of cell) cell.marks) i []
@@ -104,16 +104,16 @@ module _ (cell : CellState) (is : IsCell cell) where
 
   -- all of them
   pub gathered_all : (i : ℕ) (parts : KeptParts) → i ≡ length (log_of cell) → AreGathered cell i parts
-      → ArePartsOf cell parts × (parts.left.items ≡ map is_kept cell.marks)
+      → ArePartsOf cell parts × (parts.left.items ≡ map is_marked_as_kept cell.marks)
   gathered_all i parts end all =
       let whole : part_base (log_of cell) i ≡ part_total (log_of cell) =
       ap part_total (take_all i (log_of cell) (omega (arith, end))) in
       let marks : take (part_base (log_of cell) i) cell.marks ≡ cell.marks =
       take_all (part_base (log_of cell) i) cell.marks (omega (arith, whole, is.marks.len)) in
-      let left : parts.left.items ≡ map is_kept cell.marks = all.left ∙ ap (map is_kept) marks in (
+      let left : parts.left.items ≡ map is_marked_as_kept cell.marks = all.left ∙ ap (map is_marked_as_kept) marks in (
         record {
           firsts = record { len = all.len ∙ end; each = λ k lt. all.firsts k (omega (arith, lt, end)) };
-          len = ap (λ (l : List Bool). length l) left ∙ length-map cell.marks is_kept;
+          len = ap (λ (l : List Bool). length l) left ∙ length-map cell.marks is_marked_as_kept;
         },
         left,
       )

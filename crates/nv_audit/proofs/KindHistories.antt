@@ -5,18 +5,20 @@ use Rattle.std.proofs.lemmas.Grind.{flat_map-append}
 use Rattle.std.proofs.lemmas.List.{append-nil, get_or_append_left, get_or_push, get_or_read, take_all, take_more}
 use Rattle.std.proofs.lemmas.List.Folds.{list_any-append}
 use Rattle.nv_base.specs.declared.node.Kind.{Kind}
-use Rattle.nv_cell.specs.Cell.{CellState, log_of}
 use Rattle.nv_entry.specs.Index.{bound_name, names_of}
 use Rattle.nv_entry.specs.Keys.{NameKey, name_of}
-use Rattle.nv_entry.specs.Log.{first_cover, up_to}
+use Rattle.nv_entry.specs.Log.{first_cover, seen, up_to}
 use Rattle.nv_entry.specs.Refs.{is_bind}
 use Rattle.nv_entry.specs.Stored.{Stored, stored, stored_after_all}
 use Rattle.nv_entry.specs.declared.item.Entry.{Entry}
 use Rattle.nv_entry.specs.declared.item.Item.{Item}
 use Rattle.nv_entry.specs.declared.item.Item.TheVariants.{Init, Write, SetSize, SetMode, Bind, Unbind, Gone}
 use Rattle.nv_entry.specs.declared.names.BoundName.{BoundName}
+use Rattle.nv_entry.specs.declared.value.When.{When}
+use Rattle.nv_entry.specs.declared.value.When.TheVariants.{At, Now}
 use Rattle.nv_entry.proofs.StoredItems.{stored-append}
-use Rattle.nv_audit.specs.Histories.{Adds, IsHistoryBy, IsHistoryOf, binds_any, changes_by, changes_of, kind_at, kind_from}
+use Rattle.nv_audit.specs.Histories.{AddsEntry, IsHistoryBy, binds_any, changes_by, changes_of, kind_at, kind_from}
+use Rattle.nv_audit.specs.Logged.{LoggedValue}
 use Rattle.nv_audit.specs.declared.histories.History.{History}
 use Rattle.nv_audit.specs.declared.histories.KindChange.{KindChange}
 
@@ -107,13 +109,20 @@ no_names epoch (e ∷ log) none =
     let both = neither (is_bind e.item) (binds_any log) none in
     one_unnamed epoch e log (nat_le e.epoch epoch) both.0 (no_names epoch log both.1)
 
+pub no_names_now : (log : List Entry) → binds_any log ≡ false → names_of log ≡ []
+no_names_now [] none = refl
+no_names_now (e ∷ log) none =
+    let both = neither (is_bind e.item) (binds_any log) none in
+    ap₂ (λ (xs ys : List BoundName). xs ++ ys) (none_bound e.item (first_cover 1 log (NameKey (name_of e.item))) both.0)
+    (no_names_now log both.1)
+
 -- ---- one more entry
 
 or_none : (b : Bool) → (b || false) ≡ b
 or_none true = refl
 or_none false = refl
 
-pub history_more : (log : List Entry) (e : Entry) (old new : History) → IsHistoryBy log old → Adds e old new
+pub history_more : (log : List Entry) (e : Entry) (old new : History) → IsHistoryBy log old → AddsEntry e old new
     → IsHistoryBy (log ++ e ∷ []) new
 history_more log e old new is adds = record {
   kinds =
@@ -133,7 +142,7 @@ pub history_none : (log : List Entry) (history : History) → history.kinds.item
 history_none log history kinds binds = record { kinds = kinds; binds = binds }
 
 pub history_step : (log : List Entry) (i : ℕ) (e : Entry) (old new : History) → i < length log → e ≡ get_or log i e
-    → IsHistoryBy (take i log) old → Adds e old new → IsHistoryBy (take (i + 1) log) new
+    → IsHistoryBy (take i log) old → AddsEntry e old new → IsHistoryBy (take (i + 1) log) new
 history_step log i e old new lt at is adds =
     let more : take (i + 1) log ≡ take i log ++ e ∷ [] =
     take_more log i e lt ∙ ap (λ (x : Entry). take i log ++ x ∷ []) (sym at) in
@@ -143,33 +152,34 @@ pub history_all : (log : List Entry) (i : ℕ) (history : History) → length lo
     → IsHistoryBy log history
 history_all log i history past is = subst (λ (es : List Entry). IsHistoryBy es history) (take_all i log past) is
 
--- ---- along cells
+-- ---- along several logs
 
-pub histories_more : (cells : List CellState) (i : ℕ) (old : List History) (own : CellState) (new : History) → length old ≡ i
-    → i < length cells → own ≡ get_or cells i own → IsHistoryOf own new
-    → ((n : ℕ) (cell : CellState) (history : History) → n < i → IsHistoryOf (get_or cells n cell) (get_or old n history))
-    → (n : ℕ) (cell : CellState) (history : History) → n < i + 1
-    → IsHistoryOf (get_or cells n cell) (get_or (old ++ new ∷ []) n history)
-histories_more cells i old own new len lt at is before n cell history below =
+pub histories_more : (logs : List LoggedValue) (i : ℕ) (old : List History) (own : LoggedValue) (new : History) → length old ≡ i
+    → i < length logs → own ≡ get_or logs i own → IsHistoryBy own.log new
+    → ((n : ℕ) (l : LoggedValue) (history : History) → n < i → IsHistoryBy (get_or logs n l).log (get_or old n history))
+    → (n : ℕ) (l : LoggedValue) (history : History) → n < i + 1
+    → IsHistoryBy (get_or logs n l).log (get_or (old ++ new ∷ []) n history)
+histories_more logs i old own new len lt at is before n l history below =
     elim (cases_lt n i) [
       | inl less ↦
           let kept : get_or (old ++ new ∷ []) n history ≡ get_or old n history =
           get_or_append_left old (new ∷ []) history n (omega (arith, less, len)) in
-          subst (λ (h : History). IsHistoryOf (get_or cells n cell) h) (sym kept) (before n cell history less)
+          subst (λ (h : History). IsHistoryBy (get_or logs n l).log h) (sym kept) (before n l history less)
       | inr from ↦
           let same : i ≡ n = omega (arith, from, below) in
           let last : get_or (old ++ new ∷ []) i history ≡ new = get_or_push old new history i len in
-          subst (λ (m : ℕ). IsHistoryOf (get_or cells m cell) (get_or (old ++ new ∷ []) m history)) same
-          (subst (λ (c : CellState). IsHistoryOf c (get_or (old ++ new ∷ []) i history)) (get_or_read cells i own lt at cell)
-          (subst (λ (h : History). IsHistoryOf own h) (sym last) is))
+          subst (λ (m : ℕ). IsHistoryBy (get_or logs m l).log (get_or (old ++ new ∷ []) m history)) same
+          (subst (λ (c : LoggedValue). IsHistoryBy c.log (get_or (old ++ new ∷ []) i history)) (get_or_read logs i own lt at l)
+          (subst (λ (h : History). IsHistoryBy own.log h) (sym last) is))
     ]
 
--- ---- the history of a cell
+-- ---- the history of a log
 
-pub kind_by : (cell : CellState) (history : History) (epoch : ℕ) → IsHistoryOf cell history
-    → kind_at epoch history.kinds.items ≡ (stored cell.block (up_to epoch (log_of cell))).kind
-kind_by cell history epoch is = ap (kind_at epoch) is.kinds ∙ kind_told cell.block epoch (log_of cell)
+pub kind_by : (block : ℕ) (log : List Entry) (history : History) (epoch : ℕ) → IsHistoryBy log history
+    → kind_at epoch history.kinds.items ≡ (stored block (up_to epoch log)).kind
+kind_by block log history epoch is = ap (kind_at epoch) is.kinds ∙ kind_told block epoch log
 
-pub names_by : (cell : CellState) (history : History) (epoch : ℕ) → IsHistoryOf cell history → history.binds ≡ false
-    → names_of (up_to epoch (log_of cell)) ≡ []
-names_by cell history epoch is none = no_names epoch (log_of cell) (sym is.binds ∙ none)
+pub names_told : (log : List Entry) (history : History) (when : When) → IsHistoryBy log history → history.binds ≡ false
+    → names_of (seen when log) ≡ []
+names_told log history Now is none = no_names_now log (sym is.binds ∙ none)
+names_told log history (At epoch) is none = no_names epoch log (sym is.binds ∙ none)

@@ -7,7 +7,7 @@ use Rattle.std.proofs.lemmas.Option.{same_Some, slice_get-get_or, slice_get-map}
 use Rattle.nv_book.specs.declared.record.Record.{Record}
 use Rattle.nv_cell.specs.Cell.{CellState, log_of}
 use Rattle.nv_cell.specs.Killed.{part_of_pair}
-use Rattle.nv_cell.specs.Named.{number_named, place_of}
+use Rattle.nv_cell.specs.Named.{number_named, place_of_part}
 use Rattle.nv_cell.specs.Numbers.{killed_part, part_base}
 use Rattle.nv_cell.specs.declared.killed.KilledPart.{KilledPart}
 use Rattle.nv_cell.proofs.NamedParts.{are_pairs, name_told, number_told, pair_first, pair_later}
@@ -19,7 +19,7 @@ use Rattle.nv_entry.specs.Log.{IsLog, pair_of, pairs, pairs_of}
 use Rattle.nv_entry.specs.declared.held.Pair.{Pair}
 use Rattle.nv_entry.specs.declared.item.Entry.{Entry}
 use Rattle.nv_entry.specs.declared.part.PartId.{PartId}
-use Rattle.nv_log.specs.Chain.{place_of as chain_place_of}
+use Rattle.nv_log.specs.Chain.{place_of_id as chain_place_of}
 use Rattle.nv_audit.specs.KeptParts.{IsRecordOf, pair_named}
 use Rattle.nv_audit.specs.Pending.{part_of}
 
@@ -126,7 +126,7 @@ unpublished (x ∷ es) (suc tail) (suc i) past lt =
 -- a part of a published entry by its place
 pub number_here : (es : List Entry) (tail i : ℕ) (e : Entry) (id : PartId) → chain_place_of es id.entry ≡ Some i
     → i < length (take tail es) → e ≡ slice_index_or (take tail es) i e
-    → number_named (take tail es) id ≡ option_map (λ n. part_base (take tail es) i + n) (place_of e.item id.part)
+    → number_named (take tail es) id ≡ option_map (λ n. part_base (take tail es) i + n) (place_of_part e.item id.part)
 number_here es tail i e id at lt is =
     let p = published es tail i lt in
     let early : i < tail = p.early in

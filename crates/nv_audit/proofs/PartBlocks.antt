@@ -24,7 +24,7 @@ use Rattle.nv_cell.proofs.Appending.{back_block}
 use Rattle.nv_cell.proofs.NamedParts.{pair_first, pair_later}
 use Rattle.nv_cell.proofs.Numbers.{total_append}
 use Rattle.nv_cell.proofs.PagesNow.{front_block}
-use Rattle.nv_audit.specs.Lists.{block_said, blocks_kept, blocks_said, blocks_had, kept_of, kept_pair, said_of, said_part, used_by}
+use Rattle.nv_audit.specs.Lists.{block_said, blocks_kept, blocks_said, blocks_had, blocks_kept_of, kept_pair, said_of, said_part, used_by}
 use Rattle.nv_entry.proofs.PartLists.{length-pairs}
 
 -- ---- lists by their places
@@ -68,7 +68,7 @@ later_says block e later n =
     rw (no', back) refl
 
 -- the block of a part that is in use
-abbrev if_used : Bool → Option ℕ → List ℕ
+abbrev pub if_used : Bool → Option ℕ → List ℕ
 if_used used block = option_to_list (cond used block None)
 
 used_is : (used : Bool) (block : Option ℕ) → cond used (option_to_list block) [] ≡ if_used used block
@@ -78,7 +78,7 @@ used_is false block = refl
 -- ---- a log
 
 -- by their numbers: parts in use have the blocks of the pairs that are kept
-kept_numbers : (r : Retention) (used : ℕ → Bool) (says : ℕ → Option ℕ) (from : ℕ) (es : List Entry)
+pub kept_numbers : (r : Retention) (used : ℕ → Bool) (says : ℕ → Option ℕ) (from : ℕ) (es : List Entry)
     → ((n : ℕ) (pair : Pair) → slice_get (pairs r.block es) n ≡ Some pair → used (from + n) ≡ keeps r pair)
     → ((n : ℕ) → n < part_total es → says (from + n) ≡ page_block r.block es n)
     → flat_map (λ (n : ℕ). if_used (used n) (says n)) (range_with_len from (part_total es)) ≡ blocks_kept r es
@@ -89,7 +89,7 @@ kept_numbers r used says from (e ∷ later) same told =
     let none : Pair = pair_of r.block e later part.Kind in
     let own = pairs_of r.block e later in
     let many : length own ≡ c = length-map (parts_of e.item) (pair_of r.block e later) in
-    let first : flat_map G (range_with_len from c) ≡ kept_of r e later =
+    let first : flat_map G (range_with_len from c) ≡ blocks_kept_of r e later =
     ap (λ (n : ℕ). flat_map G (range_with_len from n)) (sym many)
     ∙ sym (by_place (kept_pair r e.item) G none own from (λ i lt.
     let few : i < c = omega (arith, lt, many) in

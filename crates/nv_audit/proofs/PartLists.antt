@@ -14,7 +14,7 @@ use Rattle.nv_entry.specs.declared.part.Part.{Part}
 use Rattle.nv_entry.specs.declared.part.Part.TheVariants as part
 use Rattle.nv_entry.specs.Held.{same_part}
 use Rattle.nv_cell.proofs.Runs.{count_cons}
-use Rattle.nv_audit.specs.PartLists.{HaveSameParts, is_same, order_of, place_of, times}
+use Rattle.nv_audit.specs.PartLists.{HaveSameParts, is_same, order_of, part_order, times}
 use Rattle.nv_audit.specs.declared.part_list.InodePart.{InodePart}
 use Rattle.nv_audit.proofs.PartNames.{same_is}
 use lib.Pointwise.{pointwise}
@@ -76,7 +76,7 @@ part_from kind page =
     if kind == 0 then part.Kind else if kind == 1 then part.Mode else if kind == 2 then part.Size
     else if kind == 3 then part.Bound else part.Page page
 
-from_place : (p : Part) → part_from (place_of p).0 (place_of p).1 ≡ p
+from_place : (p : Part) → part_from (part_order p).0 (part_order p).1 ≡ p
 unfolding part_from
 from_place part.Kind = refl
 from_place part.Mode = refl
@@ -86,7 +86,7 @@ from_place (part.Page page) = refl
 
 same_order : (a b : InodePart) → order_of a ≡ order_of b → a ≡ b
 same_order a b e =
-    let at : (p : Part) → part_from (place_of p).0 (place_of p).1 ≡ p = from_place in
+    let at : (p : Part) → part_from (part_order p).0 (part_order p).1 ≡ p = from_place in
     let part : a.part.part ≡ b.part.part =
     sym (at a.part.part) ∙ ap (λ (p : Place). part_from p.2.0 p.2.1) e ∙ at b.part.part in
     λ i. record { ino = (e i).0; part = record { entry = (e i).1; part = part i } }

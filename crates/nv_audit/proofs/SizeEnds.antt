@@ -18,18 +18,19 @@ use Rattle.nv_entry.specs.declared.part_ref.PartRef.{PartRef}
 use Rattle.nv_entry.specs.Data.{block_in}
 use Rattle.nv_entry.specs.Index.{last_cover}
 use Rattle.nv_entry.specs.Keys.{PageKey, in_run, is_page, is_past, pages_for, sets}
-use Rattle.nv_entry.specs.Log.{value_of}
-use Rattle.nv_entry.specs.Node.{block_now}
+use Rattle.nv_entry.specs.Log.{IsLog, value_of}
+use Rattle.nv_entry.specs.Node.{block_now, size_now}
 use Rattle.nv_entry.specs.Refs.{left_by, ref_after, scan_ref}
 use Rattle.nv_entry.proofs.Nodes.{block_now-past}
 use Rattle.nv_entry.proofs.Refs.{value_now-last}
 use Rattle.nv_findex.specs.Pages.{IsNextFrom, PageMap, ref_at}
 use Rattle.nv_findex.specs.declared.page_ref.PageRef.{PageRef}
-use Rattle.nv_cell.specs.Cell.{CellState, IsCell, log_of}
+use Rattle.nv_cell.specs.Cell.{CellState, HasBlocks, HasMarks, IsCell, log_of}
 use Rattle.nv_cell.specs.Index.{page_part}
 use Rattle.nv_cell.specs.Pages.{block_at_page, own_page, slot_bytes}
 use Rattle.nv_cell.proofs.PageBlocks.{page_number_is, page_sized}
-use Rattle.nv_audit.specs.Sound.{ArePagesWithin, AreZerosPast, own_size}
+use Rattle.nv_audit.specs.Index.{ArePagesOf}
+use Rattle.nv_audit.specs.Sound.{AreLogPagesWithin, ArePagesWithin, AreZerosPast, own_size}
 
 -- ---- a page is present exactly where a part holds it
 
@@ -83,11 +84,11 @@ of_some (Some x) e = (x, refl)
 
 -- ---- no page past the size, by the index
 
-module _ (cell : CellState) (index : PageMap) (first : ℕ) (least : first ≡ min (pages_for cell.block (own_size cell)) FILE_PAGES)
-    (are : (page : ℕ) → option_map page_part (ref_at index.pages page) ≡ scan_ref cell.block (log_of cell) (PageKey page)) where
-  at_index : (page : ℕ) → is_some (ref_at index.pages page) ≡ is_some (block_now cell.block (log_of cell) page)
+module _ (block : ℕ) (log : List Entry) (index : PageMap) (first : ℕ)
+    (least : first ≡ min (pages_for block (size_now block log)) FILE_PAGES) (are : ArePagesOf block log index) where
+  at_index : (page : ℕ) → is_some (ref_at index.pages page) ≡ is_some (block_now block log page)
   at_index page =
-      mapped (ref_at index.pages page) ∙ ap is_some (are page) ∙ sym (page_held cell.block (log_of cell) page)
+      mapped (ref_at index.pages page) ∙ ap is_some (are page) ∙ sym (page_held block log page)
     where
       mapped : (o : Option PageRef) → is_some o ≡ is_some (option_map page_part o)
       mapped None = refl
@@ -95,21 +96,21 @@ module _ (cell : CellState) (index : PageMap) (first : ℕ) (least : first ≡ m
 
   pub within_by : (next : Option (ℕ × PageRef)) → IsNextFrom first (ref_at index.pages) next
       → IfSome next (λ found. (found.0 < FILE_PAGES) × (found.1.place < FILE_PAGES))
-      → IsTrue (not (is_some next)) ↔ ArePagesWithin cell
+      → IsTrue (not (is_some next)) ↔ AreLogPagesWithin block log
   within_by None none inside = (λ t. below, λ all. refl) where
-    below : ArePagesWithin cell
+    below : AreLogPagesWithin block log
     below page number is =
         elim (cases_lt page first) [
           | inl lt ↦ omega (arith, lt, least)
           | inr from ↦
               let no : is_some (ref_at index.pages page) ≡ false = ap is_some (none page (omega (arith, from))) in
-              let yes = some_is (block_now cell.block (log_of cell) page) number is in
+              let yes = some_is (block_now block log page) number is in
               let at = at_index page in cc
         ]
   within_by (Some found) next inside = (λ t. cc, λ all. absurd (past all)) where
-    past : ArePagesWithin cell → ⊥
+    past : AreLogPagesWithin block log → ⊥
     past all =
-        let there = of_some (block_now cell.block (log_of cell) found.0)
+        let there = of_some (block_now block log found.0)
         (sym (at_index found.0) ∙ some_is (ref_at index.pages found.0) found.1 next.1) in
         let low = all found.0 there.0 there.1 in
         let most = inside.0 in
@@ -128,7 +129,16 @@ zeros_only zero j = refl
 zeros_only (suc n) zero = refl
 zeros_only (suc n) (suc j) = zeros_only n j
 
-module _ (cell : CellState) (is : IsCell cell) (within : ArePagesWithin cell) where
+-- what a cell has to have for that: a log in order, marks, and the blocks that these say
+pub record IsWhole (cell : CellState) : Type 0 where
+  pub rising : IsLog cell.chain.entries
+  pub marks : HasMarks cell
+  pub blocks : HasBlocks cell
+
+pub whole : (cell : CellState) → IsCell cell → IsWhole cell
+whole cell is = record { rising = is.chain.rising; marks = is.marks; blocks = is.blocks }
+
+module _ (cell : CellState) (is : IsWhole cell) (within : ArePagesWithin cell) where
   abbrev size : ℕ
   size = own_size cell
 
@@ -144,11 +154,11 @@ module _ (cell : CellState) (is : IsCell cell) (within : ArePagesWithin cell) wh
     go : (o : Option BlockValue) → block_at_page cell page ≡ o → block_at_page cell page ≡ None
     go None e = e
     go (Some b) e =
-        let now = sym (page_number_is cell page is.chain.rising is.marks is.blocks) ∙ ap (option_map number_of) e in
+        let now = sym (page_number_is cell page is.rising is.marks is.blocks) ∙ ap (option_map number_of) e in
         absurd (let low = within page b.number now in omega (arith, low, past))
 
   pub own_length : (page : ℕ) → length (own_page cell page) ≡ cell.block
-  own_length page = go (block_at_page cell page) (page_sized cell page is.chain.rising is.blocks.sized) where
+  own_length page = go (block_at_page cell page) (page_sized cell page is.rising is.blocks.sized) where
     go : (o : Option BlockValue) → IfSome o (λ b. length b.bytes ≡ cell.block) → length (slot_bytes cell.block o) ≡ cell.block
     go None sized = length-replicate cell.block 0
     go (Some b) sized = sized
@@ -183,7 +193,7 @@ module _ (cell : CellState) (is : IsCell cell) (within : ArePagesWithin cell) wh
     go : (o : Option BlockValue) → block_at_page cell last ≡ o → block_at_page cell last ≡ None
     go None e = e
     go (Some b) e =
-        let now = sym (page_number_is cell last is.chain.rising is.marks is.blocks) ∙ ap (option_map number_of) e in
+        let now = sym (page_number_is cell last is.rising is.marks is.blocks) ∙ ap (option_map number_of) e in
         let none = block_now-past cell.block last (log_of cell) far in cc
 
   pub by_bytes : (b : BlockValue) → block_at_page cell last ≡ Some b

@@ -30,9 +30,9 @@ use Rattle.nv_cell.specs.Pages.{AreBytesOf, own_page}
 use Rattle.nv_cell.specs.Readers.{is_gone, is_last_word}
 use Rattle.nv_cell.specs.Shape.{IsLeftShaped}
 use Rattle.nv_cell.proofs.PageBlocks as held
-use Rattle.nv_audit.specs.Sound.{EndsAtSize, own_size}
+use Rattle.nv_audit.specs.Sound.{EndsAtSize}
 use Rattle.nv_audit.proofs.CutPages.{len_pages, page_is}
-use Rattle.nv_audit.proofs.SizeEnds.{own_length}
+use Rattle.nv_audit.proofs.SizeEnds.{own_length, whole}
 
 -- ---- what is stored suits the kind
 
@@ -176,7 +176,7 @@ module _ (cell : CellState) (bytes : ℕ → List ℕ) (is : IsCell cell) (are :
   own page = held.page_is cell bytes page is are
 
   sized : (page : ℕ) → length (page_of_file page) ≡ cell.block
-  sized page = ap length (own page) ∙ own_length cell is ends.pages page
+  sized page = ap length (own page) ∙ own_length cell (whole cell is) ends.pages page
 
   zeros : (page place : ℕ) → size_now cell.block log ≤ page * cell.block + place → slice_index_or (page_of_file page) place 0 ≡ 0
   zeros page place le = ap (λ bs. slice_index_or bs place 0) (own page) ∙ ends.zeros page place le

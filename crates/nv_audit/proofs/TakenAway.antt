@@ -12,7 +12,7 @@ use Rattle.nv_cell.specs.Numbers.{is_number}
 use Rattle.nv_cell.specs.declared.mark.Mark.{Mark}
 use Rattle.nv_cell.specs.declared.mark.Mark.TheVariants.{Out}
 use Rattle.nv_entry.specs.declared.item.Entry.{Entry}
-use Rattle.nv_audit.specs.KeptParts.{is_kept, is_left, is_record_at, taken_from, times_recorded}
+use Rattle.nv_audit.specs.KeptParts.{is_marked_as_kept, is_left, is_record_at, taken_from, times_recorded}
 use Rattle.nv_audit.specs.Pending.{part_of}
 
 -- ---- one part
@@ -47,16 +47,16 @@ taken_length left (Some m) = length-set left m false
 -- the first records have taken theirs away
 pub record AreTaken (log : List Entry) (marks : List Mark) (records : List Record) (i : ℕ) (left : List Bool) : Type 0 where
   pub len : length left ≡ length marks
-  pub each : (n : ℕ) → bit (slice_index_or left n false) + times_recorded log n (take i records) ≡ bit (is_kept (mark_at marks n))
+  pub each : (n : ℕ) → bit (slice_index_or left n false) + times_recorded log n (take i records) ≡ bit (is_marked_as_kept (mark_at marks n))
 
 module _ (log : List Entry) (marks : List Mark) (records : List Record) where
-  pub taken_none : (left : List Bool) → left ≡ map is_kept marks → AreTaken log marks records 0 left
+  pub taken_none : (left : List Bool) → left ≡ map is_marked_as_kept marks → AreTaken log marks records 0 left
   taken_none left is = record {
-    len = ap (λ (l : List Bool). length l) is ∙ length-map marks is_kept;
+    len = ap (λ (l : List Bool). length l) is ∙ length-map marks is_marked_as_kept;
     each = λ n.
-        let read : slice_index_or left n false ≡ is_kept (mark_at marks n) =
-        ap (λ (l : List Bool). slice_index_or l n false) is ∙ get_or-map is_kept marks n Out in
-        let none : bit (is_kept (mark_at marks n)) + 0 ≡ bit (is_kept (mark_at marks n)) = omega arith in
+        let read : slice_index_or left n false ≡ is_marked_as_kept (mark_at marks n) =
+        ap (λ (l : List Bool). slice_index_or l n false) is ∙ get_or-map is_marked_as_kept marks n Out in
+        let none : bit (is_marked_as_kept (mark_at marks n)) + 0 ≡ bit (is_marked_as_kept (mark_at marks n)) = omega arith in
         rw read none;
   }
 
@@ -94,7 +94,7 @@ module _ (log : List Entry) (marks : List Mark) (records : List Record) where
   -- a part that is not left has a record too many
   pub taken_twice : (i : ℕ) (d : Record) (left : List Bool) → i < length records → d ≡ slice_index_or records i d
       → is_left (number_named log (part_of d)) left ≡ false → AreTaken log marks records i left
-      → ((n : ℕ) → times_recorded log n records ≡ bit (is_kept (mark_at marks n))) → ⊥
+      → ((n : ℕ) → times_recorded log n records ≡ bit (is_marked_as_kept (mark_at marks n))) → ⊥
   taken_twice i d left lt is gone before once = go (number_named log (part_of d)) refl gone where
     go : (o : Option ℕ) → number_named log (part_of d) ≡ o → is_left o left ≡ false → ⊥
     go None q g = false≢true (sym g)
@@ -114,7 +114,7 @@ module _ (log : List Entry) (marks : List Mark) (records : List Record) where
   bit_zero false h = refl
 
   pub taken_all : (i : ℕ) (left : List Bool) → length records ≤ i → AreTaken log marks records i left
-      → ((n : ℕ) → slice_index_or left n false ≡ false) → (n : ℕ) → times_recorded log n records ≡ bit (is_kept (mark_at marks n))
+      → ((n : ℕ) → slice_index_or left n false ≡ false) → (n : ℕ) → times_recorded log n records ≡ bit (is_marked_as_kept (mark_at marks n))
   taken_all i left past before none n =
       let whole = ap (times_recorded log n) (take_all i records past) in
       let zero_left : bit (slice_index_or left n false) ≡ 0 = ap bit (none n) in
@@ -122,7 +122,7 @@ module _ (log : List Entry) (marks : List Mark) (records : List Record) where
       omega (arith, whole, zero_left, all)
 
   pub taken_once : (i : ℕ) (left : List Bool) → length records ≤ i → AreTaken log marks records i left
-      → ((n : ℕ) → times_recorded log n records ≡ bit (is_kept (mark_at marks n))) → (n : ℕ) → slice_index_or left n false ≡ false
+      → ((n : ℕ) → times_recorded log n records ≡ bit (is_marked_as_kept (mark_at marks n))) → (n : ℕ) → slice_index_or left n false ≡ false
   taken_once i left past before once n =
       let whole = ap (times_recorded log n) (take_all i records past) in
       let all = before.each n in

@@ -2,20 +2,22 @@
 use Rattle.std.proofs.Common.{◌≡◌, ℕ, zero, suc, ◌+◌, ◌<◌, ◌≤◌, Bool, true, List, [], ◌∷◌, ◌++◌, length, take, drop, get_or, Option, None, arith, refl, ap, ap₂, sym, subst, ◌∙◌}
 use Rattle.std.specs.Prelude.{◌↔◌, All, Err, IfOk, IsTrue, Ok, Result}
 use Rattle.std.specs.List.{flat_map, range_with_len}
+use Rattle.std.specs.Option.{option_map}
 use Rattle.std.proofs.lemmas.List.{drop_more, get_or_past, length-append, length-drop, map-append, take-append-drop}
 use Rattle.std.proofs.lemmas.List.Concat.{flat_map-cons}
 use Rattle.std.proofs.lemmas.List.Elements.{All-tail}
 use Rattle.nv_alloc.specs.Numbers.{times}
 use Rattle.nv_base.specs.declared.fault.Fault.{Fault}
 use Rattle.nv_base.specs.declared.numbers.Handle.{Handle}
-use Rattle.nv_cell.specs.Cell.{CellState, log_of}
 use Rattle.nv_entry.specs.Log.{seen}
+use Rattle.nv_entry.specs.Stored.{stored}
 use Rattle.nv_entry.specs.Tree.{root}
 use Rattle.nv_entry.specs.declared.item.Entry.{Entry}
 use Rattle.nv_entry.specs.declared.names.BoundName.{BoundName}
 use Rattle.nv_entry.specs.declared.value.When.{When}
 use Rattle.nv_entry.specs.declared.value.When.TheVariants.{At, Now}
-use Rattle.nv_audit.specs.Nodes.{AreTrees, AreUnused, node_by, node_when, slots_when}
+use Rattle.nv_audit.specs.Logged.{AreEmpty, AreLoggedTrees, LoggedValue, node_of, slots_of}
+use Rattle.nv_audit.specs.Nodes.{named}
 use Rattle.nv_audit.specs.Tree.{IsReachedBy, IsTree, Slots, all_leads, is_directory, is_node, is_of, is_used, leads, names_of, slot_at, slots_named}
 use Rattle.nv_audit.specs.declared.tree.NamedNode.{NamedNode}
 
@@ -24,14 +26,18 @@ use Rattle.nv_audit.specs.declared.tree.NamedNode.{NamedNode}
 abbrev pub HaveNone : Slots → Type 0
 HaveNone slots = (n : ℕ) → slot_at slots n ≡ None
 
-no_node : (when : When) (cell : CellState) → log_of cell ≡ [] → node_when when cell ≡ None
-no_node Now cell none = ap (λ (es : List Entry). node_by cell es) none
-no_node (At epoch) cell none = ap (λ (es : List Entry). node_by cell (seen (At epoch) es)) none
+-- the node that a log gives
+abbrev by_log : LoggedValue → List Entry → Option NamedNode
+by_log l log = option_map (named l.generation log) (stored l.block log).kind
 
-pub none_there : (when : When) (cells : List CellState) → AreUnused cells → HaveNone (slots_when when cells)
+no_node : (when : When) (l : LoggedValue) → l.log ≡ [] → node_of when l ≡ None
+no_node Now l none = ap (λ (es : List Entry). by_log l es) none
+no_node (At epoch) l none = ap (λ (es : List Entry). by_log l (seen (At epoch) es)) none
+
+pub none_there : (when : When) (logs : List LoggedValue) → AreEmpty logs → HaveNone (slots_of when logs)
 none_there when [] none n = refl
-none_there when (c ∷ cells) none zero = no_node when c (none 0 c (omega arith))
-none_there when (c ∷ cells) none (suc n) = none_there when cells (All-tail (λ (x : CellState). log_of x ≡ []) c cells none) n
+none_there when (l ∷ logs) none zero = no_node when l (none 0 l (omega arith))
+none_there when (l ∷ logs) none (suc n) = none_there when logs (All-tail (λ (x : LoggedValue). x.log ≡ []) l logs none) n
 
 same_slot : (front rest : Slots) → HaveNone rest → (n : ℕ) → slot_at (front ++ rest) n ≡ slot_at front n
 same_slot [] rest none n = none n
@@ -105,22 +111,22 @@ module _ (front rest : Slots) (none : HaveNone rest) where
   tree_of_all = same_tree front (front ++ rest) (λ n. sym (same_slot front rest none n)) (sym all_alike)
 
 -- the slots in use form the same trees as all slots
-module _ (cells : List CellState) (n : ℕ) (unused : AreUnused (drop n cells)) where
-  divided : (when : When) → slots_when when (take n cells) ++ slots_when when (drop n cells) ≡ slots_when when cells
+module _ (logs : List LoggedValue) (n : ℕ) (unused : AreEmpty (drop n logs)) where
+  divided : (when : When) → slots_of when (take n logs) ++ slots_of when (drop n logs) ≡ slots_of when logs
   divided when =
-      sym (map-append (node_when when) (take n cells) (drop n cells)) ∙ ap (slots_when when) (take-append-drop n cells)
+      sym (map-append (node_of when) (take n logs) (drop n logs)) ∙ ap (slots_of when) (take-append-drop n logs)
 
-  to_all : (when : When) → IsTree (slots_when when (take n cells)) → IsTree (slots_when when cells)
+  to_all : (when : When) → IsTree (slots_of when (take n logs)) → IsTree (slots_of when logs)
   to_all when tree =
       subst IsTree (divided when)
-      (tree_of_all (slots_when when (take n cells)) (slots_when when (drop n cells)) (none_there when (drop n cells) unused) tree)
+      (tree_of_all (slots_of when (take n logs)) (slots_of when (drop n logs)) (none_there when (drop n logs) unused) tree)
 
-  to_front : (when : When) → IsTree (slots_when when cells) → IsTree (slots_when when (take n cells))
+  to_front : (when : When) → IsTree (slots_of when logs) → IsTree (slots_of when (take n logs))
   to_front when tree =
-      tree_of_front (slots_when when (take n cells)) (slots_when when (drop n cells)) (none_there when (drop n cells) unused)
+      tree_of_front (slots_of when (take n logs)) (slots_of when (drop n logs)) (none_there when (drop n logs) unused)
       (subst IsTree (sym (divided when)) tree)
 
-  pub trees_of_used : (snapshots : List ℕ) → AreTrees snapshots (take n cells) ↔ AreTrees snapshots cells
+  pub trees_of_used : (snapshots : List ℕ) → AreLoggedTrees snapshots (take n logs) ↔ AreLoggedTrees snapshots logs
   trees_of_used snapshots = (
     λ trees. record {
       now = to_all Now trees.now;
@@ -132,26 +138,27 @@ module _ (cells : List CellState) (n : ℕ) (unused : AreUnused (drop n cells)) 
     },
   )
 
-pub told_of_all : (cells : List CellState) (n : ℕ) (snapshots : List ℕ) (r : Result Bool Fault) → AreUnused (drop n cells)
-    → IfOk r (λ form. IsTrue form ↔ AreTrees snapshots (take n cells)) → IfOk r (λ form. IsTrue form ↔ AreTrees snapshots cells)
-told_of_all cells n snapshots (Ok form) unused told =
-    let both = trees_of_used cells n unused snapshots in (λ t. both.0 (told.0 t), λ trees. told.1 (both.1 trees))
-told_of_all cells n snapshots (Err fault) unused told = told
+pub told_of_all : (logs : List LoggedValue) (n : ℕ) (snapshots : List ℕ) (r : Result Bool Fault) → AreEmpty (drop n logs)
+    → IfOk r (λ form. IsTrue form ↔ AreLoggedTrees snapshots (take n logs))
+    → IfOk r (λ form. IsTrue form ↔ AreLoggedTrees snapshots logs)
+told_of_all logs n snapshots (Ok form) unused told =
+    let both = trees_of_used logs n unused snapshots in (λ t. both.0 (told.0 t), λ trees. told.1 (both.1 trees))
+told_of_all logs n snapshots (Err fault) unused told = told
 
 -- ---- from the last slot back
 
-pub unused_none : (cells : List CellState) (n : ℕ) → length cells ≤ n → AreUnused (drop n cells)
-unused_none cells n past k d lt = absurd (omega (arith, lt, past, length-drop n cells))
+pub unused_none : (logs : List LoggedValue) (n : ℕ) → length logs ≤ n → AreEmpty (drop n logs)
+unused_none logs n past k d lt = absurd (omega (arith, lt, past, length-drop n logs))
 
-pub unused_more : (cells : List CellState) (i n : ℕ) (own : CellState) → i + 1 ≡ n → i < length cells → own ≡ get_or cells i own
-    → log_of own ≡ [] → AreUnused (drop n cells) → AreUnused (drop i cells)
-unused_more cells i n own next lt at none rest =
-    subst AreUnused (sym behind) (first (drop n cells) rest) where
-      behind : drop i cells ≡ own ∷ drop n cells
+pub unused_more : (logs : List LoggedValue) (i n : ℕ) (own : LoggedValue) → i + 1 ≡ n → i < length logs → own ≡ get_or logs i own
+    → own.log ≡ [] → AreEmpty (drop n logs) → AreEmpty (drop i logs)
+unused_more logs i n own next lt at none rest =
+    subst AreEmpty (sym behind) (first (drop n logs) rest) where
+      behind : drop i logs ≡ own ∷ drop n logs
       behind =
-          drop_more cells i own lt ∙ ap (λ (x : CellState). x ∷ drop (i + 1) cells) (sym at)
-          ∙ ap (λ (m : ℕ). own ∷ drop m cells) next
+          drop_more logs i own lt ∙ ap (λ (x : LoggedValue). x ∷ drop (i + 1) logs) (sym at)
+          ∙ ap (λ (m : ℕ). own ∷ drop m logs) next
 
-      first : (others : List CellState) → AreUnused others → AreUnused (own ∷ others)
+      first : (others : List LoggedValue) → AreEmpty others → AreEmpty (own ∷ others)
       first others all zero d below = none
       first others all (suc k) d below = all k d (omega (arith, below))

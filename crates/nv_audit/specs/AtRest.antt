@@ -23,7 +23,9 @@ pub record IsAtRest (book : BookState) : Type 0 where
 abbrev pub HasNoneKilled : CellState → Type 0
 HasNoneKilled cell = (n : ℕ) → is_killed (mark_at cell.marks n) ≡ false
 
--- a cell has seen no more commits, and no entry of its log is of a later commit or epoch
+-- a cell has seen no more commits, and no entry of its log is of a later commit or epoch.
+-- A cell is up to a commit and an epoch where its version is not above the commit, and no entry is later. Example:
+-- a cell of version 3 is not up to commit 2.
 pub record IsUpTo (commit epoch : ℕ) (cell : CellState) : Type 0 where
   pub version : cell.version ≤ commit
   pub entries : AreNoLater commit epoch (log_of cell)

@@ -16,7 +16,9 @@ scanned_counts r cell page = record {
   valid = valid_of r (published_on cell page) (drop (start_of cell.chain page) (log_of cell));
 }
 
--- each page with entries has these
+-- each page with entries has these.
+-- Counts: of each log page how many published entries have a current pair, and how many one that is needed,
+-- deferred or in a hand.
 abbrev pub AreCounted : Retention → CellState → Type 0
 AreCounted r cell = (page : ℕ) → page < length cell.chain.ends → counts_of cell page ≡ scanned_counts r cell page
 

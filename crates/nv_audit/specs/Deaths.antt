@@ -12,17 +12,24 @@ use Rattle.nv_entry.specs.declared.item.Item.TheVariants.{Gone}
 use Rattle.nv_entry.specs.declared.part.Part.{Part}
 use Rattle.nv_findex.specs.Pages.{PageMap, ref_at}
 use Rattle.nv_findex.specs.declared.page_ref.PageRef.{PageRef}
-use Rattle.nv_log.specs.Chain.{place_of}
+use Rattle.nv_log.specs.Chain.{place_of_id}
 use Rattle.nv_audit.specs.Names.{name_in}
 use Rattle.nv_audit.specs.declared.first_covers.FirstCovers.{FirstCovers}
 
--- WHEN EACH PART of a cell's log died, by number
-abbrev pub deaths_of : CellState → List (Option ℕ)
-deaths_of cell = map (λ (p : Pair). p.death) (pairs cell.block (log_of cell))
+-- WHEN EACH PART of a log died, by number
+abbrev pub deaths_in : ℕ → List Entry → List (Option ℕ)
+deaths_in block log = map (λ (p : Pair). p.death) (pairs block log)
 
--- the epoch of the entry of that id in a cell's log
-abbrev pub epoch_of : CellState → EntryId → Option ℕ
-epoch_of cell id = option_map (λ (e : Entry). e.epoch) (option_and_then (slice_get (log_of cell)) (place_of cell.chain.entries id))
+-- and of a cell's log.
+-- The deaths of a cell's parts: for each part by its number the epoch of the first later entry that covers its key,
+-- if any does. Example: where `Write(block 2)` of epoch 1 is overwritten in epoch 2, its page has the death 2, and
+-- the page of the second write has none.
+abbrev pub deaths_of : CellState → List (Option ℕ)
+deaths_of cell = deaths_in cell.block (log_of cell)
+
+-- the epoch of the entry of that id in a log
+abbrev pub epoch_of : List Entry → EntryId → Option ℕ
+epoch_of log id = option_map (λ (e : Entry). e.epoch) (option_and_then (slice_get log) (place_of_id log id))
 
 -- ---- the first of some entries that covers a key, by a table
 
@@ -34,23 +41,26 @@ name_cover c name = option_or (name_in c.names.entries name) c.others
 abbrev pub page_cover : PageMap → ℕ → Option EntryId
 page_cover index page = option_map (λ (at : PageRef). at.entry) (ref_at index.pages page)
 
-abbrev pub cover_in : CellState → FirstCovers → Key → Option ℕ
-cover_in cell c KindKey = c.kind
-cover_in cell c ModeKey = c.mode
-cover_in cell c SizeKey = c.size
-cover_in cell c (NameKey name) = name_cover c name
-cover_in cell c (PageKey page) = option_and_then (epoch_of cell) (page_cover c.pages page)
+-- the epoch of the first later entry that covers a key, by the covers of a log
+abbrev pub cover_in : List Entry → FirstCovers → Key → Option ℕ
+cover_in log c KindKey = c.kind
+cover_in log c ModeKey = c.mode
+cover_in log c SizeKey = c.size
+cover_in log c (NameKey name) = name_cover c name
+cover_in log c (PageKey page) = option_and_then (epoch_of log) (page_cover c.pages page)
 
 -- the same with one more entry before them, where `later` was that of them; it may cover all names
 abbrev pub cover_before : ℕ → Entry → Key → Option ℕ → Option ℕ
 cover_before block e key later = if covers block e.item key then Some e.epoch else later
 
+-- the cover of a key that only a Gone covers
 abbrev pub others_after : Entry → Option ℕ → Option ℕ
 others_after e later = by_item e.item where
   by_item : Item → Option ℕ
   by_item Gone = Some e.epoch
   by_item item = later
 
+-- the entry that covers a page next, with one more entry before the others
 abbrev pub page_cover_before : ℕ → Entry → ℕ → Option EntryId → Option EntryId
 page_cover_before block e page later = if covers block e.item (PageKey page) then Some e.id else later
 
@@ -63,5 +73,5 @@ pub record Puts (block : ℕ) (e : Entry) (old new : FirstCovers) : Type 0 where
   pub pages : (page : ℕ) → page_cover new.pages page ≡ page_cover_before block e page (page_cover old.pages page)
 
 -- what the table says of the parts of an entry
-abbrev pub covers_of : CellState → FirstCovers → Entry → List (Option ℕ)
-covers_of cell c e = map (λ (part : Part). cover_in cell c (key_of e.item part)) (parts_of e.item)
+abbrev pub covers_of : List Entry → FirstCovers → Entry → List (Option ℕ)
+covers_of log c e = map (λ (part : Part). cover_in log c (key_of e.item part)) (parts_of e.item)

@@ -30,14 +30,23 @@ pub record FitsSlot (g : GeometryNumbers) (slot : SlotImageValue) : Type 0 where
   pub most : slot.generation ≤ NUMBER
   pub last : slot.generation ≡ NUMBER → slot.chain.pages ≡ []
 
--- there are as many slots and journals as the geometry says and no more snapshots, and all numbers are in their ranges
+-- there are as many slots and journals as the geometry says and no more snapshots, and all numbers are in their ranges.
+-- `geometry`: as many slots and journals as the geometry says, no more snapshots, blocks of its size, generations
+-- and an epoch from 1 to 2^62, and a commit number up to 2^62. A slot of the last generation has no page.
 pub record FitsGeometry (image : ImageValue) : Type 0 where
+  -- there are as many slots as inodes
   pub slots : length image.slots ≡ image.numbers.inodes
+  -- there are as many journals as CPUs
   pub journals : length image.journals ≡ image.numbers.cpus
+  -- no more snapshots live than allowed
   pub snapshots : length image.snapshots ≤ image.numbers.snaps
+  -- each slot fits
   pub each : (ino : ℕ) → ino < length image.slots → FitsSlot image.numbers (slot_of image ino)
+  -- the epoch is at least 1
   pub some_epoch : 1 ≤ image.epoch
+  -- the epoch is at most the greatest
   pub epoch : image.epoch ≤ NUMBER
+  -- the commit number is at most the greatest
   pub commit : image.commit ≤ NUMBER
 
 -- ---- block
@@ -49,7 +58,8 @@ pub record AreBlocksGood (image : ImageValue) : Type 0 where
 
 -- ---- chain
 
--- the entries of each slot stand on its pages
+-- the entries of each slot stand on its pages.
+-- `chain`: the chain image of each slot is on its pages.
 abbrev pub AreChainsGood : ImageValue → Type 0
 AreChainsGood image = (ino : ℕ) → ino < length image.slots → IsPaged image.numbers.page (slot_of image ino).chain
 
@@ -60,6 +70,8 @@ pub record AreOrdered (commit epoch : ℕ) (entries : List Entry) : Type 0 where
   pub rising : IsLog entries
   pub no_later : AreNoLater commit epoch entries
 
+-- `entry`: along all entries of a slot ids rise and epochs never fall, and none is of a later commit or epoch than
+-- the image.
 abbrev pub AreEntriesGood : ImageValue → Type 0
 AreEntriesGood image = (ino : ℕ) → ino < length image.slots → AreOrdered image.commit image.epoch (slot_of image ino).chain.entries
 
@@ -70,7 +82,9 @@ pub record IsLogGood (image : ImageValue) (ino : ℕ) : Type 0 where
   pub last : IsGoneLast (items_of (cut_log image ino))
   pub shaped : IsShaped image.numbers.block (log_of (cell_of image ino))
 
--- so it is in each slot, and the nodes form a tree of directories, now and at each living snapshot
+-- so it is in each slot, and the nodes form a tree of directories, now and at each living snapshot.
+-- `item`: nothing stands behind a Gone of a cut log, the log of each slot's cell is of its shape, and the nodes of
+-- the cells form a tree, now and at each living snapshot.
 pub record AreItemsGood (image : ImageValue) : Type 0 where
   pub logs : (ino : ℕ) → ino < length image.slots → IsLogGood image ino
   pub trees : AreTrees image.snapshots (cells_of image)
@@ -89,11 +103,14 @@ pub record IsRunGood (image : ImageValue) (ino : ℕ) : Type 0 where
   pub once : (n m number : ℕ) → IsNeededPage (cell_of image ino) n number → IsNeededPage (cell_of image ino) m number → n ≡ m
   pub ends : EndsAtSize (cell_of image ino)
 
+-- `run`: each page of a cell that is not out has its block among the data blocks of its slot, no two pages have one
+-- block, and the file of the cell ends at its size.
 abbrev pub AreRunsGood : ImageValue → Type 0
 AreRunsGood image = (ino : ℕ) → ino < length image.slots → IsRunGood image ino
 
 -- ---- journal
 
+-- `journal`: the journals are good.
 abbrev pub AreJournalsGood : ImageValue → Type 0
 AreJournalsGood image = are_journals_good image ≡ true
 
@@ -106,7 +123,8 @@ pub record AreSnapsGood (image : ImageValue) : Type 0 where
 
 -- ---- all
 
--- the image has not this fault
+-- the image has not this fault.
+-- The eight faults are told by what an image without them has.
 abbrev pub IsWithout : ImageFault → ImageValue → Type 0
 IsWithout fault.Geometry image = FitsGeometry image
 IsWithout fault.Block image = AreBlocksGood image
@@ -117,24 +135,26 @@ IsWithout fault.Run image = AreRunsGood image
 IsWithout fault.Journal image = AreJournalsGood image
 IsWithout fault.Snaps image = AreSnapsGood image
 
--- AN IMAGE WITHOUT A FAULT
+-- AN IMAGE WITHOUT A FAULT.
+-- An image has no fault where it is without all eight. Example: where the slot 3 has a block number that is not the
+-- device's, and the slot 1 a tail past its entries, the first fault is `block`.
 abbrev pub IsFaultless : ImageValue → Type 0
 IsFaultless image = (fault : ImageFault) → IsWithout fault image
 
 -- the place of a fault in the order in which they are told
-abbrev pub place_of : ImageFault → ℕ
-place_of fault.Geometry = 0
-place_of fault.Block = 1
-place_of fault.Chain = 2
-place_of fault.Entry = 3
-place_of fault.Item = 4
-place_of fault.Run = 5
-place_of fault.Journal = 6
-place_of fault.Snaps = 7
+abbrev pub fault_order : ImageFault → ℕ
+fault_order fault.Geometry = 0
+fault_order fault.Block = 1
+fault_order fault.Chain = 2
+fault_order fault.Entry = 3
+fault_order fault.Item = 4
+fault_order fault.Run = 5
+fault_order fault.Journal = 6
+fault_order fault.Snaps = 7
 
 -- the image has no fault before this one
 abbrev pub IsWithoutEarlier : ImageFault → ImageValue → Type 0
-IsWithoutEarlier fault image = (earlier : ImageFault) → place_of earlier < place_of fault → IsWithout earlier image
+IsWithoutEarlier fault image = (earlier : ImageFault) → fault_order earlier < fault_order fault → IsWithout earlier image
 
 -- THE FIRST FAULT: the image has it, and none before it
 pub record IsFirstFault (fault : ImageFault) (image : ImageValue) : Type 0 where

@@ -2,11 +2,11 @@
 use Rattle.std.specs.Prelude.{◌≡◌, ℕ, ◌<◌, ◌++◌, ◌||◌, Bool, if◌then◌else◌, nat_le, List, [], ◌∷◌, length, Option, None, Some, slice_index_or}
 use Rattle.std.specs.List.{flat_map, list_any}
 use Rattle.nv_base.specs.declared.node.Kind.{Kind}
-use Rattle.nv_cell.specs.Cell.{CellState, log_of}
 use Rattle.nv_entry.specs.Refs.{is_bind}
 use Rattle.nv_entry.specs.declared.item.Entry.{Entry}
 use Rattle.nv_entry.specs.declared.item.Item.{Item}
 use Rattle.nv_entry.specs.declared.item.Item.TheVariants.{Init, Gone}
+use Rattle.nv_audit.specs.Logged.{LoggedValue}
 use Rattle.nv_audit.specs.declared.histories.History.{History}
 use Rattle.nv_audit.specs.declared.histories.KindChange.{KindChange}
 
@@ -16,6 +16,7 @@ changes_by epoch (Init kind mode) = record { epoch = epoch; kind = Some kind } �
 changes_by epoch Gone = record { epoch = epoch; kind = None } ∷ []
 changes_by epoch item = []
 
+-- the changes of a log's kind, in order
 abbrev pub changes_of : List Entry → List KindChange
 changes_of log = flat_map (λ (e : Entry). changes_by e.epoch e.item) log
 
@@ -23,30 +24,32 @@ changes_of log = flat_map (λ (e : Entry). changes_by e.epoch e.item) log
 abbrev pub kind_after : ℕ → KindChange → Option Kind → Option Kind
 kind_after epoch change before = if nat_le change.epoch epoch then change.kind else before
 
+-- the kind at an epoch, by changes from one on
 abbrev pub kind_from : ℕ → List KindChange → Option Kind → Option Kind
 kind_from epoch [] before = before
 kind_from epoch (change ∷ changes) before = kind_from epoch changes (kind_after epoch change before)
 
+-- It tells the kind at each epoch.
 abbrev pub kind_at : ℕ → List KindChange → Option Kind
 kind_at epoch changes = kind_from epoch changes None
 
+-- an entry of the log binds a name
 abbrev pub binds_any : List Entry → Bool
 binds_any log = list_any (λ (e : Entry). is_bind e.item) log
 
 -- one more entry
-pub record Adds (e : Entry) (old new : History) : Type 0 where
+pub record AddsEntry (e : Entry) (old new : History) : Type 0 where
   pub kinds : new.kinds.items ≡ old.kinds.items ++ changes_by e.epoch e.item
   pub binds : new.binds ≡ (old.binds || is_bind e.item)
 
--- THE HISTORY OF A CELL
+-- THE HISTORY OF A LOG.
+-- The history of a log: how the kind of its inode changes along its log, and whether the log binds any name.
 pub record IsHistoryBy (log : List Entry) (history : History) : Type 0 where
   pub kinds : history.kinds.items ≡ changes_of log
   pub binds : history.binds ≡ binds_any log
 
-abbrev pub IsHistoryOf : CellState → History → Type 0
-IsHistoryOf cell history = IsHistoryBy (log_of cell) history
-
-pub record AreHistories (cells : List CellState) (histories : List History) : Type 0 where
-  pub len : length histories ≡ length cells
-  pub each : (n : ℕ) (cell : CellState) (history : History) → n < length cells
-      → IsHistoryOf (slice_index_or cells n cell) (slice_index_or histories n history)
+-- these are the histories of these logs
+pub record AreHistories (logs : List LoggedValue) (histories : List History) : Type 0 where
+  pub len : length histories ≡ length logs
+  pub each : (n : ℕ) (l : LoggedValue) (history : History) → n < length logs
+      → IsHistoryBy (slice_index_or logs n l).log (slice_index_or histories n history)

@@ -6,26 +6,38 @@ use Rattle.nv_base.specs.declared.geometry.GeometryNumbers.{GeometryNumbers}
 use Rattle.nv_journal.specs.declared.old_tail.OldTail.{OldTail}
 use Rattle.nv_log.specs.Image.{ChainImageValue, no_chain}
 
--- a slot: its generation, the chain of its log, and its data blocks
+-- a slot: its generation, the chain of its log, and its data blocks.
+-- A slot has a generation, a chain image and data blocks. Indexes, counts, free lists, records, pins and hands are
+-- not in it.
 pub record SlotImageValue : Type 0 where
+  -- the slot's generation
   pub generation : ℕ
+  -- its log, in its pages, with the entries past the tail
   pub chain : ChainImageValue
+  -- its data blocks
   pub blocks : List BlockValue
 
 -- AN IMAGE: what the device was made for, its slots, what the journal of each CPU has noted, the numbers of the living
 -- snapshots, the epoch, and the number of the last commit
 pub record ImageValue : Type 0 where
+  -- the numbers of its geometry
   pub numbers : GeometryNumbers
+  -- each inode slot
   pub slots : List SlotImageValue
+  -- what the journal of each CPU has noted
   pub journals : List (List OldTail)
+  -- the numbers of the living snapshots
   pub snapshots : List ℕ
+  -- the epoch
   pub epoch : ℕ
+  -- the number of the last commit
   pub commit : ℕ
 
 -- the slot of an inode; one without anything where there is none
 abbrev pub no_slot : SlotImageValue
 no_slot = record { generation = 0; chain = no_chain; blocks = [] }
 
+-- what an image has of an inode slot
 abbrev pub slot_of : ImageValue → ℕ → SlotImageValue
 slot_of image ino = slice_index_or image.slots ino no_slot
 
@@ -33,12 +45,15 @@ slot_of image ino = slice_index_or image.slots ino no_slot
 abbrev pub slot_blocks : SlotImageValue → List BlockValue
 slot_blocks slot = slot.chain.pages ++ slot.blocks
 
+-- all blocks of an image
 abbrev pub image_blocks : ImageValue → List BlockValue
 image_blocks image = flat_map slot_blocks image.slots
 
+-- the numbers of a slot's blocks
 abbrev pub slot_numbers : SlotImageValue → List ℕ
 slot_numbers slot = numbers_of (slot_blocks slot)
 
+-- the numbers of all blocks of an image
 abbrev pub image_numbers : ImageValue → List ℕ
 image_numbers image = flat_map slot_numbers image.slots
 

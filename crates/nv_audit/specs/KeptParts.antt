@@ -21,11 +21,12 @@ use Rattle.nv_audit.specs.Pending.{part_of}
 use Rattle.nv_audit.specs.Pool.{no_cell}
 use Rattle.nv_audit.specs.declared.kept_parts.KeptParts.{KeptParts}
 
-abbrev pub is_kept : Mark → Bool
-is_kept Current = false
-is_kept Killed = false
-is_kept Kept = true
-is_kept Out = false
+-- the part has a record: it is marked kept
+abbrev pub is_marked_as_kept : Mark → Bool
+is_marked_as_kept Current = false
+is_marked_as_kept Killed = false
+is_marked_as_kept Kept = true
+is_marked_as_kept Out = false
 
 -- ---- one record
 
@@ -53,14 +54,19 @@ pub record IsRecordOf (snapshots : List ℕ) (cell : CellState) (d : Record) : T
 abbrev pub is_record_at : List Entry → ℕ → Record → Bool
 is_record_at log n d = is_number (number_named log (part_of d)) n
 
+-- how many records are of the part with this number
 abbrev pub times_recorded : List Entry → ℕ → List Record → ℕ
 times_recorded log n records = length (filter (is_record_at log n) records)
 
 -- each part that is marked kept is recorded once, and no other part is
 abbrev pub AreOnceRecorded : CellState → List Record → Type 0
-AreOnceRecorded cell records = (n : ℕ) → times_recorded (log_of cell) n records ≡ bit (is_kept (mark_at cell.marks n))
+AreOnceRecorded cell records = (n : ℕ) → times_recorded (log_of cell) n records ≡ bit (is_marked_as_kept (mark_at cell.marks n))
 
--- THESE ARE THE RECORDS OF A CELL
+-- THESE ARE THE RECORDS OF A CELL.
+-- The records of a cell: each tells of a pair of the log that is no longer current its birth, and for each living
+-- snapshot whether it holds the pair. A part that is marked kept has one of them, and any other part has none.
+-- Example: where the snapshot 2 alone lives, a pair of birth 1 and death 4 may be recorded with the death 3, and
+-- not with the death 2.
 pub record AreRecordsOf (snapshots : List ℕ) (cell : CellState) (records : List Record) : Type 0 where
   pub each : All (IsRecordOf snapshots cell) records
   pub once : AreOnceRecorded cell records
@@ -82,6 +88,7 @@ abbrev pub is_left : Option ℕ → List Bool → Bool
 is_left None left = true
 is_left (Some n) left = slice_index_or left n false
 
+-- the flags, where that of a known place is not set any more
 abbrev pub taken_from : Option ℕ → List Bool → List Bool
 taken_from None left = left
 taken_from (Some n) left = slice_set left n false
@@ -92,9 +99,11 @@ taken_from (Some n) left = slice_set left n false
 abbrev pub records_in : BookState → List Record
 records_in book = all_records book.manifests ++ book.deferred
 
+-- the record is of a part of this inode
 abbrev pub is_of_slot : ℕ → Record → Bool
 is_of_slot ino d = d.ino == ino
 
+-- the records of an inode, in order
 abbrev pub records_of : ℕ → List Record → List Record
 records_of ino records = filter (is_of_slot ino) records
 
@@ -102,14 +111,18 @@ records_of ino records = filter (is_of_slot ino) records
 abbrev pub list_at : List (Vec Record) → ℕ → List Record
 list_at lists ino = slice_index_or (map (λ (v : Vec Record). v.items) lists) ino []
 
+-- each slot has a list of its records
 pub record AreBySlot (slots : ℕ) (records : List Record) (lists : List (Vec Record)) : Type 0 where
   pub len : length lists ≡ slots
   pub each : (ino : ℕ) → ino < slots → list_at lists ino ≡ records_of ino records
 
+-- the cell of an inode, or an empty one
 abbrev pub cell_in : List CellState → ℕ → CellState
 cell_in cells ino = slice_index_or cells ino no_cell
 
--- THE RECORDS OF A BOOK ARE THOSE OF ALL CELLS
+-- THE RECORDS OF A BOOK ARE THOSE OF ALL CELLS.
+-- The records of all cells: each record of the manifests and of the deferred list is of a slot, and each slot has
+-- the records of its cell.
 pub record AreAllRecordsOf (book : BookState) (cells : List CellState) : Type 0 where
   pub slots : All (λ (d : Record). d.ino < length cells) (records_in book)
   pub each : (ino : ℕ) → ino < length cells

@@ -10,7 +10,9 @@ pub mod Index
 pub mod KeptParts
 pub mod Lists
 pub mod LogShape
+pub mod Logged
 pub mod Mounted
+pub mod MountedLogs
 pub mod Names
 pub mod Nodes
 pub mod Owed

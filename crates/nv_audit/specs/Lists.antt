@@ -5,6 +5,7 @@ use Rattle.nv_base.specs.Homes.{home_start}
 use Rattle.nv_base.specs.declared.geometry.GeometryNumbers.{GeometryNumbers}
 use Rattle.nv_alloc.specs.Block.{numbers_of}
 use Rattle.nv_alloc.specs.FreeList.{FreeBlocks}
+pub use Rattle.nv_alloc.specs.FreeList.{no_list}
 use Rattle.nv_alloc.specs.Numbers.{has}
 use Rattle.nv_book.specs.Book.{BookState}
 use Rattle.nv_cell.specs.Cell.{CellState, fresh_of, log_of, of_part}
@@ -31,9 +32,11 @@ block_said block item part = option_and_then block_in (value_of (sets block item
 abbrev pub said_part : ℕ → Item → Part → List ℕ
 said_part block item part = option_to_list (block_said block item part)
 
+-- the blocks that an item says, in the order of its parts
 abbrev pub said_of : ℕ → Item → List ℕ
 said_of block item = flat_map (said_part block item) (parts_of item)
 
+-- the blocks that entries say, in order
 abbrev pub blocks_said : ℕ → List Entry → List ℕ
 blocks_said block entries = flat_map (λ (e : Entry). said_of block e.item) entries
 
@@ -42,16 +45,18 @@ blocks_said block entries = flat_map (λ (e : Entry). said_of block e.item) entr
 abbrev pub said_if : Bool → ℕ → Item → Part → List ℕ
 said_if is_kept block item part = if is_kept then said_part block item part else []
 
+-- the block that a pair's item says, where the pair is kept
 abbrev pub kept_pair : Retention → Item → Pair → List ℕ
 kept_pair r item pair = said_if (keeps r pair) r.block item pair.part
 
-abbrev pub kept_of : Retention → Entry → List Entry → List ℕ
-kept_of r e later = flat_map (kept_pair r e.item) (pairs_of r.block e later)
+-- the blocks that an entry says of pairs that are kept
+abbrev pub blocks_kept_of : Retention → Entry → List Entry → List ℕ
+blocks_kept_of r e later = flat_map (kept_pair r e.item) (pairs_of r.block e later)
 
 -- the same of a log
 abbrev pub blocks_kept : Retention → List Entry → List ℕ
 blocks_kept r [] = []
-blocks_kept r (e ∷ later) = kept_of r e later ++ blocks_kept r later
+blocks_kept r (e ∷ later) = blocks_kept_of r e later ++ blocks_kept r later
 
 -- the blocks that an inode uses: the pages of its log, those of the pairs that are kept, and those of what is appended
 -- and not yet published
@@ -74,9 +79,7 @@ used_of cells book in_hands blocks = used_from (ids book.snaps) book.deferred in
 
 -- ---- free lists
 
-abbrev pub no_list : FreeBlocks
-no_list = record { start = 0; end = 0; size = 0; blocks = [] }
-
+-- the list, or that of no CPU
 abbrev pub list_or_none : Option FreeBlocks → FreeBlocks
 list_or_none list = unwrap_or list no_list
 
@@ -90,6 +93,9 @@ AreAllFree g lists is_used =
     (cpu : ℕ) → cpu < g.cpus
     → IsRangeFree (slice_index_or lists cpu no_list) is_used (home_start g.blocks g.cpus cpu) (home_start g.blocks g.cpus (cpu + 1))
 
+-- Lists: of each CPU's home range its free list has just the numbers that are not used. Used are those of log
+-- pages, also without an entry, of pages of pairs that are kept, of what is appended and not yet published, and of
+-- hands.
 abbrev pub AreFree : GeometryNumbers → List FreeBlocks → List ℕ → Type 0
 AreFree g lists used = AreAllFree g lists (has used)
 
@@ -97,6 +103,7 @@ AreFree g lists used = AreAllFree g lists (has used)
 abbrev pub mark_at : List Bool → ℕ → Bool
 mark_at marks n = slice_index_or marks n false
 
+-- a number is marked exactly where it is used
 pub record AreMarked (blocks : ℕ) (used : List ℕ) (marks : List Bool) : Type 0 where
   pub len : length marks ≡ blocks
   pub marked : (n : ℕ) → n < blocks → mark_at marks n ≡ has used n

@@ -1,5 +1,5 @@
 -- What a mount makes of an image: its logs as journals cut them, the cell of each slot, the book, the free lists and the pool.
-use Rattle.std.specs.Prelude.{ℕ, ◌+◌, ◌-◌, ◌==◌, ◌&&◌, Bool, true, if◌then◌else◌, not, nat_le, nat_lt, List, [], ◌∷◌, filter, length, map, take, replicate, unwrap_or, Option, None, option_and_then}
+use Rattle.std.specs.Prelude.{ℕ, ◌+◌, ◌-◌, ◌==◌, ◌&&◌, Bool, true, if◌then◌else◌, not, nat_le, nat_lt, List, [], ◌∷◌, filter, length, map, take, unwrap_or}
 use Rattle.std.specs.List.{flat_map, list_all, list_any, range_with_len}
 use Rattle.nv_alloc.specs.Block.{BlockValue, block_by, zero_block}
 use Rattle.nv_alloc.specs.FreeList.{FreeBlocks}
@@ -7,20 +7,15 @@ use Rattle.nv_alloc.specs.InodePool.{FreeInodes}
 use Rattle.nv_alloc.specs.Numbers.{has, unused}
 use Rattle.nv_base.specs.Homes.{home_start}
 use Rattle.nv_base.specs.declared.geometry.GeometryNumbers.{GeometryNumbers}
-use Rattle.nv_book.specs.Book.{BookState}
-use Rattle.nv_book.specs.Listed.{manifest_told}
+use Rattle.nv_book.specs.Book.{BookState, book_told}
 use Rattle.nv_book.specs.declared.record.Record.{Record}
-use Rattle.nv_cell.specs.Cell.{CellState, empty_cell, page_block, stored_in}
-use Rattle.nv_cell.specs.Marks.{is_there, mark_at}
+use Rattle.nv_cell.specs.Anew.{cell_by}
+use Rattle.nv_cell.specs.Cell.{CellState, empty_cell, stored_in}
 use Rattle.nv_cell.specs.Readers.{is_gone}
-use Rattle.nv_cell.specs.declared.mark.Mark.{Mark}
-use Rattle.nv_cell.specs.declared.mark.Mark.TheVariants.{Current, Kept, Out}
-use Rattle.nv_entry.specs.Covered.{part_total}
 use Rattle.nv_entry.specs.Held.{is_current, is_held}
 use Rattle.nv_entry.specs.Log.{pairs}
 use Rattle.nv_entry.specs.declared.held.Pair.{Pair}
 use Rattle.nv_entry.specs.declared.item.Entry.{Entry}
-use Rattle.nv_epoch.specs.declared.snapshot.Snapshot.{Snapshot}
 use Rattle.nv_journal.specs.Journal.{settled_tail}
 use Rattle.nv_journal.specs.declared.old_tail.OldTail.{OldTail}
 use Rattle.nv_log.specs.Image.{cut_chain}
@@ -39,7 +34,10 @@ abbrev pub are_apart : List OldTail → Bool
 are_apart [] = true
 are_apart (note ∷ notes) = list_all (λ (other : OldTail). not (other.ino == note.ino)) notes && are_apart notes
 
--- so are all that the open journals have noted, and no inode stands there twice
+-- so are all that the open journals have noted, and no inode stands there twice.
+-- They are good where no inode stands twice in what all of them have noted, each has a page, and each noted tail is
+-- not past the inode's own. Example: a rename from one directory to another has moved the first tail when the
+-- device stops. Its journal is open, so both logs are cut at their old tails.
 abbrev pub are_journals_good : ImageValue → Bool
 are_journals_good image = list_all (is_note_good image) (all_notes image.journals) && are_apart (all_notes image.journals)
 
@@ -48,66 +46,54 @@ abbrev pub cut_tail : Bool → ImageValue → ℕ → ℕ
 cut_tail good image ino =
     if good then settled_tail image.journals ino (slot_of image ino).chain.tail else (slot_of image ino).chain.tail
 
+-- where the log of an inode ends in an image
 abbrev pub tail_of : ImageValue → ℕ → ℕ
 tail_of image ino = cut_tail (are_journals_good image) image ino
 
--- THE CUT LOG of a slot
+-- THE CUT LOG of a slot.
+-- Cut log: the entries of a slot up to the tail that an open journal has noted for it, else up to its own. Where
+-- the journals are bad, each log is cut at its own tail.
 abbrev pub cut_log : ImageValue → ℕ → List Entry
 cut_log image ino = take (tail_of image ino) (slot_of image ino).chain.entries
 
--- ---- marks and records
-
--- a part is current where nothing covers it, else kept where a living snapshot holds it, else out
-abbrev pub mark_by : List ℕ → Pair → Mark
-mark_by living pair = if is_current pair then Current else if is_held living pair then Kept else Out
-
-abbrev pub marks_anew : List ℕ → ℕ → List Entry → List Mark
-marks_anew living block log = map (mark_by living) (pairs block log)
+-- ---- records
 
 -- those that are kept have records, in the order of the log and of the parts of an entry
 abbrev pub is_recorded : List ℕ → Pair → Bool
 is_recorded living pair = not (is_current pair) && is_held living pair
 
+-- the record of a pair, as a mount makes it
 abbrev pub record_by : ℕ → Pair → Record
 record_by ino pair = record { ino = ino; entry = pair.entry; part = pair.part; birth = pair.birth; death = unwrap_or pair.death 0 }
 
+-- the records that a mount makes of a log, in order
 abbrev pub log_records : ℕ → List ℕ → ℕ → List Entry → List Record
 log_records block living ino log = map (record_by ino) (filter (is_recorded living) (pairs block log))
 
 -- ---- cells
 
--- a page that is not out has the block that its entry says
-abbrev pub block_anew : List BlockValue → ℕ → List Entry → List Mark → ℕ → Option BlockValue
-block_anew blocks block log marks n =
-    if is_there (mark_at marks n) then option_and_then (block_by blocks) (page_block block log n) else None
-
-abbrev pub blocks_anew : List BlockValue → ℕ → List Entry → List Mark → List (Option BlockValue)
-blocks_anew blocks block log marks = map (block_anew blocks block log marks) (range_with_len 0 (part_total log))
-
 -- the cell of a slot by the first `n` entries of its log
 abbrev pub cell_with : GeometryNumbers → List ℕ → ℕ → SlotImageValue → CellState
-cell_with g living n slot = record {
-  block = g.block;
-  generation = slot.generation;
-  version = 0;
-  chain = cut_chain g.page n slot.chain;
-  marks = marks_anew living g.block (take n slot.chain.entries);
-  blocks = blocks_anew slot.blocks g.block (take n slot.chain.entries) (marks_anew living g.block (take n slot.chain.entries));
-}
+cell_with g living n slot = cell_by g.block slot.generation living (cut_chain g.page n slot.chain) slot.blocks
 
--- an inode is erased that is gone and of which no living snapshot holds a pair
+-- an inode is erased that is gone and of which no living snapshot holds a pair.
+-- A gone inode of which no living snapshot holds a pair is erased: its cell is empty, and of the next generation.
 abbrev pub is_over : List ℕ → ℕ → List Entry → Bool
 is_over living block log = is_gone log && not (list_any (is_held living) (pairs block log))
 
+-- the cell that a mount makes of the first entries of a slot
 abbrev pub cell_anew : GeometryNumbers → List ℕ → ℕ → SlotImageValue → CellState
 cell_anew g living n slot =
     if is_over living g.block (take n slot.chain.entries) then empty_cell g.block g.page (slot.generation + 1) 0
     else cell_with g living n slot
 
--- THE CELL OF A SLOT, and the cells of all
+-- THE CELL OF A SLOT, and the cells of all.
+-- The cell of a slot: its cut log on its pages, the marks anew, and for each page that is not out the block of the
+-- number that its entry says. Its version is 0.
 abbrev pub cell_of : ImageValue → ℕ → CellState
 cell_of image ino = cell_anew image.numbers image.snapshots (tail_of image ino) (slot_of image ino)
 
+-- the cells that a mount makes of an image
 abbrev pub cells_of : ImageValue → List CellState
 cells_of image = map (cell_of image) (range_with_len 0 (length image.slots))
 
@@ -117,22 +103,15 @@ cells_of image = map (cell_of image) (range_with_len 0 (length image.slots))
 abbrev pub slot_records : ImageValue → ℕ → List Record
 slot_records image ino = log_records image.numbers.block image.snapshots ino (cut_log image ino)
 
+-- Records anew are those of the kept parts, by rising inode number and in each log by entry and part.
 abbrev pub records_anew : ImageValue → List Record
 records_anew image = flat_map (slot_records image) (range_with_len 0 (length image.slots))
 
--- THE BOOK: no snapshot is pinned, nothing is deferred, no journal is open, and the history begins here
-abbrev pub unpinned : ℕ → Snapshot
-unpinned number = record { number = number; pins = 0 }
-
+-- THE BOOK: no snapshot is pinned, nothing is deferred, no journal is open, and the history begins here.
+-- The book anew has no pin, no open journal and no deferred record. Its history begins with the image's epoch and
+-- commit number.
 abbrev pub book_anew : ImageValue → BookState
-book_anew image = record {
-  snaps = record { living = map unpinned image.snapshots; epoch = image.epoch; most = image.numbers.snaps };
-  commit = image.commit;
-  manifests = map (manifest_told image.snapshots (records_anew image)) image.snapshots;
-  deferred = [];
-  journals = replicate image.numbers.cpus [];
-  history = record { base = record { epoch = image.epoch; commit = image.commit; living = image.snapshots }; latest = [] };
-}
+book_anew image = book_told image.numbers image.snapshots image.epoch image.commit (records_anew image)
 
 -- ---- free lists and the pool
 
@@ -153,6 +132,8 @@ list_anew g is_used block cpu = record {
   blocks = map block (unused is_used (home_start g.blocks g.cpus cpu) (home_start g.blocks g.cpus (cpu + 1) - home_start g.blocks g.cpus cpu));
 }
 
+-- The lists anew have the blocks that no cell has, each in its home list, with the bytes that it has in the image.
+-- A block that is not in the image has zeros.
 abbrev pub lists_anew : ImageValue → List FreeBlocks
 lists_anew image =
     map (list_anew image.numbers (has (used_anew image)) (free_block image)) (range_with_len 0 image.numbers.cpus)

@@ -38,6 +38,7 @@ IsItemName bound names item = Unit {0}
 abbrev pub AreLogNames : NameTable → List (List ℕ × Binding) → List Entry → Type 0
 AreLogNames bound names entries = All (λ e. IsItemName bound names e.item) entries
 
+-- the index binds each of these names as the log does
 abbrev pub AreIndexNames : NameTable → List (List ℕ × Binding) → List (List ℕ × Binding) → Type 0
 AreIndexNames bound names listed = All (λ b. IsNameOf bound names b.0) listed
 

@@ -16,6 +16,7 @@ use Rattle.nv_audit.specs.declared.tree.NamedNode.{NamedNode}
 abbrev pub named : ℕ → List Entry → Kind → NamedNode
 named generation log kind = record { generation = generation; kind = kind; names = names_of log }
 
+-- the node of a cell by the first entries of its log
 abbrev pub node_by : CellState → List Entry → Option NamedNode
 node_by cell log = option_map (named cell.generation log) (stored cell.block log).kind
 
@@ -23,6 +24,7 @@ node_by cell log = option_map (named cell.generation log) (stored cell.block log
 abbrev pub node_when : When → CellState → Option NamedNode
 node_when when cell = node_by cell (seen when (log_of cell))
 
+-- Which nodes the slots have is told by the logs of their cells, now or at an epoch.
 abbrev pub slots_when : When → List CellState → Slots
 slots_when when cells = map (node_when when) cells
 

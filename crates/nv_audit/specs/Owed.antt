@@ -33,10 +33,13 @@ owed_record living named ino pair =
 abbrev pub owed_records : List ℕ → List PartId → ℕ → List Pair → List Record
 owed_records living named ino ps = flat_map (λ (p : Pair). option_to_list (owed_record living named ino p)) ps
 
+-- the records that an inode owes, by the pairs of its log
 abbrev pub owed_records_by : List ℕ → List PartId → ℕ → CellState → List Record
 owed_records_by living named ino cell = owed_records living named ino (pairs cell.block (log_of cell))
 
--- those of all inodes from one on, where calls have some parts in their hands
+-- those of all inodes from one on, where calls have some parts in their hands.
+-- Owed records: one for each dead pair that some living snapshot holds and no hand has, with the death that the log
+-- tells.
 abbrev pub owed_records_from : List ℕ → List InodePart → ℕ → List CellState → List Record
 owed_records_from living in_hands ino [] = []
 owed_records_from living in_hands ino (cell ∷ cells) =

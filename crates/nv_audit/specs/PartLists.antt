@@ -22,13 +22,13 @@ HaveSameParts one other = (part : InodePart) → times part one ≡ times part o
 -- ---- the order of parts
 
 -- where a key stands among the keys of an entry
-abbrev pub place_of : Part → ℕ × ℕ
-place_of part.Kind = (0, 0)
-place_of part.Mode = (1, 0)
-place_of part.Size = (2, 0)
-place_of part.Bound = (3, 0)
-place_of (part.Page page) = (4, page)
+abbrev pub part_order : Part → ℕ × ℕ
+part_order part.Kind = (0, 0)
+part_order part.Mode = (1, 0)
+part_order part.Size = (2, 0)
+part_order part.Bound = (3, 0)
+part_order (part.Page page) = (4, page)
 
 -- parts stand by inode, by entry, and within one entry by their keys
 abbrev pub order_of : InodePart → ℕ × EntryId × (ℕ × ℕ)
-order_of of = (of.ino, of.part.entry, place_of of.part.part)
+order_of of = (of.ino, of.part.entry, part_order of.part.part)

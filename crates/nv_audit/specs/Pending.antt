@@ -15,6 +15,7 @@ part_of r = record { entry = r.entry; part = r.part }
 abbrev pub of_inode : ℕ → List InodePart → List PartId
 of_inode ino parts = map (λ (p : InodePart). p.part) (filter (λ (p : InodePart). p.ino == ino) parts)
 
+-- the deferred parts of an inode, by name
 abbrev pub deferred_of : ℕ → List Record → List PartId
 deferred_of ino deferred = map part_of (filter (λ (r : Record). r.ino == ino) deferred)
 

@@ -14,13 +14,16 @@ is_in_use cell = has_inode cell || is_withheld cell
 abbrev pub no_cell : CellState
 no_cell = empty_cell 0 0 0 0
 
+-- the cell, or an empty one
 abbrev pub cell_or_none : Option CellState → CellState
 cell_or_none cell = unwrap_or cell no_cell
 
+-- the inode number is in use
 abbrev pub is_used : List CellState → ℕ → Bool
 is_used cells ino = is_in_use (slice_index_or cells ino no_cell)
 
--- THE POOL OF A DEVICE AT REST has just the numbers that are not in use, in rising order
+-- THE POOL OF A DEVICE AT REST has just the numbers that are not in use, in rising order.
+-- Its pool has the numbers of the slots that have no inode and are not withheld.
 pub record IsPoolOf (g : GeometryNumbers) (cells : List CellState) (pool : FreeInodes) : Type 0 where
   pub inodes : pool.inodes ≡ g.inodes
   pub numbers : pool.numbers ≡ unused (is_used cells) 0 g.inodes

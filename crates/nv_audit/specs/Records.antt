@@ -16,6 +16,7 @@ use Rattle.nv_audit.specs.PartLists.{HaveSameParts}
 use Rattle.nv_audit.specs.Pending.{of_inode, part_of}
 use Rattle.nv_audit.specs.declared.part_list.InodePart.{InodePart}
 
+-- the states of cells, in order
 abbrev pub states_of : List CellValue → List CellState
 states_of cells = map (λ (c : CellValue). c.state) cells
 
@@ -25,6 +26,7 @@ states_of cells = map (λ (c : CellValue). c.state) cells
 abbrev pub inode_part : Record → InodePart
 inode_part r = record { ino = r.ino; part = part_of r }
 
+-- the parts that a snapshot holds by records
 abbrev pub recorded_in : ℕ → List Record → List InodePart
 recorded_in s records = map inode_part (filter (is_held_by s) records)
 
@@ -38,9 +40,11 @@ recorded_as s book = flat_map (λ (m : Manifest). recorded_in s m.records) book.
 abbrev pub is_owed : ℕ → List PartId → Pair → Bool
 is_owed s named pair = holds s pair && (not (is_current pair) && not (is_named named pair))
 
+-- the name of a pair's part, with its inode
 abbrev pub part_in : ℕ → Pair → InodePart
 part_in ino pair = record { ino = ino; part = pair_name pair }
 
+-- the part of a pair, where the snapshot is owed a record of it
 abbrev pub owed_pair : ℕ → List PartId → ℕ → Pair → List InodePart
 owed_pair s named ino pair = if is_owed s named pair then part_in ino pair ∷ [] else []
 
@@ -48,6 +52,7 @@ owed_pair s named ino pair = if is_owed s named pair then part_in ino pair ∷ [
 abbrev pub owed_in : ℕ → List PartId → ℕ → ℕ → List Entry → List InodePart
 owed_in s named ino block log = flat_map (owed_pair s named ino) (pairs block log)
 
+-- the parts of a cell that a snapshot is owed records of
 abbrev pub owed_by : ℕ → List PartId → ℕ → CellState → List InodePart
 owed_by s named ino cell = owed_in s named ino cell.block (log_of cell)
 
@@ -60,6 +65,9 @@ owed_from s in_hands ino (cell ∷ cells) = owed_by s (of_inode ino in_hands) in
 abbrev pub IsRecorded : List CellState → BookState → List InodePart → ℕ → Type 0
 IsRecorded cells book in_hands s = HaveSameParts (recorded_as s book) (owed_from s in_hands 0 cells)
 
--- each living snapshot does
+-- each living snapshot does.
+-- Records: for each living snapshot, each part stands among the records that it holds as often as the logs say.
+-- Manifests and the deferred list count together. That is once if the snapshot holds the pair and the pair is
+-- neither current nor in a hand, and else never.
 abbrev pub AreRecorded : List CellState → BookState → List InodePart → Type 0
 AreRecorded cells book in_hands = All (IsRecorded cells book in_hands) (ids book.snaps)

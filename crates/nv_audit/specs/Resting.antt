@@ -17,6 +17,7 @@ use Rattle.nv_audit.specs.Blocks.{all_blocks}
 use Rattle.nv_audit.specs.DeviceParts.{AreListsOf, AreSlotsOf}
 use Rattle.nv_audit.specs.KeptParts.{AreAllRecordsOf, cell_in}
 use Rattle.nv_audit.specs.Lists.{blocks_had}
+use Rattle.nv_audit.specs.LogShape.{IsHeldLawful}
 use Rattle.nv_audit.specs.Nodes.{AreTrees}
 use Rattle.nv_audit.specs.Pending.{ArePendingOf}
 use Rattle.nv_audit.specs.Pool.{IsPoolOf}
@@ -35,19 +36,22 @@ pub record HasIndex (cell : CellState) : Type 0 where
   pub apart : IsOnce (blocks_had cell)
   pub ends : EndsAtSize cell
 
--- the log is of its shape
-abbrev pub HasShape : CellState → Type 0
-HasShape cell = IsLeftShaped cell.block (log_of cell)
+-- the log is of its shape, and lawful from nothing on where one of these snapshots holds something of it
+pub record HasShape (living : List ℕ) (cell : CellState) : Type 0 where
+  pub shape : IsLeftShaped cell.block (log_of cell)
+  pub held : IsHeldLawful cell.block living (log_of cell)
 
 -- the counts are those of the log, where no call has a part in its hand
 abbrev pub HasCounts : BookState → ℕ → CellState → Type 0
 HasCounts book ino cell = IsCountedBy (ids book.snaps) book.deferred [] ino cell
 
+-- index, names and counts of an inode are those of its log
 pub record IsInodeAtRest (book : BookState) (ino : ℕ) (cell : CellState) : Type 0 where
   pub index : HasIndex cell
-  pub names : HasShape cell
+  pub names : HasShape (ids book.snaps) cell
   pub counts : HasCounts book ino cell
 
+-- so they are of each inode
 abbrev pub AreInodesAtRest : BookState → List CellState → Type 0
 AreInodesAtRest book cells =
     (ino : ℕ) (default : CellState) → ino < length cells → IsInodeAtRest book ino (slice_index_or cells ino default)
@@ -60,8 +64,8 @@ pub record IsBookWith (snapshots : List ℕ) (lists : List (Vec PartId)) (book :
 -- the first part of an inode that differs
 abbrev pub IsFirstOfInode : MismatchPart → BookState → ℕ → CellState → Type 0
 IsFirstOfInode Index book ino cell = ¬ HasIndex cell
-IsFirstOfInode Names book ino cell = HasIndex cell × (¬ HasShape cell)
-IsFirstOfInode Counts book ino cell = HasIndex cell × HasShape cell × (¬ HasCounts book ino cell)
+IsFirstOfInode Names book ino cell = HasIndex cell × (¬ HasShape (ids book.snaps) cell)
+IsFirstOfInode Counts book ino cell = HasIndex cell × HasShape (ids book.snaps) cell × (¬ HasCounts book ino cell)
 IsFirstOfInode Records book ino cell = ⊥
 IsFirstOfInode Lists book ino cell = ⊥
 
@@ -98,7 +102,9 @@ pub record HaveLists (g : GeometryNumbers) (cells : List CellState) (lists : Lis
 
 -- ---- the whole
 
--- PARTS AT REST: each inode, the trees of all directories, the records and the lists
+-- PARTS AT REST: each inode, the trees of all directories, the records and the lists.
+-- Parts at rest: each inode has its index, its names and its counts, the directories form a tree now and at each
+-- living snapshot, and records and lists are those of a device at rest.
 pub record AreAtRest (g : GeometryNumbers) (cells : List CellState) (lists : List FreeBlocks) (pool : FreeInodes) (book : BookState)
     : Type 0 where
   pub inodes : AreInodesAtRest book cells
@@ -106,7 +112,9 @@ pub record AreAtRest (g : GeometryNumbers) (cells : List CellState) (lists : Lis
   pub records : HaveRecords cells book
   pub device : HaveLists g cells lists pool book
 
--- the FIRST PART that differs, where the trees come behind all inodes
+-- the FIRST PART that differs, where the trees come behind all inodes.
+-- The first part that differs is that of the first inode that differs, then `names` for the tree, `records`,
+-- `lists`. Example: where the slot 3 has a wrong count and the slot 5 an entry past its tail, it is `counts`.
 abbrev pub IsFirstAtRest : MismatchPart → GeometryNumbers → List CellState → List FreeBlocks → FreeInodes → BookState → Type 0
 IsFirstAtRest Index g cells lists pool book = IsFirstOfInodes Index book cells
 IsFirstAtRest Names g cells lists pool book =

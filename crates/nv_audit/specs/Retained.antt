@@ -15,8 +15,12 @@ use Rattle.nv_log.specs.Chain.{start_of}
 abbrev pub retained_in : Retention → CellState → List Bool
 retained_in r cell = map (keeps r) (pairs cell.block (log_of cell))
 
+abbrev pub needed_by : List ℕ → ℕ → List Entry → List Bool
+needed_by snapshots block log = map (is_needed snapshots) (pairs block log)
+
+-- of each part whether its pair is current or held by a snapshot
 abbrev pub needed_in : List ℕ → CellState → List Bool
-needed_in snapshots cell = map (is_needed snapshots) (pairs cell.block (log_of cell))
+needed_in snapshots cell = needed_by snapshots cell.block (log_of cell)
 
 -- a part with that birth and death is current, or held by one of these snapshots
 abbrev pub is_needed_from : List ℕ → ℕ → Option ℕ → Bool
@@ -28,11 +32,13 @@ abbrev pub with_number : Option ℕ → List Bool → List Bool
 with_number None parts = parts
 with_number (Some n) parts = slice_set parts n true
 
+-- flags of the parts of a log, where parts with these names have theirs set
 abbrev pub with_named : List Entry → List PartId → List Bool → List Bool
 with_named log [] parts = parts
 with_named log (id ∷ names) parts = with_named log names (with_number (number_named log id) parts)
 
--- for each entry whether one of its parts is marked
+-- for each entry whether one of its parts is marked.
+-- An entry with one of them is valid.
 abbrev pub marked_entries : List Entry → List Bool → List Bool
 marked_entries [] parts = []
 marked_entries (e ∷ later) parts =

@@ -12,24 +12,30 @@ use Rattle.nv_audit.specs.declared.tree.NamedNode.{NamedNode}
 
 -- ---- slots and their nodes
 
+-- a node for each inode slot, or none
 abbrev pub Slots : Type 0
 Slots = List (Option NamedNode)
 
+-- the node of a slot, if there is one
 abbrev pub slot_at : Slots → ℕ → Option NamedNode
 slot_at slots n = slice_index_or slots n None
 
+-- the slot has a node
 abbrev pub is_used : Option NamedNode → Bool
 is_used None = false
 is_used (Some node) = true
 
+-- the kind is a directory's
 abbrev pub is_dir : Kind → Bool
 is_dir Dir = true
 is_dir File = false
 
+-- the slot has a directory
 abbrev pub is_directory : Option NamedNode → Bool
 is_directory None = false
 is_directory (Some node) = is_dir node.kind
 
+-- the slot has a node of this generation
 abbrev pub is_of : ℕ → Option NamedNode → Bool
 is_of generation None = false
 is_of generation (Some node) = node.generation == generation
@@ -38,6 +44,7 @@ is_of generation (Some node) = node.generation == generation
 abbrev pub is_node : Slots → Handle → Bool
 is_node slots handle = is_of handle.generation (slot_at slots handle.ino)
 
+-- the names of a slot's node, none where it has none
 abbrev pub names_of : Option NamedNode → List BoundName
 names_of None = []
 names_of (Some node) = node.names
@@ -46,14 +53,17 @@ names_of (Some node) = node.names
 abbrev pub slots_named : List BoundName → List ℕ
 slots_named names = map (λ (b : BoundName). b.to.ino) names
 
+-- the slots to which the names of a slot's node lead
 abbrev pub leads : Slots → ℕ → List ℕ
 leads slots n = slots_named (names_of (slot_at slots n))
 
+-- the slots to which all names lead
 abbrev pub all_leads : Slots → List ℕ
 all_leads slots = flat_map (leads slots) (range_with_len 0 (length slots))
 
 -- ---- a tree
 
+-- the root is a node, and a directory
 abbrev pub HasRoot : Slots → Type 0
 HasRoot slots = (is_node slots root ≡ true) × (is_directory (slot_at slots root.ino) ≡ true)
 
@@ -71,6 +81,7 @@ abbrev pub IsReachedBy : Slots → List ℕ → ℕ → Type 0
 IsReachedBy slots [] n = n ≡ root.ino
 IsReachedBy slots (dir ∷ above) n = (1 ≤ times n (leads slots dir)) × IsReachedBy slots above dir
 
+-- the slot is reached from the root through some directories
 abbrev pub IsReached : Slots → ℕ → Type 0
 IsReached slots n = (above : List ℕ) × IsReachedBy slots above n
 
@@ -85,6 +96,7 @@ pub record IsTree (slots : Slots) : Type 0 where
 
 -- ---- what is found on the way
 
+-- no number stands there twice
 abbrev pub IsOnce : List ℕ → Type 0
 IsOnce numbers = (n : ℕ) → times n numbers ≤ 1
 

@@ -26,14 +26,25 @@ use Rattle.nv_audit.specs.declared.pending.InHands.{InHands}
 -- the numbers of its geometry, the cell of each inode, the free list of each CPU and the book; and of the hands of all
 -- calls the blocks, and the parts that are killed or picked
 pub record Device : Type 0 where
+  -- the numbers of its geometry
   pub numbers : GeometryNumbers
+  -- the cell of each inode
   pub cells : List CellState
+  -- the free list of each CPU
   pub lists : List FreeBlocks
+  -- the book
   pub book : BookState
+  -- the parts that calls have killed or picked
   pub in_hands : List InodePart
+  -- the numbers of the blocks in hands
   pub blocks : List ℕ
 
--- that of these parts
+-- that of these parts.
+-- The device: what an audit is handed, without room and reserves. An `Audited` is seen as the device that was
+-- judged. Example: a file of block 2 on a log page in block 1 is overwritten by block 3 under snapshot 1. Snapshot
+-- 1 holds the Size and the page of the first Write. They are two records of its manifest. Used are 0, 1, 2 and 3.
+-- With one record gone the audit answers `records`. With block 2 in a free list too it would answer `lists`. In
+-- `nv_core`:
 abbrev pub device_with : GeometryNumbers → List CellValue → List FreeBlocks → BookState → InHands → Device
 device_with numbers cells lists book hands = record {
   numbers = numbers;
@@ -63,22 +74,30 @@ abbrev pub CountsAgreeBy : List ℕ → List Record → List InodePart → List 
 CountsAgreeBy snapshots deferred in_hands cells =
     (ino : ℕ) (default : CellState) → ino < length cells → IsCountedBy snapshots deferred in_hands ino (slice_index_or cells ino default)
 
+-- the counts of all inodes are those of the scan
 abbrev pub CountsAgree : BookState → List InodePart → List CellState → Type 0
 CountsAgree book in_hands cells = CountsAgreeBy (ids book.snaps) book.deferred in_hands cells
 
+-- the counts of the device's inodes are those of the scan
 abbrev pub HasCounts : Device → Type 0
 HasCounts d = CountsAgree d.book d.in_hands d.cells
 
+-- the records of the device are those that its logs owe
 abbrev pub HasRecords : Device → Type 0
 HasRecords d = AreRecorded d.cells d.book d.in_hands
 
+-- the free lists of the device have exactly what is not used
 abbrev pub HasLists : Device → Type 0
 HasLists d = AreFree d.numbers d.lists (used_of d.cells d.book d.in_hands d.blocks)
 
--- EACH PART IS THAT OF THE SCAN; the index and the names of a cell are at all times
+-- EACH PART IS THAT OF THE SCAN; the index and the names of a cell are at all times.
+-- The whole: all of them agree, or the first that differs, inode by inode for the first three.
 pub record Agrees (d : Device) : Type 0 where
+  -- each inode's counts are those of its log
   pub counts : HasCounts d
+  -- each living snapshot has the records that the logs owe it
   pub records : HasRecords d
+  -- the free lists have exactly what is not used
   pub lists : HasLists d
 
 -- the first part that differs
@@ -100,6 +119,7 @@ IsMismatch d fault = ⊥
 abbrev pub IsMarkedCell : List ℕ → List Record → List InodePart → ℕ → CellState → Type 0
 IsMarkedCell snapshots deferred in_hands ino cell = IsCell cell × AreMarksOf (retention_by snapshots deferred in_hands ino cell) cell
 
+-- the marks of each cell are those of its log
 abbrev pub HasMarkedCells : Device → Type 0
 HasMarkedCells d =
     (ino : ℕ) (default : CellState) → ino < length d.cells

@@ -12,6 +12,7 @@ use nv_epoch::SnapList;
 
 /// Whether no snapshot is pinned and no journal is open. Costs one look at each.
 pub fn is_at_rest(book: &Book) -> bool
+    // A book passes exactly where no snapshot is pinned and no journal is open.
     ensures { IsTrue result ↔ IsAtRest book.now.state }
 {
     is_unpinned(book.snaps()) && are_journals_closed(book)
@@ -19,6 +20,7 @@ pub fn is_at_rest(book: &Book) -> bool
 
 /// Whether no part of a log is marked killed. Costs one pass over the marks.
 pub fn has_none_killed(cell: &InodeCell) -> bool
+    // A cell passes exactly where no part is marked killed.
     ensures { IsTrue result ↔ HasNoneKilled cell.now.state }
 {
     !cell.has_killed()
@@ -27,6 +29,7 @@ pub fn has_none_killed(cell: &InodeCell) -> bool
 /// Whether a cell has seen no more commits than this, and no entry of its log is of a later commit or epoch than these.
 /// Costs one pass over the log.
 pub fn is_up_to(commit: CommitNo, epoch: Epoch, cell: &InodeCell) -> bool
+    // A cell passes exactly where neither its version nor an entry is later than a commit and an epoch.
     ensures { IsTrue result ↔ IsUpTo commit epoch cell.now.state }
 {
     cell.version() <= commit.number() && are_no_later(commit, epoch, cell.log().log())

@@ -9,6 +9,8 @@ use std::marker::Model;
 
 /// A device that an audit has judged and found to agree. Contracts see the device. Only [`crate::audit`] makes one, and
 /// it can't be copied. Its device is borrowed while it lives, so that nothing changes meanwhile.
+/// A device that was audited agrees, by its type.
+/// Only an audit makes one: no other crate reaches its fields, and it can't be copied.
 #[derive(Drop)]
 pub struct Audited<'a> {
     pub(crate) geometry: &'a Geometry,
@@ -26,6 +28,7 @@ impl<'a> Model for Audited<'a> {
     ghost view = { λ a. device_with a.geometry.now.numbers a.cells.now a.lists.now
         a.book.now.state a.hands };
 
+    // Its counts, records and free lists are those of one scan of its logs, of its snapshots and of the hands.
     ghost invariant = { λ a. Agrees (device_with a.geometry.now.numbers a.cells.now a.lists.now
         a.book.now.state a.hands) };
 }

@@ -1,13 +1,13 @@
 //! The blocks of free lists and cells: each stands once.
 
-ghost use Rattle.std.specs.Prelude.{◌≡◌, ◌↔◌, ◌+◌, ◌-◌, ◌≤◌, ◌++◌, IfOk, IsTrue, OnOk};
+ghost use Rattle.std.specs.Prelude.{◌≡◌, ◌↔◌, ◌+◌, ◌-◌, ◌≤◌, ◌++◌, IfOk, IsTrue, MatchOption, OnOk};
 ghost use Rattle.std.specs.List.{flat_map, range_with_len};
 ghost use Rattle.nv_base.specs.Refusals.{FailsOnly};
 ghost use Rattle.nv_base.specs.Memory.{out_of_memory};
 ghost use Rattle.nv_alloc.specs.Block.{numbers_of};
 ghost use Rattle.nv_alloc.specs.Numbers.{IsEachOnce};
 ghost use Rattle.nv_cell.specs.Cell.{of_part, stored_in};
-ghost use Rattle.nv_audit.specs.Blocks.{AreAllSet, IsUnmarked, all_blocks, blocks_free};
+ghost use Rattle.nv_audit.specs.Blocks.{AreAllSet, AreMarksOnce, AreOnceBelow, IsUnmarked, all_blocks, blocks_free};
 ghost use Rattle.nv_audit.specs.Records.{states_of};
 
 use crate::lists::push_pages;
@@ -24,6 +24,9 @@ pub fn is_each_block_once(
     lists: &[FreeList],
     cells: &[InodeCell],
 ) -> Result<bool, Fault>
+    // Blocks pass exactly where each stands once among lists and cells.
+    // A block that stands nowhere, or is none of the device, is found.
+    // The blocks of parts are looked at, those past a tail too; the only error is `OutOfMemory`.
     ensures ok { IfOk result (λ is. IsTrue is ↔ IsEachOnce geometry.now.numbers.blocks
         (all_blocks lists.now (states_of cells.now))) }
     ensures err { FailsOnly out_of_memory result }
@@ -110,19 +113,35 @@ pub(crate) fn push_places(
 fn is_each_once(alloc: Global, blocks: u64, numbers: &[BlockNo]) -> Result<bool, AllocError>
     ensures { IfOk result (λ is. IsTrue is ↔ IsEachOnce blocks numbers.now) }
 {
+    let once = marked_once(alloc, blocks, numbers)?;
+    match once {
+        Some(marks) => Ok(are_all_set(&marks)),
+        None => Ok(false),
+    }
+}
+
+/// The marks of the numbers of a list, if each of them is below `blocks` and stands there once.
+pub(crate) fn marked_once(
+    alloc: Global,
+    blocks: u64,
+    numbers: &[BlockNo],
+) -> Result<Option<Vec<bool>>, AllocError>
+    ensures { IfOk result (λ marks. MatchOption marks (¬ AreOnceBelow blocks numbers.now)
+        (λ marks. AreMarksOnce blocks numbers.now marks.items)) }
+{
     let mut marks = vec![in alloc; false; blocks as usize]?;
     for number in numbers {
         let place = number.number() as usize;
         if !is_unmarked(&marks, place) {
-            return Ok(false);
+            return Ok(None);
         }
         marks[place] = true;
     }
-    Ok(are_all_set(&marks))
+    Ok(Some(marks))
 }
 
 /// Whether there is a mark at a place, and it is not set.
-fn is_unmarked(marks: &[bool], place: usize) -> bool
+pub(crate) fn is_unmarked(marks: &[bool], place: usize) -> bool
     ensures { IsTrue result ↔ IsUnmarked marks.now place }
 {
     place < marks.len() && !marks[place]

@@ -25,8 +25,12 @@ pub fn are_counted(
     cell: &InodeCell,
 ) -> Result<bool, Fault>
     requires { retention.now.block ≡ cell.now.state.block }
+    // Counts are passed exactly where those of each page are counted from scratch.
+    // An entry is valid by its own parts: one is needed or pending.
+    // A part is held before its death and not at it.
     ensures ok { IfOk result (λ are. IsTrue are
         ↔ AreCounted (retention_of retention.now) cell.now.state) }
+    // The only error is `OutOfMemory`.
     ensures err { FailsOnly out_of_memory result }
 {
     // The marks of a cell tell at all times which parts are current, so that no live entry is counted once more.

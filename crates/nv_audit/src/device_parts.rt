@@ -1,20 +1,21 @@
 //! The free lists and cells of a device between two calls.
 
 ghost use Rattle.std.specs.Prelude.{◌≡◌, ◌↔◌, ℕ, ◌<◌, All, IsTrue, slice_index_or, true};
-ghost use Rattle.nv_base.specs.declared.limits.TheConstants.{NUMBER};
 ghost use Rattle.nv_alloc.specs.FreeList.{IsHomeList};
 ghost use Rattle.nv_cell.specs.Cell.{CellValue};
 ghost use Rattle.nv_cell.specs.Readers.{has_inode, is_erased};
-ghost use Rattle.nv_audit.specs.DeviceParts.{AreListsOf, AreSlotsOf, IsSlotOf};
+ghost use Rattle.nv_audit.specs.DeviceParts.{AreListsOf, AreSlotsOf, IsInRange, IsSlotOf};
 ghost use Rattle.nv_audit.specs.Lists.{no_list};
 ghost use Rattle.nv_audit.specs.Records.{states_of};
 
 use nv_alloc::FreeList;
 use nv_base::Geometry;
+use nv_base::limits::NUMBER;
 use nv_cell::InodeCell;
 
 /// Whether there is a free list for each CPU, which is that of the CPU.
 pub fn are_lists_of(geometry: &Geometry, lists: &[FreeList]) -> bool
+    // Lists pass exactly where each CPU has one, which is that of the CPU.
     ensures { IsTrue result ↔ AreListsOf geometry.now.numbers lists.now }
 {
     if lists.len() as u64 != geometry.numbers.cpus {
@@ -30,6 +31,7 @@ pub fn are_lists_of(geometry: &Geometry, lists: &[FreeList]) -> bool
 
 /// Whether there is a cell for each inode slot, as a device has it between two calls.
 pub fn are_slots_of(geometry: &Geometry, cells: &[InodeCell]) -> bool
+    // Cells pass exactly where there is one for each inode slot, and each passes.
     ensures { IsTrue result ↔ AreSlotsOf geometry.now.numbers (states_of cells.now) }
 {
     cells.len() as u64 == geometry.numbers.inodes && are_all_slots_of(geometry, cells)
@@ -47,12 +49,25 @@ fn are_all_slots_of(geometry: &Geometry, cells: &[InodeCell]) -> bool
     true
 }
 
-/// Whether a cell has the sizes of a device, its inode is not of the last generation, and it keeps something if its inode
-/// is gone. Costs a pass over the marks of a log whose inode is gone.
+/// Whether a cell has the sizes of a device, its generation is in its range, its inode is not of the last one, and it keeps
+/// something if its inode is gone. Costs a pass over the marks of a log whose inode is gone.
 pub fn is_slot_of(geometry: &Geometry, cell: &InodeCell) -> bool
+    // A cell passes exactly where it has a device's sizes and nothing of it is due.
+    // Such a cell has a generation in its range, and one of the last has no page.
     ensures { IsTrue result ↔ IsSlotOf geometry.now.numbers cell.now.state }
 {
-    cell.made_for(geometry) && is_early(cell) && !is_erased(cell)
+    cell.made_for(geometry) && is_in_range(cell) && is_early(cell) && !is_erased(cell)
+}
+
+/// Whether the generation is in its range, and a slot of the last one has no page.
+fn is_in_range(cell: &InodeCell) -> bool
+    ensures { IsTrue result ↔ IsInRange cell.now.state }
+{
+    let number = cell.generation().number();
+    if number == NUMBER {
+        return cell.log().blocks().is_empty();
+    }
+    1 <= number && number < NUMBER
 }
 
 /// Whether the slot has no inode, or one that is not of the last generation.

@@ -6,15 +6,15 @@ ghost use Rattle.nv_base.specs.Refusals.{FailsOnly};
 ghost use Rattle.nv_base.specs.Memory.{out_of_memory};
 ghost use Rattle.nv_base.specs.Names.{same_name};
 ghost use Rattle.nv_base.specs.declared.limits.TheConstants.{FILE_PAGES};
-ghost use Rattle.nv_cell.specs.Cell.{CellState};
 ghost use Rattle.nv_entry.specs.Keys.{Key as KeyValue, NameKey, PageKey, covers, key_named};
+ghost use Rattle.nv_entry.specs.declared.item.Entry.{Entry as EntryValue};
 ghost use Rattle.nv_audit.specs.Deaths.{Puts, cover_before, cover_in, epoch_of, name_cover, others_after, page_cover, page_cover_before};
 ghost use Rattle.nv_audit.specs.Names.{name_in};
 
+use crate::logged::Logged;
 use crate::scanned_pages::{first_past, run_pages, set_pages};
 use nv_base::limits::FILE_PAGES;
 use nv_base::{EntryId, Epoch, Fault};
-use nv_cell::InodeCell;
 use nv_entry::{Entry, Item, Key};
 use nv_findex::FileIndex;
 use std::alloc::{AllocError, Global};
@@ -38,7 +38,7 @@ pub(crate) struct FirstCovers<'a> {
 impl<'a> FirstCovers<'a> {
     /// Of no entry. It takes no memory yet.
     pub(crate) fn new(alloc: Global) -> FirstCovers<'a>
-        ensures { (cell : CellState) (key : KeyValue) → cover_in cell result key ≡ None }
+        ensures { (log : List EntryValue) (key : KeyValue) → cover_in log result key ≡ None }
     {
         FirstCovers {
             kind: None,
@@ -50,17 +50,17 @@ impl<'a> FirstCovers<'a> {
         }
     }
 
-    /// The epoch of the first that covers a key, if one does; the entries are those of a cell. Costs a look-up of the
+    /// The epoch of the first that covers a key, if one does; the entries are those of a log. Costs a look-up of the
     /// name, or of the page and its entry.
-    pub(crate) fn get(&self, cell: &InodeCell, key: Key<'_>) -> Option<Epoch>
-        ensures { result ≡ cover_in cell.now.state self.now (key_named key.entry) }
+    pub(crate) fn get(&self, logged: &Logged<'_>, key: Key<'_>) -> Option<Epoch>
+        ensures { result ≡ cover_in logged.now.log self.now (key_named key.entry) }
     {
         match key {
             Key::Kind => self.kind,
             Key::Mode => self.mode,
             Key::Size => self.size,
             Key::Name(name) => self.of_name(name),
-            Key::Page(page) => epoch_of(cell, self.pages.at(page)?.entry),
+            Key::Page(page) => epoch_of(logged, self.pages.at(page)?.entry),
         }
     }
 
@@ -78,7 +78,8 @@ impl<'a> FirstCovers<'a> {
         put_pages(&mut self.pages, block, entry)
     }
 
-    fn of_name(&self, name: &[u8]) -> Option<Epoch>
+    /// The same of a name.
+    pub(crate) fn of_name(&self, name: &[u8]) -> Option<Epoch>
         ensures { result ≡ name_cover self.now name.now }
     {
         match self.names.get(name) {
@@ -99,12 +100,12 @@ fn cover_before(block: u64, entry: &Entry, key: Key<'_>, later: Option<Epoch>) -
     later
 }
 
-/// The epoch of the entry of that id in the log of a cell.
-fn epoch_of(cell: &InodeCell, id: EntryId) -> Option<Epoch>
-    ensures { result ≡ epoch_of cell.now.state id }
+/// The epoch of the entry of that id in a log.
+fn epoch_of(logged: &Logged<'_>, id: EntryId) -> Option<Epoch>
+    ensures { result ≡ epoch_of logged.now.log id }
 {
-    let place = cell.log().place_of(id)?;
-    let entry = cell.log().log().get(place)?;
+    let place = logged.place_of(id)?;
+    let entry = logged.log().get(place)?;
     Some(entry.epoch)
 }
 

@@ -1,11 +1,10 @@
 //! The kinds of an inode, one after another.
 
 ghost use Rattle.std.specs.Prelude.{◌≡◌, IfOk, OnOk};
-ghost use Rattle.nv_audit.specs.Histories.{Adds, AreHistories, IsHistoryOf, kind_after, kind_at};
-ghost use Rattle.nv_audit.specs.Records.{states_of};
+ghost use Rattle.nv_audit.specs.Histories.{AddsEntry, AreHistories, IsHistoryBy, kind_after, kind_at};
 
+use crate::logged::Logged;
 use nv_base::{Epoch, Kind};
-use nv_cell::InodeCell;
 use nv_entry::{Entry, Item};
 use std::alloc::{AllocError, Global};
 
@@ -23,26 +22,26 @@ pub(crate) struct History {
     binds: bool,
 }
 
-/// Those of cells. Costs a pass over each log.
-pub(crate) fn histories_of(alloc: Global, cells: &[InodeCell]) -> Result<Vec<History>, AllocError>
-    ensures { IfOk result (λ histories. AreHistories (states_of cells.now) histories.items) }
+/// Those of logs. Costs a pass over each.
+pub(crate) fn histories_of(alloc: Global, logs: &[Logged<'_>]) -> Result<Vec<History>, AllocError>
+    ensures { IfOk result (λ histories. AreHistories logs.now histories.items) }
 {
     let mut histories = Vec::new(alloc);
-    for cell in cells {
-        histories.push(History::of(alloc, cell)?)?;
+    for logged in logs {
+        histories.push(History::of(alloc, logged.log())?)?;
     }
     Ok(histories)
 }
 
 impl History {
-    fn of(alloc: Global, cell: &InodeCell) -> Result<History, AllocError>
-        ensures { IfOk result (IsHistoryOf cell.now.state) }
+    fn of(alloc: Global, log: &[Entry]) -> Result<History, AllocError>
+        ensures { IfOk result (IsHistoryBy log.now) }
     {
         let mut history = History {
             kinds: Vec::new(alloc),
             binds: false,
         };
-        for entry in cell.log().log() {
+        for entry in log {
             history.add(entry)?;
         }
         Ok(history)
@@ -50,7 +49,7 @@ impl History {
 
     /// One more entry of the log.
     fn add(&mut self, entry: &Entry) -> Result<(), AllocError>
-        ensures { OnOk result (Adds entry.now self.old self.new) }
+        ensures { OnOk result (AddsEntry entry.now self.old self.new) }
     {
         match &entry.item {
             Item::Init { kind, .. } => {

@@ -18,6 +18,7 @@ use std::alloc::Global;
 /// Whether a part is the one that holds a key now, if any does. Costs one pass over the log.
 pub fn is_part_of(block: u64, log: &[Entry], key: Key<'_>, part: Option<PartRef>) -> bool
     requires { 0 < block }
+    // Whether a part is the one that holds a key by the log is told.
     ensures { IsTrue result ↔ (part ≡ scan_ref block log.now (key_named key.entry)) }
 {
     is_same(part, current_part(block, log, key))
@@ -35,7 +36,11 @@ pub fn are_pages_of(
     index: &FileIndex,
 ) -> Result<bool, Fault>
     requires { 0 < block }
+    // A file index is passed exactly where it names for each page the part that holds it.
+    // No page more is passed.
+    // A cut takes out the pages past the size.
     ensures ok { IfOk result (λ are. IsTrue are ↔ ArePagesOf block log.now index.now) }
+    // The only error is `OutOfMemory`.
     ensures err { FailsOnly out_of_memory result }
 {
     let scanned = scanned_pages(alloc, block, log)?;

@@ -5,14 +5,14 @@ ghost use Rattle.std.specs.Option.{option_map};
 ghost use Rattle.nv_base.specs.Refusals.{FailsOnly};
 ghost use Rattle.nv_base.specs.Memory.{out_of_memory};
 ghost use Rattle.nv_cell.specs.Cell.{log_of};
-ghost use Rattle.nv_cell.specs.Named.{number_named, place_of};
+ghost use Rattle.nv_cell.specs.Named.{number_named, place_of_part};
 ghost use Rattle.nv_cell.specs.Numbers.{part_base};
 ghost use Rattle.nv_entry.specs.Covered.{part_count};
 ghost use Rattle.nv_entry.specs.declared.item.Entry.{Entry as EntryValue};
 ghost use Rattle.nv_epoch.specs.SnapList.{ids};
 ghost use Rattle.nv_audit.specs.Deaths.{deaths_of};
 ghost use Rattle.nv_audit.specs.Pending.{part_of};
-ghost use Rattle.nv_audit.specs.KeptParts.{AreOnceRecorded, ArePartsOf, AreRecordsOf, IsRecordOf, TellsOf, is_kept, is_left, pair_named, taken_from};
+ghost use Rattle.nv_audit.specs.KeptParts.{AreOnceRecorded, ArePartsOf, AreRecordsOf, IsRecordOf, TellsOf, is_marked_as_kept, is_left, pair_named, taken_from};
 
 use crate::deaths::deaths_of;
 use nv_base::limits::FILE_PAGES;
@@ -47,8 +47,11 @@ pub fn are_records_of(
     records: &[Record],
     cell: &InodeCell,
 ) -> Result<bool, Fault>
+    // Records pass just where each tells of a part of the log its birth and its holders.
+    // They pass just where besides each kept part has one of them, and no other part any.
     ensures ok { IfOk result (λ are. IsTrue are
         ↔ AreRecordsOf (ids snaps.now) cell.now.state records.now) }
+    // The only error is `OutOfMemory`.
     ensures err { FailsOnly out_of_memory result }
 {
     let parts = kept_parts(alloc, cell)?;
@@ -191,7 +194,7 @@ fn find_part(cell: &InodeCell, id: PartId) -> Option<FoundPart>
 
 /// The place of a part among those of an entry with the item.
 fn place_of(item: &Item, part: Part) -> Option<u32>
-    ensures { result ≡ place_of item.now part }
+    ensures { result ≡ place_of_part item.now part }
 {
     match (item, part) {
         (Item::Init { .. }, Part::Mode) => Some(1),
@@ -211,7 +214,7 @@ fn place_of(item: &Item, part: Part) -> Option<u32>
 /// Whether each part that is marked kept has one of these records, and no other part has any. No part is taken away yet.
 fn are_once_recorded(records: &[Record], cell: &InodeCell, mut parts: KeptParts) -> bool
     requires parts { ArePartsOf cell.now.state parts }
-    requires left { parts.left.items ≡ map is_kept cell.now.state.marks }
+    requires left { parts.left.items ≡ map is_marked_as_kept cell.now.state.marks }
     ensures { IsTrue result ↔ AreOnceRecorded cell.now.state records.now }
 {
     for record in records {
@@ -266,7 +269,7 @@ fn take_away(left: &mut Vec<bool>, number: Option<usize>) -> bool
 /// The parts of a log before any record.
 pub(crate) fn kept_parts(alloc: Global, cell: &InodeCell) -> Result<KeptParts, AllocError>
     ensures parts { IfOk result (ArePartsOf cell.now.state) }
-    ensures left { IfOk result (λ parts. parts.left.items ≡ map is_kept cell.now.state.marks) }
+    ensures left { IfOk result (λ parts. parts.left.items ≡ map is_marked_as_kept cell.now.state.marks) }
 {
     // The chain is one, so that its tail is no further than its entries; and each part has a mark.
     cell.use_invariant();
@@ -283,7 +286,7 @@ pub(crate) fn kept_parts(alloc: Global, cell: &InodeCell) -> Result<KeptParts, A
 
 /// Puts to the end of a list of each of these marks whether it is kept.
 fn push_kept(left: &mut Vec<bool>, marks: &[Mark]) -> Result<(), AllocError>
-    ensures { OnOk result (left.new.items ≡ left.old.items ++ map is_kept marks.now) }
+    ensures { OnOk result (left.new.items ≡ left.old.items ++ map is_marked_as_kept marks.now) }
 {
     for mark in marks {
         left.push(matches!(mark, Mark::Kept))?;

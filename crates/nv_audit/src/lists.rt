@@ -9,7 +9,7 @@ ghost use Rattle.nv_entry.specs.Covered.{part_count};
 ghost use Rattle.nv_entry.specs.Held.{keeps, retention_of};
 ghost use Rattle.nv_entry.specs.Log.{pairs, pairs_of};
 ghost use Rattle.nv_entry.specs.declared.item.Entry.{Entry as EntryValue};
-ghost use Rattle.nv_audit.specs.Lists.{AreAllFree, AreFree, AreMarked, IsRangeFree, block_said, blocks_kept, blocks_said, kept_of, list_or_none, mark_at, said_if, said_of, said_part, used_by, used_from, used_of};
+ghost use Rattle.nv_audit.specs.Lists.{AreAllFree, AreFree, AreMarked, IsRangeFree, block_said, blocks_kept, blocks_said, blocks_kept_of, list_or_none, mark_at, said_if, said_of, said_part, used_by, used_from, used_of};
 ghost use Rattle.nv_audit.specs.Records.{states_of};
 ghost use Rattle.std.specs.Option.{option_copied};
 
@@ -39,6 +39,8 @@ pub fn are_free(
     book: &Book,
     hands: &InHands,
 ) -> Result<bool, Fault>
+    // Free lists are passed exactly where each has the unused numbers of its home range.
+    // Of the pages that a log names those of kept parts are used, and no others.
     ensures ok { IfOk result (λ are. IsTrue are ↔ AreFree geometry.now.numbers lists.now
         (used_of (states_of cells.now) book.now.state hands.now.parts.items hands.now.blocks.items)) }
     ensures err { FailsOnly out_of_memory result }
@@ -123,7 +125,7 @@ pub(crate) fn push_pages(used: &mut Vec<BlockNo>, pages: &[Block]) -> Result<(),
 }
 
 /// Puts the blocks of the pairs of a log that are kept to the end, where these of its parts are.
-fn push_kept(
+pub(crate) fn push_kept(
     used: &mut Vec<BlockNo>,
     retention: &Retention<'_>,
     log: &[Entry],
@@ -155,7 +157,7 @@ fn push_kept_of(
         → kept.now ≡ map (keeps (retention_of retention.now))
         (pairs_of retention.now.block entry.now later)
         → used.new.items
-        ≡ used.old.items ++ kept_of (retention_of retention.now) entry.now later) }
+        ≡ used.old.items ++ blocks_kept_of (retention_of retention.now) entry.now later) }
 {
     for place in 0..entry.item.part_count() {
         let part = part_at(&entry.item, place);

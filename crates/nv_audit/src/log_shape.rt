@@ -16,6 +16,8 @@ use nv_entry::{BlockRun, Entry, Item};
 /// Whether a log is of its shape: it begins with its only Init, each further item is one of the inode's kind
 /// within the limits, and nothing stands behind a Gone. A log without entries is. Costs two passes over the log.
 pub fn is_shaped(block: u64, log: &[Entry]) -> bool
+    // A log passes exactly where it begins with its only Init and each further item suits the inode's kind.
+    // With an entry behind a Gone it does not pass.
     ensures { IsTrue result ↔ IsShaped block log.now }
 {
     are_lawful_from(block, log, None) && is_gone_last(log)
@@ -24,6 +26,7 @@ pub fn is_shaped(block: u64, log: &[Entry]) -> bool
 /// Whether a log that cleaners may have cleaned is of its shape: one that ends with a Gone may have lost its first
 /// entries, so that its items need be lawful from some kind on alone. Costs up to four passes over the log.
 pub fn is_left_shaped(block: u64, log: &[Entry]) -> bool
+    // A log that cleaners may have cleaned passes exactly where it is of its shape.
     ensures { IsTrue result ↔ IsLeftShaped block log.now }
 {
     if ends_with_gone(log) {
@@ -35,6 +38,7 @@ pub fn is_left_shaped(block: u64, log: &[Entry]) -> bool
 /// Whether the items of a log are lawful one after another from some kind on, or from nothing on: so are those of
 /// a gone inode whose first entries a cleaner took out. Costs up to three passes over the log.
 pub fn are_lawful_from_some(block: u64, log: &[Entry]) -> bool
+    // A log passes exactly where its items are lawful from some kind on.
     ensures { IsTrue result ↔ AreLawfulFromSome block log.now }
 {
     are_lawful_from(block, log, None)
@@ -45,6 +49,7 @@ pub fn are_lawful_from_some(block: u64, log: &[Entry]) -> bool
 /// Whether the items of a log are lawful one after another, where the inode is of this kind before them, if of
 /// any. Costs one pass over the log.
 pub fn are_lawful_from(block: u64, log: &[Entry], before: Option<Kind>) -> bool
+    // Whether the items are lawful one after another from this kind on is told, or from nothing on.
     ensures { IsTrue result ↔ AreLawful block (items_of log.now) before }
 {
     let mut kind = before;
@@ -59,6 +64,7 @@ pub fn are_lawful_from(block: u64, log: &[Entry], before: Option<Kind>) -> bool
 
 /// Whether nothing stands behind a Gone. Costs one pass over the log.
 pub fn is_gone_last(log: &[Entry]) -> bool
+    // A log passes exactly where nothing stands behind a Gone.
     ensures { IsTrue result ↔ IsGoneLast (items_of log.now) }
 {
     let mut gone = false;
@@ -73,6 +79,7 @@ pub fn is_gone_last(log: &[Entry]) -> bool
 
 /// Whether no entry of a log is of a later commit or epoch than these. Costs one pass over the log.
 pub fn are_no_later(commit: CommitNo, epoch: Epoch, log: &[Entry]) -> bool
+    // A log passes exactly where no entry is of a later commit or epoch than these.
     ensures { IsTrue result ↔ AreNoLater commit epoch log.now }
 {
     for entry in log {
@@ -167,7 +174,7 @@ fn kind_after(item: &Item, before: Option<Kind>) -> Option<Kind>
 }
 
 /// Whether the last entry says that the inode is gone.
-fn ends_with_gone(log: &[Entry]) -> bool
+pub(crate) fn ends_with_gone(log: &[Entry]) -> bool
     ensures { result ≡ is_gone log.now }
 {
     match log.last() {

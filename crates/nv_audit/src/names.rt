@@ -19,15 +19,20 @@ use std::collections::HashMap;
 ///
 /// Costs two passes over the log and one over the names of the index, with a look-up for each name.
 pub fn are_names_of(alloc: Global, log: &[Entry], index: &NameIndex) -> Result<bool, Fault>
+    // A name index passes just where it binds as the log does, by the same entry.
+    // An unbound name is bound no more.
+    // A gone directory binds no name.
     ensures ok { IfOk result (λ are. IsTrue are
         ↔ HaveSameBindings (bindings_of log.now) index.now.names) }
+    // The only error is `OutOfMemory`.
     ensures err { FailsOnly out_of_memory result }
 {
     let bound = bound_by(alloc, log)?;
     Ok(are_names_by(&bound, log, index))
 }
 
-/// The same, by a table that tells what the log binds each name to.
+/// Whether an index of names binds each name as the log does, by a table that tells what the log binds each name
+/// to.
 fn are_names_by(bound: &HashMap<&[u8], Binding>, log: &[Entry], index: &NameIndex) -> bool
     requires { TellsNames log.now bound.now.entries }
     ensures { IsTrue result ↔ HaveSameBindings (bindings_of log.now) index.now.names }
@@ -143,7 +148,7 @@ fn is_name_at(bound: &HashMap<&[u8], Binding>, index: &NameIndex, place: usize) 
     }
 }
 
-/// The same for one name.
+/// Whether an index binds one name as a table says that the log does.
 fn is_name_of(bound: &HashMap<&[u8], Binding>, index: &NameIndex, name: &[u8]) -> bool
     ensures { IsTrue result ↔ IsNameOf bound.now.entries index.now.names name.now }
 {

@@ -65,7 +65,8 @@ fn push_owed_by(
     Ok(())
 }
 
-/// The same, where the parts of the log died then, and these of them are in hands.
+/// Puts the records that one inode owes to the end of a list, where the parts of its log died then, and these of
+/// them are in hands.
 fn push_owed(
     owed: &mut Vec<Record>,
     snaps: &SnapList,

@@ -1,7 +1,7 @@
 //! Lists of parts of all inodes.
 
 ghost use Rattle.std.specs.Prelude.{◌≡◌, ◌↔◌, IsTrue};
-ghost use Rattle.nv_audit.specs.PartLists.{HaveSameParts, order_of, place_of};
+ghost use Rattle.nv_audit.specs.PartLists.{HaveSameParts, order_of, part_order};
 
 use nv_base::{EntryId, Ino};
 use nv_entry::{Part, PartId};
@@ -25,7 +25,7 @@ impl InodePart {
 
 /// Where a key stands among the keys of an entry: the number of its kind, and for a page the page's number.
 fn place_of(part: Part) -> (u32, u32)
-    ensures { result ≡ place_of part }
+    ensures { result ≡ part_order part }
 {
     match part {
         Part::Kind => (0, 0),

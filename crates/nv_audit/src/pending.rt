@@ -86,7 +86,7 @@ fn put_part(lists: &mut Vec<Vec<PartId>>, ino: Ino, part: PartId) -> Result<(), 
 }
 
 /// The living snapshots.
-pub(crate) fn living(alloc: Global, book: &Book) -> Result<Vec<Epoch>, AllocError>
+pub fn living(alloc: Global, book: &Book) -> Result<Vec<Epoch>, AllocError>
     ensures { IfOk result (λ living. living.items ≡ ids book.now.state.snaps) }
 {
     book.snaps().ids().collect(alloc)

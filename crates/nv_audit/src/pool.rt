@@ -15,6 +15,8 @@ use nv_cell::InodeCell;
 /// Whether the pool is that of a device between two calls: it has just the numbers whose slots have no inode and are not
 /// withheld. Costs one pass over the slots.
 pub fn is_pool_of(geometry: &Geometry, cells: &[InodeCell], pool: &InodePool) -> bool
+    // A pool passes exactly where it has the numbers of slots without an inode.
+    // The number of a withheld slot is in no pool that passes.
     ensures { IsTrue result ↔ IsPoolOf geometry.now.numbers (states_of cells.now) pool.now }
 {
     // It tells that the numbers rise.

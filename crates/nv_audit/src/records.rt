@@ -30,6 +30,10 @@ pub fn are_recorded(
     book: &Book,
     hands: &InHands,
 ) -> Result<bool, Fault>
+    // Records are passed exactly where each living snapshot holds by them what it holds by the logs.
+    // A snapshot is asked about also where it is the only one.
+    // A pair that is current or in a hand is owed to no snapshot.
+    // A part in a hand counts for its own inode alone.
     ensures ok { IfOk result (λ are. IsTrue are
         ↔ AreRecorded (states_of cells.now) book.now.state hands.now.parts.items) }
     ensures err { FailsOnly out_of_memory result }

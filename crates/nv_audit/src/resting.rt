@@ -12,6 +12,8 @@ ghost use Rattle.nv_audit.specs.Pending.{pending_of};
 ghost use Rattle.nv_audit.specs.Records.{states_of};
 ghost use Rattle.nv_audit.specs.Resting.{AreAtRest, AreInodesAtRest, HasIndex, HasShape, HaveLists, HaveRecords, IsBookWith, IsFirstAtRest, IsFirstOfInode, IsFirstOfInodes, IsInodeAtRest, IsOfPast};
 
+use crate::held_shape::is_held_lawful;
+use crate::logged::Logged;
 use crate::pending::{listed, living, pending_by_slot};
 use crate::whole::counts_differ;
 use crate::{
@@ -37,10 +39,13 @@ pub fn rest_differs(
     pool: &InodePool,
     book: &Book,
 ) -> Result<Option<MismatchPart>, Fault>
+    // None differs just where the parts are at rest.
+    // Else the first part that differs is told.
     ensures ok { IfOk result (λ part. MatchOption part
         (AreAtRest geometry.now.numbers (states_of cells.now) lists.now pool.now book.now.state)
         (λ part. IsFirstAtRest part geometry.now.numbers (states_of cells.now)
         lists.now pool.now book.now.state)) }
+    // The only error is `OutOfMemory`.
     ensures err { FailsOnly out_of_memory result }
 {
     let hands = no_hands(alloc);
@@ -94,7 +99,8 @@ fn inodes_differ(
     Ok(first)
 }
 
-/// The same for each book that has these snapshots, and these pending parts of each slot where nothing is in hands.
+/// The first part of the first inode that differs, for each book that has these snapshots, and these pending parts
+/// of each slot, where nothing is in hands.
 fn first_resting(
     alloc: Global,
     cells: &[InodeCell],
@@ -135,18 +141,26 @@ fn at_rest_differs(
     if !indexed {
         return Ok(Some(MismatchPart::Index));
     }
-    if !has_shape(cell) {
+    let shaped = has_shape(alloc, cell, snapshots)?;
+    if !shaped {
         return Ok(Some(MismatchPart::Names));
     }
     let counts = counts_differ(alloc, cell, snapshots, pending)?;
     Ok(counts)
 }
 
-/// Whether the log of a cell is of its shape.
-fn has_shape(cell: &InodeCell) -> bool
-    ensures { IsTrue result ↔ HasShape cell.now.state }
+/// Whether the log of a cell is of its shape, and lawful from nothing on where one of these snapshots holds something of
+/// it.
+fn has_shape(alloc: Global, cell: &InodeCell, snapshots: &[Epoch]) -> Result<bool, Fault>
+    ensures ok { IfOk result (λ has. IsTrue has ↔ HasShape snapshots.now cell.now.state) }
+    ensures err { FailsOnly out_of_memory result }
 {
-    is_left_shaped(cell.block_bytes(), cell.log().log())
+    if !is_left_shaped(cell.block_bytes(), cell.log().log()) {
+        return Ok(false);
+    }
+    let logged = Logged::of(cell);
+    let lawful = is_held_lawful(alloc, snapshots, &logged)?;
+    Ok(lawful)
 }
 
 /// Whether the directories form a tree now and at each living snapshot.
@@ -219,7 +233,7 @@ fn are_all_of_past(cells: &[InodeCell], book: &Book) -> bool
     are_of_past(cells, book)
 }
 
-/// The same, cell by cell.
+/// Whether no cell has a part that is marked killed, or anything later than the book: cell by cell.
 fn are_of_past(cells: &[InodeCell], book: &Book) -> bool
     ensures { IsTrue result ↔ All (λ (c : CellValue). IsOfPast book.now.state c.state) cells.now }
 {

@@ -7,12 +7,13 @@ ghost use Rattle.nv_base.specs.Memory.{out_of_memory};
 ghost use Rattle.nv_cell.specs.Cell.{log_of};
 ghost use Rattle.nv_entry.specs.Covered.{part_total};
 ghost use Rattle.nv_entry.specs.Held.{retention_of};
-ghost use Rattle.nv_audit.specs.Deaths.{deaths_of};
+ghost use Rattle.nv_audit.specs.Deaths.{deaths_in};
 ghost use Rattle.nv_audit.specs.KeptParts.{ArePartsOf};
-ghost use Rattle.nv_audit.specs.Retained.{is_needed_from, marked_entries, needed_in, retained_in, with_named};
+ghost use Rattle.nv_audit.specs.Retained.{is_needed_from, marked_entries, needed_by, retained_in, with_named};
 
-use crate::deaths::deaths_of;
+use crate::deaths::deaths_in;
 use crate::kept_parts::{KeptParts, kept_parts, number_of};
+use crate::logged::Logged;
 use nv_base::{Epoch, Fault};
 use nv_cell::InodeCell;
 use nv_entry::{Entry, PartId, Retention};
@@ -32,8 +33,9 @@ pub(crate) fn retained_parts(
 {
     // The log is one, so that each part has a name of its own.
     cell.use_invariant();
-    let deaths = deaths_of(alloc, cell)?;
-    let mut parts = needed_parts(alloc, retention.snapshots, cell, &deaths)?;
+    let logged = Logged::of(cell);
+    let deaths = deaths_in(alloc, &logged)?;
+    let mut parts = needed_parts(alloc, retention.snapshots, &logged, &deaths)?;
     if retention.pending.is_empty() {
         return Ok(parts);
     }
@@ -42,19 +44,20 @@ pub(crate) fn retained_parts(
     Ok(parts)
 }
 
-/// Which parts are current, or held by one of these snapshots.
-fn needed_parts(
+/// Which parts of a log are current, or held by one of these snapshots, where its parts died then.
+pub(crate) fn needed_parts(
     alloc: Global,
     snapshots: &[Epoch],
-    cell: &InodeCell,
+    logged: &Logged<'_>,
     deaths: &[Option<Epoch>],
 ) -> Result<Vec<bool>, AllocError>
-    requires { deaths.now ≡ deaths_of cell.now.state }
-    ensures { IfOk result (λ parts. parts.items ≡ needed_in snapshots.now cell.now.state) }
+    requires { deaths.now ≡ deaths_in logged.now.block logged.now.log }
+    ensures { IfOk result (λ parts. parts.items
+        ≡ needed_by snapshots.now logged.now.block logged.now.log) }
 {
     let mut parts = Vec::new(alloc);
     let mut rest = deaths;
-    for entry in cell.log().log() {
+    for entry in logged.log() {
         let (own, later) = rest.split_at(entry.item.part_count() as usize);
         push_needed(&mut parts, snapshots, entry.epoch, own)?;
         rest = later;

@@ -18,8 +18,10 @@ use std::alloc::{AllocError, Global};
 /// Whether the records of a book, those of all manifests and the deferred ones, are those of all cells. Costs for each
 /// cell what [`are_records_of`] costs, and memory for each record.
 pub fn are_all_records_of(alloc: Global, book: &Book, cells: &[InodeCell]) -> Result<bool, Fault>
+    // A book passes just where each record is of a slot, and each slot has the records of its cell.
     ensures ok { IfOk result (λ are. IsTrue are
         ↔ AreAllRecordsOf book.now.state (states_of cells.now)) }
+    // The only error is `OutOfMemory`.
     ensures err { FailsOnly out_of_memory result }
 {
     let records = all_records(alloc, book)?;

@@ -1,36 +1,50 @@
 //! What a cell's blocks and bytes must be beside its log.
 
-ghost use Rattle.std.specs.Prelude.{◌≡◌, ◌↔◌, ◌≤◌, All, IfOk, IsTrue, drop, length};
+ghost use Rattle.std.specs.Prelude.{◌≡◌, ◌↔◌, ◌<◌, ◌≤◌, All, IfOk, IsTrue, List, drop, length};
 ghost use Rattle.std.specs.List.Sorted.{IsNonDecreasing};
 ghost use Rattle.nv_base.specs.Refusals.{FailsOnly};
 ghost use Rattle.nv_base.specs.Memory.{out_of_memory};
+ghost use Rattle.nv_entry.specs.Node.{size_now};
+ghost use Rattle.nv_entry.specs.declared.item.Entry.{Entry as EntryValue};
+ghost use Rattle.nv_audit.specs.Index.{ArePagesOf};
 ghost use Rattle.nv_audit.specs.Lists.{blocks_had};
-ghost use Rattle.nv_audit.specs.Sound.{ArePagesWithin, AreZerosPast, EndsAtSize};
+ghost use Rattle.nv_audit.specs.Sound.{AreLogPagesWithin, ArePagesWithin, AreZerosPast, EndsAtSize};
 ghost use Rattle.nv_audit.specs.Tree.{IsOnce};
 
 use crate::blocks::push_places;
 use nv_base::limits::FILE_PAGES;
 use nv_base::{BlockNo, Fault};
 use nv_cell::InodeCell;
+use nv_findex::FileIndex;
 use std::alloc::Global;
 
 /// Whether no entry stands past the tail.
 pub fn ends_at_tail(cell: &InodeCell) -> bool
+    // A cell passes exactly where no entry stands past its tail.
     ensures { IsTrue result ↔ (cell.now.state.chain.tail ≡ length cell.now.state.chain.entries) }
 {
     cell.tail() == cell.len()
 }
 
-/// Whether no two of the parts that a cell has blocks for have one block. Costs the number of its blocks, times a
-/// logarithm, and takes a place in a list for each.
+/// Whether no two of the parts that a cell has blocks for have one block. It costs what [`are_all_apart`] does for each of
+/// its blocks, and takes a place in a list for each.
 pub fn are_blocks_apart(alloc: Global, cell: &InodeCell) -> Result<bool, Fault>
+    // A cell passes exactly where no two of its parts have one block.
     ensures ok { IfOk result (λ apart. IsTrue apart ↔ IsOnce (blocks_had cell.now.state)) }
+    // The only error is `OutOfMemory`.
     ensures err { FailsOnly out_of_memory result }
 {
     let mut numbers = Vec::new(alloc);
     push_places(&mut numbers, cell.part_blocks())?;
+    Ok(are_all_apart(numbers))
+}
+
+/// Whether no number stands twice in a list. Costs its length, times a logarithm.
+pub(crate) fn are_all_apart(mut numbers: Vec<BlockNo>) -> bool
+    ensures { IsTrue result ↔ IsOnce numbers.items }
+{
     numbers.sort_unstable_by_key(|number| number.number());
-    Ok(is_once(&numbers))
+    is_once(&numbers)
 }
 
 /// Whether no number stands twice in a list in which none falls.
@@ -49,6 +63,8 @@ fn is_once(numbers: &[BlockNo]) -> bool
 /// Whether a file ends at its size: no page lies past it, and no byte past it is another than 0. Costs two look-ups
 /// and the bytes of one block.
 pub fn ends_at_size(cell: &InodeCell) -> bool
+    // A cell whose file has a page past its size does not pass.
+    // It passes exactly where beside this no byte past the size is another than 0.
     ensures { IsTrue result ↔ EndsAtSize cell.now.state }
 {
     are_pages_within(cell) && are_zeros_past(cell)
@@ -58,9 +74,17 @@ pub fn ends_at_size(cell: &InodeCell) -> bool
 fn are_pages_within(cell: &InodeCell) -> bool
     ensures { IsTrue result ↔ ArePagesWithin cell.now.state }
 {
-    let pages = cell.size().div_ceil(cell.block_bytes());
-    let first = pages.min(u64::from(FILE_PAGES)) as u32;
-    cell.page_index().next_from(first).is_none()
+    are_pages_within_by(cell.block_bytes(), cell.size(), cell.page_index())
+}
+
+/// Whether no page lies past a size, where these are the pages of a log that gives this size.
+pub(crate) fn are_pages_within_by(block: u64, size: u64, pages: &FileIndex) -> bool
+    requires { 0 < block }
+    ensures { (log : List EntryValue) → size ≡ size_now block log → ArePagesOf block log pages.now
+        → IsTrue result ↔ AreLogPagesWithin block log }
+{
+    let first = size.div_ceil(block).min(u64::from(FILE_PAGES)) as u32;
+    pages.next_from(first).is_none()
 }
 
 /// Whether no byte past the size of a file without such pages is another than 0.
@@ -83,7 +107,7 @@ fn are_zeros_past(cell: &InodeCell) -> bool
 }
 
 /// Whether all bytes from a place on are 0.
-fn are_zeros_from(bytes: &[u8], from: usize) -> bool
+pub(crate) fn are_zeros_from(bytes: &[u8], from: usize) -> bool
     requires { from ≤ length bytes.now }
     ensures { IsTrue result ↔ All (λ byte. byte ≡ 0) (drop from bytes.now) }
 {

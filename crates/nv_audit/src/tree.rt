@@ -22,7 +22,11 @@ pub struct NamedNode {
 /// by exactly one name; no name leads to the root or to no node, or stands in a file. A slot that is not in use has no
 /// node. Costs one pass over slots and names, and takes a mark and a place in a list for each slot.
 pub fn form_a_tree(alloc: Global, slots: &[Option<NamedNode>]) -> Result<bool, Fault>
+    // Nodes pass just where the root is a directory and names reach the others.
+    // Nodes of which one has two names, or the root has one, are not passed.
+    // A name that leads to no node, or that stands in a file, is not passed.
     ensures ok { IfOk result (λ form. IsTrue form ↔ IsTree slots.now) }
+    // The only error is `OutOfMemory`.
     ensures err { FailsOnly out_of_memory result }
 {
     if !has_root(slots) {

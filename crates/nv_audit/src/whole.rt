@@ -34,10 +34,17 @@ pub fn audit<'a>(
     book: &'a Book,
     hands: InHands,
 ) -> Result<Audited<'a>, Fault>
+    // What an audit gives is the device that it was handed.
     ensures ok { IfOk result (λ audited. audited
         ≡ device_with geometry.now.numbers cells.now lists.now book.now.state hands) }
+    // The audit is `Ok` only where counts, records and free lists are those from scratch.
+    // What is from scratch is told by one scan of all logs, of the snapshot list and of what hands have.
     ensures agrees { OnOk result
         (Agrees (device_with geometry.now.numbers cells.now lists.now book.now.state hands)) }
+    // The first part that differs is answered.
+    // Deferred records count, inode by inode.
+    // The only other error is `OutOfMemory`.
+    // Of a cell the index and the names never differ.
     ensures err { IfErr result (λ fault. (fault ≡ out_of_memory) ⊎ IsMismatch
         (device_with geometry.now.numbers cells.now lists.now book.now.state hands) fault) }
 {
@@ -80,7 +87,7 @@ fn cells_differ(
     first_different(alloc, cells, &snapshots, &deferred, &hands.parts)
 }
 
-/// The same, where these snapshots live and these records are deferred.
+/// The first part of the first cell that differs, where these snapshots live and these records are deferred.
 fn first_different(
     alloc: Global,
     cells: &[InodeCell],
@@ -99,7 +106,7 @@ fn first_different(
     Ok(first)
 }
 
-/// The same, where each slot has a list of its pending parts.
+/// The first part of the first cell that differs, where each slot has a list of its pending parts.
 fn first_with(
     alloc: Global,
     cells: &[InodeCell],
@@ -187,7 +194,7 @@ fn is_indexed(alloc: Global, cell: &InodeCell) -> Result<bool, Fault>
     )
 }
 
-/// The same of its kind, mode and size.
+/// Whether the kind, mode and size of a cell's index are those of its log.
 fn are_fields_indexed(cell: &InodeCell) -> bool
     ensures { IsTrue result }
 {

@@ -1,7 +1,9 @@
 -- The home ranges of block numbers: one range for each CPU.
 use Rattle.std.specs.Prelude.{◌≡◌, ℕ, ◌+◌, ◌*◌, ◌/◌, ◌<◌, ◌≤◌}
 
--- the first number whose home is this CPU or a later one
+-- the first number whose home is this CPU or a later one.
+-- CPU `c` of `cpus` is home of the numbers from `c * blocks / cpus`, rounded down, to below where the next CPU's
+-- begin.
 abbrev pub home_start : ℕ → ℕ → ℕ → ℕ
 home_start blocks cpus cpu = cpu * blocks / cpus
 

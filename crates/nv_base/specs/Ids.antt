@@ -2,7 +2,8 @@
 use Rattle.std.specs.Prelude.{◌≡◌, ◌<◌, ◌⊎◌, ◌↔◌, ◌==◌, ◌&&◌, ◌||◌, Bool, IsTrue, nat_lt}
 use Rattle.nv_base.specs.declared.numbers.EntryId.{EntryId}
 
--- an id stands before another
+-- an id stands before another.
+-- entry ids stand by commit, and within one commit by place.
 abbrev pub IsIdBefore : EntryId → EntryId → Type 0
 IsIdBefore a b = (a.commit < b.commit) ⊎ ((a.commit ≡ b.commit) × (a.place < b.place))
 

@@ -7,7 +7,9 @@ use Rattle.nv_base.specs.declared.fault.GeometryField.TheVariants.{Blocks, Cpus,
 use Rattle.nv_base.specs.declared.geometry.GeometryNumbers.{GeometryNumbers}
 use Rattle.nv_base.specs.declared.limits.TheConstants.{ACTORS, BLOCKS, BLOCK_BYTES, CPUS, INODES, LEAST_BLOCKS, LEAST_PAGE_ENTRIES, PAGE_ENTRIES, SNAPS}
 
--- each number of a geometry is within its limits
+-- each number of a geometry is within its limits.
+-- each number of a geometry is within its limits; the first bad field in the order blocks, cpus, block, page,
+-- inodes, snaps, actors.
 pub record IsWithinLimits (numbers : GeometryNumbers) : Type 0 where
   pub some_blocks : LEAST_BLOCKS ≤ numbers.blocks
   pub blocks_fit : numbers.blocks ≤ BLOCKS
@@ -25,6 +27,7 @@ pub record IsWithinLimits (numbers : GeometryNumbers) : Type 0 where
   pub some_actors : 1 ≤ numbers.actors
   pub actors_fit : numbers.actors ≤ ACTORS
 
+-- the number is between these two, both included
 abbrev pub is_between : ℕ → ℕ → ℕ → Bool
 is_between least most n = nat_le least n && nat_le n most
 

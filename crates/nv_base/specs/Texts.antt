@@ -11,6 +11,7 @@ use Rattle.nv_base.specs.declared.fault.ImageFault.TheVariants as image
 use Rattle.nv_base.specs.declared.fault.ScriptFaultKind.{ScriptFaultKind}
 use Rattle.nv_base.specs.declared.fault.ScriptFaultKind.TheVariants as script
 
+-- the word of a field of a geometry
 abbrev pub field_name : GeometryField → List ℕ
 field_name field.Blocks = codes "blocks"
 field_name field.Cpus = codes "cpus"
@@ -21,6 +22,7 @@ field_name field.Snaps = codes "snaps"
 field_name field.Actors = codes "actors"
 field_name field.Seats = codes "seats"
 
+-- the word of a part that an audit compares
 abbrev pub part_name : MismatchPart → List ℕ
 part_name part.Index = codes "index"
 part_name part.Names = codes "names"
@@ -28,6 +30,7 @@ part_name part.Counts = codes "counts"
 part_name part.Records = codes "records"
 part_name part.Lists = codes "lists"
 
+-- the word of a fault of an image
 abbrev pub image_fault_name : ImageFault → List ℕ
 image_fault_name image.Geometry = codes "geometry"
 image_fault_name image.Block = codes "block"
@@ -38,6 +41,7 @@ image_fault_name image.Run = codes "run"
 image_fault_name image.Journal = codes "journal"
 image_fault_name image.Snaps = codes "snaps"
 
+-- the word of a kind of script fault
 abbrev pub script_fault_name : ScriptFaultKind → List ℕ
 script_fault_name script.Lines = codes "lines"
 script_fault_name script.Long = codes "long"
@@ -80,6 +84,7 @@ fault_name (fault.ScriptFault first line) = codes "E27 ScriptFault"
 fault_name fault.Read = codes "E28 Read"
 fault_name fault.Write = codes "E29 Write"
 
+-- a text in brackets
 abbrev pub bracketed : List ℕ → List ℕ
 bracketed text = codes "(" ++ text ++ codes ")"
 
@@ -91,6 +96,7 @@ fault_fields (fault.BadImage first) = bracketed (image_fault_name first)
 fault_fields (fault.ScriptFault first line) = bracketed (decimal line ++ codes ", " ++ script_fault_name first)
 fault_fields _ = []
 
--- number, name and fields
+-- number, name and fields.
+-- its number and name, and its fields in brackets where it has any.
 abbrev pub fault_text : Fault → List ℕ
 fault_text why = fault_name why ++ fault_fields why

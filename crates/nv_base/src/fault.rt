@@ -26,6 +26,7 @@ pub enum GeometryField {
 impl GeometryField {
     /// The field's name in texts.
     pub fn name(self) -> &'static str
+        // A field of a geometry has its word, also by `Display`.
         ensures { result.now ≡ field_name self }
     {
         match self {
@@ -44,6 +45,7 @@ impl GeometryField {
 impl fmt::Display for GeometryField {
     ghost output = { λ field. Some (field_name field) };
 
+    /// `Display` writes a fault's number, its name and its fields in brackets.
     fn fmt<W: fmt::Write>(&self, f: &mut fmt::Formatter<W>) -> fmt::Result {
         let field = self.name();
         f.write_str(field)
@@ -63,6 +65,7 @@ pub enum MismatchPart {
 impl MismatchPart {
     /// The part's name in texts.
     pub fn name(self) -> &'static str
+        // A part that an audit finds to differ has its word, also by `Display`.
         ensures { result.now ≡ part_name self }
     {
         match self {
@@ -100,6 +103,7 @@ pub enum ImageFault {
 impl ImageFault {
     /// The fault's name in texts.
     pub fn name(self) -> &'static str
+        // A fault of an image has its word, also by `Display`.
         ensures { result.now ≡ image_fault_name self }
     {
         match self {
@@ -140,6 +144,7 @@ pub enum ScriptFaultKind {
 impl ScriptFaultKind {
     /// The kind's name in texts.
     pub fn name(self) -> &'static str
+        // A kind of script fault has its word, also by `Display`.
         ensures { result.now ≡ script_fault_name self }
     {
         match self {
@@ -230,6 +235,7 @@ pub enum Fault {
 impl Fault {
     /// The fault's number and name.
     pub fn name(&self) -> &'static str
+        // A fault has its name.
         ensures { result.now ≡ fault_name self.now }
     {
         match self {
@@ -284,6 +290,8 @@ impl fmt::Display for Fault {
 impl From<NoMemory> for Fault {
     ghost from_gives = { λ witness fault. fault ≡ OutOfMemory witness };
 
+    /// A refused growth becomes `OutOfMemory`, as an `AllocError` and as an `AllocFailed`.
+    /// A witness of want of memory becomes `OutOfMemory` with that witness.
     fn from(witness: NoMemory) -> Fault {
         Fault::OutOfMemory(witness)
     }

@@ -30,6 +30,7 @@ pub struct GeometryNumbers {
 #[derive(Clone, Copy, Debug, PartialEq, Eq)]
 pub struct Geometry {
     pub numbers: GeometryNumbers,
+    // Its seven numbers are within their limits.
     pub ghost limits: { IsWithinLimits numbers },
 }
 
@@ -38,8 +39,11 @@ impl Geometry {
     /// order: `blocks` 2 to 1,048,576, `cpus` 1 to 64 and at most `blocks`, `block` 1 to 4,096, `page` 2 to 63,
     /// `inodes` 1 to 65,536, `snaps` 1 to 1,024, `actors` 1 to 64.
     pub fn checked(numbers: GeometryNumbers) -> Result<Geometry, Fault>
+        // The geometry has the numbers that it was made of.
         ensures ok { IfOk result (λ geometry. geometry.numbers ≡ numbers) }
+        // Exactly numbers within their limits make a geometry.
         ensures within { IsOk result ↔ IsWithinLimits numbers }
+        // Of other numbers, the first field outside its limits is named, in their order.
         ensures err { IfErr result (λ fault. IsFirstBad fault (first_bad_field numbers)) }
     {
         let GeometryNumbers {
@@ -77,6 +81,7 @@ impl Geometry {
     /// next one's starts.
     pub fn home_start(&self, cpu: u64) -> u64
         requires { cpu ≤ self.now.numbers.cpus }
+        // Where a CPU's home range starts is told.
         ensures value { result ≡ home_start self.now.numbers.blocks self.now.numbers.cpus cpu }
         ensures within { result ≤ self.now.numbers.blocks }
     {
@@ -86,6 +91,7 @@ impl Geometry {
     /// The CPU whose home range has this block: the list that the block always goes back to.
     pub fn home_of(&self, block: BlockNo) -> u64
         requires { block < self.now.numbers.blocks }
+        // The CPU in whose home range a block lies is told.
         ensures cpu { result < self.now.numbers.cpus }
         ensures home { IsHome self.now.numbers.blocks self.now.numbers.cpus result block }
     {
@@ -113,5 +119,7 @@ fn require(holds: bool, field: GeometryField) -> Result<(), Fault>
 /// A law: the home ranges cut the block numbers of a device into one range for each CPU, in order, and each
 /// number has one home.
 pub fn home_ranges_cut_the_blocks()
+    // Where there is a CPU, home ranges cut the block numbers in order.
+    // Where there is a CPU, each block number has exactly one home.
     ensures { (blocks cpus : ℕ) → 0 < cpus → CutsBlocks blocks cpus }
 {}

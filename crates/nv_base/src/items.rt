@@ -32,30 +32,39 @@ impl<T> Items<T> {
         }
     }
 
+    /// The list of a `Vec`'s items.
     pub fn from_vec(items: Vec<T>) -> Items<T>
+        // A list made of a `Vec` has its items.
         ensures { result ≡ items.items }
     {
         Items { items }
     }
 
+    /// The items as a `Vec`.
     pub fn into_vec(self) -> Vec<T>
+        // A list gives its items back as a `Vec`.
         ensures { result.items ≡ self }
     {
         self.items
     }
 
+    /// The items as a slice.
     pub fn as_slice(&self) -> &[T]
+        // A list shows its items as a slice.
         ensures { result.now ≡ self.now }
     {
         &self.items
     }
 
+    /// How many items there are.
     pub fn len(&self) -> usize
+        // Readers tell a list's length and whether it is empty; an empty one has no items.
         ensures { result ≡ length self.now }
     {
         self.items.len()
     }
 
+    /// Whether there is no item.
     pub fn is_empty(&self) -> bool
         ensures { IsTrue result ↔ (self.now ≡ []) }
     {

@@ -56,6 +56,7 @@ pub const DRAIN: u64 = 1_048_576;
 pub const NUMBER: u64 = 4_611_686_018_427_387_904;
 
 /// Contracts and definitions name each limit and not its value. These are the values.
+/// Each limit has its value.
 pub fn limits_have_their_values()
     ensures block_bytes { BLOCK_BYTES ≡ 4096 }
     ensures least_page_entries { LEAST_PAGE_ENTRIES ≡ 2 }
@@ -78,6 +79,7 @@ pub fn limits_have_their_values()
 
 /// Whether a call with so many failed rounds is contended.
 pub fn is_contended(failed_rounds: u64) -> bool
+    // A call is contended after `LOCK_ROUNDS` failed rounds.
     ensures { IsTrue result ↔ (LOCK_ROUNDS ≤ failed_rounds) }
 {
     failed_rounds >= LOCK_ROUNDS
@@ -86,6 +88,7 @@ pub fn is_contended(failed_rounds: u64) -> bool
 /// How many records a drain of this number releases at most: a number outside 1 to [`DRAIN`] counts as the
 /// nearest of these.
 pub fn most_drained(number: u64) -> u64
+    // A drain's number outside 1 to `DRAIN` counts as the nearest of these.
     ensures { result ≡ max 1 (min number DRAIN) }
 {
     number.clamp(1, DRAIN)

@@ -8,6 +8,7 @@ use std::alloc::{AllocError, AllocFailed};
 
 /// A growth of memory was refused. Only the library's own error of a refused growth gives one, or a count that no memory
 /// holds, since no other module reaches the field.
+/// Its maker had an error of a refused growth, or a count of more than 2^62 things.
 #[derive(Clone, Copy, Debug, PartialEq, Eq)]
 pub struct NoMemory {
     refused: (),
@@ -16,6 +17,7 @@ pub struct NoMemory {
 impl NoMemory {
     /// What stands for the refusal of more than 2^62 things at once: no memory holds as many.
     pub fn for_as_many(_count: u64) -> NoMemory
+        // Only a count above 2^62 stands for a refused growth.
         requires { NUMBER < _count }
         ensures { result ≡ no_memory }
     {

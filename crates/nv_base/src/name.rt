@@ -25,13 +25,16 @@ impl Model for Name {
 
     ghost view = { λ n. n.bytes.value.items };
 
+    // Its bytes are a lawful name.
     ghost invariant = { λ n. IsTrue (is_lawful_name n.bytes.value.items) };
 }
 
 impl Name {
     /// Whether these bytes are a lawful name: `BadName` where they are not.
     pub fn check(bytes: &[u8]) -> Result<(), Fault>
+        // Exactly the lawful names are accepted.
         ensures ok { IsOk result ↔ IsTrue (is_lawful_name bytes.now) }
+        // The only error is `BadName`.
         ensures err { FailsOnly Fault.BadName result }
     {
         let fits = !bytes.is_empty() && bytes.len() <= limits::NAME_BYTES;
@@ -44,8 +47,11 @@ impl Name {
     /// The name with these bytes: `BadName` exactly where they are no lawful name, and else at worst
     /// `OutOfMemory`.
     pub fn read(alloc: Global, bytes: &[u8]) -> Result<Name, Fault>
+        // The name that was read has the bytes that were given.
         ensures ok { IfOk result (λ name. name ≡ bytes.now) }
+        // Any other refusal is for want of memory.
         ensures err { FailsEither Fault.BadName out_of_memory result }
+        // `BadName` is answered exactly where the bytes are no lawful name.
         ensures unlawful { IsRefusedBy result Fault.BadName ↔ (is_lawful_name bytes.now ≡ false) }
     {
         Name::check(bytes)?;
@@ -54,8 +60,9 @@ impl Name {
         })
     }
 
-    /// The same name once more.
+    /// A copy of the name.
     pub fn copied(&self, alloc: Global) -> Result<Name, AllocError>
+        // The copy of a name is that name.
         ensures { IfOk result (λ name. name ≡ self.now) }
     {
         Ok(Name {
@@ -65,6 +72,7 @@ impl Name {
 
     /// The bytes of the name.
     pub fn bytes(&self) -> &[u8]
+        // The bytes of a name read back as they were given, and are lawful.
         ensures value { result.now ≡ self.now }
         ensures lawful { IsTrue (is_lawful_name self.now) }
     {

@@ -30,12 +30,14 @@ impl Model for Mode {
 
     ghost inverse = { λ n. record { bits = n } };
 
+    // It is at most 4,095.
     ghost invariant = { λ m. m.bits ≤ MODE };
 }
 
 impl Mode {
     /// The mode of these bits, or `None` above 4,095.
     pub fn checked(bits: u16) -> Option<Mode>
+        // Modes are exactly the numbers 0 to 4,095.
         ensures { SomeIff result (bits ≤ MODE) bits }
     {
         if bits <= limits::MODE {
@@ -44,6 +46,7 @@ impl Mode {
         None
     }
 
+    /// The number of the mode, at most 4,095.
     pub fn bits(self) -> u16
         ensures value { result ≡ self }
         ensures limit { result ≤ MODE }

@@ -23,12 +23,15 @@ impl Model for Ino {
 }
 
 impl Ino {
+    /// The inode number of this number.
     pub fn new(number: u64) -> Ino
+        // Inode numbers and generations read back as they were given.
         ensures { result ≡ number }
     {
         Ino { number }
     }
 
+    /// The number that it was made of.
     pub fn number(self) -> u64
         ensures { result ≡ self }
     {
@@ -53,12 +56,14 @@ impl Model for Gen {
 }
 
 impl Gen {
+    /// The generation of this number.
     pub fn new(number: u64) -> Gen
         ensures { result ≡ number }
     {
         Gen { number }
     }
 
+    /// The number that it was made of.
     pub fn number(self) -> u64
         ensures { result ≡ self }
     {
@@ -68,6 +73,7 @@ impl Gen {
     /// The generation after this one.
     pub fn next(self) -> Gen
         requires { self < NUMBER }
+        // The next generation is one more, below the last.
         ensures { result ≡ self + 1 }
     {
         Gen {
@@ -101,12 +107,15 @@ impl Model for BlockNo {
 }
 
 impl BlockNo {
+    /// The block number of this number.
     pub fn new(number: u64) -> BlockNo
+        // A block number reads back as the number that it was made of.
         ensures { result ≡ number }
     {
         BlockNo { number }
     }
 
+    /// The number that it was made of.
     pub fn number(self) -> u64
         ensures { result ≡ self }
     {
@@ -131,12 +140,15 @@ impl Model for Epoch {
 }
 
 impl Epoch {
+    /// The epoch of this number.
     pub fn new(number: u64) -> Epoch
+        // An epoch reads back as the number that it was made of.
         ensures { result ≡ number }
     {
         Epoch { number }
     }
 
+    /// The number that it was made of.
     pub fn number(self) -> u64
         ensures { result ≡ self }
     {
@@ -146,6 +158,7 @@ impl Epoch {
     /// The epoch after this one.
     pub fn next(self) -> Epoch
         requires { self < NUMBER }
+        // The next epoch is one more, below the last.
         ensures { result ≡ self + 1 }
     {
         Epoch {
@@ -171,12 +184,15 @@ impl Model for CommitNo {
 }
 
 impl CommitNo {
+    /// The commit number of this number.
     pub fn new(number: u64) -> CommitNo
+        // A commit number reads back as the number that it was made of.
         ensures { result ≡ number }
     {
         CommitNo { number }
     }
 
+    /// The number that it was made of.
     pub fn number(self) -> u64
         ensures { result ≡ self }
     {
@@ -186,6 +202,7 @@ impl CommitNo {
     /// The commit number after this one.
     pub fn next(self) -> CommitNo
         requires { self < NUMBER }
+        // The next commit number is one more, below the last.
         ensures { result ≡ self + 1 }
     {
         CommitNo {
@@ -205,6 +222,7 @@ pub struct EntryId {
 impl EntryId {
     /// Whether this id stands before another.
     pub fn is_before(self, other: EntryId) -> bool
+        // Entry ids stand in one order, by commit and then by place.
         ensures { IsTrue result ↔ IsIdBefore self other }
     {
         self < other
@@ -213,5 +231,7 @@ impl EntryId {
 
 /// A law: ids stand in one order, no id before itself, and the tests of the definitions say so.
 pub fn ids_are_ordered()
+    // The order of ids is total, irreflexive and transitive.
+    // The tests `is_id_before` and `is_same_id` decide the order and equality of ids.
     ensures { AreIdsOrdered }
 {}

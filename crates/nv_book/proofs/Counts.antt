@@ -8,7 +8,7 @@ use Rattle.nv_entry.specs.declared.part.Part.TheVariants.{Kind, Mode, Size, Boun
 use Rattle.nv_book.specs.declared.manifest.Manifest.{Manifest}
 use Rattle.nv_book.specs.declared.record.Record.{Record}
 use Rattle.nv_book.specs.declared.run.RecordRun.{RecordRun}
-use Rattle.nv_book.specs.Manifests.{held_of, record_count, runs_of, total}
+use Rattle.nv_book.specs.Manifests.{held_of, record_count, run_total, total}
 use Rattle.nv_book.specs.Records.{block_count, goes_on_in, is_born_by, is_held_by, is_page, let_go, moved_down, run_count_of}
 use Rattle.nv_book.specs.Runs.{pages_of, part_on, record_on, records_of, run_records, series}
 use Rattle.nv_book.proofs.Series.{filter-append}
@@ -22,7 +22,7 @@ runs-le-records (r ∷ rs) = go (goes_on_in r rs) (runs-le-records rs) where
   go true h = omega (arith, h)
   go false h = omega (arith, h)
 
-pub all-runs-le-records : (ms : List Manifest) → runs_of ms ≤ record_count ms
+pub all-runs-le-records : (ms : List Manifest) → run_total ms ≤ record_count ms
 all-runs-le-records ms = sum_by-le-sum_by (λ (m : Manifest). run_count_of m.records) (λ (m : Manifest). length m.records) ms
     (λ m. runs-le-records m.records)
 

@@ -9,4 +9,5 @@ pub mod RecordLists
 pub mod Series
 pub mod Spans
 pub mod Split
+pub mod Telling
 pub mod Undoing

@@ -1,9 +1,9 @@
 -- A book: the value behind the commit lock, and how each call changes it.
-use Rattle.std.specs.Prelude.{◌≡◌, ℕ, ◌+◌, ◌-◌, ◌≤◌, List, [], ◌∷◌, ◌++◌, drop, length, replicate, slice_set, Option, Some, None}
+use Rattle.std.specs.Prelude.{◌≡◌, ℕ, ◌+◌, ◌-◌, ◌≤◌, List, [], ◌∷◌, ◌++◌, drop, length, map, replicate, slice_set, Option, Some, None}
 use Rattle.nv_base.specs.declared.geometry.GeometryNumbers.{GeometryNumbers}
 use Rattle.nv_base.specs.declared.limits.TheConstants.{NUMBER}
 use Rattle.nv_epoch.specs.Holders.{next_older}
-use Rattle.nv_epoch.specs.SnapList.{Snapshots, ids, after_making, after_removal, after_pin, after_unpin}
+use Rattle.nv_epoch.specs.SnapList.{Snapshots, ids, after_making, after_removal, after_pin, after_unpin, unpinned}
 use Rattle.nv_journal.specs.declared.old_tail.OldTail.{OldTail}
 use Rattle.nv_book.specs.declared.event.Event.{Event}
 use Rattle.nv_book.specs.declared.event.Event.TheVariants.{Committed, Made, Dropped}
@@ -13,6 +13,7 @@ use Rattle.nv_book.specs.declared.record.Record.{Record}
 use Rattle.nv_book.specs.declared.retired.Retired.{Retired}
 use Rattle.nv_book.specs.declared.retired.Retired.TheVariants.{Kept, Free}
 use Rattle.nv_book.specs.History.{Account, IsHistory, noted, state_now}
+use Rattle.nv_book.specs.Listed.{manifest_told}
 use Rattle.nv_book.specs.Manifests.{AreFiled, AreDead, put_to, records_at, after_drop, after_make}
 use Rattle.nv_book.specs.Records.{holder_of, let_go}
 use Rattle.nv_book.specs.Store.{Store}
@@ -20,11 +21,17 @@ use Rattle.nv_book.specs.Store.{Store}
 -- the living snapshots and the epoch, the number of the last commit, a manifest for each living snapshot, the deferred
 -- list, what each CPU's journal has noted, and the history
 pub record BookState : Type 0 where
+  -- the living snapshots and the epoch
   pub snaps : Snapshots
+  -- the number of the last commit
   pub commit : ℕ
+  -- a manifest for each living snapshot, oldest first
   pub manifests : List Manifest
+  -- the records that no living snapshot holds
   pub deferred : List Record
+  -- what the journal of each CPU has noted
   pub journals : List (List OldTail)
+  -- the latest events, after a base
   pub history : Account
 
 -- the state, and how many records may be retired without memory
@@ -43,15 +50,33 @@ empty_book numbers epoch commit = record {
   history = record { base = record { epoch = epoch; commit = commit; living = [] }; latest = [] };
 }
 
+-- a book that begins in this epoch, after this commit, with these living snapshots, none of which is pinned: its manifests
+-- are told by one list of records, nothing is deferred, and no journal is open
+abbrev pub book_told : GeometryNumbers → List ℕ → ℕ → ℕ → List Record → BookState
+book_told numbers living epoch commit records = record {
+  snaps = record { living = map unpinned living; epoch = epoch; most = numbers.snaps };
+  commit = commit;
+  manifests = map (manifest_told living records) living;
+  deferred = [];
+  journals = replicate numbers.cpus [];
+  history = record { base = record { epoch = epoch; commit = commit; living = living }; latest = [] };
+}
+
 -- a book of a device: a journal for each of its CPUs, and as many snapshots at most
 pub record IsBookOf (g : GeometryNumbers) (b : BookState) : Type 0 where
   pub journals : length b.journals ≡ g.cpus
   pub most : b.snaps.most ≡ g.snaps
 
+-- the book with one more event in its history
 abbrev pub with_event : Event → BookState → BookState
 with_event event b = record b { history = noted LATEST b.history event }
 
--- one more commit
+-- one more commit.
+-- How a call changes a book is one function of its state each: `after_enter`, `after_retire`,
+-- `after_make_snapshot`, `after_drop_snapshot`, `after_pick` and others in that file. The room for records stands
+-- apart from the state. Example (a record moves down): with 1 and 2 living, page 0 of an entry born in epoch 1 dies
+-- in epoch 3. Its record stands in the manifest of 2. Both hold it, and neither has a gain. Once 2 is dropped it
+-- stands with 1, whose gain is 1. Once 1 is dropped too it is deferred.
 abbrev pub after_enter : ℕ → BookState → BookState
 after_enter seat b = with_event (Committed seat (b.commit + 1) b.snaps.epoch) (record b { commit = b.commit + 1 })
 
@@ -59,6 +84,12 @@ after_enter seat b = with_event (Committed seat (b.commit + 1) b.snaps.epoch) (r
 abbrev pub after_retire : Record → BookState → BookState
 after_retire r b = record b { manifests = put_to (holder_of (ids b.snaps) r) (r ∷ []) b.manifests }
 
+-- the same for records one after the other
+abbrev pub after_retiring : List Record → BookState → BookState
+after_retiring [] b = b
+after_retiring (r ∷ rs) b = after_retiring rs (after_retire r b)
+
+-- a part with a holder is kept, and one without is free
 abbrev pub retired_as : Option ℕ → Retired
 retired_as (Some s) = Kept
 retired_as None = Free
@@ -84,9 +115,11 @@ after_drop_snapshot s b = with_event (Dropped s) (record b {
   deferred = b.deferred ++ let_go (next_older (ids b.snaps) s) (records_at s b.manifests);
 })
 
+-- the book once a snapshot got a pin
 abbrev pub after_pin_snapshot : ℕ → BookState → BookState
 after_pin_snapshot s b = record b { snaps = after_pin b.snaps s }
 
+-- the book once a snapshot lost a pin
 abbrev pub after_unpin_snapshot : ℕ → BookState → BookState
 after_unpin_snapshot s b = record b { snaps = after_unpin b.snaps s }
 
@@ -101,8 +134,13 @@ with_journal cpu tails b = record b { journals = slice_set b.journals cpu tails 
 -- each record stands with its youngest living holder, or is deferred if it has none, and died by now; the history leads
 -- to the living snapshots, the epoch and the commit number
 pub record IsBook (snaps : Snapshots) (commit : ℕ) (store : Store) (latest : List Event) : Type 0 where
+  -- each record stands with its youngest living holder, or is deferred
   pub filed : AreFiled (ids snaps) store.manifests store.deferred
+  -- each record died by now
   pub dead : AreDead snaps.epoch store.manifests store.deferred
+  -- the history is legal, and leads to what is now
   pub history : IsHistory snaps.most (state_now snaps commit) latest
+  -- the commit number is at most the greatest
   pub commit_fits : commit ≤ NUMBER
+  -- there is a place for each manifest that there may be
   pub places_fit : snaps.most ≤ store.most

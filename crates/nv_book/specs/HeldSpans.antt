@@ -21,7 +21,7 @@ Tells snapshots spans held = (place : ℕ) → place < length snapshots →
     up_to place spans.begun.items ≡ up_to place spans.over.items + held (slice_index snapshots place)
 
 -- of what has begun up to a snapshot and is not over by then, there is more by what the snapshot holds
-abbrev pub Adds : List ℕ → (ℕ → ℕ) → HeldSpans → HeldSpans → Type 0
-Adds snapshots held old new = (place : ℕ) → place < length snapshots →
+abbrev pub AddsSpan : List ℕ → (ℕ → ℕ) → HeldSpans → HeldSpans → Type 0
+AddsSpan snapshots held old new = (place : ℕ) → place < length snapshots →
     up_to place new.begun.items + up_to place old.over.items ≡
     up_to place old.begun.items + up_to place new.over.items + held (slice_index snapshots place)

@@ -19,6 +19,7 @@ IsNext most now (Committed seat number epoch) = (number ≡ now.commit + 1) × (
 IsNext most now (Made s) = (s ≡ now.epoch) × (s < NUMBER) × (length now.living < most)
 IsNext most now (Dropped s) = Contains now.living s
 
+-- epoch, commit number and living snapshots after an event
 abbrev pub after : State → Event → State
 after now (Committed seat number epoch) = record now { commit = number }
 after now (Made s) = record now { epoch = s + 1; living = now.living ++ s ∷ [] }
@@ -40,12 +41,18 @@ before now (Committed seat number epoch) = record now { commit = number - 1 }
 before now (Made s) = record now { epoch = s; living = without s now.living }
 before now (Dropped s) = record now { living = put_back s now.living }
 
--- the state before some events that led to this one
+-- the state before some events that led to this one.
+-- Undone: the state before some events, by the state after them. Before a commit the last number was one less.
+-- Before a snapshot was made it did not live, and the epoch was its number. Before one was dropped it stood in its
+-- order.
 unfoldable pub undone : State → List Event → State
 undone now [] = now
 undone now (e ∷ es) = before (undone now es) e
 
--- a legal history: each event may come after those before it
+-- a legal history: each event may come after those before it.
+-- Legal history: after a base of epoch, commit number and living snapshots, each commit has the number after the
+-- last and the epoch of then. The number of a snapshot that is made is the epoch that it closes, which is below 2
+-- to the power of 62, where there is room for a snapshot. A snapshot that is dropped lives.
 unfoldable pub IsLegal : ℕ → State → List Event → Type 0
 IsLegal most base [] = Unit {0}
 IsLegal most base (e ∷ es) = IsNext most base e × IsLegal most (after base e) es
@@ -60,9 +67,12 @@ pub record Account : Type 0 where
   pub base : State
   pub latest : List Event
 
+-- What it leads to: the base after all events. Example: after 300 commits and nothing else the base has commit 44,
+-- and 256 commits stand after it.
 abbrev pub now_of : Account → State
 now_of a = replay a.base a.latest
 
+-- an account whose first events went into its base
 abbrev pub fold_first : Account → List Event → Account
 fold_first a [] = a
 fold_first a (e ∷ es) = record a { base = after a.base e; latest = es }
@@ -71,6 +81,7 @@ fold_first a (e ∷ es) = record a { base = after a.base e; latest = es }
 abbrev pub folded : Account → Account
 folded a = fold_first a a.latest
 
+-- an account with one more event behind the others
 abbrev pub longer : Account → Event → Account
 longer a e = record a { latest = a.latest ++ e ∷ [] }
 
@@ -84,8 +95,11 @@ told now latest = record { base = undone now latest; latest = latest }
 
 -- the latest events are legal after that base, and lead to the present state
 pub record IsHistory (most : ℕ) (now : State) (latest : List Event) : Type 0 where
+  -- the latest events are legal after the base
   pub legal : IsLegal most (undone now latest) latest
+  -- the base's snapshots rise, and are below its epoch
   pub ordered : IsOrdered (undone now latest)
+  -- they lead to what is now
   pub leads : now_of (told now latest) ≡ now
 
 -- the state of a book

@@ -5,6 +5,7 @@ use Rattle.nv_book.specs.declared.manifest.Manifest.{Manifest}
 use Rattle.nv_book.specs.declared.record.Record.{Record}
 use Rattle.nv_book.specs.Records.{holder_of}
 
+-- the snapshot is the one that is known
 abbrev pub is_snapshot : ℕ → Option ℕ → Bool
 is_snapshot s None = false
 is_snapshot s (Some t) = s == t
@@ -13,25 +14,34 @@ is_snapshot s (Some t) = s == t
 abbrev pub kept_by : ℕ → List ℕ → List Record → List Record
 kept_by s living rs = filter (λ r. is_snapshot s (holder_of living r)) rs
 
+-- the records that have another youngest holder, or none
 abbrev pub not_kept_by : ℕ → List ℕ → List Record → List Record
 not_kept_by s living rs = filter (λ r. not (is_snapshot s (holder_of living r))) rs
 
+-- the records that no living snapshot holds
 abbrev pub unheld : List ℕ → List Record → List Record
 unheld living rs = filter (λ r. is_none (holder_of living r)) rs
 
+-- the manifest of a snapshot with these records
 abbrev pub manifest_of : ℕ → List Record → Manifest
 manifest_of s rs = record { snapshot = s; records = rs }
 
+-- the manifest of a snapshot by the list of all records
 abbrev pub manifest_told : List ℕ → List Record → ℕ → Manifest
 manifest_told living rs s = manifest_of s (kept_by s living rs)
 
 -- each manifest has the records of the list that its snapshot is the youngest to hold, and the deferred list those that
--- no living one holds, all in the order of the list
+-- no living one holds, all in the order of the list.
+-- Record list: one list of records that tells all of these. A manifest has those of its records whose youngest
+-- living holder is the manifest's snapshot, in its order, and the deferred list those without one. To retire puts a
+-- record to its end, to drop moves the records of the dropped snapshot there in order, and to pick takes out the
+-- first without a living holder.
 pub record IsRecordList (living : List ℕ) (manifests : List Manifest) (deferred rs : List Record) : Type 0 where
   pub manifests_are : manifests ≡ map (manifest_told living rs) living
   pub deferred_is : deferred ≡ unheld living rs
 
--- the manifests' records, oldest snapshot first
+-- the manifests' records, oldest snapshot first.
+-- The manifests' records, oldest snapshot first, with the deferred ones after them are such a list.
 abbrev pub all_records : List Manifest → List Record
 all_records [] = []
 all_records (m ∷ ms) = m.records ++ all_records ms

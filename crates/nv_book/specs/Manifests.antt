@@ -5,13 +5,16 @@ use Rattle.nv_book.specs.declared.record.Record.{Record}
 use Rattle.nv_book.specs.Records.{is_held_by, holder_of, moved_down, let_go, block_count, run_count_of}
 use Rattle.nv_book.specs.declared.manifest.Manifest.{Manifest}
 
+-- the snapshots of manifests, in order
 abbrev pub snapshots : List Manifest → List ℕ
 snapshots manifests = map (λ (m : Manifest). m.snapshot) manifests
 
+-- each record of the manifest has its snapshot as the youngest living holder
 abbrev pub IsFiled : List ℕ → Manifest → Type 0
 IsFiled living m = AllByRecursion (λ r. holder_of living r ≡ Some m.snapshot) m.records
 
--- a manifest for each living snapshot; each record in that of its youngest living holder, or deferred if it has none
+-- a manifest for each living snapshot; each record in that of its youngest living holder, or deferred if it has none.
+-- Deferred list: those that no living snapshot holds.
 pub record AreFiled (living : List ℕ) (manifests : List Manifest) (deferred : List Record) : Type 0 where
   pub all : snapshots manifests ≡ living
   pub filed : AllByRecursion (IsFiled living) manifests
@@ -32,19 +35,24 @@ abbrev pub with_records : Option ℕ → List Record → Manifest → Manifest
 with_records None rs m = m
 with_records (Some s) rs m = if m.snapshot == s then record m { records = m.records ++ rs } else m
 
+-- the manifests, where records go to the end of that of one snapshot
 abbrev pub put_to : Option ℕ → List Record → List Manifest → List Manifest
 put_to s rs manifests = map (with_records s rs) manifests
 
+-- the manifests without that of one snapshot
 abbrev pub manifests_without : ℕ → List Manifest → List Manifest
 manifests_without s manifests = filter (λ (m : Manifest). not (m.snapshot == s)) manifests
 
+-- the manifests once a snapshot was dropped: what it moves down is with the next older one
 abbrev pub after_drop : ℕ → Option ℕ → List Manifest → List Manifest
 after_drop s older manifests = put_to older (moved_down older (records_at s manifests)) (manifests_without s manifests)
 
+-- the manifests with an empty one of a new snapshot
 abbrev pub after_make : ℕ → List Manifest → List Manifest
 after_make s manifests = manifests ++ (record { snapshot = s; records = [] }) ∷ []
 
--- how many blocks a drop of s puts on the deferred list
+-- how many blocks a drop of s puts on the deferred list.
+-- Gain of a snapshot: the blocks among its manifest's records that the next older snapshot does not hold.
 abbrev pub gain_of : ℕ → Option ℕ → List Manifest → ℕ
 gain_of s older manifests = block_count (let_go older (records_at s manifests))
 
@@ -53,9 +61,10 @@ abbrev pub total : (List Record → ℕ) → List Manifest → ℕ
 total f manifests = sum_by (λ (m : Manifest). f m.records) manifests
 
 -- how many runs the manifests are stored as
-abbrev pub runs_of : List Manifest → ℕ
-runs_of manifests = total run_count_of manifests
+abbrev pub run_total : List Manifest → ℕ
+run_total manifests = total run_count_of manifests
 
+-- how many records the manifests have together
 abbrev pub record_count : List Manifest → ℕ
 record_count manifests = total length manifests
 

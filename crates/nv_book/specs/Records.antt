@@ -6,6 +6,7 @@ use Rattle.nv_entry.specs.declared.part.Part.{Part}
 use Rattle.nv_entry.specs.declared.part.Part.TheVariants.{Kind, Mode, Size, Bound, Page}
 use Rattle.nv_book.specs.declared.record.Record.{Record}
 
+-- the two ids are one
 abbrev pub is_same_entry : EntryId → EntryId → Bool
 is_same_entry a b = (a.commit == b.commit) && (a.place == b.place)
 
@@ -26,11 +27,14 @@ abbrev pub goes_on : Record → Record → Bool
 goes_on a b = (a.ino == b.ino) &&
     (is_same_entry a.entry b.entry && ((a.birth == b.birth) && ((a.death == b.death) && is_next_page a.part b.part)))
 
+-- the first record of a list goes on the run of this one
 abbrev pub goes_on_in : Record → List Record → Bool
 goes_on_in a [] = false
 goes_on_in a (b ∷ bs) = goes_on a b
 
--- how many runs the records make: each record that the next one doesn't go on ends a run
+-- how many runs the records make: each record that the next one doesn't go on ends a run.
+-- `run_count_of` counts the record runs of a list of records: each record that the next one does not go on ends
+-- one. Example: pages 0, 1, 2, 3, 5 of an entry are two record runs.
 abbrev pub run_count_of : List Record → ℕ
 run_count_of [] = 0
 run_count_of (r ∷ rs) = (if goes_on_in r rs then 0 else 1) + run_count_of rs
@@ -45,10 +49,13 @@ is_born_by (Some s) r = nat_le r.birth s
 abbrev pub moved_down : Option ℕ → List Record → List Record
 moved_down older rs = filter (λ r. is_born_by older r) rs
 
+-- the records that the next older snapshot does not hold
 abbrev pub let_go : Option ℕ → List Record → List Record
 let_go older rs = filter (λ r. not (is_born_by older r)) rs
 
--- the snapshot s holds the record's part
+-- the snapshot s holds the record's part.
+-- A snapshot holds it where birth <= s < death. Manifest of a living snapshot: the records that it is the youngest
+-- to hold.
 abbrev pub is_held_by : ℕ → Record → Bool
 is_held_by s r = holds r.birth r.death s
 
@@ -56,6 +63,7 @@ is_held_by s r = holds r.birth r.death s
 abbrev pub holder_of : List ℕ → Record → Option ℕ
 holder_of living r = youngest_holder living r.birth r.death
 
+-- the part is a file page
 abbrev pub is_page : Part → Bool
 is_page (Page p) = true
 is_page Kind = false

@@ -14,6 +14,7 @@ part_on n Mode = Mode
 part_on n Size = Size
 part_on n Bound = Bound
 
+-- the record of the page that is so many pages behind
 abbrev pub record_on : ℕ → Record → Record
 record_on n r = record r { part = part_on n r.part }
 
@@ -30,12 +31,15 @@ PageRun more Mode = more ≡ 0
 PageRun more Size = more ≡ 0
 PageRun more Bound = more ≡ 0
 
+-- Record run: neighbours of one inode, entry, birth and death with rising consecutive pages are stored as one.
 pub record IsRun (r : RecordRun) : Type 0 where
   pub pages : PageRun r.more r.first.part
 
+-- the records of a run, in order
 abbrev pub run_records : RecordRun → List Record
 run_records r = series r.more r.first
 
+-- the last record of a run
 abbrev pub last_of : RecordRun → Record
 last_of r = record_on r.more r.first
 
@@ -49,12 +53,15 @@ abbrev pub records_left : Option RecordRun → List RecordRun → List Record
 records_left None runs = records_of runs
 records_left (Some run) runs = run_records run ++ records_of runs
 
+-- the second run goes on the first
 abbrev pub joins : RecordRun → RecordRun → Bool
 joins r s = goes_on (last_of r) s.first
 
+-- two runs as one
 abbrev pub joined : RecordRun → RecordRun → RecordRun
 joined r s = record { first = r.first; more = r.more + (1 + s.more) }
 
+-- the first run of a list goes on this one
 abbrev pub joins_in : RecordRun → List RecordRun → Bool
 joins_in r [] = false
 joins_in r (s ∷ rs) = joins r s

@@ -3,7 +3,7 @@ use Rattle.std.specs.Prelude.{◌≡◌, ℕ, ◌+◌, ◌≤◌, List, length}
 use Rattle.nv_base.specs.declared.limits.TheConstants.{NUMBER}
 use Rattle.nv_book.specs.declared.manifest.Manifest.{Manifest}
 use Rattle.nv_book.specs.declared.record.Record.{Record}
-use Rattle.nv_book.specs.Manifests.{record_count, runs_of}
+use Rattle.nv_book.specs.Manifests.{record_count, run_total}
 use Rattle.nv_book.specs.Records.{run_count_of}
 
 -- the manifests, oldest first, and the most there may be; the deferred list; how many records may be put without memory
@@ -19,5 +19,5 @@ pub record IsStore (store : Store) (count spare capacity : ℕ) : Type 0 where
   pub counted : record_count store.manifests + length store.deferred ≡ count
   pub fits : count + store.room ≤ NUMBER
   pub has_nodes : store.room ≤ spare
-  pub nodes_fit : runs_of store.manifests + run_count_of store.deferred + spare ≤ NUMBER
+  pub nodes_fit : run_total store.manifests + run_count_of store.deferred + spare ≤ NUMBER
   pub has_places : store.most ≤ capacity

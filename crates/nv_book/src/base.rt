@@ -85,6 +85,7 @@ impl Base {
 
     /// The epoch.
     pub fn epoch(&self) -> Epoch
+        // The base tells its epoch, its commit number and its living snapshots.
         ensures { result ≡ self.now.epoch }
     {
         self.epoch

@@ -1,18 +1,23 @@
 //! The value behind the commit lock.
 
-ghost use Rattle.std.specs.Prelude.{◌≡◌, ◌+◌, ◌<◌, ◌≤◌, ◌↔◌, [], length, map, replicate, slice_get, slice_index_or, IfErr, IfOk, IsOk, IsSome, IsTrue, OnErr, OnOk, Some, None};
+ghost use Rattle.std.specs.Prelude.{◌≡◌, ◌+◌, ◌<◌, ◌≤◌, ◌↔◌, ◌++◌, ℕ, List, [], All, length, map, replicate, slice_get, slice_index_or, IfErr, IfOk, IsOk, IsSome, IsTrue, OnErr, OnOk, Some, None};
+ghost use Rattle.std.specs.List.{AllByRecursion};
 ghost use Rattle.std.specs.Option.{ForSome, IsSomeAnd};
 ghost use Rattle.smallvec.specs.SmallVec.{small_vec_len};
 ghost use Rattle.nv_base.specs.declared.limits.TheConstants.{NUMBER, PINS};
 ghost use Rattle.nv_base.specs.Refusals.{FailsEither, FailsOnly, IsRefusedBy, KeepsOnErr};
-ghost use Rattle.nv_epoch.specs.Holders.{next_older};
+ghost use Rattle.nv_epoch.specs.Holders.{IsRising, next_older};
 ghost use Rattle.nv_epoch.specs.SnapList.{ids, pins_of};
 ghost use Rattle.nv_journal.specs.Journal.{AreDistinct};
-ghost use Rattle.nv_book.specs.Book.{BookState, BookValue, IsBookOf, empty_book, after_enter, after_pick, after_retire, retired_as, room_after, after_drop_snapshot, after_make_snapshot, after_pin_snapshot, after_unpin_snapshot, with_journal};
+ghost use Rattle.nv_book.specs.Book.{BookState, BookValue, IsBookOf, book_told, empty_book, after_enter, after_pick, after_retire, after_retiring, retired_as, room_after, after_drop_snapshot, after_make_snapshot, after_pin_snapshot, after_unpin_snapshot, with_journal};
 ghost use Rattle.nv_book.specs.History.{IsLegal, now_of, state_now};
-ghost use Rattle.nv_book.specs.Manifests.{AreDead, AreFiled, gain_of, held_of, runs_of};
+ghost use Rattle.nv_book.specs.Manifests.{AreDead, AreFiled, gain_of, held_of, run_total};
 ghost use Rattle.nv_book.specs.Records.{block_count, holder_of, run_count_of};
 ghost use Rattle.nv_base.specs.Memory.{out_of_memory};
+ghost use Rattle.nv_base.specs.declared.geometry.GeometryNumbers.{GeometryNumbers};
+ghost use Rattle.nv_book.specs.declared.record.Record.{Record};
+
+mod stopping;
 
 use crate::history::History;
 use crate::manifest::Manifest;
@@ -30,6 +35,7 @@ use std::marker::Model;
 /// the history.
 ///
 /// Contracts see its state, and apart from it the room that [`Book::enter`] made for records.
+/// Only tested: a book is `Send`.
 #[derive(Debug, Drop)]
 pub struct Book {
     alloc: Global,
@@ -58,6 +64,10 @@ impl Model for Book {
       room = b.store.room;
     } };
 
+    // Each record stands with its youngest living holder, or is deferred if it has none, and died by now.
+    // The latest events are legal after a base whose snapshots rise and lie below its epoch.
+    // They lead to the epoch, the commit number and the living snapshots of now; the commit number is at most 2^62.
+    // There are places for as many manifests as snapshots are allowed.
     ghost invariant = { λ b. IsBook b.snaps b.commit b.store b.history };
 }
 
@@ -78,6 +88,7 @@ impl Book {
     ///
     /// The only error is `OutOfMemory`.
     pub fn new(alloc: Global, geometry: &Geometry) -> Result<Book, Fault>
+        // A new book has epoch 1, commit 0, and no snapshots, records or notes.
         ensures ok { IfOk result (λ book. book ≡
             record { state = empty_book geometry.now.numbers 1 0; room = 0 }) }
         ensures err { FailsOnly out_of_memory result }
@@ -97,6 +108,7 @@ impl Book {
         requires some_epoch { 1 ≤ epoch }
         requires epoch_fits { epoch ≤ NUMBER }
         requires commit_fits { commit ≤ NUMBER }
+        // A book that is told so begins at another epoch and commit.
         ensures ok { IfOk result (λ book. book ≡
             record { state = empty_book geometry.now.numbers epoch commit; room = 0 }) }
         ensures err { FailsOnly out_of_memory result }
@@ -112,6 +124,43 @@ impl Book {
         })
     }
 
+    /// A book with these living snapshots, oldest first and without pins, in this epoch and after this commit, without
+    /// records and with room for `need` of them. Its history begins there. It costs what it makes room for.
+    ///
+    /// The only error is `OutOfMemory`. More than 2^62 records, which no device has parts for, count as want of memory.
+    pub fn rebuild(
+        alloc: Global,
+        geometry: &Geometry,
+        living: &[Epoch],
+        epoch: Epoch,
+        commit: CommitNo,
+        need: u64,
+    ) -> Result<Book, Fault>
+        requires rising { IsRising living.now }
+        requires below_epoch { All (λ s. s < epoch) living.now }
+        requires fits { length living.now ≤ geometry.now.numbers.snaps }
+        requires some_epoch { 1 ≤ epoch }
+        requires epoch_fits { epoch ≤ NUMBER }
+        requires commit_fits { commit ≤ NUMBER }
+        // A book anew has its snapshots, epoch and commit, and its history begins there.
+        // A book anew has room for the records asked for; the only error is `OutOfMemory`.
+        ensures ok { IfOk result (λ book. book ≡ record {
+          state = book_told geometry.now.numbers living.now epoch commit [];
+          room = need;
+        }) }
+        ensures err { FailsOnly out_of_memory result }
+    {
+        let snaps = geometry.numbers.snaps;
+        Ok(Book {
+            alloc,
+            snaps: SnapList::rebuild(alloc, snaps, living, epoch)?,
+            commit,
+            store: RecordStore::rebuild(alloc, snaps, living, need)?,
+            journals: closed_journals(alloc, geometry.numbers.cpus)?,
+            history: History::new(alloc)?,
+        })
+    }
+
     /// Fixes the number and epoch of the seat's commit, with room for `need` records: as many as the commit kills
     /// parts, those that turn out free included.
     ///
@@ -119,13 +168,19 @@ impl Book {
     /// is less than `need`. More than 2^62 records in all, which no device has parts for, count as want of memory. It
     /// costs what it makes room for, however many records and snapshots there are.
     pub fn enter(&mut self, seat: u64, need: u64) -> Result<(Epoch, CommitNo), Fault>
+        // A commit gets the next number and is noted.
+        // A commit that was entered has room for the records asked for, whatever manifests they go to.
         ensures ok { OnOk result (self.new ≡
             record { state = after_enter seat self.old.state; room = need }) }
+        // A commit gets the current epoch.
         ensures epoch { IfOk result (λ fixed. fixed.0 ≡ self.old.state.snaps.epoch) }
         ensures number { IfOk result (λ fixed. fixed.1 ≡ self.new.state.commit) }
+        // A commit at the last number is refused by `CommitLimit`, before want of memory.
         ensures limit { IsRefusedBy result Fault.CommitLimit ↔ (self.old.state.commit ≡ NUMBER) }
+        // Want of memory comes only where there was less room than is asked for.
         ensures enough { self.old.state.commit < NUMBER → need ≤ self.old.room → IsOk result }
         ensures err { FailsEither Fault.CommitLimit out_of_memory result }
+        // A refusal changes nothing, the room neither.
         ensures same { KeepsOnErr result self.old self.new }
     {
         if self.commit.number() == limits::NUMBER {
@@ -147,8 +202,12 @@ impl Book {
     /// it has one. It takes no memory, and costs the logarithm of the number of snapshots.
     pub fn retire(&mut self, killed: Record) -> Retired
         requires dead { killed.death ≤ self.old.state.snaps.epoch }
+        // As many records as were asked for are retired without memory.
         requires room { 0 < self.old.room }
+        // A retired record is free exactly where it has no holder.
         ensures answer { result ≡ retired_as (holder_of (ids self.old.state.snaps) killed) }
+        // A retired record goes to the manifest of its youngest living holder.
+        // A retired record stands at the end of its manifest, not among the deferred ones.
         ensures state { self.new.state ≡ after_retire killed self.old.state }
         ensures room { self.new.room ≡ room_after result self.old.room }
     {
@@ -166,20 +225,42 @@ impl Book {
         Retired::Kept
     }
 
+    /// Retires records one after another, as [`Book::retire`] does. Where the book was told by a list of records, it is
+    /// told by that list with these behind it.
+    /// It takes as much room at most as there are records, and no memory.
+    pub fn retire_all(&mut self, records: &[Record])
+        requires dead { AllByRecursion (λ r. r.death ≤ self.old.state.snaps.epoch) records.now }
+        requires room { length records.now ≤ self.old.room }
+        // Records retired in order tell the book, behind those before.
+        ensures state { self.new.state ≡ after_retiring records.now self.old.state }
+        ensures told { (numbers : GeometryNumbers) (living : List ℕ) (epoch commit : ℕ)
+            (rs : List Record) → self.old.state ≡ book_told numbers living epoch commit rs
+            → self.new.state ≡ book_told numbers living epoch commit (rs ++ records.now) }
+        ensures room { self.old.room ≤ self.new.room + length records.now }
+    {
+        for killed in records {
+            let _retired = self.retire(*killed);
+        }
+    }
+
     /// Makes a snapshot of the current epoch, which is its number, and begins the next epoch. It takes no memory, and
     /// constant time.
     ///
     /// `EpochLimit` where the epoch is 2^62, before `TooManySnapshots`.
+    /// A making and a drop take no memory.
     pub fn make_snapshot(&mut self) -> Result<Epoch, Fault>
         ensures made { IsOk result ↔
             ((self.old.state.snaps.epoch < NUMBER) ×
             (length self.old.state.snaps.living < self.old.state.snaps.most)) }
+        // The last epoch is refused first, then too many snapshots; a refusal changes nothing.
         ensures epoch_limit { IsRefusedBy result Fault.EpochLimit ↔
             (self.old.state.snaps.epoch ≡ NUMBER) }
         ensures too_many { IsRefusedBy result Fault.TooManySnapshots ↔
             ((self.old.state.snaps.epoch < NUMBER) ×
             (length self.old.state.snaps.living ≡ self.old.state.snaps.most)) }
+        // Making a snapshot begins the next epoch.
         ensures number { IfOk result (λ s. s ≡ self.old.state.snaps.epoch) }
+        // A making adds an empty manifest of the epoch that it ends.
         ensures ok { OnOk result (self.new ≡
             record self.old { state = after_make_snapshot self.old.state }) }
         ensures same { KeepsOnErr result self.old self.new }
@@ -197,14 +278,21 @@ impl Book {
     /// that of manifests, at most [`limits::SNAPS`] places each. It goes over no other snapshot.
     ///
     /// `NoSnapshot` where it doesn't live, before `Pinned`.
+    /// Records born by the next older snapshot move to the end of its manifest.
+    /// All records that were not born by it move to the end of the deferred list.
     pub fn drop_snapshot(&mut self, s: Epoch) -> Result<(), Fault>
+        // A dropped snapshot no longer lives.
         ensures dropped { IsOk result ↔ (pins_of self.old.state.snaps s ≡ Some 0) }
+        // A missing snapshot is refused first, then a pinned one; a refusal changes nothing.
         ensures no_snapshot { IsRefusedBy result Fault.NoSnapshot ↔
             (pins_of self.old.state.snaps s ≡ None) }
         ensures pinned { IsRefusedBy result Fault.Pinned ↔
             IsSomeAnd (pins_of self.old.state.snaps s) (λ pins. 0 < pins) }
+        // Records that a drop moves keep their order.
+        // A drop is noted in the history.
         ensures ok { OnOk result (self.new ≡
             record self.old { state = after_drop_snapshot s self.old.state }) }
+        // A drop defers as many blocks as `gain` told before.
         ensures gain { OnOk result (block_count self.new.state.deferred ≡
             block_count self.old.state.deferred
             + gain_of s (next_older (ids self.old.state.snaps) s) self.old.state.manifests) }
@@ -229,6 +317,7 @@ impl Book {
     /// whether one more is allowed.
     pub fn pin(&mut self, s: Epoch) -> Result<(), Fault>
         requires { ForSome (pins_of self.old.state.snaps s) (λ pins. pins < PINS) }
+        // A pin is one of the snapshot list, and nothing else changes.
         ensures pinned { IsOk result ↔ IsSome (pins_of self.old.state.snaps s) }
         ensures err { FailsOnly Fault.NoSnapshot result }
         ensures ok { OnOk result (self.new ≡
@@ -241,6 +330,7 @@ impl Book {
     /// Takes a pin from the snapshot `s`.
     pub fn unpin(&mut self, s: Epoch)
         requires { IsSomeAnd (pins_of self.old.state.snaps s) (λ pins. 0 < pins) }
+        // Taking a pin off is that of the snapshot list, and nothing else changes.
         ensures { self.new ≡ record self.old { state = after_unpin_snapshot s self.old.state } }
     {
         self.snaps.unpin(s);
@@ -248,6 +338,8 @@ impl Book {
 
     /// Takes the first deferred record out, if there is one, in constant time.
     pub fn pick(&mut self) -> Option<Record>
+        // A pick takes the first deferred record alone.
+        // A pick takes no record only where there is none.
         ensures first { result ≡ slice_get self.old.state.deferred 0 }
         ensures rest { self.new ≡ record self.old { state = after_pick self.old.state } }
     {
@@ -261,6 +353,7 @@ impl Book {
         requires two { 2 ≤ small_vec_len tails.now }
         requires four { small_vec_len tails.now ≤ 4 }
         requires distinct { AreDistinct tails.now.items }
+        // The journal of a CPU is opened, and no other.
         ensures { self.new ≡
             record self.old { state = with_journal cpu tails.now.items self.old.state } }
     {
@@ -271,6 +364,7 @@ impl Book {
     /// Closes the CPU's journal.
     pub fn close_journal(&mut self, cpu: u64)
         requires { cpu < length self.old.state.journals }
+        // The journal of a CPU is closed, and no other.
         ensures { self.new ≡ record self.old { state = with_journal cpu [] self.old.state } }
     {
         let journal = &mut self.journals[cpu as usize];
@@ -287,6 +381,7 @@ impl Book {
 
     /// How many CPUs there are, each with a journal.
     pub fn cpus(&self) -> u64
+        // For how many CPUs a book is, is told.
         ensures { result ≡ length self.now.state.journals }
     {
         self.journals.len() as u64
@@ -294,6 +389,7 @@ impl Book {
 
     /// Whether the book has a journal for each CPU of the geometry, and room for as many snapshots.
     pub fn made_for(&self, geometry: &Geometry) -> bool
+        // Whether a book has the numbers of a device is told.
         ensures { IsTrue result ↔ IsBookOf geometry.now.numbers self.now.state }
     {
         self.cpus() == geometry.numbers.cpus && self.snaps.most() == geometry.numbers.snaps
@@ -302,6 +398,7 @@ impl Book {
     /// How many blocks of recorded parts the living snapshot `s` holds; of any other number, how many of those in
     /// manifests were born by then and died later. It takes time by all runs.
     pub fn held(&self, s: Epoch) -> u64
+        // What a snapshot holds is the blocks of recorded parts with birth <= s < death.
         ensures { result ≡ held_of s self.now.state.manifests }
     {
         self.store.held(s)
@@ -313,6 +410,8 @@ impl Book {
     ///
     /// The only error is `OutOfMemory`.
     pub fn held_by_each(&self, alloc: Global) -> Result<Vec<u64>, Fault>
+        // What each living snapshot holds is told for all at once.
+        // A record counts for the snapshots from its birth on and before its death.
         ensures ok { let now = self.now.state in
             IfOk result (λ held. held.items
             ≡ map (λ s. held_of s now.manifests) (ids now.snaps)) }
@@ -325,6 +424,7 @@ impl Book {
 
     /// How many blocks a drop of the snapshot `s` puts on the deferred list. It takes time by the runs of its manifest.
     pub fn gain(&self, s: Epoch) -> u64
+        // The gain of a snapshot is how many blocks dropping it defers.
         ensures { result ≡
             gain_of s (next_older (ids self.now.state.snaps) s) self.now.state.manifests }
     {
@@ -340,6 +440,7 @@ impl Book {
 
     /// How many blocks the deferred records have. It takes time by their runs.
     pub fn deferred_blocks(&self) -> u64
+        // The deferred blocks are counted.
         ensures value { result ≡ block_count self.now.state.deferred }
         ensures few { result ≤ NUMBER }
     {
@@ -348,7 +449,9 @@ impl Book {
 
     /// How many runs the records are stored as. It takes time by the snapshots.
     pub fn stored(&self) -> u64
-        ensures { result ≡ runs_of self.now.state.manifests + run_count_of self.now.state.deferred }
+        // Records that go on are stored as one record run.
+        // Records that do not go on are stored as record runs of their own.
+        ensures { result ≡ run_total self.now.state.manifests + run_count_of self.now.state.deferred }
     {
         self.store.stored()
     }
@@ -356,8 +459,10 @@ impl Book {
     /// The living snapshots.
     pub fn snaps(&self) -> &SnapList
         ensures snaps { result.now ≡ self.now.state.snaps }
+        // Each record stands with its youngest living holder, or is deferred if it has none.
         ensures filed { let now = self.now.state in
             AreFiled (ids now.snaps) now.manifests now.deferred }
+        // Each record died by now.
         ensures dead { let now = self.now.state in
             AreDead now.snaps.epoch now.manifests now.deferred }
     {
@@ -389,8 +494,10 @@ impl Book {
     /// The latest events, after [`Book::base`].
     pub fn history(&self) -> &History
         ensures history { result.now ≡ self.now.state.history.latest }
+        // The history is legal.
         ensures legal { let now = self.now.state in
             IsLegal now.snaps.most now.history.base now.history.latest }
+        // The history leads to the epoch, the commit number and the living snapshots.
         ensures replayed { now_of self.now.state.history ≡
             state_now self.now.state.snaps self.now.state.commit }
     {
@@ -402,6 +509,8 @@ impl Book {
     ///
     /// The only error is `OutOfMemory`.
     pub fn base(&self) -> Result<Base, Fault>
+        // A base stands for the events before the latest.
+        // The latest events are undone in order, from the last on.
         ensures ok { IfOk result (λ base. base ≡ self.now.state.history.base) }
         ensures err { FailsOnly out_of_memory result }
     {

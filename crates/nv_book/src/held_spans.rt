@@ -5,7 +5,7 @@ ghost use Rattle.std.specs.List.{sum};
 ghost use Rattle.nv_base.specs.Memory.{out_of_memory};
 ghost use Rattle.nv_base.specs.Refusals.{FailsOnly};
 ghost use Rattle.nv_epoch.specs.Holders.{IsRising};
-ghost use Rattle.nv_book.specs.HeldSpans.{Adds, HasRoom, Tells};
+ghost use Rattle.nv_book.specs.HeldSpans.{AddsSpan, HasRoom, Tells};
 ghost use Rattle.nv_book.specs.Manifests.{held_of, snapshots};
 ghost use Rattle.nv_book.specs.Records.{is_held_by};
 ghost use Rattle.nv_book.specs.Runs.{pages_of};
@@ -69,7 +69,7 @@ impl HeldSpans {
         ensures room { (more : ℕ) →
             HasRoom self.old (length manifests.now) (pages_of run.now + more)
             → HasRoom self.new (length manifests.now) more }
-        ensures held { Adds (snapshots manifests.now)
+        ensures held { AddsSpan (snapshots manifests.now)
             (λ s. if is_held_by s run.now.first then pages_of run.now else 0) self.old self.new }
     {
         let first = count_below(manifests, run.first.birth);

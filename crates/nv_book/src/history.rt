@@ -32,6 +32,7 @@ impl Model for History {
 
     ghost view = { λ h. h.latest.items };
 
+    // It has at most 256 events.
     ghost invariant = { λ h. (h.latest.capacity ≡ LATEST) × (length h.latest.items ≤ LATEST) };
 }
 
@@ -87,6 +88,7 @@ impl History {
 
     /// Whether no event stands after the base.
     pub fn is_empty(&self) -> bool
+        // Whether a history has an event is told.
         ensures { IsTrue result ↔ (self.now ≡ []) }
     {
         self.len() == 0
@@ -94,6 +96,7 @@ impl History {
 
     /// The event at this place after the base, the oldest at 0.
     pub fn event(&self, place: usize) -> Option<Event>
+        // A history has at most the latest 256 events, and each is told.
         ensures { result ≡ slice_get self.now place }
     {
         self.latest.get(place).copied()

@@ -18,11 +18,13 @@ use nv_epoch::laws;
 
 /// A book tells the latest 256 events.
 pub fn histories_have_256_events()
+    // The constant `LATEST` is 256.
     ensures { LATEST ≡ 256 }
 {}
 
 /// A record that is put to the manifest of its youngest holder is filed.
 pub fn retiring_files()
+    // Retiring leaves each record with its youngest living holder.
     ensures kept { (living : List ℕ) (manifests : List Manifest) (deferred : List Record) (s : ℕ)
         (r : Record) →
         AreFiled living manifests deferred → holder_of living r ≡ Some s →
@@ -31,6 +33,7 @@ pub fn retiring_files()
 
 /// Making a snapshot adds an empty manifest, and every record stays where it is.
 pub fn making_files()
+    // Making a snapshot leaves each record with its youngest living holder.
     ensures made { (living : List ℕ) (epoch : ℕ) (manifests : List Manifest)
         (deferred : List Record) →
         AreDead epoch manifests deferred → AreFiled living manifests deferred →
@@ -42,6 +45,7 @@ pub fn making_files()
 /// A drop moves the records of its manifest to the end of the next older snapshot's where they were born by then, and
 /// defers the others. The gain is how many blocks it defers.
 pub fn dropping_files()
+    // A drop leaves each record with its youngest living holder, and defers what `gain` told.
     ensures dropped { (living : List ℕ) (s : ℕ) (manifests : List Manifest)
         (deferred : List Record) →
         IsRising living → AreFiled living manifests deferred →
@@ -57,6 +61,7 @@ pub fn dropping_files()
 /// Whatever is filed is told by one list of records: the manifests' records, oldest snapshot first, and the deferred
 /// ones after them.
 pub fn filed_records_are_listed()
+    // Whatever is filed has such a list.
     ensures { (living : List ℕ) (manifests : List Manifest) (deferred : List Record) →
         IsRising living → AreFiled living manifests deferred →
         IsRecordList living manifests deferred (all_records manifests ++ deferred) }
@@ -65,8 +70,11 @@ pub fn filed_records_are_listed()
 /// The manifests and the deferred list are told by one list of records: a retired record that has a holder
 /// goes to its end, a drop moves the records of its snapshot there in order, and a pick takes out the first
 /// without a living holder.
+/// Only tested: the slow book of the tests is such a list.
 pub fn one_list_tells_all()
+    // The manifests and the deferred list are told by one list of records, in its order.
     ensures begins { IsRecordList [] [] [] [] }
+    // That list tells the book after a retire, a making, a drop and a pick.
     ensures retired { (living : List ℕ) (manifests : List Manifest) (deferred rs : List Record)
         (r : Record) →
         IsRecordList living manifests deferred rs →

@@ -2,7 +2,7 @@
 
 ghost use Rattle.std.specs.Prelude.{◌≡◌, ℕ, ◌+◌, ◌-◌, ◌<◌, ◌≤◌, ◌^◌, [], ◌∷◌, ◌++◌, length, slice_index, slice_set, vec_capacity, Some, None};
 ghost use Rattle.nv_epoch.specs.Holders.{IsRising, next_older};
-ghost use Rattle.nv_book.specs.Manifests.{snapshots, records_at, put_to, after_drop, record_count, runs_of};
+ghost use Rattle.nv_book.specs.Manifests.{snapshots, records_at, put_to, after_drop, record_count, run_total};
 ghost use Rattle.nv_book.specs.Records.{run_count_of, let_go};
 
 use crate::Record;
@@ -31,10 +31,10 @@ pub fn retire_to(
     requires within { place < length manifests.old.items }
     requires at { slice_index (snapshots manifests.old.items) place ≡ s }
     requires spare { 0 < spare.old }
-    requires fits { runs_of manifests.old.items + spare.old < 2 ^ 63 }
+    requires fits { run_total manifests.old.items + spare.old < 2 ^ 63 }
     ensures manifests { manifests.new.items ≡ put_to (Some s) (last ∷ []) manifests.old.items }
-    ensures room { spare.new + runs_of manifests.new.items ≡
-        spare.old + runs_of manifests.old.items }
+    ensures room { spare.new + run_total manifests.new.items ≡
+        spare.old + run_total manifests.old.items }
     ensures one { spare.old ≤ spare.new + 1 }
     ensures count { record_count manifests.new.items ≡ record_count manifests.old.items + 1 }
     ensures places { vec_capacity manifests.new ≡ vec_capacity manifests.old }
@@ -61,12 +61,12 @@ pub fn drop_at(
     requires oldest { place ≡ 0 → older.now ≡ None }
     requires older { 0 < place → older.now ≡
         Some (slice_index (snapshots manifests.old.items) (place - 1)) }
-    requires fits { runs_of manifests.old.items + run_count_of deferred.old < 2 ^ 63 }
+    requires fits { run_total manifests.old.items + run_count_of deferred.old < 2 ^ 63 }
     ensures manifests { manifests.new.items ≡ after_drop s older.now manifests.old.items }
     ensures deferred { deferred.new ≡
         deferred.old ++ let_go older.now (records_at s manifests.old.items) }
-    ensures room { runs_of manifests.new.items + run_count_of deferred.new ≤
-        runs_of manifests.old.items + run_count_of deferred.old }
+    ensures room { run_total manifests.new.items + run_count_of deferred.new ≤
+        run_total manifests.old.items + run_count_of deferred.old }
     ensures count { record_count manifests.new.items + length deferred.new ≡
         record_count manifests.old.items + length deferred.old }
     ensures places { vec_capacity manifests.new ≡ vec_capacity manifests.old }

@@ -50,6 +50,7 @@ impl Record {
 
     /// Whether the snapshot `s` holds the part.
     pub fn is_held_by(&self, s: Epoch) -> bool
+        // Whether a snapshot holds a record is told.
         ensures { result ≡ is_held_by s self.now }
     {
         self.birth <= s && s < self.death
@@ -57,6 +58,7 @@ impl Record {
 
     /// Whether the part is a page, which has a block.
     pub fn is_page(&self) -> bool
+        // Whether a record is of a page is told.
         ensures { result ≡ is_page self.now.part }
     {
         matches!(self.part, Part::Page(_))

@@ -4,7 +4,8 @@ ghost use Rattle.std.specs.Prelude.{◌≡◌, ◌+◌, ◌-◌, ◌<◌, ◌≤
 ghost use Rattle.nv_base.specs.declared.limits.TheConstants.{NUMBER};
 ghost use Rattle.nv_base.specs.Refusals.{FailsOnly};
 ghost use Rattle.nv_epoch.specs.Holders.{IsRising};
-ghost use Rattle.nv_book.specs.Manifests.{snapshots, records_at, put_to, after_drop, after_make, runs_of, held_of, gain_of};
+ghost use Rattle.nv_book.specs.Listed.{manifest_of};
+ghost use Rattle.nv_book.specs.Manifests.{snapshots, records_at, put_to, after_drop, after_make, run_total, held_of, gain_of};
 ghost use Rattle.nv_book.specs.Records.{block_count, run_count_of, let_go};
 ghost use Rattle.nv_book.specs.Store.{Store};
 ghost use Rattle.nv_base.specs.Memory.{out_of_memory};
@@ -45,6 +46,9 @@ impl Model for RecordStore {
       room = s.room;
     } };
 
+    // Its records are counted; with those that there is room for they are at most 2^62.
+    // There is a spare node for each record that there is room for; all nodes are at most 2^62; there is room for
+    // the most manifests.
     ghost invariant = { λ s. IsStore (record {
       manifests = s.manifests.items;
       most = s.most;
@@ -71,6 +75,33 @@ impl RecordStore {
             count: 0,
             room: 0,
         })
+    }
+
+    /// An empty manifest for each of these snapshots, oldest first, with places for so many in all, and room for `need`
+    /// records.
+    ///
+    /// The only error is `OutOfMemory`.
+    pub fn rebuild(
+        alloc: Global,
+        most: u64,
+        living: &[Epoch],
+        need: u64,
+    ) -> Result<RecordStore, Fault>
+        requires { length living.now ≤ most }
+        ensures ok { IfOk result (λ store. store ≡ record {
+          manifests = map (λ s. manifest_of s []) living.now;
+          most = most;
+          deferred = [];
+          room = need;
+        }) }
+        ensures err { FailsOnly out_of_memory result }
+    {
+        let mut store = RecordStore::new(alloc, most)?;
+        for s in living {
+            store.make(alloc, *s);
+        }
+        store.reserve(need)?;
+        Ok(store)
     }
 
     /// Makes room for so many records, one spare node for each.
@@ -154,7 +185,7 @@ impl RecordStore {
 
     /// How many runs the records are stored as. It takes time by the manifests.
     pub fn stored(&self) -> u64
-        ensures { result ≡ runs_of self.now.manifests + run_count_of self.now.deferred }
+        ensures { result ≡ run_total self.now.manifests + run_count_of self.now.deferred }
     {
         let mut count = self.deferred.stored() as u64;
         for m in &self.manifests {

@@ -2,7 +2,7 @@
 
 ghost use Rattle.std.specs.Prelude.{◌≡◌, ℕ, ◌+◌, ◌<◌, ◌≤◌, ◌^◌, [], ◌∷◌, ◌++◌, drop, filter, length, slice_get};
 ghost use Rattle.nv_epoch.specs.Holders.{IsRising};
-ghost use Rattle.nv_book.specs.HeldSpans.{Adds, HasRoom};
+ghost use Rattle.nv_book.specs.HeldSpans.{AddsSpan, HasRoom};
 ghost use Rattle.nv_book.specs.Manifests.{snapshots};
 ghost use Rattle.nv_book.specs.Records.{block_count, is_held_by, let_go, moved_down, run_count_of};
 
@@ -32,6 +32,7 @@ impl Model for Records {
 
     ghost view = { λ l. records_of l.runs };
 
+    // Its record runs are runs, and no two neighbours are one; so in what a `RecordIter` has left.
     ghost invariant = { λ l. AreRuns l.runs };
 }
 
@@ -81,6 +82,7 @@ impl Records {
 
     /// The records one by one, in order.
     pub fn iter(&self) -> RecordIter<'_>
+        // The records of a manifest and of the deferred list are read one by one, in order.
         ensures { result ≡ self.now }
     {
         RecordIter::new(self.runs.iter())
@@ -109,7 +111,7 @@ impl Records {
         requires room { HasRoom spans.old (length manifests.now) (length self.now) }
         ensures room { (more : ℕ) → HasRoom spans.old (length manifests.now) (length self.now + more)
             → HasRoom spans.new (length manifests.now) more }
-        ensures held { Adds (snapshots manifests.now)
+        ensures held { AddsSpan (snapshots manifests.now)
             (λ s. block_count (filter (is_held_by s) self.now)) spans.old spans.new }
     {
         runs::span(&self.runs, manifests, spans);

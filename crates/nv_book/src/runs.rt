@@ -2,7 +2,7 @@
 
 ghost use Rattle.std.specs.Prelude.{◌≡◌, ℕ, ◌+◌, ◌<◌, ◌≤◌, ◌^◌, [], ◌∷◌, ◌++◌, if◌then◌else◌, drop, length, filter, not, slice_get, sum_by};
 ghost use Rattle.nv_epoch.specs.Holders.{IsRising};
-ghost use Rattle.nv_book.specs.HeldSpans.{Adds, HasRoom};
+ghost use Rattle.nv_book.specs.HeldSpans.{AddsSpan, HasRoom};
 ghost use Rattle.nv_book.specs.Manifests.{snapshots};
 ghost use Rattle.nv_book.specs.Records.{is_born_by, is_held_by};
 ghost use Rattle.nv_book.specs.Runs.{IsRun, AreRuns, joins_last, pages_of, pages_where, put, records_of};
@@ -182,7 +182,7 @@ pub fn span(list: &LinkedList<RecordRun>, manifests: &[Manifest], spans: &mut He
     ensures room { (more : ℕ) →
         HasRoom spans.old (length manifests.now) (sum_by pages_of list.now + more)
         → HasRoom spans.new (length manifests.now) more }
-    ensures held { Adds (snapshots manifests.now) (λ s. pages_where (is_held_by s) list.now)
+    ensures held { AddsSpan (snapshots manifests.now) (λ s. pages_where (is_held_by s) list.now)
         spans.old spans.new }
 {
     for run in list.iter() {

@@ -16,7 +16,7 @@ use Rattle.nv_calls.specs.declared.allocation.Allocation.{Allocation}
 use Rattle.nv_calls.specs.declared.call.Call.{Call}
 use Rattle.nv_calls.specs.declared.call.Call.TheVariants as call
 use Rattle.nv_calls.specs.declared.plan.InodePlan.{InodePlan}
-use Rattle.nv_calls.specs.Locked.{made_by}
+use Rattle.nv_calls.specs.Locked.{handles_made_by}
 use Rattle.nv_calls.specs.Plain.{node_in, same_handle}
 use Rattle.nv_calls.specs.Plan.{AreFewApart}
 use Rattle.nv_calls.specs.Refusals.{Check, and_find, found, found_by, is_directory, kind_of, passes, refuse_if, want_bound, want_directory, want_lawful}
@@ -155,7 +155,7 @@ module _ (block : ℕ) (nodes : Handle → Option NodeCopy) (taken : Allocation)
 
   -- an inode that is made is none of those that are there
   pub all_apart : (c : Call) → refusal block nodes c ≡ passes
-      → AllByRecursion (λ (made : Handle). (other : Handle) → IsThere (nodes other) → made.ino ≢ other.ino) (made_by taken.made c)
+      → AllByRecursion (λ (made : Handle). (other : Handle) → IsThere (nodes other) → made.ino ≢ other.ino) (handles_made_by taken.made c)
       → AreFewApart (plan block nodes taken c)
   all_apart (call.Create dir name mode) h r =
       few_two _ _ (r.0 dir (there Dir (nodes dir) (directory_passed (nodes dir) _ h).0))
@@ -190,7 +190,7 @@ few_apart bytes block slots taken c h r =
     is_new : (c : Call) → IsReady bytes block slots (node_in (node_under bytes block slots)) taken c
         → AllByRecursion (λ (made : Handle). (other : Handle) → IsThere (node_in (node_under bytes block slots) other)
         → made.ino ≢ other.ino)
-        (made_by taken.made c)
+        (handles_made_by taken.made c)
     is_new (call.Create dir name mode) r = (λ other t. free_apart bytes block slots taken.made other r t, tt)
     is_new (call.Mkdir dir name mode) r = (λ other t. free_apart bytes block slots taken.made other r t, tt)
     is_new (call.Write file offset text) r = tt

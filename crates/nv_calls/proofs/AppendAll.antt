@@ -16,7 +16,7 @@ use Rattle.nv_log.specs.Chain.{ChainState}
 use Rattle.nv_calls.specs.CanCommit.{CanAppendAll, CanTakeItems, numbers_of_all}
 use Rattle.nv_calls.specs.Cells.{OnlyAt, state_at, value_at, with_value}
 use Rattle.nv_calls.specs.Commit.{CommitValue, after_append, to_append}
-use Rattle.nv_calls.specs.Committed.{block_count, entry_count, grown, hand_before, page_count, place_before, place_of}
+use Rattle.nv_calls.specs.Committed.{block_count, entry_count, grown, hand_before, page_count, place_before, cell_place_of}
 use Rattle.nv_calls.specs.PlanByPlan.{AppendsTo}
 use Rattle.nv_calls.specs.Ready.{ArePlaced, CellCommitValue, no_plan, plan_at}
 use Rattle.nv_calls.specs.Steps.{CanAppendPlan, hand_after, numbers_in, with_plan, without_front}
@@ -49,7 +49,7 @@ front_more n m queue =
     (drop-drop m n queue.blocks) room
 
 hand_more : (cells : List (ℕ × CellValue)) (start : CommitValue) (j : ℕ) → j < length start.plans
-    → hand_after (plan_at start.plans j).items (state_at cells (place_of start.plans j)).chain (hand_before cells start j)
+    → hand_after (plan_at start.plans j).items (state_at cells (cell_place_of start.plans j)).chain (hand_before cells start j)
     ≡ hand_before cells start (j + 1)
 hand_more cells start j lt =
     let blocks : sum_by block_count (take (j + 1) start.plans) ≡ sum_by block_count (take j start.plans) + block_count
@@ -162,20 +162,20 @@ module _ (j : ℕ) (cells : List (ℕ × CellValue)) (start : CommitValue) (now 
         plans = plans_more j start.plans commit.plans later.plans (record (to_append commit) { items = [] }) lt way.plans
             (ap (λ (c : CommitValue). c.plans) is
             ∙ ap (λ (n : ℕ). slice_set commit.plans n (record (to_append commit) { items = [] })) appended_is)
-            (ap (λ (n : ℕ). place_of commit.plans n) appended_is);
+            (ap (λ (n : ℕ). cell_place_of commit.plans n) appended_is);
         is = rest ∙ ap₂ (λ (h : Hand) (n : ℕ × ℕ). let c : CommitValue = record start {
           plans = later.plans;
           hand = h;
           place = n.0;
           appended = n.1;
         } in c) hand (ap₂ (λ (a b : ℕ). (a, b)) place count);
-        rooms = below_more (λ i. (value_at new (place_of start.plans i)).room ≡ (grown cells start i).room) j
-            (λ i li. ap (λ (v : CellValue). v.room) (other-only now new plan.at (place_of start.plans i) changed
+        rooms = below_more (λ i. (value_at new (cell_place_of start.plans i)).room ≡ (grown cells start i).room) j
+            (λ i li. ap (λ (v : CellValue). v.room) (other-only now new plan.at (cell_place_of start.plans i) changed
             (apart cells start.plans placed i j (omega (arith, li, lt)) lt (λ e. omega (arith, li, e))))
             ∙ way.rooms i li) (ap (λ (v : CellValue). v.room) value);
-        ready = below_more (λ i. IsReadyFor [] (value_at new (place_of start.plans i))) j
+        ready = below_more (λ i. IsReadyFor [] (value_at new (cell_place_of start.plans i))) j
             (λ i li. subst (λ (v : CellValue). IsReadyFor [] v)
-            (sym (other-only now new plan.at (place_of start.plans i) changed
+            (sym (other-only now new plan.at (cell_place_of start.plans i) changed
             (apart cells start.plans placed i j (omega (arith, li, lt)) lt (λ e. omega (arith, li, e)))))
             (way.ready i li)) own;
       }

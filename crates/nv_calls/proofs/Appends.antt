@@ -17,7 +17,7 @@ use Rattle.nv_cell.specs.Append.{MayAppend, blocks_for}
 use Rattle.nv_cell.specs.Cell.{CellState, CellValue}
 use Rattle.nv_cell.specs.Room.{IsReadyFor}
 use Rattle.nv_cell.proofs.ReadySteps.{adds_page, first_may, others_ready, page_ready}
-use Rattle.nv_calls.specs.Steps.{HaveBlocks, IsLater, MayFollow, id_at, numbers_in, stamped_entry, with_entry, with_pages, without_front}
+use Rattle.nv_calls.specs.Steps.{HaveBlocks, IsLater, MayFollow, id_at, numbers_in, stamped_entry, with_entry, with_new_pages, without_front}
 use Rattle.nv_calls.proofs.CellLists.{value_is}
 use Rattle.nv_calls.specs.declared.stamp.Stamp.{Stamp}
 
@@ -144,7 +144,7 @@ page_more b v = record {
 }
 
 paged : (bs : List BlockValue) (n : ℕ) (b : BlockValue) (v : CellValue) → Some b ≡ slice_get (drop n bs) 0
-    → page_more b (with_pages (take n bs) v) ≡ with_pages (take (n + 1) bs) v
+    → page_more b (with_new_pages (take n bs) v) ≡ with_new_pages (take (n + 1) bs) v
 paged bs n b v h =
     let taken = next_taken bs n b h in
     let len : length (take (n + 1) bs) ≡ length (take n bs) + 1 = ap length taken ∙ length-append (take n bs) (b ∷ []) in
@@ -156,7 +156,7 @@ paged bs n b v h =
       room = record v.room { pages = p };
     } in w) blocks pages
 
-pub no_pages : (v : CellValue) → v ≡ with_pages [] v
+pub no_pages : (v : CellValue) → v ≡ with_new_pages [] v
 no_pages v =
     let blocks : v.state.chain.blocks ≡ v.state.chain.blocks ++ [] = sym (append-nil v.state.chain.blocks) in
     let pages : v.room.pages ≡ v.room.pages - 0 = omega arith in
@@ -187,12 +187,12 @@ none_front queue =
 
 -- a page more in the course of several
 pub record IsPaged (n : ℕ) (v0 now new : CellValue) (bs : List BlockValue) : Type 0 where
-  pub value : new ≡ with_pages (take (n + 1) bs) v0
+  pub value : new ≡ with_new_pages (take (n + 1) bs) v0
   pub ready : (items : List Item) → IsReadyFor items now → IsReadyFor items new
   pub more : room_of new.state.chain ≡ room_of now.state.chain + now.state.chain.page
 
 pub page_added : (n : ℕ) (v0 now new : CellValue) (bs : List BlockValue) (b : BlockValue) → Some b ≡ slice_get (drop n bs) 0
-    → IsChain now.state.chain → now ≡ with_pages (take n bs) v0
+    → IsChain now.state.chain → now ≡ with_new_pages (take n bs) v0
     → new.state ≡ (page_more b now).state → new.room ≡ (page_more b now).room → IsPaged n v0 now new bs
 page_added n v0 now new bs b here is now_is state room = record {
   value = value_is new _ _ state room ∙ ap (page_more b) now_is ∙ paged bs n b v0 here;

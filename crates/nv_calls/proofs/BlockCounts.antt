@@ -27,10 +27,10 @@ use Rattle.nv_cell.proofs.Outs.{AreEmptied, appended_emptied, cell_emptied, kept
 use Rattle.nv_calls.specs.CanCommit.{CanCommit, goes, numbers_of_all}
 use Rattle.nv_calls.specs.Cells.{no_cell, state_at, value_at}
 use Rattle.nv_calls.specs.Commit.{CommitValue, begun, stamp_of}
-use Rattle.nv_calls.specs.Committed.{ChangesPlanned, Killing, block_count, committed, grown, hand_after_killings, hand_before, hand_left, killing, page_count, place_before, place_of}
+use Rattle.nv_calls.specs.Committed.{ChangesPlanned, Killing, block_count, committed, grown, hand_after_killings, hand_before, hand_left, killing, page_count, place_before, cell_place_of}
 use Rattle.nv_calls.specs.Ready.{CellCommitValue, ReadyValue, no_plan, plan_at}
 use Rattle.nv_calls.specs.Retiring.{erased, freed, freed_by, freed_one, hand_with, keeper_of, number_back, retired, retired_one, settled, with_back}
-use Rattle.nv_calls.specs.Steps.{numbers_in, pages_from, stamped_entries, with_entries, with_entry, with_pages, with_plan}
+use Rattle.nv_calls.specs.Steps.{numbers_in, pages_from, stamped_entries, with_entries, with_entry, with_new_pages, with_plan}
 use Rattle.nv_calls.specs.declared.stamp.Stamp.{Stamp}
 use Rattle.nv_calls.proofs.Appends.{numbers-cons}
 use Rattle.nv_calls.proofs.Commits.{entries-items}
@@ -108,7 +108,7 @@ module _ (stamp : Stamp) (place : ℕ) (items : List Item) (hand : Hand) (cell :
   count_plan few =
       omega (
         arith,
-        count_entries made hand.«data».blocks (with_pages pages cell) fits,
+        count_entries made hand.«data».blocks (with_new_pages pages cell) fits,
         ap (λ (xs : List Item). length (numbers_in xs)) items_are,
         length-append cell.state.chain.blocks pages,
         length-take-le (pages_for cell.state.chain (length items)) hand.pages.blocks few,
@@ -116,11 +116,11 @@ module _ (stamp : Stamp) (place : ℕ) (items : List Item) (hand : Hand) (cell :
 
   plan_emptied : AllByRecursion IsWithinFile items → AreEmptied cell.state → AreEmptied (with_plan stamp place items hand cell).state
   plan_emptied within h =
-      entries_emptied made hand.«data».blocks (with_pages pages cell) (subst (AllByRecursion IsWithinFile) (sym items_are) within) fits
+      entries_emptied made hand.«data».blocks (with_new_pages pages cell) (subst (AllByRecursion IsWithinFile) (sym items_are) within) fits
       (record { len = h.len; few = h.few; out = h.out })
 
   plan_marks : (with_plan stamp place items hand cell).state.marks ≡ cell.state.marks
-  plan_marks = same_marks made hand.«data».blocks (with_pages pages cell)
+  plan_marks = same_marks made hand.«data».blocks (with_new_pages pages cell)
 
 -- ---- retiring
 
@@ -221,7 +221,7 @@ module _ (cells : List (ℕ × CellValue)) (book : BookValue) (cpu : ℕ) (ready
   plans = ready.plans
 
   abbrev before : ℕ → CellState
-  before j = state_at cells (place_of plans j)
+  before j = state_at cells (cell_place_of plans j)
 
   abbrev full : ℕ → CellState
   full j = (grown cells start j).state
@@ -266,10 +266,10 @@ module _ (cells : List (ℕ × CellValue)) (book : BookValue) (cpu : ℕ) (ready
       → block_total (full j) ≡ block_total (before j) + page_count cells (plan_at plans j) + block_count (plan_at plans j)
   full_count j lt =
       count_plan start.stamp (place_before plans j) (plan_at plans j).items (hand_before cells start j)
-      (value_at cells (place_of plans j)) (own_data j lt) (own_pages j lt)
+      (value_at cells (cell_place_of plans j)) (own_data j lt) (own_pages j lt)
 
   is_cell : (j : ℕ) → j < length plans → IsCell (before j)
-  is_cell j lt = are (place_of plans j) (can.placed.within j lt)
+  is_cell j lt = are (cell_place_of plans j) (can.placed.within j lt)
 
   is_grown : (j : ℕ) → j < length plans
       → IsGrown (stamped_entries start.stamp (place_before plans j) (plan_at plans j).items) (plan_at plans j).items (before j)
@@ -279,13 +279,13 @@ module _ (cells : List (ℕ × CellValue)) (book : BookValue) (cpu : ℕ) (ready
   full_emptied : (j : ℕ) → j < length plans → AreEmptied (full j)
   full_emptied j lt =
       plan_emptied start.stamp (place_before plans j) (plan_at plans j).items (hand_before cells start j)
-      (value_at cells (place_of plans j)) (own_data j lt) (can.append.each j lt).within (cell_emptied (before j) (is_cell j lt))
+      (value_at cells (cell_place_of plans j)) (own_data j lt) (can.append.each j lt).within (cell_emptied (before j) (is_cell j lt))
 
   full_marks : (j : ℕ) → j < length plans → HasMarks (full j)
   full_marks j lt =
       let g = is_grown j lt in
       let same = plan_marks start.stamp (place_before plans j) (plan_at plans j).items (hand_before cells start j)
-      (value_at cells (place_of plans j)) (own_data j lt) in
+      (value_at cells (cell_place_of plans j)) (own_data j lt) in
       let old : HasMarks (before j) = (is_cell j lt).marks in
       record {
         len = ap length same ∙ old.len ∙ ap part_total (sym g.log);
@@ -383,9 +383,9 @@ module _ (cells : List (ℕ × CellValue)) (book : BookValue) (cpu : ℕ) (ready
       let f : ℕ → ℕ = λ k. block_total (state_at cells k) in
       let g : ℕ → ℕ = λ k. block_total (state_at now k) in
       let first : Hand = record (hand_before cells start n) { ino = None } in
-      let there = moved f g (place_of plans) n (length cells) can.placed.within (λ i j lt low. can.placed.rising i j no_plan lt low)
+      let there = moved f g (cell_place_of plans) n (length cells) can.placed.within (λ i j lt low. can.placed.rising i j no_plan lt low)
       (λ k lt none. ap (λ (v : CellValue). block_total v.state) (changes.others k none)) in
-      let becomes = same_sum (λ j. g (place_of plans j)) (λ j. block_total (committed living cells start j)) n
+      let becomes = same_sum (λ j. g (cell_place_of plans j)) (λ j. block_total (committed living cells start j)) n
       (λ j lt. ap block_total (changes.planned j lt)) in
       omega (
         arith,

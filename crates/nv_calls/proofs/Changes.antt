@@ -5,7 +5,7 @@ use Rattle.std.proofs.lemmas.Bool.{eqb-true, eqb-false, ltb-true, ltb-false}
 use Rattle.std.proofs.lemmas.List.{get_or-set_other, get_or-set_same, length-set}
 use Rattle.nv_cell.specs.Cell.{CellState, CellValue}
 use Rattle.nv_calls.specs.Cells.{OnlyAt, state_at, value_at}
-use Rattle.nv_calls.specs.Committed.{ChangesPlanned, place_of}
+use Rattle.nv_calls.specs.Committed.{ChangesPlanned, cell_place_of}
 use Rattle.nv_calls.specs.PlanByPlan.{ArePlansFrom, IsChangedTo}
 use Rattle.nv_calls.specs.Ready.{ArePlaced, CellCommitValue, no_plan, plan_at}
 use Rattle.nv_calls.proofs.CellLists.{ino-only, length-only, other-only}
@@ -13,7 +13,7 @@ use Rattle.nv_calls.proofs.CellLists.{ino-only, length-only, other-only}
 -- two plans are of two cells
 pub apart : (cells : List (ℕ × CellValue)) (plans : List CellCommitValue) → ArePlaced cells plans → (i j : ℕ) → i < length plans
     → j < length plans
-    → (i ≡ j → ⊥) → place_of plans i ≡ place_of plans j → ⊥
+    → (i ≡ j → ⊥) → cell_place_of plans i ≡ cell_place_of plans j → ⊥
 apart cells plans placed i j li lj differ same = go (nat_lt i j) refl where
   go : (b : Bool) → nat_lt i j ≡ b → ⊥
   go true q = let less = placed.rising i j no_plan (ltb-true i j q) lj in omega (arith, less, same)
@@ -24,7 +24,7 @@ apart cells plans placed i j li lj differ same = go (nat_lt i j) refl where
 
 -- there are no more plans than cells
 at_least : (cells : List (ℕ × CellValue)) (plans : List CellCommitValue) → ArePlaced cells plans → (j : ℕ) → j < length plans
-    → j ≤ place_of plans j
+    → j ≤ cell_place_of plans j
 at_least cells plans placed zero lt = omega arith
 at_least cells plans placed (suc j) lt =
     let step : j < suc j = omega arith in
@@ -47,16 +47,16 @@ none_changed plans becomes cells = record {
 }
 
 pub one_more : (j : ℕ) (plans : List CellCommitValue) (becomes : ℕ → CellState) (old now new : List (ℕ × CellValue)) → ArePlaced old plans
-    → j < length plans → IsChangedTo j plans becomes old now → OnlyAt (place_of plans j) now new
-    → state_at new (place_of plans j) ≡ becomes j → IsChangedTo (j + 1) plans becomes old new
+    → j < length plans → IsChangedTo j plans becomes old now → OnlyAt (cell_place_of plans j) now new
+    → state_at new (cell_place_of plans j) ≡ becomes j → IsChangedTo (j + 1) plans becomes old new
 one_more j plans becomes old now new placed lt way only state =
-    let at : ℕ = place_of plans j in
-    let stays : (i : ℕ) → i < length plans → (i ≡ j → ⊥) → value_at new (place_of plans i) ≡ value_at now (place_of plans i) =
-    λ i li differ. other-only now new at (place_of plans i) only (apart old plans placed i j li lt differ) in
+    let at : ℕ = cell_place_of plans j in
+    let stays : (i : ℕ) → i < length plans → (i ≡ j → ⊥) → value_at new (cell_place_of plans i) ≡ value_at now (cell_place_of plans i) =
+    λ i li differ. other-only now new at (cell_place_of plans i) only (apart old plans placed i j li lt differ) in
     record {
       count = length-only now new at only ∙ way.count;
       numbers = λ k. ino-only now new at k only ∙ way.numbers k;
-      done = below_more (λ i. state_at new (place_of plans i) ≡ becomes i) j
+      done = below_more (λ i. state_at new (cell_place_of plans i) ≡ becomes i) j
           (λ i li. ap (λ (v : CellValue). v.state) (stays i (omega (arith, li, lt)) (λ e. omega (arith, li, e))) ∙ way.done i li) state;
       waiting = λ i le li. stays i li (λ e. omega (arith, le, e)) ∙ way.waiting i (omega (arith, le)) li;
       others = λ k un. other-only now new at k only (λ e. un j lt (sym e)) ∙ way.others k un;
@@ -85,7 +85,7 @@ plan_own now new j p is lt = ap (λ (ps : List CellCommitValue). plan_at ps j) i
 
 pub plans_more : (j : ℕ) (old now new : List CellCommitValue) (p : CellCommitValue) → j < length old → ArePlansFrom j old now
     → new ≡ slice_set now j p
-    → p.at ≡ place_of now j → ArePlansFrom (j + 1) old new
+    → p.at ≡ cell_place_of now j → ArePlansFrom (j + 1) old new
 plans_more j old now new p lt way is at =
     let within : j < length now = omega (arith, lt, way.same.count) in
     let other : (i : ℕ) → (i ≡ j → ⊥) → plan_at new i ≡ plan_at now i = λ i differ. plan_other now new j i p is differ in
@@ -98,9 +98,9 @@ plans_more j old now new p lt way is at =
       rest = λ i le. other i (λ e. omega (arith, le, e)) ∙ way.rest i (omega (arith, le));
     } where
       go : (i : ℕ) (b : Bool) → nat_eq i j ≡ b → ((k : ℕ) → (k ≡ j → ⊥) → plan_at new k ≡ plan_at now k) → plan_at new j ≡ p
-          → place_of new i ≡ place_of old i
+          → cell_place_of new i ≡ cell_place_of old i
       go i true q other own =
           let e : i ≡ j = eqb-true i j q in
-          subst (λ (k : ℕ). place_of new k ≡ place_of old k) (sym e) (ap (λ (x : CellCommitValue). x.at) own ∙ at ∙ way.same.places j)
+          subst (λ (k : ℕ). cell_place_of new k ≡ cell_place_of old k) (sym e) (ap (λ (x : CellCommitValue). x.at) own ∙ at ∙ way.same.places j)
       go i false q other own =
           ap (λ (x : CellCommitValue). x.at) (other i (eqb-false i j q)) ∙ way.same.places i

@@ -22,7 +22,7 @@ use Rattle.nv_journal.specs.declared.old_tail.OldTail.{OldTail}
 use Rattle.nv_calls.specs.CanCommit.{CanBePublished, CanCommit, CanRetireAll, KillsAsTold, goes}
 use Rattle.nv_calls.specs.Cells.{AreCells, ino_at, no_cell, state_at, value_at}
 use Rattle.nv_calls.specs.Commit.{CommitValue, ReceiptValue, begun, receipt_of, stamp_of}
-use Rattle.nv_calls.specs.Committed.{ChangesPlanned, HaveAppendRoom, HaveSamePlaces, Killing, committed, grown, hand_after_killings, hand_before, journaled, killed_count, killing, manifests_after, noted_killing, place_before, place_of, receipt_by, room_left, settled_cell, settled_room}
+use Rattle.nv_calls.specs.Committed.{ChangesPlanned, HaveAppendRoom, HaveSamePlaces, Killing, committed, grown, hand_after_killings, hand_before, journaled, killed_count, killing, manifests_after, noted_killing, place_before, cell_place_of, receipt_by, room_left, settled_cell, settled_room}
 use Rattle.nv_calls.specs.Ready.{ArePlaced, CellCommitValue, ReadyValue, kills_of, need_of, no_plan, old_tail, old_tails, plan_at}
 use Rattle.nv_calls.specs.Retiring.{hand_retired, part_in, retired, room_erased, with_records}
 use Rattle.nv_calls.specs.Steps.{stamped_entries}
@@ -48,9 +48,9 @@ places_stay cells now old new count same placed = record {
   within = λ j lt. omega (arith, same.places j, placed.within j (omega (arith, lt, same.count)), count);
   rising = λ i j d lt lj.
       let oj : j < length old = omega (arith, lj, same.count) in
-      let first : (get_or new i d).at ≡ place_of old i =
+      let first : (get_or new i d).at ≡ cell_place_of old i =
       ap (λ (p : CellCommitValue). p.at) (get_or_default new i d no_plan (omega (arith, lt, lj))) ∙ same.places i in
-      let second : (get_or new j d).at ≡ place_of old j = ap (λ (p : CellCommitValue). p.at) (get_or_default new j d no_plan lj)
+      let second : (get_or new j d).at ≡ cell_place_of old j = ap (λ (p : CellCommitValue). p.at) (get_or_default new j d no_plan lj)
       ∙ same.places j in
       omega (arith, first, second, placed.rising i j no_plan lt oj);
 }
@@ -129,8 +129,8 @@ module _ (cells : List (ℕ × CellValue)) (book : BookValue) (cpu : ℕ) (ready
   -- what the appends ensure of a commit
   pub record AreAppendedTo (before : CommitValue) : Type 0 where
     pub changes : ChangesPlanned before.plans (λ j. (grown cells before j).state) cells full
-    pub rooms : (j : ℕ) → j < length before.plans → (value_at full (place_of before.plans j)).room ≡ (grown cells before j).room
-    pub fit : (j : ℕ) → j < length before.plans → IsReadyFor [] (value_at full (place_of before.plans j))
+    pub rooms : (j : ℕ) → j < length before.plans → (value_at full (cell_place_of before.plans j)).room ≡ (grown cells before j).room
+    pub fit : (j : ℕ) → j < length before.plans → IsReadyFor [] (value_at full (cell_place_of before.plans j))
     pub plans : HaveSamePlaces before.plans appended.plans
     pub is : appended ≡ (let c : CommitValue = record before {
       plans = appended.plans;
@@ -143,8 +143,8 @@ module _ (cells : List (ℕ × CellValue)) (book : BookValue) (cpu : ℕ) (ready
   AreAppended = AreAppendedTo start
 
   pub appended_by : (before : CommitValue) → before ≡ start → ChangesPlanned before.plans (λ j. (grown cells before j).state) cells full
-      → ((j : ℕ) → j < length before.plans → (value_at full (place_of before.plans j)).room ≡ (grown cells before j).room)
-      → ((j : ℕ) → j < length before.plans → IsReadyFor [] (value_at full (place_of before.plans j)))
+      → ((j : ℕ) → j < length before.plans → (value_at full (cell_place_of before.plans j)).room ≡ (grown cells before j).room)
+      → ((j : ℕ) → j < length before.plans → IsReadyFor [] (value_at full (cell_place_of before.plans j)))
       → HaveSamePlaces before.plans appended.plans
       → appended ≡ (let c : CommitValue = record before {
         plans = appended.plans;
@@ -156,10 +156,10 @@ module _ (cells : List (ℕ × CellValue)) (book : BookValue) (cpu : ℕ) (ready
       subst AreAppendedTo same (record { changes = changes; rooms = rooms; fit = fit; plans = plans; is = is })
 
   pub own_grown : (j : ℕ) → j < count → IsGrown (stamped_entries start.stamp (place_before start.plans j) (plan_at start.plans j).items)
-      (plan_at start.plans j).items (state_at cells (place_of start.plans j)) (grown cells start j).state
+      (plan_at start.plans j).items (state_at cells (cell_place_of start.plans j)) (grown cells start j).state
   own_grown j lt =
       is_grown start.stamp (place_before start.plans j) (plan_at start.plans j).items (hand_before cells start j)
-      (value_at cells (place_of start.plans j)) (can.settled j lt).some (can.settled j lt).settled
+      (value_at cells (cell_place_of start.plans j)) (can.settled j lt).some (can.settled j lt).settled
 
   module _ (a : AreAppended) where
     pub full_cells : AreCells full
@@ -172,10 +172,10 @@ module _ (cells : List (ℕ × CellValue)) (book : BookValue) (cpu : ℕ) (ready
     full_count = ap (λ (c : CommitValue). c.appended) a.is ∙ sym a.plans.count
 
     -- the cell of a plan is full
-    pub full_is : (j : ℕ) → j < count → state_at full (place_of appended.plans j) ≡ (grown cells start j).state
+    pub full_is : (j : ℕ) → j < count → state_at full (cell_place_of appended.plans j) ≡ (grown cells start j).state
     full_is j lt = ap (state_at full) (a.plans.places j) ∙ a.changes.planned j lt
 
-    pub can_publish : (j : ℕ) → j < length appended.plans → CanBePublished (value_at full (place_of appended.plans j))
+    pub can_publish : (j : ℕ) → j < length appended.plans → CanBePublished (value_at full (cell_place_of appended.plans j))
     can_publish j lt =
         let li : j < count = omega (arith, lt, a.plans.count) in
         let g = own_grown j li in
@@ -213,11 +213,11 @@ module _ (cells : List (ℕ × CellValue)) (book : BookValue) (cpu : ℕ) (ready
 
     module _ (now : List (ℕ × CellValue)) (done : CommitValue) where
       pub record ArePublished : Type 0 where
-        pub changes : ChangesPlanned appended.plans (λ j. published (state_at full (place_of appended.plans j))) full now
-        pub kept : HaveAppendRoom appended.plans (λ j. (value_at full (place_of appended.plans j)).room) now
+        pub changes : ChangesPlanned appended.plans (λ j. published (state_at full (cell_place_of appended.plans j))) full now
+        pub kept : HaveAppendRoom appended.plans (λ j. (value_at full (cell_place_of appended.plans j)).room) now
         pub killed : (j : ℕ) → j < length appended.plans → (plan_at done.plans j).killed ≡ killed_by
-            (state_at full (place_of appended.plans j))
-        pub told : (j : ℕ) → j < length appended.plans → KillsAsTold (state_at full (place_of appended.plans j))
+            (state_at full (cell_place_of appended.plans j))
+        pub told : (j : ℕ) → j < length appended.plans → KillsAsTold (state_at full (cell_place_of appended.plans j))
         pub plans : HaveSamePlaces appended.plans done.plans
         pub is : done ≡ (let c : CommitValue = record appended {
           plans = done.plans;
@@ -226,10 +226,10 @@ module _ (cells : List (ℕ × CellValue)) (book : BookValue) (cpu : ℕ) (ready
           noted = journaled full appended.plans;
         } in c)
 
-      pub published_by : ChangesPlanned appended.plans (λ j. published (state_at full (place_of appended.plans j))) full now
-          → HaveAppendRoom appended.plans (λ j. (value_at full (place_of appended.plans j)).room) now
-          → ((j : ℕ) → j < length appended.plans → (plan_at done.plans j).killed ≡ killed_by (state_at full (place_of appended.plans j)))
-          → ((j : ℕ) → j < length appended.plans → KillsAsTold (state_at full (place_of appended.plans j)))
+      pub published_by : ChangesPlanned appended.plans (λ j. published (state_at full (cell_place_of appended.plans j))) full now
+          → HaveAppendRoom appended.plans (λ j. (value_at full (cell_place_of appended.plans j)).room) now
+          → ((j : ℕ) → j < length appended.plans → (plan_at done.plans j).killed ≡ killed_by (state_at full (cell_place_of appended.plans j)))
+          → ((j : ℕ) → j < length appended.plans → KillsAsTold (state_at full (cell_place_of appended.plans j)))
           → HaveSamePlaces appended.plans done.plans
           → done ≡ (let c : CommitValue = record appended {
             plans = done.plans;
@@ -256,10 +256,10 @@ module _ (cells : List (ℕ × CellValue)) (book : BookValue) (cpu : ℕ) (ready
         pub killed_is : (j : ℕ) → j < count → (plan_at done.plans j).killed ≡ killed_by (grown cells start j).state
         killed_is j lt = p.killed j (inner j lt) ∙ ap killed_by (full_is j lt)
 
-        pub cell_is : (j : ℕ) → j < count → state_at now (place_of done.plans j) ≡ published (grown cells start j).state
+        pub cell_is : (j : ℕ) → j < count → state_at now (cell_place_of done.plans j) ≡ published (grown cells start j).state
         cell_is j lt = ap (state_at now) (p.plans.places j) ∙ p.changes.planned j (inner j lt) ∙ ap published (full_is j lt)
 
-        pub number_is : (j : ℕ) → ino_at now (place_of done.plans j) ≡ ino_at cells (place_of start.plans j)
+        pub number_is : (j : ℕ) → ino_at now (cell_place_of done.plans j) ≡ ino_at cells (cell_place_of start.plans j)
         number_is j = ap (ino_at now) (same_places.places j) ∙ p.changes.numbers _ ∙ a.changes.numbers _
 
         -- what is noted is what was killed
@@ -268,7 +268,7 @@ module _ (cells : List (ℕ × CellValue)) (book : BookValue) (cpu : ℕ) (ready
             ap₂ (λ (m : ℕ) (s : CellState). let k : Killing = record { ino = m; parts = (plan_at done.plans j).killed; cell = s } in k)
             (number_is j) (cell_is j lt)
             ∙ ap (λ (ks : List KilledPart). let k : Killing = record {
-              ino = ino_at cells (place_of start.plans j);
+              ino = ino_at cells (cell_place_of start.plans j);
               parts = ks;
               cell = published (grown cells start j).state;
             } in k) (killed_is j lt)
@@ -286,13 +286,13 @@ module _ (cells : List (ℕ × CellValue)) (book : BookValue) (cpu : ℕ) (ready
             (items_of (fresh_of (grown cells start j).state))
             ≡ kills_of cells (plan_at start.plans j) =
             ap₂ (λ (b : ℕ) (l : List Entry). weights_in b l (items_of (fresh_of (grown cells start j).state))) g.grows.block g.log
-            ∙ ap (weights_in (state_at cells (place_of start.plans j)).block (log_of (state_at cells (place_of start.plans j)))) g.fresh in
+            ∙ ap (weights_in (state_at cells (cell_place_of start.plans j)).block (log_of (state_at cells (cell_place_of start.plans j)))) g.fresh in
             omega (arith, ap length (killed_is j lt), told.few, weights)
 
         pub all_few : sum_by killed_count done.plans ≤ need_of cells start.plans
         all_few = sums killed_count (kills_of cells) done.plans start.plans same_places.count few
 
-        gone_is : (j : ℕ) → j < count → is_gone (log_of (state_at now (place_of done.plans j))) ≡ goes (plan_at start.plans j).items
+        gone_is : (j : ℕ) → j < count → is_gone (log_of (state_at now (cell_place_of done.plans j))) ≡ goes (plan_at start.plans j).items
         gone_is j lt = ap (λ (s : CellState). is_gone (log_of s)) (cell_is j lt) ∙ (own_grown j lt).gone
 
         pub can_retire : CanRetireAll book.room now done
@@ -301,7 +301,7 @@ module _ (cells : List (ℕ × CellValue)) (book : BookValue) (cpu : ℕ) (ready
               let lt : j < count = omega (arith, lj, same_places.count) in
               let g = own_grown j lt in
               let told : KillsAsTold (grown cells start j).state = subst KillsAsTold (full_is j lt) (p.told j (inner j lt)) in
-              let size : done.hand.data.size ≡ (state_at cells (place_of start.plans j)).block =
+              let size : done.hand.data.size ≡ (state_at cells (cell_place_of start.plans j)).block =
               ap (λ (h : Hand). h.data.size) hand_is ∙ (can.append.each j lt).block_size in
               let marked : AreKilled (map part_in (plan_at done.plans j).killed) (published (grown cells start j).state) =
               subst (λ (ks : List KilledPart). AreKilled (map part_in ks) (published (grown cells start j).state))
@@ -334,7 +334,7 @@ module _ (cells : List (ℕ × CellValue)) (book : BookValue) (cpu : ℕ) (ready
             → ChangesPlanned ready.plans (committed living cells start) cells last
         all_changes last living r =
             let second = changes_by start.plans appended.plans
-            (λ j. published (state_at full (place_of appended.plans j))) full now a.plans p.changes in
+            (λ j. published (state_at full (cell_place_of appended.plans j))) full now a.plans p.changes in
             let third = changes_by start.plans done.plans (λ j. settled_cell living done.stamp.epoch
             (noted_killing now done j)) now last same_places r in
             record {
@@ -346,19 +346,19 @@ module _ (cells : List (ℕ × CellValue)) (book : BookValue) (cpu : ℕ) (ready
 
         -- the room that is left in a planned cell
         pub all_rooms : (last : List (ℕ × CellValue)) (living : List ℕ)
-            → ((j : ℕ) → j < length done.plans → (value_at last (place_of done.plans j)).room
-            ≡ settled_room living done.stamp.epoch (noted_killing now done j) (value_at now (place_of done.plans j)).room)
+            → ((j : ℕ) → j < length done.plans → (value_at last (cell_place_of done.plans j)).room
+            ≡ settled_room living done.stamp.epoch (noted_killing now done j) (value_at now (cell_place_of done.plans j)).room)
             → HaveAppendRoom ready.plans (room_left living cells start) last
         all_rooms last living rooms j lt =
             let k : Killing = killing cells start j in
             let after : CellState = retired living k.ino start.stamp.epoch k.parts k.cell in
-            let had : CellRoom = (value_at full (place_of appended.plans j)).room in
-            let left : CellRoom = (value_at now (place_of done.plans j)).room in
+            let had : CellRoom = (value_at full (cell_place_of appended.plans j)).room in
+            let left : CellRoom = (value_at now (cell_place_of done.plans j)).room in
             let grew : had ≡ (grown cells start j).room = ap (λ (m : ℕ). (value_at full m).room) (a.plans.places j) ∙ a.rooms j lt in
             let keeps : KeepsAppendRoom (grown cells start j).room left =
             subst (λ (r : CellRoom). KeepsAppendRoom r left) grew
             (subst (λ (m : ℕ). KeepsAppendRoom had (value_at now m).room) (sym (p.plans.places j)) (p.kept j (inner j lt))) in
-            let is : (value_at last (place_of start.plans j)).room ≡ room_erased after left =
+            let is : (value_at last (cell_place_of start.plans j)).room ≡ room_erased after left =
             ap (λ (m : ℕ). (value_at last m).room) (sym (same_places.places j)) ∙ rooms j (omega (arith, lt, same_places.count))
             ∙ ap₂ (λ (e : ℕ) (x : Killing). settled_room living e x left) stamp_is (killing_is j lt) in
             subst (λ (r : CellRoom). KeepsAppendRoom (room_left living cells start j) r) (sym is)

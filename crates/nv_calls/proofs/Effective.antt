@@ -20,7 +20,7 @@ use Rattle.nv_cell.specs.Cell.{CellState, CellValue, empty_cell, log_of}
 use Rattle.nv_cell.specs.Readers.{is_erased, is_gone, is_last_word, keeps_nothing}
 use Rattle.nv_calls.specs.Cells.{ino_at, state_at}
 use Rattle.nv_calls.specs.Commit.{CommitValue, begun, stamp_of}
-use Rattle.nv_calls.specs.Committed.{IsUnplanned, committed, killing, place_of}
+use Rattle.nv_calls.specs.Committed.{IsUnplanned, committed, killing, cell_place_of}
 use Rattle.nv_calls.specs.Plain.{Change, PlainNode, nodes_after, stamped}
 use Rattle.nv_calls.specs.declared.plan.InodePlan.{InodePlan}
 use Rattle.nv_calls.specs.PublishedSlots.{IsCommitted, IsOfNone, PublishAlike, PublishesPlans, planned_in, slots_after}
@@ -89,15 +89,15 @@ has_number (c ∷ cells) number = go (c.0 == number) refl (has_number cells numb
   go false q (inr none) = inr (behind none (eqb-false c.0 number q))
 
 pub has_plan : (plans : List CellCommitValue) (k : ℕ)
-    → ((j : ℕ) × (j < length plans) × (place_of plans j ≡ k)) ⊎ IsUnplanned plans k
+    → ((j : ℕ) × (j < length plans) × (cell_place_of plans j ≡ k)) ⊎ IsUnplanned plans k
 has_plan [] k = inr (λ j lt same. absurd (omega (arith, lt)))
 has_plan (p ∷ plans) k = go (p.at == k) refl (has_plan plans k) where
-  behind : IsUnplanned plans k → (p.at ≡ k → ⊥) → (j : ℕ) → j < length (p ∷ plans) → place_of (p ∷ plans) j ≡ k → ⊥
+  behind : IsUnplanned plans k → (p.at ≡ k → ⊥) → (j : ℕ) → j < length (p ∷ plans) → cell_place_of (p ∷ plans) j ≡ k → ⊥
   behind none first zero lt same = first same
   behind none first (suc j) lt same = none j (omega (arith, lt)) same
 
-  go : (b : Bool) → (p.at == k) ≡ b → ((j : ℕ) × (j < length plans) × (place_of plans j ≡ k)) ⊎ IsUnplanned plans k
-      → ((j : ℕ) × (j < length (p ∷ plans)) × (place_of (p ∷ plans) j ≡ k)) ⊎ IsUnplanned (p ∷ plans) k
+  go : (b : Bool) → (p.at == k) ≡ b → ((j : ℕ) × (j < length plans) × (cell_place_of plans j ≡ k)) ⊎ IsUnplanned plans k
+      → ((j : ℕ) × (j < length (p ∷ plans)) × (cell_place_of (p ∷ plans) j ≡ k)) ⊎ IsUnplanned (p ∷ plans) k
   go true q rest = let first : 0 < length (p ∷ plans) = omega arith in inl (0, first, eqb-true p.at k q)
   go false q (inl found) =
       let more : suc found.0 < length (p ∷ plans) = omega (arith, found.1) in
@@ -134,10 +134,10 @@ module _ (bytes : ℕ → List ℕ) (block : ℕ) (living : List ℕ) (cells : L
   -- a planned cell
   planned_node : (j : ℕ) → j < length ready.plans → (handle : Handle)
       → node_of_slot (slot_of (committed living cells start j)) handle
-      ≡ node_of_slot (slots_after cells start slots (ino_at cells (place_of ready.plans j))) handle
+      ≡ node_of_slot (slots_after cells start slots (ino_at cells (cell_place_of ready.plans j))) handle
   planned_node j lt handle = go (is_erased (after j)) refl where
     go : (b : Bool) → is_erased (after j) ≡ b → node_of_slot (slot_of (committed living cells start j)) handle
-        ≡ node_of_slot (slots_after cells start slots (ino_at cells (place_of ready.plans j))) handle
+        ≡ node_of_slot (slots_after cells start slots (ino_at cells (cell_place_of ready.plans j))) handle
     go false q = ap (λ (s : InodeSlot). node_of_slot s handle) (published_slots.kept living j lt q)
     go true q =
         let gone : is_gone (log_of (after j)) ≡ true = gone_erased (is_gone (log_of (after j))) (keeps_nothing (after j)) q in
@@ -157,7 +157,7 @@ module _ (bytes : ℕ → List ℕ) (block : ℕ) (living : List ℕ) (cells : L
   same_node : (handle : Handle) → node_of_slot (later handle.ino) handle ≡ node_of_slot (slots_after cells start slots handle.ino) handle
   same_node handle = go (has_number cells handle.ino) where
     lent : (k : ℕ) → k < length cells → ino_at cells k ≡ handle.ino
-        → (((j : ℕ) × (j < length ready.plans) × (place_of ready.plans j ≡ k)) ⊎ IsUnplanned ready.plans k)
+        → (((j : ℕ) × (j < length ready.plans) × (cell_place_of ready.plans j ≡ k)) ⊎ IsUnplanned ready.plans k)
         → later handle.ino ≡ slot_of (state_at now k)
         → node_of_slot (later handle.ino) handle ≡ node_of_slot (slots_after cells start slots handle.ino) handle
     lent k lt own (inl found) is_now =

@@ -14,7 +14,7 @@ use Rattle.nv_calls.specs.Updates.{blank_call}
 use Rattle.nv_calls.specs.declared.allocation.Allocation.{Allocation}
 use Rattle.nv_calls.specs.declared.update.Update.TheVariants as update
 use Rattle.nv_calls.specs.PagesWanted.{entry_counts, goes_on}
-use Rattle.nv_calls.specs.Plan.{run_if, runs_of, stretches, with_number}
+use Rattle.nv_calls.specs.Plan.{run_if, block_runs_of, stretches, with_number}
 
 -- how many runs begin among the numbers, where the one before them would go on with `next`
 abbrev pub runs_begun : Option ℕ → List ℕ → ℕ
@@ -81,7 +81,7 @@ runs_count (t ∷ tail) all = go (nat_lt (t.0 + t.1) (2 ^ 64)) refl (runs_count 
   go true is h = ap suc h
   go false is h = let k : nat_lt (t.0 + t.1) (2 ^ 64) ≡ true = lt-ltb (t.0 + t.1) (2 ^ 64) (omega (arith, all.0)) in cc
 
-pub count_is : (numbers : List ℕ) → AllByRecursion (λ (n : ℕ). n < 2 ^ 32) numbers → runs_begun None numbers ≡ length (runs_of numbers)
+pub count_is : (numbers : List ℕ) → AllByRecursion (λ (n : ℕ). n < 2 ^ 32) numbers → runs_begun None numbers ≡ length (block_runs_of numbers)
 count_is [] all = refl
 count_is (n ∷ numbers) all = sym (runs_count (stretches (n ∷ numbers)) (stretches_fit (n ∷ numbers) (2 ^ 32) all) ∙ stretch_count n numbers)
 

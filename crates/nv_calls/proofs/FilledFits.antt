@@ -17,7 +17,7 @@ use Rattle.nv_calls.specs.AllCalls.{IsReady, blocks_wanted, effect, ends_in_page
 use Rattle.nv_calls.specs.FillPages.{filled, fresh_pages, sourced}
 use Rattle.nv_calls.specs.Filled.{AreFilled, HavePages}
 use Rattle.nv_calls.specs.Filling.{text_part}
-use Rattle.nv_calls.specs.Locked.{made_by as made_handles}
+use Rattle.nv_calls.specs.Locked.{handles_made_by as made_handles}
 use Rattle.nv_calls.specs.Nodes.{HaveBytes, block_in, cell_of, has_page_in, nodes_in, plain_nodes, slot_by, slots_by}
 use Rattle.nv_calls.specs.Plain.{Change, PlainNode, node_in, stamped}
 use Rattle.nv_calls.specs.Plan.{AllFit}

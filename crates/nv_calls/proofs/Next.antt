@@ -13,7 +13,7 @@ use Rattle.nv_cell.specs.declared.killed.KilledPart.{KilledPart}
 use Rattle.nv_calls.specs.CanCommit.{CanCommit, TakesCommit}
 use Rattle.nv_calls.specs.Cells.{AreCells, ino_at, no_cell, state_at, value_at}
 use Rattle.nv_calls.specs.Commit.{CommitValue, begun, stamp_of}
-use Rattle.nv_calls.specs.Committed.{ChangesPlanned, IsUnplanned, committed, grown, killing, place_before, place_of}
+use Rattle.nv_calls.specs.Committed.{ChangesPlanned, IsUnplanned, committed, grown, killing, place_before, cell_place_of}
 use Rattle.nv_calls.specs.Next.{AreUpTo, IsUpTo}
 use Rattle.nv_calls.specs.Prepared.{IsStill}
 use Rattle.nv_calls.specs.Ready.{CellCommitValue, ReadyValue, no_plan, plan_at}
@@ -93,7 +93,7 @@ module _ (cells : List (ℕ × CellValue)) (book : BookValue) (cpu : ℕ) (ready
   start = begun (stamp_of book.state) ready
 
   abbrev own : ℕ → CellState
-  own j = state_at cells (place_of ready.plans j)
+  own j = state_at cells (cell_place_of ready.plans j)
 
   abbrev entries : ℕ → List Entry
   entries j = stamped_entries start.stamp (place_before start.plans j) (plan_at start.plans j).items
@@ -128,7 +128,7 @@ module _ (cells : List (ℕ × CellValue)) (book : BookValue) (cpu : ℕ) (ready
   module _ (before : Stamp) (counts : ℕ → ℕ) (next : before.commit < book.state.commit)
       (rises : before.epoch ≤ book.state.snaps.epoch) where
     up_to_after : (j : ℕ) → j < length ready.plans → (first : ℕ)
-        → TakesCommit (stamp_of book.state) (value_at cells (place_of ready.plans j)) → IsUpTo before first (own j)
+        → TakesCommit (stamp_of book.state) (value_at cells (cell_place_of ready.plans j)) → IsUpTo before first (own j)
         → IsUpTo (stamp_of book.state) first (committed living cells start j)
     up_to_after j lt first takes up =
         let g = grown_is j lt in
@@ -176,16 +176,16 @@ module _ (cells : List (ℕ × CellValue)) (book : BookValue) (cpu : ℕ) (ready
 
   module _ (now : List (ℕ × CellValue)) (changes : ChangesPlanned ready.plans (committed living cells start) cells now) where
     pub by_place : (P : ℕ → CellState → Type 0)
-        → ((j : ℕ) → j < length ready.plans → P (ino_at cells (place_of ready.plans j)) (committed living cells start j))
+        → ((j : ℕ) → j < length ready.plans → P (ino_at cells (cell_place_of ready.plans j)) (committed living cells start j))
         → ((k : ℕ) → k < length cells → IsUnplanned ready.plans k → P (ino_at cells k) (state_at cells k))
         → (k : ℕ) → k < length now → P (ino_at now k) (state_at now k)
     by_place P planned others k lt = go (has_plan ready.plans k) where
-      go : (((j : ℕ) × (j < length ready.plans) × (place_of ready.plans j ≡ k)) ⊎ IsUnplanned ready.plans k)
+      go : (((j : ℕ) × (j < length ready.plans) × (cell_place_of ready.plans j ≡ k)) ⊎ IsUnplanned ready.plans k)
           → P (ino_at now k) (state_at now k)
       go (inl found) =
           subst (λ (m : ℕ). P (ino_at now m) (state_at now m)) found.2
-          (subst (λ (c : CellState). P (ino_at now (place_of ready.plans found.0)) c) (sym (changes.planned found.0 found.1))
-          (subst (λ (n : ℕ). P n (committed living cells start found.0)) (sym (changes.numbers (place_of ready.plans found.0)))
+          (subst (λ (c : CellState). P (ino_at now (cell_place_of ready.plans found.0)) c) (sym (changes.planned found.0 found.1))
+          (subst (λ (n : ℕ). P n (committed living cells start found.0)) (sym (changes.numbers (cell_place_of ready.plans found.0)))
           (planned found.0 found.1)))
       go (inr none) =
           subst (λ (c : CellState). P (ino_at now k) c) (sym (ap (λ (v : CellValue). v.state) (changes.others k none)))
@@ -201,7 +201,7 @@ module _ (cells : List (ℕ × CellValue)) (book : BookValue) (cpu : ℕ) (ready
         λ k lt. all_at (λ (c : ℕ × CellValue). IsStill block c.1.state) cells no_cell k still lt in
         all_by (λ (c : ℕ × CellValue). IsStill block c.1.state) now no_cell
         (by_place (λ ino cell. IsStill block cell)
-        (λ j lt. still_after block j lt (at (place_of ready.plans j) (can.placed.within j lt)))
+        (λ j lt. still_after block j lt (at (cell_place_of ready.plans j) (can.placed.within j lt)))
         (λ k lt none. at k lt))
 
     pub all_up_to : (before : Stamp) (counts : ℕ → ℕ) → before.commit < book.state.commit → before.epoch ≤ book.state.snaps.epoch
@@ -210,9 +210,9 @@ module _ (cells : List (ℕ × CellValue)) (book : BookValue) (cpu : ℕ) (ready
     all_up_to before counts next rises takes up =
         by_place (λ ino cell. IsUpTo (stamp_of book.state) (counts ino) cell)
         (λ j lt.
-        up_to_after before counts next rises j lt (counts (ino_at cells (place_of ready.plans j)))
+        up_to_after before counts next rises j lt (counts (ino_at cells (cell_place_of ready.plans j)))
         (all_at (λ (p : CellCommitValue). TakesCommit (stamp_of book.state) (value_at cells p.at)) ready.plans no_plan j takes lt)
-        (up (place_of ready.plans j) (can.placed.within j lt)))
+        (up (cell_place_of ready.plans j) (can.placed.within j lt)))
         (λ k lt none. later_still before counts next rises (counts (ino_at cells k)) (state_at cells k) (up k lt))
 
 -- ---- an empty slot is up to any commit

@@ -15,7 +15,7 @@ use Rattle.nv_cell.specs.declared.killed.KilledPart.{KilledPart}
 use Rattle.nv_calls.specs.CanCommit.{CanCommit}
 use Rattle.nv_calls.specs.Cells.{no_cell, state_at, value_at}
 use Rattle.nv_calls.specs.Commit.{CommitValue, begun, stamp_of}
-use Rattle.nv_calls.specs.Committed.{ChangesPlanned, block_count, committed, grown, hand_before, killing, place_before, place_of}
+use Rattle.nv_calls.specs.Committed.{ChangesPlanned, block_count, committed, grown, hand_before, killing, place_before, cell_place_of}
 use Rattle.nv_calls.specs.Filled.{AreRead}
 use Rattle.nv_calls.specs.Nodes.{HasBytes, HaveBytes}
 use Rattle.nv_calls.specs.Ready.{ReadyValue, plan_at}
@@ -127,7 +127,7 @@ module _ (bytes : ℕ → List ℕ) (block : ℕ) (cells : List (ℕ × CellValu
   start = begun (stamp_of book.state) ready
 
   abbrev own : ℕ → CellValue
-  own j = value_at cells (place_of ready.plans j)
+  own j = value_at cells (cell_place_of ready.plans j)
 
   abbrev entries : ℕ → List Entry
   entries j = stamped_entries start.stamp (place_before start.plans j) (plan_at start.plans j).items
@@ -149,7 +149,7 @@ module _ (bytes : ℕ → List ℕ) (block : ℕ) (cells : List (ℕ × CellValu
   grown_read : (j : ℕ) → j < length ready.plans → AllRead bytes (grown cells start j).state.blocks
   grown_read j lt =
       entries_read bytes (entries j) (hand_before cells start j).«data».blocks _ (hand_read j)
-      (held (place_of ready.plans j) (can.placed.within j lt)).all
+      (held (cell_place_of ready.plans j) (can.placed.within j lt)).all
 
   planned_held : (j : ℕ) → j < length ready.plans → Holds (committed living cells start j)
   planned_held j lt =
@@ -157,7 +157,7 @@ module _ (bytes : ℕ → List ℕ) (block : ℕ) (cells : List (ℕ × CellValu
       let g = own_grown cells book cpu ready can cells start j lt in
       let size : (retired living k.ino start.stamp.epoch k.parts k.cell).block ≡ block =
       (keeps living k.ino start.stamp.epoch k.parts k.cell).block ∙ g.grows.block
-      ∙ (held (place_of ready.plans j) (can.placed.within j lt)).size in
+      ∙ (held (cell_place_of ready.plans j) (can.placed.within j lt)).size in
       by_erased Holds (retired living k.ino start.stamp.epoch k.parts k.cell)
       (record { size = size; all = retired_read bytes living k.ino start.stamp.epoch k.parts k.cell (grown_read j lt) })
       (record { size = size; all = tt })

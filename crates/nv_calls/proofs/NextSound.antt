@@ -7,7 +7,7 @@ use Rattle.nv_entry.specs.declared.item.Item.{Item}
 use Rattle.nv_entry.specs.Sound.{IsSound}
 use Rattle.nv_calls.specs.Cells.{ino_at, state_at}
 use Rattle.nv_calls.specs.Commit.{CommitValue, begun, stamp_of}
-use Rattle.nv_calls.specs.Committed.{IsUnplanned, committed, killing, place_of}
+use Rattle.nv_calls.specs.Committed.{IsUnplanned, committed, killing, cell_place_of}
 use Rattle.nv_calls.specs.Plain.{Change}
 use Rattle.nv_calls.specs.PublishedSlots.{IsCommitted, IsOfNone, PublishAlike, PublishesPlans, planned_in, slots_after}
 use Rattle.nv_calls.specs.Ready.{ReadyValue}
@@ -50,14 +50,14 @@ module _ (bytes : ℕ → List ℕ) (block : ℕ) (living : List ℕ) (cells : L
   planned_sound : (j : ℕ) → j < length ready.plans → IsSoundSlot (slot_of (committed living cells start j))
   planned_sound j lt = go (is_erased (after j)) refl where
     go : (b : Bool) → is_erased (after j) ≡ b → IsSoundSlot (slot_of (committed living cells start j))
-    go false q = subst IsSoundSlot (sym (published_slots.kept living j lt q)) (made_sound (ino_at cells (place_of ready.plans j)))
+    go false q = subst IsSoundSlot (sym (published_slots.kept living j lt q)) (made_sound (ino_at cells (cell_place_of ready.plans j)))
     go true q =
         subst (λ (c : CellState). IsSoundSlot (slot_of c)) (sym (pick (is_erased (after j)) (emptied (after j)) (after j) q))
         (empty_sound bytes block)
 
   pub all_sound : (ino : ℕ) → IsSound bytes block (later ino).log
   all_sound ino = go (has_number cells ino) where
-    lent : (k : ℕ) → k < length cells → (((j : ℕ) × (j < length ready.plans) × (place_of ready.plans j ≡ k)) ⊎ IsUnplanned ready.plans k)
+    lent : (k : ℕ) → k < length cells → (((j : ℕ) × (j < length ready.plans) × (cell_place_of ready.plans j ≡ k)) ⊎ IsUnplanned ready.plans k)
         → IsSoundSlot (slot_of (state_at now k))
     lent k lt (inl found) =
         let state : state_at now k ≡ committed living cells start found.0 =

@@ -10,11 +10,11 @@ use Rattle.nv_entry.specs.declared.item.Item.{Item}
 use Rattle.nv_cell.specs.Cell.{CellValue, log_of}
 use Rattle.nv_calls.specs.AllCalls.{plan}
 use Rattle.nv_calls.specs.Cells.{AreCells, ino_at}
-use Rattle.nv_calls.specs.Committed.{place_of}
-use Rattle.nv_calls.specs.Locked.{made_by as made_handles}
+use Rattle.nv_calls.specs.Committed.{cell_place_of}
+use Rattle.nv_calls.specs.Locked.{handles_made_by as made_handles}
 use Rattle.nv_calls.specs.Nodes.{block_in, cell_of, nodes_in, slot_by, slots_by}
 use Rattle.nv_calls.specs.Plan.{AreApart, AreFewApart}
-use Rattle.nv_calls.specs.Prepared.{CanReady, HasNumberFor, cell_plans, handle_in, if_items, made_by, makes, no_handle, planned_by, plans_by, taken_by}
+use Rattle.nv_calls.specs.Prepared.{CanReady, HasNumberFor, cell_plans, handle_in, if_items, handle_made_by, makes, no_handle, planned_by, plans_by, taken_by}
 use Rattle.nv_calls.specs.PublishedSlots.{PublishAlike, planned_in}
 use Rattle.nv_calls.specs.Ready.{ArePlaced, CellCommitValue, no_plan, plan_at}
 use Rattle.nv_calls.specs.Slots.{InodeSlot, items_for, place_in}
@@ -59,7 +59,7 @@ new_by cells (Some ino) has = go (cell_of cells ino) refl has.lent where
       }
 
 pub made_new : (cells : List (ℕ × CellValue)) (number : Option ℕ) (u : Update) → HasNumberFor cells (makes u) number
-    → AllByRecursion (IsNew cells) (made_handles (unwrap_or (made_by cells number u) no_handle) (blank_call u))
+    → AllByRecursion (IsNew cells) (made_handles (unwrap_or (handle_made_by cells number u) no_handle) (blank_call u))
 made_new cells number (update.Create dir name mode) has = (new_by cells number has, tt)
 made_new cells number (update.Mkdir dir name mode) has = (new_by cells number has, tt)
 made_new cells number (update.Write file offset count) has = tt
@@ -73,12 +73,12 @@ made_new cells number (update.Rename from old to new) has = tt
 
 pub place_found : (plan : List InodePlan) (at : ℕ) (cells : List (ℕ × CellValue)) (k : ℕ) → k < length cells
     → 0 < length (items_for plan (ino_at cells k))
-    → (j : ℕ) × (j < length (cell_plans plan at cells)) × (place_of (cell_plans plan at cells) j ≡ at + k)
+    → (j : ℕ) × (j < length (cell_plans plan at cells)) × (cell_place_of (cell_plans plan at cells) j ≡ at + k)
 place_found plan at [] k lt some = absurd (omega (arith, lt))
 place_found plan at (c ∷ cells) zero lt some =
     let rest : List CellCommitValue = cell_plans plan (at + 1) cells in
     let here : at ≡ at + zero = omega arith in
-    subst (λ (ps : List CellCommitValue). (j : ℕ) × (j < length ps) × (place_of ps j ≡ at + zero))
+    subst (λ (ps : List CellCommitValue). (j : ℕ) × (j < length ps) × (cell_place_of ps j ≡ at + zero))
     (sym (if_some at (items_for plan c.0) rest some))
     (0, omega arith, here)
 place_found plan at (c ∷ cells) (suc k) lt some =
@@ -90,8 +90,8 @@ place_found plan at (c ∷ cells) (suc k) lt some =
     more : at + 1 + k ≡ at + suc k
     more = omega arith
 
-    go : (items : List Item) → (j : ℕ) × (j < length rest) × (place_of rest j ≡ at + 1 + k)
-        → (j : ℕ) × (j < length (if_items at items rest)) × (place_of (if_items at items rest) j ≡ at + suc k)
+    go : (items : List Item) → (j : ℕ) × (j < length rest) × (cell_place_of rest j ≡ at + 1 + k)
+        → (j : ℕ) × (j < length (if_items at items rest)) × (cell_place_of (if_items at items rest) j ≡ at + suc k)
     go [] r = (r.0, r.1, r.2 ∙ more)
     go (item ∷ items) r = (suc r.0, omega (arith, r.1), r.2 ∙ more)
 
@@ -105,7 +105,7 @@ plans_have_items plan at (c ∷ cells) = go (items_for plan c.0) (plans_have_ite
   go (item ∷ items) rest = (omega arith, rest)
 
 pub items_are : (plan : List InodePlan) (cells : List (ℕ × CellValue)) (j : ℕ) → j < length (cell_plans plan 0 cells)
-    → (plan_at (cell_plans plan 0 cells) j).items ≡ items_for plan (ino_at cells (place_of (cell_plans plan 0 cells) j))
+    → (plan_at (cell_plans plan 0 cells) j).items ≡ items_for plan (ino_at cells (cell_place_of (cell_plans plan 0 cells) j))
 items_are plan cells j lt =
     all_at (λ (p : CellCommitValue). p.items ≡ items_for plan (ino_at cells p.at)) (cell_plans plan 0 cells) no_plan j
     (plans_all (λ (n : ℕ) (items : List Item). items ≡ items_for plan (ino_at cells n)) plan cells (λ k small. refl)) lt
@@ -190,11 +190,11 @@ module _ (cells : List (ℕ × CellValue)) (hand : Hand) (u : Update) (can : Can
 
   -- the place of an inode with items
   pub found_for : (ino : ℕ) → 0 < length (items_for by_call ino)
-      → (j : ℕ) × (j < length by_cell) × (ino_at cells (place_of by_cell j) ≡ ino)
+      → (j : ℕ) × (j < length by_cell) × (ino_at cells (cell_place_of by_cell j) ≡ ino)
   found_for ino some =
       let h = held_for cells by_call ino held some in
       let r = place_found by_call 0 cells h.0 h.1 (omega (arith, some, ap (λ (n : ℕ). length (items_for by_call n)) h.2)) in
-      let place : place_of by_cell r.0 ≡ h.0 = omega (arith, r.2) in
+      let place : cell_place_of by_cell r.0 ≡ h.0 = omega (arith, r.2) in
       (r.0, r.1, ap (ino_at cells) place ∙ h.2)
 
   same_items : (ino : ℕ) → items_for (planned_in cells by_cell) ino ≡ items_for by_call ino

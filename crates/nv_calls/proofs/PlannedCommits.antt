@@ -16,7 +16,7 @@ use Rattle.nv_calls.specs.AllCalls.{plan}
 use Rattle.nv_calls.specs.CanCommit.{AllowsCommit, CanCommit, CanTakeItems, HasNumber, IsSettledFor, TakesCommit, goes, numbers_of_all}
 use Rattle.nv_calls.specs.Cells.{ino_at, no_cell, value_at}
 use Rattle.nv_calls.specs.Commit.{stamp_of}
-use Rattle.nv_calls.specs.Committed.{place_of}
+use Rattle.nv_calls.specs.Committed.{cell_place_of}
 use Rattle.nv_calls.specs.Nodes.{block_in, nodes_in}
 use Rattle.nv_calls.specs.Plan.{AreApart, plan_blocks}
 use Rattle.nv_calls.specs.Prepared.{CanReady, HasNumberFor, HaveNoLessRoom, IsReadyBy, IsStill, handle_in, makes, planned_by, plans_by, taken_by}
@@ -89,7 +89,7 @@ module _ (cells : List (ℕ × CellValue)) (hand : Hand) (u : Update) (can : Can
   placed_cells = placed_by cells hand u can
 
   abbrev ino : ℕ → ℕ
-  ino j = ino_at cells (place_of by_cell j)
+  ino j = ino_at cells (cell_place_of by_cell j)
 
   rises : (i j : ℕ) → i < j → j < length by_cell → ino i < ino j
   rises i j lt within = ino_rises cells by_cell can.lent placed_cells i j lt within
@@ -207,7 +207,7 @@ module _ (cells now : List (ℕ × CellValue)) (hand : Hand) (u : Update) (book 
   plans = ready.plans
 
   abbrev cell_of_plan : ℕ → CellValue
-  cell_of_plan j = value_at now (place_of plans j)
+  cell_of_plan j = value_at now (cell_place_of plans j)
 
   same_plans : plans_by cells hand u ≡ plans
   same_plans = sym is.plans
@@ -220,9 +220,9 @@ module _ (cells now : List (ℕ × CellValue)) (hand : Hand) (u : Update) (book 
 
   still : (j : ℕ) → j < length plans → IsStill (block_in cells) (cell_of_plan j).state
   still j lt =
-      let within : place_of plans j < length cells = omega (arith, placed_now.within j lt, more.count) in
-      subst (IsStill (block_in cells)) (sym (more.states (place_of plans j)))
-      (all_at (λ (c : ℕ × CellValue). IsStill (block_in cells) c.1.state) cells no_cell (place_of plans j) can.still within)
+      let within : cell_place_of plans j < length cells = omega (arith, placed_now.within j lt, more.count) in
+      subst (IsStill (block_in cells)) (sym (more.states (cell_place_of plans j)))
+      (all_at (λ (c : ℕ × CellValue). IsStill (block_in cells) c.1.state) cells no_cell (cell_place_of plans j) can.still within)
 
   takes : (j : ℕ) → j < length plans → TakesCommit (stamp_of book.state) (cell_of_plan j)
   takes j lt = all_at (λ (p : CellCommitValue). TakesCommit (stamp_of book.state) (value_at now p.at)) plans no_plan j allows.take lt

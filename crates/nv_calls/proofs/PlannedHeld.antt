@@ -13,7 +13,7 @@ use Rattle.nv_cell.specs.Cell.{CellValue, log_of}
 use Rattle.nv_cell.specs.Pages.{own_bytes}
 use Rattle.nv_calls.specs.AllCalls.{plan, refusal}
 use Rattle.nv_calls.specs.Cells.{ino_at, state_at, value_at}
-use Rattle.nv_calls.specs.Locked.{made_by}
+use Rattle.nv_calls.specs.Locked.{handles_made_by}
 use Rattle.nv_calls.specs.Nodes.{cell_of, nodes_in, own_node, with_bytes}
 use Rattle.nv_calls.specs.Plain.{PlainNode, same_handle, stamped}
 use Rattle.nv_calls.specs.Refusals.{Check, found, kind_of, passes, want_bound}
@@ -149,7 +149,7 @@ module _ (block : ℕ) (nodes : Handle → Option NodeCopy) (taken : Allocation)
         let m = moved_passed block nodes from old to new moved other last in
         moves_all (same_handle from to) moved (replaced_plan other) (replaced_all (kind_of (nodes moved)) other m.1)
 
-  pub all_held : (c : Call) → refusal block nodes c ≡ passes → AllByRecursion Holds (made_by taken.made c) → All (plan block nodes taken c)
+  pub all_held : (c : Call) → refusal block nodes c ≡ passes → AllByRecursion Holds (handles_made_by taken.made c) → All (plan block nodes taken c)
   all_held (call.Create dir name mode) h made = (directory dir (directory_passed (nodes dir) _ h).0, made)
   all_held (call.Mkdir dir name mode) h made = (directory dir (directory_passed (nodes dir) _ h).0, made)
   all_held (call.Write file offset []) h made = tt

@@ -12,8 +12,8 @@ use Rattle.nv_cell.specs.Cell.{CellValue}
 use Rattle.nv_cell.specs.Effects.{BindOne}
 use Rattle.nv_calls.specs.Cells.{ino_at, no_cell, state_at}
 use Rattle.nv_calls.specs.Nodes.{block_in, has_page_in, nodes_in}
-use Rattle.nv_calls.specs.Plan.{AreMaximal, runs_of}
-use Rattle.nv_calls.specs.Prepared.{AreReady, CanReady, HasLogPages, HasNoLessRoom, HaveNoLessRoom, HoldsTheSame, IsReadyBy, IsStill, made_by, planned_by, plans_by, taken_by}
+use Rattle.nv_calls.specs.Plan.{AreMaximal, block_runs_of}
+use Rattle.nv_calls.specs.Prepared.{AreReady, CanReady, HasLogPages, HasNoLessRoom, HaveNoLessRoom, HoldsTheSame, IsReadyBy, IsStill, handle_made_by, planned_by, plans_by, taken_by}
 use Rattle.nv_calls.specs.Ready.{CellCommitValue, ReadyValue, need_of}
 use Rattle.nv_calls.specs.Slots.{items_for}
 use Rattle.nv_calls.specs.Steps.{HaveBlocks}
@@ -29,8 +29,8 @@ pub still_at : (cells : List (ℕ × CellValue)) (k : ℕ) → AllByRecursion (�
 still_at cells k still lt = (all_at (λ (c : ℕ × CellValue). IsStill (block_in cells) c.1.state) cells no_cell k still lt).settled
 
 module _ (cells : List (ℕ × CellValue)) (hand : Hand) (u : Update) (can : CanReady cells hand u) (some_bytes : 0 < block_in cells)
-    (maximal : AreMaximal (runs_of (numbers_of hand.«data».blocks)))
-    (are : blocks_of (runs_of (numbers_of hand.«data».blocks)) ≡ numbers_of hand.«data».blocks) where
+    (maximal : AreMaximal (block_runs_of (numbers_of hand.«data».blocks)))
+    (are : blocks_of (block_runs_of (numbers_of hand.«data».blocks)) ≡ numbers_of hand.«data».blocks) where
   wanted : length (blocks_of (taken_by cells hand u).runs)
       ≡ blocks_taken (block_in cells) (nodes_in cells) (has_page_in cells) u
   wanted = ap (λ (xs : List ℕ). length xs) are ∙ length-map hand.«data».blocks _ ∙ can.count
@@ -70,7 +70,7 @@ holds_the_same old new more = record {
 pub ready_is : (cells now : List (ℕ × CellValue)) (hand : Hand) (u : Update) (made : Option Handle) (plans : List CellCommitValue)
     (left : Hand)
     (need : ℕ) (ready : ReadyValue) → ready.update ≡ u → ready.made ≡ made → ready.plans ≡ plans → ready.hand ≡ left → ready.need ≡ need
-    → made ≡ made_by cells hand.ino u
+    → made ≡ handle_made_by cells hand.ino u
     → AreMaximal (taken_by cells hand u).runs × (blocks_of (taken_by cells hand u).runs ≡ numbers_of hand.«data».blocks)
     → plans ≡ plans_by cells hand u
     → 0 < block_in cells

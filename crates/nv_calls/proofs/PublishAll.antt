@@ -12,7 +12,7 @@ use Rattle.nv_journal.specs.declared.old_tail.OldTail.{OldTail}
 use Rattle.nv_calls.specs.CanCommit.{CanBePublished, KillsAsTold}
 use Rattle.nv_calls.specs.Cells.{OnlyAt, ino_at, state_at, value_at}
 use Rattle.nv_calls.specs.Commit.{CommitValue, HasJournal, NotesNext, after_publish, to_publish}
-use Rattle.nv_calls.specs.Committed.{place_of}
+use Rattle.nv_calls.specs.Committed.{cell_place_of}
 use Rattle.nv_calls.specs.PlanByPlan.{PublishesTo, cell_of, published_of}
 use Rattle.nv_calls.specs.Ready.{ArePlaced, CellCommitValue, no_plan, old_tail, old_tails, plan_at}
 use Rattle.nv_calls.specs.Retiring.{part_in}
@@ -49,7 +49,7 @@ module _ (j : ℕ) (cells : List (ℕ × CellValue)) (start : CommitValue) (now 
   pub value_is : value_at now (to_publish commit).at ≡ value_at cells plan.at
   value_is = ap (value_at now) at_is ∙ way.changed.waiting j (omega arith) lt
 
-  pub can_next : ((i : ℕ) → i < length start.plans → CanBePublished (value_at cells (place_of start.plans i)))
+  pub can_next : ((i : ℕ) → i < length start.plans → CanBePublished (value_at cells (cell_place_of start.plans i)))
       → CanBePublished (value_at now (to_publish commit).at)
   can_next can = subst CanBePublished (sym value_is) (can j lt)
 
@@ -89,7 +89,7 @@ module _ (j : ℕ) (cells : List (ℕ × CellValue)) (start : CommitValue) (now 
       record {
         changed = one_more j start.plans (published_of cells start) cells now new placed lt way.changed changed own_state;
         plans = plans_more j start.plans commit.plans later.plans p lt way.plans plans
-            (ap (λ (n : ℕ). place_of commit.plans n) published_is);
+            (ap (λ (n : ℕ). cell_place_of commit.plans n) published_is);
         is = is ∙ ap (λ (c : CommitValue). let d : CommitValue = record c {
           plans = (after_publish (killed_by (state_at now (to_publish commit).at)) commit).plans;
           published = (after_publish (killed_by (state_at now (to_publish commit).at)) commit).published;
@@ -97,9 +97,9 @@ module _ (j : ℕ) (cells : List (ℕ × CellValue)) (start : CommitValue) (now 
             ∙ sym (ap (λ (c : CommitValue). let d : CommitValue = record start { plans = c.plans; published = c.published } in d) is)
             ∙ ap (λ (n : ℕ). let d : CommitValue = record start { plans = later.plans; published = n } in d) count;
         kept = below_more
-            (λ i. KeepsAppendRoom (value_at cells (place_of start.plans i)).room (value_at new (place_of start.plans i)).room) j
-            (λ i li. subst (λ (v : CellValue). KeepsAppendRoom (value_at cells (place_of start.plans i)).room v.room)
-            (sym (other-only now new plan.at (place_of start.plans i) changed
+            (λ i. KeepsAppendRoom (value_at cells (cell_place_of start.plans i)).room (value_at new (cell_place_of start.plans i)).room) j
+            (λ i li. subst (λ (v : CellValue). KeepsAppendRoom (value_at cells (cell_place_of start.plans i)).room v.room)
+            (sym (other-only now new plan.at (cell_place_of start.plans i) changed
             (apart cells start.plans placed i j (omega (arith, li, lt)) lt (λ e. omega (arith, li, e)))))
             (way.kept i li))
             (subst (λ (v : CellValue). KeepsAppendRoom v.room (value_at new plan.at).room) value_is

@@ -13,7 +13,7 @@ use Rattle.nv_calls.specs.declared.plan.InodePlan.{InodePlan}
 use Rattle.nv_calls.specs.CanCommit.{CanCommit}
 use Rattle.nv_calls.specs.Cells.{AreCells, ino_at, no_cell, state_at}
 use Rattle.nv_calls.specs.Commit.{CommitValue, begun, stamp_of}
-use Rattle.nv_calls.specs.Committed.{entry_count, grown, killing, place_before, place_of}
+use Rattle.nv_calls.specs.Committed.{entry_count, grown, killing, place_before, cell_place_of}
 use Rattle.nv_calls.specs.Plan.{planned}
 use Rattle.nv_calls.specs.PublishedSlots.{AreOfSlots, PublishesPlans, handle_at, planned_in, slots_after}
 use Rattle.nv_calls.specs.Ready.{ArePlaced, CellCommitValue, ReadyValue, no_plan, plan_at}
@@ -68,11 +68,11 @@ module _ (cells : List (ℕ × CellValue)) (plans : List CellCommitValue) (are :
   plan p = planned (handle_at cells p.at) p.items
 
   abbrev ino : ℕ → ℕ
-  ino j = ino_at cells (place_of plans j)
+  ino j = ino_at cells (cell_place_of plans j)
 
   -- numbers rise from cell to cell, and so from plan to plan
   pub ino_rises : (i j : ℕ) → i < j → j < length plans → ino i < ino j
-  ino_rises i j lt lj = are.rising (place_of plans i) (place_of plans j) no_cell (placed.rising i j no_plan lt lj) (placed.within j lj)
+  ino_rises i j lt lj = are.rising (cell_place_of plans i) (cell_place_of plans j) no_cell (placed.rising i j no_plan lt lj) (placed.within j lj)
 
   ino_differs : (i k : ℕ) → i < length cells → k < length cells → (i ≡ k → ⊥) → ino_at cells i ≡ ino_at cells k → ⊥
   ino_differs i k li lk differ same = go (nat_lt i k) refl where
@@ -119,7 +119,7 @@ module _ (cells : List (ℕ × CellValue)) (plans : List CellCommitValue) (are :
 -- ---- the items of a plan
 
 pub items_none : (cells : List (ℕ × CellValue)) (plans : List CellCommitValue) (number : ℕ)
-    → ((i : ℕ) → i < length plans → ino_at cells (place_of plans i) ≡ number → ⊥) → items_for (planned_in cells plans) number ≡ []
+    → ((i : ℕ) → i < length plans → ino_at cells (cell_place_of plans i) ≡ number → ⊥) → items_for (planned_in cells plans) number ≡ []
 items_none cells [] number none = refl
 items_none cells (p ∷ plans) number none =
     go (ino_at cells p.at == number) refl
@@ -130,7 +130,7 @@ items_none cells (p ∷ plans) number none =
       go false q rest = rest
 
 pub items_at : (cells : List (ℕ × CellValue)) (plans : List CellCommitValue) (number j : ℕ) → j < length plans
-    → ((i : ℕ) → i < j → ino_at cells (place_of plans i) ≡ number → ⊥) → ino_at cells (place_of plans j) ≡ number
+    → ((i : ℕ) → i < j → ino_at cells (cell_place_of plans i) ≡ number → ⊥) → ino_at cells (cell_place_of plans j) ≡ number
     → items_for (planned_in cells plans) number ≡ (plan_at plans j).items
 items_at cells [] number j lt before own = absurd (omega (arith, lt))
 items_at cells (p ∷ plans) number zero lt before own = rw (eq-eqb (ino_at cells p.at) number own) refl
@@ -160,7 +160,7 @@ module _ (cells : List (ℕ × CellValue)) (book : BookValue) (cpu : ℕ) (ready
   start = begun (stamp_of book.state) ready
 
   abbrev at : ℕ → ℕ
-  at j = place_of start.plans j
+  at j = cell_place_of start.plans j
 
   abbrev made : List InodePlan
   made = planned_in cells start.plans

@@ -15,7 +15,7 @@ use Rattle.nv_log.specs.Chain.{ChainState, log}
 use Rattle.nv_calls.specs.CanCommit.{CanBeRetired, CanRetireAll}
 use Rattle.nv_calls.specs.Cells.{OnlyAt, ino_at, state_at, value_at}
 use Rattle.nv_calls.specs.Commit.{CommitValue, after_retire, to_retire}
-use Rattle.nv_calls.specs.Committed.{Killing, hand_after_killings, killed_count, manifests_after, noted_killing, place_of}
+use Rattle.nv_calls.specs.Committed.{Killing, hand_after_killings, killed_count, manifests_after, noted_killing, cell_place_of}
 use Rattle.nv_calls.specs.PlanByPlan.{IsFree, NoneGone, RetiresTo, cell_of, room_of, settled_of}
 use Rattle.nv_calls.specs.Ready.{ArePlaced, CellCommitValue, no_plan, plan_at}
 use Rattle.nv_calls.specs.Retired.{CanRetire}
@@ -220,7 +220,7 @@ module _ (j : ℕ) (cells : List (ℕ × CellValue)) (start : CommitValue) (shel
       ∙ ap₂ (λ (e : ℕ) (ks : List KilledPart). with_records living noted.ino e ks book.state.manifests) epoch_is killed_is in
       record {
         changed = one_more j start.plans (settled_of living cells start) cells now new placed lt way.changed changed own_state;
-        plans = plans_more j start.plans commit.plans later.plans p lt way.plans plans (ap (λ (n : ℕ). place_of commit.plans n) retired_is);
+        plans = plans_more j start.plans commit.plans later.plans p lt way.plans plans (ap (λ (n : ℕ). cell_place_of commit.plans n) retired_is);
         is = is ∙ ap (λ (c : CommitValue). let d : CommitValue = record c {
           plans = (after_retire (ids book.state.snaps) (ino_at now (to_retire commit).at)
               (state_at now (to_retire commit).at) commit).plans;
@@ -234,8 +234,8 @@ module _ (j : ℕ) (cells : List (ℕ × CellValue)) (start : CommitValue) (shel
         state = book_is ∙ ap (λ (m : List Manifest). let b : BookState = record book.state { manifests = m } in b) own_records
             ∙ ap (λ (s : BookState). let b : BookState = record s { manifests = records s.manifests } in b) way.state
             ∙ ap (λ (m : List Manifest). let b : BookState = record shelf.state { manifests = m } in b) manifests_suc;
-        rooms = below_more (λ i. (value_at new (place_of start.plans i)).room ≡ room_of living cells start i) j
-            (λ i li. ap (λ (v : CellValue). v.room) (other-only now new plan.at (place_of start.plans i) changed
+        rooms = below_more (λ i. (value_at new (cell_place_of start.plans i)).room ≡ room_of living cells start i) j
+            (λ i li. ap (λ (v : CellValue). v.room) (other-only now new plan.at (cell_place_of start.plans i) changed
             (apart cells start.plans placed i j (omega (arith, li, lt)) lt (λ e. omega (arith, li, e))))
             ∙ way.rooms i li) own_cell_room;
         records = omega (arith, way.records, room, count_is, sum_is);

@@ -5,7 +5,7 @@ use Rattle.std.proofs.Math.Bridge.{le_prop}
 use Rattle.std.proofs.lemmas.Bool.{eqb-true, lt-ltb, ltb-true}
 use Rattle.nv_entry.specs.declared.item.BlockRun.{BlockRun}
 use Rattle.nv_entry.specs.Sound.{blocks_of}
-use Rattle.nv_calls.specs.Plan.{AreMaximal, run_if, runs_of, stretches, with_number}
+use Rattle.nv_calls.specs.Plan.{AreMaximal, run_if, block_runs_of, stretches, with_number}
 
 abbrev stretch : BlockRun → ℕ × ℕ
 stretch run = (run.start, run.len)
@@ -65,7 +65,7 @@ runs_are (run ∷ runs) =
     (run_is run (nat_lt (run.start + run.len) (2 ^ 64)) refl)
     ∙ ap (λ (xs : List BlockRun). run ∷ xs) (runs_are runs)
 
-pub maximal_are : (runs : List BlockRun) (numbers : List ℕ) → AreMaximal runs → blocks_of runs ≡ numbers → runs ≡ runs_of numbers
+pub maximal_are : (runs : List BlockRun) (numbers : List ℕ) → AreMaximal runs → blocks_of runs ≡ numbers → runs ≡ block_runs_of numbers
 maximal_are runs numbers maximal is =
     sym (runs_are runs)
     ∙ ap (λ (xs : List (ℕ × ℕ)). flat_map (λ (run : ℕ × ℕ). run_if run.0 run.1 (nat_lt (run.0 + run.1) (2 ^ 64)) refl) xs)

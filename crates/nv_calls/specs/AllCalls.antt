@@ -39,7 +39,9 @@ looked nodes (call.Rmdir dir name) = record { first = found nodes dir name; seco
 looked nodes (call.Rename from old to new) = record { first = found nodes from old; second = found nodes to new }
 looked nodes other = record { first = None; second = None }
 
--- why a call is refused at a look: the tests of its first name
+-- why a call is refused at a look: the tests of its first name.
+-- The tests of the first name are those of `look` too. That numbers, blocks or commit numbers run out is decided
+-- elsewhere.
 abbrev pub look_refusal : (Handle → Option NodeCopy) → Call → Check
 look_refusal nodes (call.Unlink dir name) = lookup_refusal nodes dir name
 look_refusal nodes (call.Rmdir dir name) = lookup_refusal nodes dir name
@@ -48,7 +50,9 @@ look_refusal nodes other = passes
 
 -- ---- the check
 
--- the tests that stand before names are compared with what the looks found
+-- the tests that stand before names are compared with what the looks found.
+-- First come those that stand before names are compared with what `look` found, then those of what the names lead
+-- to.
 abbrev pub early : (Handle → Option NodeCopy) → Call → Check
 early nodes (call.Unlink dir name) = lookup_refusal nodes dir name
 early nodes (call.Rmdir dir name) = lookup_refusal nodes dir name
@@ -71,13 +75,15 @@ late block nodes looked (call.Unlink dir name) = unlink_late nodes looked.first
 late block nodes looked (call.Rmdir dir name) = rmdir_late nodes looked.first
 late block nodes looked (call.Rename from old to new) = rename_late nodes from old to new looked
 
--- why a call is refused
+-- why a call is refused.
+-- Refusal: the first of its tests that fails, by the nodes at `check`.
 abbrev pub refusal : ℕ → (Handle → Option NodeCopy) → Call → Check
 refusal block nodes c = and_then (early nodes c) (late block nodes (looked nodes c) c)
 
 -- ---- effect and answer
 
--- what a commit changes, where a new inode has the handle `made`
+-- what a commit changes, where a new inode has the handle `made`.
+-- Effect: a list of changes, each of the node under a handle. No changes make no commit.
 abbrev pub effect : (Handle → Option NodeCopy) → Handle → Call → List Change
 effect nodes made (call.Create dir name mode) = create_effect dir name mode made
 effect nodes made (call.Mkdir dir name mode) = mkdir_effect dir name mode made
@@ -89,6 +95,7 @@ effect nodes made (call.Rmdir dir name) = leave_effect dir name (found nodes dir
 effect nodes made (call.Rename from old to new) = rename_effect from old to new (looked nodes (call.Rename from old to new))
 effect nodes made other = []
 
+-- what a call is answered, by the nodes and by the handle that it makes
 abbrev pub answer : (Handle → Option PlainNode) → Handle → Call → Answer
 answer nodes made (call.Create dir name mode) = answers.Made made
 answer nodes made (call.Mkdir dir name mode) = answers.Made made
@@ -101,11 +108,14 @@ answer nodes made other = answers.Nothing
 
 -- ---- plan
 
+-- there is no byte
 abbrev pub is_empty : List ℕ → Bool
 is_empty [] = true
 is_empty (byte ∷ rest) = false
 
--- a call that commits nothing, where it is not refused
+-- a call that commits nothing, where it is not refused.
+-- A call of nothing has neither effect nor plan: a read, a write of no bytes, a rename onto its own place. Of
+-- plans:
 abbrev pub is_nothing : Call → Bool
 is_nothing (call.Create dir name mode) = false
 is_nothing (call.Mkdir dir name mode) = false
@@ -133,7 +143,9 @@ blocks_wanted block nodes present (call.Write file offset text) = write_blocks b
 blocks_wanted block nodes present (call.Size file size) = size_blocks block nodes file size present
 blocks_wanted block nodes present other = 0
 
--- the items that a call appends, inode by inode
+-- the items that a call appends, inode by inode.
+-- Plan: the same inodes with the items that are appended to their logs. `Allocation` has what was taken: the handle
+-- of a new inode and the fresh block runs.
 abbrev pub plan : ℕ → (Handle → Option NodeCopy) → Allocation → Call → List InodePlan
 plan block nodes taken (call.Create dir name mode) = create_plan dir name mode taken.made
 plan block nodes taken (call.Mkdir dir name mode) = mkdir_plan dir name mode taken.made
@@ -157,7 +169,10 @@ pub record HasPages (bytes : ℕ → List ℕ) (block : ℕ) (taken : Allocation
   pub maximal : AreMaximal taken.runs
   pub filled : 0 < length text → HaveText bytes block offset text before (blocks_of taken.runs)
 
--- what was taken is what the call needs, and the fresh blocks are filled
+-- what was taken is what the call needs, and the fresh blocks are filled.
+-- What a call needs taken: an empty inode slot for a new inode; for a write maximal block runs that are filled with
+-- the pages after it; for a size that cuts a page a block with it after the cut, where the log tells whether there
+-- is a page.
 abbrev pub IsReady : (ℕ → List ℕ) → ℕ → (ℕ → InodeSlot) → (Handle → Option NodeCopy) → Allocation → Call → Type 0
 IsReady bytes block slots nodes taken (call.Create dir name mode) = IsFree slots taken.made
 IsReady bytes block slots nodes taken (call.Mkdir dir name mode) = IsFree slots taken.made

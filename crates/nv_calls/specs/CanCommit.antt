@@ -19,7 +19,7 @@ use Rattle.nv_log.specs.Chain.{last_of}
 use Rattle.nv_calls.specs.declared.stamp.Stamp.{Stamp}
 use Rattle.nv_calls.specs.Cells.{AreCells, value_at, state_at}
 use Rattle.nv_calls.specs.Commit.{CommitValue, begun, stamp_of}
-use Rattle.nv_calls.specs.Committed.{entry_count, killed_count, page_count, place_of}
+use Rattle.nv_calls.specs.Committed.{entry_count, killed_count, page_count, cell_place_of}
 use Rattle.nv_calls.specs.Ready.{ArePlaced, CellCommitValue, ReadyValue, need_of, plan_at}
 use Rattle.nv_calls.specs.Retiring.{part_in}
 use Rattle.nv_calls.specs.Steps.{IsLater, numbers_in}
@@ -40,7 +40,7 @@ numbers_of_all plans = flat_map (λ (p : CellCommitValue). numbers_in p.items) p
 -- in front the blocks of the items' pages
 pub record CanAppendAll (cells : List (ℕ × CellValue)) (commit : CommitValue) : Type 0 where
   pub each : (j : ℕ) → j < length commit.plans
-      → CanTakeItems commit.stamp commit.hand (plan_at commit.plans j).items (value_at cells (place_of commit.plans j))
+      → CanTakeItems commit.stamp commit.hand (plan_at commit.plans j).items (value_at cells (cell_place_of commit.plans j))
   pub blocks : numbers_of (take (length (numbers_of_all commit.plans)) commit.hand.data.blocks) ≡ numbers_of_all commit.plans
   pub pages : sum_by (page_count cells) commit.plans ≤ length commit.hand.pages.blocks
   pub few : sum_by entry_count commit.plans < 2 ^ 32
@@ -66,14 +66,14 @@ pub record CanBeRetired (hand : Hand) (plan : CellCommitValue) (cell : CellState
 -- the killed parts of all plans can be retired: there is room for them, and a hand can take one inode that is gone
 pub record CanRetireAll (room : ℕ) (cells : List (ℕ × CellValue)) (commit : CommitValue) : Type 0 where
   pub each : (j : ℕ) → j < length commit.plans
-      → CanBeRetired commit.hand (plan_at commit.plans j) (state_at cells (place_of commit.plans j))
+      → CanBeRetired commit.hand (plan_at commit.plans j) (state_at cells (cell_place_of commit.plans j))
   pub records : sum_by killed_count commit.plans ≤ room
   pub freed : sum_by killed_count commit.plans ≤ commit.hand.data.room
   pub chain : length commit.hand.chain ≡ 0
   pub number : commit.hand.ino ≡ None
   pub one : (i j : ℕ) → i < length commit.plans → j < length commit.plans
-      → is_gone (log_of (state_at cells (place_of commit.plans i))) ≡ true
-      → is_gone (log_of (state_at cells (place_of commit.plans j))) ≡ true → i ≡ j
+      → is_gone (log_of (state_at cells (cell_place_of commit.plans i))) ≡ true
+      → is_gone (log_of (state_at cells (cell_place_of commit.plans j))) ≡ true → i ≡ j
 
 -- ---- a whole commit
 
@@ -97,14 +97,17 @@ pub record HasNumber (ready : ReadyValue) : Type 0 where
 abbrev pub IsEntered : BookState → Type 0
 IsEntered book = (seat : ℕ) × ((before : BookState) × (book ≡ after_enter seat before))
 
--- what is ready can be committed as the book's latest commit, which was just entered, with a CPU's journal
+-- what is ready can be committed as the book's latest commit, which was just entered, with a CPU's journal.
+-- What a commit needs: Each planned cell is settled and ready to append its items, and has entries of earlier
+-- commits alone. At most one inode goes. The hand has in front the blocks of all items' pages, in the order of the
+-- cells, and the log pages that the logs need.
 pub record CanCommit (cells : List (ℕ × CellValue)) (book : BookValue) (cpu : ℕ) (ready : ReadyValue) : Type 0 where
   pub cells_are : AreCells cells
   pub placed : ArePlaced cells ready.plans
   pub entered : IsEntered book.state
   pub append : CanAppendAll cells (begun (stamp_of book.state) ready)
   pub settled : (j : ℕ) → j < length ready.plans
-      → IsSettledFor (plan_at ready.plans j).items (state_at cells (place_of ready.plans j))
+      → IsSettledFor (plan_at ready.plans j).items (state_at cells (cell_place_of ready.plans j))
   pub records : need_of cells ready.plans ≤ book.room
   pub freed : need_of cells ready.plans ≤ ready.hand.data.room
   pub chain : length ready.hand.chain ≡ 0

@@ -10,9 +10,11 @@ no_cell = (0, record { state = empty_cell 1 2 0 0; room = no_room })
 abbrev pub ino_at : List (ℕ × CellValue) → ℕ → ℕ
 ino_at cells k = (slice_index_or cells k no_cell).0
 
+-- what clauses see of the cell at a place
 abbrev pub value_at : List (ℕ × CellValue) → ℕ → CellValue
 value_at cells k = (slice_index_or cells k no_cell).1
 
+-- the state of the cell at a place
 abbrev pub state_at : List (ℕ × CellValue) → ℕ → CellState
 state_at cells k = (value_at cells k).state
 

@@ -15,6 +15,7 @@ use Rattle.nv_calls.specs.Updates.{blank_call}
 
 -- ---- the order of its tests
 
+-- two look-ups found the same
 abbrev pub same_found : Option Handle → Option Handle → Bool
 same_found None None = true
 same_found None (Some other) = false
@@ -29,7 +30,7 @@ same_looked now before = same_found now.first before.first && same_found now.sec
 -- that was bound anew; by the other tests; for want of a number; or since there is nothing to commit
 abbrev pub check_ends : Check → Bool → Check → Bool → Bool → Option CheckEnd
 check_ends (Err fault) same tests numbered nothing = Some (ends.Refuses fault)
-check_ends (Ok passed) false tests numbered nothing = Some ends.Overtaken
+check_ends (Ok passed) false tests numbered nothing = Some ends.BoundAnew
 check_ends (Ok passed) true (Err fault) numbered nothing = Some (ends.Refuses fault)
 check_ends (Ok passed) true (Ok all) false nothing = Some (ends.Refuses fault.NoInode)
 check_ends (Ok passed) true (Ok all) true true = Some ends.Answers
@@ -45,16 +46,19 @@ ends_over block nodes before numbered u =
 abbrev pub refusal_by : Option CheckEnd → Check
 refusal_by None = passes
 refusal_by (Some (ends.Refuses fault)) = Err fault
-refusal_by (Some ends.Overtaken) = Err fault.Contended
+refusal_by (Some ends.BoundAnew) = Err fault.Contended
 refusal_by (Some ends.Answers) = passes
 
 -- ---- its refusals
 
--- why a call is refused, by its nodes and for want of a number, where its names lead to what its looks found
+-- why a call is refused, by its nodes and for want of a number, where its names lead to what its looks found.
+-- How `check` ends: where the names of a call lead to what `look` found, by `check_refusal`. That is the plain
+-- world's refusal, then `NoInode` for a call that makes an inode and has no number.
 abbrev pub check_refusal : ℕ → (Handle → Option NodeCopy) → Option ℕ → Update → Check
 check_refusal block nodes number u =
     and_then (refusal block nodes (blank_call u)) (refuse_if (makes u && not (is_some number)) fault.NoInode passes)
 
--- and where one of them leads elsewhere
+-- and where one of them leads elsewhere.
+-- Else it ends by `overtaken_refusal`: the tests of `look`, then `Contended`.
 abbrev pub overtaken_refusal : (Handle → Option NodeCopy) → Update → Check
 overtaken_refusal nodes u = and_then (early nodes (blank_call u)) (Err fault.Contended)

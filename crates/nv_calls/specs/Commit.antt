@@ -54,9 +54,11 @@ begun stamp ready = record {
 abbrev pub to_append : CommitValue → CellCommitValue
 to_append commit = plan_at commit.plans commit.appended
 
+-- the plan that is published next
 abbrev pub to_publish : CommitValue → CellCommitValue
 to_publish commit = plan_at commit.plans commit.published
 
+-- the plan that is retired next
 abbrev pub to_retire : CommitValue → CellCommitValue
 to_retire commit = plan_at commit.plans commit.retired
 
@@ -112,5 +114,6 @@ pub record ReceiptValue : Type 0 where
   pub made : Option Handle
   pub noted : List OldTail
 
+-- the receipt of a commit that is done
 abbrev pub receipt_of : CommitValue → ReceiptValue
 receipt_of commit = record { update = commit.update; stamp = commit.stamp; made = commit.made; noted = commit.noted }

@@ -14,23 +14,24 @@ use Rattle.nv_calls.specs.Retiring.{erased, hand_retired, retired, room_erased, 
 use Rattle.nv_calls.specs.Steps.{numbers_in, with_plan, without_front}
 
 -- the place of the j-th plan's cell; and a place that no plan is for
-abbrev pub place_of : List CellCommitValue → ℕ → ℕ
-place_of plans j = (plan_at plans j).at
+abbrev pub cell_place_of : List CellCommitValue → ℕ → ℕ
+cell_place_of plans j = (plan_at plans j).at
 
+-- no plan is of the cell at a place
 abbrev pub IsUnplanned : List CellCommitValue → ℕ → Type 0
-IsUnplanned plans k = (j : ℕ) → j < length plans → place_of plans j ≡ k → ⊥
+IsUnplanned plans k = (j : ℕ) → j < length plans → cell_place_of plans j ≡ k → ⊥
 
 -- the planned cells have new states, and nothing else of the cells changes
 pub record ChangesPlanned (plans : List CellCommitValue) (becomes : ℕ → CellState) (old new : List (ℕ × CellValue)) : Type 0 where
   pub count : length new ≡ length old
   pub numbers : (k : ℕ) → ino_at new k ≡ ino_at old k
-  pub planned : (j : ℕ) → j < length plans → state_at new (place_of plans j) ≡ becomes j
+  pub planned : (j : ℕ) → j < length plans → state_at new (cell_place_of plans j) ≡ becomes j
   pub others : (k : ℕ) → IsUnplanned plans k → value_at new k ≡ value_at old k
 
 -- plans of the same cells
 pub record HaveSamePlaces (old new : List CellCommitValue) : Type 0 where
   pub count : length new ≡ length old
-  pub places : (j : ℕ) → place_of new j ≡ place_of old j
+  pub places : (j : ℕ) → cell_place_of new j ≡ cell_place_of old j
 
 -- ---- appending
 
@@ -38,9 +39,11 @@ pub record HaveSamePlaces (old new : List CellCommitValue) : Type 0 where
 abbrev pub entry_count : CellCommitValue → ℕ
 entry_count plan = length plan.items
 
+-- how many data blocks a plan has
 abbrev pub block_count : CellCommitValue → ℕ
 block_count plan = length (numbers_in plan.items)
 
+-- how many log pages a plan needs in its cell
 abbrev pub page_count : List (ℕ × CellValue) → CellCommitValue → ℕ
 page_count cells plan = pages_for (state_at cells plan.at).chain (length plan.items)
 
@@ -48,6 +51,7 @@ page_count cells plan = pages_for (state_at cells plan.at).chain (length plan.it
 abbrev pub place_before : List CellCommitValue → ℕ → ℕ
 place_before plans j = sum_by entry_count (take j plans)
 
+-- the hand once the first plans were appended: without their blocks and log pages
 abbrev pub hand_before : List (ℕ × CellValue) → CommitValue → ℕ → Hand
 hand_before cells commit j = record commit.hand {
   «data» = without_front (sum_by block_count (take j commit.plans)) commit.hand.data;
@@ -58,7 +62,7 @@ hand_before cells commit j = record commit.hand {
 abbrev pub grown : List (ℕ × CellValue) → CommitValue → ℕ → CellValue
 grown cells commit j =
     with_plan commit.stamp (place_before commit.plans j) (plan_at commit.plans j).items (hand_before cells commit j)
-    (value_at cells (place_of commit.plans j))
+    (value_at cells (cell_place_of commit.plans j))
 
 -- ---- publishing
 
@@ -68,7 +72,7 @@ journaled cells plans = if nat_lt 1 (length plans) then old_tails cells plans el
 
 -- the planned cells have so much room to append
 abbrev pub HaveAppendRoom : List CellCommitValue → (ℕ → CellRoom) → List (ℕ × CellValue) → Type 0
-HaveAppendRoom plans room cells = (j : ℕ) → j < length plans → KeepsAppendRoom (room j) (value_at cells (place_of plans j)).room
+HaveAppendRoom plans room cells = (j : ℕ) → j < length plans → KeepsAppendRoom (room j) (value_at cells (cell_place_of plans j)).room
 
 -- ---- retiring
 
@@ -82,17 +86,18 @@ pub record Killing : Type 0 where
 abbrev pub killed_count : CellCommitValue → ℕ
 killed_count plan = length plan.killed
 
+-- the parts that a plan has killed, by its inode
 abbrev pub noted_killing : List (ℕ × CellValue) → CommitValue → ℕ → Killing
 noted_killing cells commit j = record {
-  ino = ino_at cells (place_of commit.plans j);
+  ino = ino_at cells (cell_place_of commit.plans j);
   parts = (plan_at commit.plans j).killed;
-  cell = state_at cells (place_of commit.plans j);
+  cell = state_at cells (cell_place_of commit.plans j);
 }
 
 -- what is killed once the entries of the j-th plan are published
 abbrev pub killing : List (ℕ × CellValue) → CommitValue → ℕ → Killing
 killing cells commit j = record {
-  ino = ino_at cells (place_of commit.plans j);
+  ino = ino_at cells (cell_place_of commit.plans j);
   parts = killed_by (grown cells commit j).state;
   cell = published (grown cells commit j).state;
 }
@@ -105,12 +110,14 @@ settled_cell living epoch k = erased (retired living k.ino epoch k.parts k.cell)
 abbrev pub settled_room : List ℕ → ℕ → Killing → CellRoom → CellRoom
 settled_room living epoch k room = room_erased (retired living k.ino epoch k.parts k.cell) room
 
--- the manifests, and a hand, once the first of several killings are retired
+-- the manifests, and a hand, once the first of several killings are retired.
+-- Of manifests it makes `manifests_after`, and of the hand `hand_left`.
 abbrev pub manifests_after : List ℕ → ℕ → (ℕ → Killing) → ℕ → List Manifest → List Manifest
 manifests_after living epoch killings zero manifests = manifests
 manifests_after living epoch killings (suc j) manifests =
     with_records living (killings j).ino epoch (killings j).parts (manifests_after living epoch killings j manifests)
 
+-- the hand once the first killings were retired
 abbrev pub hand_after_killings : List ℕ → ℕ → (ℕ → Killing) → ℕ → Hand → Hand
 hand_after_killings living epoch killings zero hand = hand
 hand_after_killings living epoch killings (suc j) hand =
@@ -118,7 +125,9 @@ hand_after_killings living epoch killings (suc j) hand =
 
 -- ---- a whole commit
 
--- the cell of the j-th plan after the commit
+-- the cell of the j-th plan after the commit.
+-- What a commit makes of the j-th planned cell is `committed`: that cell with the entries appended, published, and
+-- what that killed retired.
 abbrev pub committed : List ℕ → List (ℕ × CellValue) → CommitValue → ℕ → CellState
 committed living cells commit j = settled_cell living commit.stamp.epoch (killing cells commit j)
 

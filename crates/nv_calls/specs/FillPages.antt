@@ -60,6 +60,7 @@ pages_over block old other = []
 abbrev pub block_for : List (ℕ × CellValue) → Handle → ℕ → Option BlockValue
 block_for cells file page = option_and_then (λ c. block_at_page c.state page) (cell_of cells file.ino)
 
+-- the bytes of a file's page, by the block that the cells have for it
 abbrev pub page_in : List (ℕ × CellValue) → ℕ → Handle → ℕ → List ℕ
 page_in cells block file page = slot_bytes block (block_for cells file page)
 

@@ -15,5 +15,7 @@ pub record IsLawfulFor (block : ℕ) (nodes : Handle → Option NodeCopy) (p : I
   pub one : BindOne p.items
   pub few : length p.items ≤ WRITE_PAGES
 
+-- A plan is lawful where the log of each inode can take its items, one after another, by the kind of its node and
+-- within the limits of a file. They bind one name at most.
 abbrev pub IsLawfulPlan : ℕ → (Handle → Option NodeCopy) → List InodePlan → Type 0
 IsLawfulPlan block nodes plan = AllByRecursion (IsLawfulFor block nodes) plan

@@ -13,15 +13,16 @@ use Rattle.nv_calls.specs.AllCalls.{answer, blocks_wanted, early, effect, looked
 use Rattle.nv_calls.specs.Plain.{PlainNode, node_in}
 use Rattle.nv_calls.specs.Plan.{plan_blocks}
 
+-- the handle, if there is one, as a list
 abbrev pub if_any : Option Handle → List Handle
 if_any None = []
 if_any (Some handle) = handle ∷ []
 
 -- the handle of a new inode, where a call makes one: its number is taken before the call locks
-abbrev pub made_by : Handle → Call → List Handle
-made_by made (call.Create dir name mode) = made ∷ []
-made_by made (call.Mkdir dir name mode) = made ∷ []
-made_by made other = []
+abbrev pub handles_made_by : Handle → Call → List Handle
+handles_made_by made (call.Create dir name mode) = made ∷ []
+handles_made_by made (call.Mkdir dir name mode) = made ∷ []
+handles_made_by made other = []
 
 -- the handles that a call reads: those that it names, and what its looks found
 abbrev pub handles : LookupResult → Call → List Handle
@@ -39,9 +40,10 @@ handles looked (call.Unlink dir name) = dir ∷ if_any looked.first
 handles looked (call.Rmdir dir name) = dir ∷ if_any looked.first
 handles looked (call.Rename from old to new) = from ∷ to ∷ if_any looked.first ++ if_any looked.second
 
--- the handles that a call locks
+-- the handles that a call locks.
+-- It locks these and that of a new inode, whose number is taken before.
 abbrev pub locks : LookupResult → Handle → Call → List Handle
-locks looked made c = made_by made c ++ handles looked c
+locks looked made c = handles_made_by made c ++ handles looked c
 
 -- the handle in which a call looks its first name up
 abbrev pub first_look : Call → List Handle
@@ -83,6 +85,7 @@ abbrev pub slots_in : ℕ → List ℕ → List ℕ
 slots_in inodes [] = []
 slots_in inodes (ino ∷ rest) = if nat_lt ino inodes then with_slot ino (slots_in inodes rest) else slots_in inodes rest
 
+-- the number, if there is one, as a list
 abbrev pub if_number : Option ℕ → List ℕ
 if_number None = []
 if_number (Some ino) = ino ∷ []

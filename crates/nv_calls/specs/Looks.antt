@@ -22,6 +22,7 @@ directories other = []
 abbrev pub handle_at : List Handle → ℕ → Handle
 handle_at list place = slice_index_or list place root
 
+-- what no look has found
 abbrev pub nothing_looked : LookupResult
 nothing_looked = record { first = None; second = None }
 

@@ -8,7 +8,9 @@ use Rattle.nv_calls.specs.declared.stamp.Stamp.{Stamp}
 use Rattle.nv_calls.specs.Cells.{ino_at, state_at}
 
 -- no entry of a cell is of a later commit or epoch than these; each commit published it once at most, and it was
--- published so often before the first of them; and the generation of an inode is not the last
+-- published so often before the first of them; and the generation of an inode is not the last.
+-- Between two calls a cell is up to a commit: no entry is of a later commit or epoch, and its version is at most
+-- that commit's number, and what it was before the first.
 pub record IsUpTo (stamp : Stamp) (before : ℕ) (cell : CellState) : Type 0 where
   pub commit : ForSome (last_id cell.chain) (λ last. last.commit ≤ stamp.commit)
   pub epoch : ForSome (last_epoch cell.chain) (λ last. last ≤ stamp.epoch)

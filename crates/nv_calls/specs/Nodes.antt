@@ -24,6 +24,7 @@ abbrev pub cell_of : List (ℕ × CellValue) → ℕ → Option CellValue
 cell_of [] ino = None
 cell_of (c ∷ cells) ino = if c.0 == ino then Some c.1 else cell_of cells ino
 
+-- a node with other bytes
 abbrev pub with_bytes : List ℕ → PlainNode → PlainNode
 with_bytes bytes p = record p { node = record p.node { bytes = bytes } }
 
@@ -35,6 +36,7 @@ own_node cell handle = option_map (with_bytes (own_bytes cell)) (node_of (λ num
 abbrev pub plain_nodes : List (ℕ × CellValue) → Handle → Option PlainNode
 plain_nodes cells handle = option_and_then (λ c. own_node c.state handle) (cell_of cells handle.ino)
 
+-- the nodes of cells, by handle
 abbrev pub nodes_in : List (ℕ × CellValue) → Handle → Option NodeCopy
 nodes_in cells = node_in (plain_nodes cells)
 
@@ -42,6 +44,7 @@ nodes_in cells = node_in (plain_nodes cells)
 abbrev pub cell_has_page : ℕ → CellState → Bool
 cell_has_page page cell = is_some (block_now cell.block (log_of cell) page)
 
+-- the cells have a block for a page of a file
 abbrev pub has_page_in : List (ℕ × CellValue) → Handle → ℕ → Bool
 has_page_in cells handle page = unwrap_or (option_map (λ c. cell_has_page page c.state) (cell_of cells handle.ino)) false
 
@@ -55,6 +58,7 @@ alone ino cell = (ino, cell) ∷ []
 abbrev pub nodes_by : (ℕ → List ℕ) → List (ℕ × CellValue) → Handle → Option PlainNode
 nodes_by bytes cells handle = option_and_then (λ c. node_of bytes c.state handle) (cell_of cells handle.ino)
 
+-- the nodes of cells, where the bytes of their blocks are given
 abbrev pub copies_by : (ℕ → List ℕ) → List (ℕ × CellValue) → Handle → Option NodeCopy
 copies_by bytes cells = node_in (nodes_by bytes cells)
 
@@ -69,6 +73,12 @@ pub record IsViewOver (nodes : Handle → Option PlainNode) (cell : CellState) (
   pub found : (made : Handle) → view.found ≡ answer nodes made c
   pub version : view.version ≡ cell.version
 
+-- What a call that only reads finds is told by one cell with its number: a handle of another number has no node
+-- there. Examples, with a root 0.1: A rename of `x` in 1.1 to `x` in the root, bound to 2.1, changes 1.1, where the
+-- name leaves, and then the root, where the name goes last. Its plan is Unbind{x} for 1.1 and Bind{x, 2.1} for 0.1.
+-- A size of 5 for a file of 10 bytes takes one block for page 1, which gets the byte at 4 and three zeros. It plans
+-- Write{first 1, that block, size 5} and then SetSize{5}. A size of 12 afterwards plans SetSize{12} alone. Blocks
+-- 3, 4, 7, 8, 2 are the block runs 3 to 4, 7 to 8 and 2.
 abbrev pub IsView : (ℕ → List ℕ) → ℕ → CellValue → Call → View → Type 0
 IsView bytes ino cell c view = IsViewOver (nodes_by bytes (alone ino cell)) cell.state c view
 
@@ -83,6 +93,7 @@ abbrev pub slot_by : Option CellValue → InodeSlot
 slot_by None = record { generation = 0; log = [] }
 slot_by (Some c) = slot_of c.state
 
+-- the inode slots of cells, by number
 abbrev pub slots_by : List (ℕ × CellValue) → ℕ → InodeSlot
 slots_by cells ino = slot_by (cell_of cells ino)
 
@@ -92,5 +103,6 @@ pub record HasBytes (bytes : ℕ → List ℕ) (block : ℕ) (cell : CellState) 
   pub size : cell.block ≡ block
   pub are : AreBytesOf cell bytes
 
+-- each cell's blocks have these bytes
 abbrev pub HaveBytes : (ℕ → List ℕ) → ℕ → List (ℕ × CellValue) → Type 0
 HaveBytes bytes block cells = AllByRecursion (λ c. HasBytes bytes block c.1.state) cells

@@ -10,6 +10,7 @@ use Rattle.nv_calls.specs.declared.plan.InodePlan.{InodePlan}
 abbrev pub pages_needed : List InodePlan → ℕ × CellValue → ℕ
 pages_needed plan c = pages_for c.1.state.chain (length (items_for plan c.0))
 
+-- how many log pages a plan needs in all cells
 abbrev pub pages_wanted : List (ℕ × CellValue) → List InodePlan → ℕ
 pages_wanted cells plan = sum_by (pages_needed plan) cells
 

@@ -6,11 +6,13 @@ use Rattle.nv_entry.specs.declared.names.BoundName.{BoundName}
 use Rattle.nv_entry.specs.declared.node.NodeCopy.{NodeCopy}
 use Rattle.nv_entry.specs.Sound.{empty_node}
 
--- a node, and the commit that changed it last
+-- a node, and the commit that changed it last.
+-- Plain node: kind, mode, size, bytes or list of names, and the commit that changed it last.
 pub record PlainNode : Type 0 where
   pub node : NodeCopy
   pub changed : ℕ
 
+-- the two handles are one
 abbrev pub same_handle : Handle → Handle → Bool
 same_handle a b = a.ino == b.ino && a.generation == b.generation
 
@@ -24,15 +26,19 @@ stamped commit node = option_map (λ (n : NodeCopy). let p : PlainNode = record 
 
 -- ---- what becomes of a node
 
+-- a new node stands there, without bytes and names
 abbrev pub begins : Kind → ℕ → Option NodeCopy → Option NodeCopy
 begins kind mode before = Some (empty_node kind mode)
 
+-- no node stands there any more
 abbrev pub goes : Option NodeCopy → Option NodeCopy
 goes before = None
 
+-- the node with another mode
 abbrev pub with_mode : ℕ → Option NodeCopy → Option NodeCopy
 with_mode mode before = option_map (λ (n : NodeCopy). record n { mode = mode }) before
 
+-- the node with other names
 abbrev pub with_names : (List BoundName → List BoundName) → Option NodeCopy → Option NodeCopy
 with_names f before = option_map (λ (n : NodeCopy). record n { names = f n.names }) before
 
@@ -43,6 +49,7 @@ pub record Change : Type 0 where
   pub handle : Handle
   pub becomes : Option NodeCopy → Option NodeCopy
 
+-- a change of the node under a handle
 abbrev pub change : Handle → (Option NodeCopy → Option NodeCopy) → Change
 change handle becomes = record { handle = handle; becomes = becomes }
 

@@ -12,6 +12,7 @@ use Rattle.nv_entry.specs.Sound.{MakesAll}
 use Rattle.nv_calls.specs.Plain.{Change}
 use Rattle.nv_calls.specs.declared.plan.InodePlan.{InodePlan}
 
+-- the plan of one inode: these items behind its log
 abbrev pub planned : Handle → List Item → InodePlan
 planned handle items = record { handle = handle; items = items }
 
@@ -20,7 +21,8 @@ pub record Fits (bytes : ℕ → List ℕ) (block : ℕ) (nodes : Handle → Opt
   pub same : p.handle ≡ c.handle
   pub makes : MakesAll bytes block p.items (nodes p.handle) (c.becomes (nodes p.handle))
 
--- a plan does what an effect says, inode by inode
+-- a plan does what an effect says, inode by inode.
+-- A plan fits an effect where each inode's items make of its node what its change makes of it.
 abbrev pub AllFit : (ℕ → List ℕ) → ℕ → (Handle → Option NodeCopy) → List InodePlan → List Change → Type 0
 AllFit bytes block nodes [] [] = Unit {0}
 AllFit bytes block nodes (p ∷ plan) (c ∷ effect) = Fits bytes block nodes p c × AllFit bytes block nodes plan effect
@@ -50,6 +52,7 @@ abbrev pub with_number : ℕ → List (ℕ × ℕ) → List (ℕ × ℕ)
 with_number n [] = (n, 1) ∷ []
 with_number n (run ∷ runs) = if n + 1 == run.0 then (n, run.1 + 1) ∷ runs else (n, 1) ∷ run ∷ runs
 
+-- the maximal runs of consecutive numbers, as a first number and a length
 abbrev pub stretches : List ℕ → List (ℕ × ℕ)
 stretches [] = []
 stretches (n ∷ numbers) = with_number n (stretches numbers)
@@ -60,10 +63,11 @@ run_if start len true is = record { start = start; len = len; in_range = ltb-tru
 run_if start len false is = []
 
 -- blocks in the order in which they were taken, as maximal runs
-abbrev pub runs_of : List ℕ → List BlockRun
-runs_of numbers = flat_map (λ (run : ℕ × ℕ). run_if run.0 run.1 (nat_lt (run.0 + run.1) (2 ^ 64)) refl) (stretches numbers)
+abbrev pub block_runs_of : List ℕ → List BlockRun
+block_runs_of numbers = flat_map (λ (run : ℕ × ℕ). run_if run.0 run.1 (nat_lt (run.0 + run.1) (2 ^ 64)) refl) (stretches numbers)
 
--- each run has a block, and none goes on where the one before it ends
+-- each run has a block, and none goes on where the one before it ends.
+-- Maximal block runs: each has a block, and none goes on where the one before it ends.
 abbrev pub AreMaximal : List BlockRun → Type 0
 AreMaximal [] = Unit {0}
 AreMaximal (run ∷ []) = 0 < run.len

@@ -15,7 +15,7 @@ use Rattle.nv_calls.specs.Cells.{AreCells, ino_at, state_at, value_at}
 use Rattle.nv_calls.specs.Committed.{page_count}
 use Rattle.nv_calls.specs.Nodes.{block_in, cell_of, has_page_in, nodes_in, slots_by}
 use Rattle.nv_calls.specs.PagesWanted.{pages_wanted}
-use Rattle.nv_calls.specs.Plan.{AreMaximal, runs_of}
+use Rattle.nv_calls.specs.Plan.{AreMaximal, block_runs_of}
 use Rattle.nv_calls.specs.Ready.{CellCommitValue, ReadyValue, need_of}
 use Rattle.nv_calls.specs.Refusals.{passes}
 use Rattle.nv_calls.specs.Slots.{items_for}
@@ -39,16 +39,18 @@ abbrev pub handle_in : List (ℕ × CellValue) → ℕ → Handle
 handle_in cells ino = record { ino = ino; generation = (slots_by cells ino).generation }
 
 -- that of a new inode: of the number in the hand
-abbrev pub made_by : List (ℕ × CellValue) → Option ℕ → Update → Option Handle
-made_by cells number u = if makes u then option_map (handle_in cells) number else None
+abbrev pub handle_made_by : List (ℕ × CellValue) → Option ℕ → Update → Option Handle
+handle_made_by cells number u = if makes u then option_map (handle_in cells) number else None
 
+-- a handle that stands for no inode here
 abbrev pub no_handle : Handle
 no_handle = record { ino = 0; generation = 0 }
 
+-- what a call has taken: the handle of its new inode, and its data blocks as runs
 abbrev pub taken_by : List (ℕ × CellValue) → Hand → Update → Allocation
 taken_by cells hand u = record {
-  made = unwrap_or (made_by cells hand.ino u) no_handle;
-  runs = runs_of (numbers_of hand.data.blocks);
+  made = unwrap_or (handle_made_by cells hand.ino u) no_handle;
+  runs = block_runs_of (numbers_of hand.data.blocks);
 }
 
 -- the items of a call, inode by inode
@@ -57,6 +59,7 @@ planned_by cells hand u = plan (block_in cells) (nodes_in cells) (taken_by cells
 
 -- ---- cell by cell
 
+-- the plan of a cell in front of others, where it has items
 abbrev pub if_items : ℕ → List Item → List CellCommitValue → List CellCommitValue
 if_items at [] plans = plans
 if_items at (item ∷ items) plans = record { at = at; items = item ∷ items; killed = [] } ∷ plans
@@ -66,6 +69,7 @@ abbrev pub cell_plans : List InodePlan → ℕ → List (ℕ × CellValue) → L
 cell_plans plan at [] = []
 cell_plans plan at (c ∷ cells) = if_items at (items_for plan c.0) (cell_plans plan (at + 1) cells)
 
+-- the plans of a call, cell by cell
 abbrev pub plans_by : List (ℕ × CellValue) → Hand → Update → List CellCommitValue
 plans_by cells hand u = cell_plans (planned_by cells hand u) 0 cells
 
@@ -138,7 +142,7 @@ pub record HasLogPages (cells : List (ℕ × CellValue)) (hand : Hand) (u : Upda
 pub record IsReadyBy (cells : List (ℕ × CellValue)) (hand : Hand) (u : Update) (now : List (ℕ × CellValue)) (ready : ReadyValue)
     : Type 0 where
   pub update : ready.update ≡ u
-  pub made : ready.made ≡ made_by cells hand.ino u
+  pub made : ready.made ≡ handle_made_by cells hand.ino u
   pub maximal : AreMaximal (taken_by cells hand u).runs
   pub whole : blocks_of (taken_by cells hand u).runs ≡ numbers_of hand.data.blocks
   pub plans : ready.plans ≡ plans_by cells hand u

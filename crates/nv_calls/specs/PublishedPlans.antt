@@ -3,13 +3,13 @@ use Rattle.std.specs.Prelude.{◌≡◌, ℕ, ◌<◌, List, length}
 use Rattle.nv_cell.specs.Cell.{CellValue, killed_by, published}
 use Rattle.nv_calls.specs.CanCommit.{KillsAsTold}
 use Rattle.nv_calls.specs.Cells.{state_at, value_at}
-use Rattle.nv_calls.specs.Committed.{ChangesPlanned, HaveAppendRoom, HaveSamePlaces, place_of}
+use Rattle.nv_calls.specs.Committed.{ChangesPlanned, HaveAppendRoom, HaveSamePlaces, cell_place_of}
 use Rattle.nv_calls.specs.Ready.{CellCommitValue, plan_at}
 
 -- the entries of all plans are published, and the plans then note what that killed
 pub record PublishesAll (plans noted : List CellCommitValue) (old new : List (ℕ × CellValue)) : Type 0 where
-  pub cells : ChangesPlanned plans (λ j. published (state_at old (place_of plans j))) old new
-  pub room : HaveAppendRoom plans (λ j. (value_at old (place_of plans j)).room) new
-  pub killed : (j : ℕ) → j < length plans → (plan_at noted j).killed ≡ killed_by (state_at old (place_of plans j))
-  pub told : (j : ℕ) → j < length plans → KillsAsTold (state_at old (place_of plans j))
+  pub cells : ChangesPlanned plans (λ j. published (state_at old (cell_place_of plans j))) old new
+  pub room : HaveAppendRoom plans (λ j. (value_at old (cell_place_of plans j)).room) new
+  pub killed : (j : ℕ) → j < length plans → (plan_at noted j).killed ≡ killed_by (state_at old (cell_place_of plans j))
+  pub told : (j : ℕ) → j < length plans → KillsAsTold (state_at old (cell_place_of plans j))
   pub places : HaveSamePlaces plans noted

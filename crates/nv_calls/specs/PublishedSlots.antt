@@ -7,7 +7,7 @@ use Rattle.nv_calls.specs.declared.plan.InodePlan.{InodePlan}
 use Rattle.nv_calls.specs.CanCommit.{CanCommit}
 use Rattle.nv_calls.specs.Cells.{ino_at, state_at}
 use Rattle.nv_calls.specs.Commit.{CommitValue, begun, stamp_of}
-use Rattle.nv_calls.specs.Committed.{ChangesPlanned, IsUnplanned, committed, grown, killing, place_of}
+use Rattle.nv_calls.specs.Committed.{ChangesPlanned, IsUnplanned, committed, grown, killing, cell_place_of}
 use Rattle.nv_calls.specs.Plan.{planned}
 use Rattle.nv_calls.specs.Ready.{CellCommitValue, ReadyValue}
 use Rattle.nv_calls.specs.Retiring.{retired}
@@ -27,6 +27,7 @@ IsOfNone cells ino = (k : ℕ) → k < length cells → ino_at cells k ≡ ino �
 abbrev pub handle_at : List (ℕ × CellValue) → ℕ → Handle
 handle_at cells k = record { ino = ino_at cells k; generation = (state_at cells k).generation }
 
+-- the plans of cells as plans of inodes
 abbrev pub planned_in : List (ℕ × CellValue) → List CellCommitValue → List InodePlan
 planned_in cells plans = map (λ (p : CellCommitValue). planned (handle_at cells p.at) p.items) plans
 
@@ -35,7 +36,8 @@ pub record PublishAlike (one other : List InodePlan) : Type 0 where
   pub items : (ino : ℕ) → items_for one ino ≡ items_for other ino
   pub places : (ino : ℕ) → place_in one ino ≡ place_in other ino
 
--- the slots once the commit is published
+-- the slots once the commit is published.
+-- The inode slots after it are those of the plain commit of its plans.
 abbrev pub slots_after : List (ℕ × CellValue) → CommitValue → (ℕ → InodeSlot) → ℕ → InodeSlot
 slots_after cells commit slots = published_slots commit.stamp.commit commit.stamp.epoch (planned_in cells commit.plans) slots
 
@@ -43,13 +45,13 @@ slots_after cells commit slots = published_slots commit.stamp.commit commit.stam
 -- erasing of an inode of which nothing is kept
 pub record PublishesPlans (cells : List (ℕ × CellValue)) (commit : CommitValue) (slots : ℕ → InodeSlot) : Type 0 where
   pub planned : (j : ℕ) → j < length commit.plans
-      → slot_of (published (grown cells commit j).state) ≡ slots_after cells commit slots (ino_at cells (place_of commit.plans j))
+      → slot_of (published (grown cells commit j).state) ≡ slots_after cells commit slots (ino_at cells (cell_place_of commit.plans j))
   pub others : (k : ℕ) → k < length cells → IsUnplanned commit.plans k
       → slot_of (state_at cells k) ≡ slots_after cells commit slots (ino_at cells k)
   pub beyond : (ino : ℕ) → IsOfNone cells ino → slots_after cells commit slots ino ≡ slots ino
   pub kept : (living : List ℕ) (j : ℕ) → j < length commit.plans
       → (let k = killing cells commit j in is_erased (retired living k.ino commit.stamp.epoch k.parts k.cell)) ≡ false
-      → slot_of (committed living cells commit j) ≡ slots_after cells commit slots (ino_at cells (place_of commit.plans j))
+      → slot_of (committed living cells commit j) ≡ slots_after cells commit slots (ino_at cells (cell_place_of commit.plans j))
 
 -- a commit of what was ready took the cells of some slots to those of others, and touched no other slot
 pub record IsCommitted (living : List ℕ) (cells : List (ℕ × CellValue)) (book : BookValue) (cpu : ℕ) (ready : ReadyValue)

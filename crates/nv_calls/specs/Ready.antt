@@ -26,9 +26,11 @@ pub record ReadyValue : Type 0 where
   pub hand : Hand
   pub need : ℕ
 
+-- a plan of nothing
 abbrev pub no_plan : CellCommitValue
 no_plan = record { at = 0; items = []; killed = [] }
 
+-- the plan at a place
 abbrev pub plan_at : List CellCommitValue → ℕ → CellCommitValue
 plan_at plans j = slice_index_or plans j no_plan
 
@@ -43,6 +45,7 @@ pub record ArePlaced (cells : List (ℕ × CellValue)) (plans : List CellCommitV
 abbrev pub old_tail : List (ℕ × CellValue) → CellCommitValue → OldTail
 old_tail cells plan = record { ino = ino_at cells plan.at; tail = (state_at cells plan.at).chain.tail }
 
+-- the tails that a journal notes for plans
 abbrev pub old_tails : List (ℕ × CellValue) → List CellCommitValue → List OldTail
 old_tails cells plans = map (old_tail cells) plans
 
@@ -52,6 +55,8 @@ old_tails cells plans = map (old_tail cells) plans
 abbrev pub kills_of : List (ℕ × CellValue) → CellCommitValue → ℕ
 kills_of cells plan = weights_in (state_at cells plan.at).block (log_of (state_at cells plan.at)) plan.items
 
--- for how many records a commit needs room in the book
+-- for how many records a commit needs room in the book.
+-- Book and hand have room for as many parts as the commit may kill. A number in the hand is that of the inode that
+-- is made, and then two inodes are written.
 abbrev pub need_of : List (ℕ × CellValue) → List CellCommitValue → ℕ
 need_of cells plans = sum_by (kills_of cells) plans

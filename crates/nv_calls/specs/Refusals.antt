@@ -12,13 +12,16 @@ use Rattle.nv_entry.specs.Tree.{names_of_node}
 
 -- ---- nodes
 
+-- the kind of a node, if there is one
 abbrev pub kind_of : Option NodeCopy → Option Kind
 kind_of node = option_map (λ (n : NodeCopy). n.kind) node
 
+-- the bytes of a node, none where there is no node
 abbrev pub bytes_of : Option NodeCopy → List ℕ
 bytes_of None = []
 bytes_of (Some node) = node.bytes
 
+-- the kind is a directory's
 abbrev pub is_directory : Option Kind → Bool
 is_directory (Some Dir) = true
 is_directory kind = false
@@ -33,6 +36,7 @@ lookup nodes dir name = bound_to name (names_of_node (nodes dir))
 abbrev pub Check : Type 0
 Check = Result (Unit {0}) Fault
 
+-- nothing refuses the call
 abbrev pub passes : Check
 passes = Ok tt
 
@@ -41,6 +45,7 @@ abbrev pub and_then : Check → Check → Check
 and_then (Ok nothing) next = next
 and_then (Err fault) next = Err fault
 
+-- a check goes on with what was found, or ends by the fault
 abbrev pub and_then_of : Result Handle Fault → (Handle → Check) → Check
 and_then_of (Ok to) next = next to
 and_then_of (Err fault) next = Err fault
@@ -50,20 +55,24 @@ abbrev pub refuse_if : Bool → Fault → Check → Check
 refuse_if true fault next = Err fault
 refuse_if false fault next = next
 
+-- a check that is stale where there is no node
 abbrev pub want_node : Option Kind → Check → Check
 want_node None next = Err fault.Stale
 want_node (Some kind) next = next
 
+-- a check that wants a file
 abbrev pub want_file : Option Kind → Check → Check
 want_file None next = Err fault.Stale
 want_file (Some File) next = next
 want_file (Some Dir) next = Err fault.NotFile
 
+-- a check that wants a directory
 abbrev pub want_directory : Option Kind → Check → Check
 want_directory None next = Err fault.Stale
 want_directory (Some File) next = Err fault.NotDirectory
 want_directory (Some Dir) next = next
 
+-- a check that wants a lawful name
 abbrev pub want_lawful : List ℕ → Check → Check
 want_lawful name next = refuse_if (not (is_lawful_name name)) fault.BadName next
 
@@ -79,7 +88,8 @@ abbrev pub and_find : Check → Option Handle → Result (Option Handle) Fault
 and_find (Ok nothing) to = Ok to
 and_find (Err fault) to = Err fault
 
--- a look at a name: what it leads to, if anything, where there is a directory and the name is lawful
+-- a look at a name: what it leads to, if anything, where there is a directory and the name is lawful.
+-- It is nothing where the tests of `look` refuse it: no directory, or an unlawful name.
 abbrev pub look : (Handle → Option NodeCopy) → Handle → List ℕ → Result (Option Handle) Fault
 look nodes dir name = and_find (want_directory (kind_of (nodes dir)) (want_lawful name passes)) (lookup nodes dir name)
 
@@ -88,5 +98,6 @@ abbrev pub found_by : Result (Option Handle) Fault → Option Handle
 found_by (Ok to) = to
 found_by (Err fault) = None
 
+-- what a name of a directory leads to
 abbrev pub found : (Handle → Option NodeCopy) → Handle → List ℕ → Option Handle
 found nodes dir name = found_by (look nodes dir name)

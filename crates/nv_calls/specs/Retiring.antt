@@ -15,6 +15,7 @@ use Rattle.nv_cell.specs.Readers.{is_erased}
 use Rattle.nv_cell.specs.declared.killed.KilledPart.{KilledPart}
 use Rattle.nv_cell.specs.declared.mark.Mark.TheVariants.{Kept}
 
+-- the name of a killed part
 abbrev pub part_in : KilledPart → PartId
 part_in killed = killed.part
 
@@ -37,9 +38,11 @@ abbrev pub freed : Option ℕ → ℕ → CellState → List BlockValue
 freed (Some s) n cell = []
 freed None n cell = option_to_list (slice_index_or cell.blocks n None)
 
+-- the cell once one killed part is retired
 abbrev pub retired_one : List ℕ → ℕ → ℕ → KilledPart → CellState → CellState
 retired_one living ino epoch killed cell = settled (keeper_of living ino epoch killed) (number_in cell killed.part) cell
 
+-- the block that goes free where one killed part is retired
 abbrev pub freed_one : List ℕ → ℕ → ℕ → KilledPart → CellState → List BlockValue
 freed_one living ino epoch killed cell = freed (keeper_of living ino epoch killed) (number_in cell killed.part) cell
 
@@ -48,11 +51,13 @@ abbrev pub retired : List ℕ → ℕ → ℕ → List KilledPart → CellState 
 retired living ino epoch [] cell = cell
 retired living ino epoch (killed ∷ later) cell = retired living ino epoch later (retired_one living ino epoch killed cell)
 
+-- the blocks that go free where killed parts are retired one after another
 abbrev pub freed_by : List ℕ → ℕ → ℕ → List KilledPart → CellState → List BlockValue
 freed_by living ino epoch [] cell = []
 freed_by living ino epoch (killed ∷ later) cell =
     freed_one living ino epoch killed cell ++ freed_by living ino epoch later (retired_one living ino epoch killed cell)
 
+-- the manifests with the records of killed parts
 abbrev pub with_records : List ℕ → ℕ → ℕ → List KilledPart → List Manifest → List Manifest
 with_records living ino epoch [] manifests = manifests
 with_records living ino epoch (killed ∷ later) manifests =
@@ -68,11 +73,13 @@ name_of d = record { entry = d.entry; part = d.part }
 abbrev pub released : Record → CellState → CellState
 released d cell = settled None (number_in cell (name_of d)) cell
 
+-- the block that goes free where a record is released
 abbrev pub released_blocks : Record → CellState → List BlockValue
 released_blocks d cell = freed None (number_in cell (name_of d)) cell
 
 -- ---- erasing
 
+-- the cell, emptied where its inode is over and nothing of it is kept
 abbrev pub erased : CellState → CellState
 erased cell = if is_erased cell then empty_cell cell.block cell.chain.page (cell.generation + 1) cell.version else cell
 
@@ -84,6 +91,7 @@ room_erased cell room = if is_erased cell then record no_room { killed = room.ki
 abbrev pub number_back : ℕ → CellState → Option ℕ → Option ℕ
 number_back ino cell number = if nat_le NUMBER (cell.generation + 1) then number else Some ino
 
+-- the hand once a cell was erased: with its chain and its number
 abbrev pub hand_with : ℕ → CellState → Hand → Hand
 hand_with ino cell hand =
     if is_erased cell then record hand { chain = cell.chain.blocks; ino = number_back ino cell hand.ino } else hand

@@ -21,9 +21,11 @@ pub record Rule : Type 0 where
   pub fault : Fault
   pub applies : Bool
 
+-- a rule: a fault, and whether it applies
 abbrev pub rule : Fault → Bool → Rule
 rule fault applies = record { fault = fault; applies = applies }
 
+-- the fault of the first rule that applies
 abbrev pub first_that_applies : List Rule → Check
 first_that_applies [] = passes
 first_that_applies (r ∷ rules) = if r.applies then Err r.fault else first_that_applies rules
@@ -64,6 +66,7 @@ directory_of (call.Rmdir dir name) = Some dir
 directory_of (call.Rename from old to new) = Some from
 directory_of other = None
 
+-- the name that a call gives, if it gives one
 abbrev pub name_of : Call → Option (List ℕ)
 name_of (call.Create dir name mode) = Some name
 name_of (call.Mkdir dir name mode) = Some name
@@ -78,6 +81,7 @@ abbrev pub second_directory : Call → Option Handle
 second_directory (call.Rename from old to new) = Some to
 second_directory other = None
 
+-- the second name that a call gives, if it does
 abbrev pub second_name : Call → Option (List ℕ)
 second_name (call.Rename from old to new) = Some new
 second_name other = None
@@ -103,6 +107,7 @@ abbrev pub looks_up : Call → Bool
 looks_up (call.Lookup dir name) = false
 looks_up other = follows other
 
+-- the directory binds the name
 abbrev pub bound_in : (Handle → Option NodeCopy) → Option Handle → Option (List ℕ) → Bool
 bound_in nodes (Some dir) (Some name) = is_some (lookup nodes dir name)
 bound_in nodes dir name = false
@@ -124,10 +129,12 @@ abbrev pub takes_file : Call → Bool
 takes_file (call.Unlink dir name) = true
 takes_file other = false
 
+-- the call takes a directory away, which has to be empty
 abbrev pub takes_empty : Call → Bool
 takes_empty (call.Rmdir dir name) = true
 takes_empty other = false
 
+-- the call moves a name to another directory
 abbrev pub moves_away : Call → Bool
 moves_away (call.Rename from old to new) = not (same_handle from to)
 moves_away other = false
@@ -147,10 +154,12 @@ end_of other = None
 
 -- ---- the tests
 
+-- there is no node
 abbrev pub is_gone : Option Kind → Bool
 is_gone None = true
 is_gone (Some kind) = false
 
+-- the kind is a file's
 abbrev pub is_file : Option Kind → Bool
 is_file (Some File) = true
 is_file kind = false
@@ -160,14 +169,17 @@ abbrev pub is_at : (Option Kind → Bool) → (Handle → Option NodeCopy) → O
 is_at test nodes None = false
 is_at test nodes (Some handle) = test (kind_of (nodes handle))
 
+-- the node has names
 abbrev pub has_names : (Handle → Option NodeCopy) → Option Handle → Bool
 has_names nodes None = false
 has_names nodes (Some dir) = nat_lt 0 (length (names_of_node (nodes dir)))
 
+-- the number is there and above a bound
 abbrev pub is_past : ℕ → Option ℕ → Bool
 is_past most None = false
 is_past most (Some number) = nat_lt most number
 
+-- the name is there and not lawful
 abbrev pub is_unlawful : Option (List ℕ) → Bool
 is_unlawful None = false
 is_unlawful (Some name) = not (is_lawful_name name)
@@ -208,5 +220,9 @@ late_rules block nodes c =
     ∷ rule fault.FileTooBig (is_past (FILE_PAGES * block) (end_of c))
     ∷ []
 
+-- The order of refusals: one list for all calls, of faults and whether they apply. The first that applies is the
+-- refusal. The rules of the first name come first, then those of the second, then those of what the names lead to
+-- and of what is written. Example: a write of 1,025 letters at 65,536 on blocks of one byte is `WriteTooBig`, which
+-- stands before `FileTooBig`. A rename of a missing name into a stale directory is `Missing`.
 abbrev pub rules : ℕ → (Handle → Option NodeCopy) → Call → List Rule
 rules block nodes c = first_rules nodes c ++ second_rules nodes c ++ late_rules block nodes c

@@ -17,6 +17,7 @@ abbrev pub if_some : Option ℕ → List ℕ → List ℕ
 if_some None rest = rest
 if_some (Some n) rest = n ∷ rest
 
+-- the numbers of a list that are there
 abbrev pub all_some : List (Option ℕ) → List ℕ
 all_some [] = []
 all_some (n ∷ rest) = if_some n (all_some rest)

@@ -56,7 +56,8 @@ pub record ArePlaced (plan : List InodePlan) : Type 0 where
   pub first : place_in plan 0 ≡ 0
   pub next : (ino : ℕ) → place_in plan (ino + 1) ≡ place_in plan ino + length (items_for plan ino)
 
--- the slots after a commit
+-- the slots after a commit.
+-- A commit of a plan appends its items.
 abbrev pub published : ℕ → ℕ → List InodePlan → (ℕ → InodeSlot) → ℕ → InodeSlot
 published commit epoch plan slots ino = record {
   generation = (slots ino).generation;

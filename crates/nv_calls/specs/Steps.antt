@@ -21,8 +21,8 @@ use Rattle.nv_calls.specs.Slots.{entries_of}
 -- ---- appending
 
 -- more pages behind the others of the log
-abbrev pub with_pages : List BlockValue → CellValue → CellValue
-with_pages pages cell = record {
+abbrev pub with_new_pages : List BlockValue → CellValue → CellValue
+with_new_pages pages cell = record {
   state = record cell.state { chain = record cell.state.chain { blocks = cell.state.chain.blocks ++ pages } };
   room = record cell.room { pages = cell.room.pages - length pages };
 }
@@ -44,9 +44,11 @@ with_entries (e ∷ later) blocks cell = with_entries later (drop (length (item_
 abbrev pub stamped_entries : Stamp → ℕ → List Item → List Entry
 stamped_entries stamp place items = entries_of stamp.commit stamp.epoch place items
 
+-- the id of an entry of a commit, by its place
 abbrev pub id_at : Stamp → ℕ → EntryId
 id_at stamp place = record { commit = stamp.commit; place = place }
 
+-- an entry of a commit
 abbrev pub stamped_entry : Stamp → ℕ → Item → Entry
 stamped_entry stamp place item = record { id = id_at stamp place; epoch = stamp.epoch; item = item }
 
@@ -87,7 +89,7 @@ pages_from hand chain entries = take (pages_for chain entries) hand.pages.blocks
 -- the cell then
 abbrev pub with_plan : Stamp → ℕ → List Item → Hand → CellValue → CellValue
 with_plan stamp place items hand cell =
-    with_entries (stamped_entries stamp place items) hand.data.blocks (with_pages (pages_from hand cell.state.chain (length items)) cell)
+    with_entries (stamped_entries stamp place items) hand.data.blocks (with_new_pages (pages_from hand cell.state.chain (length items)) cell)
 
 -- and the hand
 abbrev pub hand_after : List Item → ChainState → Hand → Hand

@@ -12,6 +12,7 @@ use Rattle.nv_calls.specs.Plain.{PlainNode, node_in}
 use Rattle.nv_calls.specs.Refusals.{Check, passes}
 use Rattle.nv_calls.specs.Slots.{InodeSlot, node_under}
 
+-- what a cell's slot says
 abbrev pub slot_of : CellState → InodeSlot
 slot_of cell = record { generation = cell.generation; log = log_of cell }
 
@@ -19,6 +20,7 @@ slot_of cell = record { generation = cell.generation; log = log_of cell }
 abbrev pub node_of : (ℕ → List ℕ) → CellState → Handle → Option PlainNode
 node_of bytes cell = node_under bytes cell.block (λ ino. slot_of cell)
 
+-- the node of a cell, where the bytes of its blocks are given
 abbrev pub copy_of : (ℕ → List ℕ) → CellState → Handle → Option NodeCopy
 copy_of bytes cell = node_in (node_of bytes cell)
 
@@ -35,18 +37,22 @@ check_of (Err fault) = Err fault
 
 -- ---- calls that only read
 
+-- the call is a `stat`
 abbrev pub is_stat : Call → Bool
 is_stat (call.Stat handle) = true
 is_stat other = false
 
+-- the call is a `lookup`
 abbrev pub is_lookup : Call → Bool
 is_lookup (call.Lookup dir name) = true
 is_lookup other = false
 
+-- the call is a `list`
 abbrev pub is_list : Call → Bool
 is_list (call.List dir) = true
 is_list other = false
 
+-- the call is a `read`
 abbrev pub is_read : Call → Bool
 is_read (call.Read file offset count) = true
 is_read other = false

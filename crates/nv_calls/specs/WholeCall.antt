@@ -43,7 +43,8 @@ abbrev pub effect_of : WholeCall → List Change
 effect_of call = effect (nodes_in call.before) (taken_by call.before call.hand call.update).made (sourced call.byte_at call.update)
 
 -- it was made ready, its blocks were filled, which have the bytes that `bytes` gives, and it was committed; the cells
--- after it are whole, as each `InodeCell` is
+-- after it are whole, as each `InodeCell` is.
+-- A whole call was made ready, filled and committed over the same cells.
 pub record IsWholeCall (bytes : ℕ → List ℕ) (call : WholeCall) : Type 0 where
   pub can_ready : CanReady call.before call.hand call.update
   pub room : HaveNoLessRoom call.before call.now

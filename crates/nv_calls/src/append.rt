@@ -5,7 +5,7 @@ ghost use Rattle.nv_entry.specs.declared.item.Item.{Item as ItemValue};
 ghost use Rattle.nv_log.specs.Chain.{room_of};
 ghost use Rattle.nv_cell.specs.Room.{IsReadyFor};
 ghost use Rattle.nv_calls.specs.Cells.{state_at, value_at, with_value};
-ghost use Rattle.nv_calls.specs.Steps.{HaveBlocks, MayFollow, numbers_in, stamped_entries, stamped_entry, with_entries, with_pages, without_front};
+ghost use Rattle.nv_calls.specs.Steps.{HaveBlocks, MayFollow, numbers_in, stamped_entries, stamped_entry, with_entries, with_new_pages, without_front};
 
 use crate::{Cells, Stamp};
 use nv_alloc::BlockQueue;
@@ -20,7 +20,7 @@ pub(crate) fn add_pages<C: Cells>(cells: &mut C, k: usize, count: usize, pages: 
     requires there { count ≤ length pages.old.blocks }
     requires size { pages.old.size ≡ (state_at (C.cells cells.old) k).block }
     ensures cells { C.cells cells.new ≡ with_value (C.cells cells.old) k
-        (with_pages (take count pages.old.blocks) (value_at (C.cells cells.old) k)) }
+        (with_new_pages (take count pages.old.blocks) (value_at (C.cells cells.old) k)) }
     ensures ready { (items : List ItemValue) → IsReadyFor items (value_at (C.cells cells.old) k)
         → IsReadyFor items (value_at (C.cells cells.new) k) }
     ensures room { room_of (state_at (C.cells cells.new) k).chain

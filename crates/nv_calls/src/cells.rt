@@ -10,6 +10,8 @@ use nv_log::Chain;
 /// inode and its cell.
 ///
 /// Each method that changes a cell does so as the cell's own method of that name.
+/// A call's cells are a list of numbers and cells; a change of one leaves the others as they are.
+/// A change of a cell leaves the places that are lent, and what lies beside them.
 pub trait Cells {
     ghost use Rattle.std.specs.Prelude.{◌≡◌, ℕ, ◌+◌, ◌-◌, ◌<◌, ◌≤◌, ◌^◌, ◌⊎◌, ◌∷◌, List, [], None, OnErr, OnOk, IsOk, Some, drop, length, map, slice_index_or, true, vec_len};
     ghost use Rattle.std.specs.List.{sum_by};
@@ -28,7 +30,7 @@ pub trait Cells {
     ghost use Rattle.nv_cell.specs.Killed.{AreKilled};
     ghost use Rattle.nv_cell.specs.Readers.{is_gone, keeps_nothing};
     ghost use Rattle.nv_cell.specs.Room.{AddsPage, HasNoLess, IsReadyFor, IsReadyToAppend};
-    ghost use Rattle.nv_cell.specs.Weights.{runs_of, weights_in};
+    ghost use Rattle.nv_cell.specs.Weights.{page_runs_needed, weights_in};
     ghost use Rattle.nv_calls.specs.Cells.{OnlyAt, ino_at, state_at, value_at};
 
     ghost cells: { Self → List (ℕ × CellValue) };
@@ -131,7 +133,7 @@ pub trait Cells {
             (value_at (cells self.new) k).room }
         ensures runs { (value_at (cells self.old) k).room.runs
             ≤ (value_at (cells self.new) k).room.runs
-            + sum_by runs_of (items_of (fresh_of (state_at (cells self.old) k))) }
+            + sum_by page_runs_needed (items_of (fresh_of (state_at (cells self.old) k))) }
         ensures name { BindNone (items_of (fresh_of (state_at (cells self.old) k)))
             → (value_at (cells self.new) k).room.name ≡ (value_at (cells self.old) k).room.name }
         ensures frame { frame self.new ≡ frame self.old };

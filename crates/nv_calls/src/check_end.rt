@@ -18,7 +18,7 @@ use nv_base::Fault;
 #[derive(Clone, Copy, Debug, PartialEq, Eq)]
 pub enum CheckEnd {
     Refuses(Fault),
-    Overtaken,
+    BoundAnew,
     Answers,
 }
 
@@ -28,6 +28,9 @@ pub enum CheckEnd {
 /// The tests have one order: those that stand before the names are compared with what the looks found, then the names,
 /// then the other tests, then whether a call that makes an inode has a number, and last whether there is anything to
 /// commit. Costs a few look-ups of handles, names and a page. Takes no memory.
+/// Names are compared with what the looks found behind the early tests alone.
+/// A call of which a name was bound anew goes no further.
+/// A call that commits nothing is answered behind all tests.
 pub fn ends_at_check<N: Nodes>(
     block: u64,
     nodes: &N,
@@ -37,14 +40,16 @@ pub fn ends_at_check<N: Nodes>(
 ) -> Result<u64, CheckEnd>
     requires some_bytes { 0 < block }
     requires few_bytes { block ≤ BLOCK_BYTES }
+    // Want of a number refuses behind all other tests.
     ensures ends { result_err result
         ≡ ends_over block (N.nodes_of nodes.now) before.now has_number update.now }
+    // Of a call that goes on it is told how many blocks it takes for its pages.
     ensures wanted { IfOk result (λ n. n
         ≡ blocks_taken block (N.nodes_of nodes.now) (N.has_page nodes.now) update.now) }
 {
     check_early(nodes, update).map_err(CheckEnd::Refuses)?;
     if !is_as_looked(nodes, before, update) {
-        return Err(CheckEnd::Overtaken);
+        return Err(CheckEnd::BoundAnew);
     }
     let wanted = check_late(block, nodes, before, update).map_err(CheckEnd::Refuses)?;
     if !has_number && makes_inode(update) {

@@ -42,7 +42,7 @@ fn test<C: Cells>(
     let nodes = HeldNodes::new(cells);
     match ends_at_check(block_in(cells), &nodes, before, update, has_number) {
         Err(CheckEnd::Refuses(fault)) => Err(fault),
-        Err(CheckEnd::Overtaken) => Err(Fault::Contended),
+        Err(CheckEnd::BoundAnew) => Err(Fault::Contended),
         Err(CheckEnd::Answers) | Ok(_) => Ok(()),
     }
 }
@@ -63,14 +63,21 @@ pub fn check_on<C: Cells>(
 ) -> Result<Plan, Fault>
     requires cells { AreCells (C.cells cells.now) }
     requires few_bytes { block_in (C.cells cells.now) ≤ BLOCK_BYTES }
+    // The check of a call over its cells gives the plain world's refusal.
+    // A call that passes is refused for want of a number for a new inode.
+    // A call that makes a directory is refused so, too.
+    // A call that passes both comes back as its plan.
     ensures told { let lent = C.cells cells.now in
         looked (nodes_in lent) (blank_call update) ≡ before.now → MatchResult result
         (λ plan. (plan.update ≡ update)
         × (check_refusal (block_in lent) (nodes_in lent) number update ≡ passes))
         (λ fault. check_refusal (block_in lent) (nodes_in lent) number update ≡ Err fault) }
+    // Where a name leads elsewhere than its look found, no plan is made.
+    // A call whose name leads elsewhere is `Contended`, behind the tests of a look.
     ensures overtaken { let lent = C.cells cells.now in
         (looked (nodes_in lent) (blank_call update) ≡ before.now → ⊥) → MatchResult result
         (λ plan. ⊥) (λ fault. overtaken_refusal (nodes_in lent) update ≡ Err fault) }
+    // Over no cells the handle of a call is stale.
     ensures none { let lent = C.cells cells.now in
         length lent ≡ 0 → looked (nodes_in lent) (blank_call update) ≡ before.now
         → IsRefusedBy result Stale }

@@ -62,6 +62,8 @@ impl Commit {
     /// Begins the book's latest commit with what is ready: it has that commit's number, and the present epoch. Takes no
     /// memory.
     pub fn begin(ready: Ready, book: &Book) -> Commit
+        // A commit begins with what is ready.
+        // A commit has the number and epoch of the book's latest commit, which all its entries get.
         ensures { result ≡ begun (stamp_of book.now.state) ready }
     {
         let commit = book.commit();
@@ -72,15 +74,17 @@ impl Commit {
     /// What its steps left in the hand of a commit that is made step by step, or given up before anything is published:
     /// what was appended by then stays past the tails, with its blocks. Takes no memory.
     pub fn into_hand(self) -> Hand
+        // Callers give a commit up only where nothing is published or all is retired, with no journal open.
         requires nothing_killed { (self.published ≡ 0) ⊎ (self.retired ≡ length self.plans) }
         requires closed { self.journal ≡ None }
+        // A commit that is given up gives back what is left of its hand.
         ensures { result ≡ self.hand }
     {
-        self.hand_left()
+        self.abandon()
     }
 
-    /// The hand alone.
-    fn hand_left(self) -> Hand
+    /// The hand alone, wherever the commit stands: for a machine that stops. Takes no memory.
+    pub fn abandon(self) -> Hand
         ensures { result ≡ self.hand }
     {
         let Commit {
@@ -102,8 +106,9 @@ impl Commit {
 
     /// Takes the commit apart with all that its hand holds: for the owner of a whole device that is let go. The blocks
     /// that its cells took from the hand are theirs.
+    /// Only tested: with a whole device that is let go, a commit is taken apart; its blocks are let go.
     pub fn dismantle(self) {
-        self.hand_left().dismantle();
+        self.abandon().dismantle();
     }
 
     /// How many cells get entries.

@@ -192,8 +192,12 @@ fn fill_blocks<C: Cells, S: Source>(
 pub fn fill<C: Cells, S: Source>(ready: &mut Ready, cells: &C, source: &mut S) -> Result<(), Fault>
     requires can { CanFill (C.cells cells.now) ready.old.update ready.old.hand.data }
     requires failures { S.failed source.old < 2 ^ 64 - 1 }
+    // The fresh blocks of a call are filled, one for each page.
+    // A page has the cell's bytes, or zeros, and the source's in their places.
+    // A page that is cut has zeros from the size on.
     ensures pages { OnOk result (ready.new.hand.data.blocks ≡ filled_by (C.cells cells.now)
         (S.byte_at source.old) ready.old.update ready.old.hand.data) }
+    // Where the logs of the cells are sound, these are the pages of the file after the call.
     ensures fresh { (bytes : ℕ → List ℕ)
         → HaveBytes bytes ready.old.hand.data.size (C.cells cells.now)
         → ((ino : ℕ) → IsSound bytes ready.old.hand.data.size
@@ -201,12 +205,17 @@ pub fn fill<C: Cells, S: Source>(ready: &mut Ready, cells: &C, source: &mut S) -
         → OnOk result (ready.new.hand.data.blocks
         ≡ filled (fresh_pages ready.old.hand.data.size (nodes_in (C.cells cells.now))
         (sourced (S.byte_at source.old) ready.old.update)) ready.old.hand.data.blocks) }
+    // After such a failure nothing has changed except bytes of the call's own blocks.
     ensures rest { HasOtherBytes ready.old.hand.data ready.new.hand.data }
     ensures ready { ready.new ≡ with_blocks ready.new.hand.data ready.old }
+    // Where the source fails, filling is refused by `Read`, and that one failure is counted.
     ensures read { IfErr result (λ fault. fault ≡ Read) }
     ensures text { S.byte_at source.new ≡ S.byte_at source.old }
+    // A write asks its source once for each page that it touches, in rising order.
+    // A write asks for the part of the text that lies in a page; no other call asks.
     ensures asked { OnOk result (S.state source.new ≡ fold S.asked (S.state source.old)
         (asks_by ready.old.hand.data.size ready.old.update (length ready.old.hand.data.blocks))) }
+    // After a failure of the source no later page is asked for.
     ensures asked_err { OnErr result ((pages : ℕ) × (pages ≤ length ready.old.hand.data.blocks)
         × (S.state source.new ≡ fold S.asked (S.state source.old)
         (asks_by ready.old.hand.data.size ready.old.update pages))) }

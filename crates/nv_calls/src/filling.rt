@@ -21,8 +21,8 @@ fn copy_page(bytes: &mut [u8], page: Option<&Block>)
     }
 }
 
-/// The same where not the whole block is to be filled otherwise: before `from` and from `to` on it
-/// has the page's bytes.
+/// Writes the bytes of a page over those of a fresh block, before `from` and from `to` on. The rest is to be filled
+/// otherwise.
 fn copy_rest(bytes: &mut [u8], page: Option<&Block>, from: usize, to: usize)
     requires page { ForSome (option_copied page) (λ b. length b.bytes ≡ length bytes.old) }
     ensures front { take from bytes.new

@@ -12,13 +12,18 @@ use nv_cell::InodeCell;
 /// The nodes of a call's cells, of any generation. A handle whose number is none of the cells' has no node.
 ///
 /// Each question costs a search among the cells and at most one look-up. None takes memory.
+/// The nodes of a call's cells are told: kind, names, size and look-ups, and whether a page has a block.
+/// A handle of no cell, or of another generation, has no node.
+/// Only tested: a node is found by a search among at most four cells, and at most one look-up.
 #[derive(Drop)]
 pub struct HeldNodes<'a, C: Cells> {
     cells: &'a C,
+    // It is of at most four cells.
     ghost few: { length (C.cells cells.now) ≤ 4 },
 }
 
 impl<'a, C: Cells> HeldNodes<'a, C> {
+    /// The nodes of the cells that are lent.
     pub fn new(cells: &'a C) -> HeldNodes<'a, C>
         requires { length (C.cells cells.now) ≤ 4 }
         ensures { result.cells.now ≡ cells.now }

@@ -41,6 +41,7 @@ impl Commit {
     /// The parts that the publish of a plan's entries killed, until they are retired.
     pub fn killed_of(&self, j: usize) -> &[KilledPart]
         requires { j < length self.now.plans }
+        // The parts that a publish killed and that are not yet retired are told.
         ensures { result.now ≡ (plan_at self.now.plans j).killed }
     {
         &self.plans[j].killed

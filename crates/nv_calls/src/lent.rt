@@ -8,6 +8,7 @@ use nv_entry::{Entry, Item, PartId};
 use nv_log::Chain;
 
 /// A cell that is lent, with none above it.
+/// Cells may be one cell, a cell before others, or none: a change of one leaves the others.
 #[derive(Drop)]
 pub struct LastCell<'a> {
     pub ino: Ino,

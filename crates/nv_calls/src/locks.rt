@@ -19,6 +19,7 @@ pub fn slots_of(
     looked: &LookupResult,
 ) -> LockedSlots
     requires { makes update.now ≡ false → number ≡ None }
+    // A call locks the slots of its handles, of what its looks found, and of the number for a new inode.
     ensures { (text : List ℕ) → slots_in result
         ≡ slots_among inodes number looked.now (call_of update.now text) }
 {

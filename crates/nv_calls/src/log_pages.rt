@@ -7,7 +7,7 @@ ghost use Rattle.nv_calls.specs.declared.log_pages.TheConstants.{MORE_PAGES};
 ghost use Rattle.nv_calls.specs.declared.allocation.Allocation.{Allocation};
 ghost use Rattle.nv_calls.specs.AllCalls.{plan};
 ghost use Rattle.nv_calls.specs.PagesWanted.{entry_counts, goes_on, pages_wanted};
-ghost use Rattle.nv_calls.specs.Plan.{runs_of};
+ghost use Rattle.nv_calls.specs.Plan.{block_runs_of};
 ghost use Rattle.nv_calls.specs.Prepared.{CanReady, planned_by};
 ghost use Rattle.nv_calls.specs.Updates.{blank_call};
 ghost use Rattle.nv_calls.specs.calls.Rename.{bound_plan};
@@ -88,7 +88,7 @@ fn rename_entries(from: &Handle, to: &Handle, looked: &LookupResult) -> EntryCou
 fn run_count(queue: &BlockQueue) -> usize
     requires small { AllByRecursion (λ b. b.number < 2 ^ 32) queue.now.blocks }
     requires few { length queue.now.blocks < 2 ^ 32 }
-    ensures runs { result ≡ length (runs_of (numbers_of queue.now.blocks)) }
+    ensures runs { result ≡ length (block_runs_of (numbers_of queue.now.blocks)) }
     ensures few { result ≤ length queue.now.blocks }
 {
     let mut runs = 0;
@@ -114,10 +114,13 @@ fn begins_run(next: Option<u64>, number: u64) -> bool
 /// How many log pages the items of a plan need, with the data blocks and the number of a new inode in the hand, beyond
 /// those that the logs of its cells have room in. Takes no memory. Costs the data blocks in the hand, and the look-ups
 /// of the plan.
+/// Only tested: counting the log pages takes no memory.
 pub fn pages_wanted<C: Cells>(cells: &C, plan: &Plan, hand: &Hand) -> u64
     requires can { CanReady (C.cells cells.now) hand.now plan.now.update }
+    // How many log pages a call takes, with the data blocks and the number in its hand, is told.
     ensures wanted { result ≡ pages_wanted (C.cells cells.now)
         (planned_by (C.cells cells.now) hand.now plan.now.update) }
+    // A call takes at most `MORE_PAGES` log pages more than data blocks.
     ensures few { result ≤ length hand.now.data.blocks + MORE_PAGES }
 {
     let nodes = HeldNodes::new(cells);

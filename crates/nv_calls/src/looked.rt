@@ -21,6 +21,7 @@ pub struct LookupResult {
 /// A look at a name: what it leads to, if anything. `Stale` or `NotDirectory` where there is no directory,
 /// and `BadName`.
 pub fn look<N: Nodes>(nodes: &N, dir: &Handle, name: &[u8]) -> Result<Option<Handle>, Fault>
+    // A look tells what a name leads to.
     ensures { result ≡ look (N.nodes_of nodes.now) dir.now name.now }
 {
     want_directory(nodes.kind(dir))?;
@@ -40,6 +41,7 @@ pub fn found<N: Nodes>(nodes: &N, dir: &Handle, name: &[u8]) -> Option<Handle>
 
 /// What the names of a call lead to now.
 pub fn look_all<N: Nodes>(nodes: &N, call: &Update) -> LookupResult
+    // The looks of a call tell what its names lead to.
     ensures { result ≡ looked (N.nodes_of nodes.now) (blank_call call.now) }
 {
     match call {
@@ -60,6 +62,7 @@ pub fn look_all<N: Nodes>(nodes: &N, call: &Update) -> LookupResult
 
 /// Whether the names of a call still lead to what its looks found.
 pub fn is_as_looked<N: Nodes>(nodes: &N, before: &LookupResult, call: &Update) -> bool
+    // Whether names lead to what looks found is told.
     ensures { result
         ≡ same_looked (looked (N.nodes_of nodes.now) (blank_call call.now)) before.now }
 {

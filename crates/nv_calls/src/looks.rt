@@ -16,6 +16,7 @@ use nv_cell::InodeCell;
 
 /// In how many directories a call looks names up.
 pub fn look_count(update: &Update) -> usize
+    // In which directories a call looks names up is told, one look for each.
     ensures { (text : List ℕ) → result ≡ length (directories (call_of update.now text)) }
 {
     match update {
@@ -48,6 +49,8 @@ pub fn look_at(
     before: &LookupResult,
 ) -> Result<LookupResult, Fault>
     requires { place < length (directories (blank_call update.now)) }
+    // A look tells what the names of its directory lead to, by the cell of its slot.
+    // The first name may be refused at its look, and no other.
     ensures { (bytes : ℕ → List ℕ) (text : List ℕ) → let c = call_of update.now text in
         let nodes = copies_by bytes (in_slot ino (option_map (λ cell. cell.now) cell.entry)) in
         MatchResult result

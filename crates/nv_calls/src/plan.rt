@@ -20,6 +20,7 @@ pub struct Plan {
 impl Plan {
     /// Whether the call appends nothing, so that it is answered at its check.
     pub fn nothing(&self) -> bool
+        // A plan of a call that commits nothing is told.
         ensures { result ≡ is_nothing (blank_call self.now.update) }
     {
         is_nothing(&self.update)

@@ -17,6 +17,7 @@ use std::alloc::Global;
 
 /// Whether a call that is not refused commits nothing.
 pub fn is_nothing(call: &Update) -> bool
+    // A call that commits nothing is told.
     ensures { result ≡ is_nothing (blank_call call.now) }
 {
     match call {
@@ -42,8 +43,10 @@ pub fn plan_items<N: Nodes>(
     requires passed { refusal block (N.nodes_of nodes.now) (blank_call call.now) ≡ passes }
     requires wanted { length (blocks_of taken.now.runs)
         ≡ blocks_taken block (N.nodes_of nodes.now) (N.has_page nodes.now) call.now }
+    // A plan has exactly the call's items, inode by inode.
     ensures ok { IfOk result
         (λ list. list ≡ plan block (N.nodes_of nodes.now) taken.now (blank_call call.now)) }
+    // The only error is `OutOfMemory`.
     ensures err { FailsOnly out_of_memory result }
 {
     let made = taken.made;

@@ -9,9 +9,9 @@ ghost use Rattle.nv_base.specs.declared.limits.TheConstants.{NUMBER};
 ghost use Rattle.nv_cell.specs.Effects.{BindOne};
 ghost use Rattle.nv_entry.specs.Sound.{blocks_of};
 ghost use Rattle.nv_calls.specs.Cells.{AreCells, state_at};
-ghost use Rattle.nv_calls.specs.Prepared.{AreReady, CanReady, HasLogPages, HasNoLessRoom, HaveNoLessRoom, IsReadyBy, cell_plans, made_by, no_handle, planned_by, plans_by, taken_by};
+ghost use Rattle.nv_calls.specs.Prepared.{AreReady, CanReady, HasLogPages, HasNoLessRoom, HaveNoLessRoom, IsReadyBy, cell_plans, handle_made_by, no_handle, planned_by, plans_by, taken_by};
 ghost use Rattle.nv_calls.specs.Nodes.{block_in};
-ghost use Rattle.nv_calls.specs.Plan.{AreMaximal, runs_of};
+ghost use Rattle.nv_calls.specs.Plan.{AreMaximal, block_runs_of};
 ghost use Rattle.nv_calls.specs.Ready.{ArePlaced, need_of};
 ghost use Rattle.nv_calls.specs.Slots.{items_for};
 ghost use Rattle.nv_calls.specs.Steps.{HaveBlocks};
@@ -28,7 +28,7 @@ use std::alloc::{AllocError, Global};
 /// The handle of a new inode, where the call makes one: its number, with the generation of its slot.
 fn made_by<C: Cells>(cells: &C, number: Option<Ino>, update: &Update) -> Option<Handle>
     requires { length (C.cells cells.now) ≤ 4 }
-    ensures { result ≡ made_by (C.cells cells.now) number update.now }
+    ensures { result ≡ handle_made_by (C.cells cells.now) number update.now }
 {
     match update {
         Update::Create { .. } | Update::Mkdir { .. } => {
@@ -47,11 +47,11 @@ fn planned_by<C: Cells>(
     hand: &Hand,
 ) -> Result<Vec<InodePlan>, Fault>
     requires can { CanReady (C.cells cells.now) hand.now update.now }
-    requires made { made.now ≡ made_by (C.cells cells.now) hand.now.ino update.now }
+    requires made { made.now ≡ handle_made_by (C.cells cells.now) hand.now.ino update.now }
     ensures ok { IfOk result (λ planned. planned.items
         ≡ planned_by (C.cells cells.now) hand.now update.now) }
     ensures runs { IfOk result (λ planned. let numbers = numbers_of hand.now.data.blocks in
-        AreMaximal (runs_of numbers) × (blocks_of (runs_of numbers) ≡ numbers)) }
+        AreMaximal (block_runs_of numbers) × (blocks_of (block_runs_of numbers) ≡ numbers)) }
     ensures err { FailsOnly out_of_memory result }
 {
     let block = block_in(cells);
@@ -135,6 +135,7 @@ fn need_of<C: Cells>(cells: &C, plans: &[CellCommit]) -> Result<u64, Fault>
     requires { AllByRecursion (λ p. p.at < length (C.cells cells.now)) plans.now }
     ensures ok { IfOk result (λ need. need ≡ need_of (C.cells cells.now) plans.now) }
     ensures err { FailsOnly out_of_memory result }
+    // A call wants memory for its count alone only where it kills more than 2^62 parts.
     ensures many { OnErr result (NUMBER < need_of (C.cells cells.now) plans.now) }
 {
     let mut need = 0u64;
@@ -158,7 +159,7 @@ fn prepare<C: Cells>(
     hand: &mut Hand,
 ) -> Result<(Vec<CellCommit>, u64), Fault>
     requires can { CanReady (C.cells cells.old) hand.old update.now }
-    requires made { made.now ≡ made_by (C.cells cells.old) hand.old.ino update.now }
+    requires made { made.now ≡ handle_made_by (C.cells cells.old) hand.old.ino update.now }
     ensures some_bytes { 0 < block_in (C.cells cells.old) }
     ensures runs { let runs = (taken_by (C.cells cells.old) hand.old update.now).runs in
         IfOk result (λ done. AreMaximal runs × (blocks_of runs ≡ numbers_of hand.old.data.blocks)) }
@@ -191,6 +192,7 @@ fn prepare<C: Cells>(
 /// `OutOfMemory`, with the hand, where a growth was refused: then nothing has changed but room. The time is that of the
 /// items, of the blocks that were taken, and for each cut that of the runs of pages that it takes out, where no growth
 /// moves anything.
+/// Callers bring in the hand the blocks of the items' pages, in front, and the log pages.
 pub fn ready_on<C: Cells>(
     alloc: Global,
     cells: &mut C,
@@ -199,9 +201,18 @@ pub fn ready_on<C: Cells>(
 ) -> Result<Ready, (Fault, Hand)>
     requires can { CanReady (C.cells cells.old) hand plan.update }
     requires pages { HasLogPages (C.cells cells.old) hand plan.update }
+    // A call is made ready over its cells: its plan's items, cell by cell in rising order.
+    // Each cell gets its own items of the plan.
+    // The blocks of the hand are maximal block runs in it.
+    // Each cell has room for its items.
+    // The hand has room for the blocks that may be set free.
+    // The need is that of all cells together.
+    // The handle of a new inode has the generation of its inode slot.
     ensures ok { IfOk result (λ ready. IsReadyBy (C.cells cells.old) hand plan.update
         (C.cells cells.new) ready) }
     ensures hand { IfOk result (λ ready. HasNoLessRoom hand ready.hand) }
+    // Where a growth is refused, the hand comes back, and nothing has changed except room.
+    // The only error is `OutOfMemory`.
     ensures err { IfErr result
         (λ refused. (refused.0 ≡ out_of_memory) × HasNoLessRoom hand refused.1) }
     ensures cells { HaveNoLessRoom (C.cells cells.old) (C.cells cells.new) }

@@ -20,6 +20,7 @@ pub enum CommitStep {
 impl Commit {
     /// The step that comes next.
     pub fn step(&self) -> CommitStep
+        // Which step of a commit comes next is told.
         ensures { result ≡ step_of self.now }
     {
         let planned = self.plans.len();

@@ -92,6 +92,7 @@ impl Ready {
 
     /// The hand of a call that is given up before its commit. Takes no memory.
     pub fn into_hand(self) -> Hand
+        // A call that is given up before its commit gives its hand back.
         ensures { result ≡ self.hand }
     {
         let Ready {
@@ -106,6 +107,7 @@ impl Ready {
     }
 
     /// Takes the call apart with all that its hand holds: for the owner of a whole device that is let go.
+    /// Only tested: with a whole device that is let go, a ready call is taken apart; its blocks are let go.
     pub fn dismantle(self) {
         self.into_hand().dismantle();
     }
@@ -127,6 +129,7 @@ impl Ready {
     /// The place of a cell that gets entries among the call's cells.
     pub fn place_of(&self, j: usize) -> usize
         requires { j < length self.now.plans }
+        // The place of a planned cell is told.
         ensures { result ≡ (plan_at self.now.plans j).at }
     {
         self.plans[j].at
@@ -135,6 +138,7 @@ impl Ready {
     /// How many entries such a cell gets.
     pub fn entries_for(&self, j: usize) -> usize
         requires { j < length self.now.plans }
+        // How many entries a ready call appends to a cell is told.
         ensures { result ≡ length (plan_at self.now.plans j).items }
     {
         self.plans[j].items.len()
@@ -143,6 +147,7 @@ impl Ready {
     /// For how many records the commit needs room in the book, as [`nv_book::Book::enter`] is told: one for each part
     /// that it may kill.
     pub fn need(&self) -> u64
+        // For how many records a commit needs room is told before it: the most parts that its entries kill.
         ensures { result ≡ self.now.need }
     {
         self.need

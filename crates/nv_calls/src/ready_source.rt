@@ -30,27 +30,35 @@ pub fn ready_filled<C: Cells, S: Source>(
     requires can { CanReady (C.cells cells.old) hand plan.update }
     requires pages { HasLogPages (C.cells cells.old) hand plan.update }
     requires failures { S.failed source.old < 2 ^ 64 - 1 }
+    // A call is made ready and filled in one, over any source.
     ensures ok { IfOk result (λ ready. IsReadyBy (C.cells cells.old) hand plan.update
         (C.cells cells.new) ready) }
+    // Its blocks have the bytes of its cells' pages before, with the source's in their places.
     ensures filled { IfOk result (λ ready. ready.hand.data.blocks
         ≡ filled_by (C.cells cells.old) (S.byte_at source.old) plan.update hand.data) }
+    // Where the logs of the cells are sound, these are the pages of the file after the call.
     ensures fresh { (bytes : ℕ → List ℕ)
         → HaveBytes bytes hand.data.size (C.cells cells.old)
         → ((ino : ℕ) → IsSound bytes hand.data.size (slots_by (C.cells cells.old) ino).log)
         → IfOk result (λ ready. ready.hand.data.blocks
         ≡ filled (fresh_pages hand.data.size (nodes_in (C.cells cells.old))
         (sourced (S.byte_at source.old) plan.update)) hand.data.blocks) }
+    // Where a growth is refused, nothing has changed except room, and the source was not asked.
+    // Where the source fails the call is not ready, and the error is `Read`.
+    // After such a failure the hand holds what it held, with other bytes in its data blocks.
     ensures err { IfErr result (λ refused.
         ((refused.0 ≡ out_of_memory) × HasNoLessRoom hand refused.1 × (source.new ≡ source.old))
         ⊎ ((refused.0 ≡ Read) × HoldsTheSame hand refused.1
         × (S.failed source.new ≡ S.failed source.old + 1))) }
     ensures failed { OnOk result (S.failed source.new ≡ S.failed source.old) }
     ensures text { S.byte_at source.new ≡ S.byte_at source.old }
+    // The source is asked for each page once, and for none after a failure.
     ensures asked { OnOk result (S.state source.new ≡ fold S.asked (S.state source.old)
         (asks_by hand.data.size plan.update (length hand.data.blocks))) }
     ensures asked_err { OnErr result ((pages : ℕ) × (pages ≤ length hand.data.blocks)
         × (S.state source.new ≡ fold S.asked (S.state source.old)
         (asks_by hand.data.size plan.update pages))) }
+    // Of the cells nothing changes except room.
     ensures cells { HaveNoLessRoom (C.cells cells.old) (C.cells cells.new) }
     ensures frame { C.frame cells.new ≡ C.frame cells.old }
 {

@@ -12,6 +12,7 @@ use std::marker::Model;
 
 /// That a call was committed, with the number and the epoch of its commit. Only [`crate::commit_on`] makes one, and it
 /// can't be copied.
+/// A receipt can't be copied, and nothing else makes one, by its private fields.
 #[derive(Debug, Drop)]
 pub struct Receipt {
     update: Update,
@@ -36,6 +37,7 @@ impl Model for Receipt {
 impl Receipt {
     /// The call.
     pub fn update(&self) -> &Update
+        // A receipt has the call, the number and epoch of its commit, and the handle made.
         ensures { result.now ≡ self.now.update }
     {
         &self.update
@@ -65,6 +67,7 @@ impl Receipt {
     /// The inodes that got entries, with the old tails that the journal noted before they were published: none where
     /// that was one inode, which needs no journal.
     pub fn noted(&self) -> &[OldTail]
+        // A receipt has the old tails that the journal noted of all its cells, where they are two or more.
         ensures { result.now ≡ self.now.noted }
     {
         self.noted.as_slice()

@@ -12,6 +12,7 @@ use nv_base::Fault;
 
 /// Why a call is refused at a look, before it locks: the tests of its first name.
 pub fn check_look<N: Nodes>(nodes: &N, call: &Update) -> Result<(), Fault>
+    // What a look refuses is told.
     ensures { result ≡ look_refusal (N.nodes_of nodes.now) (blank_call call.now) }
 {
     match call {
@@ -25,6 +26,9 @@ pub fn check_look<N: Nodes>(nodes: &N, call: &Update) -> Result<(), Fault>
 
 /// Why a call is refused at its check before its names are compared with what the looks found.
 pub fn check_early<N: Nodes>(nodes: &N, call: &Update) -> Result<(), Fault>
+    // A call is refused exactly by the first of its tests that fails, over whatever tells nodes.
+    // Nodes are told by kinds, names and look-ups; the tests of a call are those of its module in `calls`.
+    // The check is cut where names are compared with what the looks found.
     ensures { result ≡ early (N.nodes_of nodes.now) (blank_call call.now) }
 {
     match call {
@@ -49,6 +53,7 @@ pub fn check_late<N: Nodes>(
     requires few_bytes { block ≤ BLOCK_BYTES }
     ensures tests { result_err result
         ≡ result_err (late block (N.nodes_of nodes.now) looked.now (blank_call call.now)) }
+    // A call that passes takes so many blocks for its pages as it wants.
     ensures wanted { IfOk result (λ n. n
         ≡ blocks_taken block (N.nodes_of nodes.now) (N.has_page nodes.now) call.now) }
 {

@@ -73,7 +73,8 @@ fn retire_part<C: Cells>(
     }
 }
 
-/// The same for several parts of a cell, one behind the other.
+/// Records the killed parts of a cell that a living snapshot holds, one behind the other, and puts the blocks of
+/// the others behind those of a queue.
 pub(crate) fn retire_parts<C: Cells>(
     book: &mut Book,
     cells: &mut C,
@@ -116,9 +117,12 @@ pub fn erase_gone<C: Cells>(cells: &mut C, k: usize, hand: &mut Hand)
     requires gone { is_gone (log_of (state_at (C.cells cells.old) k)) ≡ true
         → CanTakeGone hand.old (state_at (C.cells cells.old) k) }
     ensures cells { OnlyAt k (C.cells cells.old) (C.cells cells.new) }
+    // An inode that is gone and keeps nothing is erased, and no other.
     ensures state { state_at (C.cells cells.new) k ≡ erased (state_at (C.cells cells.old) k) }
     ensures room { (value_at (C.cells cells.new) k).room
         ≡ room_erased (state_at (C.cells cells.old) k) (value_at (C.cells cells.old) k).room }
+    // The chain of an erased inode goes into the hand.
+    // Its number goes there, too, unless the slot is withheld.
     ensures hand { hand.new
         ≡ hand_with (ino_at (C.cells cells.old) k) (state_at (C.cells cells.old) k) hand.old }
     ensures frame { C.frame cells.new ≡ C.frame cells.old }

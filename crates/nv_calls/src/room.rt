@@ -24,10 +24,14 @@ pub fn make_room<C: Cells>(
 ) -> Result<(), Fault>
     requires none { wanted ≡ 0 → CanReady (C.cells cells.now) hand.old plan.now.update }
     requires few { wanted < 2 ^ 32 }
+    // The hand gets room for the data blocks that a call takes, and for the log pages after them.
+    // Where a call takes no data, its log pages are counted before, and else `MORE_PAGES` are added.
     ensures ok { OnOk result (hand.new ≡ with_rooms wanted
         (pages_at_most wanted (C.cells cells.now) hand.old plan.now.update) hand.old) }
+    // A call is refused memory only where it grows.
     ensures err { FailsOnlyWhere out_of_memory ((hand.old.data.room < wanted) ⊎ (hand.old.pages.room
         < pages_at_most wanted (C.cells cells.now) hand.old plan.now.update)) result }
+    // Where a growth is refused, nothing has changed except room.
     ensures same { OnErr result (HasNoLessRoom hand.old hand.new) }
 {
     let pages = pages_at_most(cells, plan, hand, wanted);

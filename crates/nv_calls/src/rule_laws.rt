@@ -13,10 +13,13 @@ ghost use Rattle.nv_calls.specs.declared.call.Call.{Call};
 /// call that looks names up, a look goes by the rules of the first name, and the check by those of both names before it
 /// compares what the names are bound to.
 pub fn the_first_rule_refuses()
+    // The first rule that applies, of one list for all calls, refuses a call.
     ensures all { (block : ℕ) (nodes : Handle → Option NodeCopy) (call : Call)
         → refusal block nodes call ≡ first_that_applies (rules block nodes call) }
+    // A look goes by the rules of the first name.
     ensures looks { (nodes : Handle → Option NodeCopy) (call : Call) → looks_up call ≡ true
         → look_refusal nodes call ≡ first_that_applies (first_rules nodes call) }
+    // A check goes by the rules of both names before it compares what they are bound to.
     ensures early { (nodes : Handle → Option NodeCopy) (call : Call) → looks_up call ≡ true
         → early nodes call
         ≡ first_that_applies (first_rules nodes call ++ second_rules nodes call) }

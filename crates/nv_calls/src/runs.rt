@@ -5,7 +5,7 @@ ghost use Rattle.std.specs.List.{AllByRecursion};
 ghost use Rattle.nv_alloc.specs.Block.{numbers_of};
 ghost use Rattle.nv_base.specs.declared.limits.TheConstants.{BLOCKS, FILE_PAGES};
 ghost use Rattle.nv_entry.specs.Sound.{blocks_of, write_items};
-ghost use Rattle.nv_calls.specs.Plan.{AreMaximal, runs_of};
+ghost use Rattle.nv_calls.specs.Plan.{AreMaximal, block_runs_of};
 
 use nv_alloc::BlockQueue;
 use nv_base::BlockNo;
@@ -16,8 +16,10 @@ use std::alloc::{AllocError, Global};
 pub fn runs_of(alloc: Global, blocks: &[BlockNo]) -> Result<Vec<BlockRun>, AllocError>
     requires few { length blocks.now ≤ BLOCKS }
     requires small { (k : ℕ) → k < length blocks.now → slice_index_or blocks.now k 0 < 2 ^ 32 }
-    ensures runs { IfOk result (λ runs. runs.items ≡ runs_of blocks.now) }
+    // Blocks in the order taken are told as block runs.
+    ensures runs { IfOk result (λ runs. runs.items ≡ block_runs_of blocks.now) }
     ensures blocks { IfOk result (λ runs. blocks_of runs.items ≡ blocks.now) }
+    // The block runs are maximal.
     ensures maximal { IfOk result (λ runs. AreMaximal runs.items) }
 {
     let mut runs = Vec::new(alloc);
@@ -31,7 +33,7 @@ pub fn runs_of(alloc: Global, blocks: &[BlockNo]) -> Result<Vec<BlockRun>, Alloc
 pub(crate) fn runs_in(alloc: Global, queue: &BlockQueue) -> Result<Vec<BlockRun>, AllocError>
     requires few { length queue.now.blocks ≤ BLOCKS }
     requires small { AllByRecursion (λ b. b.number < 2 ^ 32) queue.now.blocks }
-    ensures runs { IfOk result (λ runs. runs.items ≡ runs_of (numbers_of queue.now.blocks)) }
+    ensures runs { IfOk result (λ runs. runs.items ≡ block_runs_of (numbers_of queue.now.blocks)) }
     ensures blocks { IfOk result (λ runs. blocks_of runs.items ≡ numbers_of queue.now.blocks) }
     ensures maximal { IfOk result (λ runs. AreMaximal runs.items) }
 {

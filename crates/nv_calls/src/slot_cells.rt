@@ -11,10 +11,12 @@ use nv_log::Chain;
 
 /// The cells of all slots, of which those of some numbers, that rise, are lent to a call. What stands beside them is
 /// the cells of all other slots.
+/// Cells may be those of some inode slots of all; the others lie beside.
 #[derive(Drop)]
 pub struct SlotCells<'a> {
     pub cells: &'a mut [InodeCell],
     pub slots: &'a [Ino],
+    // The inode slots that are lent rise, and each has a cell.
     pub ghost there: { (k : ℕ) → k < length slots.now
         → slice_index_or slots.now k 0 < length cells.now },
     pub ghost rising: { AllPairs (λ a b. a < b) slots.now },

@@ -9,10 +9,12 @@ use nv_base::Ino;
 const PLACES: usize = 4;
 
 /// At most four inode numbers, rising and each once.
+/// The slots that a call locks rise, each once, four at most.
 #[derive(Clone, Copy, Debug)]
 pub struct LockedSlots {
     inos: [Ino; PLACES],
     count: usize,
+    // It has at most four inode numbers, rising and each once.
     ghost few: { count ≤ 4 },
     ghost rising: { AllPairs (λ a b. a < b) (take count inos) },
 }
@@ -20,6 +22,7 @@ pub struct LockedSlots {
 impl LockedSlots {
     ghost use Rattle.nv_calls.specs.SlotList.{slots_in, with_some};
 
+    /// No inode slots.
     pub fn none() -> LockedSlots
         ensures { slots_in result ≡ [] }
     {
@@ -39,6 +42,7 @@ impl LockedSlots {
         }
     }
 
+    /// The inode numbers, rising and each once.
     pub fn as_slice(&self) -> &[Ino]
         ensures slots { result.now ≡ slots_in self.now }
         ensures few { length result.now ≤ 4 }
@@ -47,6 +51,7 @@ impl LockedSlots {
         &self.inos[..self.count]
     }
 
+    /// How many inode slots there are.
     pub fn len(&self) -> usize
         ensures { result ≡ length (slots_in self.now) }
     {
@@ -91,7 +96,7 @@ impl LockedSlots {
         self.with_new(place, ino)
     }
 
-    /// The same where it is new, and its place is known.
+    /// A slot more that is new, at the place that is known to be its own.
     fn with_new(self, place: usize, ino: Ino) -> LockedSlots
         requires few { length (slots_in self) < 4 }
         requires within { place ≤ length (slots_in self) }

@@ -7,6 +7,7 @@ pub struct SourceFault;
 /// A text, which is handed out part by part. Contracts see the byte at each of its places, how many calls failed, and
 /// a state of the source's own choice, which each call moves on by the place and the bytes that it was asked for: a
 /// caller whose contract gives that state says with it for which parts it asks, and in which order.
+/// A source tells what it was asked and how often it failed.
 pub trait Source {
     ghost use Rattle.std.specs.Prelude.{◌≡◌, ℕ, ◌+◌, ◌-◌, ◌<◌, ◌^◌, OnErr, OnOk, length, map};
     ghost use Rattle.std.specs.List.{range_with_len};

@@ -24,6 +24,7 @@ pub struct View {
 }
 
 impl View {
+    /// The call that was answered.
     pub fn call(&self) -> &Call
         ensures { result.now ≡ self.now.call }
     {
@@ -44,7 +45,9 @@ impl View {
         self.version
     }
 
+    /// What the call found.
     pub fn into_found(self) -> Answer
+        // What a view found is handed out as it is.
         ensures { result ≡ self.found }
     {
         self.found
@@ -116,6 +119,9 @@ pub fn look_on(
     dir: &Handle,
     name: &[u8],
 ) -> Result<Option<Handle>, Fault>
+    // By the cell of an inode, a look finds what a name of a directory leads to.
+    // A look is refused by the handle and then by the name.
+    // A look in the handle of another inode is stale, whatever its generation.
     ensures { (bytes : ℕ → List ℕ) → result
         ≡ look (copies_by bytes (alone ino cell.now)) dir.now name.now }
 {
@@ -140,6 +146,9 @@ fn find_at(ino: Ino, cell: &InodeCell, dir: &Handle, name: &[u8]) -> Result<Hand
 /// What a `Stat` tells of an inode, by its cell. `Stale` where it asks for another. Takes no memory.
 pub fn stat_on(ino: Ino, cell: &InodeCell, call: Call) -> Result<View, Fault>
     requires { is_stat call ≡ true }
+    // A view has its call, what the node under its handle answers, and the cell's version.
+    // A call that only reads is refused as its check says.
+    // A call with the handle of another inode is stale.
     ensures { (bytes : ℕ → List ℕ) → MatchResult result (IsView bytes ino cell.now call)
         (λ fault. view_refusal bytes ino cell.now call ≡ Err fault) }
 {
@@ -184,6 +193,7 @@ pub fn lookup_on(ino: Ino, cell: &InodeCell, call: Call) -> Result<View, Fault>
 pub fn list_on(ino: Ino, cell: &InodeCell, call: Call) -> Result<View, Fault>
     requires { is_list call ≡ true }
     ensures view { (bytes : ℕ → List ℕ) → IfOk result (IsView bytes ino cell.now call) }
+    // A list or read that passes its check is refused for want of memory alone.
     ensures err { (bytes : ℕ → List ℕ)
         → FailsAsChecked (view_refusal bytes ino cell.now call) result }
 {
@@ -204,7 +214,9 @@ pub fn list_on(ino: Ino, cell: &InodeCell, call: Call) -> Result<View, Fault>
 /// for them was refused. Costs the pages that it reads, and one look-up for each run of them.
 pub fn read_on(ino: Ino, cell: &InodeCell, call: Call) -> Result<View, Fault>
     requires { is_read call ≡ true }
+    // A read tells the bytes of the cell's own blocks.
     ensures own { IfOk result (IsOwnView ino cell.now call) }
+    // The view of a read has its call, what the node answers, and the cell's version.
     ensures view { (bytes : ℕ → List ℕ) → AreBytesOf cell.now.state bytes
         → IfOk result (IsView bytes ino cell.now call) }
     ensures err { (bytes : ℕ → List ℕ)
@@ -231,6 +243,8 @@ pub fn read_on(ino: Ino, cell: &InodeCell, call: Call) -> Result<View, Fault>
 /// What a call that only reads finds in the cell of an inode, as the function of its kind gives it.
 pub fn view_on(ino: Ino, cell: &InodeCell, call: Call) -> Result<View, Fault>
     requires { is_visit call ≡ true }
+    // A call that only reads has its view, or is refused as its check says.
+    // Where its check passes, a list or a read may want memory, and no other.
     ensures { (bytes : ℕ → List ℕ) → AreBytesOf cell.now.state bytes
         → MatchResult result (IsView bytes ino cell.now call)
         (IsVisitRefusal (view_refusal bytes ino cell.now call) (visit_grows call)) }

@@ -31,19 +31,19 @@ use Rattle.nv_cell.proofs.PagesNow.{front_block}
 
 -- ---- the blocks of one entry's parts
 
-abbrev block_of : Setting → Option ℕ
+abbrev pub block_of : Setting → Option ℕ
 block_of s = option_and_then block_in (value_of s)
 
 chosen : (b : Bool) (s : Setting) → block_of s ≡ None → block_of (cond b s Untouched) ≡ None
 chosen true s h = h
 chosen false s h = refl
 
-abbrev writes : Item → Bool
+abbrev pub writes : Item → Bool
 writes (Write first run size) = true
 writes item = false
 
 -- only pages have blocks
-no_block : (block : ℕ) (item : Item) (key : Key) → writes item ≡ false → block_of (sets block item key) ≡ None
+pub no_block : (block : ℕ) (item : Item) (key : Key) → writes item ≡ false → block_of (sets block item key) ≡ None
 no_block block (Init kind mode) KindKey h = refl
 no_block block (Init kind mode) ModeKey h = refl
 no_block block (Init kind mode) SizeKey h = refl

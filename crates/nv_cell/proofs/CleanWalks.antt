@@ -9,7 +9,7 @@ use Rattle.nv_cell.specs.declared.mark.Mark.{Mark}
 use Rattle.nv_cell.proofs.Droppable.{first_alike, later_alike}
 use Rattle.nv_cell.proofs.Scanned.{AreAlike}
 use Rattle.nv_entry.specs.ByFlags.{kept_flags}
-use Rattle.nv_entry.specs.Counts.{is_kept}
+use Rattle.nv_entry.specs.Counts.{is_entry_kept}
 use Rattle.nv_entry.specs.Covered.{part_count, part_total}
 use Rattle.nv_entry.specs.Held.{Retention, keeps}
 use Rattle.nv_entry.specs.declared.item.Entry.{Entry}
@@ -22,7 +22,7 @@ flags_on r (e ∷ later) marks len alike =
     let c = part_count e in
     ap (λ (b : Bool). b ∷ map (list_any is_there) (marks_by_entry later (drop c marks)))
     (first_alike r e later marks len alike)
-    ∙ ap (λ (l : List Bool). is_kept r e later ∷ l)
+    ∙ ap (λ (l : List Bool). is_entry_kept r e later ∷ l)
     (flags_on r later (drop c marks) (omega (arith, len, length-drop c marks))
     (later_alike r e later marks alike))
 

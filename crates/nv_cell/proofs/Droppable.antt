@@ -5,7 +5,7 @@ use Rattle.std.proofs.lemmas.List.{append-nil, length-drop, length-map, length-t
 use Rattle.std.proofs.lemmas.Option.{slice_get-map, slice_get_within}
 use Rattle.nv_entry.specs.declared.item.Entry.{Entry}
 use Rattle.nv_entry.specs.Clean.{entries_of}
-use Rattle.nv_entry.specs.Counts.{is_kept}
+use Rattle.nv_entry.specs.Counts.{is_entry_kept}
 use Rattle.nv_entry.specs.Covered.{part_count, part_total}
 use Rattle.nv_entry.specs.Held.{Retention, keeps}
 use Rattle.nv_entry.specs.Keys.{parts_of}
@@ -31,7 +31,7 @@ AllGoBy r kept [] (stays ∷ flags) = ⊥
 AllGoBy r kept (e ∷ later) [] = Unit {0}
 AllGoBy r kept (e ∷ later) (true ∷ flags) = AllGoBy r (kept ++ e ∷ []) later flags
 AllGoBy r kept (e ∷ later) (false ∷ flags) =
-    (0 < length later) × (is_kept r e later ≡ false) × HidesNone r.block kept e × AllGoBy r kept later flags
+    (0 < length later) × (is_entry_kept r e later ≡ false) × HidesNone r.block kept e × AllGoBy r kept later flags
 
 -- ---- such entries may go
 
@@ -66,7 +66,7 @@ all_out (Kept ∷ marks) h = cc
 
 -- the marks of the first entry, and of the others
 pub first_alike : (r : Retention) (e : Entry) (later : List Entry) (marks : List Mark) → length marks ≡ part_total (e ∷ later)
-    → AreAlike is_there (keeps r) r.block (e ∷ later) marks → list_any is_there (take (part_count e) marks) ≡ is_kept r e later
+    → AreAlike is_there (keeps r) r.block (e ∷ later) marks → list_any is_there (take (part_count e) marks) ≡ is_entry_kept r e later
 first_alike r e later marks len alike =
     let c = part_count e in
     let count : length (pairs_of r.block e later) ≡ c = length-map (parts_of e.item) (pair_of r.block e later) in

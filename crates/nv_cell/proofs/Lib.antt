@@ -58,5 +58,11 @@ pub mod CleanWalks
 pub mod CleanParts
 pub mod DeadPairs
 pub mod MarksKeep
+pub mod MarksAnew
+pub mod CellAnew
+pub mod FilledSlots
+pub mod GivenBlocks
+pub mod Holding
+pub mod Scanning
 pub mod PartBlocks
 pub mod EarlierNames

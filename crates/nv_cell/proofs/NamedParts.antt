@@ -22,14 +22,14 @@ use Rattle.nv_entry.specs.Log.{IsLog, MayFollow, first_cover, pair_of, pairs, pa
 use Rattle.nv_entry.proofs.PartLists.{length-written, page_at}
 use Rattle.nv_cell.specs.declared.killed.KilledPart.{KilledPart}
 use Rattle.nv_cell.specs.Killed.{AreNamesOfParts, ArePairs, DiesAt, part_of_pair}
-use Rattle.nv_cell.specs.Named.{number_named, place_of}
+use Rattle.nv_cell.specs.Named.{number_named, place_of_part}
 use Rattle.nv_cell.specs.Numbers.{dies, killed_part}
 use Rattle.nv_cell.proofs.Publishes.{named}
 
 -- ---- the place of a part among those of an item
 
 page_there : (first : ℕ) (run : BlockRun) (size n : ℕ) (p : Part) → slice_get (map part.Page (run_pages first run)) n ≡ Some p
-    → place_of (Write first run size) p ≡ Some (suc n)
+    → place_of_part (Write first run size) p ≡ Some (suc n)
 page_there first run size n p h =
     let lt : suc n < length (part.Size ∷ map part.Page (run_pages first run)) =
     slice_get_within (part.Size ∷ map part.Page (run_pages first run)) (suc n) p h in
@@ -43,7 +43,7 @@ page_there first run size n p h =
     let back : first + n - first + 1 ≡ suc n = omega arith in
     rw (is, page, from, to, within) (ap Some back)
 
-pub place_there : (item : Item) (n : ℕ) (p : Part) → slice_get (parts_of item) n ≡ Some p → place_of item p ≡ Some n
+pub place_there : (item : Item) (n : ℕ) (p : Part) → slice_get (parts_of item) n ≡ Some p → place_of_part item p ≡ Some n
 place_there (Init kind mode) zero p h = let is : p ≡ part.Kind = cc in rw is refl
 place_there (Init kind mode) (suc zero) p h = let is : p ≡ part.Mode = cc in rw is refl
 place_there (Init kind mode) (suc (suc zero)) p h = let is : p ≡ part.Size = cc in rw is refl
@@ -59,7 +59,7 @@ place_there (Bind name to) (suc n) p h = cc
 place_there (Unbind name) n p h = cc
 place_there Gone n p h = cc
 
-page_reads : (first : ℕ) (run : BlockRun) (size page n : ℕ) → place_of (Write first run size) (part.Page page) ≡ Some n
+page_reads : (first : ℕ) (run : BlockRun) (size page n : ℕ) → place_of_part (Write first run size) (part.Page page) ≡ Some n
     → slice_get (parts_of (Write first run size)) n ≡ Some (part.Page page)
 page_reads first run size page n h = go (in_run first run page) refl h where
   go : (b : Bool) → in_run first run page ≡ b → cond b (Some (page - first + 1)) None ≡ Some n
@@ -75,7 +75,7 @@ page_reads first run size page n h = go (in_run first run page) refl h where
       page_at first run n (omega (arith, e)) (omega (arith, e, from, to, within)) ∙ ap (λ (x : ℕ). Some (part.Page x)) back
   go false q k = cc
 
-pub place_reads : (item : Item) (p : Part) (n : ℕ) → place_of item p ≡ Some n → slice_get (parts_of item) n ≡ Some p
+pub place_reads : (item : Item) (p : Part) (n : ℕ) → place_of_part item p ≡ Some n → slice_get (parts_of item) n ≡ Some p
 place_reads (Init kind mode) part.Kind n h = let e : 0 ≡ n = cc in rw (← e) refl
 place_reads (Init kind mode) part.Mode n h = let e : 1 ≡ n = cc in rw (← e) refl
 place_reads (Init kind mode) part.Size n h = let e : 2 ≡ n = cc in rw (← e) refl
@@ -162,7 +162,7 @@ name_told (e ∷ log) id n h = go (is_same_id e.id id.entry) refl (λ m r. name_
       → ((m : ℕ) → number_named log id ≡ Some m → option_map (λ k. k.part) (killed_part log m) ≡ Some id)
       → option_map (λ k. k.part) (killed_part (e ∷ log) n) ≡ Some id
   go true q rec =
-      let place : place_of e.item id.part ≡ Some n = rw q at h in
+      let place : place_of_part e.item id.part ≡ Some n = rw q at h in
       let got : slice_get (parts_of e.item) n ≡ Some id.part = place_reads e.item id.part n place in
       let low : nat_lt n (part_count e) ≡ true = lt-ltb n (part_count e) (slice_get_within (parts_of e.item) n id.part got) in
       let ids : e.id ≡ id.entry = (ordered.same e.id id.entry).0 q in

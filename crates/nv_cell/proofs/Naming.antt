@@ -15,8 +15,8 @@ use Rattle.nv_entry.specs.declared.part.Part.{Part}
 use Rattle.nv_entry.specs.declared.part.Part.TheVariants as part
 use Rattle.nv_entry.specs.Covered.{part_count}
 use Rattle.nv_entry.specs.Keys.{in_run, is_page, parts_of}
-use Rattle.nv_log.specs.Chain.{place_of as chain_place_of}
-use Rattle.nv_cell.specs.Named.{number_named, place_of}
+use Rattle.nv_log.specs.Chain.{place_of_id as chain_place_of}
+use Rattle.nv_cell.specs.Named.{number_named, place_of_part}
 use Rattle.nv_cell.specs.Numbers.{part_base}
 
 none_front : {X : Type 0} (p : X → Bool) (xs : List X) (k : ℕ) (d : X) → length xs ≤ position_or_len p xs → k < length xs
@@ -44,17 +44,17 @@ no_position p xs k d h lt = go (nat_lt (position_or_len p xs) (length xs)) refl 
 pub number_at_entry : (es : List Entry) (tail i : ℕ) (e : Entry) (id : PartId) → i < tail → i < length es → e ≡ slice_index_or es i e
     → is_same_id e.id id.entry ≡ true
     → ((k : ℕ) → k < i → is_same_id (slice_index_or es k e).id id.entry ≡ false)
-    → number_named (take tail es) id ≡ option_map (λ n. part_base es i + n) (place_of e.item id.part)
+    → number_named (take tail es) id ≡ option_map (λ n. part_base es i + n) (place_of_part e.item id.part)
 number_at_entry [] tail i e id lt li is same others = absurd (omega arith)
 number_at_entry (x ∷ es) zero i e id lt li is same others = absurd (omega arith)
-number_at_entry (x ∷ es) (suc tail) zero e id lt li is same others = rw (← is, same) (sym (from_zero (place_of e.item id.part))) where
+number_at_entry (x ∷ es) (suc tail) zero e id lt li is same others = rw (← is, same) (sym (from_zero (place_of_part e.item id.part))) where
   from_zero : (o : Option ℕ) → option_map (λ n. 0 + n) o ≡ o
   from_zero None = refl
   from_zero (Some n) = ap Some (omega arith)
 number_at_entry (x ∷ es) (suc tail) (suc i) e id lt li is same others =
     rw (others 0 (omega arith)) (ap (option_map (λ n. part_count x + n))
     (number_at_entry es tail i e id (omega (arith, lt)) (omega (arith, li)) is same (λ k l. others (suc k) (omega (arith, l))))
-    ∙ more (place_of e.item id.part)) where
+    ∙ more (place_of_part e.item id.part)) where
       more : (o : Option ℕ)
           → option_map (λ n. part_count x + n) (option_map (λ n. part_base es i + n) o)
           ≡ option_map (λ n. part_count x + part_base es i + n) o
@@ -73,7 +73,7 @@ number_nowhere (x ∷ es) (suc tail) d id others =
 -- the entry of that id is published
 pub named_here : (es : List Entry) (tail i : ℕ) (e : Entry) (id : PartId) → chain_place_of es id.entry ≡ Some i → i < tail
     → slice_get es i ≡ Some e
-    → number_named (take tail es) id ≡ option_map (λ n. part_base es i + n) (place_of e.item id.part)
+    → number_named (take tail es) id ≡ option_map (λ n. part_base es i + n) (place_of_part e.item id.part)
 named_here es tail i e id h lt got =
     let f = position-Some (λ (x : Entry). is_same_id x.id id.entry) es i e h in
     let is = get_or_from_slice_get es i e e got in
@@ -95,7 +95,7 @@ named_past (x ∷ es) tail i id h le =
     let f = position-Some (λ (y : Entry). is_same_id y.id id.entry) (x ∷ es) i x h in
     number_nowhere (x ∷ es) tail x id (λ k l m. f.2 k (omega arith))
 
-pub place_low : (item : Item) (p : Part) (n : ℕ) → place_of item p ≡ Some n → n < length (parts_of item)
+pub place_low : (item : Item) (p : Part) (n : ℕ) → place_of_part item p ≡ Some n → n < length (parts_of item)
 place_low (Init kind mode) part.Kind n h = let e : 0 ≡ n = cc in omega arith
 place_low (Init kind mode) part.Mode n h = let e : 1 ≡ n = cc in omega arith
 place_low (Init kind mode) part.Size n h = let e : 2 ≡ n = cc in omega arith

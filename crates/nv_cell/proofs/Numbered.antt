@@ -1,6 +1,7 @@
 -- Parts on a list, by their numbers.
 use Rattle.std.proofs.Common.{◌≡◌, ℕ, ◌+◌, ◌<◌, ◌==◌, ◌||◌, Bool, true, false, cond, List, [], ◌∷◌, ◌++◌, length, take, arith, refl, ap, sym, ◌∙◌, slice_index, slice_index_or, slice_set, get_or}
 use Rattle.std.specs.List.Sorted.{IsPermutation}
+use Rattle.std.proofs.lemmas.Bool.{eqb-true}
 use Rattle.std.proofs.lemmas.Grind.{common_steps}
 use Rattle.std.proofs.lemmas.List.{get_or-map, length-map, map_more}
 use Rattle.std.proofs.lemmas.List.Sorted.{IsPermutation-map}
@@ -41,7 +42,7 @@ next_there old new parts i part lt current now =
     let e : slice_index (numbers_in parts) i ≡ n = number_at_place parts i 0 part lt in
     rw (now n) (still_there (is_in n (numbers_in (take i parts))) (mark_at old n) (rw e at (current i lt)))
 
-in_pushed : (n k : ℕ) (ns : List ℕ) → is_in k (ns ++ n ∷ []) ≡ ((n == k) || is_in k ns)
+pub in_pushed : (n k : ℕ) (ns : List ℕ) → is_in k (ns ++ n ∷ []) ≡ ((n == k) || is_in k ns)
 in_pushed n k [] = refl
 in_pushed n k (m ∷ ns) = ap (λ (b : Bool). (m == k) || b) (in_pushed n k ns) ∙ turn (m == k) (n == k) (is_in k ns) where
   turn : (a b c : Bool) → (a || (b || c)) ≡ (b || (a || c))
@@ -66,3 +67,24 @@ killed_more marks parts i k part old lt within h =
     mark_set marks n k within ∙ ap (λ (m : Mark). cond (n == k) Killed m) h ∙ either (n == k) (is_in k before) old
     ∙ ap (λ (b : Bool). cond b Killed old) (sym (in_pushed n k before))
     ∙ ap (λ (ns : List ℕ). cond (is_in k ns) Killed old) (sym (map_more (λ p. p.number) parts i part lt))
+
+-- ---- parts that end one after another, each with a mark of its own
+
+mark_put : (marks : List Mark) (n k : ℕ) (mark : Mark) → n < length marks
+    → mark_at (slice_set marks n mark) k ≡ cond (n == k) mark (mark_at marks k)
+mark_put marks n k mark lt = grind (arith, common_steps)
+
+pub ended_more : (marks : List Mark) (parts : List NumberedPart) (i k : ℕ) (part : NumberedPart) (f : ℕ → Mark) (mark old : Mark)
+    → i < length parts → (get_or parts i part).number < length marks → mark ≡ f (get_or parts i part).number
+    → mark_at marks k ≡ cond (is_in k (numbers_in (take i parts))) (f k) old
+    → mark_at (slice_set marks (get_or parts i part).number mark) k ≡ cond (is_in k (numbers_in (take (i + 1) parts))) (f k) old
+ended_more marks parts i k part f mark old lt within is h =
+    let n = (get_or parts i part).number in
+    let before = numbers_in (take i parts) in
+    mark_put marks n k mark within ∙ ap (λ (m : Mark). cond (n == k) mark m) h ∙ by (n == k) refl (is_in k before)
+    ∙ ap (λ (b : Bool). cond b (f k) old) (sym (in_pushed n k before))
+    ∙ ap (λ (ns : List ℕ). cond (is_in k ns) (f k) old) (sym (map_more (λ p. p.number) parts i part lt)) where
+      by : (a : Bool) → ((get_or parts i part).number == k) ≡ a → (b : Bool)
+          → cond a mark (cond b (f k) old) ≡ cond (a || b) (f k) old
+      by true q b = is ∙ ap f (eqb-true (get_or parts i part).number k q)
+      by false q b = refl

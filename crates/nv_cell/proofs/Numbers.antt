@@ -18,7 +18,7 @@ use Rattle.nv_entry.specs.Laws.{is_present}
 use Rattle.nv_entry.specs.Log.{IsLog}
 use Rattle.nv_entry.proofs.PartsSet.{parts_are_set}
 use Rattle.nv_base.specs.Ids.{is_same_id, IsIdBefore}
-use Rattle.nv_log.specs.Chain.{place_of}
+use Rattle.nv_log.specs.Chain.{place_of_id}
 use Rattle.nv_log.proofs.Logs.{ordered_at}
 use Rattle.nv_entry.specs.declared.part_ref.PartRef.{PartRef}
 use Rattle.nv_entry.specs.Refs.{place_in, ref_after, left_by}
@@ -233,7 +233,7 @@ other_id a b (inr h) = grind (arith, nat_tests)
 own_id : (a : EntryId) → is_same_id a a ≡ true
 own_id a = grind (arith, nat_tests)
 
-pub own_place_of : (es : List Entry) (k : ℕ) (d : Entry) → IsLog es → k < length es → place_of es (get_or es k d).id ≡ Some k
+pub own_place_of : (es : List Entry) (k : ℕ) (d : Entry) → IsLog es → k < length es → place_of_id es (get_or es k d).id ≡ Some k
 own_place_of es k d is within =
     let at : position_or_len (has_id (get_or es k d).id) es ≡ k =
     position_or_len_is (has_id (get_or es k d).id) es k d (omega arith)
@@ -250,10 +250,10 @@ take_split [] rest = refl
 take_split (y ∷ pre) rest = ap (λ xs. y ∷ xs) (take_split pre rest)
 
 pub place_split : (pre : List Entry) (x : Entry) (post : List Entry) → IsLog (pre ++ x ∷ post)
-    → place_of (pre ++ x ∷ post) x.id ≡ Some (length pre)
+    → place_of_id (pre ++ x ∷ post) x.id ≡ Some (length pre)
 place_split pre x post is =
     let within : length pre < length (pre ++ x ∷ post) = omega (arith, length-append pre (x ∷ post)) in
-    ap (λ (e : Entry). place_of (pre ++ x ∷ post) e.id) (sym (at_split pre x post x))
+    ap (λ (e : Entry). place_of_id (pre ++ x ∷ post) e.id) (sym (at_split pre x post x))
     ∙ own_place_of (pre ++ x ∷ post) (length pre) x is within
 
 no_last : (block : ℕ) (log : List Entry) (key : Key) → any_cover block log key ≡ false → last_cover block log key ≡ None
@@ -303,7 +303,7 @@ again a b (Some m) = ap Some (omega arith)
 -- the scan by ids is the scan by numbers, and its ids are the log's
 pub record Linked (block : ℕ) (es : List Entry) (base : ℕ) (log : List Entry) (key : Key) : Type 0 where
   pub numbers : option_map (number es) (scan_ref block log key) ≡ option_map (λ m. base + m) (scan_n block log key)
-  pub known : (r : PartRef) → scan_ref block log key ≡ Some r → IsSome (place_of es r.entry)
+  pub known : (r : PartRef) → scan_ref block log key ≡ Some r → IsSome (place_of_id es r.entry)
 
 pub linked : (block : ℕ) (pre log post : List Entry) (key : Key) → IsLog (pre ++ (log ++ post))
     → Linked block (pre ++ (log ++ post)) (part_total pre) log key
@@ -323,7 +323,7 @@ linked block pre (x ∷ later) post key is = go (any_cover block later key) refl
     known = λ r h. let z : None ≡ Some r = sym (scan_here block x later key n ∙ rw q refl) ∙ h in cc;
   }
   here (Present d) q n =
-      let p : place_of (pre ++ (x ∷ (later ++ post))) x.id ≡ Some (length pre) = place_split pre x (later ++ post) is in
+      let p : place_of_id (pre ++ (x ∷ (later ++ post))) x.id ≡ Some (length pre) = place_split pre x (later ++ post) is in
       record {
         numbers = rw (scan_here block x later key n, n, q) (ap Some (rw (p, take_split pre (x ∷ (later ++ post))) refl));
         known = λ r h. let z : Some (record { entry = x.id; place = place_in x.item key }) ≡ Some r =

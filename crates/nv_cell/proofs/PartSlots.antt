@@ -13,7 +13,7 @@ use Rattle.nv_entry.specs.Keys.{Key, parts_of}
 use Rattle.nv_entry.specs.Log.{IsLog}
 use Rattle.nv_entry.specs.Refs.{scan_ref}
 use Rattle.nv_entry.proofs.Refs.{to_current}
-use Rattle.nv_log.specs.Chain.{place_of}
+use Rattle.nv_log.specs.Chain.{place_of_id}
 use Rattle.nv_cell.specs.declared.cell.InodeCell.TheInside.{Inside}
 use Rattle.nv_cell.specs.declared.number.NumberedPart.{NumberedPart}
 use Rattle.nv_cell.specs.Fields.{AreFields}
@@ -99,8 +99,8 @@ at_entry : (pre : List Entry) (e : Entry) (post : List Entry) (r : PartRef) (slo
     ≡ slice_index_or (by_part (pre ++ e ∷ post) slots) (number (pre ++ e ∷ post) r) None
 at_entry pre e post r slots is id_is low some len =
     let es = pre ++ e ∷ post in
-    let at : unwrap_or (place_of es r.entry) 0 ≡ length pre =
-    ap (λ id. unwrap_or (place_of es id) 0) (sym id_is) ∙ ap (λ o. unwrap_or o 0) (place_split pre e post is) in
+    let at : unwrap_or (place_of_id es r.entry) 0 ≡ length pre =
+    ap (λ id. unwrap_or (place_of_id es id) 0) (sym id_is) ∙ ap (λ o. unwrap_or o 0) (place_split pre e post is) in
     let within : length pre < length es = omega (arith, length-append pre (e ∷ post)) in
     let k = r.place - 1 in
     let up : suc k ≡ r.place = omega (arith, some) in

@@ -97,7 +97,7 @@ total_take es t =
     let a : part_total (take t es ++ drop t es) ≡ part_total es = ap part_total (take_drop es t) in
     omega (arith, a, total_append (take t es) (drop t es))
 
-front_key : (es : List Entry) (t n : ℕ) → n < part_total (take t es) → key_at es n ≡ key_at (take t es) n
+pub front_key : (es : List Entry) (t n : ℕ) → n < part_total (take t es) → key_at es n ≡ key_at (take t es) n
 front_key es t n lt = ap (λ (xs : List Entry). key_at xs n) (sym (take_drop es t)) ∙ key_front (take t es) (drop t es) n lt
 
 pub are_named : (block : ℕ) (es : List Entry) (t : ℕ) (index : IndexValue) → IsScan block es t index → AreNamed es index

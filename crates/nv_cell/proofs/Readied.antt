@@ -129,6 +129,21 @@ one_ready items i name to old new (Ok u) one lt is plain same reserved =
     (one, ready_one items i name to new one lt is plain (reserved_ready name to old new same reserved))
 one_ready items i name to old new (Err fault) one lt is plain same reserved = tt
 
+-- the same of one item
+pub name_ready : (name : List ℕ) (to : Handle) (old new : Names) (result : Result (Unit {0}) Fault) → new.names ≡ old.names
+    → (binding_of name old.names ≡ None → OnOk result (new.reserved ≡ Some name)) → OnOk result (NameReady (Bind name to) new)
+name_ready name to old new (Ok u) same reserved = reserved_ready name to old new same reserved
+name_ready name to old new (Err fault) same reserved = tt
+
+pub other_ready : (item : Item) (names : Names) → ((name : List ℕ) (to : Handle) → item ≡ Bind name to → ⊥) → NameReady item names
+other_ready (Bind name to) names none = absurd (none name to refl)
+other_ready (Init kind mode) names none = tt
+other_ready (Write first run size) names none = tt
+other_ready (SetSize size) names none = tt
+other_ready (SetMode mode) names none = tt
+other_ready (Unbind name) names none = tt
+other_ready Gone names none = tt
+
 pub ready_at : (items : List Item) (i : ℕ) (name : List ℕ) (to : Handle) (names : Names)
     → AllByRecursion (λ item. NameReady item names) items → i < length items
     → slice_index_or items i (Bind name to) ≡ Bind name to → NameReady (Bind name to) names

@@ -12,7 +12,7 @@ use Rattle.nv_entry.specs.Keys.{PageKey}
 use Rattle.nv_findex.specs.declared.page_ref.PageRef.{PageRef}
 use Rattle.nv_findex.specs.declared.page_run.PageRun.{PageRun}
 use Rattle.nv_findex.specs.Pages.{IsRun, IsRunFrom, IsRunOf, ref_at, run_ref}
-use Rattle.nv_log.specs.Chain.{place_of}
+use Rattle.nv_log.specs.Chain.{place_of_id}
 use Rattle.nv_cell.specs.declared.read.Stretch.{Stretch}
 use Rattle.nv_cell.specs.declared.tally.Tally.{Tally}
 use Rattle.nv_cell.specs.Cell.{AreSlotsSized}
@@ -47,10 +47,10 @@ pub page_found : (block : ℕ) (es : List Entry) (t : ℕ) (index : IndexValue) 
     → IsScan block es t index → ((i : ℕ) → i < t → first_slot tallies i ≡ slot_base es i)
     → IsRunOf (ref_at index.pages.pages) run → run.first ≤ page → page < run.end
     → (page_slot es index page
-    ≡ Some (first_slot tallies (unwrap_or (place_of es run.start.entry) 0) + run.start.place + (page - run.first)))
-    × (first_slot tallies (unwrap_or (place_of es run.start.entry) 0) + run.start.place + (page - run.first) < part_total (take t es))
+    ≡ Some (first_slot tallies (unwrap_or (place_of_id es run.start.entry) 0) + run.start.place + (page - run.first)))
+    × (first_slot tallies (unwrap_or (place_of_id es run.start.entry) 0) + run.start.place + (page - run.first) < part_total (take t es))
 page_found block es t index tallies run page scan bases is ge lt =
-    let place = unwrap_or (place_of es run.start.entry) 0 in
+    let place = unwrap_or (place_of_id es run.start.entry) 0 in
     let n = part_base es place + (run.start.place + (page - run.first) + 1) in
     let q : number_at es index (PageKey page) ≡ Some n =
     ap (λ (o : Option PageRef). option_map (number es) (option_map page_part o)) (is.pages page ge lt) in
@@ -67,7 +67,7 @@ page_found block es t index tallies run page scan bases is ge lt =
 
 -- the entry of a run is one of the chain's
 pub run_known : (block : ℕ) (es : List Entry) (t : ℕ) (index : IndexValue) (run : PageRun) → IsScan block es t index
-    → IsRunOf (ref_at index.pages.pages) run → IsSome (place_of es run.start.entry)
+    → IsRunOf (ref_at index.pages.pages) run → IsSome (place_of_id es run.start.entry)
 run_known block es t index run scan is =
     let r : ref_of index (PageKey run.first) ≡ Some (page_part (run_ref run run.first)) =
     ap (option_map page_part) (is.pages run.first (omega arith) is.some) in
@@ -77,7 +77,7 @@ pub stretch_is : (block : ℕ) (es : List Entry) (t : ℕ) (index : IndexValue) 
     → IsScan block es t index → ((i : ℕ) → i < t → first_slot tallies i ≡ slot_base es i)
     → part_total (take t es) < 2 ^ 64 → IsRunFrom from (ref_at index.pages.pages) (Some run) → IsRun run → from ≡ min page FILE_PAGES
     → IsStretch (page_slot es index) page
-    (record { first = run.first; end = run.end; slot = first_slot tallies (unwrap_or (place_of es run.start.entry) 0) + run.start.place })
+    (record { first = run.first; end = run.end; slot = first_slot tallies (unwrap_or (place_of_id es run.start.entry) 0) + run.start.place })
 stretch_is block es t index tallies run from page scan bases small is good at =
     let last =
     page_found block es t index tallies run (run.end - 1) scan bases is.0 (omega (arith, good.some)) (omega (arith, good.some)) in

@@ -1,6 +1,5 @@
 -- The value of a key by the part that holds it, found among all entries.
 use Rattle.std.proofs.Common.{◌≡◌, ℕ, zero, suc, List, [], ◌∷◌, ◌++◌, take, drop, is_some, Option, Some, None, refl, ap, sym, ◌∙◌, subst}
-use Rattle.std.specs.List.{AllByRecursion}
 use Rattle.std.specs.Prelude.{option_and_then}
 use Rattle.nv_base.specs.declared.numbers.EntryId.{EntryId}
 use Rattle.nv_entry.specs.declared.item.Entry.{Entry}
@@ -10,26 +9,14 @@ use Rattle.nv_entry.specs.declared.part_ref.PartRef.{PartRef}
 use Rattle.nv_entry.specs.declared.key.Datum.{Datum}
 use Rattle.nv_entry.specs.Index.{last_cover}
 use Rattle.nv_entry.specs.Keys.{Key, KindKey, sets}
-use Rattle.nv_entry.specs.Log.{IsLog, MayFollow, value_now, value_of}
+use Rattle.nv_entry.specs.Log.{IsLog, value_now, value_of}
 use Rattle.nv_entry.specs.Refs.{IsCurrentPart, entry_with, left_by, part_ref, place_in, ref_after, scan_ref, value_in}
 use Rattle.nv_entry.specs.Stored.{kind_in, stored}
 use Rattle.nv_entry.proofs.Refs.{current_part, entry_with-own, refs_give, value_now-last}
+pub use Rattle.nv_log.proofs.Logs.{IsLog-take}
 
 abbrev set_by : ℕ → Key → Entry → Option Datum
 set_by block key e = value_of (sets block e.item key)
-
-all_front : {X : Type 0} (P : X → Type 0) (t : ℕ) (xs : List X) → AllByRecursion P xs → AllByRecursion P (take t xs)
-all_front P zero [] all = tt
-all_front P (suc t) [] all = tt
-all_front P zero (x ∷ xs) all = tt
-all_front P (suc t) (x ∷ xs) all = (all.0, all_front P t xs all.1)
-
--- the first entries of a log are one
-pub IsLog-take : (t : ℕ) (es : List Entry) → IsLog es → IsLog (take t es)
-IsLog-take zero [] is = tt
-IsLog-take (suc t) [] is = tt
-IsLog-take zero (e ∷ es) is = tt
-IsLog-take (suc t) (e ∷ es) is = (all_front (MayFollow e) t es is.0, IsLog-take t es is.1)
 
 take_drop : (t : ℕ) (es : List Entry) → es ≡ take t es ++ drop t es
 take_drop zero [] = refl

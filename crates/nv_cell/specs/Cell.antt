@@ -19,29 +19,42 @@ use Rattle.nv_cell.specs.Effects.{NamesReady}
 use Rattle.nv_cell.specs.Index.{bindings_of}
 use Rattle.nv_cell.specs.Named.{number_named}
 use Rattle.nv_cell.specs.Numbers.{killed_numbers, killed_part, published_mark}
-use Rattle.nv_cell.specs.Weights.{runs_of, weights_in}
+use Rattle.nv_cell.specs.Weights.{page_runs_needed, weights_in}
 
 -- the size of blocks in bytes; the generation, which rises each time that the slot is emptied, and how many commits the
 -- cell has seen; the chain of the log; by part number the mark of each published part, and the block of each part that
 -- has one
 pub record CellState : Type 0 where
+  -- the bytes of a block
   pub block : ℕ
+  -- how often the slot was emptied, from 1 on
   pub generation : ℕ
+  -- how many commits were published
   pub version : ℕ
+  -- the log, in its pages
   pub chain : ChainState
+  -- a mark for each published part
   pub marks : List Mark
+  -- the block of each part, or none
   pub blocks : List (Option BlockValue)
 
 -- for how much more there is room: pages of the chain, entries and parts to append; and, for what is to be published,
 -- runs of pages, a name that is not bound, and killed parts
 pub record CellRoom : Type 0 where
+  -- log pages to add
   pub pages : ℕ
+  -- entries to append
   pub entries : ℕ
+  -- parts to append
   pub parts : ℕ
+  -- page runs to publish
   pub runs : ℕ
+  -- a name to publish, which is reserved
   pub name : Option (List ℕ)
+  -- parts to kill
   pub killed : ℕ
 
+-- what clauses see of a cell: its state, and its room
 pub record CellValue : Type 0 where
   pub state : CellState
   pub room : CellRoom
@@ -97,6 +110,7 @@ held_count places = count_by is_some places
 abbrev pub of_part : Option BlockValue → List ℕ
 of_part block = numbers_of (option_to_list block)
 
+-- the numbers of a cell's blocks: its log pages and its parts' blocks
 abbrev pub stored_in : CellState → List ℕ
 stored_in cell = numbers_of cell.chain.blocks ++ flat_map of_part cell.blocks
 
@@ -106,10 +120,15 @@ block_total cell = length cell.chain.blocks + held_count cell.blocks
 
 -- what holds of each cell
 pub record IsCell (cell : CellState) : Type 0 where
+  -- a block has at least one byte
   pub some : 0 < cell.block
+  -- the chain is one
   pub chain : IsChain cell.chain
+  -- each log page has the size of a block
   pub pages : AreSized cell.block cell.chain.blocks
+  -- each published part has its mark
   pub marks : HasMarks cell
+  -- each file page that is not out has its block
   pub blocks : HasBlocks cell
 
 -- the entries that are appended and not yet published
@@ -120,7 +139,9 @@ fresh_of cell = drop cell.chain.tail cell.chain.entries
 abbrev pub killed_of : CellState → List ℕ
 killed_of cell = killed_numbers cell.block cell.chain.entries cell.chain.tail
 
--- these parts, in the same order
+-- these parts, in the same order.
+-- What `publish` kills: the parts that were current, or are newly published, and that a later entry covers once all
+-- entries are published, in the order of their numbers.
 abbrev pub killed_by : CellState → List KilledPart
 killed_by cell = flat_map (λ n. option_to_list (killed_part cell.chain.entries n)) (killed_of cell)
 
@@ -132,9 +153,11 @@ published cell = record cell {
   marks = map (published_mark cell.block cell.chain.entries cell.chain.tail cell.marks) (range_with_len 0 (part_total cell.chain.entries));
 }
 
--- there is room for what these items need when they are published behind the log
+-- there is room for what these items need when they are published behind the log.
+-- A cell can publish items where there is room for two page runs for each Write, for the name that one binds, and
+-- for as many killed parts as the items weigh.
 pub record CanPublish (items : List Item) (cell : CellValue) : Type 0 where
-  pub runs : sum_by runs_of items ≤ cell.room.runs
+  pub runs : sum_by page_runs_needed items ≤ cell.room.runs
   pub names : NamesReady items (record { names = bindings_of (log_of cell.state); reserved = cell.room.name })
   pub killed : weights_in cell.state.block (log_of cell.state) items ≤ cell.room.killed
 

@@ -46,7 +46,10 @@ pub record KeepsNodes (r : Retention) (old new : CellState) : Type 0 where
 -- ---- parts
 
 -- a log has a pair of that name and birth which is no longer current, and the living snapshots that
--- hold it are those which are said to do so
+-- hold it are those which are said to do so.
+-- Dead pair: a log has a pair of this name and this birth which is no longer current, and exactly those living
+-- snapshots hold it which are said to. Nothing is said of its death, which moves where the entry that killed the
+-- pair is cleaned away.
 pub record HasDeadPair (living : List ℕ) (block : ℕ) (log : List Entry) (id : PartId) (birth : ℕ)
     (is_held_by : ℕ → Bool) : Type 0 where
   pub n : ℕ

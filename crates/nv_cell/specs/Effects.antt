@@ -9,6 +9,7 @@ use Rattle.nv_entry.specs.Refs.{is_bind}
 use Rattle.nv_nindex.specs.NameIndex.{Names}
 use Rattle.nv_cell.specs.Index.{NameReady}
 
+-- the items of entries, in order
 abbrev pub items_of : List Entry → List Item
 items_of entries = map (λ e. e.item) entries
 

@@ -11,6 +11,7 @@ use Rattle.nv_cell.specs.Reading.{IsIndexOf}
 use Rattle.nv_cell.specs.Slots.{by_part, slot_total}
 use Rattle.nv_cell.specs.Tallies.{AreTallied, HasSpare, end_at}
 
+-- what the fields of a cell show
 abbrev pub state_in : Inside → CellState
 state_in c = record {
   block = c.block;
@@ -21,6 +22,7 @@ state_in c = record {
   blocks = by_part c.chain.state.entries c.blocks.items;
 }
 
+-- the same with its room
 abbrev pub value_in : Inside → CellValue
 value_in c = record {
   state = state_in c;

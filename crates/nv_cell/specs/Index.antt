@@ -26,6 +26,7 @@ pub record IndexValue : Type 0 where
 abbrev pub page_part : PageRef → PartRef
 page_part at = part_ref at.entry (at.place + 1)
 
+-- the part that binds a name: the first of its entry
 abbrev pub name_part : Binding → PartRef
 name_part to = part_ref to.entry 0
 
@@ -42,6 +43,7 @@ abbrev pub bound_by : EntryId → Item → List (List ℕ × Binding)
 bound_by id (Bind name to) = (name, record { to = to; entry = id }) ∷ []
 bound_by id item = []
 
+-- the bindings of a log, in the order of their entries
 abbrev pub bindings_of : List Entry → List (List ℕ × Binding)
 bindings_of log = flat_map (λ e. bound_by e.id e.item) (binders_of log)
 

@@ -35,7 +35,8 @@ abbrev pub DiesAt : ℕ → List Entry → ℕ → ℕ → Type 0
 DiesAt block es tail epoch =
     (n : ℕ) (pair : Pair) → dies block es tail n ≡ true → slice_get (pairs block es) n ≡ Some pair → pair.death ≡ Some epoch
 
--- these parts are killed, and each is told once
+-- these parts are killed, and each is told once.
+-- Killed parts by name: each is marked killed, and none is told twice.
 abbrev pub AreKilled : List PartId → CellState → Type 0
 AreKilled [] cell = Unit {0}
 AreKilled (id ∷ later) cell = (mark_named cell id ≡ Some Killed) × AllByRecursion (λ other. other ≡ id → ⊥) later × AreKilled later cell

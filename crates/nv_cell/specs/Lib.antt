@@ -1,3 +1,6 @@
+pub mod Anew
+pub mod Plan
+pub mod Filling
 pub mod Append
 pub mod Cell
 pub mod Effects

@@ -3,12 +3,14 @@ use Rattle.std.specs.Prelude.{ℕ, Bool, true, false, List, slice_index_or}
 use Rattle.nv_cell.specs.declared.mark.Mark.{Mark}
 use Rattle.nv_cell.specs.declared.mark.Mark.TheVariants.{Current, Killed, Kept, Out}
 
+-- the mark is current
 abbrev pub is_current : Mark → Bool
 is_current Current = true
 is_current Killed = false
 is_current Kept = false
 is_current Out = false
 
+-- the mark is killed
 abbrev pub is_killed : Mark → Bool
 is_killed Current = false
 is_killed Killed = true
@@ -26,6 +28,7 @@ is_there Out = false
 abbrev pub mark_at : List Mark → ℕ → Mark
 mark_at marks n = slice_index_or marks n Out
 
+-- 1 for a flag that is set, else 0
 abbrev pub bit : Bool → ℕ
 bit true = 1
 bit false = 0

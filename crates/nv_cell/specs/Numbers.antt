@@ -8,7 +8,7 @@ use Rattle.nv_entry.specs.declared.item.Entry.{Entry}
 use Rattle.nv_entry.specs.declared.part_ref.PartRef.{PartRef}
 use Rattle.nv_entry.specs.Covered.{is_covered, key_at, part_count, part_total}
 use Rattle.nv_entry.specs.Keys.{Key, KindKey, ModeKey, SizeKey, NameKey, PageKey, parts_of}
-use Rattle.nv_log.specs.Chain.{place_of}
+use Rattle.nv_log.specs.Chain.{place_of_id}
 use Rattle.nv_nindex.specs.declared.binding.Binding.{Binding}
 use Rattle.nv_nindex.specs.NameIndex.{binding_of}
 use Rattle.nv_cell.specs.declared.killed.KilledPart.{KilledPart}
@@ -19,7 +19,10 @@ use Rattle.nv_cell.specs.Index.{IndexValue, ref_of}
 use Rattle.nv_cell.specs.Marks.{mark_at}
 use Rattle.nv_cell.specs.Tallies.{start_at}
 
--- how many parts the first `t` entries have
+-- how many parts the first `t` entries have.
+-- Number of a part: the parts of a log are counted through, by entry and then by place. Mark: a published part is
+-- current, killed, kept or out. Killed is what is no longer current and not yet retired. Kept is what has a record.
+-- Tally of an entry: how many of its parts are current, how many are not out, and where its part slots end.
 abbrev pub part_base : List Entry → ℕ → ℕ
 part_base es t = part_total (take t es)
 
@@ -30,12 +33,13 @@ pub record AreEnds (ends : List ℕ) (es : List Entry) : Type 0 where
 
 -- the number of a part
 abbrev pub number : List Entry → PartRef → ℕ
-number es r = part_base es (unwrap_or (place_of es r.entry) 0) + r.place
+number es r = part_base es (unwrap_or (place_of_id es r.entry) 0) + r.place
 
 -- the number of the part that an index names at a key
 abbrev pub number_at : List Entry → IndexValue → Key → Option ℕ
 number_at es index key = option_map (number es) (ref_of index key)
 
+-- the number is known and is this one
 abbrev pub is_number : Option ℕ → ℕ → Bool
 is_number None n = false
 is_number (Some m) n = m == n
@@ -50,7 +54,7 @@ numbers_in parts = map (λ p. p.number) parts
 
 -- a part that an index names is one of the log
 pub record IsPart (es : List Entry) (r : PartRef) : Type 0 where
-  pub entry : IsSome (place_of es r.entry)
+  pub entry : IsSome (place_of_id es r.entry)
   pub within : number es r < part_total es
 
 -- a part stands in the entry that it comes with
@@ -73,10 +77,12 @@ abbrev pub is_page_in : ℕ → ℕ → Key → Bool
 is_page_in from to (PageKey page) = nat_le from page && nat_lt page to
 is_page_in from to key = false
 
+-- the key is a name that is bound in the list
 abbrev pub is_name_in : List (List ℕ × Binding) → Key → Bool
 is_name_in list (NameKey name) = is_some (binding_of name list)
 is_name_in list key = false
 
+-- the key is a name
 abbrev pub is_any_name : Key → Bool
 is_any_name (NameKey name) = true
 is_any_name key = false

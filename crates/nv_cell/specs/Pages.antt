@@ -45,6 +45,8 @@ AreReadTo block slots numbers count start end page bytes =
 abbrev pub own_page : CellState → ℕ → List ℕ
 own_page cell page = slot_bytes cell.block (block_at_page cell page)
 
+-- Own bytes of a cell: page by page those of the block that it has for the part that holds the page, zeros where no
+-- part does, cut at the size.
 abbrev pub own_bytes : CellState → List ℕ
 own_bytes cell =
     let size = size_now cell.block (log_of cell) in take size (flat_map (own_page cell) (range_with_len 0 (pages_for cell.block size)))

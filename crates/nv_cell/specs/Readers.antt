@@ -24,7 +24,9 @@ abbrev pub marks_by_entry : List Entry → List Mark → List (List Mark)
 marks_by_entry [] marks = []
 marks_by_entry (e ∷ later) marks = take (part_count e) marks ∷ marks_by_entry later (drop (part_count e) marks)
 
--- of each published entry whether one of its parts is not out
+-- of each published entry whether one of its parts is not out.
+-- There flags: for each published entry whether one of its parts is not out. By the marks of a retention they are
+-- the retention's `kept_flags`.
 abbrev pub there_flags : CellState → List Bool
 there_flags cell = map (list_any is_there) (marks_by_entry (log_of cell) cell.marks)
 
@@ -32,22 +34,27 @@ there_flags cell = map (list_any is_there) (marks_by_entry (log_of cell) cell.ma
 abbrev pub marks_of_page : CellState → ℕ → List (List Mark)
 marks_of_page cell page = slice_index_or (parts_from 0 cell.chain.ends (marks_by_entry (log_of cell) cell.marks)) page []
 
--- how many published entries of a page have a current part, and how many one that is not out
+-- how many published entries of a page have a current part, and how many one that is not out.
+-- Counts of a log page: its published entries with a current part (`live`), and with a part that is not out
+-- (`valid`).
 abbrev pub counts_of : CellState → ℕ → LogPageCounts
 counts_of cell page = record {
   live = count_by (list_any is_current) (marks_of_page cell page);
   valid = count_by (list_any is_there) (marks_of_page cell page);
 }
 
+-- nothing may stand behind the item
 abbrev pub is_last_word : Item → Bool
 is_last_word Gone = true
 is_last_word item = false
 
--- the inode of a log is gone: the last entry says so
+-- the inode of a log is gone: the last entry says so.
+-- Gone: the last published entry is a `Gone`.
 abbrev pub is_gone : List Entry → Bool
 is_gone log = unwrap_or (option_map (λ e. is_last_word e.item) (last_of log)) false
 
--- every part of the log is out
+-- every part of the log is out.
+-- Nothing kept: every part is out.
 abbrev pub keeps_nothing : CellState → Bool
 keeps_nothing cell = not (list_any is_there cell.marks)
 
@@ -55,6 +62,7 @@ keeps_nothing cell = not (list_any is_there cell.marks)
 abbrev pub is_erased : CellState → Bool
 is_erased cell = is_gone (log_of cell) && keeps_nothing cell
 
+-- the log has an entry
 abbrev pub has_entry : List Entry → Bool
 has_entry [] = false
 has_entry (e ∷ log) = true

@@ -29,10 +29,12 @@ flags_by count (stays ∷ flags) (e ∷ log) = replicate (count e) stays ++ flag
 abbrev pub part_flags : List Bool → List Entry → List Bool
 part_flags flags log = flags_by part_count flags log
 
+-- the flags of entries, for each part slot
 abbrev pub slot_flags : List Bool → List Entry → List Bool
 slot_flags flags log = flags_by slot_count flags log
 
--- the number that an item had before some went, by its number among those that flags leave
+-- the number that an item had before some went, by its number among those that flags leave.
+-- The source of a part that is left is the number that it had before.
 abbrev pub source : List Bool → ℕ → ℕ
 source [] n = n
 source (true ∷ flags) zero = zero
@@ -48,6 +50,7 @@ abbrev pub AreFlags : Stays → ChainState → Type 0
 AreFlags (Entries stays) chain = length stays.now ≡ chain.tail
 AreFlags (Pages stays) chain = length stays.now ≡ length chain.ends
 
+-- the flags of a log's entries, by entries or by whole pages
 abbrev pub flags_of : Stays → ChainState → List Bool
 flags_of (Entries stays) chain = stays.now
 flags_of (Pages stays) chain = log_flags stays.now chain
@@ -60,7 +63,9 @@ HideNoneLeft block before (e ∷ later) (true ∷ flags) = HideNoneLeft block (b
 HideNoneLeft block before (e ∷ later) (false ∷ flags) = HidesNone block before e × HideNoneLeft block before later flags
 
 -- the entries that flags mark as going may do so: none is the last one, their parts are all out, and none hides an
--- earlier one that stays
+-- earlier one that stays.
+-- May go: entries of which none is the last, whose parts are all out, and that set no key to absent which an
+-- earlier entry that stays covers.
 pub record MayGo (stays : List Bool) (cell : CellState) : Type 0 where
   pub last : slice_index_or stays (length (log_of cell) - 1) true ≡ true
   pub out : AllByRecursion (λ mark. mark ≡ Out) (gone_of (part_flags stays (log_of cell)) cell.marks)
@@ -70,7 +75,8 @@ pub record MayGo (stays : List Bool) (cell : CellState) : Type 0 where
 abbrev pub ArePublished : List Bool → ChainState → Type 0
 ArePublished stays chain = (k : ℕ) → slice_index_or stays k true ≡ false → end_of chain k ≤ chain.tail
 
--- what flags of the log's entries leave of a cell, with this chain
+-- what flags of the log's entries leave of a cell, with this chain.
+-- Left: marks and blocks of the entries that stay, in their order, with the chain as the removal leaves it.
 abbrev pub left_in : List Bool → ChainState → CellState → CellState
 left_in stays chain cell = record cell {
   chain = chain;

@@ -11,7 +11,8 @@ use Rattle.nv_cell.specs.Marks.{is_there, mark_at}
 use Rattle.nv_cell.specs.declared.mark.Mark.{Mark}
 use Rattle.nv_cell.specs.Readers.{counts_of}
 
--- a part is current, killed or kept exactly where its pair is needed or pending
+-- a part is current, killed or kept exactly where its pair is needed or pending.
+-- Marks of a retention: a part is not out exactly where its pair is needed or pending.
 pub record AreMarksOf (r : Retention) (cell : CellState) : Type 0 where
   pub block : r.block ≡ cell.block
   pub there : (n : ℕ) (pair : Pair) → slice_get (pairs r.block (log_of cell)) n ≡ Some pair → is_there (mark_at cell.marks n) ≡ keeps r pair
@@ -38,6 +39,7 @@ LiveIsScanned cell =
     (page : ℕ) → page < length cell.chain.ends
     → (counts_of cell page).live ≡ live_of cell.block (published_on cell page) (drop (start_of cell.chain page) (log_of cell))
 
+-- the other count of each log page is that of the log from scratch
 abbrev pub ValidIsScanned : Retention → CellState → Type 0
 ValidIsScanned r cell =
     (page : ℕ) → page < length cell.chain.ends

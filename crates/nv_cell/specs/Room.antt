@@ -16,12 +16,16 @@ pub record CanAppend (items : List Item) (cell : CellValue) : Type 0 where
   pub entries : length items ≤ cell.room.entries
   pub parts : parts_in items ≤ cell.room.parts
 
--- and to publish them then, with those that stand past the tail already
+-- and to publish them then, with those that stand past the tail already.
+-- A cell is ready for items where it has room for two things. Entries with these items can be appended, on log
+-- pages that are there or may be added. All that stands past the tail then can be published.
 pub record IsReadyFor (items : List Item) (cell : CellValue) : Type 0 where
   pub append : CanAppend items cell
   pub publish : CanPublish (items_of (fresh_of cell.state) ++ items) cell
 
--- the same, and room for as many pages as the log takes for the entries
+-- the same, and room for as many pages as the log takes for the entries.
+-- It is ready to append them where there is also room for all log pages that its log takes. Example: with pages 0
+-- to 9 present, a Write of 3 pages weighs 4, and a cut to 8 pages behind it 1 + 2 + 3.
 pub record IsReadyToAppend (items : List Item) (cell : CellValue) : Type 0 where
   pub ready : IsReadyFor items cell
   pub pages : pages_for cell.state.chain (length items) ≤ cell.room.pages
@@ -38,7 +42,8 @@ pub record HasNoLess (old new : CellRoom) : Type 0 where
   pub runs : old.runs ≤ new.runs
   pub killed : old.killed ≤ new.killed
 
--- as much room for pages, entries and parts as entries with these items ask for, or as there was
+-- as much room for pages, entries and parts as entries with these items ask for, or as there was.
+-- Asks for: room for pages, entries and parts is what it was, or where that is more, what items ask for.
 pub record AsksFor (items : List Item) (old : CellValue) (new : CellRoom) : Type 0 where
   pub pages : new.pages ≡ max old.room.pages (pages_for old.state.chain (length items))
   pub entries : new.entries ≡ max old.room.entries (length items)
@@ -57,6 +62,7 @@ pub record HaveGrown (old new : Marks) : Type 0 where
   pub pages : HasGrown old.pages new.pages
   pub there : new.there ≡ old.there
 
+-- the new index has what the old one has, except for its room
 pub record HasSameParts (old new : IndexValue) : Type 0 where
   pub refs : (key : Key) → ref_of new key ≡ ref_of old key
   pub pages : new.pages.pages ≡ old.pages.pages

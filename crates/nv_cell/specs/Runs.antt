@@ -5,6 +5,7 @@ use Rattle.std.specs.Prelude.{ℕ, ◌-◌, ◌<◌, ◌≤◌, ◌==◌, if◌t
 abbrev pub start_at : List ℕ → ℕ → ℕ
 start_at ends i = if i == 0 then 0 else slice_index_or ends (i - 1) 0
 
+-- where the run of a place ends, 0 where there is none
 abbrev pub end_at : List ℕ → ℕ → ℕ
 end_at ends i = slice_index_or ends i 0
 

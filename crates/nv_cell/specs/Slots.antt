@@ -6,13 +6,17 @@ use Rattle.nv_entry.specs.declared.item.Entry.{Entry}
 use Rattle.nv_entry.specs.declared.part_ref.PartRef.{PartRef}
 use Rattle.nv_entry.specs.Covered.{part_count}
 use Rattle.nv_entry.specs.Keys.{PageKey}
-use Rattle.nv_log.specs.Chain.{place_of}
+use Rattle.nv_log.specs.Chain.{place_of_id}
 use Rattle.nv_cell.specs.Index.{IndexValue, ref_of}
 
--- how many slots an entry has, and a log
+-- how many slots an entry has, and a log.
+-- Part slot: each part of an entry has one except the first, which is no page. It has the part's block or none.
+-- `by_part` spreads the part slots to the list of blocks by part number. The entries Init, SetMode and a Write of
+-- two pages have 3, 1 and 3 parts, and 2, 0 and 2 part slots. An inode slot is another thing.
 abbrev pub slot_count : Entry → ℕ
 slot_count e = part_count e - 1
 
+-- how many part slots the entries have together
 abbrev pub slot_total : List Entry → ℕ
 slot_total [] = 0
 slot_total (e ∷ later) = slot_count e + slot_total later
@@ -33,7 +37,7 @@ emptied slots (Some k) = slice_set slots k None
 
 -- the slot of a part that is not the first of its entry
 abbrev pub slot : List Entry → PartRef → ℕ
-slot es r = slot_base es (unwrap_or (place_of es r.entry) 0) + (r.place - 1)
+slot es r = slot_base es (unwrap_or (place_of_id es r.entry) 0) + (r.place - 1)
 
 -- the slot of the part that an index names at a page
 abbrev pub page_slot : List Entry → IndexValue → ℕ → Option ℕ

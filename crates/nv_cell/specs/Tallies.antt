@@ -8,21 +8,27 @@ use Rattle.nv_cell.specs.declared.tally.Tally.{Tally}
 use Rattle.nv_cell.specs.Marks.{bit, is_current, is_there}
 pub use Rattle.nv_cell.specs.Runs.{start_at, end_at, AreRuns, IsInRun}
 
+-- the tally of nothing
 abbrev pub no_tally : Tally
 no_tally = record { current = 0; there = 0; slots_end = 0 }
 
+-- the tally at a place
 abbrev pub tally_at : List Tally → ℕ → Tally
 tally_at tallies i = slice_index_or tallies i no_tally
 
+-- the entry has a current part
 abbrev pub is_live : Tally → Bool
 is_live t = nat_lt 0 t.current
 
+-- the entry has a part that is not out
 abbrev pub is_valid : Tally → Bool
 is_valid t = nat_lt 0 t.there
 
+-- the counts of a page without entries
 abbrev pub no_counts : LogPageCounts
 no_counts = record { live = 0; valid = 0 }
 
+-- the counts of a log page
 abbrev pub counts_at : List LogPageCounts → ℕ → LogPageCounts
 counts_at pages k = slice_index_or pages k no_counts
 
@@ -88,5 +94,6 @@ pub record SameCapacity (old new : Marks) : Type 0 where
   pub tallies : vec_capacity new.tallies ≡ vec_capacity old.tallies
   pub pages : vec_capacity new.pages ≡ vec_capacity old.pages
 
+-- the number stands in the list
 abbrev pub is_in : ℕ → List ℕ → Bool
 is_in n list = list_any (λ m. m == n) list

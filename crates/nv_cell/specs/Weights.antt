@@ -16,20 +16,23 @@ abbrev pub pages_added : Item → ℕ
 pages_added (Write first run size) = run.len
 pages_added item = 0
 
+-- how many names an item binds anew at most
 abbrev pub names_added : Item → ℕ
 names_added (Bind name to) = 1
 names_added item = 0
 
 -- how many runs of pages an item adds at most
-abbrev pub runs_of : Item → ℕ
-runs_of (Write first run size) = 2
-runs_of item = 0
+abbrev pub page_runs_needed : Item → ℕ
+page_runs_needed (Write first run size) = 2
+page_runs_needed item = 0
 
 -- how many parts entries with these items have
 abbrev pub parts_in : List Item → ℕ
 parts_in items = sum_by (λ item. length (parts_of item)) items
 
--- how many parts an item kills at most, where so many pages are present from each one on, and so many names bound
+-- how many parts an item kills at most, where so many pages are present from each one on, and so many names bound.
+-- Weight of an item: how many parts it kills at most, where so many pages are present and names bound. The weight
+-- of several is that of items one behind the other, each behind what those before it add.
 abbrev pub weight : ℕ → (ℕ → ℕ) → ℕ → Item → ℕ
 weight block pages names (Init kind mode) = 3
 weight block pages names (Write first run size) = 1 + run.len
@@ -53,11 +56,13 @@ present_in block log from = how_many (λ page. is_some (scan_ref block log (Page
 abbrev pub weights_in : ℕ → List Entry → List Item → ℕ
 weights_in block log items = weights block (present_in block log) (length (names_of log)) items
 
--- how many parts are current in a log at most: kind, mode and size, its pages and its names
+-- how many parts are current in a log at most: kind, mode and size, its pages and its names.
+-- Each of them that takes parts out, a cut, an Unbind or a Gone, kills as many besides as are current or set.
 abbrev pub current_in : ℕ → List Entry → ℕ
 current_in block log = 3 + present_in block log 0 + length (names_of log)
 
--- how many parts an item sets at most, and whether it takes out what others set
+-- how many parts an item sets at most, and whether it takes out what others set.
+-- They kill as many parts as they set.
 abbrev pub parts_set : Item → ℕ
 parts_set (Init kind mode) = 3
 parts_set (Write first run size) = 1 + run.len
@@ -67,13 +72,15 @@ parts_set (Bind name to) = 1
 parts_set (Unbind name) = 0
 parts_set Gone = 0
 
+-- 1 for an item that takes parts of earlier entries out, else 0
 abbrev pub takes_out : Item → ℕ
 takes_out (SetSize size) = 1
 takes_out (Unbind name) = 1
 takes_out Gone = 1
 takes_out item = 0
 
--- what items kill at most: as many parts as they set; and with each that takes parts out as many as are current or set
+-- what items kill at most: as many parts as they set; and with each that takes parts out as many as are current or set.
+-- Killed at most: a bound of what items weigh.
 abbrev pub killed_at_most : ℕ → List Entry → List Item → ℕ
 killed_at_most block log items =
     sum_by parts_set items + sum_by takes_out items * (current_in block log + sum_by parts_set items)

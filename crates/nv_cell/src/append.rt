@@ -23,10 +23,12 @@ impl InodeCell {
     pub fn add_page(&mut self, block: Block)
         requires reserved { 0 < self.old.room.pages }
         requires sized { length block.bytes ≡ self.old.state.block }
+        // A log page is added behind the others, and nothing else changes except room.
         ensures state { self.new.state
             ≡ record self.old.state { chain = with_page block self.old.state.chain } }
         ensures room { self.new.room
             ≡ record self.old.room { pages = self.old.room.pages - 1 } }
+        // A cell that is ready for items stays so with each log page.
         ensures pages { AddsPage self.old.state.chain self.new.state.chain }
         ensures ready { (items : List ItemValue) → IsReadyFor items self.old
             → IsReadyFor items self.new }
@@ -38,6 +40,8 @@ impl InodeCell {
 
     /// Whether there is room for an entry, and it may stand behind the last one.
     pub fn may_append(&self, entry: &Entry) -> bool
+        // An entry may be appended where there is room for it and its parts, and its id and epoch follow.
+        // An entry may be appended only where its pages are those of a file.
         ensures { IsTrue result ↔ MayAppend entry.now self.now }
     {
         if self.chain.room() == 0 {
@@ -60,9 +64,13 @@ impl InodeCell {
         requires size { queue.old.size ≡ self.old.state.block }
         requires blocks { numbers_of (blocks_for entry.item queue.old.blocks)
             ≡ item_blocks entry.item }
+        // An entry goes past the tail, and its log page has counts.
+        // An entry's blocks come from the front of the queue, whose rest stays.
         ensures state { self.new.state
             ≡ appended entry (blocks_for entry.item queue.old.blocks) self.old.state }
+        // Room falls at an append by one entry and its parts.
         ensures room { self.new.room ≡ after_append (part_count entry) self.old.room }
+        // A cell that is ready for items is ready for those that are left.
         ensures pages { AppendsEntry entry self.old.state.chain self.new.state.chain }
         ensures ready { (later : List ItemValue) → IsReadyFor (entry.item ∷ later) self.old
             → IsReadyFor later self.new }

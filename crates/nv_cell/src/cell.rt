@@ -8,7 +8,7 @@ ghost use Rattle.nv_cell.specs.Effects.{BindNone, items_of};
 ghost use Rattle.nv_cell.specs.Killed.{AreKilled};
 ghost use Rattle.nv_cell.specs.Room.{IsReadyFor};
 ghost use Rattle.nv_cell.specs.Slots.{emptied};
-ghost use Rattle.nv_cell.specs.Weights.{runs_of, weights_in};
+ghost use Rattle.nv_cell.specs.Weights.{page_runs_needed, weights_in};
 
 use crate::number::find_part;
 use crate::publish::{name_all, take_effect};
@@ -58,6 +58,19 @@ impl Model for InodeCell {
 
     ghost view = { value_in };
 
+    // The size of blocks is above 0, and each log page has it.
+    // Each published part has a mark, which is current exactly where no later entry covers the part's key.
+    // A block of the cell's block size is there exactly for file-page parts that are not out, also for those not
+    // yet published; each part of an entry except the first has a part slot for it.
+    // One number counts the blocks of its parts, also of those not yet published.
+    // The index names at every key the part that one scan of the log finds.
+    // The names of the index are bound as the log binds them.
+    // Parts of entries end where the entries' part counts say.
+    // Each entry's tally counts its parts' marks and says where its part slots end.
+    // Each log page's tally counts its entries' tallies, and one number counts the parts that are not out.
+    // Entries end one after another among the parts, and log pages among the entries.
+    // There is room for as many parts, entries and log pages as are told; between calls the lists for killed parts
+    // are empty.
     ghost invariant = { AreFields };
 }
 
@@ -67,6 +80,7 @@ impl InodeCell {
         requires block { 0 < block }
         requires least { LEAST_PAGE_ENTRIES ≤ page }
         requires most { page ≤ PAGE_ENTRIES }
+        // An empty inode slot has no entry, mark or block.
         ensures state { result.state ≡ empty_cell block page generation version }
         ensures room { result.room ≡ no_room }
     {
@@ -97,6 +111,7 @@ impl InodeCell {
 
     /// What holds of each cell: its log is one, and its marks and blocks are those of its parts. Costs nothing.
     pub fn use_invariant(&self)
+        // What holds of each cell is told.
         ensures { IsCell self.now.state }
     {
         let _ends = self.chain.ends();
@@ -118,14 +133,26 @@ impl InodeCell {
         requires some { self.old.state.chain.tail < length self.old.state.chain.entries }
         requires version { self.old.state.version < 2 ^ 62 }
         requires ready { IsReadyFor [] self.old }
+        // A publish moves the tail over the appended entries and raises the version by one.
+        // A publish marks what dies killed and what is new current, and changes no log page and no block.
         ensures state { self.new.state ≡ published self.old.state }
+        // A publish kills only what was current or new and is not current after it.
+        // A publish kills every new part that a later entry of it covers.
+        // A publish kills every current part that is covered, a binding too.
+        // The killed parts are told in log order and then by part.
+        // Each killed part is told with its birth.
         ensures killed { result.items ≡ killed_by self.old.state }
+        // A publish kills no more parts than `most_killed` tells before.
         ensures few { vec_len result ≤ weights_in self.old.state.block (log_of self.old.state)
             (items_of (fresh_of self.old.state)) }
+        // What a publish kills is marked killed after it, and none is told twice.
         ensures marked { AreKilled (map (λ k. k.part) result.items) self.new.state }
+        // A publish keeps the room to append.
         ensures room { KeepsAppendRoom self.old.room self.new.room }
+        // The room for page runs falls at a publish by no more than the entries ask for.
         ensures runs { self.old.room.runs ≤ self.new.room.runs
-            + sum_by runs_of (items_of (fresh_of self.old.state)) }
+            + sum_by page_runs_needed (items_of (fresh_of self.old.state)) }
+        // The reserved name stays at a publish whose entries bind none.
         ensures name { BindNone (items_of (fresh_of self.old.state))
             → self.new.room.name ≡ self.old.room.name }
     {
@@ -151,7 +178,10 @@ impl InodeCell {
 
     /// The mark of a part of a published entry; none where the log has no such part. The time grows with the logarithm
     /// of the entries.
+    /// Only tested: the time grows with the logarithm of the log.
     pub fn mark(&self, part: PartId) -> Option<Mark>
+        // The mark of a part is told by its name, and none where the log has no such part.
+        // A part is found where its entry's parts stand.
         ensures { result ≡ mark_named self.now.state part }
     {
         let found = find_part(&self.chain, &self.marks, part)?;
@@ -161,6 +191,7 @@ impl InodeCell {
     /// Marks a killed part kept. Takes no memory; the time grows with the logarithm of the entries and pages.
     pub fn retire(&mut self, part: PartId)
         requires { mark_named self.old.state part ≡ Some Mark.Killed }
+        // A killed part is marked kept, and nothing else changes.
         ensures state { self.new.state
             ≡ with_mark self.old.state (number_in self.old.state part) Mark.Kept }
         ensures room { self.new.room ≡ self.old.room }
@@ -174,8 +205,11 @@ impl InodeCell {
     pub fn release(&mut self, part: PartId) -> Option<Block>
         requires { (mark_named self.old.state part ≡ Some Mark.Killed)
             ⊎ (mark_named self.old.state part ≡ Some Mark.Kept) }
+        // A part that goes out hands out its block.
         ensures block { result
             ≡ slice_index_or self.old.state.blocks (number_in self.old.state part) None }
+        // A killed or kept part goes out, and nothing else changes.
+        // A part that goes out is counted out once.
         ensures state { self.new.state
             ≡ without_part self.old.state (number_in self.old.state part) }
         ensures room { self.new.room ≡ self.old.room }

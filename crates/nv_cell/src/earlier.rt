@@ -20,8 +20,10 @@ impl InodeCell {
     /// room for them was refused. Costs a look-up for each entry of the log, and for `n` names `n` times the logarithm
     /// of `n` comparisons.
     pub fn list_at(&self, epoch: Epoch) -> Result<NameList, Fault>
+        // The names with their handles are those that the log gives at the end of an epoch.
         ensures names { IfOk result
             (λ names. names ≡ names_of (up_to epoch (log_of self.now.state))) }
+        // The only error is `OutOfMemory`.
         ensures err { IfErr result (λ fault. fault ≡ out_of_memory) }
     {
         let names = names_at(self.alloc, epoch, self.chain.log())?;

@@ -9,7 +9,7 @@ ghost use Rattle.nv_cell.specs.Effects.{BindNone, NamesReady, items_of};
 ghost use Rattle.nv_nindex.specs.NameIndex.{HaveSameBindings};
 ghost use Rattle.nv_cell.specs.Index.{bindings_of, ref_of};
 ghost use Rattle.nv_cell.specs.Numbers.{AreEnds, HasRoomFor, dies, numbers_in, times};
-ghost use Rattle.nv_cell.specs.Weights.{runs_of, weights_in};
+ghost use Rattle.nv_cell.specs.Weights.{page_runs_needed, weights_in};
 
 use crate::kills::push_covered;
 use crate::{CellIndex, Marks, NumberedPart};
@@ -29,7 +29,7 @@ pub fn apply_all(
     requires tail { tail ≤ length chain.now.state.entries }
     requires rising { IsLog chain.now.state.entries }
     requires ends { AreEnds marks.now.ends.items chain.now.state.entries }
-    requires pages { sum_by runs_of (items_of (drop tail chain.now.state.entries))
+    requires pages { sum_by page_runs_needed (items_of (drop tail chain.now.state.entries))
         ≤ index.old.pages.room }
     requires names { NamesReady (items_of (drop tail chain.now.state.entries)) index.old.names }
     requires scan { (key : Key) → ref_of index.old key
@@ -48,7 +48,7 @@ pub fn apply_all(
         (items_of (drop tail chain.now.state.entries)) }
     ensures capacity { vec_capacity killed.new ≡ vec_capacity killed.old }
     ensures room { index.old.pages.room ≤ index.new.pages.room
-        + sum_by runs_of (items_of (drop tail chain.now.state.entries)) }
+        + sum_by page_runs_needed (items_of (drop tail chain.now.state.entries)) }
     ensures reserved { BindNone (items_of (drop tail chain.now.state.entries))
         → index.new.names.reserved ≡ index.old.names.reserved }
 {

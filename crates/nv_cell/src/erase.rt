@@ -21,7 +21,11 @@ impl InodeCell {
         requires nothing { keeps_nothing self.old.state ≡ true }
         requires published { self.old.state.chain.tail ≡ length self.old.state.chain.entries }
         requires generation { self.old.state.generation < NUMBER }
+        // A gone inode of which nothing is kept hands out its chain.
         ensures chain { result.state ≡ self.old.state.chain }
+        // Erasing leaves an inode slot of the next generation.
+        // Erasing leaves an empty inode slot.
+        // Erasing keeps the version.
         ensures state { self.new.state ≡ empty_cell self.old.state.block
             self.old.state.chain.page (self.old.state.generation + 1) self.old.state.version }
         ensures room { self.new.room ≡ record no_room { killed = self.old.room.killed } }
@@ -69,7 +73,8 @@ fn dismantle_pages(mut pages: Vec<Block>) {
     pages.destroy_empty();
 }
 
-fn dismantle_slots(mut slots: Vec<Option<Block>>) {
+/// Takes slots apart with all their blocks.
+pub fn dismantle_slots(mut slots: Vec<Option<Block>>) {
     while let Some(slot) = slots.pop() {
         match slot {
             Some(block) => {

@@ -25,8 +25,11 @@ impl InodeCell {
         requires empty { self.old.state.chain ≡ empty_chain self.old.state.chain.page }
         requires version { self.old.state.version < 2 ^ 62 }
         requires sized { length page.bytes ≡ self.old.state.block }
+        // The inode that a device begins with has one published entry, of commit 0.
+        // The version of the inode that a device begins with stays.
         ensures ok { OnOk result
             (self.new.state ≡ founded (first_entry kind mode epoch) page self.old.state) }
+        // Where memory is refused to it, its log page comes back.
         ensures err { IfErr result (λ refused. (refused.0 ≡ out_of_memory) × (refused.1 ≡ page)
             × (self.new.state ≡ self.old.state)) }
     {

@@ -11,11 +11,11 @@ ghost use Rattle.nv_nindex.specs.NameIndex.{AreDistinct, binding_of};
 ghost use Rattle.nv_cell.specs.Index.{IsNextPart, NameReady, NamesAfter, name_part, ref_of};
 ghost use Rattle.nv_cell.specs.Effects.{BindOne, NamesReady};
 ghost use Rattle.nv_cell.specs.Room.{HasSameParts};
-ghost use Rattle.nv_cell.specs.Weights.{runs_of};
+ghost use Rattle.nv_cell.specs.Weights.{page_runs_needed};
 ghost use Rattle.nv_base.specs.Refusals.{FailsOnly};
 ghost use Rattle.std.specs.List.{sum_by};
 
-use crate::needs::write_count;
+use crate::needs::{run_sets, write_count};
 use nv_base::limits::FILE_PAGES;
 use nv_base::{EntryId, Fault};
 use nv_entry::{Entry, Item, Key, PartRef};
@@ -50,6 +50,7 @@ impl Model for CellIndex {
       names = c.names;
     } };
 
+    // File pages and places of its file index are below 65,536.
     ghost invariant = { λ c. AreWithin (ref_at c.pages.pages) };
 }
 
@@ -69,18 +70,21 @@ impl CellIndex {
         }
     }
 
+    /// The part that sets the kind, if there is one.
     pub fn kind(&self) -> Option<PartRef>
         ensures { result ≡ ref_of self.now KindKey }
     {
         self.kind
     }
 
+    /// The part that sets the mode, if there is one.
     pub fn mode(&self) -> Option<PartRef>
         ensures { result ≡ ref_of self.now ModeKey }
     {
         self.mode
     }
 
+    /// The part that sets the size, if there is one.
     pub fn size(&self) -> Option<PartRef>
         ensures { result ≡ ref_of self.now SizeKey }
     {
@@ -170,13 +174,13 @@ impl CellIndex {
     pub fn reserve(&mut self, items: &[Item]) -> Result<(), Fault>
         requires one { BindOne items.now }
         ensures same { HasSameParts self.old self.new }
-        ensures runs { OnOk result (sum_by runs_of items.now ≤ self.new.pages.room) }
+        ensures runs { OnOk result (sum_by page_runs_needed items.now ≤ self.new.pages.room) }
         ensures most { OnOk result (self.new.pages.room
-            ≤ max self.old.pages.room (max (sum_by runs_of items.now)
+            ≤ max self.old.pages.room (max (sum_by page_runs_needed items.now)
             (run_count_of self.old.pages.pages))) }
         ensures names { OnOk result (NamesReady items.now self.new.names) }
         ensures reserved { OnErr result (self.new.names.reserved ≡ self.old.names.reserved) }
-        ensures enough { sum_by runs_of items.now ≤ self.old.pages.room
+        ensures enough { sum_by page_runs_needed items.now ≤ self.old.pages.room
             → NamesReady items.now self.old.names → IsOk result }
         ensures err { FailsOnly out_of_memory result }
     {
@@ -184,13 +188,24 @@ impl CellIndex {
         reserve_name(&mut self.names, items)
     }
 
+    /// Makes room for what one item needs when it takes effect, as [`CellIndex::reserve`] does for several.
+    pub fn reserve_for(&mut self, item: &Item) -> Result<(), Fault>
+        ensures same { HasSameParts self.old self.new }
+        ensures runs { OnOk result (page_runs_needed item.now ≤ self.new.pages.room) }
+        ensures names { OnOk result (NameReady item.now self.new.names) }
+        ensures err { FailsOnly out_of_memory result }
+    {
+        self.pages.reserve_for(run_sets(item))?;
+        reserve_bound(&mut self.names, item)
+    }
+
     /// The parts of an entry hold their keys now.
     pub fn put(&mut self, block: u64, entry: &Entry)
         requires block { 0 < block }
-        requires room { runs_of entry.now.item ≤ self.old.pages.room }
+        requires room { page_runs_needed entry.now.item ≤ self.old.pages.room }
         requires names { NameReady entry.now.item self.old.names }
         ensures names { NamesAfter entry.now.id entry.now.item self.old.names self.new.names }
-        ensures room { self.old.pages.room ≤ self.new.pages.room + runs_of entry.now.item }
+        ensures room { self.old.pages.room ≤ self.new.pages.room + page_runs_needed entry.now.item }
         ensures refs { (key : KeyValue) → ref_of self.new key
             ≡ ref_after block entry.now key (ref_of self.old key) }
     {
@@ -244,6 +259,18 @@ fn reserve_name(names: &mut NameIndex, items: &[Item]) -> Result<(), Fault>
             }
             return names.reserve_one(name);
         }
+    }
+    Ok(())
+}
+
+/// The name that an item binds, if it does, is bound or reserved.
+fn reserve_bound(names: &mut NameIndex, item: &Item) -> Result<(), Fault>
+    ensures names { names.new.names ≡ names.old.names }
+    ensures ready { OnOk result (NameReady item.now names.new) }
+    ensures err { FailsOnly out_of_memory result }
+{
+    if let Item::Bind { name, .. } = item {
+        return names.reserve_one(name);
     }
     Ok(())
 }

@@ -27,6 +27,8 @@ ghost use Rattle.nv_cell.specs.declared.mark.Mark.TheVariants.{Out};
 /// Of the entries with the items that a cell is ready for, the first may be appended where a page has room for it, it
 /// may stand behind the last one, and its pages are pages that a file can have.
 pub fn the_first_may_be_appended()
+    // Of entries that a cell is ready for, the first may be appended, where a log page has room.
+    // The entry must be able to stand behind the last one, and its pages must be a file's.
     ensures { (e : Entry) (later : List Item) (cell : CellValue)
         → IsReadyFor (e.item ∷ later) cell → 0 < room_of cell.state.chain
         → ForSome (last_id cell.state.chain) (λ last. IsIdBefore last e.id)
@@ -36,6 +38,7 @@ pub fn the_first_may_be_appended()
 
 /// Once it is appended, the cell is ready for the others.
 pub fn the_others_stay_ready()
+    // Once an entry is appended, the cell is ready for the others.
     ensures { (e : Entry) (blocks : List BlockValue) (later : List Item) (old new : CellValue)
         → IsChain old.state.chain → MayAppend e old
         → new.state ≡ appended e blocks old.state
@@ -45,6 +48,7 @@ pub fn the_others_stay_ready()
 
 /// A page more leaves a cell ready for what it was ready for.
 pub fn a_page_keeps_ready()
+    // One more log page leaves a cell ready for what it was ready for.
     ensures { (block : BlockValue) (items : List Item) (old new : CellValue)
         → IsChain old.state.chain
         → new.state ≡ record old.state { chain = with_page block old.state.chain }
@@ -54,22 +58,26 @@ pub fn a_page_keeps_ready()
 
 /// A page more gives room for its entries.
 pub fn a_page_gives_its_room()
+    // One more log page gives room for its entries.
     ensures { (block : BlockValue) (chain : ChainState) → IsChain chain
         → AddsPage chain (with_page block chain) }
 {}
 
 /// Each part of a log has a name of its own, by which its number is found.
 pub fn each_part_has_a_name()
+    // Each part of a log has a name of its own, by which its number is found.
     ensures { (log : List Entry) → IsLog log → AreNamesOfParts log }
 {}
 
 /// The parts of a log by number are its pairs in order.
 pub fn parts_are_pairs()
+    // The parts of a log by number are its pairs, in the log's order.
     ensures { (block : ℕ) (log : List Entry) → ArePairs block log }
 {}
 
 /// What entries of one epoch kill dies at that epoch.
 pub fn the_killed_die_now()
+    // What entries of one epoch kill dies at that epoch.
     ensures { (block : ℕ) (entries : List Entry) (tail epoch : ℕ)
         → AllByRecursion (λ e. e.epoch ≡ epoch) (drop tail entries)
         → DiesAt block entries tail epoch }
@@ -77,6 +85,7 @@ pub fn the_killed_die_now()
 
 /// A part with another mark leaves all others theirs.
 pub fn one_part_is_marked_anew()
+    // A part with another mark leaves all other parts theirs.
     ensures { (cell : CellState) (id : PartId) (was mark : Mark) → mark_named cell id ≡ Some was
         → IsMarkedAnew id mark cell (with_mark cell (number_in cell id) mark) }
 {}
@@ -85,41 +94,49 @@ pub fn one_part_is_marked_anew()
 pub fn one_part_goes_out()
     ensures marks { (cell : CellState) (id : PartId) (was : Mark) → mark_named cell id ≡ Some was
         → IsMarkedAnew id Out cell (without_part cell (number_in cell id)) }
+    // A part that goes out leaves all other parts their marks and blocks.
     ensures blocks { (cell : CellState) (id : PartId) (was : Mark) → mark_named cell id ≡ Some was
         → IsWithoutBlock id cell (without_part cell (number_in cell id)) }
 {}
 
 /// Once one of the killed parts has another mark, the others are killed still.
 pub fn the_others_stay_killed()
+    // The rest of a list of killed parts stays killed while one after another gets another mark.
     ensures { (id : PartId) (mark : Mark) (later : List PartId) (old new : CellState)
         → IsMarkedAnew id mark old new → AreKilled (id ∷ later) old → AreKilled later new }
 {}
 
 /// The bytes of the file that a cell holds are those that its log gives, by what its blocks have.
 pub fn a_file_is_in_its_blocks()
+    // The bytes of a cell's file are those that its log gives, by what its blocks have.
     ensures { (cell : CellState) (bytes : ℕ → List ℕ) → IsCell cell → AreBytesOf cell bytes
         → own_bytes cell ≡ file_bytes bytes cell.block (log_of cell) }
 {}
 
 /// The live count of a page is that of the log from scratch, from the page's first entry on.
 pub fn live_is_scanned()
+    // The `live` count of a log page is always that of its log from scratch.
     ensures { (cell : CellState) → IsCell cell → LiveIsScanned cell }
 {}
 
 /// Where the marks are what a retention says, so is the other count of a page.
 pub fn valid_is_scanned()
+    // The `valid` count of a log page is that from scratch where the marks are what a retention says.
     ensures { (r : Retention) (cell : CellState) → IsCell cell → AreMarksOf r cell
         → ValidIsScanned r cell }
 {}
 
 /// Where the marks are what a retention says, the entries that thorough cleaning takes out may go.
 pub fn droppable_entries_may_go()
+    // Where marks are what a retention says, the entries that thorough cleaning takes out may go.
     ensures { (r : Retention) (cell : CellState) (flags : List Bool) → IsCell cell
         → AreMarksOf r cell → GoIfDroppable r [] (log_of cell) flags → MayGo flags cell }
 {}
 
-/// So may those of the pages that fast cleaning takes out, and each such page ends at the tail or before it.
+/// Where the marks are what a retention says, the entries of the pages that fast cleaning takes out may go, and
+/// each such page ends at the tail or before it.
 pub fn droppable_pages_may_go()
+    // Entries of the log pages that fast cleaning takes out may go, and each such page is published.
     ensures may { (r : Retention) (cell : CellState) (stays : List Bool) → IsCell cell
         → AreMarksOf r cell → GoIfPageDroppable r [] (log_pages cell.chain) stays
         → MayGo (log_flags stays cell.chain) cell }

@@ -19,6 +19,7 @@ use nv_nindex::NameIndex;
 impl InodeCell {
     /// The part that the index names at a key. Costs one look-up at most.
     pub fn indexed(&self, key: Key<'_>) -> Option<PartRef>
+        // A cell lends its index of pages, which is the scan of its log.
         ensures { result
             ≡ scan_ref self.now.state.block (log_of self.now.state) (key_named key.entry) }
     {
@@ -35,6 +36,7 @@ impl InodeCell {
 
     /// The names by the index.
     pub fn name_index(&self) -> &NameIndex
+        // A cell lends its index of names, which binds as the log does.
         ensures { HaveSameBindings (bindings_of (log_of self.now.state)) result.now.names }
     {
         &self.index.names
@@ -42,6 +44,7 @@ impl InodeCell {
 
     /// The blocks of the parts, those past the tail too, in the order of the log. Where a page is out there is none.
     pub fn part_blocks(&self) -> &[Option<Block>]
+        // The blocks of all parts are lent, in log order.
         ensures blocks { flat_map option_to_list result.now
             ≡ flat_map option_to_list self.now.state.blocks }
         ensures numbers { flat_map of_part result.now ≡ flat_map of_part self.now.state.blocks }

@@ -2,12 +2,14 @@
 #![tactic(auto)]
 
 mod append;
+mod bare;
 mod cell;
 pub mod clean_laws;
 mod closing;
 mod earlier;
 mod effects;
 mod erase;
+mod filling;
 mod found;
 mod grow;
 mod index;
@@ -23,6 +25,7 @@ mod number;
 mod part_bounds;
 mod part_ends;
 mod parts;
+mod plan;
 mod publish;
 mod read;
 mod readers;
@@ -30,10 +33,12 @@ mod reading;
 mod ready;
 mod recount;
 mod removal;
+mod scan;
 mod stat;
 mod stays;
 mod tally;
 
+pub use bare::BareCell;
 pub use cell::InodeCell;
 pub(crate) use index::CellIndex;
 pub use killed::KilledPart;
@@ -41,6 +46,7 @@ pub use mark::Mark;
 pub(crate) use marks::Marks;
 pub(crate) use number::NumberedPart;
 pub(crate) use part_ends::PartEnds;
+pub use plan::CellPlan;
 pub use stat::Stat;
 pub(crate) use stays::Stays;
 pub use tally::LogPageCounts;

@@ -1,7 +1,12 @@
 //! What keeps a part in the log.
 
-ghost use Rattle.std.specs.Prelude.{◌≡◌};
+ghost use Rattle.std.specs.Prelude.{◌≡◌, ℕ, ◌&&◌, nat_le, nat_lt};
+ghost use Rattle.std.specs.List.{list_any};
+ghost use Rattle.std.specs.List.Sorted.{IsStrictlyIncreasing};
+ghost use Rattle.nv_cell.specs.Anew.{mark_ended};
 ghost use Rattle.nv_cell.specs.Marks.{is_current, is_there};
+
+use nv_base::Epoch;
 
 /// What keeps a part of a published entry.
 #[derive(Clone, Copy, Debug, PartialEq, Eq)]
@@ -35,4 +40,30 @@ impl Mark {
             Mark::Out => false,
         }
     }
+
+    /// The mark of a part that lived from one epoch to another: kept where one of the living snapshots holds it. It
+    /// costs the logarithm of their number.
+    pub(crate) fn ended(living: &[Epoch], birth: Epoch, death: Epoch) -> Mark
+        requires { IsStrictlyIncreasing living.now }
+        ensures { result ≡ mark_ended living.now birth death }
+    {
+        if is_held(living, birth, death) {
+            Mark::Kept
+        } else {
+            Mark::Out
+        }
+    }
+}
+
+/// Whether one of the snapshots is from the birth on, and before the death.
+fn is_held(living: &[Epoch], birth: Epoch, death: Epoch) -> bool
+    requires { IsStrictlyIncreasing living.now }
+    ensures { result ≡ list_any (λ (s : ℕ). nat_le birth s && nat_lt s death) living.now }
+{
+    let first = living.partition_point(|s| *s < birth);
+    let count = living.len();
+    if count <= first {
+        return false;
+    }
+    living[first] < death
 }

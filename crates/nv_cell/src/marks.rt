@@ -83,7 +83,7 @@ fn look_ahead(chain: &Chain, slots: &[Option<Block>], part: &NumberedPart) -> us
 }
 
 /// Adds marks of current parts.
-fn push_current(marks: &mut Vec<Mark>, count: usize)
+pub fn push_current(marks: &mut Vec<Mark>, count: usize)
     requires { vec_len marks.old + count ≤ vec_capacity marks.old }
     ensures items { marks.new.items ≡ marks.old.items ++ replicate count mark.Current }
     ensures capacity { vec_capacity marks.new ≡ vec_capacity marks.old }

@@ -14,8 +14,11 @@ use nv_log::Chain;
 impl InodeCell {
     /// Whether the entries of the log may go that are not flagged as staying, a flag for each. The time is linear in
     /// the entries, and for each that goes that of the entries before it.
+    /// Only tested: neither test takes memory; the time that it takes.
     pub fn may_go(&self, stays: &[bool]) -> bool
         requires flags { length stays.now ≡ self.now.state.chain.tail }
+        // Whether entries may go is told: their parts must be out.
+        // Neither the last entry may go, nor one that hides an earlier one.
         ensures { IsTrue result ↔ MayGo stays.now self.now.state }
     {
         may_go(self, Stays::Entries(stays))
@@ -25,6 +28,7 @@ impl InodeCell {
     /// before it, and their entries may go. The time is as that of [`InodeCell::may_go`].
     pub fn pages_may_go(&self, stays: &[bool]) -> bool
         requires flags { length stays.now ≡ length self.now.state.chain.ends }
+        // Whether whole log pages may go is told.
         ensures { IsTrue result ↔ (ArePublished stays.now self.now.state.chain
             × MayGo (log_flags stays.now self.now.state.chain) self.now.state) }
     {

@@ -4,7 +4,7 @@ ghost use Rattle.std.specs.Prelude.{◌≡◌, ◌+◌, ◌-◌, ◌*◌, ◌<�
 ghost use Rattle.std.specs.List.{sum_by};
 ghost use Rattle.nv_findex.specs.Pages.{present_from};
 ghost use Rattle.nv_nindex.specs.NameIndex.{AreDistinct};
-ghost use Rattle.nv_cell.specs.Weights.{names_added, pages_added, parts_in, runs_of, weight, weights_by};
+ghost use Rattle.nv_cell.specs.Weights.{names_added, pages_added, parts_in, page_runs_needed, weight, weights_by};
 
 use crate::CellIndex;
 use nv_base::limits::FILE_PAGES;
@@ -12,7 +12,7 @@ use nv_entry::Item;
 
 /// How many items are Writes.
 pub fn write_count(items: &[Item]) -> usize
-    ensures { 2 * result ≡ sum_by runs_of items.now }
+    ensures { 2 * result ≡ sum_by page_runs_needed items.now }
 {
     let mut count = 0;
     for item in items {
@@ -21,6 +21,16 @@ pub fn write_count(items: &[Item]) -> usize
         }
     }
     count
+}
+
+/// How many times an item sets a run of pages: a Write does once.
+pub fn run_sets(item: &Item) -> usize
+    ensures { 2 * result ≡ page_runs_needed item.now }
+{
+    match item {
+        Item::Write { .. } => 1,
+        _ => 0,
+    }
 }
 
 /// How many parts entries with these items have.
@@ -45,7 +55,7 @@ fn present_from(index: &CellIndex, page: u64) -> usize
 }
 
 /// How many parts an item kills at most behind others, which add so many pages, where so many names are bound.
-fn weight_of(index: &CellIndex, block: u64, pages: usize, names: usize, item: &Item) -> usize
+pub fn weight_of(index: &CellIndex, block: u64, pages: usize, names: usize, item: &Item) -> usize
     requires { 0 < block }
     ensures { result ≡ min (weight block (λ from. present_from from index.now.pages.pages + pages)
         names item.now) (2 ^ 64 - 1) }

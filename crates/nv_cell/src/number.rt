@@ -5,7 +5,7 @@ ghost use Rattle.std.specs.Option.{option_map};
 ghost use Rattle.nv_entry.specs.Covered.{part_total};
 ghost use Rattle.nv_entry.specs.Keys.{in_run};
 ghost use Rattle.nv_log.specs.Chain.{log};
-ghost use Rattle.nv_cell.specs.Named.{number_named, place_of};
+ghost use Rattle.nv_cell.specs.Named.{number_named, place_of_part};
 ghost use Rattle.nv_cell.specs.Numbers.{StandsIn, part_base};
 ghost use Rattle.nv_cell.specs.Tallies.{start_at};
 
@@ -34,7 +34,7 @@ fn place_in_run(first: u32, run: &BlockRun, page: u32) -> Option<u32>
 
 /// The place of a part among those of an entry with the item.
 fn place_of(item: &Item, part: Part) -> Option<u32>
-    ensures { result ≡ place_of item.now part }
+    ensures { result ≡ place_of_part item.now part }
 {
     match item {
         Item::Init { .. } => match part {

@@ -31,5 +31,6 @@ impl Model for PartEnds {
 
     ghost view = { λ p. p.ends };
 
+    // From one place on, up to the place behind the last entry, parts begin at equal distances, below 2^64.
     ghost invariant = { λ p. IsEvenRun p.even p.ends.items };
 }

@@ -10,7 +10,7 @@ ghost use Rattle.nv_cell.specs.Effects.{BindNone, NamesReady, items_of};
 ghost use Rattle.nv_cell.specs.Index.{bindings_of, ref_of};
 ghost use Rattle.nv_cell.specs.Marks.{is_current, mark_at};
 ghost use Rattle.nv_cell.specs.Numbers.{AreEnds, HasRoomFor, killed_numbers, killed_part, numbers_in, part_base, published_mark};
-ghost use Rattle.nv_cell.specs.Weights.{runs_of, weights_in};
+ghost use Rattle.nv_cell.specs.Weights.{page_runs_needed, weights_in};
 ghost use Rattle.nv_cell.specs.Tallies.{AreRuns, AreTallied, HasSpare, SameCapacity, end_at};
 ghost use Rattle.nv_cell.specs.declared.mark.Mark.TheVariants as mark;
 
@@ -70,7 +70,7 @@ pub fn take_effect(
     requires current { (n : ℕ) → n < part_base chain.now.state.entries tail
         → is_current (mark_at marks.old.marks.items n)
         ≡ not (is_covered block (take tail chain.now.state.entries) n) }
-    requires pages { sum_by runs_of (items_of (drop tail chain.now.state.entries))
+    requires pages { sum_by page_runs_needed (items_of (drop tail chain.now.state.entries))
         ≤ index.old.pages.room }
     requires names { NamesReady (items_of (drop tail chain.now.state.entries)) index.old.names }
     requires scan { (key : Key) → ref_of index.old key
@@ -96,7 +96,7 @@ pub fn take_effect(
     ensures room { SameCapacity marks.old marks.new }
     ensures capacity { vec_capacity numbers.new ≡ vec_capacity numbers.old }
     ensures runs { index.old.pages.room ≤ index.new.pages.room
-        + sum_by runs_of (items_of (drop tail chain.now.state.entries)) }
+        + sum_by page_runs_needed (items_of (drop tail chain.now.state.entries)) }
     ensures reserved { BindNone (items_of (drop tail chain.now.state.entries))
         → index.new.names.reserved ≡ index.old.names.reserved }
 {

@@ -8,7 +8,7 @@ ghost use Rattle.nv_base.specs.Memory.{out_of_memory};
 ghost use Rattle.nv_entry.specs.Bytes.{read_at};
 ghost use Rattle.nv_entry.specs.Covered.{part_total};
 ghost use Rattle.nv_entry.specs.Node.{block_now, file_bytes, size_now};
-ghost use Rattle.nv_log.specs.Chain.{log, place_of};
+ghost use Rattle.nv_log.specs.Chain.{log, place_of_id};
 ghost use Rattle.nv_cell.specs.Cell.{AreSlotsSized, log_of};
 ghost use Rattle.nv_cell.specs.Pages.{AreBytesOf, AreReadTo, IsStretch, block_at_page, block_of, own_bytes, pages_now, slot_bytes};
 ghost use Rattle.nv_cell.specs.Reading.{IsIndexOf};
@@ -42,13 +42,23 @@ impl InodeCell {
     /// At most `len` bytes of a file from a place on, none past its end: zeros where it has no page.
     /// `OutOfMemory` where room for them was refused: a read of no byte takes none. Costs the pages that it reads, and one look-up for each
     /// run of them and for each sixteen pages.
+    /// Only tested: a read takes one look-up for each page run and for each sixteen pages.
     pub fn read(&self, at: u64, len: u64) -> Result<Bytes, Fault>
+        // The bytes of a file from a place on are told.
+        // As many bytes are read as are asked for and there.
+        // Bytes are zeros where the file has no page.
+        // Pages that are looked up in groups and page runs give their own blocks.
+        // Part slots are not counted as parts.
         ensures own { IfOk result (λ read. read ≡ read_at at len (own_bytes self.now.state)) }
         ensures bytes { (bytes : ℕ → List ℕ) → AreBytesOf self.now.state bytes
             → IfOk result (λ read. read ≡ read_at at len
             (file_bytes bytes self.now.state.block (log_of self.now.state))) }
+        // So does one from the end of the file on.
+        // So does one that would go past the greatest number there.
         ensures past { size_now self.now.state.block (log_of self.now.state) ≤ at → IsOk result }
+        // A read of no bytes takes no memory.
         ensures none { len ≡ 0 → IsOk result }
+        // The only error is `OutOfMemory`.
         ensures err { IfErr result (λ fault. fault ≡ out_of_memory) }
     {
         // Ids rise along all entries, so that the one of an id stands in the log.
@@ -74,6 +84,7 @@ impl InodeCell {
 
     /// The block of a page of a file now; none where the page is absent. Takes no memory, and costs one look-up.
     pub fn page_now(&self, page: u32) -> Option<&Block>
+        // The block of a page now is told.
         ensures block { option_copied result ≡ block_at_page self.now.state page }
         ensures number { option_map number_of (option_copied result)
             ≡ block_now self.now.state.block (log_of self.now.state) page }
@@ -280,15 +291,15 @@ fn no_stretch() -> Stretch
 
 /// A run of pages, with the slot of its first one.
 fn stretch_of(chain: &Chain, marks: &Marks, run: &PageRun) -> Stretch
-    requires known { IsSome (place_of chain.now.state.entries run.now.start.entry) }
+    requires known { IsSome (place_of_id chain.now.state.entries run.now.start.entry) }
     requires small { first_slot marks.now.tallies.items
-        (unwrap_or (place_of chain.now.state.entries run.now.start.entry) 0)
+        (unwrap_or (place_of_id chain.now.state.entries run.now.start.entry) 0)
         + run.now.start.place < 2 ^ 64 }
     ensures { result ≡ record {
       first = run.now.first;
       end = run.now.end;
       slot = first_slot marks.now.tallies.items
-          (unwrap_or (place_of chain.now.state.entries run.now.start.entry) 0)
+          (unwrap_or (place_of_id chain.now.state.entries run.now.start.entry) 0)
           + run.now.start.place;
     } }
 {

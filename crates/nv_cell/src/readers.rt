@@ -26,12 +26,15 @@ impl InodeCell {
     /// How many blocks the cell has: the pages of its log, and the blocks of its parts that are not out, those past the
     /// tail too.
     pub fn blocks(&self) -> u64
+        // How many blocks a cell has is told, the pages of its log with them.
+        // Blocks of parts past the tail count, and none of a part that is out.
         ensures { result ≡ block_total self.now.state }
     {
         self.chain.blocks().len() as u64 + self.held as u64
     }
 
     /// How many bytes a block has.
+    /// Readers tell the sizes of blocks and of log pages.
     pub fn block_bytes(&self) -> u64
         ensures value { result ≡ self.now.state.block }
         ensures some { 0 < result }
@@ -52,6 +55,7 @@ impl InodeCell {
 
     /// Whether the cell's blocks and log pages have the sizes that the geometry gives them.
     pub fn made_for(&self, geometry: &Geometry) -> bool
+        // Whether a cell's blocks and log pages have the sizes of a device is told.
         ensures { IsTrue result ↔ IsCellOf geometry.now.numbers self.now.state }
     {
         self.block == geometry.numbers.block
@@ -60,18 +64,21 @@ impl InodeCell {
 
     /// How many names are bound.
     pub fn name_count(&self) -> usize
+        // How many names are bound is told.
         ensures { result ≡ length (names_of (log_of self.now.state)) }
     {
         self.index.name_count()
     }
 
     /// How many entries were handed out to be read so far, as [`Chain::reads`] counts them.
+    /// Only tested: how many entries were read is told as the log counts them.
     pub fn reads(&self) -> u64 {
         self.chain.reads()
     }
 
     /// How many more entries the pages that are there take.
     pub fn room(&self) -> usize
+        // For how many entries there is room, and how many log pages more the log takes, is told.
         ensures { result ≡ room_of self.now.state.chain }
     {
         self.chain.room()
@@ -89,6 +96,7 @@ impl InodeCell {
 
     /// The id of the last entry, also past the tail. Ids rise: the next entry's is above it.
     pub fn last_id(&self) -> Option<EntryId>
+        // Readers tell the last id, the tail and the log with all its entries and log pages.
         ensures { result ≡ last_id self.now.state.chain }
     {
         self.chain.last_id()
@@ -110,6 +118,7 @@ impl InodeCell {
 
     /// For how many more entries there is room without memory, on pages that are there or to be added.
     pub fn entries_room(&self) -> usize
+        // What room is reserved is told.
         ensures { result ≡ self.now.room.entries }
     {
         self.entries
@@ -132,6 +141,8 @@ impl InodeCell {
     /// How many of a page's published entries have a current part, and how many one that is not out.
     /// No entry is one of a page that is not there.
     pub fn counts(&self, page: usize) -> LogPageCounts
+        // How many published entries of a log page have a current part is told.
+        // How many entries of a log page have a part that is current, killed or kept is told.
         ensures { result ≡ counts_of self.now.state page }
     {
         if page >= self.chain.ends().len() {
@@ -142,6 +153,7 @@ impl InodeCell {
 
     /// Whether the inode is gone, as the last published entry says.
     pub fn is_gone(&self) -> bool
+        // Whether the inode is gone by its log is told.
         ensures { result ≡ is_gone (log_of self.now.state) }
     {
         match self.chain.last_published() {
@@ -152,6 +164,7 @@ impl InodeCell {
 
     /// Whether nothing keeps any part: all of them are out.
     pub fn keeps_nothing(&self) -> bool
+        // Whether nothing of the inode is kept is told.
         ensures { result ≡ keeps_nothing self.now.state }
     {
         self.marks.there == 0
@@ -159,6 +172,7 @@ impl InodeCell {
 
     /// Whether the slot isn't handed out again, since its generation is the last one.
     pub fn is_withheld(&self) -> bool
+        // Whether the inode slot has its last generation is told.
         ensures { result ≡ nat_le NUMBER self.now.state.generation }
     {
         self.generation.number() >= NUMBER

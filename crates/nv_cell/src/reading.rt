@@ -23,7 +23,9 @@ use std::alloc::Global;
 
 impl InodeCell {
     /// What a name is bound to. Costs one look-up.
+    /// Only tested: each of these readers takes one look-up for each thing that it tells.
     pub fn lookup(&self, name: &[u8]) -> Option<Handle>
+        // What a name is bound to now is told.
         ensures { result ≡ bound_to name.now (names_of (log_of self.now.state)) }
     {
         bound_in(&self.index, name)
@@ -32,6 +34,7 @@ impl InodeCell {
     /// The kind that the log gives, and none where it gives none: so in an empty slot, and where its last entry is
     /// Gone. Costs one look-up.
     pub fn kind(&self) -> Option<Kind>
+        // The kind alone and the size alone are told.
         ensures { result ≡ (stored self.now.state.block (log_of self.now.state)).kind }
     {
         kind_of(self.block, &self.chain, &self.index)
@@ -40,6 +43,7 @@ impl InodeCell {
     /// Whether the log gives a kind. Costs no look-up.
     #[tactic(auto, using(crate::proofs::ValuesNow::kind_held))]
     pub fn has_kind(&self) -> bool
+        // Whether there is a kind is told.
         ensures { result ≡ is_some (stored self.now.state.block (log_of self.now.state)).kind }
     {
         self.index.kind().is_some()
@@ -55,6 +59,7 @@ impl InodeCell {
     /// Kind, mode, size, and the last commit that changed the inode; none where the log gives no kind. Costs one
     /// look-up for each of the first three.
     pub fn stat(&self) -> Option<Stat>
+        // Kind, mode, size and last commit now are told, and none where the log gives no kind.
         ensures { result ≡ stat_now self.now.state.block (log_of self.now.state) }
     {
         stat_of(self.block, &self.chain, &self.index)
@@ -62,7 +67,9 @@ impl InodeCell {
 
     /// The names with their handles, in the order of the log. `OutOfMemory` where room for them was refused.
     pub fn list(&self) -> Result<NameList, Fault>
+        // The names with their handles are told in log order.
         ensures names { IfOk result (λ names. names ≡ names_of (log_of self.now.state)) }
+        // The only error is `OutOfMemory`.
         ensures err { IfErr result (λ fault. fault ≡ out_of_memory) }
     {
         let bindings = self.index.names.list()?;

@@ -10,7 +10,7 @@ ghost use Rattle.nv_cell.specs.Cell.{log_of};
 ghost use Rattle.nv_cell.specs.Effects.{BindOne, NamesReady};
 ghost use Rattle.nv_cell.specs.Room.{AsksFor, HasGrown, HasNoLess, HaveGrown, IsReadyToAppend};
 ghost use Rattle.nv_cell.specs.Tallies.{HasSpare};
-ghost use Rattle.nv_cell.specs.Weights.{killed_at_most, parts_in, runs_of, weights_by, weights_in};
+ghost use Rattle.nv_cell.specs.Weights.{killed_at_most, parts_in, page_runs_needed, weights_by, weights_in};
 
 use crate::grow::{LEAST_PARTS, grow};
 use crate::needs::{most_killed, part_total};
@@ -28,12 +28,21 @@ impl InodeCell {
     ///
     /// `OutOfMemory` where room was missing and its growth refused: then nothing has changed but room. It makes room for
     /// no more pages, entries and parts than the items ask for; of killed parts it may make room for more.
+    /// Room for killed parts is 3 for `Init`, and 1 and the block run's length for a write.
+    /// Room for killed parts is 1 and the pages present from there on for a cut, 1 for a mode or a name.
+    /// Room for killed parts is 3 and all pages and names for `Gone`.
+    /// Only tested: the time that both take.
     pub fn ready(&mut self, items: &[Item]) -> Result<(), Fault>
         requires settled { self.old.state.chain.tail ≡ length self.old.state.chain.entries }
         requires one { BindOne items.now }
+        // Making room changes nothing else, and no room falls.
         ensures state { self.new.state ≡ self.old.state }
+        // Room made for items suffices to append entries with them and then to publish them.
+        // Room is made in the index, and in the log.
         ensures ok { OnOk result (IsReadyToAppend items.now self.new) }
+        // No more room is made for pages, entries and parts than asked for.
         ensures most { OnOk result (AsksFor items.now self.old self.new.room) }
+        // A refusal is for want of memory alone, only where room was missing, and keeps the reserved name.
         ensures enough { IsReadyToAppend items.now self.old → IsOk result }
         ensures room { HasNoLess self.old.room self.new.room }
         ensures name { OnErr result (self.new.room.name ≡ self.old.room.name) }
@@ -58,8 +67,11 @@ impl InodeCell {
     /// How many parts a publish of entries with these items behind the log kills at most, up to the greatest number:
     /// with at most one cut or Gone no more than are current, and twice those that are new. The time is that of the items, and for each cut that of the runs of pages that it takes out.
     pub fn most_killed(&self, items: &[Item]) -> usize
+        // How many parts a publish of items kills at most is told before.
         ensures value { result
             ≡ min (weights_in self.now.state.block (log_of self.now.state) items.now) (2 ^ 64 - 1) }
+        // Items that take nothing out kill no more parts than they set.
+        // Each item that takes parts out kills no more than are current or set.
         ensures most { result
             ≤ killed_at_most self.now.state.block (log_of self.now.state) items.now }
     {

@@ -19,7 +19,7 @@ use Rattle.nv_cell.proofs.Removing.{AreTaken, compact_left, none_gone}
 use Rattle.nv_calls.specs.Retired.{CanTakeGone}
 use Rattle.nv_calls.specs.Retiring.{erased, hand_with, name_of, released, released_blocks, with_back}
 use Rattle.nv_calls.proofs.BlockCounts.{back_count, both_true, erased_count, hand_len}
-use Rattle.nv_clean.specs.Cleaned.{HasPages, with_chain, with_entries, with_gone, with_pages}
+use Rattle.nv_clean.specs.Cleaned.{HasPages, with_chain, with_entries, with_gone, with_pages_unlinked}
 use Rattle.nv_clean.specs.Plans.{entries_staying, pages_staying, unlinkable_of, wanted_of}
 use Rattle.nv_clean.proofs.Cleanings.{entries_flagged, entries_may, pages_flagged, pages_may, pages_published}
 
@@ -47,7 +47,7 @@ release_count cell picked hand is settled gone =
     )
 
 pub fast_count : (cell : CellState) (hand : Hand) → IsCell cell
-    → block_total (with_pages (unlinkable_of cell) cell) + length (blocks_of (with_gone (unlinkable_of cell) cell hand))
+    → block_total (with_pages_unlinked (unlinkable_of cell) cell) + length (blocks_of (with_gone (unlinkable_of cell) cell hand))
     ≡ block_total cell + length (blocks_of hand)
 fast_count cell hand is =
     let stays = pages_staying cell in

@@ -13,7 +13,7 @@ use Rattle.nv_entry.specs.declared.key.Datum.{Datum}
 use Rattle.nv_entry.specs.declared.key.Setting.TheVariants.{Absent, Present, Untouched}
 use Rattle.nv_entry.specs.Keys.{touches}
 use Rattle.nv_clean.specs.declared.cover.Cover.{Cover}
-use Rattle.nv_clean.specs.Cover.{Adds, Covers, ends_all, has_name, is_hidden, is_of_name, reach}
+use Rattle.nv_clean.specs.Cover.{AddsItem, Covers, ends_all, has_name, is_hidden, is_of_name, reach}
 
 all_any : (kept : List Entry) → list_any (λ (e : Entry). true) kept ≡ not (is_empty kept)
 all_any [] = refl
@@ -97,7 +97,7 @@ four false true true d = refl
 four false true false d = refl
 four false false c d = refl
 
-pub adds : (block : ℕ) (kept : List Entry) (e : Entry) (old new : Cover) → Covers block kept old → Adds block e.item old new
+pub adds : (block : ℕ) (kept : List Entry) (e : Entry) (old new : Cover) → Covers block kept old → AddsItem block e.item old new
     → Covers block (kept ++ e ∷ []) new
 adds block kept e old new h a = record {
   some = a.some ∙ sym (some_more kept e);

@@ -15,7 +15,8 @@ use Rattle.nv_entry.specs.Node.{node_at, node_now}
 use Rattle.nv_entry.specs.declared.held.Pair.{Pair}
 use Rattle.nv_log.specs.Chain.{compacted, gone_of, with_pages_left}
 
--- the cell with the entries that stay, on fresh pages; as it was where all stay
+-- the cell with the entries that stay, on fresh pages; as it was where all stay.
+-- Cleaned: the cell with what stays.
 abbrev pub with_entries : WantedValue → List BlockValue → CellState → CellState
 with_entries wanted pages cell =
     if wanted.dropped == 0 then cell else left_in wanted.stays (compacted wanted.stays pages cell.chain) cell
@@ -25,8 +26,8 @@ abbrev pub room_with_entries : WantedValue → CellRoom → CellRoom
 room_with_entries wanted room = if wanted.dropped == 0 then room else record room { pages = 0 }
 
 -- the cell with the pages that stay
-abbrev pub with_pages : UnlinkableValue → CellState → CellState
-with_pages unlinkable cell =
+abbrev pub with_pages_unlinked : UnlinkableValue → CellState → CellState
+with_pages_unlinked unlinkable cell =
     left_in (log_flags unlinkable.stays cell.chain) (with_pages_left unlinkable.stays cell.chain) cell
 
 -- the room that this leaves: for a page more for each that went
@@ -66,7 +67,9 @@ SpansAreThere epoch cell =
     (n : ℕ) (pair : Pair)
     → slice_get (pairs cell.block (log_of cell)) n ≡ Some pair → holds epoch pair ≡ true → is_there (mark_at cell.marks n) ≡ true
 
--- the node stays the same, whatever the blocks have: now, and at each epoch that is spanned only by pairs that are there
+-- the node stays the same, whatever the blocks have: now, and at each epoch that is spanned only by pairs that are there.
+-- Nodes stay: the node is the same now, and at each epoch where every pair that spans it has a part that is not
+-- out.
 pub record NodesStay (old new : CellState) : Type 0 where
   pub now : (bytes : ℕ → List ℕ) → node_now bytes new.block (log_of new) ≡ node_now bytes old.block (log_of old)
   pub at : (epoch : ℕ) → SpansAreThere epoch old → (bytes : ℕ → List ℕ)

@@ -29,10 +29,12 @@ named_by (Bind name to) = Some name
 named_by (Unbind name) = Some name
 named_by item = None
 
+-- the name is there and is this one
 abbrev pub is_name : Option (List ℕ) → List ℕ → Bool
 is_name None other = false
 is_name (Some name) other = same_name name other
 
+-- the item binds or unbinds this name
 abbrev pub is_of_name : Item → List ℕ → Bool
 is_of_name item other = is_name (named_by item) other
 
@@ -46,7 +48,9 @@ pub record Covers (block : ℕ) (kept : List Entry) (c : Cover) : Type 0 where
   pub pages : (page : ℕ) → nat_lt page c.reach ≡ list_any (λ e. covers_from block page e.item) kept
   pub names : (name : List ℕ) → (c.gone || has_name c name) ≡ list_any (λ e. covers block e.item (NameKey name)) kept
 
--- an item sets a key to absent that is covered, by what is kept
+-- an item sets a key to absent that is covered, by what is kept.
+-- An item hides some of it where it sets a key to absent that one of them covers. Example: after a Write of pages 2
+-- and 3 the reach is 4, so a cut to 3 pages stays and one to 4 may go.
 abbrev pub is_hidden : ℕ → Item → Cover → Bool
 is_hidden block (SetSize size) c = nat_lt (pages_for block size) c.reach
 is_hidden block (Unbind name) c = c.gone || has_name c name
@@ -54,7 +58,7 @@ is_hidden block Gone c = c.some
 is_hidden block item c = false
 
 -- one more item
-pub record Adds (block : ℕ) (item : Item) (old new : Cover) : Type 0 where
+pub record AddsItem (block : ℕ) (item : Item) (old new : Cover) : Type 0 where
   pub some : new.some ≡ true
   pub gone : new.gone ≡ (old.gone || ends_all item)
   pub reach : new.reach ≡ max old.reach (reach block item)

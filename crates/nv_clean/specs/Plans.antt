@@ -30,7 +30,9 @@ pub record UnlinkableValue : Type 0 where
   pub pages : ℕ
   pub entries : ℕ
 
--- the walk by entries
+-- the walk by entries.
+-- Wanted: which entries stay in a thorough cleaning, how many, how many log pages they fill, and how many entries
+-- go.
 abbrev pub wanted_of : CellState → WantedValue
 wanted_of cell =
     let stays = entries_staying cell in
@@ -42,7 +44,8 @@ wanted_of cell =
       dropped = length cell.chain.entries - left;
     }
 
--- the walk by pages
+-- the walk by pages.
+-- Unlinkable: which log pages stay in a fast cleaning, how many go, and how many entries these have.
 abbrev pub unlinkable_of : CellState → UnlinkableValue
 unlinkable_of cell =
     let stays = pages_staying cell in

@@ -6,7 +6,7 @@ ghost use Rattle.std.specs.Option.{option_map};
 ghost use Rattle.nv_base.specs.Names.{same_name};
 ghost use Rattle.nv_entry.specs.Clean.{hides};
 ghost use Rattle.nv_entry.specs.declared.item.Entry.{Entry};
-ghost use Rattle.nv_clean.specs.Cover.{Adds, Covers, ends_all, is_hidden, is_of_name, named_by, reach};
+ghost use Rattle.nv_clean.specs.Cover.{AddsItem, Covers, ends_all, is_hidden, is_of_name, named_by, reach};
 
 use nv_base::limits::FILE_PAGES;
 use nv_entry::Item;
@@ -54,7 +54,7 @@ impl<'a> Cover<'a> {
     /// One more entry stays.
     pub fn add(&mut self, block: u64, item: &'a Item) -> Result<(), AllocError>
         requires { 0 < block }
-        ensures { OnOk result (Adds block item.now self.old self.new) }
+        ensures { OnOk result (AddsItem block item.now self.old self.new) }
     {
         add_name(&mut self.names, item)?;
         self.some = true;

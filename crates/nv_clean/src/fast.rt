@@ -6,7 +6,7 @@ ghost use Rattle.nv_base.specs.Memory.{out_of_memory};
 ghost use Rattle.nv_cell.specs.Cell.{log_of};
 ghost use Rattle.nv_cell.specs.Readers.{has_killed};
 ghost use Rattle.nv_cell.specs.Removal.{KeepsTheLast};
-ghost use Rattle.nv_clean.specs.Cleaned.{KeepsValues, NodesStay, answer_of, room_with_pages, with_gone, with_pages};
+ghost use Rattle.nv_clean.specs.Cleaned.{KeepsValues, NodesStay, answer_of, room_with_pages, with_gone, with_pages_unlinked};
 ghost use Rattle.nv_clean.specs.Plans.{unlinkable_of};
 ghost use Rattle.nv_entry.specs.Clean.{entries_of, select};
 ghost use Rattle.nv_log.specs.Chain.{end_of, gone_of, log_pages, start_of};
@@ -22,8 +22,16 @@ use std::alloc::Global;
 /// Walks the log of a cell: which of its pages a fast cleaning unlinks. The time is linear in the log's entries and
 /// parts, on average. Takes a byte a page for the flags that it gives, and while it runs a place in a set for each name
 /// that stays: `OutOfMemory` where there is none.
+/// None of the entries of such a page is tried.
+/// Its time is linear in the log's entries and parts, on average.
 pub fn unlinkable(alloc: Global, cell: &InodeCell) -> Result<Unlinkable, Fault>
+    // A log page goes of which each entry may go.
+    // A log page without entries stays.
+    // What a page that stays has tried counts as there for the next page.
+    // A page of which something is kept stays by its counts.
+    // How many log pages go is told, and how many entries these have.
     ensures ok { IfOk result (λ unlinkable. unlinkable ≡ unlinkable_of cell.now.state) }
+    // It fails for want of memory alone.
     ensures err { FailsOnly out_of_memory result }
 {
     let stays = pages_staying(alloc, cell)?;
@@ -82,20 +90,25 @@ fn published_on(chain: &Chain, k: usize) -> usize
 ///
 /// The node stays, now and at each epoch that something is kept for, and so does what the next entry has to follow. The
 /// time is linear in the log's entries and parts, and no memory is taken.
+/// It takes no memory.
 pub fn fast_on(cell: &mut InodeCell, unlinkable: Unlinkable, hand: &mut Hand) -> Cleaned
     requires published { cell.old.state.chain.tail ≡ length cell.old.state.chain.entries }
     requires retired { has_killed cell.old.state ≡ false }
+    // Callers hand on what a walk of this cell found as it stands.
     requires walk { unlinkable ≡ unlinkable_of cell.old.state }
     requires room { unlinkable.pages ≤ hand.old.pages.room }
     requires size { hand.old.pages.size ≡ cell.old.state.block }
-    ensures cell { cell.new.state ≡ with_pages unlinkable cell.old.state }
+    // These log pages leave, and go into the hand in order; the others stay whole.
+    ensures cell { cell.new.state ≡ with_pages_unlinked unlinkable cell.old.state }
     ensures room { cell.new.room ≡ room_with_pages unlinkable cell.old.state cell.old.room }
     ensures hand { hand.new ≡ with_gone unlinkable cell.old.state hand.old }
+    // How many entries and log pages the log lost is told, as the walk told it.
     ensures answer { result ≡ answer_of false cell.old.state cell.new.state }
     ensures entries { result.entries ≡ unlinkable.entries }
     ensures pages { result.pages ≡ unlinkable.pages }
     ensures log { log_of cell.new.state
         ≡ entries_of (select unlinkable.stays (log_pages cell.old.state.chain)) }
+    // What is read and the node stay, as in a thorough cleaning.
     ensures values { KeepsValues cell.old.state cell.new.state }
     ensures nodes { NodesStay cell.old.state cell.new.state }
     ensures last { KeepsTheLast cell.old.state cell.new.state }

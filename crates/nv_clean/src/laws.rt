@@ -8,11 +8,13 @@ ghost use Rattle.nv_calls.specs.Retired.{CanTakeGone};
 ghost use Rattle.nv_calls.specs.Retiring.{erased, hand_with, released, released_blocks, with_back};
 ghost use Rattle.nv_cell.specs.Cell.{CellState, IsCell, block_total, log_of};
 ghost use Rattle.nv_cell.specs.Readers.{is_gone};
-ghost use Rattle.nv_clean.specs.Cleaned.{HasPages, with_chain, with_entries, with_gone, with_pages};
+ghost use Rattle.nv_clean.specs.Cleaned.{HasPages, with_chain, with_entries, with_gone, with_pages_unlinked};
 ghost use Rattle.nv_clean.specs.Plans.{unlinkable_of, wanted_of};
 
 /// A release leaves the cell and the hand together as many blocks as before, also where the inode is erased.
 pub fn releases_keep_the_number_of_blocks()
+    // A release leaves cell and hand together as many blocks as before.
+    // So does one that erases the inode.
     ensures { (cell : CellState) (picked : Record) (hand : Hand) → IsCell cell
         → cell.chain.tail ≡ length cell.chain.entries
         → (is_gone (log_of cell) ≡ true → CanTakeGone hand cell)
@@ -22,10 +24,11 @@ pub fn releases_keep_the_number_of_blocks()
         ≡ block_total cell + length (blocks_of hand) }
 {}
 
-/// So does each cleaning.
+/// A cleaning leaves the cell and the hand together as many blocks as before.
 pub fn cleanings_keep_the_number_of_blocks()
+    // So does each cleaning.
     ensures fast { (cell : CellState) (hand : Hand) → IsCell cell
-        → block_total (with_pages (unlinkable_of cell) cell)
+        → block_total (with_pages_unlinked (unlinkable_of cell) cell)
         + length (blocks_of (with_gone (unlinkable_of cell) cell hand))
         ≡ block_total cell + length (blocks_of hand) }
     ensures thorough { (cell : CellState) (hand : Hand) → IsCell cell

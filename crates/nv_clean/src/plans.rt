@@ -4,7 +4,8 @@ ghost use Rattle.std.specs.Prelude.{◌≡◌, ◌==◌};
 
 use std::marker::Model;
 
-/// What a thorough cleaning leaves of the log of a cell.
+/// What a thorough cleaning leaves of the log of a cell. That it is of the cell as it stands is a condition of the
+/// cleaning.
 #[derive(Debug, Drop)]
 pub struct Wanted {
     pub(crate) stays: Vec<bool>,
@@ -49,7 +50,8 @@ impl Wanted {
     }
 }
 
-/// What a fast cleaning unlinks from the log of a cell.
+/// What a fast cleaning unlinks from the log of a cell. That it is of the cell as it stands is a condition of the
+/// cleaning.
 #[derive(Debug, Drop)]
 pub struct Unlinkable {
     pub(crate) stays: Vec<bool>,

@@ -101,7 +101,7 @@ fn may_go(cell: &InodeCell, place: usize, cover: &Cover<'_>) -> bool
     is_free(cell, place, &entry.item, cover)
 }
 
-/// The same of an entry with this item.
+/// Whether the entry at a place, which has this item, may go.
 fn is_free(cell: &InodeCell, place: usize, item: &Item, cover: &Cover<'_>) -> bool
     requires { place < cell.now.state.chain.tail }
     ensures { result ≡ (nat_lt (place + 1) cell.now.state.chain.tail

@@ -12,7 +12,7 @@ use Rattle.nv_machine.proofs.WorldSizes.{IsOfNumbers, of_numbers}
 use Rattle.nv_core.proofs.Pending.{pending_counts}
 use Rattle.nv_core.proofs.ScannedParts.{pending_few}
 use Rattle.nv_core.proofs.SpaceLaw.{adds_up}
-use Rattle.nv_core.specs.Reports.{AddsUp, kept_of, space_in, space_of}
+use Rattle.nv_core.specs.Reports.{AddsUp, data_kept, space_in, space_of}
 use Rattle.nv_core.specs.Picked.{picked_of}
 use Rattle.nv_core.specs.Shown.{shared_of}
 use Rattle.nv_alloc.specs.Numbers.{IsEachOnce}
@@ -28,17 +28,17 @@ world_adds_up w is =
 
 -- and no more are pending than are kept
 pub pending_fits : (w : WorldState) (picked : ℕ) → IsWorld w → picked ≡ sum_by picked_of w.actors
-    → block_count w.shared.book.state.deferred + picked ≤ kept_of (shared_of w.shared)
+    → block_count w.shared.book.state.deferred + picked ≤ data_kept (shared_of w.shared)
 pending_fits w picked is same =
     let g = w.shared.geometry.numbers in
-    let few = subst (λ (m : machine.World). block_count (pending_in m) ≤ kept_of m.shared) (sym is.2.reached)
+    let few = subst (λ (m : machine.World). block_count (pending_in m) ≤ data_kept m.shared) (sym is.2.reached)
     (pending_few g is.1.start is.1.records is.1.events is.2.is_start) in
     let counts = pending_counts w is.0 is.2.shows in
-    let kept = ap kept_of is.2.shows.shared in
+    let kept = ap data_kept is.2.shows.shared in
     omega (arith, few, counts, kept, same)
 
 -- so its space is all of its blocks
-pub all_spaced : (blocks pending : ℕ) (s : machine.Shared) → AddsUp blocks s → pending ≤ kept_of s
+pub all_spaced : (blocks pending : ℕ) (s : machine.Shared) → AddsUp blocks s → pending ≤ data_kept s
     → (space_in blocks pending s).free + (space_in blocks pending s).chain + (space_in blocks pending s).«data»
     + (space_in blocks pending s).pending + (space_in blocks pending s).hand ≡ blocks
 all_spaced blocks pending s adds few = omega (arith, adds, few)

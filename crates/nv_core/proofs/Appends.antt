@@ -27,13 +27,13 @@ use Rattle.nv_entry.specs.Blocks.{item_blocks}
 use Rattle.nv_entry.specs.declared.item.Entry.{Entry}
 use Rattle.nv_entry.specs.declared.item.Item.{Item}
 use Rattle.nv_log.specs.Chain.{ChainState, pages_for}
-use Rattle.nv_machine.specs.Kinds.{append_turn, blocks_left, entries_for, with_entries, with_pages}
+use Rattle.nv_machine.specs.Kinds.{append_turn, blocks_left, entries_for, with_entries, with_log_pages}
 use Rattle.nv_machine.specs.Reads.{is_written, pages_needed, slot_at, written_slots}
 use Rattle.nv_machine.specs.Sequence.{appending}
 use Rattle.nv_machine.specs.World as machine
 use Rattle.nv_machine.specs.World.{cell_at, go_to, with_cell}
 use Rattle.nv_core.specs.Appends.{IsPlanOf}
-use Rattle.nv_core.specs.Shown.{GhostCall, commit_next, hand_in, hand_with, killed_in, shared_of, shown_commit, slots_in}
+use Rattle.nv_core.specs.Shown.{ShownCall, commit_next, hand_in, hand_with, killed_in, shared_of, shown_commit, slots_in}
 use Rattle.nv_core.specs.GhostCalls.{ArePlansOf, IsCommitOf, IsOnItsWay, IsPlaceOf, IsReadyOf}
 use Rattle.nv_core.specs.declared.running.Running.{Running}
 use Rattle.nv_core.specs.declared.shared.Shared.{Shared}
@@ -50,7 +50,7 @@ entries_same (e ∷ es) blocks cell = entries_same es (drop (length (item_blocks
 
 -- more pages, page by page
 pub pages_same : (pages : List BlockValue) (cell : CellState)
-    → with_pages pages cell ≡ record cell { chain = record cell.chain { blocks = cell.chain.blocks ++ pages } }
+    → with_log_pages pages cell ≡ record cell { chain = record cell.chain { blocks = cell.chain.blocks ++ pages } }
 pages_same [] cell = ap (λ (bs : List BlockValue). let c : CellState = record cell { chain = record cell.chain { blocks = bs } } in c)
     (sym (append-nil cell.chain.blocks))
 pages_same (b ∷ pages) cell =
@@ -114,7 +114,7 @@ closed_yet c way lt = go (is_open c) refl where
   go true q = let full = (way.opened q).1 in absurd (omega (arith, full, lt))
   go false q = refl
 
-pub append_told : (slots : List ℕ) (old new : CommitValue) (cell : CellState) (told : GhostCall)
+pub append_told : (slots : List ℕ) (old new : CommitValue) (cell : CellState) (told : ShownCall)
     → new ≡ after_append cell.chain old → IsCommitOf slots old told → IsCommitOf slots new told
 append_told slots old new cell told commit is =
     let many : length (slice_set old.plans old.appended (record (to_append old) { items = [] })) ≡ length old.plans =
@@ -155,7 +155,7 @@ append_way old new cell way lt commit =
     })
 
 -- the machine's append to the cell to which the commit appends
-pub appends : (shared : Shared) (running : Running) (old new : CommitValue) (cells : List CellValue) (told : GhostCall) (i : ℕ)
+pub appends : (shared : Shared) (running : Running) (old new : CommitValue) (cells : List CellValue) (told : ShownCall) (i : ℕ)
     → IsCommitOf (slots_in running.slots) old told → IsPlaceOf (slots_in running.slots) old told → IsOnItsWay old
     → old.appended < length old.plans → i ≡ slot_at (slots_in running.slots) (to_append old).at → i < length shared.cells.items
     → cells ≡ slice_set shared.cells.items i (cell_in cells i)
@@ -192,10 +192,10 @@ appends shared running old new cells told i is placed way lt place there only va
     ∙ ap (λ (xs : List Item). pages_for cell.chain (length xs)) items in
     let n = pages_for cell.chain (length its) in
     let es = stamped_entries old.stamp old.place its in
-    let whole : with_entries es h.blocks (with_pages (take n h.pages) cell) ≡ (cell_in cells i).state =
+    let whole : with_entries es h.blocks (with_log_pages (take n h.pages) cell) ≡ (cell_in cells i).state =
     ap (with_entries es h.blocks) (pages_same (take n h.pages) cell)
     ∙ sym (ap (λ (c : CellValue). c.state) value
-    ∙ entries_same es old.hand.data.blocks (code.with_pages (pages_from old.hand cell.chain (length its))
+    ∙ entries_same es old.hand.data.blocks (code.with_new_pages (pages_from old.hand cell.chain (length its))
     (cell_in shared.cells.items i))) in
     let rest : slice_set s.cells i (cell_in cells i).state ≡ map (λ (c : CellValue). c.state) cells =
     sym (ap (λ (xs : List CellValue). map (λ (c : CellValue). c.state) xs) only ∙ states_set shared.cells.items i (cell_in cells i)) in
@@ -211,9 +211,9 @@ appends shared running old new cells told i is placed way lt place there only va
     left_same old.stamp.commit old.stamp.epoch old.place its h.blocks in
     ap (λ (ino : ℕ). append_turn ino (pages_needed s told.plan ino) a s h r) at
     ∙ ap (λ (m : ℕ). append_turn i m a s h r) pages
-    ∙ ap (λ (xs : List Entry). machine.Moves (with_cell i (with_entries xs h.blocks (with_pages (take n h.pages) (cell_at s i))) s)
+    ∙ ap (λ (xs : List Entry). machine.Moves (with_cell i (with_entries xs h.blocks (with_log_pages (take n h.pages) (cell_at s i))) s)
     (record h { blocks = blocks_left xs h.blocks; pages = drop n h.pages }) (go_to (appending (a + 1) w) r)) entries
-    ∙ ap (λ (c : CellState). machine.Moves (with_cell i (with_entries es h.blocks (with_pages (take n h.pages) c)) s)
+    ∙ ap (λ (c : CellState). machine.Moves (with_cell i (with_entries es h.blocks (with_log_pages (take n h.pages) c)) s)
     (record h { blocks = blocks_left es h.blocks; pages = drop n h.pages }) (go_to (appending (a + 1) w) r)) here
     ∙ ap (λ (c : CellState). machine.Moves (with_cell i c s)
     (record h { blocks = blocks_left es h.blocks; pages = drop n h.pages }) (go_to (appending (a + 1) w) r)) whole
@@ -324,7 +324,7 @@ written_at : (slots : List ℕ) (plan : List InodePlan) (from : ℕ) (plans : Li
 written_at slots plan from plans are j lt =
     ap (λ (xs : List ℕ). slot_at xs j) are.written ∙ get_or-map (λ (p : CellCommitValue). slot_at slots p.at) plans j no_plan 0 lt
 
-pub append_place : (slots : List ℕ) (old new : CommitValue) (chain : ChainState) (told : GhostCall) → AllPairs (λ (a b : ℕ). a < b) slots
+pub append_place : (slots : List ℕ) (old new : CommitValue) (chain : ChainState) (told : ShownCall) → AllPairs (λ (a b : ℕ). a < b) slots
     → new ≡ after_append chain old → old.appended < length old.plans → IsCommitOf slots old told → IsPlaceOf slots old told
     → IsPlanOf slots told.plan → IsPlaceOf slots new told
 append_place slots old new chain told rises commit lt is placed plans =
@@ -356,7 +356,7 @@ append_place slots old new chain told rises commit lt is placed plans =
         ∙ ap (place_in told.plan) (there ∙ ap (λ (p : CellCommitValue). slot_at slots p.at) (sym same)
         ∙ ap (λ (n : ℕ). slot_at slots (plan_at later n).at) (sym one))
 
-pub begin_place : (slots : List ℕ) (ready : ReadyValue) (stamp : Stamp) (told : GhostCall) → AllPairs (λ (a b : ℕ). a < b) slots
+pub begin_place : (slots : List ℕ) (ready : ReadyValue) (stamp : Stamp) (told : ShownCall) → AllPairs (λ (a b : ℕ). a < b) slots
     → IsReadyOf slots ready told → IsPlanOf slots told.plan → IsPlaceOf slots (begun stamp ready) told
 begin_place slots ready stamp told rises is plans some =
     let w = filter (is_written told.plan) slots in

@@ -34,7 +34,7 @@ use Rattle.nv_epoch.specs.Holders as holders
 use Rattle.nv_epoch.specs.SnapList.{ids}
 use Rattle.nv_epoch.proofs.Last.{none_passes}
 use Rattle.nv_machine.specs.Held.{is_of_slot, killed_in}
-use Rattle.nv_machine.specs.Recorded.{is_kept, is_record_of, recorded_in}
+use Rattle.nv_machine.specs.Recorded.{is_marked_kept, is_record_of, recorded_in}
 use Rattle.nv_machine.specs.Starts.{IsStart}
 use Rattle.nv_machine.specs.Step.{after}
 use Rattle.nv_machine.specs.World.{Event, World, cell_at, no_cell}
@@ -250,7 +250,7 @@ module _ (g : GeometryNumbers) (start : World) (records : List Record) (events :
             arith,
             count_below (recorded s own_part) (is_record_of cell ino m) (recorded_in w) filed,
             recorded_once g start records events is_start ino m,
-            bit_small (is_kept (mark_at cell.marks m)),
+            bit_small (is_marked_kept (mark_at cell.marks m)),
           )
 
       -- what is picked of the pair is held by no living snapshot

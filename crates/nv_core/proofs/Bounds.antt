@@ -8,15 +8,15 @@ use Rattle.nv_machine.specs.Bound.{bound_at, bound_of, most_steps}
 use Rattle.nv_machine.specs.World as machine
 use Rattle.nv_machine.specs.World.{actor_at, idle}
 use Rattle.nv_core.proofs.WorldSteps.{shows_none, shows_some}
-use Rattle.nv_core.specs.Shown.{GhostCall, shown_by}
-use Rattle.nv_core.specs.Worlds.{IsBounded, IsWorld, Shows, ShowsRunning, WorldState, most_goes, told_of}
+use Rattle.nv_core.specs.Shown.{ShownCall, shown_by}
+use Rattle.nv_core.specs.Worlds.{IsBounded, IsWorld, Shows, ShowsRunning, WorldState, most_goes, shown_call_of}
 use Rattle.nv_core.specs.declared.reservation.Reservation.{Reservation}
 use Rattle.nv_core.specs.declared.reservation.Reservation.TheVariants as reserved
 use Rattle.nv_core.specs.declared.running.Running.{Running}
 use Rattle.nv_core.specs.declared.world.Actor.{Actor}
 
 -- what is told of a call doesn't count
-told_same : (cpus : ℕ) (h : Reservation) (running : Running) (a b : GhostCall)
+told_same : (cpus : ℕ) (h : Reservation) (running : Running) (a b : ShownCall)
     → bound_of cpus (Some (shown_by h a running)) ≡ bound_of cpus (Some (shown_by h b running))
 told_same cpus (reserved.Hand hand) running a b = refl
 told_same cpus (reserved.Ready ready) running a b = refl
@@ -31,7 +31,7 @@ running_same cpus h (Some running) x y one two =
     let q = shows_some h running y two in
     ap (bound_of cpus) r.1
     ∙ ap (λ (s : machine.Running). bound_of cpus (Some s)) (sym r.2.shown)
-    ∙ told_same cpus h running (told_of r.0) (told_of q.0)
+    ∙ told_same cpus h running (shown_call_of r.0) (shown_call_of q.0)
     ∙ ap (λ (s : machine.Running). bound_of cpus (Some s)) q.2.shown
     ∙ sym (ap (bound_of cpus) q.1)
 

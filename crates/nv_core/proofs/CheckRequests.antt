@@ -9,7 +9,7 @@ use Rattle.nv_calls.specs.AllCalls.{blocks_wanted, early, effect, looked, refusa
 use Rattle.nv_calls.specs.Locked.{handles}
 use Rattle.nv_calls.specs.Cells.{AreCells}
 use Rattle.nv_calls.specs.Nodes.{cell_of, nodes_in, slot_by, slots_by}
-use Rattle.nv_calls.specs.Prepared.{HasNumberFor, IsEmptySlot, made_by, makes, no_handle}
+use Rattle.nv_calls.specs.Prepared.{HasNumberFor, IsEmptySlot, handle_made_by, makes, no_handle}
 use Rattle.nv_calls.specs.SlotCells.{cell_in, lent_cells}
 use Rattle.nv_calls.specs.Updates.{blank_call}
 use Rattle.nv_calls.specs.declared.call.Call.{Call}
@@ -21,7 +21,7 @@ use Rattle.nv_machine.specs.Kinds.{check_ending}
 use Rattle.nv_machine.specs.Reads.{copies, has_last_page}
 use Rattle.nv_machine.specs.Sequence.{beginning}
 use Rattle.nv_machine.specs.Step.{is_numbered, made_in, same_looked}
-use Rattle.nv_machine.specs.World.{Overtaken}
+use Rattle.nv_machine.specs.World.{BoundAnew}
 use Rattle.nv_machine.specs.World as machine
 use Rattle.nv_core.proofs.PassesSome.{some_cell}
 use Rattle.nv_core.proofs.Checks.{ends_same, passes_over, wanted_same}
@@ -123,7 +123,7 @@ has_made shared slots hand before u inside has = go hand.ino inside has where
   all = shared.cells.items
 
   go : (number : Option ℕ) → ForSome number (λ ino. ino < length all) → HasNumberFor (lent_cells slots all) (makes u) number
-      → makes u ≡ true → made_in (shared_of shared) number before ≡ unwrap_or (made_by (lent_cells slots all) number u) no_handle
+      → makes u ≡ true → made_in (shared_of shared) number before ≡ unwrap_or (handle_made_by (lent_cells slots all) number u) no_handle
   go None inside has is = let none : ⊥ = subst (λ (b : Bool). HasNumberFor (lent_cells slots all) b None) is has in absurd none
   go (Some ino) inside has is =
       let slot : IsEmptySlot (lent_cells slots all) ino = subst (λ (b : Bool). HasNumberFor (lent_cells slots all) b (Some ino)) is has in
@@ -162,7 +162,7 @@ wants_by_job shared hand new running wanted cells can change number chain ends o
           let u = plan.update in
           let passed = passes_over shared.geometry.numbers.block (nodes_in lent) running.looked (is_some hand.ino) u (sym ends) in
           let own : HasNumberFor lent (makes u) hand.ino = has_number lent hand.ino u passed.number has in (
-            subst (λ (n : Option ℕ). makes u ≡ true → made ≡ unwrap_or (made_by lent n u) no_handle) (sym number)
+            subst (λ (n : Option ℕ). makes u ≡ true → made ≡ unwrap_or (handle_made_by lent n u) no_handle) (sym number)
                 (has_made shared slots hand running.made u can.inside own),
             record {
               read = read;
@@ -190,7 +190,7 @@ plain_end : (early : Check) (same : Bool) (tests : Check) (numbered nothing : Bo
     → check_ends early same tests numbered nothing ≡ Some (ending_of how) → CanDrain how j hand
 plain_end early same tests numbered nothing ending.Answers j hand is = tt
 plain_end early same tests numbered nothing (ending.Refuses fault) j hand is = tt
-plain_end early same tests numbered nothing ending.Overtaken j hand is = tt
+plain_end early same tests numbered nothing ending.BoundAnew j hand is = tt
 plain_end early same tests numbered nothing (ending.Cleans cleaned) j hand is = tt
 plain_end (Err fault) same tests numbered nothing (ending.Drains draining) j hand is = cc
 plain_end (Ok passed) false tests numbered nothing (ending.Drains draining) j hand is = cc

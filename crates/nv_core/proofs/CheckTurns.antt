@@ -21,9 +21,9 @@ use Rattle.nv_core.proofs.CheckRequests.{Ends, drains_by_job, ending_told, owed_
 use Rattle.nv_core.proofs.Takes.{is_changed, over_all, wanted_same, with_both}
 use Rattle.nv_core.specs.Parts.{AreHome}
 use Rattle.nv_core.specs.Rooms.{CanCountPages, CanDrain, CanWantPages, FitsCall, HasItsBlocks, HasMade, HasRooms, IsChecked, IsHandOf, TakesBlocks, WantsBlocks, blocks_to_take, pages_to_take}
-use Rattle.nv_core.specs.Shown.{GhostCall, ending_of, hand_of, shared_of, shown, slots_in}
+use Rattle.nv_core.specs.Shown.{ShownCall, ending_of, hand_of, shared_of, shown, slots_in}
 use Rattle.nv_core.specs.Steps.{CanBeChecked}
-use Rattle.nv_core.specs.GhostCalls.{IsChangeWith, IsOwed, IsGhostCallOf, OwesAt, is_change}
+use Rattle.nv_core.specs.GhostCalls.{IsChangeWith, IsOwed, IsShownCallOf, OwesAt, is_change}
 use Rattle.nv_core.specs.declared.reservation.Reservation.TheVariants as reserved
 use Rattle.nv_core.specs.declared.next.Ending.{Ending as Ended}
 use Rattle.nv_core.specs.declared.next.Next.TheVariants as next
@@ -184,11 +184,11 @@ module _ (shared : Shared) (hand : Hand) (running now : Running) (numbered : Boo
       (subst (λ (x : Running). WantsBlocks wanted shared more x) (sym is)
       (wants_by_job shared hand more running wanted cells can change ino chain (no_end none) (own_wanted wanted wanted_is)))
 
-  pub owes : (told : GhostCall) (how : Ended) → IsGhostCallOf running told → OwesAt how now told
+  pub owes : (told : ShownCall) (how : Ended) → IsShownCallOf running told → OwesAt how now told
   owes told how request answers =
       subst (λ (x : Running). IsOwed x.owed told.call) (sym is) (owed_by running.request running.owed told.call change request)
 
-  module _ (told : GhostCall) (request : IsGhostCallOf running told) where
+  module _ (told : ShownCall) (request : IsShownCallOf running told) where
     abbrev s : machine.Shared
     s = shared_of shared
 
@@ -224,8 +224,8 @@ module _ (shared : Shared) (hand : Hand) (running now : Running) (numbered : Boo
     grows_by n m zero is some = rw is (lt-ltb 0 m (some refl))
     grows_by n m (suc wanted) is some = rw is refl
 
-    is_now : IsGhostCallOf now told
-    is_now = subst (λ (x : Running). IsGhostCallOf x told) (sym is) request
+    is_now : IsShownCallOf now told
+    is_now = subst (λ (x : Running). IsShownCallOf x told) (sym is) request
 
     own_pages : (wanted : ℕ) → WantsBlocks wanted shared hand now
         → IsChangeWith (λ u. 0 < pages_to_take shared (slots_in now.slots) hand u) now.request

@@ -4,7 +4,7 @@ use Rattle.std.specs.List.{AllByRecursion}
 use Rattle.nv_alloc.specs.Block.{BlockValue}
 use Rattle.nv_alloc.specs.declared.hand.Hand.{Hand}
 use Rattle.nv_cell.specs.Cell.{CellState, CellValue}
-use Rattle.nv_clean.specs.Cleaned.{answer_of, with_chain, with_entries, with_gone, with_pages}
+use Rattle.nv_clean.specs.Cleaned.{answer_of, with_chain, with_entries, with_gone, with_pages_unlinked}
 use Rattle.nv_clean.specs.Plans.{UnlinkableValue, WantedValue, unlinkable_of, wanted_of}
 use Rattle.nv_clean.specs.declared.cleaned.Cleaned.{Cleaned}
 use Rattle.nv_log.proofs.Flags.{all_gone}
@@ -51,14 +51,14 @@ module _ (shared : Shared) (ino : ℕ) (old : CellState) (hand after : Hand) (ce
       ∙ ends
 
   -- pages are unlinked
-  pub unlink_turns : (walk : UnlinkableValue) → walk ≡ unlinkable_of old → new.state ≡ with_pages walk old
+  pub unlink_turns : (walk : UnlinkableValue) → walk ≡ unlinkable_of old → new.state ≡ with_pages_unlinked walk old
       → after ≡ with_gone walk old hand → cleaned ≡ answer_of false old new.state → Ends
       → unlink_turn ino s (hand_of hand) r ≡ turn
   unlink_turns walk found state is told ends =
       ap (λ (c : CellState). end_turn r.slots (machine.Cleans (answer_of false c (unlinked c))) (with_cell ino (unlinked c) s)
       (with_unlinked c (hand_of hand)) r) here
       ∙ cleans false (unlinked old) (with_unlinked old (hand_of hand))
-      (state ∙ ap (λ (w : UnlinkableValue). with_pages w old) found)
+      (state ∙ ap (λ (w : UnlinkableValue). with_pages_unlinked w old) found)
       (sym (ap hand_of is ∙ ap (λ (w : UnlinkableValue). hand_of (with_gone w old hand)) found)) told ends
 
   -- entries are moved

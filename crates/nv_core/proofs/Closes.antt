@@ -12,13 +12,13 @@ use Rattle.nv_machine.specs.Reads.{slot_at, written_slots}
 use Rattle.nv_machine.specs.Sequence.{retiring}
 use Rattle.nv_machine.specs.World as machine
 use Rattle.nv_machine.specs.World.{go_to, with_book}
-use Rattle.nv_core.specs.Shown.{GhostCall, commit_next, hand_in, shared_of, shown_commit, slots_in}
+use Rattle.nv_core.specs.Shown.{ShownCall, commit_next, hand_in, shared_of, shown_commit, slots_in}
 use Rattle.nv_core.specs.GhostCalls.{IsCommitOf, IsOnItsWay}
 use Rattle.nv_core.specs.declared.running.Running.{Running}
 use Rattle.nv_core.specs.declared.shared.Shared.{Shared}
 use Rattle.nv_core.proofs.Retires.{retires_next}
 
-pub closes : (shared : Shared) (running : Running) (old : CommitValue) (told : GhostCall) (cpu : ℕ)
+pub closes : (shared : Shared) (running : Running) (old : CommitValue) (told : ShownCall) (cpu : ℕ)
     → IsCommitOf (slots_in running.slots) old told
     → IsOnItsWay old → is_open old ≡ true → length old.plans ≤ old.published → old.journal ≡ Some cpu
     → close_turn cpu (shared_of shared) (hand_in old) (shown_commit old told running)
@@ -43,7 +43,7 @@ closes shared running old told cpu is way noted published own =
     }) h (go_to (commit_next after) r)) own)
 
 -- what is told of the commit stays
-pub close_told : (slots : List ℕ) (old new : CommitValue) (told : GhostCall) → new ≡ after_close old → IsCommitOf slots old told
+pub close_told : (slots : List ℕ) (old new : CommitValue) (told : ShownCall) → new ≡ after_close old → IsCommitOf slots old told
     → IsCommitOf slots new told
 close_told slots old new told commit is =
     subst (λ (c : CommitValue). IsCommitOf slots c told) (sym commit) (record { number = is.number; epoch = is.epoch; plans = is.plans })

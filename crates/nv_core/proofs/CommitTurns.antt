@@ -15,11 +15,11 @@ use Rattle.nv_core.specs.Appends.{IsPlanOf}
 use Rattle.nv_core.specs.CommitSteps.{HasStepped}
 use Rattle.nv_core.specs.Frames.{LeavesCells}
 use Rattle.nv_core.specs.Rooms.{HasRooms, HasRoomsAfter}
-use Rattle.nv_core.specs.Shown.{GhostCall, hand_in, machine_step, shared_of, shown_commit, slots_in}
+use Rattle.nv_core.specs.Shown.{ShownCall, hand_in, machine_step, shared_of, shown_commit, slots_in}
 use Rattle.nv_core.specs.Steps.{CanStep}
 use Rattle.nv_core.specs.GhostCalls.{IsCommitOf, IsPlaceOf}
 use Rattle.nv_core.specs.Turns.{IsTurn, LeavesOthers}
-use Rattle.nv_core.specs.Worlds.{ShowsCall, told_of}
+use Rattle.nv_core.specs.Worlds.{ShowsCall, shown_call_of}
 use Rattle.nv_core.specs.declared.reservation.Reservation.TheVariants as reserved
 use Rattle.nv_core.specs.declared.running.Running.{Running}
 use Rattle.nv_core.specs.declared.shared.Shared.{Shared}
@@ -28,7 +28,7 @@ use Rattle.nv_core.specs.declared.turn.Turn.TheVariants as result
 -- what a step of a commit makes, for whatever is told of the call
 abbrev pub TurnsCommit : CommitStep → ℕ → Shared → Running → CommitValue → Shared → CommitValue → Type 0
 TurnsCommit next actor shared running commit shared_after after =
-    (told : GhostCall) → IsCommitOf (slots_in running.slots) commit told → IsPlaceOf (slots_in running.slots) commit told
+    (told : ShownCall) → IsCommitOf (slots_in running.slots) commit told → IsPlaceOf (slots_in running.slots) commit told
     → IsPlanOf (slots_in running.slots) told.plan
     → (kind_turn (machine_step next commit) shared.geometry.numbers.block actor true (shared_of shared) (hand_in commit)
     (shown_commit commit told running) ≡ Moves (shared_of shared_after) (hand_in after) (shown_commit after told running))
@@ -39,7 +39,7 @@ turns_commit : (next : CommitStep) (actor : ℕ) (shared : Shared) (running : Ru
     → HasStepped running shared shared_after commit after → TurnsCommit next actor shared running commit shared_after after
     → IsTurn actor shared (reserved.Commit commit) r result.Moves shared_after (reserved.Commit after) running
 turns_commit next actor shared running r commit shared_after after here shows stepped by =
-    let told = told_of r in
+    let told = shown_call_of r in
     let one = by told shows.plan shows.place.1 shows.place.0 in
     record {
       granted = true;

@@ -7,13 +7,13 @@ use Rattle.nv_calls.specs.Ready.{CellCommitValue}
 use Rattle.nv_calls.specs.declared.answer.Answer.{Answer}
 use Rattle.nv_machine.specs.Kinds.{again_turn, blocks_in, drained_turn, end_turn, last_turn, over_turn, rest_turn, result_by}
 use Rattle.nv_machine.specs.Reads.{home_from}
-use Rattle.nv_machine.specs.World.{Answers, Cleans, Drains, Ending, Ends, HandState, Next, Overtaken, Refuses, Running, Shared, go_to}
+use Rattle.nv_machine.specs.World.{Answers, Cleans, Drains, Ending, Ends, HandState, Next, BoundAnew, Refuses, Running, Shared, go_to}
 use Rattle.nv_core.specs.Shown.{killed_in}
 
 result_anywhere : (ending : Ending) (r : Running) (next : Next) → result_by ending (go_to next r) ≡ result_by ending r
 result_anywhere Answers r next = refl
 result_anywhere (Refuses fault) r next = refl
-result_anywhere Overtaken r next = refl
+result_anywhere BoundAnew r next = refl
 result_anywhere (Drains draining) r next = refl
 result_anywhere (Cleans cleaned) r next = refl
 
@@ -26,7 +26,7 @@ last_anywhere : (ending : Ending) (s : Shared) (h : HandState) (r : Running) (ne
     → last_turn ending s h (go_to next r) ≡ last_turn ending s h r
 last_anywhere Answers s h r next = ap (λ (result : Result Answer Fault). Ends result s h) (result_anywhere Answers r next)
 last_anywhere (Refuses fault) s h r next = refl
-last_anywhere Overtaken s h r next = refl
+last_anywhere BoundAnew s h r next = refl
 last_anywhere (Drains draining) s h r next = drained_anywhere draining.left draining.released s h r next
 last_anywhere (Cleans cleaned) s h r next = refl
 
@@ -47,7 +47,7 @@ over_anywhere Answers s h r next = rest_anywhere (home_from 0 0 s.lists (blocks_
 over_anywhere (Refuses fault) s h r next = rest_anywhere (home_from 0 0 s.lists (blocks_in h)) h.ino s h r next
 over_anywhere (Drains draining) s h r next = rest_anywhere (home_from 0 0 s.lists (blocks_in h)) h.ino s h r next
 over_anywhere (Cleans cleaned) s h r next = rest_anywhere (home_from 0 0 s.lists (blocks_in h)) h.ino s h r next
-over_anywhere Overtaken s h r next = again_anywhere r.rounds s h r next
+over_anywhere BoundAnew s h r next = again_anywhere r.rounds s h r next
 
 pub end_anywhere : (slots : List ℕ) (ending : Ending) (s : Shared) (h : HandState) (r : Running) (next : Next)
     → end_turn slots ending s h (go_to next r) ≡ end_turn slots ending s h r

@@ -14,7 +14,7 @@ use Rattle.nv_machine.specs.Kinds.{enter_turn, refuse}
 use Rattle.nv_machine.specs.Reads.{slot_at, written_slots}
 use Rattle.nv_machine.specs.World.{Moves, Next, Refuses, Turn, go_to}
 use Rattle.nv_machine.specs.World as machine
-use Rattle.nv_core.specs.Shown.{GhostCall, hand_in, hand_of, shared_of, shown, shown_commit, shown_ready, slots_in}
+use Rattle.nv_core.specs.Shown.{ShownCall, hand_in, hand_of, shared_of, shown, shown_commit, shown_ready, slots_in}
 use Rattle.nv_core.specs.GhostCalls.{IsCommitOf, IsEither, IsReadyOf, entered}
 use Rattle.nv_core.specs.declared.running.Running.{Running}
 use Rattle.nv_core.specs.declared.shared.Shared.{Shared}
@@ -34,7 +34,7 @@ use Rattle.nv_core.specs.declared.next.Ending.TheVariants as ending
 use Rattle.nv_core.proofs.Phases.{begins}
 
 pub enters : (shared : Shared) (ready : ReadyValue) (running : Running) (actor need : ℕ) (book : BookValue) (commit : CommitValue)
-    (told : GhostCall)
+    (told : ShownCall)
     → shared.holder ≡ None → nat_le NUMBER shared.book.state.commit ≡ false
     → book ≡ record { state = after_enter actor shared.book.state; room = need } → commit ≡ begun (stamp_of book.state) ready
     → IsReadyOf (slots_in running.slots) ready told
@@ -62,7 +62,7 @@ enters shared ready running actor need book commit told free below after begins 
     (shown_commit c (entered shared.book.state told) running)) same)
 
 pub begun_commit : (shared : Shared) (ready : ReadyValue) (running : Running) (actor need : ℕ) (book : BookValue) (commit : CommitValue)
-    (told : GhostCall) → book ≡ record { state = after_enter actor shared.book.state; room = need } → commit ≡ begun (stamp_of book.state) ready
+    (told : ShownCall) → book ≡ record { state = after_enter actor shared.book.state; room = need } → commit ≡ begun (stamp_of book.state) ready
     → IsReadyOf (slots_in running.slots) ready told → IsCommitOf (slots_in running.slots) commit (entered shared.book.state told)
 begun_commit shared ready running actor need book commit told after begins is =
     let last : BookValue = record { state = after_enter actor shared.book.state; room = need } in
@@ -98,7 +98,7 @@ told_why result fault commit last is limit at (inr e) same fits = go (nat_le NUM
       let both = sym is ∙ at full in absurd (cc (both, e))
   go false q = inr (e, q)
 
-pub refuses : (shared : Shared) (hand : Hand) (running : Running) (actor : ℕ) (book : BookValue) (given : Hand) (told : GhostCall)
+pub refuses : (shared : Shared) (hand : Hand) (running : Running) (actor : ℕ) (book : BookValue) (given : Hand) (told : ShownCall)
     (fault : Fault)
     (turn : Turn) → shared.holder ≡ None → book ≡ shared.book → given ≡ hand
     → refuse fault (shared_of (record shared { book = book })) (hand_of given) (shown told running) ≡ turn
@@ -136,7 +136,7 @@ refuses shared hand running actor book given told fault turn free same held refu
 -- ---- what holds of the call beside
 
 -- a call whose request its commit has can end
-pub given_ends : (running : Running) (how : Ending) → running.request ≡ request.Given → (how ≡ ending.Overtaken → ⊥) → CanEnd running how
+pub given_ends : (running : Running) (how : Ending) → running.request ≡ request.Given → (how ≡ ending.BoundAnew → ⊥) → CanEnd running how
 given_ends running how given other = record {
   request = subst IsNoVisit (sym given) tt;
   looks = subst (λ (j : Request). LooksAsTold j running.looked) (sym given) tt;

@@ -19,6 +19,8 @@ use Rattle.nv_machine.proofs.NewStart.{new_start}
 use Rattle.nv_machine.specs.Format.{formatted, full_list, root_cell, without_lowest}
 use Rattle.nv_machine.specs.Starts.{IsStart}
 use Rattle.nv_machine.specs.World.{Shared, actor_at, idle}
+use Rattle.nv_restart.proofs.MountStops.{new_may_stop}
+use Rattle.nv_restart.specs.Stops.{MayStop}
 use Rattle.nv_core.specs.Formats.{empty_of, idle_actor, rootless}
 use Rattle.nv_core.specs.Rooms.{IsHandOf}
 use Rattle.nv_core.specs.Shown.{shared_of}
@@ -167,6 +169,7 @@ world_made g s actors limits numbers shared idles =
     record {
       is_start = subst (λ (n : GeometryNumbers). IsStart n (formatted g) []) (sym numbers) (new_start g limits);
       reached = refl;
+      may = subst (λ (n : GeometryNumbers). MayStop n.block (formatted g).shared) (sym numbers) (new_may_stop g);
       shows = record { numbers = numbers; shared = shared; count = rw idles count; each = rw idles (each_shown g) };
       rooms = rw idles (λ k d inside. rw (idle_at g g.actors k d inside) hand);
     }

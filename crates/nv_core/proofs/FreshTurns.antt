@@ -11,7 +11,7 @@ use Rattle.nv_machine.specs.Step.{kind_turn}
 use Rattle.nv_machine.specs.World as machine
 use Rattle.nv_machine.specs.World.{cell_at, go_to, list_at}
 use Rattle.nv_core.specs.Cleaning.{TakesFresh}
-use Rattle.nv_core.specs.Shown.{GhostCall, hand_of, next_of, shared_of, shown}
+use Rattle.nv_core.specs.Shown.{ShownCall, hand_of, next_of, shared_of, shown}
 use Rattle.nv_core.specs.Takings.{IsTaken}
 use Rattle.nv_core.specs.declared.next.FreshPages.{FreshPages}
 use Rattle.nv_core.specs.declared.next.MaintenanceStep.TheVariants as on
@@ -73,7 +73,7 @@ fresh_anywhere zero more ino asked s h r next = refl
 fresh_anywhere (suc n) true ino asked s h r next = refl
 fresh_anywhere (suc n) false ino asked s h r next = end_anywhere r.slots (machine.Refuses NoSpace) s h r next
 
-pub fresh_shown : (told : GhostCall) (running : Running) (meanwhile : Next) (fresh : FreshPages) (block actor : ℕ) (granted : Bool)
+pub fresh_shown : (told : ShownCall) (running : Running) (meanwhile : Next) (fresh : FreshPages) (block actor : ℕ) (granted : Bool)
     (s : machine.Shared) (h : machine.HandState) (turn : machine.Turn) → running.next ≡ next.Maintenance (on.Fresh fresh)
     → take_fresh_turn (asked_list (length s.lists) actor fresh.asked) fresh.plan.ino fresh.asked fresh.left s h
     (shown told (record running { next = meanwhile })) ≡ turn

@@ -15,10 +15,10 @@ use Rattle.nv_machine.specs.World as machine
 use Rattle.nv_machine.specs.World.{HandState, actor_at}
 use Rattle.nv_core.specs.Parts.{IsOfDevice}
 use Rattle.nv_core.specs.Rooms.{HasActorRooms, HasRooms, hand_held}
-use Rattle.nv_core.specs.Shown.{GhostCall, held_by, shared_of, shown_by, shown_ready, slots_in}
+use Rattle.nv_core.specs.Shown.{ShownCall, held_by, shared_of, shown_by, shown_ready, slots_in}
 use Rattle.nv_core.specs.Steps.{CanEnter, CanStep, GivenBy}
-use Rattle.nv_core.specs.GhostCalls.{IsReservationOf, IsReadyOf, IsGhostCallOf}
-use Rattle.nv_core.specs.Worlds.{EventRun, ShowsActor, ShowsCall, ShowsRunning, told_of}
+use Rattle.nv_core.specs.GhostCalls.{IsReservationOf, IsReadyOf, IsShownCallOf}
+use Rattle.nv_core.specs.Worlds.{EventRun, ShowsActor, ShowsCall, ShowsRunning, shown_call_of}
 use Rattle.nv_core.specs.declared.reservation.Reservation.{Reservation}
 use Rattle.nv_core.specs.declared.reservation.Reservation.TheVariants as reserved
 use Rattle.nv_core.specs.declared.running.Running.{Running}
@@ -40,7 +40,7 @@ held_device g (reserved.Hand hand) all = all
 held_device g (reserved.Ready ready) all = all
 held_device g (reserved.Commit commit) all = all
 
-given_enter : (shared : Shared) (actor : ℕ) (told : GhostCall) (ready : ReadyValue) (running : Running)
+given_enter : (shared : Shared) (actor : ℕ) (told : ShownCall) (ready : ReadyValue) (running : Running)
     → IsGiven shared.geometry.numbers (shared_of shared) actor (held_by (reserved.Ready ready)) (shown_ready told running)
     → IsReadyOf (slots_in running.slots) ready told → shared.holder ≡ None → shared.book.state.commit < NUMBER
     → CanEnter shared running ready actor
@@ -51,7 +51,7 @@ given_enter shared actor told ready running given is free few = record {
   closed = no_journal shared.book.state.journals (actor % length shared.lists.items) (given.logs.closed free);
 }
 
-module _ (shared : Shared) (actor : ℕ) (told : GhostCall) (running : Running) (request : IsGhostCallOf running told) where
+module _ (shared : Shared) (actor : ℕ) (told : ShownCall) (running : Running) (request : IsShownCallOf running told) where
   given_own : (held : Reservation) → IsGiven shared.geometry.numbers (shared_of shared) actor (held_by held) (shown_by held told running)
       → IsReservationOf (slots_in running.slots) held told → HasRooms shared held running → GivenBy shared held running actor
   given_own (reserved.Hand hand) given is rooms =
@@ -82,7 +82,7 @@ pub can_step_as : (shared : Shared) (held : Reservation) (running : Running) (r 
     → actor < length m.actors → held_by held ≡ (actor_at m actor).hand → (actor_at m actor).running ≡ Some r → ShowsCall held running r
     → HasRooms shared held running → CanStep shared held running actor
 can_step_as shared held running r m run actor is_start from same there hand is shows rooms =
-    given_step shared actor (told_of r) running shows.request held is_start.limits inside given shows.plan rooms where
+    given_step shared actor (shown_call_of r) running shows.request held is_start.limits inside given shows.plan rooms where
       inside : actor < shared.geometry.numbers.actors
       inside =
           let many =
@@ -90,7 +90,7 @@ can_step_as shared held running r m run actor is_start from same there hand is s
           (of_numbers shared.geometry.numbers run.start run.records run.events is_start).actors in
           omega (arith, many, there)
 
-      given : IsGiven shared.geometry.numbers (shared_of shared) actor (held_by held) (shown_by held (told_of r) running)
+      given : IsGiven shared.geometry.numbers (shared_of shared) actor (held_by held) (shown_by held (shown_call_of r) running)
       given =
           let g = shared.geometry.numbers in
           let of_machine = given_after g run.start run.records m run.events is_start from

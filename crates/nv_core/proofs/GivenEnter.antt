@@ -26,7 +26,7 @@ use Rattle.nv_machine.specs.Order.{AreLogsOrdered}
 use Rattle.nv_machine.specs.Reads.{is_written, slot_at}
 use Rattle.nv_machine.specs.World.{cell_at}
 use Rattle.nv_machine.proofs.Lists.{slot_inside}
-use Rattle.nv_core.specs.Shown.{GhostCall, shared_of}
+use Rattle.nv_core.specs.Shown.{ShownCall, shared_of}
 use Rattle.nv_core.specs.GhostCalls.{IsReadyOf}
 use Rattle.nv_core.specs.declared.shared.Shared.{Shared}
 use Rattle.nv_core.proofs.GivenCells.{many_cells}
@@ -118,7 +118,7 @@ module _ (shared : Shared) (actor : ℕ) (slots : List ℕ) (are : AreSlotsOf (l
         (none_takes stamp)
   ]
 
-  pub given_takes : (ready : ReadyValue) (told : GhostCall) → IsReadyOf slots ready told
+  pub given_takes : (ready : ReadyValue) (told : ShownCall) → IsReadyOf slots ready told
       → ((place : ℕ) → place < length (filter (is_written told.plan) slots)
       → (cell_at (shared_of shared) (slot_at (filter (is_written told.plan) slots) place)).generation < NUMBER)
       → AllByRecursion (λ p. TakesCommit stamp (value_at (lent_cells slots shared.cells.items) p.at)) ready.plans

@@ -20,9 +20,9 @@ use Rattle.nv_machine.specs.Sequence.{beginning}
 use Rattle.nv_machine.specs.World as machine
 use Rattle.nv_core.specs.Nodes.{CanRead, HoldHandles}
 use Rattle.nv_core.specs.Rooms.{FitsNext}
-use Rattle.nv_core.specs.Shown.{GhostCall, draining_of, ending_of, hand_of, next_of, shared_of, shown, slots_in}
+use Rattle.nv_core.specs.Shown.{ShownCall, draining_of, ending_of, hand_of, next_of, shared_of, shown, slots_in}
 use Rattle.nv_core.specs.Steps.{CanBeChecked, Given, GivenOn}
-use Rattle.nv_core.specs.GhostCalls.{IsChangeWith, IsRequestOf, IsGhostCallOf, is_change}
+use Rattle.nv_core.specs.GhostCalls.{IsChangeWith, IsRequestOf, IsShownCallOf, is_change}
 use Rattle.nv_core.specs.declared.request.Request.{Request}
 use Rattle.nv_core.specs.declared.request.Request.TheVariants as request
 use Rattle.nv_core.specs.declared.request.PendingAnswer.{PendingAnswer}
@@ -42,7 +42,7 @@ use Rattle.nv_core.proofs.GivenLaws.{IsGiven, slot_there}
 answers_only : (how : Ending) → ending_of how ≡ machine.Answers → how ≡ ending.Answers
 answers_only ending.Answers e = refl
 answers_only (ending.Refuses fault) e = cc
-answers_only ending.Overtaken e = cc
+answers_only ending.BoundAnew e = cc
 answers_only (ending.Drains draining) e = cc
 answers_only (ending.Cleans cleaned) e = cc
 
@@ -67,9 +67,9 @@ makes_same (update.Unlink dir name) text = refl
 makes_same (update.Rmdir dir name) text = refl
 makes_same (update.Rename from old to new) text = refl
 
-module _ (shared : Shared) (actor : ℕ) (told : GhostCall) (hand : Hand) (running : Running)
+module _ (shared : Shared) (actor : ℕ) (told : ShownCall) (hand : Hand) (running : Running)
     (given : IsGiven shared.geometry.numbers (shared_of shared) actor (hand_of hand) (shown told running))
-    (is : IsGhostCallOf running told) where
+    (is : IsShownCallOf running told) where
   abbrev g : GeometryNumbers
   g = shared.geometry.numbers
 

@@ -6,7 +6,7 @@ use Rattle.std.proofs.lemmas.Bool.{ltb-true, false≢true}
 use Rattle.std.proofs.lemmas.List.{length-set}
 use Rattle.nv_alloc.specs.Block.{AreSized, BlockValue, numbers_of}
 use Rattle.nv_alloc.specs.FreeList.{FreeBlocks, is_home}
-use Rattle.nv_alloc.specs.Giving.{after_giving, after_offer, kept_of, takes}
+use Rattle.nv_alloc.specs.Giving.{after_giving, after_offer, not_taken, takes}
 use Rattle.nv_alloc.specs.Numbers.{times}
 use Rattle.nv_alloc.specs.Queue.{after_home}
 use Rattle.nv_alloc.specs.declared.hand.Hand.{Hand}
@@ -26,23 +26,23 @@ use Rattle.nv_core.proofs.Homes.{are_homes, none_home, starts_rise}
 
 pub all_given : (g : GeometryNumbers) (cpu : ℕ) (list : FreeBlocks) (bs : List BlockValue) → IsListOf g cpu list → AreSized g.block bs
     → ((n : ℕ) → times n (numbers_of bs) + times n (numbers_of list.blocks) ≤ 1) → AreGiven g cpu bs
-    → AreGiven g (cpu + 1) (kept_of list bs)
+    → AreGiven g (cpu + 1) (not_taken list bs)
 all_given g cpu list bs home sized once given = kept_is_given g cpu list bs home.start home.end home.size sized once given
 
 -- what is kept is of those that were offered
 pub kept_all : (P : BlockValue → Type 0) (list : FreeBlocks) (bs : List BlockValue) → AllByRecursion P bs
-    → AllByRecursion P (kept_of list bs)
+    → AllByRecursion P (not_taken list bs)
 kept_all P list [] all = tt
 kept_all P list (b ∷ bs) all = go (takes list b) (kept_all P (after_offer list b) bs all.1) where
-  go : (t : Bool) → AllByRecursion P (kept_of (after_offer list b) bs)
-      → AllByRecursion P ((if t then [] else b ∷ []) ++ kept_of (after_offer list b) bs)
+  go : (t : Bool) → AllByRecursion P (not_taken (after_offer list b) bs)
+      → AllByRecursion P ((if t then [] else b ∷ []) ++ not_taken (after_offer list b) bs)
   go true rest = rest
   go false rest = (all.0, rest)
 
 -- what the hand keeps, of all its blocks
-pub kept_in : (cpu : ℕ) (s : Shared) (h : HandState) → blocks_in (given cpu s h) ≡ kept_of (list_at s cpu) (blocks_in h)
+pub kept_in : (cpu : ℕ) (s : Shared) (h : HandState) → blocks_in (given cpu s h) ≡ not_taken (list_at s cpu) (blocks_in h)
 kept_in cpu s h = sym (kept_of-append (list_at s cpu) (h.blocks ++ h.pages) h.chain
-    ∙ ap (λ (l : List BlockValue). l ++ kept_of (after_giving (list_at s cpu) (h.blocks ++ h.pages)) h.chain)
+    ∙ ap (λ (l : List BlockValue). l ++ not_taken (after_giving (list_at s cpu) (h.blocks ++ h.pages)) h.chain)
     (kept_of-append (list_at s cpu) h.blocks h.pages))
 
 -- ---- the list that took them
@@ -156,7 +156,7 @@ same_there (l ∷ lists) (suc i) a b lt = same_there lists i a b (omega (arith, 
 -- the hand after it
 pub handed : (cpu : ℕ) (s : Shared) (old new : Hand) → new.data ≡ after_home (list_at s cpu) old.data
     → new.pages ≡ after_home (after_giving (list_at s cpu) old.data.blocks) old.pages
-    → new.chain ≡ kept_of (after_giving (list_at s cpu) (old.data.blocks ++ old.pages.blocks)) old.chain → new.ino ≡ old.ino
+    → new.chain ≡ not_taken (after_giving (list_at s cpu) (old.data.blocks ++ old.pages.blocks)) old.chain → new.ino ≡ old.ino
     → hand_of new ≡ given cpu s (hand_of old)
 handed cpu s old new front pages chain ino = rw (front, pages, chain, ino) refl
 

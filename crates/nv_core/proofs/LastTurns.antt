@@ -12,7 +12,7 @@ use Rattle.nv_core.specs.declared.next.Ending.TheVariants as ending
 
 -- it is to be answered, refused, was overtaken, or has cleaned
 abbrev pub IsPlain : Ending → Type 0
-IsPlain e = (e ≡ ending.Answers) ⊎ (((fault : Fault) × (e ≡ ending.Refuses fault)) ⊎ ((e ≡ ending.Overtaken) ⊎
+IsPlain e = (e ≡ ending.Answers) ⊎ (((fault : Fault) × (e ≡ ending.Refuses fault)) ⊎ ((e ≡ ending.BoundAnew) ⊎
     ((cleaned : Cleaned) × (e ≡ ending.Cleans cleaned))))
 
 plain_ends : (e : Ending) (r : machine.Running) (s : machine.Shared) (h : machine.HandState) → IsPlain e

@@ -30,7 +30,7 @@ use Rattle.nv_machine.specs.Frame.{lent_on}
 use Rattle.nv_machine.specs.Held.{killed_by_call, killed_in, killed_slots, parts_for, picked_at, picked_by_actor, picked_by_call}
 use Rattle.nv_machine.specs.Reads.{written_slots}
 use Rattle.nv_machine.specs.Reading.{ArePins, pins_at, pins_by_call, shows_of}
-use Rattle.nv_machine.specs.Recorded.{IsOfPair, is_kept, is_record_of}
+use Rattle.nv_machine.specs.Recorded.{IsOfPair, is_marked_kept, is_record_of}
 use Rattle.nv_machine.specs.Starts.{IsStart}
 use Rattle.nv_machine.specs.Step.{after}
 use Rattle.nv_machine.specs.World.{Actor, Compact, Draining, Drop, Event, Fresh, HandState, Judge, LockCleaned, LockPicked, Make, Next, Pick, Pin, Release, Running, Show, MaintenanceStep, Maintenance, Unlink, Unpin, World, actor_at, cell_at, idle, owner_at}
@@ -81,15 +81,15 @@ some_fails p (x ∷ xs) (suc i) d lt e =
 -- ---- marks
 
 -- what is marked kept is a part
-kept_there : (marks : List Mark) (n : ℕ) → is_kept (mark_at marks n) ≡ true → slice_get marks n ≡ Some Kept
+kept_there : (marks : List Mark) (n : ℕ) → is_marked_kept (mark_at marks n) ≡ true → slice_get marks n ≡ Some Kept
 kept_there marks n kept = elim (cases_lt n (length marks)) [
   | inl lt ↦ slice_get-get_or marks n Out lt ∙ ap (λ (m : Mark). Some m) (go (mark_at marks n) kept)
-  | inr ge ↦ absurd (out (sym (ap is_kept (get_or_past marks n Out ge)) ∙ kept))
+  | inr ge ↦ absurd (out (sym (ap is_marked_kept (get_or_past marks n Out ge)) ∙ kept))
 ] where
   out : false ≡ true → ⊥
   out e = cc
 
-  go : (m : Mark) → is_kept m ≡ true → m ≡ Kept
+  go : (m : Mark) → is_marked_kept m ≡ true → m ≡ Kept
   go Kept e = refl
   go Current e = cc
   go Killed e = cc
@@ -215,13 +215,13 @@ module _ (g : GeometryNumbers) (start : World) (records : List Record) (events :
     own_record = rw (self picked.ino, number_is) (self of_pair.n)
 
     -- it is one of the records of its part
-    recorded : is_kept (mark_at (cell picked.ino).marks of_pair.n) ≡ true
+    recorded : is_marked_kept (mark_at (cell picked.ino).marks of_pair.n) ≡ true
     recorded =
         let book = w.shared.book in
         let p : Record → Bool = is_record_of (cell picked.ino) picked.ino of_pair.n in
         let own : count p (picked_by_actor (actor_at w actor)) ≡ 1 =
         ap (λ (ds : List Record). count p ds) has_it ∙ ap (λ (b : Bool). length (cond b (picked ∷ []) [])) own_record in
-        bit_is (is_kept (mark_at (cell picked.ino).marks of_pair.n)) (omega (
+        bit_is (is_marked_kept (mark_at (cell picked.ino).marks of_pair.n)) (omega (
           arith,
           own,
           own_count picked_by_actor p w.actors actor (runs_inside w actor q is),

@@ -18,7 +18,7 @@ use Rattle.nv_machine.specs.Sequence.{publishing}
 use Rattle.nv_machine.specs.World as machine
 use Rattle.nv_machine.specs.World.{Publish, cell_at, go_to, with_book}
 use Rattle.nv_core.specs.Parts.{HaveSlots}
-use Rattle.nv_core.specs.Shown.{GhostCall, commit_next, hand_in, machine_step, shared_of, shown_commit, slots_in}
+use Rattle.nv_core.specs.Shown.{ShownCall, commit_next, hand_in, machine_step, shared_of, shown_commit, slots_in}
 use Rattle.nv_core.specs.GhostCalls.{IsCommitOf, IsOnItsWay}
 use Rattle.nv_core.specs.declared.running.Running.{Running}
 use Rattle.nv_core.specs.declared.shared.Shared.{Shared}
@@ -26,7 +26,7 @@ use Rattle.nv_calls.proofs.LentSlots.{lent_at}
 use Rattle.nv_core.proofs.Publishes.{state_there}
 
 -- what is told of the commit stays
-pub open_told : (slots : List ℕ) (old new : CommitValue) (cpu : ℕ) (tails : List OldTail) (told : GhostCall)
+pub open_told : (slots : List ℕ) (old new : CommitValue) (cpu : ℕ) (tails : List OldTail) (told : ShownCall)
     → new ≡ after_open cpu tails old → IsCommitOf slots old told → IsCommitOf slots new told
 open_told slots old new cpu tails told commit is =
     subst (λ (c : CommitValue). IsCommitOf slots c told) (sym commit) (record { number = is.number; epoch = is.epoch; plans = is.plans })
@@ -88,7 +88,7 @@ tails_same g f h (p ∷ plans) same =
     (tails_same g f h plans (λ j lt. same (suc j) (omega (arith, lt))))
 
 -- the machine's opening with the tails of all cells that get entries
-pub opens : (shared : Shared) (running : Running) (old : CommitValue) (told : GhostCall) (cpu : ℕ) → IsCommitOf (slots_in running.slots) old told
+pub opens : (shared : Shared) (running : Running) (old : CommitValue) (told : ShownCall) (cpu : ℕ) → IsCommitOf (slots_in running.slots) old told
     → HaveSlots shared.cells.items (slots_in running.slots)
     → ((j : ℕ) → j < length old.plans → (plan_at old.plans j).at < length (slots_in running.slots))
     → old.appended ≡ length old.plans → old.published ≡ 0 → 2 ≤ length old.plans

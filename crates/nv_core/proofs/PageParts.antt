@@ -11,7 +11,7 @@ use Rattle.nv_cell.proofs.Appending.{back_block}
 use Rattle.nv_cell.proofs.Numbers.{total_append}
 use Rattle.nv_cell.proofs.NamedParts.{place_there}
 use Rattle.nv_cell.specs.Cell.{CellState, block_named, log_of, page_block}
-use Rattle.nv_cell.specs.Named.{number_named, place_of}
+use Rattle.nv_cell.specs.Named.{number_named, place_of_part}
 use Rattle.nv_entry.proofs.Covering.{part_present}
 use Rattle.nv_entry.proofs.Refs.{follows, to_current}
 use Rattle.nv_entry.specs.Covered.{is_covered, part_count, part_key, part_total}
@@ -38,7 +38,7 @@ same_id-self : (id : EntryId) → is_same_id id id ≡ true
 same_id-self id = rw (eq-eqb id.commit id.commit refl, eq-eqb id.place id.place refl) refl
 
 named_behind : (before : List Entry) (e : Entry) (later : List Entry) (id : PartId) (n : ℕ) → IsLog (before ++ e ∷ later) → e.id ≡ id.entry
-    → place_of e.item id.part ≡ Some n → number_named (before ++ e ∷ later) id ≡ Some (part_total before + n)
+    → place_of_part e.item id.part ≡ Some n → number_named (before ++ e ∷ later) id ≡ Some (part_total before + n)
 named_behind [] e later id n is same place =
     let own : is_same_id e.id id.entry ≡ true = ap (λ (i : EntryId). is_same_id i id.entry) same ∙ same_id-self id.entry in
     let from_zero : 0 + n ≡ n = omega arith in
@@ -128,9 +128,9 @@ module _ (block : ℕ) (log : List Entry) (page : ℕ) (r : PartRef) (c : IsCurr
   here_uncovered : is_covered block (c.entry ∷ c.later) r.place ≡ false
   here_uncovered = rw (first, own_key) c.uncovered
 
-  part_place : place_of c.entry.item (part.Page page) ≡ Some r.place
+  part_place : place_of_part c.entry.item (part.Page page) ≡ Some r.place
   part_place =
-      ap (place_of c.entry.item) (sym (page_with c.entry.item c.part page c.key_is)) ∙ place_there c.entry.item r.place c.part c.place
+      ap (place_of_part c.entry.item) (sym (page_with c.entry.item c.part page c.key_is)) ∙ place_there c.entry.item r.place c.part c.place
 
   named_here : (more : List Entry) → IsLog (split ++ more)
       → number_named (split ++ more) (page_part page r.entry) ≡ Some (part_total c.before + r.place)

@@ -14,10 +14,10 @@ use Rattle.nv_core.proofs.Turns.{either}
 use Rattle.nv_core.specs.Appends.{IsPlacedBy}
 use Rattle.nv_core.proofs.Others.{others_stay}
 use Rattle.nv_core.specs.Frames.{LeavesCells}
-use Rattle.nv_core.specs.Shown.{GhostCall, hand_of, held_by, machine_step, next_of, shared_of, shown, shown_at, shown_by, slots_in, turn_of}
-use Rattle.nv_core.specs.GhostCalls.{IsEither, IsReservationOf, IsRequestOf, IsGhostCallOf, OwesAt, planned, told_by}
+use Rattle.nv_core.specs.Shown.{ShownCall, hand_of, held_by, machine_step, next_of, shared_of, shown, shown_at, shown_by, slots_in, turn_of}
+use Rattle.nv_core.specs.GhostCalls.{IsEither, IsReservationOf, IsRequestOf, IsShownCallOf, OwesAt, planned, shown_in}
 use Rattle.nv_core.specs.Turns.{IsTurn, LeavesOthers, ShowsAfter}
-use Rattle.nv_core.specs.Worlds.{ShowsCall, told_of}
+use Rattle.nv_core.specs.Worlds.{ShowsCall, shown_call_of}
 use Rattle.nv_core.specs.declared.reservation.Reservation.{Reservation}
 use Rattle.nv_core.specs.declared.reservation.Reservation.TheVariants as reserved
 use Rattle.nv_core.specs.declared.request.Request.{Request}
@@ -31,36 +31,36 @@ use Rattle.nv_core.specs.declared.turn.Turn.{Turn}
 use Rattle.nv_core.specs.declared.turn.Turn.TheVariants as result
 
 -- what is told is what is shown
-told_back : (h : Reservation) (told : GhostCall) (running : Running) → told_of (shown_by h told running) ≡ told
+told_back : (h : Reservation) (told : ShownCall) (running : Running) → shown_call_of (shown_by h told running) ≡ told
 told_back (reserved.Hand hand) told running = refl
 told_back (reserved.Ready ready) told running = refl
 told_back (reserved.Commit commit) told running = refl
 
-shows_call : (h : Reservation) (after : Running) (told : GhostCall) → IsGhostCallOf after told → IsReservationOf (slots_in after.slots) h told
+shows_call : (h : Reservation) (after : Running) (told : ShownCall) → IsShownCallOf after told → IsReservationOf (slots_in after.slots) h told
     → IsPlacedBy (slots_in after.slots) h told → ShowsCall h after (shown_by h told after)
 shows_call h after told is of placed =
     let back = told_back h told after in
     record {
-      shown = ap (λ (t : GhostCall). shown_by h t after) back;
-      request = subst (λ (t : GhostCall). IsGhostCallOf after t) (sym back) is;
-      plan = subst (λ (t : GhostCall). IsReservationOf (slots_in after.slots) h t) (sym back) of;
-      place = subst (λ (t : GhostCall). IsPlacedBy (slots_in after.slots) h t) (sym back) placed;
+      shown = ap (λ (t : ShownCall). shown_by h t after) back;
+      request = subst (λ (t : ShownCall). IsShownCallOf after t) (sym back) is;
+      plan = subst (λ (t : ShownCall). IsReservationOf (slots_in after.slots) h t) (sym back) of;
+      place = subst (λ (t : ShownCall). IsPlacedBy (slots_in after.slots) h t) (sym back) placed;
     }
 
-pub shows_hold : (t : Turn) (h : Reservation) (after : Running) (told : GhostCall) → IsGhostCallOf after told → IsReservationOf (slots_in after.slots) h told
+pub shows_hold : (t : Turn) (h : Reservation) (after : Running) (told : ShownCall) → IsShownCallOf after told → IsReservationOf (slots_in after.slots) h told
     → IsPlacedBy (slots_in after.slots) h told → ShowsAfter t h after (shown_by h told after)
 shows_hold result.Moves h after told is of placed = shows_call h after told is of placed
 shows_hold result.Waits h after told is of placed = shows_call h after told is of placed
 shows_hold (result.Ends answer) h after told is of placed = tt
 
 -- a plan is told of what is ready, and a commit of what enters
-call_planned : (h : Reservation) (block : ℕ) (s : machine.Shared) (hand : machine.HandState) (r : machine.Running) (told : GhostCall) (after : Running)
-    → IsGhostCallOf after told → IsGhostCallOf after (planned h block s hand r told)
+call_planned : (h : Reservation) (block : ℕ) (s : machine.Shared) (hand : machine.HandState) (r : machine.Running) (told : ShownCall) (after : Running)
+    → IsShownCallOf after told → IsShownCallOf after (planned h block s hand r told)
 call_planned (reserved.Hand h) block s hand r told after is = is
 call_planned (reserved.Ready ready) block s hand r told after is = is
 call_planned (reserved.Commit commit) block s hand r told after is = is
 
-call_entered : (h : Reservation) (book : BookState) (told : GhostCall) (after : Running) → IsGhostCallOf after told → IsGhostCallOf after (told_by h book told)
+call_entered : (h : Reservation) (book : BookState) (told : ShownCall) (after : Running) → IsShownCallOf after told → IsShownCallOf after (shown_in h book told)
 call_entered (reserved.Hand hand) book told after is = is
 call_entered (reserved.Ready ready) book told after is = is
 call_entered (reserved.Commit commit) book told after is = is
@@ -69,8 +69,8 @@ call_entered (reserved.Commit commit) book told after is = is
 
 pub turns_ready : (actor : ℕ) (shared : Shared) (hand : Hand) (running : Running) (r : machine.Running) (done : Reservation × Turn)
     (shared_after : Shared) (after : Running) → running.next ≡ next.Ready → ShowsCall (reserved.Hand hand) running r
-    → after.slots ≡ running.slots → ((told : GhostCall) → IsGhostCallOf running told → IsGhostCallOf after told)
-    → ((told : GhostCall) → IsGhostCallOf running told → let t = planned done.0 shared.geometry.numbers.block (shared_of shared) (hand_of hand)
+    → after.slots ≡ running.slots → ((told : ShownCall) → IsShownCallOf running told → IsShownCallOf after told)
+    → ((told : ShownCall) → IsShownCallOf running told → let t = planned done.0 shared.geometry.numbers.block (shared_of shared) (hand_of hand)
     (shown told running) told in
     IsEither (λ granted. kind_turn machine.Ready shared.geometry.numbers.block actor granted (shared_of shared) (hand_of hand)
     (shown told running))
@@ -78,7 +78,7 @@ pub turns_ready : (actor : ℕ) (shared : Shared) (hand : Hand) (running : Runni
     × IsReservationOf (slots_in running.slots) done.0 t × IsPlacedBy (slots_in running.slots) done.0 t)
     → IsTurn actor shared (reserved.Hand hand) r done.1 shared_after done.0 after
 turns_ready actor shared hand running r done shared_after after here shows same keeps by =
-    let told = told_of r in
+    let told = shown_call_of r in
     let block = shared.geometry.numbers.block in
     let t = planned done.0 block (shared_of shared) (hand_of hand) (shown told running) told in
     let all = by told shows.request in
@@ -100,19 +100,19 @@ turns_ready actor shared hand running r done shared_after after here shows same 
 
 pub turns_enter : (actor : ℕ) (shared : Shared) (ready : ReadyValue) (running : Running) (r : machine.Running) (done : Reservation × Turn)
     (shared_after : Shared) (after : Running) → ShowsCall (reserved.Ready ready) running r → after.slots ≡ running.slots
-    → ((told : GhostCall) → IsGhostCallOf running told → IsGhostCallOf after told)
-    → ((told : GhostCall) → IsReservationOf (slots_in running.slots) (reserved.Ready ready) told
+    → ((told : ShownCall) → IsShownCallOf running told → IsShownCallOf after told)
+    → ((told : ShownCall) → IsReservationOf (slots_in running.slots) (reserved.Ready ready) told
     → IsPlacedBy (slots_in running.slots) (reserved.Ready ready) told
-    → let t = told_by done.0 shared.book.state told in
+    → let t = shown_in done.0 shared.book.state told in
     IsEither (λ granted. kind_turn machine.Enter shared.geometry.numbers.block actor granted (shared_of shared) (hand_of ready.hand)
     (shown_by (reserved.Ready ready) told running))
     (turn_of done.1 (shared_of shared_after) (held_by done.0) (shown_by done.0 t after))
     × IsReservationOf (slots_in running.slots) done.0 t × IsPlacedBy (slots_in running.slots) done.0 t)
     → IsTurn actor shared (reserved.Ready ready) r done.1 shared_after done.0 after
 turns_enter actor shared ready running r done shared_after after shows same keeps by =
-    let told = told_of r in
+    let told = shown_call_of r in
     let block = shared.geometry.numbers.block in
-    let t = told_by done.0 shared.book.state told in
+    let t = shown_in done.0 shared.book.state told in
     let all = by told shows.plan shows.place in
     let one = either (λ granted. kind_turn machine.Enter block actor granted (shared_of shared) (hand_of ready.hand)
     (shown_by (reserved.Ready ready) told running))
@@ -130,13 +130,13 @@ turns_enter actor shared ready running r done shared_after after shows same keep
 
 pub turns_leave : (actor : ℕ) (shared : Shared) (commit : CommitValue) (running : Running) (r : machine.Running) (done : Hand × Turn)
     (shared_after : Shared) (after : Running) → step_of commit ≡ step.Leave → ShowsCall (reserved.Commit commit) running r
-    → ((told : GhostCall) → IsGhostCallOf running told → IsGhostCallOf after told)
-    → ((told : GhostCall) → IsGhostCallOf running told
+    → ((told : ShownCall) → IsShownCallOf running told → IsShownCallOf after told)
+    → ((told : ShownCall) → IsShownCallOf running told
     → kind_turn machine.Leave shared.geometry.numbers.block actor true (shared_of shared) (held_by (reserved.Commit commit))
     (shown_at machine.Leave told running) ≡ turn_of done.1 (shared_of shared_after) (hand_of done.0) (shown told after))
     → IsTurn actor shared (reserved.Commit commit) r done.1 shared_after (reserved.Hand done.0) after
 turns_leave actor shared commit running r done shared_after after here shows keeps by =
-    let told = told_of r in
+    let told = shown_call_of r in
     let block = shared.geometry.numbers.block in
     record {
       granted = true;
@@ -170,5 +170,5 @@ rest_ready actor old new running r hand here shows leaves book =
     }
 
 -- what a call is owed whose commit has its request
-pub owes_given : (running : Running) (told : GhostCall) → running.request ≡ request.Given → IsGhostCallOf running told → OwesAt running.ending running told
+pub owes_given : (running : Running) (told : ShownCall) → running.request ≡ request.Given → IsShownCallOf running told → OwesAt running.ending running told
 owes_given running told given is answers = subst (λ (j : Request). IsRequestOf j running.owed told.call) given is

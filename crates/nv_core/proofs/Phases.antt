@@ -10,7 +10,7 @@ use Rattle.nv_journal.specs.declared.old_tail.OldTail.{OldTail}
 use Rattle.nv_calls.specs.CanCommit.{CanBePublished, CanCommit, CanRetireAll, KillsAsTold}
 use Rattle.nv_calls.specs.Cells.{AreCells, state_at, value_at, with_value}
 use Rattle.nv_calls.specs.Commit.{CommitValue, HasJournal, after_append, after_close, after_open, begun, stamp_of, to_append}
-use Rattle.nv_calls.specs.Committed.{ChangesPlanned, HaveAppendRoom, HaveSamePlaces, grown, journaled, place_of}
+use Rattle.nv_calls.specs.Committed.{ChangesPlanned, HaveAppendRoom, HaveSamePlaces, grown, journaled, cell_place_of}
 use Rattle.nv_calls.specs.PlanByPlan.{AppendsTo, PublishesTo, published_of}
 use Rattle.nv_calls.specs.Progress.{is_open}
 use Rattle.nv_calls.specs.Ready.{ArePlaced, CellCommitValue, ReadyValue, old_tails, plan_at}
@@ -184,9 +184,9 @@ module _ (b : Begin) (cpu : ℕ) (can : CanCommit b.cells b.shelf cpu b.ready) (
   pub start_placed : ArePlaced full start.plans
   start_placed = subst (ArePlaced full) (sym start_plans) plans_placed
 
-  pub start_can : (i : ℕ) → i < length start.plans → CanBePublished (value_at full (place_of start.plans i))
+  pub start_can : (i : ℕ) → i < length start.plans → CanBePublished (value_at full (cell_place_of start.plans i))
   start_can =
-      subst (λ (ps : List CellCommitValue). (i : ℕ) → i < length ps → CanBePublished (value_at full (place_of ps i))) (sym start_plans)
+      subst (λ (ps : List CellCommitValue). (i : ℕ) → i < length ps → CanBePublished (value_at full (cell_place_of ps i))) (sym start_plans)
       (can_publish b.cells b.shelf cpu b.ready can full appended are)
 
   -- the journal of two or more is open, with their tails
@@ -273,14 +273,14 @@ module _ (b : Begin) (cpu : ℕ) (can : CanCommit b.cells b.shelf cpu b.ready) (
     pub own : ArePublished b.cells b.shelf cpu b.ready can full appended are over shut
     own =
         published_by b.cells b.shelf cpu b.ready can full appended are over shut
-        (subst (λ (ps : List CellCommitValue). ChangesPlanned ps (λ j. published (state_at full (place_of ps j))) full over) start_plans
+        (subst (λ (ps : List CellCommitValue). ChangesPlanned ps (λ j. published (state_at full (cell_place_of ps j))) full over) start_plans
         (all_changed (length b.ready.plans) start.plans (published_of full start) full over (omega (arith, start_many)) done.changed))
-        (subst (λ (ps : List CellCommitValue). HaveAppendRoom ps (λ j. (value_at full (place_of ps j)).room) over) start_plans
+        (subst (λ (ps : List CellCommitValue). HaveAppendRoom ps (λ j. (value_at full (cell_place_of ps j)).room) over) start_plans
         (λ j lt. done.kept j (omega (arith, lt, start_many))))
         (subst (λ (ps : List CellCommitValue). (j : ℕ) → j < length ps → (plan_at last.plans j).killed ≡ killed_by
-        (state_at full (place_of ps j)))
+        (state_at full (cell_place_of ps j)))
         start_plans (λ j lt. done.killed j (omega (arith, lt, start_many))))
-        (subst (λ (ps : List CellCommitValue). (j : ℕ) → j < length ps → KillsAsTold (state_at full (place_of ps j)))
+        (subst (λ (ps : List CellCommitValue). (j : ℕ) → j < length ps → KillsAsTold (state_at full (cell_place_of ps j)))
         start_plans (λ j lt. done.told j (omega (arith, lt, start_many))))
         (subst (λ (ps : List CellCommitValue). HaveSamePlaces ps last.plans) start_plans done.plans.same)
         shut_is

@@ -12,8 +12,8 @@ use Rattle.nv_calls.specs.Locked.{Agree, handles}
 use Rattle.nv_calls.specs.Nodes.{block_in, has_page_in, nodes_in}
 use Rattle.nv_calls.specs.PagesWanted as wanted
 use Rattle.nv_calls.specs.Plain.{PlainNode, node_in}
-use Rattle.nv_calls.specs.Plan.{runs_of}
-use Rattle.nv_calls.specs.Prepared.{made_by, makes, no_handle, planned_by, taken_by}
+use Rattle.nv_calls.specs.Plan.{block_runs_of}
+use Rattle.nv_calls.specs.Prepared.{handle_made_by, makes, no_handle, planned_by, taken_by}
 use Rattle.nv_calls.specs.SlotCells.{lent_cells}
 use Rattle.nv_calls.specs.Slots.{items_for}
 use Rattle.nv_calls.specs.Updates.{SamePlan, blank_call, call_of, text_len}
@@ -103,9 +103,9 @@ plan_taken block n one other (update.Rename from old to new) runs made = refl
 pub planned_same : (shared : Shared) (slots : List ℕ) (hand : Hand) (u : Update) (text : List ℕ) (made : Handle)
     → CanRead shared slots (handles (looked (copies (shared_of shared)) (call_of u text)) (call_of u text)) → 0 < length slots
     → text_len u ≡ length text
-    → (makes u ≡ true → made ≡ unwrap_or (made_by (lent_cells slots shared.cells.items) hand.ino u) no_handle)
+    → (makes u ≡ true → made ≡ unwrap_or (handle_made_by (lent_cells slots shared.cells.items) hand.ino u) no_handle)
     → plan shared.geometry.numbers.block (copies (shared_of shared))
-    (record { made = made; runs = runs_of (numbers_of hand.«data».blocks) }) (call_of u text)
+    (record { made = made; runs = block_runs_of (numbers_of hand.«data».blocks) }) (call_of u text)
     ≡ planned_by (lent_cells slots shared.cells.items) hand u
 planned_same shared slots hand u text made can some len is =
     with_blank.plan
@@ -119,7 +119,7 @@ planned_same shared slots hand u text made can some len is =
       lent = lent_cells slots shared.cells.items
 
       taken : Allocation
-      taken = record { made = made; runs = runs_of (numbers_of hand.«data».blocks) }
+      taken = record { made = made; runs = block_runs_of (numbers_of hand.«data».blocks) }
 
       with_blank : SamePlan block (copies (shared_of shared)) (has_page_in lent) taken (blank_call u) (call_of u text)
       with_blank = same_plan block (copies (shared_of shared)) (has_page_in lent) taken u text (sym len)

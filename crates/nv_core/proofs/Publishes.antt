@@ -14,7 +14,7 @@ use Rattle.nv_machine.specs.Reads.{slot_at, written_slots}
 use Rattle.nv_machine.specs.Sequence.{publishing}
 use Rattle.nv_machine.specs.World as machine
 use Rattle.nv_machine.specs.World.{cell_at, go_to, no_cell as machine_none, with_cell}
-use Rattle.nv_core.specs.Shown.{GhostCall, commit_next, hand_in, hand_with, shared_of, shown_commit, slots_in}
+use Rattle.nv_core.specs.Shown.{ShownCall, commit_next, hand_in, hand_with, shared_of, shown_commit, slots_in}
 use Rattle.nv_core.specs.GhostCalls.{IsCommitOf, IsOnItsWay}
 use Rattle.nv_core.specs.declared.running.Running.{Running}
 use Rattle.nv_core.specs.declared.shared.Shared.{Shared}
@@ -56,7 +56,7 @@ same_ats slots (p ∷ plans) zero killed = refl
 same_ats slots (p ∷ plans) (suc j) killed = ap (λ (rest : List ℕ). slot_at slots p.at ∷ rest) (same_ats slots plans j killed)
 
 -- the machine's publish of the cell that the commit publishes
-pub publishes : (shared : Shared) (running : Running) (old new : CommitValue) (cells : List CellValue) (told : GhostCall) (i : ℕ)
+pub publishes : (shared : Shared) (running : Running) (old new : CommitValue) (cells : List CellValue) (told : ShownCall) (i : ℕ)
     → IsCommitOf (slots_in running.slots) old told → IsOnItsWay old → old.published < length old.plans → old.appended ≡ length old.plans
     → (2 ≤ length old.plans → (is_open old) ≡ true) → i ≡ slot_at (slots_in running.slots) (to_publish old).at
     → i < length shared.cells.items
@@ -119,7 +119,7 @@ publishes shared running old new cells told i is way lt appended journal place t
       go false q = refl
 
 -- what is told of the commit stays
-pub publish_told : (slots : List ℕ) (old new : CommitValue) (killed : List KilledPart) (told : GhostCall) → old.appended ≡ length old.plans
+pub publish_told : (slots : List ℕ) (old new : CommitValue) (killed : List KilledPart) (told : ShownCall) → old.appended ≡ length old.plans
     → new ≡ after_publish killed old → IsCommitOf slots old told → IsCommitOf slots new told
 publish_told slots old new killed told appended commit is =
     let many : length (slice_set old.plans old.published (record

@@ -8,14 +8,14 @@ use Rattle.nv_alloc.specs.Numbers.{has}
 use Rattle.nv_calls.proofs.Places.{placed}
 use Rattle.nv_calls.proofs.PlannedAlike.{few_apart_by, found_for, items_are, placed_by}
 use Rattle.nv_calls.specs.Cells.{ino_at, no_cell}
-use Rattle.nv_calls.specs.Committed.{place_of}
+use Rattle.nv_calls.specs.Committed.{cell_place_of}
 use Rattle.nv_calls.specs.Slots.{items_for}
 use Rattle.nv_calls.specs.SlotCells.{cell_in, lent_cells, other_cells}
 use Rattle.nv_calls.specs.declared.plan.Plan.{Plan}
 use Rattle.nv_calls.specs.declared.plan.InodePlan.{InodePlan}
 use Rattle.nv_entry.specs.declared.item.Item.{Item}
 use Rattle.nv_calls.specs.AllCalls.{plan}
-use Rattle.nv_calls.specs.Plan.{runs_of}
+use Rattle.nv_calls.specs.Plan.{block_runs_of}
 use Rattle.nv_calls.specs.declared.call.Call.{Call}
 use Rattle.nv_machine.specs.Reads.{copies, is_written, plan_by, slot_at}
 use Rattle.nv_machine.specs.World as machine
@@ -25,7 +25,7 @@ use Rattle.nv_core.proofs.Takes.{plan_same}
 use Rattle.nv_core.proofs.Takings.{takes_at}
 use Rattle.nv_core.specs.Appends.{IsPlanOf}
 use Rattle.nv_core.specs.Rooms.{HasMade, HasRooms, HasTaken, IsChecked, IsHandOf}
-use Rattle.nv_core.specs.GhostCalls.{ArePlansOf, IsChangeWith, IsRequestOf, IsGhostCallOf}
+use Rattle.nv_core.specs.GhostCalls.{ArePlansOf, IsChangeWith, IsRequestOf, IsShownCallOf}
 use Rattle.nv_core.specs.declared.reservation.Reservation.TheVariants as reserved
 use Rattle.nv_core.specs.declared.request.Request.{Request}
 use Rattle.nv_core.specs.declared.request.Request.TheVariants as request
@@ -51,7 +51,7 @@ use Rattle.nv_base.specs.declared.fault.Fault.TheVariants.{Read}
 use Rattle.std.specs.Prelude.{◌⊎◌, IfErr, IfOk, Result, Ok, Err}
 use Rattle.std.specs.Vec.{with_items}
 use Rattle.nv_core.specs.Readied.{filled_hand}
-use Rattle.nv_core.specs.Shown.{GhostCall, hand_of, shared_of, shown, slots_in}
+use Rattle.nv_core.specs.Shown.{ShownCall, hand_of, shared_of, shown, slots_in}
 
 -- ---- the hand
 
@@ -185,7 +185,7 @@ plans_ready slots all now hand u ready plan can is same =
       written = written_from by slots all 0 slots (λ k lt. let place : 0 + k ≡ k = omega arith in ap (slot_at slots) place);
       items = λ j le lt.
           items_are by lent j lt
-          ∙ ap (items_for by) (number_lent slots all (place_of (plans_by lent hand u) j)
+          ∙ ap (items_for by) (number_lent slots all (cell_place_of (plans_by lent hand u) j)
           (omega (arith, (placed_by lent hand u can).within j lt, length-map {B = ℕ × CellValue} slots (λ (n : ℕ). (n, cell_in all n)))));
     }))
 
@@ -198,7 +198,7 @@ placed_ready slots all hand u plan can same =
       placed = placed (planned_by lent hand u) (few_apart_by lent hand u can).apart;
       within = λ ino is.
           let f = found_for lent hand u can ino (ltb-true 0 (length (items_for (planned_by lent hand u) ino)) is) in
-          let k = place_of (plans_by lent hand u) f.0 in
+          let k = cell_place_of (plans_by lent hand u) f.0 in
           let lt : k < length slots =
           omega (arith, (placed_by lent hand u can).within f.0 f.1, length-map {B = ℕ × CellValue} slots (λ (n : ℕ). (n, cell_in all n))) in
           list_any_at (λ m. m == ino) slots k 0 lt (eq-eqb (slot_at slots k) ino (sym (number_lent slots all k lt) ∙ f.2));
@@ -206,8 +206,8 @@ placed_ready slots all hand u plan can same =
 
 -- ---- the machine's plan
 
-pub plan_ready : (shared : Shared) (hand : Hand) (running : Running) (told : GhostCall) (by : Plan) (text : List ℕ)
-    → running.request ≡ request.Change by text → IsGhostCallOf running told → let slots = slots_in running.slots in
+pub plan_ready : (shared : Shared) (hand : Hand) (running : Running) (told : ShownCall) (by : Plan) (text : List ℕ)
+    → running.request ≡ request.Change by text → IsShownCallOf running told → let slots = slots_in running.slots in
     HasMade shared slots hand running.made by.update → IsChecked shared slots hand running.looked by.update
     → plan_by shared.geometry.numbers.block (shared_of shared) (hand_of hand) (shown told running)
     ≡ planned_by (lent_cells slots shared.cells.items) hand by.update
@@ -215,7 +215,7 @@ plan_ready shared hand running told by text at is made checked =
     let block = shared.geometry.numbers.block in
     let s = shared_of shared in
     let of = subst (λ (j : Request). IsRequestOf j running.owed told.call) at is in
-    ap (λ (c : Call). plan block (copies s) (record { made = running.made; runs = runs_of (numbers_of hand.«data».blocks) }) c) of.0
+    ap (λ (c : Call). plan block (copies s) (record { made = running.made; runs = block_runs_of (numbers_of hand.«data».blocks) }) c) of.0
     ∙ plan_same shared (slots_in running.slots) hand running.looked by.update text running.made checked made of.1
 
 -- ---- the bytes of its pages

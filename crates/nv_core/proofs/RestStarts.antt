@@ -8,7 +8,7 @@ use Rattle.std.proofs.lemmas.List.Sums.{length-filter}
 use Rattle.nv_base.specs.declared.geometry.GeometryNumbers.{GeometryNumbers}
 use Rattle.nv_audit.specs.KeptParts as audit
 use Rattle.nv_audit.specs.KeptParts.{IsRecordOf, records_in}
-use Rattle.nv_audit.specs.LogShape.{IsNoLater}
+use Rattle.nv_audit.specs.LogShape.{IsHeldLawful, IsNoLater}
 use Rattle.nv_audit.specs.PartLists.{is_same, times}
 use Rattle.nv_audit.specs.Records.{IsRecorded, inode_part, is_owed, owed_from, part_in, recorded_as, states_of}
 use Rattle.nv_audit.specs.Resting.{AreAtRest, IsOfPast}
@@ -42,7 +42,7 @@ use Rattle.nv_journal.specs.declared.old_tail.OldTail.{OldTail}
 use Rattle.nv_machine.specs.Held.{is_of_slot, picked_by_actor}
 use Rattle.nv_machine.specs.Order.{AreLogsOrdered}
 use Rattle.nv_machine.specs.Reading.{ArePins}
-use Rattle.nv_machine.specs.Recorded.{AreRecordedOnce, IsOfPair, is_kept, is_record_of, recorded_in}
+use Rattle.nv_machine.specs.Recorded.{AreRecordedOnce, IsOfPair, is_marked_kept, is_record_of, recorded_in}
 use Rattle.nv_machine.specs.Starts.{IsStart}
 use Rattle.nv_machine.specs.World.{Shared, World, cell_at, idle, no_cell}
 use Rattle.nv_machine.proofs.EachElement.{all_append, all_weaker}
@@ -54,7 +54,8 @@ use Rattle.nv_core.specs.AtRest.{at_rest}
 use Rattle.nv_core.specs.declared.parts.Parts.{Parts}
 use Rattle.nv_core.proofs.AuditCounts.{count_below, count_filter, count_none, no_pass}
 use Rattle.nv_core.proofs.AuditRecords.{both, by_records, in_pairs, owed_at, recorded}
-use Rattle.nv_restart.proofs.JudgedLogs.{all_shaped, all_sound}
+use Rattle.nv_restart.specs.Stops.{AreHeldLawful, MayStop}
+use Rattle.nv_restart.proofs.JudgedLogs.{all_shaped, all_sound, settled_is}
 use Rattle.nv_restart.proofs.JudgedNodes.{tree_at, tree_now}
 use Rattle.nv_core.proofs.RestingParts.{rest_early, rest_erased, rest_lists, rest_once, rest_pages, rest_pool, rest_sizes}
 
@@ -102,7 +103,7 @@ pub no_picks : (k : ℕ) → flat_map picked_by_actor (replicate k idle) ≡ []
 no_picks zero = refl
 no_picks (suc k) = no_picks k
 
-pub kept_same : (m : Mark) → audit.is_kept m ≡ is_kept m
+pub kept_same : (m : Mark) → audit.is_marked_as_kept m ≡ is_marked_kept m
 kept_same Current = refl
 kept_same Killed = refl
 kept_same Kept = refl
@@ -200,7 +201,7 @@ module _ (parts : Parts)
 
   once : AreRecordedOnce w
   once ino n =
-      at_slot (λ (c : CellState). count (is_record_of c ino n) (recorded_in w) ≡ bit (is_kept (mark_at c.marks n))) ino
+      at_slot (λ (c : CellState). count (is_record_of c ino n) (recorded_in w) ≡ bit (is_marked_kept (mark_at c.marks n))) ino
       none there where
         never : (d : Record) → (is_of_slot ino d && false) ≡ false
         never d = go (is_of_slot ino d) where
@@ -214,7 +215,7 @@ module _ (parts : Parts)
             (λ k d lt. never (slice_index_or (recorded_in w) k d)))
 
         there : ino < length s.cells
-            → count (is_record_of (cell_at s ino) ino n) (recorded_in w) ≡ bit (is_kept (mark_at (cell_at s ino).marks n))
+            → count (is_record_of (cell_at s ino) ino n) (recorded_in w) ≡ bit (is_marked_kept (mark_at (cell_at s ino).marks n))
         there lt =
             ap (count (is_record_of (cell_at s ino) ino n)) listed_as
             ∙ sym (count_filter (audit.is_record_at (log_of (cell_at s ino)) n) (audit.is_of_slot ino) records)
@@ -256,7 +257,7 @@ module _ (parts : Parts)
         let few : count (recorded t part) records ≤ count (is_record_of cell ino n) records =
         count_below (recorded t part) (is_record_of cell ino n) records (filed t) in
         let none : count (is_record_of cell ino n) records ≡ 0 =
-        ap (count (is_record_of cell ino n)) (sym listed_as) ∙ once ino n ∙ ap (λ (m : Mark). bit (is_kept m)) gone in
+        ap (count (is_record_of cell ino n)) (sym listed_as) ∙ once ino n ∙ ap (λ (m : Mark). bit (is_marked_kept m)) gone in
         omega (arith, all, few, none)
 
     abbrev is_due : ℕ → Pair → Bool
@@ -299,7 +300,7 @@ module _ (parts : Parts)
   shaped ino lt =
       let few : ino < g.inodes = omega (arith, lt, are.device.slots.count) in
       subst (λ (block : ℕ). IsLeftShaped block (log_of (cell_at s ino))) (rest_sizes parts are.device.slots ino few)
-      (are.inodes ino no_cell lt).names
+      (are.inodes ino no_cell lt).names.shape
 
   pub starts : IsStart g w records
   starts = let least : 0 ≤ book.commit = omega arith in record {
@@ -343,8 +344,29 @@ module _ (parts : Parts)
         (λ lt. (of_past ino lt).alive n);
     out = out;
     shaped = all_shaped g.block s closed shaped;
-    sound = all_sound g.blocks w closed (rest_once parts are.device.once) one_cell (λ ino lt. (are.inodes ino no_cell lt).names)
+    sound = all_sound g.blocks w closed (rest_once parts are.device.once) one_cell (λ ino lt. (are.inodes ino no_cell lt).names.shape)
         (λ ino lt. (are.inodes ino no_cell lt).index.ends);
     tree = tree_now s closed are.trees;
     copies = λ snapshot. tree_at s closed are.trees snapshot;
+  }
+
+  -- ---- a stop
+
+  held_lawful : AreHeldLawful g.block s
+  held_lawful ino =
+      subst (IsHeldLawful g.block (ids book.snaps)) (sym (settled_is s ino closed))
+      (at_slot (λ (c : CellState). IsHeldLawful g.block (ids book.snaps) (log_of c)) ino (λ held. tt) (λ lt.
+      let few : ino < g.inodes = omega (arith, lt, are.device.slots.count) in
+      subst (λ (block : ℕ). IsHeldLawful block (ids book.snaps) (log_of (cell_at s ino))) (rest_sizes parts are.device.slots ino few)
+      (are.inodes ino no_cell lt).names.held))
+
+  pub may_stop : MayStop g.block s
+  may_stop = record {
+    snapshots = record {
+      few = are.records.whole.snaps.fits;
+      some = are.records.whole.snaps.some_epoch;
+      most = are.records.whole.snaps.epoch_fits;
+    };
+    generations = λ ino lt. (are.device.slots.each ino no_cell lt).range;
+    held = held_lawful;
   }

@@ -26,7 +26,7 @@ use Rattle.nv_machine.specs.Sequence.{retiring}
 use Rattle.nv_machine.specs.World as machine
 use Rattle.nv_machine.specs.World.{Leave, Retire, cell_at, go_to, with_book, with_cell}
 use Rattle.nv_core.proofs.Publishes.{state_there, states_set}
-use Rattle.nv_core.specs.Shown.{GhostCall, commit_next, hand_in, hand_with, killed_in, machine_step, shared_of, shown_commit, slots_in}
+use Rattle.nv_core.specs.Shown.{ShownCall, commit_next, hand_in, hand_with, killed_in, machine_step, shared_of, shown_commit, slots_in}
 use Rattle.nv_core.specs.GhostCalls.{IsCommitOf, IsOnItsWay}
 use Rattle.nv_base.specs.declared.geometry.GeometryNumbers.{GeometryNumbers}
 use Rattle.nv_core.specs.Rooms.{IsHandOf}
@@ -118,7 +118,7 @@ same_ats slots (p ∷ plans) zero killed = refl
 same_ats slots (p ∷ plans) (suc j) killed = ap (λ (rest : List ℕ). slot_at slots p.at ∷ rest) (same_ats slots plans j killed)
 
 -- what is told of the commit stays
-pub retire_told : (slots : List ℕ) (old new : CommitValue) (living : List ℕ) (ino : ℕ) (cell : CellState) (told : GhostCall)
+pub retire_told : (slots : List ℕ) (old new : CommitValue) (living : List ℕ) (ino : ℕ) (cell : CellState) (told : ShownCall)
     → old.appended ≡ length old.plans → new ≡ after_retire living ino cell old → IsCommitOf slots old told → IsCommitOf slots new told
 retire_told slots old new living ino cell told appended commit is =
     let many : length (slice_set old.plans old.retired (record (to_retire old) { killed = [] })) ≡ length old.plans =
@@ -177,7 +177,7 @@ no_chain living ino epoch killed hand cell can erased =
     empty [] q = refl
     empty (b ∷ blocks) q = absurd (omega (arith, q))
 
-pub retires : (shared : Shared) (running : Running) (old new : CommitValue) (book : BookValue) (cells : List CellValue) (told : GhostCall)
+pub retires : (shared : Shared) (running : Running) (old new : CommitValue) (book : BookValue) (cells : List CellValue) (told : ShownCall)
     (i : ℕ)
     → IsCommitOf (slots_in running.slots) old told → old.appended ≡ length old.plans → old.retired < length old.plans
     → old.published ≡ length old.plans → is_open old ≡ false

@@ -41,7 +41,7 @@ use Rattle.nv_epoch.specs.Holders as holders
 use Rattle.nv_epoch.specs.Holders.{last_that, youngest_holder}
 use Rattle.nv_epoch.specs.SnapList.{ids}
 use Rattle.nv_machine.specs.Held.{is_of_slot, killed_in, pending_in}
-use Rattle.nv_machine.specs.Recorded.{IsOfPair, is_kept, recorded_in, records_after}
+use Rattle.nv_machine.specs.Recorded.{IsOfPair, is_marked_kept, recorded_in, records_after}
 use Rattle.nv_machine.specs.Scanned.{all_pages_that, pages_that, scanned_data, scanned_pending}
 use Rattle.nv_machine.specs.Starts.{IsStart}
 use Rattle.nv_machine.specs.Step.{after}
@@ -64,7 +64,7 @@ use Rattle.nv_core.proofs.Kept.{length_births, none_past}
 use Rattle.nv_core.proofs.ScannedRecords.{and_true, page_records, pages_by_slot, pairs_in}
 use Rattle.nv_core.proofs.SumsTo.{sum_both, sum_first, sum_list, sum_none, sum_same, sum_to}
 use Rattle.nv_core.specs.Reports as reports
-use Rattle.nv_core.specs.Reports.{births, kept_among, kept_in, kept_of, one_of}
+use Rattle.nv_core.specs.Reports.{births, kept_among, kept_in, data_kept, one_of}
 
 -- ---- what an entry says of a part, by its pair
 
@@ -146,7 +146,7 @@ second_false true b e = absurd (true≢false e)
 second_false false b e = e
 
 module _ (book : BookState) (birth : ℕ) (block : Option BlockValue) where
-  by_mark : (m : Mark) (page current held filed pend : Bool) → current ≡ marks.is_current m → (filed || pend) ≡ is_kept m
+  by_mark : (m : Mark) (page current held filed pend : Bool) → current ≡ marks.is_current m → (filed || pend) ≡ is_marked_kept m
       → (filed ≡ true → held ≡ true) → (pend ≡ true → held ≡ false) → (m ≡ Out → held ≡ false)
       → (m ≡ Killed → held ≡ is_some (youngest_holder (ids book.snaps) birth book.snaps.epoch))
       → (is_there m ≡ true → is_some block ≡ page)
@@ -189,7 +189,7 @@ abbrev one_at : BookState → List ℕ → List Mark → List (Option BlockValue
 one_at book births marks blocks n = one_of book (slice_index_or births n 0) (mark_at marks n) (slice_index_or blocks n None)
 
 no_part : (book : BookState) (birth : ℕ) (mark : Mark) → one_of book birth mark None ≡ 0
-no_part book birth mark = go (reports.is_kept book birth mark) where
+no_part book birth mark = go (reports.is_part_kept book birth mark) where
   go : (b : Bool) → cond {A = ℕ} (b && false) 1 0 ≡ 0
   go true = refl
   go false = refl
@@ -323,7 +323,7 @@ module _ (g : GeometryNumbers) (start : World) (records : List Record) (events :
     few_records =
         let same = count_at (in_record ino pair) test (recorded_in w) (λ i d at. named_test d) in
         let once = recorded_once g start records events is_start ino n in
-        let few = bit_few (is_kept (mark_at cell.marks n)) in
+        let few = bit_few (is_marked_kept (mark_at cell.marks n)) in
         omega (arith, same, once, few) where
           bit_few : (b : Bool) → bit b ≤ 1
           bit_few true = omega arith
@@ -339,7 +339,7 @@ module _ (g : GeometryNumbers) (start : World) (records : List Record) (events :
         (is_current pair) (is_held living pair) (list_any test filed) (list_any test (pending_in w))
         (current_is cell.block log is n pair got ∙ sym (m.current n (pair_low cell.block log n pair got)))
         (sym (list_any-append test filed (pending_in w))
-        ∙ any_of test (recorded_in w) (is_kept (mark_at cell.marks n)) (recorded_once g start records events is_start ino n))
+        ∙ any_of test (recorded_in w) (is_marked_kept (mark_at cell.marks n)) (recorded_once g start records events is_start ino n))
         filed_held pending_unheld (λ out. any_none (λ s. holds s pair) living (m.out n pair got out)) killed_held
         (block_there cell n pair (are_cells g start records events ino is_start lt) got)
         ∙ ap (λ (b : Bool). one (is_page pair.part && is_needed living pair) + one (is_page pair.part && b))
@@ -376,7 +376,7 @@ module _ (g : GeometryNumbers) (start : World) (records : List Record) (events :
             (sym (get_or_from_slice_get (pairs_in (cell_at w.shared ino)) n pair no_pair got))
 
   -- of all slots
-  pub kept_is : kept_of w.shared ≡ scanned_data w.shared + scanned_pending w
+  pub kept_is : data_kept w.shared ≡ scanned_data w.shared + scanned_pending w
   kept_is =
       let many = length w.shared.cells in
       let needed : ℕ → ℕ = λ ino. pages_that (is_needed living) (cell_at w.shared ino) in
@@ -403,5 +403,5 @@ module _ (g : GeometryNumbers) (start : World) (records : List Record) (events :
             omega (arith, most, parted)
 
 pub pending_few : (g : GeometryNumbers) (start : World) (records : List Record) (events : List Event) → IsStart g start records
-    → scanned_pending (after start events) ≤ kept_of (after start events).shared
+    → scanned_pending (after start events) ≤ data_kept (after start events).shared
 pending_few g start records events is_start = let is = kept_is g start records events is_start in omega (arith, is)

@@ -5,7 +5,7 @@ use Rattle.std.proofs.lemmas.Bool.{cases_lt}
 use Rattle.std.proofs.lemmas.List.{get_or_past, length-map}
 use Rattle.nv_alloc.specs.Block.{number_of, numbers_of}
 use Rattle.nv_alloc.specs.FreeList.{FreeBlocks}
-use Rattle.nv_alloc.specs.Runs.{runs_of}
+use Rattle.nv_alloc.specs.Runs.{free_runs_of}
 use Rattle.nv_alloc.specs.declared.runs.FreeRun.{FreeRun}
 use Rattle.nv_audit.specs.Counts.{scanned_counts}
 use Rattle.nv_audit.proofs.PageEntries.{counted}
@@ -34,7 +34,7 @@ use Rattle.nv_core.proofs.AuditLaw.{kept_there}
 use Rattle.nv_core.proofs.ScannedParts.{kept_is}
 use Rattle.nv_core.proofs.ScannedSnaps.{gain_is, held_is}
 use Rattle.nv_core.proofs.SumsTo.{sum_list, sum_range, sum_same, sum_to}
-use Rattle.nv_core.specs.Reports.{chain_of, counts_in, free_in, free_of, kept_of, lists_of, log_at, snap_counts, snaps_of, space_of}
+use Rattle.nv_core.specs.Reports.{chain_of, counts_in, free_in, free_of, data_kept, lists_of, log_at, snap_counts, snaps_of, space_of}
 use Rattle.nv_core.specs.Scans.{lists_by_scan, log_by_scan, snap_by_scan, snaps_by_scan, space_by_scan}
 use Rattle.nv_core.specs.Worlds.{HasRun}
 use Rattle.nv_core.specs.declared.reports.LogCounts.{LogCounts}
@@ -101,19 +101,19 @@ module _ (g : GeometryNumbers) (start : World) (records : List Record) (events :
   lists_are : lists_of w.shared ≡ lists_by_scan w
   lists_are =
       let all = all_numbers g start records events is_start in
-      let at : ℕ → List FreeRun = λ cpu. runs_of (free_by_logs g w cpu) in
-      by_place (λ (list : FreeBlocks). runs_of (numbers_of list.blocks)) at no_list w.shared.lists 0
+      let at : ℕ → List FreeRun = λ cpu. free_runs_of (free_by_logs g w cpu) in
+      by_place (λ (list : FreeBlocks). free_runs_of (numbers_of list.blocks)) at no_list w.shared.lists 0
       (λ cpu lt.
       let zeroth : cpu ≡ 0 + cpu = omega arith in
-      ap runs_of (scanned_by_logs g start records events cpu is_start (omega (arith, lt, all.lists.cpus))) ∙ ap at zeroth)
+      ap free_runs_of (scanned_by_logs g start records events cpu is_start (omega (arith, lt, all.lists.cpus))) ∙ ap at zeroth)
       ∙ ap (λ (k : ℕ). map at (range_with_len 0 k)) all.lists.cpus
-      ∙ ap (λ (n : GeometryNumbers). map (λ cpu. runs_of (free_by_logs n w cpu)) (range_with_len 0 n.cpus)) (sym all.numbers)
+      ∙ ap (λ (n : GeometryNumbers). map (λ cpu. free_runs_of (free_by_logs n w cpu)) (range_with_len 0 n.cpus)) (sym all.numbers)
 
   space_is : space_of w ≡ space_by_scan w
   space_is =
       let kept = kept_is g start records events is_start in
-      let pages : kept_of w.shared - scanned_pending w ≡ scanned_data w.shared = omega (arith, kept) in
-      let hand : w.numbers.blocks - free_of w.shared - chain_of w.shared - kept_of w.shared
+      let pages : data_kept w.shared - scanned_pending w ≡ scanned_data w.shared = omega (arith, kept) in
+      let hand : w.numbers.blocks - free_of w.shared - chain_of w.shared - data_kept w.shared
       ≡ w.numbers.blocks - scanned_free w - chain_of w.shared - scanned_data w.shared - scanned_pending w =
       omega (arith, kept, free_is) in
       same free_is pages hand where

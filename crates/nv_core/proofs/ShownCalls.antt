@@ -4,12 +4,12 @@ use Rattle.nv_calls.specs.Commit.{CommitValue}
 use Rattle.nv_calls.specs.declared.progress.CommitStep.{CommitStep}
 use Rattle.nv_calls.specs.declared.progress.CommitStep.TheVariants as step
 use Rattle.nv_machine.specs.Locks.{commits_at, held_at}
-use Rattle.nv_core.specs.Shown.{GhostCall, machine_step, shown_by, slots_in}
+use Rattle.nv_core.specs.Shown.{ShownCall, machine_step, shown_by, slots_in}
 use Rattle.nv_core.specs.declared.reservation.Reservation.{Reservation}
 use Rattle.nv_core.specs.declared.reservation.Reservation.TheVariants as reserved
 use Rattle.nv_core.specs.declared.running.Running.{Running}
 
-pub shown_slots : (held : Reservation) (told : GhostCall) (running : Running) → (shown_by held told running).slots ≡ slots_in running.slots
+pub shown_slots : (held : Reservation) (told : ShownCall) (running : Running) → (shown_by held told running).slots ≡ slots_in running.slots
 shown_slots (reserved.Hand hand) told running = refl
 shown_slots (reserved.Ready ready) told running = refl
 shown_slots (reserved.Commit commit) told running = refl

@@ -13,7 +13,7 @@ use Rattle.nv_cell.specs.declared.mark.Mark.{Mark}
 use Rattle.nv_machine.specs.Numbers.{all_blocks, free_of as free_numbers, held_by_actor, used_blocks}
 use Rattle.nv_machine.specs.World.{World}
 use Rattle.nv_core.proofs.SumsTo.{sum_to}
-use Rattle.nv_core.specs.Reports.{AddsUp, births, chain_in, free_in, is_kept, kept_among, kept_in, one_of}
+use Rattle.nv_core.specs.Reports.{AddsUp, births, chain_in, free_in, is_part_kept, kept_among, kept_in, one_of}
 
 -- ---- numbers that stand once
 
@@ -111,11 +111,11 @@ just_as_many many numbers each =
 -- ---- the blocks of a world
 
 one_few : (book : BookState) (birth : ℕ) (mark : Mark) (block : Option BlockValue) → one_of book birth mark block ≤ length (of_part block)
-one_few book birth mark None = go (is_kept book birth mark) where
+one_few book birth mark None = go (is_part_kept book birth mark) where
   go : (b : Bool) → (if b && false then 1 else 0) ≤ 0
   go true = omega arith
   go false = omega arith
-one_few book birth mark (Some block) = go (is_kept book birth mark) where
+one_few book birth mark (Some block) = go (is_part_kept book birth mark) where
   go : (b : Bool) → (if b && true then 1 else 0) ≤ 1
   go true = omega arith
   go false = omega arith

@@ -11,10 +11,10 @@ use Rattle.nv_audit.specs.AtRest.{IsOneBook}
 use Rattle.nv_audit.specs.DeviceParts.{IsSlotOf}
 use Rattle.nv_audit.specs.KeptParts as audit
 use Rattle.nv_audit.specs.KeptParts.{AreAllRecordsOf, IsRecordOf, records_in}
-use Rattle.nv_audit.specs.LogShape.{IsNoLater}
+use Rattle.nv_audit.specs.LogShape.{IsHeldLawful, IsNoLater}
 use Rattle.nv_audit.specs.Lists.{blocks_had}
 use Rattle.nv_audit.specs.Records.{AreRecorded}
-use Rattle.nv_audit.specs.Resting.{HaveLists, HaveRecords, IsInodeAtRest, IsOfPast}
+use Rattle.nv_audit.specs.Resting.{HasShape, HaveLists, HaveRecords, IsInodeAtRest, IsOfPast}
 use Rattle.nv_audit.specs.Tree.{IsOnce}
 use Rattle.nv_audit.specs.Whole.{Agrees, CountsAgree}
 use Rattle.nv_audit.specs.declared.part_list.InodePart.{InodePart}
@@ -57,6 +57,8 @@ use Rattle.nv_core.proofs.AuditCounts.{count_filter}
 use Rattle.nv_core.proofs.AuditLaw.{agree}
 use Rattle.nv_restart.proofs.JudgedLogs.{settled_is}
 use Rattle.nv_restart.proofs.JudgedNodes.{trees_stand}
+use Rattle.nv_restart.proofs.WorldImages.{all_may_stop}
+use Rattle.nv_restart.specs.Stops.{MayStop}
 use Rattle.nv_core.proofs.PastEnds.{sound_ends}
 use Rattle.nv_core.proofs.RestStarts.{all_alike, kept_same, no_picks}
 use Rattle.nv_core.proofs.RestingParts.{rest_once_is, rest_pool_is}
@@ -123,7 +125,8 @@ all_of_slot P Q p step (x ∷ xs) all = go (p x) refl (all_of_slot P Q p step xs
 -- ---- the parts
 
 module _ (parts : Parts) (records : List Record) (one : IsOneBook parts.book.state)
-    (start : IsStart parts.geometry.numbers (at_rest parts) records) where
+    (start : IsStart parts.geometry.numbers (at_rest parts) records)
+    (may : MayStop parts.geometry.numbers.block (at_rest parts).shared) where
   abbrev g : GeometryNumbers
   g = parts.geometry.numbers
 
@@ -183,8 +186,11 @@ module _ (parts : Parts) (records : List Record) (one : IsOneBook parts.book.sta
         ends = sound_ends cell (bytes_among cell.blocks) one_cell (among_at cell.blocks (cells_apart g.blocks w start.once ino))
             (subst (IsSoundIn cell) (settled_is s ino start.closed) (start.sound ino));
       };
-      names = subst (λ (block : ℕ). IsLeftShaped block (log_of cell)) (sym (start.sizes ino (within ino lt)))
-          (subst (IsLeftShaped g.block) (settled_is s ino start.closed) (start.shaped ino));
+      names = subst (λ (block : ℕ). HasShape (ids book.snaps) (record cell { block = block })) (sym (start.sizes ino (within ino lt)))
+          (record {
+            shape = subst (IsLeftShaped g.block) (settled_is s ino start.closed) (start.shaped ino);
+            held = subst (IsHeldLawful g.block (ids book.snaps)) (settled_is s ino start.closed) (may.held ino);
+          });
       counts = counted ino no_cell lt;
     }
 
@@ -274,6 +280,7 @@ module _ (parts : Parts) (records : List Record) (one : IsOneBook parts.book.sta
       count = start.slots;
       each = λ ino default lt. at_slot (IsSlotOf g) ino default lt (record {
         sizes = record { block = start.sizes ino (within ino lt); page = (start.pages ino (within ino lt)).size };
+        range = may.generations ino lt;
         early = start.early ino;
         erased = start.erased ino;
       });
@@ -292,10 +299,12 @@ module _ (parts : Parts) (records : List Record) (one : IsOneBook parts.book.sta
 
 -- those of a world without calls to which events lead from a start
 pub rested : (parts : Parts) (run : EventRun) → IsOneBook parts.book.state → IsStart parts.geometry.numbers run.start run.records
-    → at_rest parts ≡ after run.start run.events → AreJudged parts
-rested parts run one start is =
+    → MayStop parts.geometry.numbers.block run.start.shared → at_rest parts ≡ after run.start run.events → AreJudged parts
+rested parts run one start first is =
     let g = parts.geometry.numbers in
     let records = records_after run.start run.events run.records in
     let none : IsAtRest (at_rest parts) = λ actor. ap (λ (a : Actor). a.running) (all_alike idle g.actors actor) in
     let again = start_again g run.start run.records run.events start (subst IsAtRest is none) in
+    let may = all_may_stop g run.start run.records run.events start first in
     judged parts records one (subst (λ (w : World). IsStart g w records) (sym is) again)
+    (subst (λ (w : World). MayStop g.block w.shared) (sym is) may)

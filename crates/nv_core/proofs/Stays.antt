@@ -14,7 +14,7 @@ use Rattle.nv_calls.specs.Cells.{AreCells}
 use Rattle.nv_calls.specs.Locked.{handles}
 use Rattle.nv_calls.specs.Nodes.{nodes_in}
 use Rattle.nv_calls.specs.PagesWanted.{pages_wanted}
-use Rattle.nv_calls.specs.Prepared.{HasNumberFor, IsStill, made_by, makes, no_handle, planned_by}
+use Rattle.nv_calls.specs.Prepared.{HasNumberFor, IsStill, handle_made_by, makes, no_handle, planned_by}
 use Rattle.nv_calls.specs.Progress.{step_of}
 use Rattle.nv_calls.specs.Refusals.{passes}
 use Rattle.nv_calls.specs.SlotCells.{cell_in, lent_cells}
@@ -31,9 +31,9 @@ use Rattle.nv_core.specs.Committing.{IsCommitting}
 use Rattle.nv_core.specs.Frames.{LeavesRest}
 use Rattle.nv_core.specs.Nodes.{CanRead, HasOwn, HoldHandles, wanted_over}
 use Rattle.nv_core.specs.Rooms.{HasActorRooms, HasMade, HasRooms, HasTaken, IsChecked, IsHandOf, IsIdle, IsReadyOver, Takes, TakesBlocks, TakesIf, TakesPages, committing_cpu, takes}
-use Rattle.nv_core.specs.Shown.{GhostCall, next_of, shared_of, shown, shown_by, slots_in}
+use Rattle.nv_core.specs.Shown.{ShownCall, next_of, shared_of, shown, shown_by, slots_in}
 use Rattle.nv_core.specs.GhostCalls.{IsChangeWith}
-use Rattle.nv_core.specs.Worlds.{ShowsActor, ShowsRunning, told_of}
+use Rattle.nv_core.specs.Worlds.{ShowsActor, ShowsRunning, shown_call_of}
 use Rattle.nv_core.specs.declared.reservation.Reservation.{Reservation}
 use Rattle.nv_core.specs.declared.reservation.Reservation.TheVariants as reserved
 use Rattle.nv_core.specs.declared.request.Request.{Request}
@@ -131,7 +131,7 @@ module _ (actor : ℕ) (held : List ℕ) (old new : Shared) (rest : LeavesRest a
       }
 
       made_stays : (made : Handle) → HasMade old slots hand made u → HasMade new slots hand made u
-      made_stays made p e = moved (λ g cells. made ≡ unwrap_or (made_by cells hand.ino u) no_handle) (p e)
+      made_stays made p e = moved (λ g cells. made ≡ unwrap_or (handle_made_by cells hand.ino u) no_handle) (p e)
 
       taken_stays : HasTaken old slots hand u → HasTaken new slots hand u
       taken_stays p = record {
@@ -176,7 +176,7 @@ module _ (actor : ℕ) (held : List ℕ) (old new : Shared) (rest : LeavesRest a
   -- ---- a call
 
   -- one that commits has the commit lock, and the book with it
-  call_stays : (held_by : Reservation) (told : GhostCall) (running : Running)
+  call_stays : (held_by : Reservation) (told : ShownCall) (running : Running)
       → IsInside (shown_by held_by told running).next (shown_by held_by told running)
       → IsOut (held_at (shown_by held_by told running).next (slots_in running.slots))
       → (commits_at (shown_by held_by told running).next ≡ true → (new.book ≡ old.book) × (new.holder ≡ old.holder))
@@ -233,7 +233,7 @@ module _ (m : machine.World) (locks : AreLocks m) (old new : Shared) (shows : sh
   rooms_by held None p is shown rooms = idle_stays actor (held_at r.next r.slots) old new rest held rooms
   rooms_by held (Some running) None is shown rooms = absurd shown
   rooms_by held (Some running) (Some q) is shown rooms =
-      call_stays actor (held_at r.next r.slots) old new rest held (told_of q) running
+      call_stays actor (held_at r.next r.slots) old new rest held (shown_call_of q) running
       (subst (λ (x : machine.Running). IsInside x.next x) (sym shown.shown) theirs.slots.1) out book rooms where
         theirs : HoldsIts (shared_of old) other (Some q)
         theirs =
@@ -241,18 +241,18 @@ module _ (m : machine.World) (locks : AreLocks m) (old new : Shared) (shows : sh
             (subst (λ (o : Option machine.Running). HoldsIts m.shared other o) is (locks.each other))
 
         same_held : (ino : ℕ) → has (held_at q.next q.slots) ino
-            ≡ has (held_at (shown_by held (told_of q) running).next (slots_in running.slots)) ino
+            ≡ has (held_at (shown_by held (shown_call_of q) running).next (slots_in running.slots)) ino
         same_held ino =
             ap (λ (x : machine.Running). has (held_at x.next x.slots) ino) (sym shown.shown)
-            ∙ ap (λ (l : List ℕ). has (held_at (shown_by held (told_of q) running).next l) ino) (shown_slots held (told_of q) running)
+            ∙ ap (λ (l : List ℕ). has (held_at (shown_by held (shown_call_of q) running).next l) ino) (shown_slots held (shown_call_of q) running)
 
-        out : (ino : ℕ) → has (held_at (shown_by held (told_of q) running).next (slots_in running.slots)) ino ≡ true
+        out : (ino : ℕ) → has (held_at (shown_by held (shown_call_of q) running).next (slots_in running.slots)) ino ≡ true
             → has (held_at r.next r.slots) ino ≡ false
         out ino h =
             sym (mine.owners ino)
             ∙ both_own actor other (owner_at (shared_of old) ino) ne (theirs.owners ino ∙ same_held ino ∙ h)
 
-        book : commits_at (shown_by held (told_of q) running).next ≡ true
+        book : commits_at (shown_by held (shown_call_of q) running).next ≡ true
             → (new.book ≡ old.book) × (new.holder ≡ old.holder)
         book h =
             let commits = theirs.holder ∙ ap (λ (x : machine.Running). commits_at x.next) (sym shown.shown) ∙ h in

@@ -13,7 +13,7 @@ use Rattle.nv_core.specs.CommitSteps.{IsAtStep}
 use Rattle.nv_core.specs.Committing.{IsCommitting}
 use Rattle.nv_core.specs.Frames.{LeavesCells}
 use Rattle.nv_core.specs.Rooms.{HasRooms, committing_cpu}
-use Rattle.nv_core.specs.Shown.{GhostCall, shared_of}
+use Rattle.nv_core.specs.Shown.{ShownCall, shared_of}
 use Rattle.nv_core.specs.Steps.{CanStep}
 use Rattle.nv_core.specs.GhostCalls.{IsPlaceOf}
 use Rattle.nv_core.specs.declared.reservation.Reservation.TheVariants as reserved
@@ -66,6 +66,6 @@ committing_written slots shared book new commit many is =
 -- ----
 
 -- once all is appended no entry is to be placed
-pub placed_all : (slots : List ℕ) (old new : CommitValue) (told : GhostCall) → old.appended ≡ length old.plans → new.appended ≡ old.appended
+pub placed_all : (slots : List ℕ) (old new : CommitValue) (told : ShownCall) → old.appended ≡ length old.plans → new.appended ≡ old.appended
     → length new.plans ≡ length old.plans → IsPlaceOf slots new told
 placed_all slots old new told full count many = λ lt. absurd (omega (arith, lt, full, count, many))

@@ -12,7 +12,7 @@ use Rattle.nv_calls.specs.AllCalls.{blocks_wanted, ends_in_page, plan, refusal}
 use Rattle.nv_calls.specs.AllCalls.{looked as found_in}
 use Rattle.nv_calls.specs.Locked.{handles}
 use Rattle.nv_calls.specs.Nodes.{block_in, has_page_in, nodes_in, plain_nodes}
-use Rattle.nv_calls.specs.Plan.{runs_of}
+use Rattle.nv_calls.specs.Plan.{block_runs_of}
 use Rattle.nv_calls.specs.Prepared.{CanReady, IsStill, planned_by}
 use Rattle.nv_calls.specs.Refusals.{passes}
 use Rattle.nv_calls.specs.SlotCells.{cell_in, lent_cells}
@@ -139,10 +139,10 @@ found_same shared slots hand looked u is =
 pub plan_same : (shared : Shared) (slots : List ℕ) (hand : Hand) (looked : LookupResult) (u : Update) (text : List ℕ) (made : Handle)
     → IsChecked shared slots hand looked u → HasMade shared slots hand made u → text_len u ≡ length text
     → plan shared.geometry.numbers.block (copies (shared_of shared))
-    (record { made = made; runs = runs_of (numbers_of hand.«data».blocks) }) (call_of u text)
+    (record { made = made; runs = block_runs_of (numbers_of hand.«data».blocks) }) (call_of u text)
     ≡ planned_by (lent_cells slots shared.cells.items) hand u
 plan_same shared slots hand looked u text made is has len =
-    let taken : Allocation = record { made = made; runs = runs_of (numbers_of hand.«data».blocks) } in
+    let taken : Allocation = record { made = made; runs = block_runs_of (numbers_of hand.«data».blocks) } in
     let all = copies (shared_of shared) in
     let blank = same_plan shared.geometry.numbers.block all (has_page_in (lent_cells slots shared.cells.items)) taken u text (sym len) in
     let here : handles looked (blank_call u) ≡ handles (found_in all (call_of u text)) (call_of u text) =
@@ -155,9 +155,9 @@ pub wanted_same : (shared : Shared) (slots : List ℕ) (hand : Hand) (looked : L
     (u : Update). HasMade shared slots hand made u × IsChecked shared slots hand looked u) j
     → IsChangeWith (λ (u : Update). n ≡ pages_to_take shared slots hand u) j
     → pages_wanted (shared_of shared) slots (plan shared.geometry.numbers.block (copies (shared_of shared))
-    (record { made = made; runs = runs_of (numbers_of hand.«data».blocks) }) c) ≡ n
+    (record { made = made; runs = block_runs_of (numbers_of hand.«data».blocks) }) c) ≡ n
 wanted_same shared slots hand looked made (request.Change by text) owed c n is has wants =
-    let taken : Allocation = record { made = made; runs = runs_of (numbers_of hand.«data».blocks) } in
+    let taken : Allocation = record { made = made; runs = block_runs_of (numbers_of hand.«data».blocks) } in
     ap (λ (d : Call). pages_wanted (shared_of shared) slots (plan shared.geometry.numbers.block (copies (shared_of shared)) taken d)) is.0
     ∙ ap (pages_wanted (shared_of shared) slots) (plan_same shared slots hand looked by.update text made has.1 has.0 is.1)
     ∙ sym (pages_same shared slots (planned_by (lent_cells slots shared.cells.items) hand by.update) has.1.read.there)

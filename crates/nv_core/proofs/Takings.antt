@@ -16,7 +16,7 @@ use Rattle.nv_machine.specs.World.{list_at}
 use Rattle.nv_core.proofs.Takes.{fits_still, is_changed, over_all}
 use Rattle.nv_core.specs.Parts.{AreHome, AreListsOf}
 use Rattle.nv_core.specs.Rooms.{CanWantPages, HasItsBlocks, HasMade, HasRooms, HasRoomsAfter, HasTaken, IsChecked, IsHandOf, Takes, TakesBlocks, TakesIf, TakesPages, blocks_to_take, pages_to_take, takes}
-use Rattle.nv_core.specs.Shown.{GhostCall, hand_of, shared_of, shown, slots_in, turn_of}
+use Rattle.nv_core.specs.Shown.{ShownCall, hand_of, shared_of, shown, slots_in, turn_of}
 use Rattle.nv_core.specs.Takings.{IsTaken}
 use Rattle.nv_core.specs.GhostCalls.{IsChangeWith}
 use Rattle.nv_core.specs.declared.reservation.Reservation.{Reservation}
@@ -34,7 +34,7 @@ use Rattle.nv_core.proofs.TakenBlocks.{home_after, taken_count}
 last_goes : (how : machine.Ending) (s : machine.Shared) (h : machine.HandState) (r : machine.Running) → last_turn how s h r ≢ machine.Waits
 last_goes machine.Answers s h r e = cc
 last_goes (machine.Refuses fault) s h r e = cc
-last_goes machine.Overtaken s h r e = cc
+last_goes machine.BoundAnew s h r e = cc
 last_goes (machine.Cleans cleaned) s h r e = cc
 last_goes (machine.Drains draining) s h r e = go draining.left e where
   go : (left : ℕ) → drained_turn left draining.released s h r ≢ machine.Waits
@@ -56,7 +56,7 @@ over_goes machine.Answers s h r e = rest_goes _ h.ino s h r e
 over_goes (machine.Refuses fault) s h r e = rest_goes _ h.ino s h r e
 over_goes (machine.Drains draining) s h r e = rest_goes _ h.ino s h r e
 over_goes (machine.Cleans cleaned) s h r e = rest_goes _ h.ino s h r e
-over_goes machine.Overtaken s h r e = again_goes r.rounds s h r e
+over_goes machine.BoundAnew s h r e = again_goes r.rounds s h r e
 
 -- a call that turns to its last steps does not wait
 pub end_goes : (slots : List ℕ) (how : machine.Ending) (s : machine.Shared) (h : machine.HandState) (r : machine.Running)
@@ -85,7 +85,7 @@ pages_none zero asked s h r some = absurd (some refl)
 pages_none (suc n) asked s h r some = refl
 
 -- where some blocks are still wanted: the call goes on to the next list, or is refused
-pub asked_turn : (told : GhostCall) (result : Turn) (s : machine.Shared) (h : machine.HandState) (running new goes : Running) (asked n many : ℕ)
+pub asked_turn : (told : ShownCall) (result : Turn) (s : machine.Shared) (h : machine.HandState) (running new goes : Running) (asked n many : ℕ)
     (f : Bool → machine.Turn) → n ≡ many → (asked + 1 < n → (result ≡ turn.Moves) × (new ≡ goes))
     → (n ≤ asked + 1 → refuse NoSpace s h (shown told running) ≡ turn_of result s h (shown told new))
     → f true ≡ machine.Moves s h (shown told goes) → f false ≡ refuse NoSpace s h (shown told running)
@@ -244,7 +244,7 @@ module _ (old new : Shared) (slots : List ℕ) (hand : Hand) (looked : LookupRes
 pub less_wanted : (n len left : ℕ) → left ≡ n - min n len → n - len ≡ left
 less_wanted n len left q = omega (arith, q)
 
-module _ (told : GhostCall) (old new : Shared) (hand : Hand) (running : Running) (queue : QueueValue) (below cpu asked left : ℕ)
+module _ (told : ShownCall) (old new : Shared) (hand : Hand) (running : Running) (queue : QueueValue) (below cpu asked left : ℕ)
     (rest : new ≡ record old { lists = new.lists }) (q : left ≡ running.wanted - min running.wanted (length (list_at
     (shared_of old) cpu).blocks)) where
   abbrev s : machine.Shared

@@ -6,10 +6,10 @@ use Rattle.nv_calls.specs.declared.call.Call.{Call}
 use Rattle.nv_machine.specs.Step as machine_step
 use Rattle.nv_machine.specs.World as machine
 use Rattle.nv_core.specs.Rooms.{FitsCall, FitsNext}
-use Rattle.nv_core.specs.Shown.{GhostCall, hand_of, next_of, shared_of, shown, turn_of}
-use Rattle.nv_core.specs.GhostCalls.{IsEither, IsRequestOf, IsOwed, IsGhostCallOf, KeepsRequest, OwesAt}
+use Rattle.nv_core.specs.Shown.{ShownCall, hand_of, next_of, shared_of, shown, turn_of}
+use Rattle.nv_core.specs.GhostCalls.{IsEither, IsRequestOf, IsOwed, IsShownCallOf, KeepsRequest, OwesAt}
 use Rattle.nv_core.specs.Turns.{IsTurn, ShowsAfter}
-use Rattle.nv_core.specs.Worlds.{ShowsCall, told_of}
+use Rattle.nv_core.specs.Worlds.{ShowsCall, shown_call_of}
 use Rattle.nv_core.specs.declared.reservation.Reservation.TheVariants as reserved
 use Rattle.nv_core.specs.declared.request.Request.{Request}
 use Rattle.nv_core.specs.declared.request.Request.TheVariants as request
@@ -26,7 +26,7 @@ pub either : (by : Bool → machine.Turn) (result : machine.Turn) → IsEither b
 either by result (inl e) = (true, e)
 either by result (inr e) = (false, e)
 
-pub told_same : (old new : Running) (told : GhostCall) → KeepsRequest old new → IsGhostCallOf old told → IsGhostCallOf new told
+pub told_same : (old new : Running) (told : ShownCall) → KeepsRequest old new → IsShownCallOf old told → IsShownCallOf new told
 told_same old new told keeps is =
     subst (λ (j : Request). IsRequestOf j new.owed told.call) (sym keeps.request)
     (subst (λ (o : PendingAnswer). IsRequestOf old.request o told.call) (sym keeps.owed) is)
@@ -34,13 +34,13 @@ told_same old new told keeps is =
 -- the turn of a kind, with the memory granted or not, for whatever is told of the call
 abbrev pub TurnsAlone : Next → ℕ → Shared → Hand → Running → Turn → Shared → Hand → Running → Type 0
 TurnsAlone next actor shared hand running result shared_after hand_after after =
-    (told : GhostCall) → IsGhostCallOf running told
+    (told : ShownCall) → IsShownCallOf running told
     → (granted : Bool) × (machine_step.kind_turn (next_of next) shared.geometry.numbers.block actor granted (shared_of shared)
     (hand_of hand)
     (shown told running)
     ≡ turn_of result (shared_of shared_after) (hand_of hand_after) (shown told after))
 
-shows_after : (result : Turn) (hand : Hand) (after : Running) (told : GhostCall) → IsGhostCallOf after told
+shows_after : (result : Turn) (hand : Hand) (after : Running) (told : ShownCall) → IsShownCallOf after told
     → ShowsAfter result (reserved.Hand hand) after (shown told after)
 shows_after turn.Moves hand after told is = record { shown = refl; request = is; plan = tt; place = tt }
 shows_after turn.Waits hand after told is = record { shown = refl; request = is; plan = tt; place = tt }
@@ -48,11 +48,11 @@ shows_after (turn.Ends result) hand after told is = tt
 
 turned : (next : Next) (actor : ℕ) (shared : Shared) (hand : Hand) (running : Running) (r : machine.Running) (result : Turn)
     (shared_after : Shared) (hand_after : Hand) (after : Running) → running.next ≡ next → ShowsCall (reserved.Hand hand) running r
-    → ((told : GhostCall) → IsGhostCallOf running told → ShowsAfter result (reserved.Hand hand_after) after (shown told after))
+    → ((told : ShownCall) → IsShownCallOf running told → ShowsAfter result (reserved.Hand hand_after) after (shown told after))
     → TurnsAlone next actor shared hand running result shared_after hand_after after
     → IsTurn actor shared (reserved.Hand hand) r result shared_after (reserved.Hand hand_after) after
 turned next actor shared hand running r result shared_after hand_after after here shows then by =
-    let told = told_of r in
+    let told = shown_call_of r in
     let one = by told shows.request in
     record {
       granted = one.0;
@@ -96,31 +96,31 @@ last_give cpu (request.Visit visit) fits = fits
 last_give cpu (request.Maintenance on) fits = tt
 last_give cpu request.Given fits = tt
 
-pub owes_unlock : (place : ℕ) (running : Running) (told : GhostCall) → running.next ≡ next.Unlock place → FitsCall running
-    → IsGhostCallOf running told
+pub owes_unlock : (place : ℕ) (running : Running) (told : ShownCall) → running.next ≡ next.Unlock place → FitsCall running
+    → IsShownCallOf running told
     → OwesAt running.ending running told
 owes_unlock place running told here fits is answers =
     owed_by running.request running.owed told.call (last_unlock place running.request
     (subst (λ (n : Next). FitsNext n running.request) here fits.before)) is
 
-pub owes_give : (cpu : ℕ) (running : Running) (told : GhostCall) → running.next ≡ next.Give cpu → FitsCall running → IsGhostCallOf running told
+pub owes_give : (cpu : ℕ) (running : Running) (told : ShownCall) → running.next ≡ next.Give cpu → FitsCall running → IsShownCallOf running told
     → OwesAt running.ending running told
 owes_give cpu running told here fits is answers =
     owed_by running.request running.owed told.call (last_give cpu running.request
     (subst (λ (n : Next). FitsNext n running.request) here fits.before)) is
 
-pub owes_back : (running : Running) (told : GhostCall) → running.next ≡ next.ReturnNumber → FitsCall running → IsGhostCallOf running told
+pub owes_back : (running : Running) (told : ShownCall) → running.next ≡ next.ReturnNumber → FitsCall running → IsShownCallOf running told
     → OwesAt running.ending running told
 owes_back running told here fits is answers =
     owed_by running.request running.owed told.call (subst (λ (n : Next). FitsNext n running.request) here fits.before) is
 
 -- ---- a visit, which waits or ends
 
-visit_after : (result : Turn) (hand : Hand) (running after : Running) (told : GhostCall) → (result ≢ turn.Moves)
-    → (result ≡ turn.Waits → after ≡ running) → IsGhostCallOf running told → ShowsAfter result (reserved.Hand hand) after (shown told after)
+visit_after : (result : Turn) (hand : Hand) (running after : Running) (told : ShownCall) → (result ≢ turn.Moves)
+    → (result ≡ turn.Waits → after ≡ running) → IsShownCallOf running told → ShowsAfter result (reserved.Hand hand) after (shown told after)
 visit_after turn.Moves hand running after told ends waits is = absurd (ends refl)
 visit_after turn.Waits hand running after told ends waits is =
-    record { shown = refl; request = subst (λ (x : Running). IsGhostCallOf x told) (sym (waits refl)) is; plan = tt; place = tt }
+    record { shown = refl; request = subst (λ (x : Running). IsShownCallOf x told) (sym (waits refl)) is; plan = tt; place = tt }
 visit_after (turn.Ends result) hand running after told ends waits is = tt
 
 pub turns_visit : (actor : ℕ) (shared : Shared) (hand : Hand) (running : Running) (r : machine.Running) (result : Turn) (after : Running)

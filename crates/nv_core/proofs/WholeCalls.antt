@@ -5,9 +5,10 @@ use Rattle.nv_calls.specs.declared.call.Call.{Call}
 use Rattle.nv_machine.specs.Step.{after, go_step, replies, start_step, step, turned}
 use Rattle.nv_machine.specs.World as machine
 use Rattle.nv_machine.specs.World.{Ends, Moves, Turn, actor_at}
+use Rattle.nv_core.proofs.Replies.{go_reply, start_reply}
 use Rattle.nv_core.specs.declared.event.Event.TheVariants.{Go, Start}
 use Rattle.nv_core.specs.declared.event.Reply.{Reply}
-use Rattle.nv_core.specs.declared.event.Reply.TheVariants.{Done, Moved, Refused, Started, Waits}
+use Rattle.nv_core.specs.declared.event.Reply.TheVariants.{Done, Moved, Refused, Started, Stopped, Waits}
 use Rattle.nv_core.specs.declared.whole.CallFault.{CallFault}
 use Rattle.nv_core.specs.Whole.{Calls, GoesOn, HasMoved, Runs, RunsFrom, last_reply}
 use Rattle.nv_core.specs.Worlds.{IsBounded, IsStep, Leads, Shows, WorldState, gos, most_goes, reply_of}
@@ -65,7 +66,7 @@ gone old mid new times actor reply moved makes m shows =
         replies =
             ap (replies m) more ∙ replies-more m events (machine.Go actor made.granted)
             ∙ ap (λ (w : machine.World). replies m events ++ (step w (machine.Go actor made.granted)).reply ∷ []) (sym had.world)
-            ∙ ap (λ (r : machine.Reply). replies m events ++ r ∷ []) (sym made.reply_is)
+            ∙ ap (λ (r : machine.Reply). replies m events ++ r ∷ []) (sym (go_reply by.0 actor reply new made))
             ∙ ap (λ (all : List machine.Reply). all ++ reply_of reply ∷ []) had.replies;
         world =
             ap (λ (w : machine.World). (step w (machine.Go actor made.granted)).world) had.world
@@ -119,6 +120,7 @@ moved_only Started is = absurd (cc)
 moved_only Moved is = refl
 moved_only Waits is = absurd (cc)
 moved_only (Done answer) is = absurd (cc)
+moved_only Stopped is = absurd (cc)
 moved_only (Refused fault) is = absurd (cc)
 
 -- ---- runs
@@ -202,7 +204,7 @@ started_runs old mid new actor call reply last started makes runs m shows =
     let by = runs (step m (machine.Start actor call)).world made.shows in (
       by.0,
       subst (λ (r : machine.Reply). RunsFrom r (step m (machine.Start actor call)).world actor last by.0)
-          (sym (ap reply_of started) ∙ made.reply_is) by.1,
+          (sym (ap reply_of started) ∙ start_reply m actor call reply mid made) by.1,
       by.2,
     )
 
@@ -211,6 +213,7 @@ stays_by Started w actor ne = absurd (ne refl)
 stays_by Moved w actor ne = (refl, refl)
 stays_by Waits w actor ne = (refl, refl)
 stays_by (Done answer) w actor ne = (refl, refl)
+stays_by Stopped w actor ne = (refl, refl)
 stays_by (Refused fault) w actor ne = (refl, refl)
 
 -- one that was not does not
@@ -221,7 +224,8 @@ pub refused_stays : (old new : WorldState) (actor : ℕ) (call : Call) (reply : 
 refused_stays old new actor call reply result ne told makes m shows =
     let made = makes m shows in
     let after = step m (machine.Start actor call) in
-    let is = told ne (λ moved. no_start_moves m actor call (sym made.reply_is ∙ ap reply_of moved)) in
-    let stays = subst (λ (r : machine.Reply). RunsFrom r after.world actor (reply_of reply) after.world) made.reply_is
+    let is = told ne (λ moved. no_start_moves m actor call (sym (start_reply m actor call reply new made) ∙ ap reply_of moved)) in
+    let stays = subst (λ (r : machine.Reply). RunsFrom r after.world actor (reply_of reply) after.world)
+    (start_reply m actor call reply new made)
     (stays_by reply after.world actor ne) in
     (after.world, subst (λ (r : machine.Reply). Calls m actor call r after.world) (sym is) stays, made.shows)

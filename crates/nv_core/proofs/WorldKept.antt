@@ -20,7 +20,9 @@ use Rattle.nv_core.proofs.Stays.{rooms_stay}
 use Rattle.nv_core.proofs.WorldSteps.{set_back, shows_none, shows_set, shows_some, steps_on, world_with}
 use Rattle.nv_core.specs.Rooms.{HasActorRooms}
 use Rattle.nv_core.specs.Turns.{CanGo, HasTurned, LeavesOthers}
-use Rattle.nv_core.specs.Worlds.{IsStep, IsWorld, IsWorldAfter, EventRun, Shows, ShowsActor, ShowsCall, ShowsRunning, WorldState, reply_of}
+use Rattle.nv_restart.specs.Happenings.{Replied}
+use Rattle.nv_restart.specs.Stops.{MayStop}
+use Rattle.nv_core.specs.Worlds.{IsStep, IsWorld, IsWorldAfter, EventRun, Shows, ShowsActor, ShowsCall, ShowsRunning, WorldState, told_by}
 use Rattle.nv_core.specs.Shown.{held_by, shared_of}
 use Rattle.nv_core.specs.declared.event.Event.TheVariants as event
 use Rattle.nv_core.specs.declared.event.Reply.{Reply}
@@ -49,6 +51,7 @@ pub world_after : (w : WorldState) (m : machine.World) (run : EventRun) (e : mac
 world_after w m run e actor new state is lt same shows own others = record {
   is_start = subst (λ (g : GeometryNumbers). IsStart g run.start run.records) (ap (λ g. g.numbers) (sym same)) is.is_start;
   reached = ap (λ (x : machine.World). (step x e).world) is.reached ∙ sym (after-snoc run.start run.events e);
+  may = subst (λ (g : GeometryNumbers). MayStop g.block run.start.shared) (ap (λ g. g.numbers) (sym same)) is.may;
   shows = shows;
   rooms = λ k d small. each k d (omega (arith, small, length-set w.actors actor state));
 } where
@@ -143,7 +146,7 @@ go_steps w m actor d new state answer shows lt is gone = by (slice_index_or w.ac
       let all = stays_idle w m actor d new state shows lt none told.1 told.2 in
       record {
         granted = true;
-        reply_is = ap reply_of told.0 ∙ ap (λ (s : machine_step.Step). s.reply) (sym all.0);
+        told_is = ap told_by told.0 ∙ ap (λ (s : machine_step.Step). Replied s.reply) (sym all.0);
         shows = subst (λ (s : machine_step.Step). Shows (world_with new actor state w) s.world) (sym all.0)
             (subst (λ (v : WorldState). Shows v m) (sym all.1) shows);
       }
@@ -154,7 +157,7 @@ go_steps w m actor d new state answer shows lt is gone = by (slice_index_or w.ac
       (actor_at is.0 actor).running) some own.running) in
       let one = steps_on w m actor d new state running answer shows lt some (gone.rest running call.0 some call.2).geometry
       (λ r shown. gone.turns running r some shown) in
-      record { granted = one.0; reply_is = one.1; shows = one.2 }
+      record { granted = one.0; told_is = one.1; shows = one.2 }
 
 pub go_keeps : (w : WorldState) (actor : ℕ) (d : Actor) (new : Shared) (state : Actor) (answer : Reply)
     → actor < length w.actors → IsWorld w
@@ -168,6 +171,20 @@ go_keeps w actor d new state answer lt is gone = by (slice_index_or w.actors act
   by (Some running) some =
       goes_on w is actor d new state running answer lt some (λ r shown. gone.turns running r some shown)
       (λ r shown. gone.rest running r some shown) gone.rooms
+
+-- the device is the same
+pub go_geometry : (w : WorldState) (actor : ℕ) (d : Actor) (new : Shared) (state : Actor) (answer : Reply)
+    → actor < length w.actors → IsWorld w
+    → HasGone w actor (slice_index_or w.actors actor d) answer new state → new.geometry ≡ w.shared.geometry
+go_geometry w actor d new state answer lt is gone = by (slice_index_or w.actors actor d).running refl where
+  by : (o : Option Running) → (slice_index_or w.actors actor d).running ≡ o → new.geometry ≡ w.shared.geometry
+  by None none = ap (λ (s : Shared). s.geometry) (gone.idle none).1
+  by (Some running) some =
+      let own = is.2.shows.each actor d lt in
+      let call = shows_some (slice_index_or w.actors actor d).reserved running (actor_at is.0 actor).running
+      (subst (λ (o : Option Running). ShowsRunning (slice_index_or w.actors actor d).reserved o
+      (actor_at is.0 actor).running) some own.running) in
+      (gone.rest running call.0 some call.2).geometry
 
 -- ---- an actor that starts a call
 
@@ -187,7 +204,7 @@ pub record HasStarted (w : WorldState) (before : Actor) (c : Call) (answer : Rep
 
 pub start_steps : (w : WorldState) (m : machine.World) (actor : ℕ) (d : Actor) (c : Call) (state : Actor) (answer : Reply) → Shows w m
     → actor < length w.actors → HasStarted w (slice_index_or w.actors actor d) c answer state
-    → (reply_of answer ≡ (step m (machine.Start actor c)).reply)
+    → (told_by answer ≡ Replied (step m (machine.Start actor c)).reply)
     × Shows (world_with w.shared actor state w) (step m (machine.Start actor c)).world
 start_steps w m actor d c state answer shows lt is = by (slice_index_or w.actors actor d).running refl where
   own : ShowsActor (slice_index_or w.actors actor d) (actor_at m actor)
@@ -197,7 +214,7 @@ start_steps w m actor d c state answer shows lt is = by (slice_index_or w.actors
   there = omega (arith, lt, shows.count)
 
   Made : Type 0
-  Made = (reply_of answer ≡ (step m (machine.Start actor c)).reply)
+  Made = (told_by answer ≡ Replied (step m (machine.Start actor c)).reply)
       × Shows (world_with w.shared actor state w) (step m (machine.Start actor c)).world
 
   by : (o : Option Running) → (slice_index_or w.actors actor d).running ≡ o → Made
@@ -220,7 +237,7 @@ start_steps w m actor d c state answer shows lt is = by (slice_index_or w.actors
             (Some (begun (beginning c) s c))) shows.shared told.2;
       } in
       let set = shows_set w m actor state x w.shared shows lt refl shown in (
-        ap reply_of told.0 ∙ ap (λ (s : machine_step.Step). s.reply) (sym all),
+        ap told_by told.0 ∙ ap (λ (s : machine_step.Step). Replied s.reply) (sym all),
         subst (λ (s : machine_step.Step). Shows (world_with w.shared actor state w) s.world) (sym all)
             (subst (λ (s : machine.Shared). Shows (world_with w.shared actor state w)
             (record m { shared = s; actors = slice_set m.actors actor x })) shows.shared set),
@@ -233,7 +250,7 @@ start_steps w m actor d c state answer shows lt is = by (slice_index_or w.actors
       let back : world_with w.shared actor state w ≡ w =
       ap (λ (xs : List Actor). let v : WorldState = record { shared = w.shared; actors = xs } in v)
       (set_back w.actors actor state d lt (sym told.1)) in (
-        ap reply_of told.0 ∙ ap (λ (s : machine_step.Step). s.reply) (sym all),
+        ap told_by told.0 ∙ ap (λ (s : machine_step.Step). Replied s.reply) (sym all),
         subst (λ (s : machine_step.Step). Shows (world_with w.shared actor state w) s.world) (sym all)
             (subst (λ (v : WorldState). Shows v m) (sym back) shows),
       )

@@ -10,7 +10,8 @@ use Rattle.nv_machine.specs.World as machine
 use Rattle.nv_machine.specs.World.{actor_at, idle}
 use Rattle.nv_core.specs.Shown.{held_by, shared_of, turn_of}
 use Rattle.nv_core.specs.Turns.{HasTurned, ShowsAfter, replied, still}
-use Rattle.nv_core.specs.Worlds.{Shows, ShowsActor, ShowsCall, ShowsRunning, WorldState, reply_of}
+use Rattle.nv_restart.specs.Happenings.{Replied}
+use Rattle.nv_core.specs.Worlds.{Shows, ShowsActor, ShowsCall, ShowsRunning, WorldState, told_by}
 use Rattle.nv_core.specs.declared.event.Reply.{Reply}
 use Rattle.nv_core.specs.declared.reservation.Reservation.{Reservation}
 use Rattle.nv_core.specs.declared.running.Running.{Running}
@@ -79,12 +80,12 @@ set_back actors actor state d lt is =
 -- ---- a turn
 
 -- the reply of a turn is the machine's
-reply_turned : (t : Turn) (s : machine.Shared) (h : machine.HandState) (r : machine.Running) (actor : ℕ) (m : machine.World)
-    → reply_of (replied t) ≡ (turned (turn_of t s h r) actor m).reply
-reply_turned turn.Moves s h r actor m = refl
-reply_turned turn.Waits s h r actor m = refl
-reply_turned (turn.Ends (Ok answer)) s h r actor m = refl
-reply_turned (turn.Ends (Err fault)) s h r actor m = refl
+told_turned : (t : Turn) (s : machine.Shared) (h : machine.HandState) (r : machine.Running) (actor : ℕ) (m : machine.World)
+    → told_by (replied t) ≡ Replied (turned (turn_of t s h r) actor m).reply
+told_turned turn.Moves s h r actor m = refl
+told_turned turn.Waits s h r actor m = refl
+told_turned (turn.Ends (Ok answer)) s h r actor m = refl
+told_turned (turn.Ends (Err fault)) s h r actor m = refl
 
 -- and what it leads to is shown
 shows_turned : (t : Turn) (w : WorldState) (m : machine.World) (actor : ℕ) (d : Actor) (new : Shared) (state : Actor)
@@ -125,7 +126,7 @@ pub steps_on : (w : WorldState) (m : machine.World) (actor : ℕ) (d : Actor) (n
     → new.geometry ≡ w.shared.geometry
     → ((r : machine.Running) → ShowsCall (slice_index_or w.actors actor d).reserved running r
     → HasTurned actor w.shared (slice_index_or w.actors actor d).reserved running r answer new state)
-    → (granted : Bool) × (reply_of answer ≡ (step m (machine.Go actor granted)).reply)
+    → (granted : Bool) × (told_by answer ≡ Replied (step m (machine.Go actor granted)).reply)
     × Shows (world_with new actor state w) (step m (machine.Go actor granted)).world
 steps_on w m actor d new state running answer shows lt is same by =
     let before = (slice_index_or w.actors actor d).reserved in
@@ -148,7 +149,8 @@ steps_on w m actor d new state running answer shows lt is same by =
     let all : step m (machine.Go actor granted) ≡ turned (turn_of done.result s h after) actor m =
     go_is m actor granted r (omega (arith, lt, shows.count)) call.1 ∙ ap (λ (t : machine.Turn). turned t actor m) made in (
       granted,
-      ap reply_of done.reply_is ∙ reply_turned done.result s h after actor m ∙ ap (λ (x : machine_step.Step). x.reply) (sym all),
+      ap told_by done.reply_is ∙ told_turned done.result s h after actor m
+          ∙ ap (λ (x : machine_step.Step). Replied x.reply) (sym all),
       subst (λ (x : machine_step.Step). Shows (world_with new actor state w) x.world) (sym all)
           (shows_turned done.result w m actor d new state running done.after after shows lt is same done.is.shows done.waits done.still_is),
     )

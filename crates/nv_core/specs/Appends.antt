@@ -6,7 +6,7 @@ use Rattle.nv_calls.specs.declared.plan.InodePlan.{InodePlan}
 use Rattle.nv_machine.specs.Reads.{is_written}
 use Rattle.nv_core.specs.declared.reservation.Reservation.{Reservation}
 use Rattle.nv_core.specs.declared.reservation.Reservation.TheVariants as reserved
-use Rattle.nv_core.specs.Shown.{GhostCall}
+use Rattle.nv_core.specs.Shown.{ShownCall}
 use Rattle.nv_core.specs.GhostCalls.{IsPlaceOf}
 
 -- a plan has entries for these slots alone, and their places are the numbers from 0 on
@@ -15,7 +15,7 @@ pub record IsPlanOf (slots : List ℕ) (plan : List InodePlan) : Type 0 where
   pub within : (ino : ℕ) → is_written plan ino ≡ true → has slots ino ≡ true
 
 -- what is ready has a plan for the call's slots alone, and so has a commit, whose next entries have their place
-abbrev pub IsPlacedBy : List ℕ → Reservation → GhostCall → Type 0
+abbrev pub IsPlacedBy : List ℕ → Reservation → ShownCall → Type 0
 IsPlacedBy slots (reserved.Hand hand) told = Unit {0}
 IsPlacedBy slots (reserved.Ready ready) told = IsPlanOf slots told.plan
 IsPlacedBy slots (reserved.Commit commit) told = IsPlanOf slots told.plan × IsPlaceOf slots commit told

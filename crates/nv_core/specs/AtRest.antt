@@ -39,6 +39,7 @@ at_rest parts = record {
 abbrev pub IsBusy : machine.World → Type 0
 IsBusy m = (actor : ℕ) × (is_some (machine.actor_at m actor).running ≡ true)
 
+-- the actor has a call
 abbrev pub has_call : Actor → Bool
 has_call actor = is_some actor.running
 
@@ -46,6 +47,7 @@ has_call actor = is_some actor.running
 abbrev pub AreJudged : Parts → Type 0
 AreJudged parts = AreAtRest parts.geometry.numbers (states_of parts.cells) parts.lists parts.pool parts.book.state
 
+-- the fault tells the first part that differs from a world at rest
 abbrev pub IsMismatchOf : Parts → Fault → Type 0
 IsMismatchOf parts (Mismatch part) =
     IsFirstAtRest part parts.geometry.numbers (states_of parts.cells) parts.lists parts.pool parts.book.state

@@ -29,21 +29,27 @@ use Rattle.nv_core.specs.declared.world.Actor.{Actor}
 abbrev pub killed_part : ℕ → KilledPart → InodePart
 killed_part ino killed = record { ino = ino; part = killed.part }
 
--- the parts of lists that belong to these slots one by one
+-- the parts of lists that belong to these slots one by one.
+-- Parts are those of an inode slot that a call has published over and not yet retired, and that of a record which a
+-- `drain` call has picked. In the example, between `publish` and `retire` the hand has the Size and the page of the
+-- first Write, and no manifest has a record of them yet.
 abbrev pub slot_parts : List ℕ → List (List KilledPart) → List InodePart
 slot_parts [] killed = []
 slot_parts (slot ∷ slots) [] = []
 slot_parts (slot ∷ slots) (parts ∷ rest) = map (killed_part slot) parts ++ slot_parts slots rest
 
+-- the parts that an actor's call has killed or picked
 abbrev pub parts_by_call : Option machine.Running → machine.HandState → List InodePart
 parts_by_call None h = []
 parts_by_call (Some r) h =
     map inode_part (machine_held.picked_at r.next) ++ slot_parts (machine_held.killed_slots r.next (written_slots r)) h.killed
 
+-- the parts that an actor has killed or picked
 abbrev pub parts_by_actor : machine.Actor → List InodePart
 parts_by_actor actor = parts_by_call actor.running actor.hand
 
--- A WORLD AS A DEVICE BETWEEN TWO STEPS
+-- A WORLD AS A DEVICE BETWEEN TWO STEPS.
+-- A world as a device: what is shared as it stands, and of all actors the blocks of their hands and their parts.
 abbrev pub device_of : GeometryNumbers → machine.World → Device
 device_of g w = record {
   numbers = g;
@@ -56,6 +62,7 @@ device_of g w = record {
 
 -- ---- by the code
 
+-- the numbers of the blocks in an actor's hand
 abbrev pub blocks_by : Actor → List ℕ
 blocks_by actor = held_in (held_by actor.reserved)
 
@@ -65,6 +72,7 @@ picked_on (on.LockPicked draining picked) = inode_part picked ∷ []
 picked_on (on.Release draining picked) = inode_part picked ∷ []
 picked_on other = []
 
+-- the part of the record that a step has picked, if it has
 abbrev pub picked_by : Next → List InodePart
 picked_by (next.Maintenance step) = picked_on step
 picked_by other = []
@@ -73,14 +81,17 @@ picked_by other = []
 abbrev pub killed_by_plan : List ℕ → CellCommitValue → List InodePart
 killed_by_plan slots plan = map (killed_part (slot_at slots plan.at)) plan.killed
 
+-- the parts that a commit has killed and not yet retired
 abbrev pub killed_by_plans : List ℕ → CommitValue → List InodePart
 killed_by_plans slots commit = flat_map (killed_by_plan slots) (drop commit.retired (take commit.published commit.plans))
 
+-- the parts that a call with this hold has killed or picked
 abbrev pub parts_with : Reservation → Option Running → List InodePart
 parts_with (reserved.Hand hand) (Some running) = picked_by running.next
 parts_with (reserved.Commit commit) (Some running) = killed_by_plans (slots_in running.slots) commit
 parts_with other running = []
 
+-- the parts that an actor has killed or picked, in the code's words
 abbrev pub parts_by : Actor → List InodePart
 parts_by actor = parts_with actor.reserved actor.running
 

@@ -24,7 +24,7 @@ use Rattle.nv_core.specs.declared.shared.Shared.{Shared}
 -- a call that has steps of its own, whatever its next one is
 pub record IsMaintaining (running : Running) : Type 0 where
   pub request : IsMaintenance running.request
-  pub overtaken : running.ending ≡ ending.Overtaken → IsLookAt 0 running.request
+  pub overtaken : running.ending ≡ ending.BoundAnew → IsLookAt 0 running.request
 
 -- ---- what the judge chose
 

@@ -8,7 +8,7 @@ use Rattle.nv_core.specs.Committing.{IsCommitting}
 use Rattle.nv_core.specs.Frames.{LeavesCells}
 use Rattle.nv_core.specs.Parts.{AreSlots}
 use Rattle.nv_core.specs.Rooms.{IsHandOf, committing_cpu}
-use Rattle.nv_core.specs.Shown.{GhostCall, slots_in}
+use Rattle.nv_core.specs.Shown.{ShownCall, slots_in}
 use Rattle.nv_core.specs.GhostCalls.{IsCommitOf}
 use Rattle.nv_core.specs.declared.running.Running.{Running}
 use Rattle.nv_core.specs.declared.shared.Shared.{Shared}
@@ -22,7 +22,7 @@ pub record IsAtStep (next : CommitStep) (shared : Shared) (running : Running) (c
 
 -- after its step it is still on its way, what is told of it still holds, and the cells of other slots are as they were
 pub record HasStepped (running : Running) (old new : Shared) (before after : CommitValue) : Type 0 where
-  pub told : (told : GhostCall) → IsCommitOf (slots_in running.slots) before told → IsCommitOf (slots_in running.slots) after told
+  pub told : (told : ShownCall) → IsCommitOf (slots_in running.slots) before told → IsCommitOf (slots_in running.slots) after told
   pub committing : IsCommitting (committing_cpu new) (lent_cells (slots_in running.slots) new.cells.items) new.book after
   pub sized : IsHandOf new.geometry.numbers after.hand
   pub rest : LeavesCells (slots_in running.slots) old new

@@ -14,6 +14,7 @@ pub record Begin : Type 0 where
   pub shelf : BookValue
   pub ready : ReadyValue
 
+-- a commit at its beginning
 abbrev pub first_of : Begin → CommitValue
 first_of b = begun (stamp_of b.shelf.state) b.ready
 
@@ -22,6 +23,7 @@ first_of b = begun (stamp_of b.shelf.state) b.ready
 abbrev pub noted_by : ℕ → List (ℕ × CellValue) → CommitValue → CommitValue
 noted_by cpu cells commit = if nat_lt 1 (length commit.plans) then after_open cpu (old_tails cells commit.plans) commit else commit
 
+-- the book once the journal was opened, where several cells are written
 abbrev pub shelf_by : ℕ → List (ℕ × CellValue) → CommitValue → BookValue → BookValue
 shelf_by cpu cells commit shelf =
     if nat_lt 1 (length commit.plans) then record shelf { state = with_journal cpu (old_tails cells commit.plans) shelf.state } else shelf
@@ -49,7 +51,8 @@ pub record IsRetiring (b : Begin) (cpu : ℕ) (now : List (ℕ × CellValue)) (b
   pub done : PublishesTo (length b.ready.plans) full (noted_by cpu full appended) over published
   pub to : RetiresTo commit.retired over (after_close published) b.shelf now commit book
 
--- A COMMIT IS ON ITS WAY over the cells of its call, with that CPU's journal
+-- A COMMIT IS ON ITS WAY over the cells of its call, with that CPU's journal.
+-- In its commit it is told how far that has come from what stood at `enter`: it appends, publishes or retires.
 pub record IsCommitting (cpu : ℕ) (now : List (ℕ × CellValue)) (book : BookValue) (commit : CommitValue) : Type 0 where
   pub begin : Begin
   pub can : CanCommit begin.cells begin.shelf cpu begin.ready

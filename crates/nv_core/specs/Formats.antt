@@ -34,5 +34,6 @@ empty_of g = record {
   ino = None;
 }
 
+-- an actor without a call, with an empty hand of the device's size
 abbrev pub idle_actor : GeometryNumbers → Actor
 idle_actor g = record { reserved = reserved.Hand (empty_of g); running = None }

@@ -5,7 +5,9 @@ use Rattle.nv_calls.specs.SlotCells.{cell_in, other_cells}
 use Rattle.nv_core.specs.declared.shared.Shared.{Shared}
 
 -- a step of an actor that holds these slots leaves all other cells as they were, and the book where
--- another actor commits
+-- another actor commits.
+-- What a step leaves to others: all cells except those that its call holds, and the book while another actor
+-- commits.
 pub record LeavesRest (actor : ℕ) (held : List ℕ) (old new : Shared) : Type 0 where
   pub geometry : new.geometry ≡ old.geometry
   pub lists : length new.lists.items ≡ length old.lists.items

@@ -26,7 +26,7 @@ use Rattle.nv_core.specs.declared.request.PendingAnswer.{PendingAnswer}
 use Rattle.nv_core.specs.declared.next.Ending.{Ending}
 use Rattle.nv_core.specs.declared.next.Ending.TheVariants as ending
 use Rattle.nv_core.specs.declared.running.Running.{Running}
-use Rattle.nv_core.specs.Shown.{GhostCall, answered}
+use Rattle.nv_core.specs.Shown.{ShownCall, answered}
 
 -- ---- the call
 
@@ -41,8 +41,10 @@ IsRequestOf (request.Visit visit) owed c = c ≡ visit
 IsRequestOf (request.Maintenance on) owed c = (c ≡ call.Maintenance on) × IsOwed owed c
 IsRequestOf request.Given owed c = IsOwed owed c
 
-abbrev pub IsGhostCallOf : Running → GhostCall → Type 0
-IsGhostCallOf running told = IsRequestOf running.request running.owed told.call
+-- So three things tie them: what is owed to the call, the plans of what is ready or on its way, and the place of
+-- the next entry.
+abbrev pub IsShownCallOf : Running → ShownCall → Type 0
+IsShownCallOf running told = IsRequestOf running.request running.owed told.call
 
 -- the same request
 pub record KeepsRequest (old new : Running) : Type 0 where
@@ -58,17 +60,17 @@ pub record ArePlansOf (slots : List ℕ) (plan : List InodePlan) (from : ℕ) (p
       → (plan_at plans j).items ≡ items_for plan (slot_at slots (plan_at plans j).at)
 
 -- what is ready is what the plan says
-abbrev pub IsReadyOf : List ℕ → ReadyValue → GhostCall → Type 0
+abbrev pub IsReadyOf : List ℕ → ReadyValue → ShownCall → Type 0
 IsReadyOf slots ready told = ArePlansOf slots told.plan 0 ready.plans
 
 -- a commit has the number and the epoch that are told, and the entries that it has yet to append are the plan's
-pub record IsCommitOf (slots : List ℕ) (commit : CommitValue) (told : GhostCall) : Type 0 where
+pub record IsCommitOf (slots : List ℕ) (commit : CommitValue) (told : ShownCall) : Type 0 where
   pub number : commit.stamp.commit ≡ told.commit
   pub epoch : commit.stamp.epoch ≡ told.epoch
   pub plans : ArePlansOf slots told.plan commit.appended commit.plans
 
 -- the next entries that it appends have the places that the plan says
-abbrev pub IsPlaceOf : List ℕ → CommitValue → GhostCall → Type 0
+abbrev pub IsPlaceOf : List ℕ → CommitValue → ShownCall → Type 0
 IsPlaceOf slots commit told =
     commit.appended < length commit.plans → commit.place ≡ place_in told.plan (slot_at slots (to_append commit).at)
 
@@ -86,6 +88,7 @@ IsVisit c = beginning c ≡ Visits
 
 -- ---- what a request is
 
+-- the request changes nodes
 abbrev pub is_change : Request → Bool
 is_change (request.Change plan text) = true
 is_change other = false
@@ -101,16 +104,17 @@ makes_inode (request.Change plan text) = makes plan.update
 makes_inode other = false
 
 -- where it is to be answered, it is told what is owed
-abbrev pub OwesAt : Ending → Running → GhostCall → Type 0
+abbrev pub OwesAt : Ending → Running → ShownCall → Type 0
 OwesAt how running told = how ≡ ending.Answers → IsOwed running.owed told.call
 
 -- ---- the sequence, where the call stands apart
 
+-- the next step in the loop of looks, in the code's words
 abbrev pub looking_at : ℕ → List ℕ → Call → Next
 looking_at place slots c = if nat_lt place (length (directories c)) then Look place else locking 0 slots
 
 -- a call that starts
-abbrev pub starting : Call → GhostCall
+abbrev pub starting : Call → ShownCall
 starting c = record { call = c; plan = []; commit = 0; epoch = 0 }
 
 -- ---- commits on their way
@@ -127,15 +131,16 @@ pub record IsOnItsWay (commit : CommitValue) : Type 0 where
   pub between : 2 ≤ length commit.plans → 0 < commit.published → commit.published < length commit.plans → is_open commit ≡ true
 
 -- a call that has entered has the next number of the book, and its epoch
-abbrev pub entered : BookState → GhostCall → GhostCall
+abbrev pub entered : BookState → ShownCall → ShownCall
 entered book told = record told { commit = book.commit + 1; epoch = book.snaps.epoch }
 
-abbrev pub told_by : Reservation → BookState → GhostCall → GhostCall
-told_by (reserved.Commit commit) book told = entered book told
-told_by other book told = told
+-- a shown call, once it has entered where it is in a commit
+abbrev pub shown_in : Reservation → BookState → ShownCall → ShownCall
+shown_in (reserved.Commit commit) book told = entered book told
+shown_in other book told = told
 
 -- what a hold has of the plan is told
-abbrev pub IsReservationOf : List ℕ → Reservation → GhostCall → Type 0
+abbrev pub IsReservationOf : List ℕ → Reservation → ShownCall → Type 0
 IsReservationOf slots (reserved.Hand hand) told = Unit {0}
 IsReservationOf slots (reserved.Ready ready) told = IsReadyOf slots ready told
 IsReservationOf slots (reserved.Commit commit) told = IsCommitOf slots commit told
@@ -167,6 +172,6 @@ abbrev pub IsLookAt : ℕ → Request → Type 0
 IsLookAt place j = IsChangeWith (λ u. place < length (directories (blank_call u))) j
 
 -- a call that is ready has its plan
-abbrev pub planned : Reservation → ℕ → Shared → HandState → machine.Running → GhostCall → GhostCall
+abbrev pub planned : Reservation → ℕ → Shared → HandState → machine.Running → ShownCall → ShownCall
 planned (reserved.Ready ready) block s h r told = record told { plan = plan_by block s h r }
 planned other block s h r told = told

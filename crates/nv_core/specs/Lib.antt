@@ -12,12 +12,14 @@ pub mod Parts
 pub mod Picked
 pub mod Readied
 pub mod Reports
+pub mod Restarts
 pub mod Rooms
 pub mod Scans
 pub mod Settled
 pub mod Shown
 pub mod Sinks
 pub mod Steps
+pub mod Stops
 pub mod Takings
 pub mod GhostCalls
 pub mod Turns

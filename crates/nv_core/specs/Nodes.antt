@@ -15,7 +15,7 @@ use Rattle.nv_calls.specs.declared.update.Update.{Update}
 use Rattle.nv_calls.specs.SlotCells.{lent_cells}
 use Rattle.nv_cell.specs.Cell.{CellState, CellValue}
 use Rattle.nv_machine.specs.Reads.{bytes_among}
-use Rattle.nv_machine.specs.World.{Answers, Ending, Overtaken, Refuses}
+use Rattle.nv_machine.specs.World.{Answers, Ending, BoundAnew, Refuses}
 use Rattle.nv_core.specs.declared.shared.Shared.{Shared}
 use Rattle.nv_core.specs.Parts.{AreSlots}
 
@@ -39,9 +39,10 @@ pub record CanRead (shared : Shared) (slots : List ℕ) (list : List Handle) : T
 
 -- ---- the check
 
+-- how a check ends a call, in the machine's words
 abbrev pub ended_by : CheckEnd → Ending
 ended_by (ends.Refuses fault) = Refuses fault
-ended_by ends.Overtaken = Overtaken
+ended_by ends.BoundAnew = BoundAnew
 ended_by ends.Answers = Answers
 
 -- how a check ends a call, by whether it commits nothing

@@ -19,6 +19,7 @@ pub record IsListOf (g : GeometryNumbers) (cpu : ℕ) (list : FreeBlocks) : Type
   pub end : list.end ≡ home_start g.blocks g.cpus (cpu + 1)
   pub size : list.size ≡ g.block
 
+-- there is a list for each CPU, of its home range
 pub record AreListsOf (g : GeometryNumbers) (lists : List FreeBlocks) : Type 0 where
   pub count : length lists ≡ g.cpus
   pub each : (cpu : ℕ) → cpu < g.cpus → IsListOf g cpu (slice_index_or lists cpu no_list)

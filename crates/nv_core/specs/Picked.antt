@@ -11,18 +11,22 @@ use Rattle.nv_core.specs.declared.next.MaintenanceStep.TheVariants as on
 use Rattle.nv_core.specs.declared.running.Running.{Running}
 use Rattle.nv_core.specs.declared.world.Actor.{Actor}
 
+-- 1 for the record of a file page, else 0
 abbrev pub block_of : Record → ℕ
 block_of d = if is_page d.part then 1 else 0
 
+-- the blocks of the record that a step has picked
 abbrev pub picked_on : MaintenanceStep → ℕ
 picked_on (on.LockPicked draining picked) = block_of picked
 picked_on (on.Release draining picked) = block_of picked
 picked_on other = 0
 
+-- the blocks of the record that such a next step has picked
 abbrev pub picked_at : Next → ℕ
 picked_at (next.Maintenance step) = picked_on step
 picked_at other = 0
 
+-- the blocks of the record that a call has picked
 abbrev pub picked_by : Option Running → ℕ
 picked_by None = 0
 picked_by (Some running) = picked_at running.next

@@ -12,7 +12,7 @@ use Rattle.nv_calls.specs.Cells.{AreCells}
 use Rattle.nv_calls.specs.Locked.{handles}
 use Rattle.nv_calls.specs.Nodes.{nodes_in}
 use Rattle.nv_calls.specs.PagesWanted.{pages_wanted}
-use Rattle.nv_calls.specs.Prepared.{CanReady, HasNumberFor, IsReadyBy, IsStill, HaveNoLessRoom, made_by, makes, no_handle, planned_by}
+use Rattle.nv_calls.specs.Prepared.{CanReady, HasNumberFor, IsReadyBy, IsStill, HaveNoLessRoom, handle_made_by, makes, no_handle, planned_by}
 use Rattle.nv_calls.specs.Ready.{ReadyValue}
 use Rattle.nv_calls.specs.Refusals.{passes}
 use Rattle.nv_calls.specs.SlotCells.{lent_cells}
@@ -91,10 +91,12 @@ IsCleaning (next.Maintenance (on.Unlink plan)) = Unit {0}
 IsCleaning (next.Maintenance (on.Compact plan)) = Unit {0}
 IsCleaning other = ⊥
 
+-- the step reads a node of a show
 abbrev pub IsShow : Next → Type 0
 IsShow (next.Maintenance (on.Show snapshot showing)) = Unit {0}
 IsShow other = ⊥
 
+-- the step takes a pin off
 abbrev pub IsUnpin : Next → Type 0
 IsUnpin (next.Maintenance (on.Unpin snapshot seen)) = Unit {0}
 IsUnpin other = ⊥
@@ -103,13 +105,13 @@ IsUnpin other = ⊥
 pub record FitsCall (running : Running) : Type 0 where
   pub before : FitsNext running.next running.request
   pub looks : LooksAsTold running.request running.looked
-  pub overtaken : running.ending ≡ ending.Overtaken → IsLookAt 0 running.request
+  pub overtaken : running.ending ≡ ending.BoundAnew → IsLookAt 0 running.request
 
 -- a call can turn to its last steps, to end so
 pub record CanEnd (running : Running) (how : Ending) : Type 0 where
   pub request : IsNoVisit running.request
   pub looks : LooksAsTold running.request running.looked
-  pub overtaken : how ≡ ending.Overtaken → IsLookAt 0 running.request
+  pub overtaken : how ≡ ending.BoundAnew → IsLookAt 0 running.request
 
 -- ---- hands
 
@@ -118,6 +120,7 @@ pub record IsHandOf (g : GeometryNumbers) (hand : Hand) : Type 0 where
   pub blocks : hand.«data».size ≡ g.block
   pub pages : hand.pages.size ≡ g.block
 
+-- the hand, whoever has it
 abbrev pub hand_held : Reservation → Hand
 hand_held (reserved.Hand hand) = hand
 hand_held (reserved.Ready ready) = ready.hand
@@ -141,12 +144,13 @@ pub record IsChecked (shared : Shared) (slots : List ℕ) (hand : Hand) (looked 
 -- the handle of the inode that it makes is that of the number in its hand
 abbrev pub HasMade : Shared → List ℕ → Hand → Handle → Update → Type 0
 HasMade shared slots hand made u =
-    makes u ≡ true → made ≡ unwrap_or (made_by (lent_cells slots shared.cells.items) hand.ino u) no_handle
+    makes u ≡ true → made ≡ unwrap_or (handle_made_by (lent_cells slots shared.cells.items) hand.ino u) no_handle
 
 -- how many blocks the call takes, and how many log pages with the blocks in its hand
 abbrev pub blocks_to_take : Shared → List ℕ → Update → ℕ
 blocks_to_take shared slots u = wanted_over shared.geometry.numbers.block (lent_cells slots shared.cells.items) u
 
+-- how many log pages a call takes for its plan
 abbrev pub pages_to_take : Shared → List ℕ → Hand → Update → ℕ
 pages_to_take shared slots hand u =
     pages_wanted (lent_cells slots shared.cells.items) (planned_by (lent_cells slots shared.cells.items) hand u)
@@ -157,7 +161,8 @@ pub record HasItsBlocks (shared : Shared) (slots : List ℕ) (hand : Hand) (u : 
   pub none : hand.pages.blocks ≡ []
   pub room : min (pages_to_take shared slots hand u) (length hand.«data».blocks + MORE_PAGES) ≤ hand.pages.room
 
--- it takes data blocks: so many are wanted yet, there is room for them, and for the log pages that they can need
+-- it takes data blocks: so many are wanted yet, there is room for them, and for the log pages that they can need.
+-- So many data blocks and log pages are taken, with room for those that are still wanted.
 pub record TakesBlocks (shared : Shared) (slots : List ℕ) (hand : Hand) (asked wanted : ℕ) (u : Update) : Type 0 where
   pub count : length hand.«data».blocks + wanted ≡ blocks_to_take shared slots u
   pub none : hand.pages.blocks ≡ []
@@ -177,6 +182,7 @@ pub record HasTaken (shared : Shared) (slots : List ℕ) (hand : Hand) (u : Upda
   pub blocks : length hand.«data».blocks ≡ blocks_to_take shared slots u
   pub pages : length hand.pages.blocks ≡ pages_to_take shared slots hand u
 
+-- a call that takes blocks has passed its check, and its hand has room
 abbrev pub Takes : Next → Shared → List ℕ → Hand → ℕ → LookupResult → Update → Type 0
 Takes (next.TakeBlocks asked) shared slots hand wanted looked u =
     IsChecked shared slots hand looked u × TakesBlocks shared slots hand asked wanted u
@@ -192,6 +198,7 @@ takes (next.TakeLogPages asked) = true
 takes next.Ready = true
 takes other = false
 
+-- a call that took all has what it wants
 abbrev pub TakesIf : Bool → Shared → Hand → Running → Type 0
 TakesIf false shared hand running = Unit {0}
 TakesIf true shared hand running =
@@ -247,6 +254,7 @@ abbrev pub CanDrain : Ending → Request → Hand → Type 0
 CanDrain (ending.Drains draining) j hand = IsMaintenance j × (draining.released + draining.left ≤ DRAIN) × HoldsOne hand
 CanDrain other j hand = Unit {0}
 
+-- what the next step of a call asks of its hand and of its request
 abbrev pub HasNextRoom : Next → Ending → Request → Shared → Hand → Type 0
 HasNextRoom (next.Maintenance step) how j shared hand = HasStepRoom step shared hand
 HasNextRoom (next.Unlock place) how j shared hand = CanDrain how j hand
@@ -261,7 +269,8 @@ IsNoDrain other = Unit {0}
 
 -- ---- ready
 
--- these cells and this call were made ready with that hand: since then the cells have changed in their room alone
+-- these cells and this call were made ready with that hand: since then the cells have changed in their room alone.
+-- Once the call is ready, it was made so over these cells, which have lost no room since.
 pub record IsReadyOver (now : List (ℕ × CellValue)) (ready : ReadyValue) : Type 0 where
   pub cells : List (ℕ × CellValue)
   pub hand : Hand
@@ -276,6 +285,7 @@ pub record IsReadyOver (now : List (ℕ × CellValue)) (ready : ReadyValue) : Ty
 abbrev pub committing_cpu : Shared → ℕ
 committing_cpu shared = unwrap_or shared.holder 0 % length shared.lists.items
 
+-- Rooms: what holds of a running call beside what is shown of it, so that its next step needs nothing else.
 abbrev pub HasRooms : Shared → Reservation → Running → Type 0
 HasRooms shared (reserved.Hand hand) running =
     FitsCall running × IsHandOf shared.geometry.numbers hand × TakesIf (takes running.next) shared hand running
@@ -292,6 +302,7 @@ abbrev pub IsIdle : Shared → Reservation → Type 0
 IsIdle shared (reserved.Hand hand) = IsHandOf shared.geometry.numbers hand
 IsIdle shared other = ⊥
 
+-- what an actor has between two steps is as its call asks
 abbrev pub HasActorRooms : Shared → Reservation → Option Running → Type 0
 HasActorRooms shared reserved None = IsIdle shared reserved
 HasActorRooms shared reserved (Some running) = HasRooms shared reserved running

@@ -1,7 +1,7 @@
 -- What a world's reports say, by one scan of all logs, of the snapshot list, of records and of hands.
 use Rattle.std.specs.Prelude.{ℕ, ◌-◌, List, length, map}
 use Rattle.std.specs.List.{range_with_len}
-use Rattle.nv_alloc.specs.Runs.{runs_of}
+use Rattle.nv_alloc.specs.Runs.{free_runs_of}
 use Rattle.nv_alloc.specs.declared.runs.FreeRun.{FreeRun}
 use Rattle.nv_audit.specs.Counts.{scanned_counts}
 use Rattle.nv_epoch.specs.declared.snapshot.Snapshot.{Snapshot}
@@ -14,7 +14,9 @@ use Rattle.nv_core.specs.declared.snaps.SnapCounts.{SnapCounts}
 use Rattle.nv_core.specs.declared.snaps.Snaps.{Snaps}
 
 -- WHERE THE BLOCKS ARE: free; log pages; pages that are current or that a living snapshot holds; pages of pending
--- records; and all others
+-- records; and all others.
+-- `space_by_scan`: the blocks that logs leave free, the log pages of chains, the pages that are needed, the pages
+-- of pending records, and the rest. What it sums stands in `Scanned` of `nv_machine`.
 abbrev pub space_by_scan : World → Space
 space_by_scan w = record {
   free = scanned_free w;
@@ -26,10 +28,11 @@ space_by_scan w = record {
 
 -- THE FREE LISTS, CPU by CPU: the runs of the numbers that the logs leave
 abbrev pub lists_by_scan : World → List (List FreeRun)
-lists_by_scan w = map (λ cpu. runs_of (free_by_logs w.numbers w cpu)) (range_with_len 0 w.numbers.cpus)
+lists_by_scan w = map (λ cpu. free_runs_of (free_by_logs w.numbers w cpu)) (range_with_len 0 w.numbers.cpus)
 
 -- A LOG IN NUMBERS: its entries up to the tail, and of each page how many have a current pair, and how many one that
--- is needed, pending or killed
+-- is needed, pending or killed.
+-- `log_by_scan`: the counts from scratch, by what is needed, pending or killed.
 abbrev pub log_by_scan : World → ℕ → LogCounts
 log_by_scan w ino =
     let cell = cell_at w.shared ino in
@@ -47,6 +50,8 @@ snap_by_scan w snapshot = record {
   pins = snapshot.pins;
 }
 
+-- `snaps_by_scan`: of each living snapshot the pages that it holds and that are no longer current, except for those
+-- that are killed and not yet retired; and those of them that no other living snapshot holds.
 abbrev pub snaps_by_scan : World → Snaps
 snaps_by_scan w = record {
   epoch = w.shared.book.snaps.epoch;

@@ -18,6 +18,7 @@ pub record CanSettle (s : Shared) (ino : ℕ) : Type 0 where
   pub own : HasOwnBytes s ino
   pub pages : NoneOut (cell_at s ino) (settled s ino)
 
+-- each slot can be settled: its marks and blocks are those of its log
 abbrev pub AreSettled : Shared → Type 0
 AreSettled s = (ino : ℕ) → ino < length s.cells → CanSettle s ino
 
@@ -25,8 +26,10 @@ AreSettled s = (ino : ℕ) → ino < length s.cells → CanSettle s ino
 abbrev pub AreSettledAt : ℕ → Shared → Type 0
 AreSettledAt epoch s = (handle : Handle) → copies_at s epoch handle ≡ settled_copies s epoch handle
 
+-- the tree at an epoch, by what is shared
 abbrev pub tree_at : ℕ → Shared → List TreeNode
 tree_at epoch s = tree_from (settled_copies s epoch) (length s.cells) [] root
 
+-- the tree now, by what is shared
 abbrev pub tree_in : Shared → List TreeNode
 tree_in s = tree_from (node_in (settled_nodes s)) (length s.cells) [] root

@@ -36,6 +36,7 @@ use Rattle.nv_core.specs.declared.turn.Turn.TheVariants as turn
 
 -- ---- what is shared
 
+-- what is shared, in the machine's words
 abbrev pub shared_of : Shared → machine.Shared
 shared_of shared = record {
   lists = shared.lists.items;
@@ -58,6 +59,7 @@ hand_with killed hand = record {
   killed = killed;
 }
 
+-- a hand, in the machine's words
 abbrev pub hand_of : Hand → machine.HandState
 hand_of hand = hand_with [] hand
 
@@ -65,26 +67,30 @@ hand_of hand = hand_with [] hand
 abbrev pub killed_in : CommitValue → List (List KilledPart)
 killed_in commit = map (λ p. p.killed) (drop commit.retired (take commit.published commit.plans))
 
+-- the hand of a commit, in the machine's words
 abbrev pub hand_in : CommitValue → machine.HandState
 hand_in commit = hand_with (killed_in commit) commit.hand
 
 -- ---- calls
 
 -- what a running call of the machine has that the code has used up, or keeps in its commit
-pub record GhostCall : Type 0 where
+pub record ShownCall : Type 0 where
   pub call : Call
   pub plan : List InodePlan
   pub commit : ℕ
   pub epoch : ℕ
 
+-- how far a drain is, in the machine's words
 abbrev pub draining_of : Draining → machine.Draining
 draining_of draining = record { released = draining.released; left = draining.left }
 
+-- how a cleaner cleans, in the machine's words
 abbrev pub manner_of : Manner → machine.Manner
 manner_of manner.Fast = machine.Fast
 manner_of manner.Thorough = machine.Thorough
 manner_of manner.Auto = machine.Auto
 
+-- a step on snapshots, or of a cleaner, in the machine's words
 abbrev pub step_on : MaintenanceStep → machine.MaintenanceStep
 step_on on.Make = machine.Make
 step_on (on.Drop snapshot) = machine.Drop snapshot
@@ -100,6 +106,7 @@ step_on (on.Fresh fresh) = machine.Fresh fresh.plan.ino fresh.asked fresh.left
 step_on (on.Unlink plan) = machine.Unlink plan.ino
 step_on (on.Compact plan) = machine.Compact plan.ino
 
+-- the next step, in the machine's words
 abbrev pub next_of : Next → machine.Next
 next_of next.Number = machine.Number
 next_of (next.Look place) = machine.Look place
@@ -120,23 +127,26 @@ snapshot_in (next.Maintenance (on.Show snapshot showing)) = snapshot
 snapshot_in (next.Maintenance (on.Unpin snapshot seen)) = snapshot
 snapshot_in other = 0
 
+-- the walk of a show, if the next step has one
 abbrev pub showing_in : Next → Showing
 showing_in (next.Maintenance (on.Show snapshot showing)) = showing
 showing_in other = record { left = 0; visits = []; seen = [] }
 
+-- what a show has seen, if the next step takes its pin off
 abbrev pub seen_in : Next → List TreeNode
 seen_in (next.Maintenance (on.Unpin snapshot seen)) = seen
 seen_in other = []
 
+-- how a call is to end, in the machine's words
 abbrev pub ending_of : Ending → machine.Ending
 ending_of ending.Answers = machine.Answers
 ending_of (ending.Refuses fault) = machine.Refuses fault
-ending_of ending.Overtaken = machine.Overtaken
+ending_of ending.BoundAnew = machine.BoundAnew
 ending_of (ending.Drains draining) = machine.Drains (draining_of draining)
 ending_of (ending.Cleans cleaned) = machine.Cleans cleaned
 
 -- a running call before that step
-abbrev pub shown_at : machine.Next → GhostCall → Running → machine.Running
+abbrev pub shown_at : machine.Next → ShownCall → Running → machine.Running
 shown_at next told running = record {
   call = told.call;
   next = next;
@@ -152,15 +162,16 @@ shown_at next told running = record {
 }
 
 -- one that is not made ready, or whose commit is over
-abbrev pub shown : GhostCall → Running → machine.Running
+abbrev pub shown : ShownCall → Running → machine.Running
 shown told running = shown_at (next_of running.next) told running
 
 -- one that is ready
-abbrev pub shown_ready : GhostCall → Running → machine.Running
+abbrev pub shown_ready : ShownCall → Running → machine.Running
 shown_ready told running = shown_at machine.Enter told running
 
 -- ---- commits
 
+-- the next step of a commit, in the machine's words
 abbrev pub machine_step : CommitStep → CommitValue → machine.Next
 machine_step step.Append commit = machine.Append commit.appended
 machine_step step.Open commit = machine.Open
@@ -173,19 +184,21 @@ machine_step step.Leave commit = machine.Leave
 abbrev pub commit_next : CommitValue → machine.Next
 commit_next commit = machine_step (step_of commit) commit
 
-abbrev pub shown_commit : CommitValue → GhostCall → Running → machine.Running
+-- a call in a commit, in the machine's words
+abbrev pub shown_commit : CommitValue → ShownCall → Running → machine.Running
 shown_commit commit told running = shown_at (commit_next commit) told running
 
 -- ---- what an actor holds
 
--- what is in the hand, whoever has it
+-- what is in the hand, whoever has it.
+-- Of a hold its hand is shown, with the killed parts that its commit has yet to retire.
 abbrev pub held_by : Reservation → machine.HandState
 held_by (reserved.Hand hand) = hand_of hand
 held_by (reserved.Ready ready) = hand_of ready.hand
 held_by (reserved.Commit commit) = hand_in commit
 
 -- the running call before its next step
-abbrev pub shown_by : Reservation → GhostCall → Running → machine.Running
+abbrev pub shown_by : Reservation → ShownCall → Running → machine.Running
 shown_by (reserved.Hand hand) told running = shown told running
 shown_by (reserved.Ready ready) told running = shown_ready told running
 shown_by (reserved.Commit commit) told running = shown_commit commit told running

@@ -128,13 +128,16 @@ Given (next.Maintenance step) shared hand running =
     (slots_in running.slots ≡ slots_on (step_on step)) × HandOn (step_on step) (hand_of hand) × GivenOn step shared
 Given other shared hand running = Unit {0}
 
+-- what a step of a call is given by those before it
 abbrev pub GivenBy : Shared → Reservation → Running → ℕ → Type 0
 GivenBy shared (reserved.Hand hand) running actor = Given running.next shared hand running
 GivenBy shared (reserved.Ready ready) running actor = shared.holder ≡ None → shared.book.state.commit < NUMBER
     → CanEnter shared running ready actor
 GivenBy shared (reserved.Commit commit) running actor = shared.holder ≡ Some actor
 
--- WHAT EVERY STEP OF AN ACTOR'S CALL IS GIVEN
+-- WHAT EVERY STEP OF AN ACTOR'S CALL IS GIVEN.
+-- What a step is given by laws of the machine: that inode slots have cells, locks are held, cells before `check`
+-- stand still, and logs are sound.
 pub record CanStep (shared : Shared) (reserved : Reservation) (running : Running) (actor : ℕ) : Type 0 where
   pub limits : IsWithinLimits shared.geometry.numbers
   pub actors : actor < shared.geometry.numbers.actors

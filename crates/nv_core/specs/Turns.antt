@@ -21,7 +21,8 @@ abbrev pub ShowsAfter : Turn → Reservation → Running → machine.Running →
 ShowsAfter (turn.Ends result) reserved running r = Unit {0}
 ShowsAfter other reserved running r = ShowsCall reserved running r
 
--- the turn of a call is the machine's, where the memory that it asked for was granted or refused
+-- the turn of a call is the machine's, where the memory that it asked for was granted or refused.
+-- The turn of a call is the machine's of what it shows. Reports tell these:
 pub record IsTurn (actor : ℕ) (old : Shared) (before : Reservation) (r : machine.Running) (result : Turn) (new : Shared) (reserved : Reservation)
     (running : Running)
     : Type 0 where
@@ -42,6 +43,7 @@ abbrev pub still : Turn → Running → Option Running
 still (turn.Ends result) running = None
 still other running = Some running
 
+-- the reply that a turn makes
 abbrev pub replied : Turn → Reply
 replied turn.Moves = reply.Moved
 replied turn.Waits = reply.Waits

@@ -6,6 +6,9 @@ use Rattle.nv_machine.specs.Format.{formatted}
 use Rattle.nv_machine.specs.Starts.{IsStart}
 use Rattle.nv_machine.specs.Step as machine_step
 use Rattle.nv_machine.specs.World as machine
+use Rattle.nv_restart.specs.Happenings as restart
+use Rattle.nv_restart.specs.Happenings.{Happening, On, Replied, Stop, Stopped, Told, after_all, all_told, happen}
+use Rattle.nv_restart.specs.Stops.{MayStop}
 use Rattle.nv_core.specs.declared.event.Event.{Event}
 use Rattle.nv_core.specs.declared.event.Event.TheVariants as event
 use Rattle.nv_core.specs.declared.event.Reply.{Reply}
@@ -15,30 +18,40 @@ use Rattle.nv_core.specs.declared.running.Running.{Running}
 use Rattle.nv_core.specs.declared.shared.Shared.{Shared}
 use Rattle.nv_core.specs.declared.world.Actor.{Actor}
 use Rattle.nv_core.specs.Rooms.{HasActorRooms}
-use Rattle.nv_core.specs.Shown.{GhostCall, held_by, shared_of, shown_by, slots_in}
+use Rattle.nv_core.specs.Shown.{ShownCall, held_by, shared_of, shown_by, slots_in}
 use Rattle.nv_core.specs.Appends.{IsPlacedBy}
-use Rattle.nv_core.specs.GhostCalls.{IsReservationOf, IsGhostCallOf}
+use Rattle.nv_core.specs.GhostCalls.{IsReservationOf, IsShownCallOf}
 
 -- ---- actors
 
 -- what a running call of the machine has that the code has used up, or keeps in its commit
-abbrev pub told_of : machine.Running → GhostCall
-told_of r = record { call = r.call; plan = r.plan; commit = r.commit; epoch = r.epoch }
+abbrev pub shown_call_of : machine.Running → ShownCall
+shown_call_of r = record { call = r.call; plan = r.plan; commit = r.commit; epoch = r.epoch }
 
--- a running call: but for these, it is what is shown of the code's
+-- a running call: but for these, it is what is shown of the code's.
+-- A running call shows one of the machine whose call, plan, commit number and epoch are told beside. The code uses
+-- the text and the plan up, or keeps them in its commit.
 pub record ShowsCall (reserved : Reservation) (running : Running) (r : machine.Running) : Type 0 where
-  pub shown : shown_by reserved (told_of r) running ≡ r
-  pub request : IsGhostCallOf running (told_of r)
-  pub plan : IsReservationOf (slots_in running.slots) reserved (told_of r)
-  pub place : IsPlacedBy (slots_in running.slots) reserved (told_of r)
+  -- the call and its hold are the machine's running call
+  pub shown : shown_by reserved (shown_call_of r) running ≡ r
+  -- what is left of the call is of that call
+  pub request : IsShownCallOf running (shown_call_of r)
+  -- what is ready, or on its way, is of its plan
+  pub plan : IsReservationOf (slots_in running.slots) reserved (shown_call_of r)
+  -- the place of its append is that of its commit
+  pub place : IsPlacedBy (slots_in running.slots) reserved (shown_call_of r)
 
+-- a call shows a running call of the machine, or there is none on both sides
 abbrev pub ShowsRunning : Reservation → Option Running → Option machine.Running → Type 0
 ShowsRunning reserved None None = Unit {0}
 ShowsRunning reserved (Some running) (Some r) = ShowsCall reserved running r
 ShowsRunning reserved other shown = ⊥
 
+-- an actor shows one of the machine: its hand and its call
 pub record ShowsActor (actor : Actor) (shown : machine.Actor) : Type 0 where
+  -- its hand is the machine's
   pub hand : held_by actor.reserved ≡ shown.hand
+  -- its call is the machine's
   pub running : ShowsRunning actor.reserved actor.running shown.running
 
 -- ---- the world
@@ -48,55 +61,83 @@ pub record WorldState : Type 0 where
   pub shared : Shared
   pub actors : List Actor
 
--- A WORLD SHOWS ONE OF THE MACHINE: what is shared, and each actor
+-- A WORLD SHOWS ONE OF THE MACHINE: what is shared, and each actor.
+-- A world shows one of the machine: the numbers of the geometry are the same, what is shared is the same without
+-- the rooms, and each actor shows the machine's.
 pub record Shows (w : WorldState) (m : machine.World) : Type 0 where
+  -- the geometry is the machine's
   pub numbers : w.shared.geometry.numbers ≡ m.numbers
+  -- what is shared is the machine's
   pub shared : shared_of w.shared ≡ m.shared
+  -- there are as many actors
   pub count : length w.actors ≡ length m.actors
+  -- each actor shows the machine's
   pub each : (k : ℕ) (d : Actor) → k < length w.actors → ShowsActor (slice_index_or w.actors k d) (machine.actor_at m k)
 
 -- ---- events and replies
 
--- a Go, where the memory that it asks for is granted or not
-abbrev pub event_of : Event → Bool → machine.Event
-event_of (event.Start actor c) granted = machine.Start actor c
-event_of (event.Go actor) granted = machine.Go actor granted
+-- an event of an actor, or a stop, where the memory that it asks for is granted or not
+abbrev pub happening_of : Event → Bool → Happening
+happening_of (event.Start actor c) granted = On (machine.Start actor c)
+happening_of (event.Go actor) granted = On (machine.Go actor granted)
+happening_of event.Stop granted = Stop granted
 
+-- the machine's reply to an event of an actor. It has none to a stop, which is told apart below
 abbrev pub reply_of : Reply → machine.Reply
 reply_of reply.Started = machine.Started
 reply_of reply.Moved = machine.Moved
 reply_of reply.Waits = machine.Waiting
 reply_of (reply.Done answer) = machine.Done answer
+reply_of reply.Stopped = machine.Waiting
 reply_of (reply.Refused fault) = machine.Refused fault
 
+-- what a reply tells: that of an event, or that the machine stopped
+abbrev pub told_by : Reply → Told
+told_by reply.Stopped = Stopped
+told_by reply = Replied (reply_of reply)
+
 -- an event is replied to as the machine replies, where its memory was granted or refused, and leads to
--- what shows its world
+-- what shows its world.
+-- One event: the reply is the machine's, and the world afterwards shows the machine's after that happening: a step
+-- of the actor, or a stop.
 pub record IsStep (m : machine.World) (e : Event) (reply : Reply) (after : WorldState) : Type 0 where
+  -- whether its memory was granted
   pub granted : Bool
-  pub reply_is : reply_of reply ≡ (machine_step.step m (event_of e granted)).reply
-  pub shows : Shows after (machine_step.step m (event_of e granted)).world
+  -- what is told is what the machine tells
+  pub told_is : told_by reply ≡ restart.told_at m (happening_of e granted)
+  -- the world after it shows the machine's
+  pub shows : Shows after (happen m (happening_of e granted))
 
 -- the same of several events
-abbrev pub events_of : List Event → List Bool → List machine.Event
-events_of [] grants = []
-events_of (e ∷ events) [] = []
-events_of (e ∷ events) (granted ∷ grants) = event_of e granted ∷ events_of events grants
+abbrev pub happenings_of : List Event → List Bool → List Happening
+happenings_of [] grants = []
+happenings_of (e ∷ events) [] = []
+happenings_of (e ∷ events) (granted ∷ grants) = happening_of e granted ∷ happenings_of events grants
 
+-- Several: the same of the events one after another, each with memory granted or not.
 pub record IsRun (m : machine.World) (events : List Event) (replies : List Reply) (after : WorldState) : Type 0 where
+  -- whether the memory of each was granted
   pub grants : List Bool
+  -- there is one for each event
   pub count : length grants ≡ length events
-  pub replies_are : map reply_of replies ≡ machine_step.replies m (events_of events grants)
-  pub shows : Shows after (machine_step.after m (events_of events grants))
+  -- what is told of each is what the machine tells
+  pub all_are : map told_by replies ≡ all_told m (happenings_of events grants)
+  -- the world after them shows the machine's
+  pub shows : Shows after (after_all m (happenings_of events grants))
 
 -- ---- the invariant
 
 -- a run of the machine: where it starts, with which records, and the events that came
 pub record EventRun : Type 0 where
+  -- where it starts
   pub start : machine.World
+  -- the records of then
   pub records : List Record
+  -- the events that came
   pub events : List machine.Event
 
--- a world of the machine has a run: some events lead to it from some start of its geometry
+-- a world of the machine has a run: some events lead to it from some start of its geometry.
+-- Laws say that a world which has a run reports just these.
 abbrev pub HasRun : machine.World → Type 0
 HasRun m = (run : EventRun) × IsStart m.numbers run.start run.records × (m ≡ machine_step.after run.start run.events)
 
@@ -107,13 +148,21 @@ new_run g = record { start = formatted g; records = []; events = [] }
 -- a world shows the machine's after a run, so that the machine's laws hold of it; and there is room for what its calls
 -- are about to do
 pub record IsWorldAfter (w : WorldState) (m : machine.World) (run : EventRun) : Type 0 where
+  -- the run began in a start
   pub is_start : IsStart w.shared.geometry.numbers run.start run.records
+  -- its events lead to the machine's world
   pub reached : m ≡ machine_step.after run.start run.events
+  -- the machine may stop where it began
+  pub may : MayStop w.shared.geometry.numbers.block run.start.shared
+  -- the world shows that one
   pub shows : Shows w m
+  -- each actor has the room that its next step asks for
   pub rooms : (k : ℕ) (d : Actor) → k < length w.actors
       → HasActorRooms w.shared (slice_index_or w.actors k d).reserved (slice_index_or w.actors k d).running
 
--- WHAT HOLDS OF EVERY WORLD: there is one of the machine that it shows
+-- WHAT HOLDS OF EVERY WORLD: there is one of the machine that it shows.
+-- What holds of every world: there is a world of the machine that it shows, and events that lead to it from some
+-- start of its geometry that may stop. After a stop that start is the world that goes on.
 abbrev pub IsWorld : WorldState → Type 0
 IsWorld w = (m : machine.World) × (run : EventRun) × IsWorldAfter w m run
 

@@ -36,9 +36,20 @@ impl World {
     /// want memory. And whatever it answers, the world is consistent ([`World::consistent`]). It costs what
     /// [`nv_audit::audit`] does.
     pub fn audit(&self) -> Result<Audited<'_>, Fault>
+        // THE HEADLINE. Some events lead from a start of the machine to what this one shows, whatever came.
+        // Which events is not told; `worlds_are_consistent` says the same of those that a caller follows from
+        // `format`.
+        // After these events everything holds that `worlds_are_consistent` says.
+        // Its own body can't break that; the world's invariant refuses a step that does.
+        // A commit that is stamped at its start breaks the world's invariant.
+        // A retire that records before a birth breaks the world's invariant.
         ensures world { IsConsistentWorld self.now }
+        // What it gives is this world as a judged device: no other, and not without a look.
         ensures judged { (m : machine.World) → Shows self.now m
             → IfOk result (λ audited. audited ≡ device_of m.numbers m) }
+        // An audit finds nothing that differs: the only error is `OutOfMemory`.
+        // An audit has all that hands have.
+        // An audit judges by the logs, and not by what it judges.
         ensures answer { FailsOnly out_of_memory result }
     {
         self.consistent();

@@ -6,7 +6,7 @@ ghost use Rattle.nv_machine.specs.Reads.{home_from};
 ghost use Rattle.nv_machine.specs.World as machine;
 ghost use Rattle.nv_core.specs.Parts.{AreHome, IsOfDevice};
 ghost use Rattle.nv_core.specs.Rooms.{CanDrain, CanEnd, HasRoomsAfter, IsHandOf, IsNoDrain};
-ghost use Rattle.nv_core.specs.Shown.{GhostCall, ending_of, hand_of, shared_of, shown, slots_in, turn_of};
+ghost use Rattle.nv_core.specs.Shown.{ShownCall, ending_of, hand_of, shared_of, shown, slots_in, turn_of};
 ghost use Rattle.nv_core.specs.GhostCalls.{KeepsRequest, OwesAt};
 
 use crate::next::{Draining, Ending, MaintenanceStep, Next};
@@ -21,13 +21,13 @@ use nv_clean::Cleaned;
 
 /// What the call is answered at its last step.
 pub(crate) fn result_of(running: &Running) -> Result<Answer, Fault>
-    ensures { (told : GhostCall) → OwesAt running.now.ending running.now told
+    ensures { (told : ShownCall) → OwesAt running.now.ending running.now told
         → result ≡ result_by (ending_of running.now.ending) (shown told running.now) }
 {
     match running.ending {
         Ending::Answers => Ok(running.owed.answer(running.made)),
         Ending::Refuses(fault) => Err(fault),
-        Ending::Overtaken => Err(Fault::Contended),
+        Ending::BoundAnew => Err(Fault::Contended),
         Ending::Drains(draining) => Ok(Answer::Count(draining.released)),
         Ending::Cleans(cleaned) => Ok(answer_of(cleaned)),
     }
@@ -51,7 +51,8 @@ pub(crate) fn give_back(shared: &Shared, hand: &Hand, running: &mut Running) -> 
     requires call { CanEnd running.old running.old.ending }
     requires sized { IsHandOf shared.now.geometry.numbers hand.now }
     requires drains { CanDrain running.old.ending running.old.request hand.now }
-    ensures turn { (told : GhostCall) → OwesAt running.old.ending running.old told
+    // A hand gives back its blocks to every list that is home of one.
+    ensures turn { (told : ShownCall) → OwesAt running.old.ending running.old told
         → let s = shared_of shared.now in let h = hand_of hand.now in
         rest_turn (home_from 0 0 s.lists (blocks_in h)) h.ino s h (shown told running.old)
         ≡ turn_of result s h (shown told running.new) }
@@ -71,7 +72,7 @@ pub(crate) fn give_back(shared: &Shared, hand: &Hand, running: &mut Running) -> 
 
 /// All blocks are at home: a number goes back. Where there is none, the step replies.
 fn give_number(hand: &Hand, running: &mut Running) -> Turn
-    ensures turn { (told : GhostCall) (s : machine.Shared) → OwesAt running.old.ending running.old told
+    ensures turn { (told : ShownCall) (s : machine.Shared) → OwesAt running.old.ending running.old told
         → let h = hand_of hand.now in rest_turn None h.ino s h (shown told running.old)
         ≡ turn_of result s h (shown told running.new) }
     ensures request { KeepsRequest running.old running.new }
@@ -93,7 +94,7 @@ fn give_number(hand: &Hand, running: &mut Running) -> Turn
 
 /// Nothing is locked, and nothing in the hand: the step replies, or a drain goes on.
 pub(crate) fn last(running: &mut Running) -> Turn
-    ensures turn { (told : GhostCall) (s : machine.Shared) (h : machine.HandState)
+    ensures turn { (told : ShownCall) (s : machine.Shared) (h : machine.HandState)
         → OwesAt running.old.ending running.old told
         → last_turn (ending_of running.old.ending) s h (shown told running.old)
         ≡ turn_of result s h (shown told running.new) }
@@ -106,7 +107,7 @@ pub(crate) fn last(running: &mut Running) -> Turn
 {
     match running.ending {
         Ending::Drains(draining) => drained(draining, running),
-        Ending::Answers | Ending::Refuses(_) | Ending::Overtaken | Ending::Cleans(_) => {
+        Ending::Answers | Ending::Refuses(_) | Ending::BoundAnew | Ending::Cleans(_) => {
             Turn::Ends(result_of(running))
         }
     }
@@ -114,7 +115,9 @@ pub(crate) fn last(running: &mut Running) -> Turn
 
 /// A drain picks the next record, if it may release more.
 fn drained(draining: Draining, running: &mut Running) -> Turn
-    ensures turn { (told : GhostCall) (s : machine.Shared) (h : machine.HandState)
+    // A drain goes on to its next record, up to its number.
+    // A drain is answered how many records it has released.
+    ensures turn { (told : ShownCall) (s : machine.Shared) (h : machine.HandState)
         → drained_turn draining.left draining.released s h (shown told running.old)
         ≡ turn_of result s h (shown told running.new) }
     ensures request { KeepsRequest running.old running.new }
@@ -143,7 +146,8 @@ pub(crate) fn end_unlocked(shared: &Shared, hand: &Hand, running: &mut Running) 
     requires call { CanEnd running.old running.old.ending }
     requires sized { IsHandOf shared.now.geometry.numbers hand.now }
     requires drains { CanDrain running.old.ending running.old.request hand.now }
-    ensures turn { (told : GhostCall) → OwesAt running.old.ending running.old told
+    // Old log pages go home before a cleaner is answered.
+    ensures turn { (told : ShownCall) → OwesAt running.old.ending running.old told
         → let s = shared_of shared.now in let h = hand_of hand.now in
         over_turn (ending_of running.old.ending) s h (shown told running.old)
         ≡ turn_of result s h (shown told running.new) }
@@ -156,19 +160,22 @@ pub(crate) fn end_unlocked(shared: &Shared, hand: &Hand, running: &mut Running) 
         Ending::Answers | Ending::Refuses(_) | Ending::Drains(_) | Ending::Cleans(_) => {
             give_back(shared, hand, running)
         }
-        Ending::Overtaken => again(running),
+        Ending::BoundAnew => again(running),
     }
 }
 
 /// The next round of looks, if there is one.
 fn again(running: &mut Running) -> Turn
-    ensures turn { (told : GhostCall) (s : machine.Shared) (h : machine.HandState)
+    // A call whose name was bound anew between its look and its check looks again.
+    // A call that looks again does so from its first name on.
+    // A call is contended after the eighth such check, and not before.
+    ensures turn { (told : ShownCall) (s : machine.Shared) (h : machine.HandState)
         → again_turn running.old.rounds s h (shown told running.old)
         ≡ turn_of result s h (shown told running.new) }
     ensures request { KeepsRequest running.old running.new }
     ensures slots { IsNoDrain running.old.ending → running.new.slots ≡ running.old.slots }
     ensures goes { result ≢ Turn.Waits }
-    ensures rooms { (s : Shared) (h : Hand) → CanEnd running.old Ending.Overtaken
+    ensures rooms { (s : Shared) (h : Hand) → CanEnd running.old Ending.BoundAnew
         → IsHandOf s.geometry.numbers h → HasRoomsAfter result s (Reservation.Hand h) running.new }
 {
     if running.rounds == 0 {
@@ -187,7 +194,7 @@ pub(crate) fn end(shared: &Shared, hand: &Hand, running: &mut Running, ending: E
     requires call { CanEnd running.old ending }
     requires sized { IsHandOf shared.now.geometry.numbers hand.now }
     requires drains { CanDrain ending running.old.request hand.now }
-    ensures turn { (told : GhostCall) → OwesAt ending running.old told
+    ensures turn { (told : ShownCall) → OwesAt ending running.old told
         → let s = shared_of shared.now in let h = hand_of hand.now in
         end_turn (slots_in running.old.slots) (ending_of ending) s h (shown told running.old)
         ≡ turn_of result s h (shown told running.new) }
@@ -210,7 +217,8 @@ pub(crate) fn refuse(shared: &Shared, hand: &Hand, running: &mut Running, fault:
     requires device { IsOfDevice shared.now.geometry.numbers hand.now }
     requires call { CanEnd running.old (Ending.Refuses fault) }
     requires sized { IsHandOf shared.now.geometry.numbers hand.now }
-    ensures turn { (told : GhostCall) → let s = shared_of shared.now in let h = hand_of hand.now in
+    // A refused call gives up its locks.
+    ensures turn { (told : ShownCall) → let s = shared_of shared.now in let h = hand_of hand.now in
         refuse fault s h (shown told running.old) ≡ turn_of result s h (shown told running.new) }
     ensures request { KeepsRequest running.old running.new }
     ensures slots { running.new.slots ≡ running.old.slots }

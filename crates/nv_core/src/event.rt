@@ -3,11 +3,13 @@
 use nv_base::Fault;
 use nv_calls::{Answer, Call};
 
-/// An event of one actor: it starts a call, or its call goes on by one step.
+/// An event of one actor: it starts a call, or its call goes on by one step. Or the machine stops, and goes on from what
+/// stands.
 #[derive(Debug, Drop)]
 pub enum Event {
     Start(u64, Call),
     Go(u64),
+    Stop,
 }
 
 /// The reply to an event.
@@ -19,5 +21,7 @@ pub enum Reply {
     /// Another actor holds what the step needs. Nothing changed.
     Waits,
     Done(Answer),
+    /// The machine has stopped, and goes on.
+    Stopped,
     Refused(Fault),
 }

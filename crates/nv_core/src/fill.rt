@@ -48,7 +48,7 @@ fn copy(text: &[u8], at: u64, part: &mut [u8])
     part.copy_from_slice(&text[from..to]);
 }
 
-/// The same byte by byte, past the end too.
+/// Copies the bytes from a place on, one by one, and zeros past the end.
 fn copy_slowly(text: &[u8], at: u64, part: &mut [u8])
     ensures { part.new
         ≡ map (λ i. slice_index_or text.now i 0) (range_with_len at (length part.old)) }

@@ -7,9 +7,11 @@ ghost use Rattle.nv_base.specs.Memory.{out_of_memory};
 ghost use Rattle.nv_machine.specs.Format.{formatted, full_list};
 ghost use Rattle.nv_core.specs.Formats.{idle_actor, new_cell, rootless};
 ghost use Rattle.nv_core.specs.Shown.{shared_of};
+ghost use Rattle.nv_core.specs.Stops.{HasImageRoom};
 ghost use Rattle.nv_core.specs.Worlds.{Shows};
 
 use crate::World;
+use crate::image_room::ImageRoom;
 use crate::reservation::Reservation;
 use crate::shared::Shared;
 use crate::world::{Actor, dismantle};
@@ -22,7 +24,11 @@ use std::alloc::Global;
 impl World {
     /// An empty world: the root alone, a directory of mode 493 (octal 755). The only error is `OutOfMemory`.
     pub fn format(alloc: Global, geometry: Geometry) -> Result<World, Fault>
+        // A new world is the machine's new one.
+        // A new world has the root alone, a directory of mode 493.
+        // The root's log page is the lowest block, and no lock is held in a new world.
         ensures ok { IfOk result (λ world. Shows world (formatted geometry.numbers)) }
+        // A new world has the geometry that was asked for; the only error is `OutOfMemory`.
         ensures geometry { IfOk result (λ world. world.shared.geometry ≡ geometry) }
         ensures err { FailsOnly out_of_memory result }
     {
@@ -39,11 +45,12 @@ impl World {
             holder: None,
         };
         let mut actors = Vec::new(alloc);
-        match add_parts(alloc, &mut shared, &mut actors) {
-            Ok(()) => Ok(World {
+        match add_all(alloc, &mut shared, &mut actors) {
+            Ok(room) => Ok(World {
                 alloc,
                 shared,
                 actors,
+                room,
             }),
             Err(fault) => {
                 shared.dismantle();
@@ -52,6 +59,28 @@ impl World {
             }
         }
     }
+}
+
+/// Puts lists, cells and actors where there are none, and the root, and makes room for the image of the world.
+fn add_all(alloc: Global, shared: &mut Shared, actors: &mut Vec<Actor>) -> Result<ImageRoom, Fault>
+    requires lists { shared.old.lists.items ≡ [] }
+    requires pool { shared.old.pool ≡ (rootless shared.old.geometry.numbers).pool }
+    requires cells { shared.old.cells.items ≡ [] }
+    requires owners { shared.old.owners.items ≡ (rootless shared.old.geometry.numbers).owners }
+    requires book { shared.old.book.state ≡ (rootless shared.old.geometry.numbers).book }
+    requires holder { shared.old.holder ≡ None }
+    requires actors { actors.old.items ≡ [] }
+    ensures shared { OnOk result
+        (shared_of shared.new ≡ (formatted shared.old.geometry.numbers).shared) }
+    ensures actors { OnOk result (actors.new.items
+        ≡ replicate shared.old.geometry.numbers.actors (idle_actor shared.old.geometry.numbers)) }
+    ensures room { IfOk result (HasImageRoom shared.old.geometry.numbers) }
+    ensures geometry { shared.new.geometry ≡ shared.old.geometry }
+    ensures err { FailsOnly out_of_memory result }
+{
+    let geometry = shared.geometry;
+    add_parts(alloc, shared, actors)?;
+    ImageRoom::new(alloc, &geometry)
 }
 
 /// Puts lists, cells and actors where there are none, and the root.

@@ -14,6 +14,14 @@ use crate::World;
 /// commit point; and each living snapshot reads as the tree that stood when it was made. An inode's index and names are
 /// at all times those of one scan of its log ([`nv_cell::InodeCell`]).
 pub fn worlds_are_consistent()
+    // The counts of each inode are those of one scan of all logs, of the snapshot list and of the hands.
+    // The records that living snapshots hold, and each free list, are those of that scan.
+    // A free list is that scan's number by number: none twice, none of another range.
+    // The pool of inode numbers is that of that scan.
+    // An idle actor has nothing.
+    // Deferred are the records that no living snapshot holds.
+    // The settled logs give the plain world's nodes and tree.
+    // Each living snapshot reads as the copy taken at its making, node by node and as a tree.
     ensures { (g : GeometryNumbers) (run : EventRun) → IsStart g run.start run.records
         → IsConsistentAfter g run }
 {}

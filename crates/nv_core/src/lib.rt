@@ -6,19 +6,23 @@
 #![tactic(auto)]
 
 mod audit;
+mod beside;
 mod calls_end;
 mod ending;
 mod event;
 mod fill;
 mod format;
+mod image_room;
 mod kinds;
 pub mod laws;
 mod lent;
+mod mount;
 mod next;
 mod parts;
 mod reports;
 mod request;
 mod reservation;
+mod restart;
 mod running;
 pub mod scan_laws;
 mod shared;
@@ -26,6 +30,7 @@ mod sink;
 mod snaps;
 pub mod start_laws;
 mod step;
+mod stop;
 mod tree;
 mod tree_to;
 mod turn;
@@ -35,13 +40,14 @@ mod world;
 pub use calls_end::MOST_STEPS;
 pub use event::{Event, Reply};
 pub use fill::Text;
-pub use nv_audit::Audited;
+pub use nv_audit::{Audited, DataBlocks, Image, SlotImage};
 pub use nv_base::{
     Bytes, CommitNo, Epoch, Fault, Gen, Geometry, GeometryField, GeometryNumbers, Handle, Ino,
     Kind, Mode, Name,
 };
 pub use nv_calls::{Answer, Call, MaintenanceCall};
 pub use nv_entry::{NodeCopy, Path, Tree, TreeNode};
+pub use nv_log::ChainImage;
 pub use nv_reader::root;
 pub use parts::Parts;
 pub use reports::{Lists, LogCounts, Space};

@@ -99,7 +99,7 @@ pub(crate) enum MaintenanceStep {
 pub(crate) enum Ending {
     Answers,
     Refuses(Fault),
-    Overtaken,
+    BoundAnew,
     Drains(Draining),
     Cleans(Cleaned),
 }

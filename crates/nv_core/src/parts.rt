@@ -1,25 +1,28 @@
 //! The parts of a world, how a world comes apart, and how parts become one.
 
-ghost use Rattle.std.specs.Prelude.{◌≡◌, ◌⊎◌, IfErr, IfOk, None, OnOk, length, replicate};
+ghost use Rattle.std.specs.Prelude.{◌≡◌, ◌⊎◌, List, IfErr, IfOk, None, OnOk, length};
 ghost use Rattle.std.specs.List.{list_any};
 ghost use Rattle.nv_audit.specs.AtRest.{IsOneBook};
 ghost use Rattle.nv_base.specs.Memory.{out_of_memory};
-ghost use Rattle.nv_base.specs.Refusals.{FailsOnly};
 ghost use Rattle.nv_base.specs.declared.fault.Fault.TheVariants.{ActorBusy};
+ghost use Rattle.nv_book.specs.declared.record.Record.{Record as RecordValue};
+ghost use Rattle.nv_machine.specs.Starts.{IsStart};
 ghost use Rattle.nv_machine.specs.World as machine;
+ghost use Rattle.nv_restart.specs.Stops.{MayStop};
 ghost use Rattle.nv_core.specs.AtRest.{AreJudged, IsBusy, IsMismatchOf, at_rest, has_call, parts_of};
-ghost use Rattle.nv_core.specs.Formats.{idle_actor};
+ghost use Rattle.nv_core.specs.Stops.{IsBeside};
 ghost use Rattle.nv_core.specs.Worlds.{Shows};
 
 use crate::World;
-use crate::format::idle_actors;
-use crate::shared::{Shared, dismantle_cells, dismantle_lists};
-use crate::world::{Actor, dismantle};
+use crate::beside::Beside;
+use crate::shared::{Shared, dismantle_cells};
+use crate::world::Actor;
 use nv_alloc::{FreeList, InodePool};
 use nv_audit::rest_differs;
 use nv_base::{Fault, Geometry, Items};
 use nv_book::Book;
 use nv_cell::InodeCell;
+use nv_mount::dismantle_lists;
 use std::alloc::Global;
 
 /// What a world has beside its actors: the numbers that it was made for, the cell of each inode slot, the free list of
@@ -50,6 +53,7 @@ impl Drop for Parts {
 impl Parts {
     /// The parts one by one, in the order of the fields.
     pub fn into_fields(self) -> (Geometry, Items<InodeCell>, Items<FreeList>, InodePool, Book)
+        // The parts are given one by one.
         ensures { result ≡ (self.geometry, self.cells, self.lists, self.pool, self.book) }
     {
         let Parts {
@@ -67,12 +71,16 @@ impl World {
     /// Takes the world apart, where no actor has a call: they are the parts of a world at rest, and [`World::from_parts`]
     /// finds none that differs. Else the world comes back by `ActorBusy`, as it was. Takes no memory.
     pub fn into_parts(self) -> Result<Parts, (Fault, World)>
+        // Where no actor has a call, the parts are the very cells, lists, pool and book of the world.
         ensures ok { IfOk result (λ parts. parts ≡ parts_of self.shared) }
+        // Such a world was at rest: no lock held, every hand empty.
+        // `ActorBusy` exactly where an actor has a call.
         ensures rest { (m : machine.World) → Shows self m
             → IfOk result (λ parts. m ≡ at_rest parts) }
         ensures judged { IfOk result (λ parts. AreJudged parts) }
         ensures err { (m : machine.World) → Shows self m
             → IfErr result (λ refused. (refused.0 ≡ ActorBusy) × IsBusy m) }
+        // A world that is refused comes back as it was.
         ensures same { IfErr result (λ refused. refused.1 ≡ self) }
     {
         if has_call(&self.actors) {
@@ -116,41 +124,53 @@ impl World {
     /// of the actors before anything is judged. Parts at rest, as [`World::into_parts`] gives them, never differ. The very
     /// parts come back. It costs what [`nv_audit::rest_differs`] does.
     pub fn from_parts(alloc: Global, parts: Parts) -> Result<World, (Fault, Parts)>
+        // What comes of parts is a world at rest with these parts, so each law holds of it from there on.
+        // A world of parts goes on as the one that it was.
         ensures ok { IfOk result (λ world. Shows world (at_rest parts)) }
         ensures parts { IfOk result (λ world. parts_of world.shared ≡ parts) }
+        // Only parts that are at rest become a world.
         ensures judged { OnOk result (AreJudged parts) }
+        // `Mismatch` names the first part that differs; else memory was refused.
         ensures err { IfErr result (λ refused.
             (refused.0 ≡ out_of_memory) ⊎ IsMismatchOf parts refused.0) }
         ensures passes { AreJudged parts → IfErr result (λ refused. refused.0 ≡ out_of_memory) }
+        // Parts that are refused come back as they were.
         ensures same { IfErr result (λ refused. refused.1 ≡ parts) }
     {
-        let (owners, actors) = match idle(alloc, &parts) {
-            Ok(idle) => idle,
+        let beside = match Beside::new(alloc, &parts.geometry, parts.cells.len()) {
+            Ok(beside) => beside,
             Err(fault) => return Err((fault, parts)),
         };
         match judge(alloc, &parts) {
-            Ok(()) => Ok(World::at_rest(alloc, parts, owners, actors)),
+            Ok(()) => Ok(World::at_rest(alloc, parts, beside)),
             Err(fault) => {
-                dismantle(actors);
+                beside.dismantle();
                 Err((fault, parts))
             }
         }
     }
 
-    /// The world of parts that were judged, with nobody's locks and actors without calls.
-    fn at_rest(alloc: Global, parts: Parts, owners: Vec<Option<u64>>, actors: Vec<Actor>) -> World
-        requires judged { AreJudged parts }
-        requires owners { owners.items ≡ replicate (length parts.cells) None }
-        requires actors { actors.items
-            ≡ replicate parts.geometry.numbers.actors (idle_actor parts.geometry.numbers) }
+    /// The world at rest of parts where a run may start and the machine may stop, with nobody's locks and actors without
+    /// calls.
+    pub(crate) fn at_rest(alloc: Global, parts: Parts, beside: Beside) -> World
+        requires start { (records : List RecordValue)
+            × IsStart parts.geometry.numbers (at_rest parts) records }
+        requires may { MayStop parts.geometry.numbers.block (at_rest parts).shared }
+        requires beside { IsBeside parts.geometry.numbers (length parts.cells) beside }
         ensures shows { Shows result (at_rest parts) }
         ensures parts { parts_of result.shared ≡ parts }
     {
+        let Beside {
+            owners,
+            actors,
+            room,
+        } = beside;
         let shared = parts.into_shared(owners);
         World {
             alloc,
             shared,
             actors,
+            room,
         }
     }
 }
@@ -173,19 +193,6 @@ impl Parts {
             holder: None,
         }
     }
-}
-
-/// The locks of all slots, which nobody holds, and the actors.
-fn idle(alloc: Global, parts: &Parts) -> Result<(Vec<Option<u64>>, Vec<Actor>), Fault>
-    ensures owners { IfOk result (λ idle.
-        idle.0.items ≡ replicate (length parts.now.cells) None) }
-    ensures actors { IfOk result (λ idle. idle.1.items ≡ replicate
-        parts.now.geometry.numbers.actors (idle_actor parts.now.geometry.numbers)) }
-    ensures err { FailsOnly out_of_memory result }
-{
-    let owners = vec![in alloc; None; parts.cells.len()]?;
-    let actors = idle_actors(alloc, &parts.geometry)?;
-    Ok((owners, actors))
 }
 
 /// Whether these are the parts of a world at rest.

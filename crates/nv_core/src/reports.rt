@@ -3,7 +3,7 @@
 ghost use Rattle.std.specs.Prelude.{◌≡◌, ◌⊎◌, ◌+◌, ◌<◌, ◌≤◌, ◌^◌, ℕ, IfErr, IfOk, Some, is_some, true, length, slice_get, slice_index_or};
 ghost use Rattle.std.specs.List.{sum_by};
 ghost use Rattle.nv_alloc.specs.Block.{numbers_of};
-ghost use Rattle.nv_alloc.specs.Runs.{runs_of};
+ghost use Rattle.nv_alloc.specs.Runs.{free_runs_of};
 ghost use Rattle.nv_base.specs.Refusals.{FailsOnly};
 ghost use Rattle.nv_base.specs.declared.fault.Fault.TheVariants.{Stale};
 ghost use Rattle.nv_base.specs.Memory.{out_of_memory};
@@ -13,7 +13,7 @@ ghost use Rattle.nv_cell.specs.Cell.{log_of};
 ghost use Rattle.nv_cell.specs.Marks.{is_there};
 ghost use Rattle.nv_entry.specs.Covered.{part_count};
 ghost use Rattle.nv_book.specs.Records.{block_count, is_page};
-ghost use Rattle.nv_core.specs.Reports.{AddsUp, block_at, chain_in, counts_in, free_in, is_kept, kept_at, kept_in, kept_of, lists_of, log_at, mark_of, one_of, space_in, space_of};
+ghost use Rattle.nv_core.specs.Reports.{AddsUp, block_at, chain_in, counts_in, free_in, is_part_kept, kept_at, kept_in, data_kept, lists_of, log_at, mark_of, one_of, space_in, space_of};
 ghost use Rattle.nv_core.specs.Picked.{picked_at, picked_of};
 ghost use Rattle.nv_core.specs.Shown.{shared_of};
 ghost use Rattle.nv_alloc.specs.Numbers.{IsEachOnce};
@@ -61,7 +61,12 @@ impl World {
     /// Where the blocks are: no block is lost, and none is counted twice. Takes no memory, and time by all slots, by
     /// the parts of all logs, and by the runs of deferred records.
     pub fn space(&self) -> Space
+        // Blocks that are current or held count as such.
+        // Blocks that are deferred or picked count apart.
+        // A picked record has its block.
+        // Blocks in free lists, in chains and all others count apart, too.
         ensures places { (m : machine.World) → Shows self.now m → result ≡ space_of m }
+        // The five numbers are together all blocks of the device; no memory is taken.
         ensures all { result.free + result.chain + result.data + result.pending + result.hand
             ≡ self.now.shared.geometry.numbers.blocks }
     {
@@ -71,8 +76,10 @@ impl World {
 
     /// The free lists, CPU by CPU. `OutOfMemory` where room for them was refused.
     pub fn lists(&self) -> Result<Lists, Fault>
+        // Free lists are told CPU by CPU as maximal block runs.
         ensures ok { (m : machine.World) → Shows self.now m
             → IfOk result (λ lists. lists ≡ lists_of m.shared) }
+        // The only error is `OutOfMemory`.
         ensures err { FailsOnly out_of_memory result }
     {
         let mut lists = Vec::with_capacity(self.alloc, self.shared.lists.len())?;
@@ -84,8 +91,11 @@ impl World {
 
     /// The log of a slot in numbers. `Stale` where there is no such slot, before `OutOfMemory`.
     pub fn log(&self, ino: Ino) -> Result<LogCounts, Fault>
+        // The entries of an inode slot's log up to the tail are told.
+        // The counts of each of its log pages are told.
         ensures ok { (m : machine.World) → Shows self.now m
             → IfOk result (λ log. (ino < length m.shared.cells) × (log ≡ log_at m.shared ino)) }
+        // `Stale` is answered exactly where there is no such inode slot, and otherwise `OutOfMemory` alone.
         ensures err { (m : machine.World) → Shows self.now m → IfErr result (λ fault.
             ((fault ≡ Stale) × (length m.shared.cells ≤ ino))
             ⊎ ((fault ≡ out_of_memory) × (ino < length m.shared.cells))) }
@@ -104,7 +114,7 @@ impl Shared {
         requires blocks { AddsUp self.now.geometry.numbers.blocks (shared_of self.now) }
         requires few { picked ≤ 64 }
         requires pending { block_count self.now.book.state.deferred + picked
-            ≤ kept_of (shared_of self.now) }
+            ≤ data_kept (shared_of self.now) }
         ensures { result ≡ space_in self.now.geometry.numbers.blocks
             (block_count self.now.book.state.deferred + picked) (shared_of self.now) }
     {
@@ -132,7 +142,7 @@ fn blocks_add_up()
 
 /// A free list as maximal runs.
 fn runs_in(alloc: Global, list: &FreeList) -> Result<Vec<FreeRun>, Fault>
-    ensures ok { IfOk result (λ runs. runs.items ≡ runs_of (numbers_of list.now.blocks)) }
+    ensures ok { IfOk result (λ runs. runs.items ≡ free_runs_of (numbers_of list.now.blocks)) }
     ensures err { FailsOnly out_of_memory result }
 {
     let runs: Vec<FreeRun> = list.runs().collect(alloc)?;
@@ -301,7 +311,7 @@ fn is_page(part: Part) -> bool
 
 /// Whether a part counts as data or as pending. What was killed and not yet retired dies in the present epoch.
 fn is_kept(mark: Mark, book: &Book, birth: Epoch) -> bool
-    ensures { result ≡ is_kept book.now.state birth mark }
+    ensures { result ≡ is_part_kept book.now.state birth mark }
 {
     match mark {
         Mark::Current | Mark::Kept => true,

@@ -2,6 +2,7 @@
 
 ghost use Rattle.std.specs.Prelude.{◌≡◌, ◌⊎◌, None, length};
 ghost use Rattle.nv_calls.specs.Commit.{begun, stamp_of};
+ghost use Rattle.nv_core.specs.Rooms.{hand_held};
 
 use nv_alloc::Hand;
 use nv_book::Book;
@@ -60,6 +61,17 @@ impl Reservation {
     {
         self.dismantle();
         (Reservation::Ready(ready), ())
+    }
+
+    /// What is in the hand, wherever the call stands: for a machine that stops.
+    pub(crate) fn into_hand(self) -> Hand
+        ensures { result ≡ hand_held self }
+    {
+        match self {
+            Reservation::Hand(hand) => hand,
+            Reservation::Ready(ready) => ready.into_hand(),
+            Reservation::Commit(commit) => commit.abandon(),
+        }
     }
 
     /// Takes all apart: for a world that is let go.

@@ -5,9 +5,9 @@ ghost use Rattle.nv_machine.specs.Sequence.{begun, beginning, first_clean, first
 ghost use Rattle.nv_base.specs.declared.limits.TheConstants.{DRAIN};
 ghost use Rattle.nv_machine.specs.World as machine;
 ghost use Rattle.nv_core.specs.Rooms.{FitsCall, FitsNext, HasNextRoom, HasRooms, HasStepRoom, IsHandOf, takes};
-ghost use Rattle.nv_core.specs.Shown.{GhostCall, draining_of, manner_of, next_of, shared_of, shown, slots_in, step_on};
+ghost use Rattle.nv_core.specs.Shown.{ShownCall, draining_of, manner_of, next_of, shared_of, shown, slots_in, step_on};
 ghost use Rattle.nv_calls.specs.Updates.{call_of};
-ghost use Rattle.nv_core.specs.GhostCalls.{IsAtStart, IsChangeBy, IsRequestOf, IsGhostCallOf, is_change, looking_at, starting};
+ghost use Rattle.nv_core.specs.GhostCalls.{IsAtStart, IsChangeBy, IsRequestOf, IsShownCallOf, is_change, looking_at, starting};
 
 use crate::next::{Draining, Ending, MaintenanceStep, Manner, Next, ToClean};
 use crate::request::{PendingAnswer, Request, request_of};
@@ -24,7 +24,8 @@ use std::alloc::Global;
 /// How many more rounds of looks a call may make after its first.
 const ROUNDS: u64 = 7;
 
-/// A call that runs.
+/// A call that runs. With its hold it shows a running call of the machine, except its text and its plan, which the
+/// code uses up on the way. What holds of it between two steps is of all actors at once, and stands in `IsWorld`.
 #[derive(Drop)]
 pub(crate) struct Running {
     pub(crate) request: Request,
@@ -57,7 +58,7 @@ pub(crate) fn locking(place: usize, slots: &LockedSlots) -> Next
     Next::Check
 }
 
-/// The same in the loop of looks, behind which comes the loop of locks.
+/// The step for a place in the loop of looks, or what comes behind the last: the loop of locks.
 pub(crate) fn looking(place: usize, update: &Update, slots: &LockedSlots) -> Next
     ensures next { (text : List ℕ) → next_of result
         ≡ looking_at place (slots_in slots.now) (call_of update.now text) }
@@ -166,10 +167,11 @@ fn first_of_change(inodes: u64, update: &Update, looked: &LookupResult) -> (Next
 
 impl Running {
     /// A call that starts. Takes no memory.
+    /// A started call has eight checks to fail.
     pub(crate) fn started(alloc: Global, shared: &Shared, call: Call) -> Running
         ensures shown { shown (starting call) result
             ≡ begun (beginning call) (shared_of shared.now) call }
-        ensures told { IsGhostCallOf result (starting call) }
+        ensures told { IsShownCallOf result (starting call) }
         ensures fits { FitsCall result }
         ensures rooms { (s : Shared) (hand : Hand) → IsHandOf s.geometry.numbers hand
             → HasRooms s (Reservation.Hand hand) result }

@@ -8,6 +8,7 @@ use nv_alloc::{FreeList, InodePool};
 use nv_base::{Geometry, Handle, Ino};
 use nv_book::Book;
 use nv_cell::InodeCell;
+use nv_mount::dismantle_lists;
 
 /// The free list of each CPU, the pool of inode numbers, the cell of each slot with the actor that holds its lock, the
 /// book, and the actor that holds the commit lock. It owns blocks, so it is no `Drop`.
@@ -99,14 +100,6 @@ impl Shared {
         dismantle_lists(lists);
         dismantle_cells(cells);
     }
-}
-
-/// Takes all lists apart with their blocks.
-pub(crate) fn dismantle_lists(mut lists: Vec<FreeList>) {
-    while let Some(list) = lists.pop() {
-        list.dismantle();
-    }
-    lists.destroy_empty();
 }
 
 /// Takes all cells apart with their blocks.

@@ -10,6 +10,8 @@ pub struct SinkFault;
 /// Takes nodes one by one. Contracts see how many calls failed, and two relations of the sink's own choice: what
 /// becomes of it where it takes a node, and where it fails at one. So a sink that writes to a device can say what it
 /// wrote, also where the bytes of the device are not known.
+/// A sink says by two relations what becomes of it where it takes a node, and where it fails.
+/// A failed call counts as one failure, and any other as none.
 pub trait Sink {
     ghost use Rattle.std.specs.Prelude.{◌≡◌, ℕ, ◌+◌, ◌-◌, ◌<◌, ◌^◌, OnErr, OnOk};
     ghost use Rattle.nv_entry.specs.declared.tree.TreeNode.{TreeNode};

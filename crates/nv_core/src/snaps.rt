@@ -35,8 +35,11 @@ impl World {
     /// The snapshots. It goes over all runs of records twice, with two look-ups among the snapshots for each run, and
     /// makes a few for each snapshot.
     pub fn snaps(&self) -> Result<Snaps, Fault>
+        // The current epoch, the last commit and the living snapshots, oldest first, are told.
+        // The blocks that each snapshot holds, those that a drop would defer, and its pins are told.
         ensures ok { (m : machine.World) → Shows self.now m
             → IfOk result (λ snaps. snaps ≡ snaps_of m.shared.book) }
+        // The only error is `OutOfMemory`.
         ensures err { FailsOnly out_of_memory result }
     {
         snaps_in(self.alloc, &self.shared.book)

@@ -11,7 +11,8 @@ ghost use Rattle.nv_machine.specs.Sequence.{beginning, begun};
 ghost use Rattle.nv_core.specs.Shown.{shared_of};
 ghost use Rattle.nv_core.specs.Steps.{CanStep, IsHandover};
 ghost use Rattle.nv_core.specs.Turns.{CanGo, HasTurned, IsTurn, LeavesOthers};
-ghost use Rattle.nv_core.specs.Worlds.{IsRun, IsStep, Shows, ShowsCall, ShowsRunning};
+ghost use Rattle.nv_core.specs.Worlds.{IsRun, IsStep, Shows, ShowsCall, ShowsRunning, reply_of, told_by};
+ghost use Rattle.nv_restart.specs.Happenings.{Replied};
 
 use crate::kinds::append::append;
 use crate::kinds::check::check;
@@ -44,13 +45,22 @@ use nv_calls::{Call, Commit, CommitStep};
 use std::alloc::{AllocError, Global};
 
 impl World {
-    /// One event. A `Go` makes one step of the actor's call.
+    /// One event. A `Go` makes one step of the actor's call. A `Stop` is the end of all calls, and takes memory: a `Start`
+    /// and most steps take none.
+    /// Only tested: each growth is refused in turn by `tools/refused-growths`.
+    /// Only tested: memory is granted where there is some; the clause lets each step that grows say that it was
+    /// refused.
     pub fn step(&mut self, event: Event) -> Reply
+        // An event is replied to as the machine's step function replies.
+        // A step is one of the actor that its event names.
+        // The reply is the machine's both where memory was granted and where it was refused.
+        // The world afterwards shows the machine's after that step.
         ensures { (m : machine.World) → Shows self.old m → IsStep m event result self.new }
     {
         match event {
             Event::Start(actor, call) => self.start(actor, call),
             Event::Go(actor) => self.go(actor),
+            Event::Stop => self.restart(),
         }
     }
 
@@ -58,8 +68,10 @@ impl World {
     ///
     /// Room for the replies is made before the first event. Want of it hands the events back, and nothing has changed.
     pub fn run(&mut self, events: Vec<Event>) -> Result<Vec<Reply>, (Fault, Vec<Event>)>
+        // Several events are as many steps with as many replies, in order.
         ensures ok { (m : machine.World) → Shows self.old m
             → IfOk result (λ replies. IsRun m events.items replies.items self.new) }
+        // Want of memory hands the events back and changes nothing.
         ensures err { IfErr result (λ refused. (refused.0 ≡ out_of_memory)
             × (refused.1.items ≡ events.items)) }
         ensures same { OnErr result (self.new ≡ self.old) }
@@ -84,6 +96,10 @@ impl World {
 
     /// An actor starts a call: [`Event::Start`]. It is refused where the actor has a call already.
     pub fn start(&mut self, actor: u64, call: Call) -> Reply
+        // `start` and `go` are `step` for an event's two kinds.
+        // A start gives an actor without a call that call, before its first step.
+        // An actor with a call is refused as busy.
+        // A number that no actor has is refused by `NoActor`.
         ensures { (m : machine.World) → Shows self.old m
             → IsStep m (Event.Start actor call) result self.new }
     {
@@ -95,8 +111,11 @@ impl World {
 
     /// An actor's call goes on by one step: [`Event::Go`].
     pub fn go(&mut self, actor: u64) -> Reply
-        ensures { (m : machine.World) → Shows self.old m
+        // It is `step` for an actor's `Go`.
+        ensures step { (m : machine.World) → Shows self.old m
             → IsStep m (Event.Go actor) result self.new }
+        // It never replies that the machine stopped.
+        ensures replied { told_by result ≡ Replied (reply_of result) }
     {
         match self.actors.get_mut(actor as usize) {
             Some(state) => go_on(self.alloc, &mut self.shared, state, actor),
@@ -174,11 +193,15 @@ fn turn(
 ) -> Turn
     requires can { CanStep shared.old reserved.old running.old actor }
     requires rooms { HasRooms shared.old reserved.old running.old }
+    // A `Go` makes the one step of its actor's call that comes next.
     ensures turn { (r : machine.Running) → ShowsCall reserved.old running.old r
         → IsTurn actor shared.old reserved.old r result shared.new reserved.new running.new }
+    // A step that waits leaves what is shared, the hand and the call exactly as they were.
     ensures waits { result ≡ Turn.Waits
         → (shared.new ≡ shared.old) × (reserved.new ≡ reserved.old) × (running.new ≡ running.old) }
     ensures rooms { HasRoomsAfter result shared.new reserved.new running.new }
+    // A step leaves to the other actors the cells of all inode slots that its own call does not hold.
+    // A step leaves the book to another actor that commits.
     ensures rest { (r : machine.Running) → ShowsCall reserved.old running.old r
         → LeavesOthers actor r shared.old shared.new }
 {

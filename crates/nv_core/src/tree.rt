@@ -23,6 +23,8 @@ use std::alloc::Global;
 impl World {
     /// The tree now, by the settled logs: the nodes that are reached from the root through names.
     pub fn tree(&self) -> Result<Tree, Fault>
+        // The tree is that of the settled logs, parents before names.
+        // A handle leads to its own generation; the only error is `OutOfMemory`.
         ensures ok { (m : machine.World) → Shows self.now m
             → IfOk result (λ tree. tree ≡ tree_of m) }
         ensures err { FailsOnly out_of_memory result }
@@ -31,9 +33,13 @@ impl World {
     }
 
     /// The tree of a living snapshot: the nodes at its epoch. `NoSnapshot` where it doesn't live, before `OutOfMemory`.
+    /// The tree of a living snapshot is the one that stood at its making.
     pub fn snap_tree(&self, snapshot: Epoch) -> Result<Tree, Fault>
+        // The tree of a living snapshot is that of its epoch by the settled logs.
+        // The tree of a living snapshot stays so beside drops, shows and drains.
         ensures ok { (m : machine.World) → Shows self.now m → IfOk result (λ tree.
             (tree ≡ snapshot_tree m snapshot) × IsSome (pins_of m.shared.book.snaps snapshot)) }
+        // `NoSnapshot` is answered exactly for one that does not live, and otherwise `OutOfMemory` alone.
         ensures err { (m : machine.World) → Shows self.now m → IfErr result (λ fault.
             ((fault ≡ NoSnapshot) × (pins_of m.shared.book.snaps snapshot ≡ None))
             ⊎ ((fault ≡ out_of_memory) × IsSome (pins_of m.shared.book.snaps snapshot))) }

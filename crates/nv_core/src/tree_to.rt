@@ -30,8 +30,16 @@ impl World {
     /// time is that of the walk and of reading each node once.
     pub fn tree_to<S: Sink>(&self, sink: &mut S) -> Result<(), Fault>
         requires { S.failed sink.old < 2 ^ 64 - 1 }
+        // A sink takes the nodes of `World::tree`, all of them.
+        // A sink takes the nodes in order, each once.
+        // A sink takes each node with its path.
+        // Where memory is refused, the sink took a front of the nodes.
+        // Where memory is refused, the sink did not fail.
+        // Where the sink fails, `Write` is answered, and it took a front of the nodes.
+        // `Write` is answered only where the sink failed.
         ensures nodes { (m : machine.World) → Shows self.now m
             → Hands result S.failed S.Takes S.Fails sink.old (tree_of m) sink.new }
+        // Whatever the world shows, some nodes are handed on so.
         ensures some { (nodes : List TreeNode)
             × Hands result S.failed S.Takes S.Fails sink.old nodes sink.new }
     {
@@ -42,6 +50,8 @@ impl World {
     /// where the snapshot doesn't live, before all else.
     pub fn snap_tree_to<S: Sink>(&self, snapshot: Epoch, sink: &mut S) -> Result<(), Fault>
         requires { S.failed sink.old < 2 ^ 64 - 1 }
+        // The same of the tree of a living snapshot.
+        // `NoSnapshot` is answered exactly for one that does not live, first of all.
         ensures nodes { (m : machine.World) → Shows self.now m
             → MatchOption (pins_of m.shared.book.snaps snapshot)
             ((result ≡ Err NoSnapshot) × (sink.new ≡ sink.old))

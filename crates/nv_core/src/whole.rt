@@ -3,7 +3,8 @@
 ghost use Rattle.std.specs.Prelude.{◌≡◌, ◌≢◌, ◌+◌};
 ghost use Rattle.nv_machine.specs.World as machine;
 ghost use Rattle.nv_core.specs.Whole.{Calls, GoesOn, Runs, last_reply};
-ghost use Rattle.nv_core.specs.Worlds.{Leads, reply_of};
+ghost use Rattle.nv_core.specs.Worlds.{Leads, reply_of, told_by};
+ghost use Rattle.nv_restart.specs.Happenings.{Replied};
 
 use crate::calls_end::MOST_STEPS;
 use crate::{Reply, World};
@@ -28,6 +29,8 @@ impl World {
     /// No other actor makes a step meanwhile. So [`CallFault::Waits`] comes only where another actor has a call that is
     /// not over: the steps that were made stand, and [`World::finish`] goes on. A refused call has changed nothing.
     pub fn call(&mut self, actor: u64, call: Call) -> Result<Answer, CallFault>
+        // A whole call is its start and, where it was started, its steps up to its end or a wait.
+        // A whole call is told what the last reply says.
         ensures { Leads (λ m n. Calls m actor call (last_reply result) n) self.old self.new }
     {
         match self.start(actor, call) {
@@ -38,6 +41,7 @@ impl World {
 
     /// Makes the steps of an actor's call up to its end: of one that was started, or that waited.
     pub fn finish(&mut self, actor: u64) -> Result<Answer, CallFault>
+        // The steps of a call that was started, or that waited, are made up to its end or a wait.
         ensures { Leads (λ m n. Runs m actor (last_reply result) n) self.old self.new }
     {
         // No call has so many steps.
@@ -50,7 +54,13 @@ impl World {
     /// One step stands in it, so that a step costs no call of its own.
     #[inline(never)]
     pub fn go_on(&mut self, actor: u64, more: u64) -> Reply
-        ensures { Leads (λ m n. GoesOn (more + 1) m actor (reply_of result) n) self.old self.new }
+        // One step and as many more as are asked for are made, up to the first reply that it did not move.
+        // No fewer steps are made than that, and no more.
+        // The last reply is answered.
+        ensures goes { Leads (λ m n. GoesOn (more + 1) m actor (reply_of result) n)
+            self.old self.new }
+        // It never answers that the machine stopped.
+        ensures replied { told_by result ≡ Replied (reply_of result) }
     {
         let mut left = more;
         loop {
@@ -68,11 +78,12 @@ impl World {
 
 /// What the last reply of a whole call tells.
 fn told(reply: Reply) -> Result<Answer, CallFault>
+    // A call that waits for another actor is told apart from one that was refused.
     ensures { reply ≢ Reply.Started → reply ≢ Reply.Moved → last_reply result ≡ reply_of reply }
 {
     match reply {
         Reply::Done(answer) => Ok(answer),
         Reply::Refused(fault) => Err(CallFault::Refused(fault)),
-        Reply::Started | Reply::Moved | Reply::Waits => Err(CallFault::Waits),
+        Reply::Started | Reply::Moved | Reply::Waits | Reply::Stopped => Err(CallFault::Waits),
     }
 }

@@ -1,8 +1,10 @@
 //! A world, and how it is let go.
 
 ghost use Rattle.std.specs.Prelude.{◌≡◌, length};
+ghost use Rattle.nv_core.specs.Stops.{HasImageRoom};
 ghost use Rattle.nv_core.specs.Worlds.{IsWorld, WorldState};
 
+use crate::image_room::ImageRoom;
 use crate::reservation::Reservation;
 use crate::running::Running;
 use crate::shared::Shared;
@@ -17,10 +19,13 @@ pub(crate) struct Actor {
 }
 
 /// A world: what actors share, and the actors.
+/// Only tested: a world is `Send`.
 pub struct World {
     pub(crate) alloc: Global,
     pub(crate) shared: Shared,
     pub(crate) actors: Vec<Actor>,
+    // For the image of the world, once it stops.
+    pub(crate) room: ImageRoom,
 }
 
 impl Model for World {
@@ -28,7 +33,16 @@ impl Model for World {
 
     ghost view = { λ w. record { shared = w.shared; actors = w.actors.items } };
 
-    ghost invariant = { λ w. IsWorld (record { shared = w.shared; actors = w.actors.items }) };
+    // It shows a world of the machine of steps, to which events lead from a start of its geometry.
+    // Its geometry is within its limits.
+    // An actor without a call has its hand alone: nothing that is ready, and no commit.
+    // Each hand is of blocks of the device's size, and a call is of a kind that has its next step.
+    // From `check` on, the cells of a call pass the check; its hand has what it took, and room for what it takes.
+    // A call that is ready is so over its cells, and a commit is on its way over them.
+    // A `show` call that goes on has a node to visit.
+    // A `drain` call releases no more than it may; behind its first `pick` its hand has room for a block.
+    ghost invariant = { λ w. IsWorld (record { shared = w.shared; actors = w.actors.items })
+        × HasImageRoom w.shared.geometry.numbers w.room };
 }
 
 impl Drop for World {
@@ -41,6 +55,7 @@ impl Drop for World {
 impl World {
     /// The numbers that the world was made for.
     pub fn geometry(&self) -> &Geometry
+        // A world tells the numbers that it was made for.
         ensures { result.now ≡ self.now.shared.geometry }
     {
         &self.shared.geometry
@@ -48,6 +63,7 @@ impl World {
 
     /// How many inode slots there are.
     pub fn inodes(&self) -> u64
+        // It tells how many inode slots it has, and how many CPUs, each with a free list.
         ensures { result ≡ length self.now.shared.cells.items }
     {
         self.shared.inodes()
@@ -64,13 +80,24 @@ impl World {
     pub(crate) fn into_shared(self) -> Shared
         ensures { result ≡ self.shared }
     {
+        let (shared, room) = self.into_stopped();
+        room.dismantle();
+        shared
+    }
+
+    /// The same, with room for the image of the world.
+    pub(crate) fn into_stopped(self) -> (Shared, ImageRoom)
+        ensures shared { result.0 ≡ self.shared }
+        ensures room { HasImageRoom self.shared.geometry.numbers result.1 }
+    {
         let World {
             alloc: _,
             shared,
             actors,
+            room,
         } = self;
         dismantle(actors);
-        shared
+        (shared, room)
     }
 }
 

@@ -8,7 +8,7 @@ use Rattle.nv_entry.specs.declared.key.Datum.{Datum}
 use Rattle.nv_entry.specs.declared.key.Setting.TheVariants.{Present}
 use Rattle.nv_entry.specs.declared.part.Part.{Part}
 use Rattle.nv_entry.specs.declared.held.Pair.{Pair}
-use Rattle.nv_entry.specs.Counts.{is_kept}
+use Rattle.nv_entry.specs.Counts.{is_entry_kept}
 use Rattle.nv_entry.specs.Held.{Retention, holds, is_named, keeps}
 use Rattle.nv_entry.specs.Keys.{Key, sets, parts_of, key_of}
 use Rattle.nv_entry.specs.Log.{pair_of, pairs_of, first_cover}
@@ -58,7 +58,7 @@ failing block test e later h key d s =
     record { part = x.part; key_is = x.key_is; fails = fails_at (pair_of block e later) test (parts_of e.item) x.place x.part h x.at }
 
 -- where no pair of an entry is kept, each key that it sets to a value has died unheld
-pub dies : (r : Retention) (e : Entry) (later : List Entry) → is_kept r e later ≡ false
+pub dies : (r : Retention) (e : Entry) (later : List Entry) → is_entry_kept r e later ≡ false
     → (key : Key) (d : Datum) → sets r.block e.item key ≡ Present d → Dies r.block r.snapshots e.epoch later key
 dies r e later h key d s =
     let x = failing r.block (keeps r) e later h key d s in
@@ -123,7 +123,7 @@ pair_earlier r e p o (Some death) f h =
 pub unkept_earlier : (r : Retention) (e : Entry) (left later : List Entry)
     → ((key : Key) (death : ℕ) → first_cover r.block left key ≡ Some death
     → (d : ℕ) × (first_cover r.block later key ≡ Some d) × (d ≤ death))
-    → is_kept r e left ≡ false → is_kept r e later ≡ false
+    → is_entry_kept r e left ≡ false → is_entry_kept r e later ≡ false
 unkept_earlier r e left later f h = over (parts_of e.item) h where
   over : (parts : List Part) → list_any (keeps r) (map (pair_of r.block e left) parts) ≡ false
       → list_any (keeps r) (map (pair_of r.block e later) parts) ≡ false

@@ -8,7 +8,7 @@ use Rattle.nv_entry.specs.declared.held.Pair.{Pair}
 use Rattle.nv_entry.specs.declared.item.Entry.{Entry}
 use Rattle.nv_entry.specs.declared.part.Part.{Part}
 use Rattle.nv_entry.specs.declared.part.PartId.{PartId}
-use Rattle.nv_entry.specs.Counts.{is_kept, is_live, live_of, valid_of}
+use Rattle.nv_entry.specs.Counts.{is_entry_kept, is_live, live_of, valid_of}
 use Rattle.nv_entry.specs.Held.{Retention, is_current, is_held, is_named, keeps}
 use Rattle.nv_entry.specs.Keys.{covers, key_of, parts_of}
 use Rattle.nv_entry.specs.Killing.{NamesKilled, OneMorePairs, dead_at, died_of, kills, pair_after, pairs_after, stays_live, with_pending}
@@ -128,7 +128,7 @@ names_it r names e x later p =
     is_named names (pair_of r.block x later p) ≡ (is_named r.pending (pair_of r.block x later p) || kills r.block e x later p)
 
 kept-push : (r : Retention) (names : List PartId) (x : Entry) (later : List Entry) (e : Entry)
-    → AllByRecursion (names_it r names e x later) (parts_of x.item) → is_kept (with_pending r names) x (later ++ e ∷ []) ≡ is_kept r x later
+    → AllByRecursion (names_it r names e x later) (parts_of x.item) → is_entry_kept (with_pending r names) x (later ++ e ∷ []) ≡ is_entry_kept r x later
 kept-push r names x later e h =
     any_map (pair_of r.block x (later ++ e ∷ [])) (keeps (with_pending r names)) (parts_of x.item)
     ∙ any_by (names_it r names e x later)
@@ -144,4 +144,4 @@ valid_of-push r names e zero log h le = refl
 valid_of-push r names e (suc count) [] h le = absurd (omega arith)
 valid_of-push r names e (suc count) (x ∷ later) h le =
     ap (λ (b : Bool). cond b 1 0 + valid_of (with_pending r names) count (later ++ e ∷ [])) (kept-push r names x later e h.0)
-    ∙ ap (λ n. cond (is_kept r x later) 1 0 + n) (valid_of-push r names e count later h.1 (omega (arith, le)))
+    ∙ ap (λ n. cond (is_entry_kept r x later) 1 0 + n) (valid_of-push r names e count later h.1 (omega (arith, le)))

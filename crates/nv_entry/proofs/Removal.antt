@@ -5,7 +5,7 @@ use Rattle.std.proofs.lemmas.Bool.{leb-false, and_parts, not-true, or_parts}
 use Rattle.std.proofs.lemmas.List.Elements.{filter-append}
 use Rattle.nv_entry.specs.declared.item.Entry.{Entry}
 use Rattle.nv_entry.specs.Clean.{IsDroppable, is_droppable, is_empty, hides}
-use Rattle.nv_entry.specs.Counts.{is_kept}
+use Rattle.nv_entry.specs.Counts.{is_entry_kept}
 use Rattle.nv_entry.specs.Covered.{any_cover}
 use Rattle.nv_entry.specs.declared.key.Setting.{Setting}
 use Rattle.nv_entry.specs.declared.key.Setting.TheVariants.{Untouched, Absent, Present}
@@ -33,11 +33,11 @@ pub droppable : (r : Retention) (before : List Entry) (e : Entry) (later : List 
     → IsDroppable r before e later
 droppable r before e later h =
     let hidden = list_any (λ (f : Entry). hides r.block e.item f.item) before in
-    let p = and_parts (not (is_empty later) && not (is_kept r e later)) (not hidden) h in
-    let q = and_parts (not (is_empty later)) (not (is_kept r e later)) p.0 in
+    let p = and_parts (not (is_empty later) && not (is_entry_kept r e later)) (not hidden) h in
+    let q = and_parts (not (is_empty later)) (not (is_entry_kept r e later)) p.0 in
     record {
       not_last = empty-length later (not-true (is_empty later) q.0);
-      unneeded = not-true (is_kept r e later) q.1;
+      unneeded = not-true (is_entry_kept r e later) q.1;
       hides_nothing = hides_nothing_before r.block e.item before (not-true hidden p.1);
     }
 

@@ -7,7 +7,7 @@ use Rattle.nv_entry.specs.declared.item.Entry.{Entry}
 use Rattle.nv_entry.specs.declared.held.Pair.{Pair}
 use Rattle.nv_entry.specs.declared.value.When.{When}
 use Rattle.nv_entry.specs.declared.value.When.TheVariants.{Now, At}
-use Rattle.nv_entry.specs.Counts.{is_kept, is_live, live_of, valid_of}
+use Rattle.nv_entry.specs.Counts.{is_entry_kept, is_live, live_of, valid_of}
 use Rattle.nv_entry.specs.Held.{Retention, is_current, keeps}
 use Rattle.nv_entry.specs.Index.{page_source}
 use Rattle.nv_entry.specs.Keys.{Key, PageKey, sets}
@@ -66,7 +66,7 @@ page_source-skips block when log i e page lt is h =
 
 -- the count of a page's kept entries, from one of them on
 pub valid_of-drop : (r : Retention) (count : ℕ) (log : List Entry) (i : ℕ) (e : Entry) → i < count → count ≤ length log → e ≡ get_or log i e
-    → valid_of r (count - i) (drop i log) ≡ cond (is_kept r e (drop (i + 1) log)) 1 0 + valid_of r (count - (i + 1)) (drop (i + 1) log)
+    → valid_of r (count - i) (drop i log) ≡ cond (is_entry_kept r e (drop (i + 1) log)) 1 0 + valid_of r (count - (i + 1)) (drop (i + 1) log)
 valid_of-drop r count log i e lt le is =
     let n : count - i ≡ suc (count - (i + 1)) = omega arith in
     let short : i < length log = omega arith in

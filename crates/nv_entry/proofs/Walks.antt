@@ -4,7 +4,7 @@ use Rattle.std.specs.List.{AllByRecursion, list_any}
 use Rattle.std.proofs.lemmas.Bool.{and_parts, and_from, or_from, or_parts}
 use Rattle.nv_entry.specs.declared.held.Pair.{Pair}
 use Rattle.nv_entry.specs.declared.item.Entry.{Entry}
-use Rattle.nv_entry.specs.Clean.{IsDroppable, all_go, entries_of, entries_stay, is_droppable, is_empty, kept_of, page_goes, pages_left, pages_stay, select}
+use Rattle.nv_entry.specs.Clean.{IsDroppable, all_go, entries_of, entries_stay, is_droppable, is_empty, thorough_leaves, page_goes, pages_left, pages_stay, select}
 use Rattle.nv_entry.specs.Held.{Retention, holds, is_current, is_held, is_named, keeps}
 use Rattle.nv_entry.specs.Keys.{Key, covers}
 use Rattle.nv_entry.specs.Laws.{AllDroppable, GoIfDroppable, GoIfPageDroppable, IsFast, IsPageDroppable, IsThorough, KeepsReads, NoneDroppable, ReadsSame, ReadsSameAt, SpansAreKept, pairs_where}
@@ -196,8 +196,8 @@ keeps_reads r old new out l =
           (λ s h. same (holds s) (steady_held r s h)) r.snapshots (living r);
     }
 
-pub thorough_keeps : (r : Retention) (log : List Entry) → IsLog log → KeepsReads r log (kept_of r log)
-thorough_keeps r log l = keeps_reads r log (kept_of r log) (λ R fact lasts known. walk_lasts r R fact lasts [] log known) l
+pub thorough_keeps : (r : Retention) (log : List Entry) → IsLog log → KeepsReads r log (thorough_leaves r log)
+thorough_keeps r log l = keeps_reads r log (thorough_leaves r log) (λ R fact lasts known. walk_lasts r R fact lasts [] log known) l
 
 pub fast_keeps : (r : Retention) (pages : List (List Entry)) → IsLog (entries_of pages)
     → KeepsReads r (entries_of pages) (entries_of (pages_left r pages))

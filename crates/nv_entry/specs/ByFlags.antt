@@ -4,20 +4,22 @@ use Rattle.std.specs.Prelude.{ℕ, ◌++◌, ◌&&◌, Bool, true, false, not, i
 use Rattle.std.specs.List.{list_any}
 use Rattle.nv_entry.specs.declared.item.Entry.{Entry}
 use Rattle.nv_entry.specs.Clean.{entries_of, hides, is_empty}
-use Rattle.nv_entry.specs.Counts.{is_kept}
+use Rattle.nv_entry.specs.Counts.{is_entry_kept}
 use Rattle.nv_entry.specs.Held.{Retention}
 
--- the flags of a retention
+-- the flags of a retention.
+-- `kept_flags` are those of a retention. An entry without a flag stays.
 abbrev pub kept_flags : Retention → List Entry → List Bool
 kept_flags r [] = []
-kept_flags r (e ∷ later) = is_kept r e later ∷ kept_flags r later
+kept_flags r (e ∷ later) = is_entry_kept r e later ∷ kept_flags r later
 
 -- an entry between others may go, by its flag
 abbrev pub goes_by : ℕ → Bool → List Entry → Entry → List Entry → Bool
 goes_by block flag before e later =
     not (is_empty later) && not flag && not (list_any (λ earlier. hides block e.item earlier.item) before)
 
--- which of the entries to come stay after a walk from the head, where `kept` are the earlier ones that stay
+-- which of the entries to come stay after a walk from the head, where `kept` are the earlier ones that stay.
+-- A walk by flags: the same walks, where a flag for each entry says whether anything keeps a part of it.
 abbrev pub stays_by : ℕ → List Bool → List Entry → List Entry → List Bool
 stays_by block [] kept log = map (λ e. true) log
 stays_by block (flag ∷ flags) kept [] = []

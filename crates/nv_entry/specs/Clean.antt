@@ -6,15 +6,18 @@ use Rattle.nv_entry.specs.declared.item.Entry.{Entry}
 use Rattle.nv_entry.specs.declared.item.Item.{Item}
 use Rattle.nv_entry.specs.declared.item.Item.TheVariants.{Init, Write, SetSize, SetMode, Bind, Unbind, Gone}
 use Rattle.nv_entry.specs.declared.key.Setting.TheVariants.{Absent}
-use Rattle.nv_entry.specs.Counts.{is_kept}
+use Rattle.nv_entry.specs.Counts.{is_entry_kept}
 use Rattle.nv_entry.specs.Held.{Retention}
 use Rattle.nv_entry.specs.Keys.{Key, NameKey, sets, covers, pages_for}
 
 -- an entry between others may go: it is not the last of its log, none of its pairs is needed or pending,
 -- and no earlier entry covers a key that it sets to absent
 pub record IsDroppable (r : Retention) (before : List Entry) (e : Entry) (later : List Entry) : Type 0 where
+  -- it is not the last entry of its log
   pub not_last : 0 < length later
-  pub unneeded : is_kept r e later ≡ false
+  -- none of its pairs is needed or pending
+  pub unneeded : is_entry_kept r e later ≡ false
+  -- no earlier entry covers a key that it sets to absent
   pub hides_nothing : (key : Key) → sets r.block e.item key ≡ Absent → list_any (λ earlier. covers r.block earlier.item key) before ≡ false
 
 -- the item covers a page that a file can have, from this one on
@@ -27,7 +30,9 @@ covers_from block page (Bind name to) = false
 covers_from block page (Unbind name) = false
 covers_from block page Gone = nat_lt page FILE_PAGES
 
--- the item sets a key to absent that an earlier item covers
+-- the item sets a key to absent that an earlier item covers.
+-- The others are definitions themselves: `hides` of a cleaner, `open_page` of a chain, `command_of` of a script.
+-- The examples use blocks of 4 bytes, so `block` is 4. A page is a file page, unless it is called a log page.
 abbrev pub hides : ℕ → Item → Item → Bool
 hides block (Init kind mode) earlier = false
 hides block (Write first run size) earlier = false
@@ -37,14 +42,17 @@ hides block (Bind name to) earlier = false
 hides block (Unbind name) earlier = covers block earlier (NameKey name)
 hides block Gone earlier = true
 
+-- the log has no entry
 abbrev pub is_empty : List Entry → Bool
 is_empty [] = true
 is_empty (e ∷ log) = false
 
--- the test of a droppable entry
+-- the test of a droppable entry.
+-- Of `is_droppable` a contract says that it agrees with the definition that it stands for. The test that computes
+-- it is `is_droppable`. The walk goes from the head and counts earlier removals as made.
 abbrev pub is_droppable : Retention → List Entry → Entry → List Entry → Bool
 is_droppable r before e later =
-    not (is_empty later) && not (is_kept r e later) && not (list_any (λ earlier. hides r.block e.item earlier.item) before)
+    not (is_empty later) && not (is_entry_kept r e later) && not (list_any (λ earlier. hides r.block e.item earlier.item) before)
 
 -- the elements of a list that flags mark as staying
 abbrev pub select : {X : Type 0} → List Bool → List X → List X
@@ -52,7 +60,8 @@ select [] xs = []
 select (stays ∷ flags) [] = []
 select (stays ∷ flags) (x ∷ xs) = if stays then x ∷ select flags xs else select flags xs
 
--- which of the entries to come stay after a walk from the head, where `kept` are the earlier ones that stay
+-- which of the entries to come stay after a walk from the head, where `kept` are the earlier ones that stay.
+-- Both walks give flags, and what they leave is what the flags select.
 abbrev pub entries_stay : Retention → List Entry → List Entry → List Bool
 entries_stay r kept [] = []
 entries_stay r kept (e ∷ later) =
@@ -60,9 +69,10 @@ entries_stay r kept (e ∷ later) =
     then false ∷ entries_stay r kept later
     else true ∷ entries_stay r (kept ++ e ∷ []) later
 
--- what thorough cleaning leaves of a log
-abbrev pub kept_of : Retention → List Entry → List Entry
-kept_of r log = select (entries_stay r [] log) log
+-- what thorough cleaning leaves of a log.
+-- Thorough removes each droppable entry.
+abbrev pub thorough_leaves : Retention → List Entry → List Entry
+thorough_leaves r log = select (entries_stay r [] log) log
 
 -- the entries of pages, in order
 abbrev pub entries_of : List (List Entry) → List Entry
@@ -90,6 +100,8 @@ pages_stay r kept (page ∷ pages) =
     then false ∷ pages_stay r kept pages
     else true ∷ pages_stay r (kept ++ page) pages
 
--- the pages that fast cleaning leaves of a log
+-- the pages that fast cleaning leaves of a log.
+-- Fast removes a log page only where all its entries may go, with those before it in the page tried as removed. A
+-- log page without entries stays.
 abbrev pub pages_left : Retention → List (List Entry) → List (List Entry)
 pages_left r pages = select (pages_stay r [] pages) pages

@@ -16,7 +16,9 @@ any_cover block log key = list_any (λ e. covers block e.item key) log
 abbrev pub covered_of : ℕ → Entry → List Entry → List Bool
 covered_of block e later = map (λ part. any_cover block later (key_of e.item part)) (parts_of e.item)
 
--- the same for each entry of a log
+-- the same for each entry of a log.
+-- Covered parts: for each entry one flag a part, whether an entry behind it covers the part's key. A pair is
+-- current exactly where its flag is not set.
 abbrev pub covered_parts : ℕ → List Entry → List (List Bool)
 covered_parts block [] = []
 covered_parts block (e ∷ later) = covered_of block e later ∷ covered_parts block later
@@ -25,6 +27,7 @@ covered_parts block (e ∷ later) = covered_of block e later ∷ covered_parts b
 abbrev pub part_count : Entry → ℕ
 part_count e = length (parts_of e.item)
 
+-- how many parts the entries have together
 abbrev pub part_total : List Entry → ℕ
 part_total [] = 0
 part_total (e ∷ later) = part_count e + part_total later
@@ -38,12 +41,14 @@ abbrev pub key_at : List Entry → ℕ → Key
 key_at [] n = KindKey
 key_at (e ∷ later) n = if nat_lt n (part_count e) then part_key e n else key_at later (n - part_count e)
 
--- an entry behind the part n covers its key
+-- an entry behind the part n covers its key.
+-- By number the parts of a log count from 0, by entry and then by place.
 abbrev pub is_covered : ℕ → List Entry → ℕ → Bool
 is_covered block [] n = false
 is_covered block (e ∷ later) n =
     if nat_lt n (part_count e) then any_cover block later (part_key e n) else is_covered block later (n - part_count e)
 
+-- some part is not covered later
 abbrev pub has_uncovered : List Bool → Bool
 has_uncovered covered = list_any not covered
 

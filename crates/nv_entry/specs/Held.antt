@@ -11,8 +11,11 @@ use Rattle.nv_entry.specs.declared.retention.Retention.{Retention as CodeRetenti
 -- what keeps pairs that are no longer current: the living snapshots, and the pending pairs by name, among which
 -- stand those that are killed and not yet retired where counts are asked; with the size of blocks in bytes
 pub record Retention : Type 0 where
+  -- the bytes of a block
   pub block : ℕ
+  -- the living snapshots
   pub snapshots : List ℕ
+  -- the pending pairs, by name
   pub pending : List PartId
 
 -- the retention that the code names so
@@ -28,20 +31,27 @@ is_before_death epoch (Some death) = nat_lt epoch death
 abbrev pub holds : ℕ → Pair → Bool
 holds snapshot pair = nat_le pair.birth snapshot && is_before_death snapshot pair.death
 
+-- Held: snapshot `s` holds a pair where birth <= s and either it has no death or s < death.
 abbrev pub is_held : List ℕ → Pair → Bool
 is_held snapshots pair = list_any (λ snapshot. holds snapshot pair) snapshots
 
--- no later entry covers its key
+-- no later entry covers its key.
+-- Current: it has no death.
 abbrev pub is_current : Pair → Bool
 is_current pair = has_no_death pair.death where
   has_no_death : Option ℕ → Bool
   has_no_death None = true
   has_no_death (Some death) = false
 
--- current, or held by a living snapshot
+-- current, or held by a living snapshot.
+-- Needed: it is current, or a living snapshot holds it. Pending are pairs that are deferred, or picked and not yet
+-- released. Killed are those that are no longer current and not yet retired. Both belong to crates above, and come
+-- here as given lists of names: entry id and part. Retention: the living snapshots and the pending pairs, with the
+-- size of blocks.
 abbrev pub is_needed : List ℕ → Pair → Bool
 is_needed snapshots pair = is_current pair || is_held snapshots pair
 
+-- the two parts are of one key
 abbrev pub same_part : Part → Part → Bool
 same_part part.Kind part.Kind = true
 same_part part.Mode part.Mode = true
@@ -54,6 +64,7 @@ same_part a b = false
 abbrev pub pair_name : Pair → PartId
 pair_name pair = record { entry = pair.entry; part = pair.part }
 
+-- the pair has this name
 abbrev pub has_name : Pair → PartId → Bool
 has_name pair name = is_same_id name.entry pair.entry && same_part name.part pair.part
 
@@ -61,6 +72,9 @@ has_name pair name = is_same_id name.entry pair.entry && same_part name.part pai
 abbrev pub is_named : List PartId → Pair → Bool
 is_named names pair = list_any (has_name pair) names
 
--- a pair is needed or pending
+-- a pair is needed or pending.
+-- It keeps a pair that is needed or pending. Example: above, snapshot 1 holds the pair of 2.0 and page 0, since 1
+-- <= 1 < 2. A third write in epoch 2 gives the pair of 3.0 and page 0 birth 2 and death 2. No snapshot holds it,
+-- whatever its number, and its block is free at once.
 abbrev pub keeps : Retention → Pair → Bool
 keeps r pair = is_needed r.snapshots pair || is_named r.pending pair

@@ -40,7 +40,8 @@ bound_name (Unbind name) death = []
 bound_name Gone death = []
 
 -- the names from scratch: the current bindings in log order; the size of blocks says nothing of names, so
--- that any will do
+-- that any will do.
+-- Names from scratch: the bindings that no later entry covers, in log order.
 abbrev pub names_of : List Entry → List BoundName
 names_of [] = []
 names_of (e ∷ later) = bound_name e.item (first_cover 1 later (NameKey (name_of e.item))) ++ names_of later
@@ -58,7 +59,8 @@ abbrev pub bound_to : List ℕ → List BoundName → Option Handle
 bound_to name [] = None
 bound_to name (bound ∷ list) = if same_name name bound.name then Some bound.to else bound_to name list
 
--- the names after one more item
+-- the names after one more item.
+-- A bound name goes last, and an unbound name's place closes up. Example: Bind a, Bind b, Bind a again gives b, a.
 abbrev pub names_after : Item → List BoundName → List BoundName
 names_after (Init kind mode) list = list
 names_after (Write first run size) list = list

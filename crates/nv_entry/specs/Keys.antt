@@ -15,7 +15,8 @@ use Rattle.nv_entry.specs.declared.key.Setting.TheVariants.{Untouched, Absent, P
 use Rattle.nv_entry.specs.declared.part.Part.{Part}
 use Rattle.nv_entry.specs.declared.part.Part.TheVariants as part
 
--- a key of an inode, by which its values are named
+-- a key of an inode, by which its values are named.
+-- Key: what of an inode can have a value. It is its kind, its mode, its size, a name, or a page below 65,536.
 pub data Key : Type 0 where
   KindKey : Key
   ModeKey : Key
@@ -60,7 +61,8 @@ in_run first run page = nat_le first page && nat_lt page (first + run.len) && is
 abbrev pub is_past : ℕ → ℕ → ℕ → Bool
 is_past block size page = nat_le (pages_for block size) page && is_page page
 
--- what an item does to a key
+-- what an item does to a key.
+-- What an item sets: for each key one of three, untouched, absent, or present with a value.
 abbrev pub sets : ℕ → Item → Key → Setting
 sets block (Init kind mode) KindKey = Present (datum.Kind kind)
 sets block (Init kind mode) ModeKey = Present (datum.Mode mode)
@@ -88,6 +90,7 @@ touches Untouched = false
 touches Absent = true
 touches (Present value) = true
 
+-- An item covers the keys that it does not leave untouched.
 abbrev pub covers : ℕ → Item → Key → Bool
 covers block item key = touches (sets block item key)
 
@@ -95,7 +98,11 @@ covers block item key = touches (sets block item key)
 abbrev pub run_pages : ℕ → BlockRun → List ℕ
 run_pages first run = range_with_len first (min run.len (FILE_PAGES - first))
 
--- the keys that an item sets to a value, as parts of its entry: kind, mode, size, name, pages rising
+-- the keys that an item sets to a value, as parts of its entry: kind, mode, size, name, pages rising.
+-- Part: a key that an entry sets to a value, as `Kind`, `Mode`, `Size`, `Bound` or `Page(p)`. Parts stand in that
+-- order, pages rising. Example: `SetSize{5}` sets the size to 5 and the pages 2, 3, .. to absent. It leaves page 1
+-- untouched, which has the byte at 4 and, after a write, bytes past the size. So to cut inside a block is a Write
+-- of that page with zeros from the size on, and then the SetSize.
 abbrev pub parts_of : Item → List Part
 parts_of (Init kind mode) = part.Kind ∷ part.Mode ∷ part.Size ∷ []
 parts_of (Write first run size) = part.Size ∷ map part.Page (run_pages first run)

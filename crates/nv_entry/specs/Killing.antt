@@ -14,6 +14,7 @@ use Rattle.nv_entry.specs.Log.{pair_of, pairs, pairs_of}
 abbrev pub kills : ℕ → Entry → Entry → List Entry → Part → Bool
 kills block e x later part = is_current (pair_of block x later part) && covers block e.item (key_of x.item part)
 
+-- the pair once it has died in an epoch
 abbrev pub dead_at : ℕ → Pair → Pair
 dead_at epoch pair = record pair { death = Some epoch }
 

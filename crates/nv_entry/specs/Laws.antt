@@ -12,7 +12,7 @@ use Rattle.nv_entry.specs.declared.key.Setting.TheVariants.{Untouched, Absent, P
 use Rattle.nv_entry.specs.declared.part.PartId.{PartId}
 use Rattle.nv_entry.specs.declared.part.Part.{Part}
 use Rattle.nv_entry.specs.declared.part.Part.TheVariants as part
-use Rattle.nv_entry.specs.Clean.{IsDroppable, entries_of, entries_stay, kept_of, pages_left, pages_stay}
+use Rattle.nv_entry.specs.Clean.{IsDroppable, entries_of, entries_stay, thorough_leaves, pages_left, pages_stay}
 use Rattle.nv_entry.specs.Held.{Retention, holds, is_current, is_named, keeps, pair_name}
 use Rattle.nv_entry.specs.Index.{source_of, page_source, names_of, names_after}
 use Rattle.nv_entry.specs.Keys.{Key, PageKey, sets, covers, key_of, parts_of}
@@ -54,7 +54,15 @@ pub record ReadsSame (block : ℕ) (old new : List Entry) : Type 0 where
 abbrev pub ReadsSameAt : ℕ → ℕ → List Entry → List Entry → Type 0
 ReadsSameAt block epoch old new = ReadsSame block (up_to epoch old) (up_to epoch new)
 
--- every pair of the log that spans the epoch is needed or pending
+-- every pair of the log that spans the epoch is needed or pending.
+-- So they are now, and at every epoch of which each pair that spans it is kept, so at each living snapshot. The
+-- current pairs, the pending ones, and those that each living snapshot holds are the same by name and in order. The
+-- deaths of those that stay may move. Example (the tombstone): Init, Bind a, Unbind a, Bind b with a snapshot that
+-- holds the binding of `a`. The Unbind has no pair. It can't go while Bind a stays, since `a` would be back. Once
+-- the snapshot is dropped and its record released, the walk removes Bind a and then Unbind a. Example (a killer is
+-- cleaned away): a page is written in epochs 1, 2 and again later, with snapshot 1 living. The second write is
+-- droppable: it has died, and no living snapshot is between its birth and its death. Without it the first write's
+-- scanned death is later than it was, yet no living snapshot lies between.
 abbrev pub SpansAreKept : Retention → ℕ → List Entry → Type 0
 SpansAreKept r epoch log = AllByRecursion (λ pair. holds epoch pair ≡ true → keeps r pair ≡ true) (pairs r.block log)
 
@@ -64,13 +72,21 @@ pairs_where test block log = map pair_name (filter test (pairs block log))
 
 -- what cleaning keeps: what is read now and at each epoch whose pairs are all needed or pending, each living
 -- snapshot among them; the current pairs, the pending ones and those that each living snapshot holds, though
--- their deaths may move
+-- their deaths may move.
+-- Keeping what is read: before and after, these are the same: the node with its bytes, the order of names, each
+-- page's entry and block, and each value.
 pub record KeepsReads (r : Retention) (old new : List Entry) : Type 0 where
+  -- what is read now stays
   pub now : ReadsSame r.block old new
+  -- what is read at an epoch stays whose pairs are all kept
   pub kept : (epoch : ℕ) → SpansAreKept r epoch old → ReadsSameAt r.block epoch old new
+  -- what is read at each living snapshot stays
   pub held : AllByRecursion (λ snapshot. ReadsSameAt r.block snapshot old new) r.snapshots
+  -- the current pairs stay
   pub current : pairs_where is_current r.block new ≡ pairs_where is_current r.block old
+  -- the pending pairs stay
   pub pending : pairs_where (is_named r.pending) r.block new ≡ pairs_where (is_named r.pending) r.block old
+  -- what each living snapshot holds stays
   pub holders : AllByRecursion (λ snapshot. pairs_where (holds snapshot) r.block new ≡ pairs_where (holds snapshot) r.block old) r.snapshots
 
 -- none of the entries to come is droppable, where `before` are those before them
@@ -89,8 +105,8 @@ GoIfDroppable r kept (e ∷ later) (false ∷ flags) = IsDroppable r kept e late
 -- thorough cleaning takes out the entries that are droppable and no others; it leaves none and keeps what is read
 pub record IsThorough (r : Retention) (log : List Entry) : Type 0 where
   pub goes : GoIfDroppable r [] log (entries_stay r [] log)
-  pub none_left : NoneDroppable r [] (kept_of r log)
-  pub keeps : KeepsReads r log (kept_of r log)
+  pub none_left : NoneDroppable r [] (thorough_leaves r log)
+  pub keeps : KeepsReads r log (thorough_leaves r log)
 
 -- each entry of a page is droppable, with those before it in the page removed
 abbrev pub AllDroppable : Retention → List Entry → List Entry → List Entry → Type 0
@@ -117,6 +133,7 @@ pub record IsFast (r : Retention) (pages : List (List Entry)) : Type 0 where
   pub goes : GoIfPageDroppable r [] pages (pages_stay r [] pages)
   pub keeps : KeepsReads r (entries_of pages) (entries_of (pages_left r pages))
 
+-- the item sets the key to a value
 abbrev pub is_present : Setting → Bool
 is_present Untouched = false
 is_present Absent = false

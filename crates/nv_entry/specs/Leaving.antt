@@ -17,7 +17,9 @@ HidesNone block before e = (key : Key) → sets block e.item key ≡ Absent → 
 -- an entry may leave its log: each key that it sets to a value is covered later, and no earlier entry that is
 -- still there covers a key that it sets to absent
 pub record MayLeave (block : ℕ) (before : List Entry) (e : Entry) (later : List Entry) : Type 0 where
+  -- each key that it sets to a value is covered later
   pub dead : (key : Key) → is_present (sets block e.item key) ≡ true → any_cover block later key ≡ true
+  -- no earlier entry that is there covers a key that it sets to absent
   pub hides_nothing : HidesNone block before e
 
 -- each of the entries to come that goes may leave, with the earlier ones gone; `before` are those that stay before them

@@ -19,9 +19,11 @@ page_bytes bytes block None = replicate block 0
 abbrev pub size_now : ℕ → List Entry → ℕ
 size_now block log = unwrap_or (option_and_then size_in (value_now block log SizeKey)) 0
 
+-- the mode that a log gives now, 0 where it gives none
 abbrev pub mode_now : ℕ → List Entry → ℕ
 mode_now block log = unwrap_or (option_and_then mode_in (value_now block log ModeKey)) 0
 
+-- the block that a page's current value stands in, if it has one
 abbrev pub block_now : ℕ → List Entry → ℕ → Option ℕ
 block_now block log page = option_and_then block_in (value_now block log (PageKey page))
 
@@ -33,6 +35,7 @@ pages_bytes bytes block log count = flat_map (λ page. page_bytes bytes block (b
 abbrev pub file_bytes : (ℕ → List ℕ) → ℕ → List Entry → List ℕ
 file_bytes bytes block log = take (size_now block log) (pages_bytes bytes block log (pages_for block (size_now block log)))
 
+-- the node of a log by the value of its kind: none where there is no kind
 abbrev pub node_of_kind : Option Datum → (ℕ → List ℕ) → ℕ → List Entry → Option NodeCopy
 node_of_kind (Some (datum.Kind kind)) bytes block log =
     Some (record {
@@ -44,7 +47,11 @@ node_of_kind (Some (datum.Kind kind)) bytes block log =
     })
 node_of_kind value bytes block log = None
 
--- the node now: kind, mode, size, bytes and names; none where the kind is absent
+-- the node now: kind, mode, size, bytes and names; none where the kind is absent.
+-- Node: kind, mode, size, bytes, and names. The bytes are those of the pages, with zeros where one is absent, cut
+-- at the size. There is none where the kind is absent: before its Init or after it is Gone. Example (partial at
+-- both ends): to write `abcdefghij` at 3 into an empty file makes pages 0 to 3 and size 13. The bytes are three
+-- zeros and then `abcdefghij`.
 abbrev pub node_now : (ℕ → List ℕ) → ℕ → List Entry → Option NodeCopy
 node_now bytes block log = node_of_kind (value_now block log KindKey) bytes block log
 

@@ -33,6 +33,7 @@ pub record IsPlaced (block : ℕ) (item : Item) : Type 0 where
       → option_map (key_of item) (slice_get (parts_of item) (place_in item key)) ≡ Some key
   pub place : (n : ℕ) (part : Part) → slice_get (parts_of item) n ≡ Some part → place_in item (key_of item part) ≡ n
 
+-- an entry's id with a place among its parts
 abbrev pub part_ref : EntryId → ℕ → PartRef
 part_ref entry place = record { entry = entry; place = place }
 
@@ -46,7 +47,11 @@ left_by (Present value) own before = Some own
 abbrev pub ref_after : ℕ → Entry → Key → Option PartRef → Option PartRef
 ref_after block e key before = left_by (sets block e.item key) (part_ref e.id (place_in e.item key)) before
 
--- the part that holds a key now: that of the last entry which covers the key, if it sets it to a value
+-- the part that holds a key now: that of the last entry which covers the key, if it sets it to a value.
+-- The part that holds a key: of the last entry that covers the key, its id and the place of the key's part among
+-- the entry's parts. There is none if that entry sets the key to absent, or none covers it. It is the one part of
+-- the key that no later entry covers. Example: in the log above (3.0, 1) holds page 0, since part 0 of a Write is
+-- its size; (1.1, 1) holds the mode.
 abbrev pub scan_ref : ℕ → List Entry → Key → Option PartRef
 scan_ref block log key = option_and_then (λ e. ref_after block e key None) (last_cover block log key)
 
@@ -80,6 +85,7 @@ entry_with id log = find (λ e. is_same_id e.id id) log
 abbrev pub value_in : ℕ → List Entry → Key → PartRef → Option Datum
 value_in block log key r = option_and_then (λ e. value_of (sets block e.item key)) (entry_with r.entry log)
 
+-- the source of a page by the part that holds it
 abbrev pub source_in : ℕ → List Entry → ℕ → PartRef → Option PageSource
 source_in block log page r = option_and_then (λ e. source_of e (sets block e.item (PageKey page))) (entry_with r.entry log)
 
@@ -88,6 +94,7 @@ pub record RefsGive (block : ℕ) (log : List Entry) : Type 0 where
   pub value : (key : Key) → value_now block log key ≡ option_and_then (value_in block log key) (scan_ref block log key)
   pub source : (page : ℕ) → page_source block log page ≡ option_and_then (source_in block log page) (scan_ref block log (PageKey page))
 
+-- the item binds a name
 abbrev pub is_bind : Item → Bool
 is_bind (Bind name to) = true
 is_bind item = false

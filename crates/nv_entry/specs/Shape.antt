@@ -26,10 +26,12 @@ kind_after (Init kind mode) before = Some kind
 kind_after Gone before = None
 kind_after item before = before
 
+-- the items are lawful one after another, from a kind or from none on
 abbrev pub AreLawful : ℕ → List Item → Option Kind → Type 0
 AreLawful block [] before = Unit {0}
 AreLawful block (item ∷ items) before = IsLawful block item before × AreLawful block items (kind_after item before)
 
+-- the items of a log, in order
 abbrev pub items_of : List Entry → List Item
 items_of log = map (λ (e : Entry). e.item) log
 
@@ -40,7 +42,10 @@ IsGoneLast (item ∷ []) = Unit {0}
 IsGoneLast (item ∷ next ∷ items) = (item ≢ Gone) × IsGoneLast (next ∷ items)
 
 -- A LOG IS OF ITS SHAPE: from nothing on, each item is lawful for the kind that those before it give, and nothing stands
--- behind a Gone
+-- behind a Gone.
+-- Shape of a log: each item is lawful for the kind that those before it give, from nothing on, and nothing stands
+-- behind a Gone. Example: Init of a file, Write and SetSize are of the shape. A Bind behind them is not, and
+-- neither is a SetMode behind a Gone.
 pub record IsShaped (block : ℕ) (log : List Entry) : Type 0 where
   pub lawful : AreLawful block (items_of log) None
   pub last : IsGoneLast (items_of log)

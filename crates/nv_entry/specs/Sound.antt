@@ -25,14 +25,23 @@ SuitsKind Dir size names = size ≡ 0
 -- stored is the p-th page of them, padded with zeros, and the rest is as it is; no page past the size is present,
 -- so that a directory has none
 pub record Stands (bytes : ℕ → List ℕ) (block : ℕ) (s : Stored) (node : NodeCopy) : Type 0 where
+  -- the kind is the node's
   pub kind : s.kind ≡ Some node.kind
+  -- the mode is the node's
   pub mode : s.mode ≡ node.mode
+  -- the size is the node's
   pub size : s.size ≡ node.size
+  -- the node has as many bytes as its size says
   pub length : length node.bytes ≡ node.size
+  -- no file has more pages than the greatest
   pub fits : node.size ≤ FILE_PAGES * block
+  -- each page's block has the node's bytes of that page, padded with zeros
   pub pages : (page : ℕ) → page_bytes bytes block (s.blocks page) ≡ page_of block page node.bytes
+  -- no page past the size is present
   pub within : (page number : ℕ) → s.blocks page ≡ Some number → page < pages_for block node.size
+  -- the names are the node's
   pub names : s.names ≡ node.names
+  -- size and names suit the kind
   pub suits : SuitsKind node.kind node.size node.names
 
 -- a node is stored, or nothing is
@@ -40,7 +49,11 @@ abbrev pub Tied : (ℕ → List ℕ) → ℕ → Stored → Option NodeCopy → 
 Tied bytes block s None = s ≡ nothing
 Tied bytes block s (Some node) = Stands bytes block s node
 
--- what a log has stored is the node that it gives
+-- what a log has stored is the node that it gives.
+-- Sound: what a log has stored is the node that it gives. The bytes of the block of page p are the p-th page of the
+-- node's bytes, padded with zeros. They are zeros where the page is absent. The bytes are as many as the size says,
+-- and no page past the size is present. A directory has the size 0, so no page, and a file has no names. Where
+-- there is no node, nothing is stored.
 abbrev pub IsSound : (ℕ → List ℕ) → ℕ → List Entry → Type 0
 IsSound bytes block log = Tied bytes block (stored block log) (node_now bytes block log)
 
@@ -49,6 +62,7 @@ pub record Gives (bytes : ℕ → List ℕ) (block : ℕ) (log : List Entry) (no
   pub is : node_now bytes block log ≡ node
   pub sound : IsSound bytes block log
 
+-- a node of a kind and a mode without bytes and names
 abbrev pub empty_node : Kind → ℕ → NodeCopy
 empty_node kind mode = record { kind = kind; mode = mode; size = 0; bytes = []; names = [] }
 
@@ -68,7 +82,9 @@ pub record Rewrites (bytes : ℕ → List ℕ) (block : ℕ) (item : Item) (size
   pub pages : (page : ℕ) → page_of block page after.bytes ≡ page_after bytes block item page (page_of block page before.bytes)
 
 -- one more item that is lawful, and what it makes of a node: bytes are a file's and names a directory's, and after
--- a write both its pages and those before it lie below the size
+-- a write both its pages and those before it lie below the size.
+-- Lawful item: what one more item may make of a node. A Write and a SetSize need a file, a Bind and an Unbind a
+-- directory. A log that gets lawful items alone stays sound.
 abbrev pub Makes : (ℕ → List ℕ) → ℕ → Item → Option NodeCopy → Option NodeCopy → Type 0
 Makes bytes block (Init kind mode) None (Some after) = after ≡ empty_node kind mode
 Makes bytes block (Write first run size) (Some node) (Some after) =
@@ -83,7 +99,11 @@ Makes bytes block Gone (Some node) None = Unit {0}
 Makes bytes block item before after = ⊥
 
 -- several items that are lawful together, and what they make of a node: wherever the one is stored, the other is
--- after them
+-- after them.
+-- Lawful together: several items after which a node is stored wherever another was before them, as the Write items
+-- of one call, a block run each. Example: with blocks of 4 bytes, a node of the 6 bytes `abcdef` is stored as the
+-- pages `abcd` and `ef` with two zeros. A SetSize to 5 is no lawful item there: it would leave the `f` past the
+-- size in page 1. A Write of page 1 as `e` and three zeros with size 5 is one.
 abbrev pub MakesAll : (ℕ → List ℕ) → ℕ → List Item → Option NodeCopy → Option NodeCopy → Type 0
 MakesAll bytes block items before after = (s : Stored) → Tied bytes block s before → Tied bytes block (stored_after_all block items s) after
 

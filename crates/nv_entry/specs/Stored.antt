@@ -20,9 +20,11 @@ pub record Stored : Type 0 where
   pub blocks : ℕ → Option ℕ
   pub names : List BoundName
 
+-- what an empty log has stored
 abbrev pub nothing : Stored
 nothing = record { kind = None; mode = 0; size = 0; blocks = λ page. None; names = [] }
 
+-- the kind that a value is, if it is one
 abbrev pub kind_in : Datum → Option Kind
 kind_in (datum.Kind kind) = Some kind
 kind_in value = None
@@ -37,6 +39,8 @@ stored_by value names = record {
   names = names;
 }
 
+-- Stored: what the values of a log say of its inode: kind, mode, size, the block of each page that is present, and
+-- the names.
 abbrev pub stored : ℕ → List Entry → Stored
 stored block log = stored_by (value_now block log) (names_of log)
 
@@ -47,7 +51,8 @@ block_after block (SetSize size) page before = if is_past block size page then N
 block_after block Gone page before = if is_page page then None else before
 block_after block item page before = before
 
--- what is stored after one more item
+-- what is stored after one more item.
+-- After one more item: the same with what that item sets, whatever the log.
 abbrev pub stored_after : ℕ → Item → Stored → Stored
 stored_after block (Init kind mode) s = record s { kind = Some kind; mode = mode; size = 0 }
 stored_after block (Write first run size) s =

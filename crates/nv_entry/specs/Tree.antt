@@ -15,6 +15,7 @@ abbrev pub names_of_node : Option NodeCopy → List BoundName
 names_of_node None = []
 names_of_node (Some node) = node.names
 
+-- the names of a directory, none where there is no node
 abbrev pub names_under : (Handle → Option NodeCopy) → Handle → List BoundName
 names_under nodes handle = names_of_node (nodes handle)
 
@@ -23,12 +24,16 @@ abbrev pub node_and_below : Option NodeCopy → List (List ℕ) → (BoundName �
 node_and_below None path below = []
 node_and_below (Some node) path below = record { path = path; node = node } ∷ flat_map below node.names
 
--- the tree from a handle on, at most so many nodes deep
+-- the tree from a handle on, at most so many nodes deep.
+-- Tree: the nodes that are reached from a handle through names, at most so many nodes deep, each with its path. A
+-- parent stands before its names, and these in their order. A name whose handle stands for no node has nothing in
+-- the tree.
 abbrev pub tree_from : (Handle → Option NodeCopy) → ℕ → List (List ℕ) → Handle → List TreeNode
 tree_from nodes zero path handle = []
 tree_from nodes (suc depth) path handle =
     node_and_below (nodes handle) path (λ bound. tree_from nodes depth (path_below path bound.name) bound.to)
 
+-- the handle of the root
 abbrev pub root : Handle
 root = record { ino = 0; generation = 1 }
 

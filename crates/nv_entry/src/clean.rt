@@ -18,8 +18,12 @@ pub fn is_droppable(
     entry: &Entry,
     later: &[Entry],
 ) -> bool
+    // Which entries a cleaner may remove is told: the test is the definition.
     ensures value { result
         ≡ is_droppable (retention_of retention.now) before.now entry.now later.now }
+    // The last entry is not droppable.
+    // An entry that is kept is not droppable.
+    // An entry that hides an earlier one is not droppable.
     ensures meaning { IsTrue result
         ↔ IsDroppable (retention_of retention.now) before.now entry.now later.now }
 {
@@ -47,6 +51,7 @@ fn hides_any(block: u64, item: &Item, before: &[Entry]) -> bool
 /// Whether the item sets a key to absent that the earlier item covers.
 pub fn hides(block: u64, item: &Item, earlier: &Item) -> bool
     requires { 0 < block }
+    // Whether an item sets a key to absent that an earlier item covers is told.
     ensures { result ≡ hides block item.now earlier.now }
 {
     match item {

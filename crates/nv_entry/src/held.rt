@@ -1,7 +1,7 @@
 //! Pairs of an entry and a part, and which of them are current, held by a snapshot, and needed.
 
 ghost use Rattle.std.specs.Prelude.{◌≡◌, ◌<◌, length, slice_get, slice_index_or};
-ghost use Rattle.nv_entry.specs.Counts.{is_kept};
+ghost use Rattle.nv_entry.specs.Counts.{is_entry_kept};
 ghost use Rattle.nv_entry.specs.Held.{has_name, holds, is_current, is_held, is_named, is_needed, keeps, retention_of};
 ghost use Rattle.nv_entry.specs.Keys.{key_of, parts_of};
 ghost use Rattle.nv_entry.specs.Log.{first_cover, pair_of, pairs_of};
@@ -24,6 +24,7 @@ impl Pair {
     /// entries of the log behind the entry.
     pub fn at(block: u64, entry: &Entry, later: &[Entry], place: u32) -> Option<Pair>
         requires { 0 < block }
+        // A pair's death is the epoch of the first later entry that covers its key.
         ensures { result ≡ slice_get (pairs_of block entry.now later.now) place }
     {
         let part = entry.item.part_at(place)?;
@@ -44,6 +45,7 @@ impl Pair {
 
     /// Whether no later entry covers its key.
     pub fn is_current(&self) -> bool
+        // Whether a pair is current, held by a living snapshot, or named, is told.
         ensures { result ≡ is_current self.now }
     {
         self.death.is_none()
@@ -58,6 +60,8 @@ impl Pair {
 
     /// Whether it is current or one of these snapshots holds it.
     pub fn is_needed(&self, snapshots: &[Epoch]) -> bool
+        // A pair is needed exactly where it is current or a living snapshot holds it.
+        // A snapshot holds a pair from its birth on and before its death.
         ensures { result ≡ is_needed snapshots.now self.now }
     {
         self.is_current() || self.is_held(snapshots)
@@ -88,7 +92,8 @@ impl Pair {
 
 /// Whether a pair of the entry is needed or pending. `later` are the entries of the log behind the entry.
 pub fn is_kept(retention: &Retention<'_>, entry: &Entry, later: &[Entry]) -> bool
-    ensures { result ≡ is_kept (retention_of retention.now) entry.now later.now }
+    // An entry is kept where a pair of it is needed or pending.
+    ensures { result ≡ is_entry_kept (retention_of retention.now) entry.now later.now }
 {
     for place in 0..entry.item.part_count() {
         if is_part_kept(retention, entry, later, place) {

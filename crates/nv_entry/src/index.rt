@@ -18,6 +18,7 @@ pub struct PageSource {
 /// Where the current value of a page stands, or its value at an epoch, if it has one.
 pub fn page_source(block: u64, when: When, log: &[Entry], page: u32) -> Option<PageSource>
     requires { 0 < block }
+    // Where a page stands, now and at an epoch, is told.
     ensures { result ≡ page_source block (seen when log.now) page }
 {
     let mut source = None;

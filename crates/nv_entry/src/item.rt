@@ -9,6 +9,7 @@ use nv_base::{BlockNo, EntryId, Epoch, Handle, Kind, Mode, Name};
 pub struct BlockRun {
     pub start: BlockNo,
     pub len: u32,
+    // The number past the last block of a block run is below 2^64.
     pub ghost in_range: { start + len < 2 ^ 64 },
 }
 

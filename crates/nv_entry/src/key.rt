@@ -37,6 +37,7 @@ pub enum Datum {
 impl Datum {
     /// The mode, if it is one.
     pub fn mode(self) -> Option<Mode>
+        // The fields of a value read as they are defined.
         ensures { result ≡ mode_in self }
     {
         match self {
@@ -88,6 +89,7 @@ impl Item {
     /// What the item does to a key, in a file system with blocks of `block` bytes.
     pub fn setting(&self, block: u64, key: Key<'_>) -> Setting
         requires { 0 < block }
+        // An item sets each key as its definition says.
         ensures { result ≡ sets block self.now (key_named key.entry) }
     {
         match key {

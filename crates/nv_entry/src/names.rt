@@ -21,6 +21,7 @@ pub type NameList = Items<BoundName>;
 
 /// The names of a directory now or at an epoch: the bindings that are current there, in log order.
 pub fn names_when(alloc: Global, when: When, log: &[Entry]) -> Result<NameList, AllocError>
+    // The names of a directory are told in log order, now and at an epoch.
     ensures { IfOk result (λ names. names ≡ names_of (seen when log.now)) }
 {
     let mut names = Vec::new(alloc);

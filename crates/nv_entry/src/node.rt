@@ -42,6 +42,8 @@ pub fn node_when<B: BlockBytes>(
     blocks: &B,
 ) -> Result<Option<NodeCopy>, AllocError>
     requires { 0 < block }
+    // The node now and at an epoch has the kind, the mode, the size and the names in log order.
+    // A node has no more bytes than its size says.
     ensures { IfOk result
         (λ node. node ≡ node_now (B.bytes_of blocks.now) block (seen when log.now)) }
 {
@@ -59,6 +61,7 @@ pub fn node_when<B: BlockBytes>(
 
 /// The size of a file in bytes, now or at an epoch; 0 where it has none.
 pub fn size_when(when: When, log: &[Entry]) -> u64
+    // The size of a file is told, now and at an epoch.
     ensures { (block : ℕ) → result ≡ size_now block (seen when log.now) }
 {
     value_when(ANY_SIZE, when, log, Key::Size)
@@ -84,6 +87,8 @@ pub fn file_bytes_when<B: BlockBytes>(
     blocks: &B,
 ) -> Result<Bytes, AllocError>
     requires { 0 < block }
+    // A file's bytes are those of its pages in order, with zeros for an absent page.
+    // A file's bytes are cut at its size.
     ensures { IfOk result
         (λ bytes. bytes ≡ file_bytes (B.bytes_of blocks.now) block (seen when log.now)) }
 {

@@ -56,6 +56,7 @@ impl<'a> Iterator for Parts<'a> {
 impl Entry {
     /// The parts of the entry in order: kind, mode, size, name, pages rising.
     pub fn parts(&self) -> Parts<'_>
+        // The parts of an entry are the keys that it sets to a value, by kind, mode, size, name, rising pages.
         ensures { parts_left result ≡ parts_of self.now.item }
     {
         Parts {
@@ -68,6 +69,7 @@ impl Entry {
 impl Item {
     /// How many parts an entry with the item has.
     pub fn part_count(&self) -> u32
+        // How many parts an item has, the name that it binds, and its parts one by one, are told.
         ensures { result ≡ length (parts_of self.now) }
     {
         match self {
@@ -116,6 +118,7 @@ impl Item {
 
     /// The key of a part of an entry with the item.
     pub fn part_key(&self, part: Part) -> Key<'_>
+        // The key of a part is told.
         ensures { key_named result ≡ key_of self.now part }
     {
         match part {

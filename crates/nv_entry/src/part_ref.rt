@@ -17,8 +17,10 @@ pub struct PartRef {
 
 /// The part that holds a key now: the key's part of the last entry that covers it, if that sets it to a value.
 /// Costs one pass over the log.
+/// Only tested: the part that holds a key is found in one scan.
 pub fn current_part(block: u64, log: &[Entry], key: Key<'_>) -> Option<PartRef>
     requires { 0 < block }
+    // The part that holds a key is told.
     ensures { result ≡ scan_ref block log.now (key_named key.entry) }
 {
     let mut part = None;
@@ -47,6 +49,7 @@ impl Item {
     /// The place of a key among the parts of an entry that sets it to a value, from 0.
     pub fn place_of(&self, key: Key<'_>) -> u32
         requires { IsFileKey (key_named key) }
+        // The place of a key that the item sets to a value, among the item's parts, is told.
         ensures { result ≡ place_in self.now (key_named key.entry) }
     {
         match self {

@@ -14,5 +14,6 @@ pub struct Retention<'a> {
     pub snapshots: &'a [Epoch],
     /// The pending pairs by name; where the counts of pages are asked, those that are killed and not yet retired too.
     pub pending: &'a [PartId],
+    // A block has at least one byte.
     pub ghost has_bytes: { 0 < block },
 }

@@ -17,6 +17,7 @@ pub enum When {
 impl When {
     /// Whether an entry of that epoch counts.
     pub fn sees(&self, epoch: Epoch) -> bool
+        // Whether an entry is seen now or at an epoch is told.
         ensures { result ≡ sees self.now epoch }
     {
         match self {
@@ -29,6 +30,7 @@ impl When {
 impl Setting {
     /// This setting and then a later one.
     pub fn then(self, later: Setting) -> Setting
+        // The fields of a setting read as they are defined.
         ensures { result ≡ later_of self later }
     {
         match later {
@@ -52,6 +54,7 @@ impl Item {
     /// Whether the item sets the key, to a value or to absent.
     pub fn covers(&self, block: u64, key: Key<'_>) -> bool
         requires { 0 < block }
+        // An item covers each key as its definition says.
         ensures { result ≡ covers block self.now (key_named key.entry) }
     {
         match self.setting(block, key) {
@@ -65,6 +68,7 @@ impl Item {
 /// `block` bytes.
 pub fn value_now(block: u64, log: &[Entry], key: Key<'_>) -> Option<Datum>
     requires { 0 < block }
+    // The value of a key now is what the last entry that covers it sets.
     ensures { result ≡ value_now block log.now (key_named key.entry) }
 {
     value_when(block, When::Now, log, key)
@@ -74,6 +78,7 @@ pub fn value_now(block: u64, log: &[Entry], key: Key<'_>) -> Option<Datum>
 /// it, if that is a value.
 pub fn value_at(block: u64, epoch: Epoch, log: &[Entry], key: Key<'_>) -> Option<Datum>
     requires { 0 < block }
+    // The value of a key at an epoch is what the last entry up to that epoch which covers it sets.
     ensures { result ≡ value_at block epoch log.now (key_named key.entry) }
 {
     value_when(block, When::At(epoch), log, key)
@@ -91,6 +96,7 @@ pub fn value_when(block: u64, when: When, log: &[Entry], key: Key<'_>) -> Option
 /// behind another one, it is the death of that one's pair.
 pub fn first_cover(block: u64, when: When, later: &[Entry], key: Key<'_>) -> Option<Epoch>
     requires { 0 < block }
+    // The first later entry that covers a key is found.
     ensures { result ≡ first_cover block (seen when later.now) (key_named key.entry) }
 {
     for entry in later {

@@ -18,6 +18,8 @@ pub fn thorough_keeps(
     retention: &Retention<'_>,
     log: &[Entry],
 ) -> Result<Vec<bool>, AllocError>
+    // Thorough cleaning takes out every droppable entry, with the earlier removals made.
+    // Thorough cleaning takes out no other entry, and keeps the rest in order.
     ensures { IfOk result (λ kept. kept.items
         ≡ entries_stay (retention_of retention.now) [] log.now) }
 {
@@ -39,6 +41,7 @@ pub fn fast_keeps(
     counts: &[usize],
 ) -> Result<Vec<bool>, AllocError>
     requires { sum counts.now ≡ length log.now }
+    // Fast cleaning takes out just log pages droppable throughout, earlier ones gone.
     ensures { IfOk result (λ kept. kept.items
         ≡ pages_stay (retention_of retention.now) [] (pages_by counts.now log.now)) }
 {

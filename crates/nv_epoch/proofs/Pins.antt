@@ -1,11 +1,16 @@
 -- The pins of a snapshot, by its number.
-use Rattle.std.proofs.Common.{◌≡◌, ◌≢◌, ℕ, ◌==◌, ◌⊎◌, inl, inr, Bool, true, false, not, cond, List, [], ◌∷◌, ◌++◌, filter, IsSome, Some, None, arith, refl, ap, sym, ◌∙◌, subst}
+use Rattle.std.proofs.Common.{◌≡◌, ◌≢◌, ℕ, ◌==◌, ◌⊎◌, inl, inr, Bool, true, false, not, cond, List, [], ◌∷◌, ◌++◌, filter, map, IsSome, Some, None, arith, refl, ap, sym, ◌∙◌, subst}
 use Rattle.std.specs.List.{Contains}
 use Rattle.std.specs.Option.{option_map, option_or}
 use Rattle.std.proofs.lemmas.Bool.{eqb-true, eqb-false, ne_eqb}
 use Rattle.nv_epoch.specs.declared.snapshot.Snapshot.{Snapshot}
-use Rattle.nv_epoch.specs.SnapList.{numbers, pins_at, with_pins}
+use Rattle.nv_epoch.specs.SnapList.{numbers, pins_at, unpinned, with_pins}
 use Rattle.nv_epoch.proofs.Last.{contains_cases, contains_first, contains_later}
+
+-- the numbers of snapshots without pins
+pub numbers-unpinned : (ns : List ℕ) → numbers (map unpinned ns) ≡ ns
+numbers-unpinned [] = refl
+numbers-unpinned (n ∷ ns) = ap (λ ms. n ∷ ms) (numbers-unpinned ns)
 
 pub pins_at-lives : (living : List Snapshot) (s : ℕ) → Contains (numbers living) s → IsSome (pins_at living s)
 pins_at-lives [] s h = absurd (omega (arith, h.1))

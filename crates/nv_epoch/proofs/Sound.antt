@@ -1,12 +1,13 @@
 -- The list stays sound when snapshots are made, removed, pinned and unpinned.
-use Rattle.std.proofs.Common.{◌≡◌, ℕ, ◌+◌, ◌<◌, ◌≤◌, ◌^◌, ◌==◌, Bool, true, false, not, cond, List, [], ◌∷◌, ◌++◌, length, get_or, filter, arith, refl, sym, subst, length-append}
+use Rattle.std.proofs.Common.{◌≡◌, ℕ, ◌+◌, ◌<◌, ◌≤◌, ◌^◌, ◌==◌, Bool, true, false, not, cond, List, [], ◌∷◌, ◌++◌, length, map, get_or, filter, arith, refl, sym, subst, length-append}
 use Rattle.std.specs.List.{All}
-use Rattle.std.proofs.lemmas.List.{map-append}
-use Rattle.std.proofs.lemmas.List.Elements.{All-push, All-weaker, All-filter, All-set}
+use Rattle.std.proofs.lemmas.List.{length-map, map-append}
+use Rattle.std.proofs.lemmas.List.Elements.{All-push, All-weaker, All-filter, All-map, All-set}
 use Rattle.nv_epoch.specs.declared.snapshot.Snapshot.{Snapshot}
 use Rattle.nv_epoch.specs.Holders.{IsRising}
-use Rattle.nv_epoch.specs.SnapList.{Snapshots, IsSound, ids, numbers, with_pins, after_making, after_removal}
+use Rattle.nv_epoch.specs.SnapList.{Snapshots, IsSound, ids, numbers, with_pins, after_making, after_removal, unpinned}
 use Rattle.nv_epoch.proofs.Last.{IsRising-push, IsRising-filter}
+use Rattle.nv_epoch.proofs.Pins.{numbers-unpinned}
 use Rattle.nv_epoch.proofs.Places.{numbers-removal, numbers-with_pins, with_pins-place}
 
 numbers-push : (living : List Snapshot) (s : Snapshot) → numbers (living ++ s ∷ []) ≡ numbers living ++ s.number ∷ []
@@ -66,4 +67,18 @@ sound_repinned list s place change d sound in' at few =
       fits = omega (arith, length-with_pins list.living s change, fits);
       some_epoch = sound.some_epoch;
       epoch_fits = sound.epoch_fits;
+    }
+
+pub sound_unpinned : (ns : List ℕ) (epoch most : ℕ) → IsRising ns → All (λ s. s < epoch) ns → length ns ≤ most → 1 ≤ epoch
+    → epoch ≤ 2 ^ 62 → IsSound (record { living = map unpinned ns; epoch = epoch; most = most })
+sound_unpinned ns epoch most rising below few some limit =
+    let e = sym (numbers-unpinned ns) in
+    record {
+      rising = subst IsRising e rising;
+      below_epoch = subst (All (λ s. s < epoch)) e below;
+      pins_fit = All-map (λ (s : Snapshot). s.pins ≤ 64) unpinned ns (All-weaker (λ s. s < epoch) (λ s. 0 ≤ 64)
+          (λ s lt. omega arith) ns below);
+      fits = omega (arith, few, length-map ns unpinned);
+      some_epoch = some;
+      epoch_fits = limit;
     }

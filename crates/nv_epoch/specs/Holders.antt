@@ -16,6 +16,7 @@ pub record IsHeld (birth death s : ℕ) : Type 0 where
   pub born : birth ≤ s
   pub not_dead : s < death
 
+-- the snapshot holds what lived from a birth to a death
 abbrev pub holds : ℕ → ℕ → ℕ → Bool
 holds birth death s = nat_le birth s && nat_lt s death
 
@@ -23,7 +24,8 @@ holds birth death s = nat_le birth s && nat_lt s death
 abbrev pub holders : List ℕ → ℕ → ℕ → List ℕ
 holders living birth death = filter (holds birth death) living
 
--- the youngest living snapshot that holds it
+-- the youngest living snapshot that holds it.
+-- Youngest holder of what lived from a birth to a death: the greatest living s with birth <= s < death.
 abbrev pub youngest_holder : List ℕ → ℕ → ℕ → Option ℕ
 youngest_holder living birth death = last_that (holds birth death) living
 
@@ -33,7 +35,9 @@ pub record IsYoungestHolder (living : List ℕ) (birth death s : ℕ) : Type 0 w
   pub holds_it : IsHeld birth death s
   pub youngest : (t : ℕ) → Contains living t → IsHeld birth death t → t ≤ s
 
--- the youngest living snapshot below s
+-- the youngest living snapshot below s.
+-- Next older snapshot of s: the greatest living one below s. Example: with 1, 2 and 4 living, what lived from 2 to
+-- 4 has the youngest holder 2. Once 2 is dropped it has none, since 1 was made before its birth.
 abbrev pub next_older : List ℕ → ℕ → Option ℕ
 next_older living s = last_that (λ t. nat_lt t s) living
 

@@ -10,9 +10,11 @@ pub record Snapshots : Type 0 where
   pub epoch : ℕ
   pub most : ℕ
 
+-- the numbers of living snapshots
 abbrev pub numbers : List Snapshot → List ℕ
 numbers living = map (λ s. s.number) living
 
+-- the numbers of the living snapshots of a list
 abbrev pub ids : Snapshots → List ℕ
 ids list = numbers list.living
 
@@ -21,18 +23,29 @@ abbrev pub pins_at : List Snapshot → ℕ → Option ℕ
 pins_at [] s = None
 pins_at (t ∷ ts) s = if t.number == s then Some t.pins else pins_at ts s
 
+-- the pins of a snapshot, if it lives
 abbrev pub pins_of : Snapshots → ℕ → Option ℕ
 pins_of list s = pins_at list.living s
 
 -- numbers rise and lie below the epoch, pins and snapshots are no more than allowed, epochs are 1
 -- to the greatest number
 pub record IsSound (list : Snapshots) : Type 0 where
+  -- numbers rise
   pub rising : IsRising (ids list)
+  -- numbers are below the epoch
   pub below_epoch : All (λ s. s < list.epoch) (ids list)
+  -- no snapshot has more pins than allowed
   pub pins_fit : All (λ (s : Snapshot). s.pins ≤ PINS) list.living
+  -- no more snapshots live than allowed
   pub fits : length list.living ≤ list.most
+  -- the epoch is at least 1
   pub some_epoch : 1 ≤ list.epoch
+  -- the epoch is at most the greatest
   pub epoch_fits : list.epoch ≤ NUMBER
+
+-- a snapshot that no call reads
+abbrev pub unpinned : ℕ → Snapshot
+unpinned number = record { number = number; pins = 0 }
 
 -- the current epoch becomes a snapshot without pins, and the next one begins
 abbrev pub after_making : Snapshots → Snapshots
@@ -41,9 +54,11 @@ after_making list = record list {
   epoch = list.epoch + 1;
 }
 
+-- the living snapshots without one
 abbrev pub living_without : List Snapshot → ℕ → List Snapshot
 living_without living s = filter (λ t. not (t.number == s)) living
 
+-- the list once a snapshot was removed
 abbrev pub after_removal : Snapshots → ℕ → Snapshots
 after_removal list s = record list { living = living_without list.living s }
 
@@ -51,11 +66,14 @@ after_removal list s = record list { living = living_without list.living s }
 abbrev pub repinned : ℕ → (ℕ → ℕ) → Snapshot → Snapshot
 repinned s change t = if t.number == s then record t { pins = change t.pins } else t
 
+-- the living snapshots, where the pins of one are changed
 abbrev pub with_pins : List Snapshot → ℕ → (ℕ → ℕ) → List Snapshot
 with_pins living s change = map (repinned s change) living
 
+-- the list once a snapshot got a pin
 abbrev pub after_pin : Snapshots → ℕ → Snapshots
 after_pin list s = record list { living = with_pins list.living s (λ pins. pins + 1) }
 
+-- the list once a snapshot lost a pin
 abbrev pub after_unpin : Snapshots → ℕ → Snapshots
 after_unpin list s = record list { living = with_pins list.living s (λ pins. pins - 1) }

@@ -9,6 +9,7 @@ use nv_base::Epoch;
 use std::marker::Model;
 
 /// The numbers of living snapshots, oldest first. Contracts see the list of those that are left.
+/// The numbers of the snapshots are given one by one, oldest first.
 #[derive(Debug, Drop)]
 pub struct Ids<'a> {
     left: &'a [Snapshot],

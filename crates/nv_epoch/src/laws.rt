@@ -12,6 +12,7 @@ ghost use Rattle.nv_epoch.specs.declared.snapshot.Snapshot.{Snapshot};
 /// Which snapshots hold a pair is told by the list alone: those with `birth <= s < death`. The youngest is the
 /// holder that no holder is above.
 pub fn holders_are_told_by_the_list()
+    // The youngest holder is the youngest of the holders, and none where there is no holder.
     ensures holders { (living : List ℕ) (birth death s : ℕ) →
         Contains (holders living birth death) s ↔ (Contains living s × IsHeld birth death s) }
     ensures youngest { (living : List ℕ) (birth death s : ℕ) → IsRising living →
@@ -22,6 +23,7 @@ pub fn holders_are_told_by_the_list()
 
 /// The next older snapshot is the one below that no living snapshot below is above.
 pub fn next_older_is_the_youngest_below()
+    // The next older snapshot is the youngest below, and none where there is none.
     ensures next { (living : List ℕ) (s t : ℕ) → IsRising living →
         (next_older living s ≡ Some t) ↔ IsNextOlder living s t }
     ensures none { (living : List ℕ) (s : ℕ) →
@@ -30,6 +32,7 @@ pub fn next_older_is_the_youngest_below()
 
 /// What was born and died in one epoch has no holder.
 pub fn one_epoch_has_no_holder()
+    // What was born and died in one epoch has no holder.
     ensures holders { (living : List ℕ) (birth death : ℕ) → death ≤ birth → holders living birth death ≡ [] }
     ensures youngest { (living : List ℕ) (birth death : ℕ) → death ≤ birth →
         youngest_holder living birth death ≡ None }
@@ -37,6 +40,7 @@ pub fn one_epoch_has_no_holder()
 
 /// Making a snapshot of the current epoch changes no holder of what has died.
 pub fn making_keeps_holders()
+    // Making a snapshot changes no holder of what has died.
     ensures rising { (living : List ℕ) (epoch : ℕ) → IsRising living → All (λ s. s < epoch) living →
         IsRising (living ++ epoch ∷ []) }
     ensures holders { (living : List ℕ) (epoch birth death : ℕ) → death ≤ epoch →
@@ -48,12 +52,15 @@ pub fn making_keeps_holders()
 /// Removing the snapshot `s` hands its pairs to the next older living snapshot where they were born by then, and
 /// to none where they were not. All other pairs keep their youngest holder.
 pub fn removal_moves_holders_down()
+    // Removing a snapshot hands its pairs to the next older one, where they were born by then.
     ensures rising { (living : List ℕ) (s : ℕ) → IsRising living → IsRising (without s living) }
     ensures holders { (living : List ℕ) (s birth death : ℕ) →
         holders (without s living) birth death ≡ without s (holders living birth death) }
+    // A pair of a removed snapshot has no holder where it was not born by the next older one.
     ensures own { (living : List ℕ) (s birth death : ℕ) → IsRising living →
         youngest_holder living birth death ≡ Some s →
         youngest_holder (without s living) birth death ≡ if_born_by birth (next_older living s) }
+    // All other pairs keep their youngest holder, or have none as before.
     ensures others { (living : List ℕ) (s t birth death : ℕ) → t ≢ s →
         youngest_holder living birth death ≡ Some t
         → youngest_holder (without s living) birth death ≡ Some t }
@@ -65,12 +72,14 @@ pub fn removal_moves_holders_down()
 /// A snapshot has pins exactly where it lives. Making, removing, pinning and unpinning one snapshot leaves the
 /// pins of all others.
 pub fn pins_stay_with_their_snapshot()
+    // A snapshot has pins exactly where it lives.
     ensures lives { (living : List Snapshot) (s : ℕ) → IsSome (pins_at living s)
         ↔ Contains (numbers living) s }
     ensures made { (living : List Snapshot) (made : Snapshot) (s : ℕ) →
         pins_at (living ++ made ∷ []) s
         ≡ option_or (pins_at living s) (if made.number == s then Some made.pins else None) }
     ensures removed { (living : List Snapshot) (s : ℕ) → pins_at (living_without living s) s ≡ None }
+    // The pins of all other snapshots stay.
     ensures kept { (living : List Snapshot) (s other : ℕ) → other ≢ s →
         pins_at (living_without living s) other ≡ pins_at living other }
     ensures changed { (living : List Snapshot) (s : ℕ) (change : ℕ → ℕ) →

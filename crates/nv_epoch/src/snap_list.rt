@@ -1,11 +1,12 @@
 //! The list of the living snapshots.
 
-ghost use Rattle.std.specs.Prelude.{◌≡◌, ◌≢◌, ℕ, ◌+◌, ◌-◌, ◌<◌, ◌≤◌, ◌==◌, ◌↔◌, [], length, slice_index, IsTrue, IsOk, IsSome, IfOk, IfErr, OnOk, OnErr, IfSome, IfNone, Some, None, Contains};
+ghost use Rattle.std.specs.Prelude.{◌≡◌, ◌≢◌, ℕ, ◌+◌, ◌-◌, ◌<◌, ◌≤◌, ◌==◌, ◌↔◌, [], All, length, map, slice_index, IsTrue, IsOk, IsSome, IfOk, IfErr, OnOk, OnErr, IfSome, IfNone, Some, None, Contains};
 ghost use Rattle.std.specs.Option.{ForSome, IsSomeAnd};
 ghost use Rattle.nv_base.specs.declared.limits.TheConstants.{NUMBER, PINS};
-ghost use Rattle.nv_epoch.specs.Holders.{youngest_holder, next_older, without};
-ghost use Rattle.nv_epoch.specs.SnapList.{Snapshots, ids, pins_of, IsSound, after_making, after_removal, after_pin, after_unpin};
+ghost use Rattle.nv_epoch.specs.Holders.{IsRising, youngest_holder, next_older, without};
+ghost use Rattle.nv_epoch.specs.SnapList.{Snapshots, ids, pins_of, IsSound, after_making, after_removal, after_pin, after_unpin, unpinned};
 ghost use Rattle.nv_base.specs.Memory.{out_of_memory};
+ghost use Rattle.nv_base.specs.Refusals.{FailsOnly};
 
 use crate::search::{place_of, youngest_below};
 use crate::{Ids, Snapshot};
@@ -15,8 +16,9 @@ use std::marker::Model;
 
 /// The living snapshots with their pins, and the current epoch.
 ///
-/// Room for all snapshots is made by `new`; nothing after it takes memory. A snapshot is found by halving: where a
+/// Room for all snapshots is made by `new` or `rebuild`; nothing after it takes memory. A snapshot is found by halving: where a
 /// call costs one look-up, that is the logarithm of the number of snapshots.
+/// Only tested: a snapshot list is `Send` and `Sync`.
 #[derive(Debug, Drop)]
 pub struct SnapList {
     living: Vec<Snapshot>,
@@ -33,6 +35,8 @@ impl Model for SnapList {
     ghost view = { λ list.
         record { living = list.living.items; epoch = list.epoch; most = list.most } };
 
+    // The numbers of snapshots rise and lie below the epoch, which is 1 to 2^62.
+    // There are at most as many snapshots as there is room for, with at most 64 pins each.
     ghost invariant = { λ list. IsSound
         (record { living = list.living.items; epoch = list.epoch; most = list.most })
         × (list.most ≤ vec_capacity list.living) };
@@ -45,8 +49,10 @@ impl SnapList {
     pub fn new(alloc: Global, snaps: u64, first_epoch: Epoch) -> Result<SnapList, Fault>
         requires some_epoch { 1 ≤ first_epoch }
         requires epoch_fits { first_epoch ≤ NUMBER }
+        // A new list has no snapshot, and room for as many as are allowed.
         ensures ok { IfOk result
             (λ list. list ≡ record { living = []; epoch = first_epoch; most = snaps }) }
+        // The only error is `OutOfMemory`.
         ensures err { IfErr result (λ fault. fault ≡ out_of_memory) }
     {
         Ok(SnapList {
@@ -56,17 +62,55 @@ impl SnapList {
         })
     }
 
+    /// The list of the snapshots with these numbers, oldest first and without pins, in this epoch, with room for
+    /// `snaps` snapshots.
+    ///
+    /// Costs the memory of `snaps` snapshots and one write for each number. The only error is `OutOfMemory`.
+    pub fn rebuild(
+        alloc: Global,
+        snaps: u64,
+        numbers: &[Epoch],
+        epoch: Epoch,
+    ) -> Result<SnapList, Fault>
+        // The only error is `OutOfMemory`; callers give rising numbers below the epoch.
+        requires rising { IsRising numbers.now }
+        requires below_epoch { All (λ s. s < epoch) numbers.now }
+        requires fits { length numbers.now ≤ snaps }
+        requires some_epoch { 1 ≤ epoch }
+        requires epoch_fits { epoch ≤ NUMBER }
+        // A list anew has the snapshots of exactly its numbers, none of them pinned, and the epoch.
+        ensures ok { IfOk result (λ list. list
+            ≡ record { living = map unpinned numbers.now; epoch = epoch; most = snaps }) }
+        ensures err { FailsOnly out_of_memory result }
+    {
+        let mut living = Vec::with_capacity(alloc, snaps as usize)?;
+        for number in numbers {
+            living.push_reserved(Snapshot {
+                number: *number,
+                pins: 0,
+            });
+        }
+        Ok(SnapList {
+            living,
+            epoch,
+            most: snaps,
+        })
+    }
+
     /// Makes a snapshot of the current epoch, which is its number, and begins the next epoch.
     ///
     /// Costs one write. `EpochLimit` where the epoch is 2^62, before `TooManySnapshots` where there is no room.
     pub fn make(&mut self) -> Result<Epoch, Fault>
+        // The last epoch is refused first, then too many snapshots.
         ensures made { IsOk result ↔ ((self.old.epoch < NUMBER) × (length self.old.living < self.old.most)) }
         ensures epoch_limit { (result ≡ Err Fault.EpochLimit) ↔ (self.old.epoch ≡ NUMBER) }
         ensures too_many { (result ≡ Err Fault.TooManySnapshots) ↔
             ((self.old.epoch < NUMBER) × (length self.old.living ≡ self.old.most)) }
 
+        // Making a snapshot of the current epoch begins the next one.
         ensures number { IfOk result (λ s. s ≡ self.old.epoch) }
         ensures ok { OnOk result (self.new ≡ after_making self.old) }
+        // A refusal changes nothing.
         ensures err { OnErr result (self.new ≡ self.old) }
     {
         if self.epoch.number() == limits::NUMBER {
@@ -86,12 +130,15 @@ impl SnapList {
     /// Costs one look-up and a move of the younger snapshots. `NoSnapshot` where it doesn't live, before `Pinned`
     /// where it has pins.
     pub fn remove(&mut self, s: Epoch) -> Result<(), Fault>
+        // A pinned snapshot is refused by `Pinned`, and any other is removed.
         ensures removed { IsOk result ↔ (pins_of self.old s ≡ Some 0) }
+        // A missing snapshot is refused by `NoSnapshot`.
         ensures no_snapshot { (result ≡ Err Fault.NoSnapshot) ↔ (pins_of self.old s ≡ None) }
         ensures pinned { (result ≡ Err Fault.Pinned) ↔ IsSomeAnd (pins_of self.old s) (λ pins. 0 < pins) }
 
         ensures ok { OnOk result (self.new ≡ after_removal self.old s) }
         ensures numbers { OnOk result (ids self.new ≡ without s (ids self.old)) }
+        // A refusal changes nothing.
         ensures err { OnErr result (self.new ≡ self.old) }
     {
         let Some(place) = place_of(&self.living, s) else {
@@ -107,7 +154,9 @@ impl SnapList {
     /// Adds a pin to the snapshot `s`, or answers `NoSnapshot` where it doesn't live. [`SnapList::can_pin`]
     /// tests whether one more is allowed. Costs one look-up.
     pub fn pin(&mut self, s: Epoch) -> Result<(), Fault>
+        // Callers ask for a pin only where the snapshot can take one more.
         requires { ForSome (pins_of self.old s) (λ pins. pins < PINS) }
+        // Pinning adds one pin to a living snapshot, and `NoSnapshot` refuses a missing one.
         ensures pinned { IsOk result ↔ IsSome (pins_of self.old s) }
         ensures no_snapshot { IfErr result (λ fault. fault ≡ Fault.NoSnapshot) }
 
@@ -127,6 +176,7 @@ impl SnapList {
     /// Takes a pin from the snapshot `s`. Costs one look-up.
     pub fn unpin(&mut self, s: Epoch)
         requires { IsSomeAnd (pins_of self.old s) (λ pins. 0 < pins) }
+        // Unpinning takes one pin off its snapshot.
         ensures unpinned { self.new ≡ after_unpin self.old s }
         ensures numbers { ids self.new ≡ ids self.old }
     {
@@ -139,6 +189,7 @@ impl SnapList {
     /// The youngest living snapshot that holds what lived from `birth` to `death`: the greatest `s` with
     /// `birth <= s < death`. Costs one look-up.
     pub fn youngest_in(&self, birth: Epoch, death: Epoch) -> Option<Epoch>
+        // The youngest holder of what was born and died at two epochs is told.
         ensures { result ≡ youngest_holder (ids self.now) birth death }
     {
         let youngest = youngest_below(&self.living, death)?;
@@ -150,6 +201,7 @@ impl SnapList {
 
     /// The youngest living snapshot below `s`. Costs one look-up.
     pub fn older(&self, s: Epoch) -> Option<Epoch>
+        // The next older snapshot is told.
         ensures { result ≡ next_older (ids self.now) s }
     {
         youngest_below(&self.living, s)
@@ -158,8 +210,10 @@ impl SnapList {
     /// The place of the snapshot `s` among the living ones, oldest first and counted from 0, if it lives. The
     /// snapshot at the place before it is the next older one. Costs one look-up.
     pub fn place(&self, s: Epoch) -> Option<usize>
+        // The place of a snapshot is told, or none where it does not live.
         ensures in_range { IfSome result (λ place. place < length (ids self.now)) }
         ensures found { IfSome result (λ place. slice_index (ids self.now) place ≡ s) }
+        // The next older snapshot stands at the place before.
         ensures oldest { IfSome result (λ place. place ≡ 0 → next_older (ids self.now) s ≡ None) }
         ensures older { IfSome result (λ place. 0 < place →
             next_older (ids self.now) s ≡ Some (slice_index (ids self.now) (place - 1))) }
@@ -178,6 +232,7 @@ impl SnapList {
 
     /// The pins of the snapshot `s`, if it lives. Costs one look-up.
     pub fn pins(&self, s: Epoch) -> Option<u32>
+        // How many pins a snapshot has is told, never more than `PINS`.
         ensures value { result ≡ pins_of self.now s }
         ensures most { IfSome result (λ pins. pins ≤ PINS) }
     {
@@ -187,6 +242,7 @@ impl SnapList {
 
     /// Whether the snapshot `s` lives and has fewer than [`limits::PINS`] pins. Costs one look-up.
     pub fn can_pin(&self, s: Epoch) -> bool
+        // A living snapshot may take one more pin exactly where it has fewer than `PINS`.
         ensures { IsTrue result ↔ IsSomeAnd (pins_of self.now s) (λ pins. pins < PINS) }
     {
         self.pins(s).is_some_and(|pins| pins < limits::PINS)
@@ -194,6 +250,7 @@ impl SnapList {
 
     /// The numbers of the living snapshots, oldest first. Costs one read each.
     pub fn ids(&self) -> Ids<'_>
+        // Readers tell the living snapshots.
         ensures { result ≡ ids self.now }
     {
         Ids::new(&self.living)
@@ -239,6 +296,7 @@ impl SnapList {
 
     /// How many more snapshots may live. Costs one read.
     pub fn room(&self) -> u64
+        // Readers tell the epoch, the number of snapshots, the room for more and the most.
         ensures { result + length self.now.living ≡ self.now.most }
     {
         self.most - self.len()

@@ -46,6 +46,7 @@ rest_from p r = record { first = max r.first p; end = r.end; start = run_ref r (
 abbrev pub before : ℕ → ℕ → List PageRun → List PageRun
 before p n rs = take n rs ++ front_of p (slice_get rs n)
 
+-- what is left of a run behind a page, with the runs behind it
 abbrev pub behind : ℕ → ℕ → List PageRun → List PageRun
 behind p n rs = option_to_list (option_map (rest_from p) (slice_get rs n)) ++ drop (suc n) rs
 

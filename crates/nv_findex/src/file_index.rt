@@ -17,6 +17,7 @@ use std::marker::Model;
 /// Pages that follow one another in the file and in one entry are kept as one run, so that an index takes
 /// memory by its runs and not by the file's length. A look-up costs the same at any number of runs where they lie
 /// about evenly, and the logarithm of the runs at most.
+/// Only tested: an index is `Send` and `Sync`.
 #[derive(Debug, Drop)]
 pub struct FileIndex {
     runs: RunRows,
@@ -32,6 +33,9 @@ impl Model for FileIndex {
     ghost view = { λ i.
         record { pages = i.runs.items; room = i.runs.capacity - length i.runs.items } };
 
+    // Its page runs lie one behind the other, and no two neighbours are one run.
+    // Each page run has a file page; its pages and places are below 65,536.
+    // There is room for its page runs.
     ghost invariant = { λ i. AreRuns i.runs.items × (length i.runs.items ≤ i.runs.capacity) };
 }
 
@@ -39,6 +43,7 @@ impl FileIndex {
     /// An index without pages. It takes no memory yet.
     #[tactic(auto, unfolding(crate::specs::Runs::AreRunsFrom))]
     pub fn new(alloc: Global) -> Self
+        // A new index has no pages and no room yet.
         ensures { result ≡ record { pages = []; room = 0 } }
     {
         FileIndex {
@@ -47,9 +52,13 @@ impl FileIndex {
     }
 
     /// Where a page lies, or `None` if it isn't present. No page from 65,536 on is. Costs one look-up.
+    /// Only tested: a look-up looks near its guess and otherwise halves.
     #[tactic(auto, using(crate::proofs::Refs::refs_within))]
     pub fn at(&self, page: u32) -> Option<PageRef>
+        // An index is a map from page to entry and place: a look-up gives just what was set last.
+        // A look-up is right at both ends of a page run.
         ensures found { result ≡ ref_at self.now.pages page }
+        // Pages and places of an index are below `FILE_PAGES`.
         ensures within { IfSome result (λ at. (page < FILE_PAGES) × (at.place < FILE_PAGES)) }
         ensures value { AreWithin (ref_at self.now.pages) }
     {
@@ -60,15 +69,19 @@ impl FileIndex {
     /// pages that goes on from each run's end costs one a run.
     #[tactic(auto, using(crate::proofs::Refs::refs_within))]
     pub fn run_from(&self, page: u32) -> Option<PageRun>
+        // The page run of a page, or the next one, is told.
+        // A page run is told whole: it ends there on either side.
         ensures run { IsRunFrom page (ref_at self.now.pages) result }
+        // Pages and places of page runs are below `FILE_PAGES`.
         ensures within { IfSome result (λ run. IsRun run) }
         ensures value { AreWithin (ref_at self.now.pages) }
     {
         runs::run_from(&self.runs, page)
     }
 
-    /// The same run, which is looked for at a place among the runs first: a right place spares the look-up. It becomes
-    /// the place behind the run, so that a walk over pages that goes on from each run's end costs one look-up in all.
+    /// All of the run that has a page, or else the first run behind the page, which is looked for at a place among
+    /// the runs first. A right place spares the look-up. It becomes the place behind the run, so that a walk over
+    /// pages that goes on from each run's end costs one look-up in all.
     #[tactic(auto, using(crate::proofs::Refs::refs_within))]
     pub fn run_near(&self, page: u32, place: &mut usize) -> Option<PageRun>
         ensures run { IsRunFrom page (ref_at self.now.pages) result }
@@ -81,6 +94,7 @@ impl FileIndex {
     /// The least present page that isn't below `page`, and where it lies. Costs one look-up.
     #[tactic(auto, using(crate::proofs::Refs::refs_within))]
     pub fn next_from(&self, page: u32) -> Option<(u32, PageRef)>
+        // The least present page from a page on, and where it lies, is told.
         ensures next { IsNextFrom page (ref_at self.now.pages) result }
         ensures within { IfSome result (λ found. (found.0 < FILE_PAGES) × (found.1.place < FILE_PAGES)) }
         ensures value { AreWithin (ref_at self.now.pages) }
@@ -92,6 +106,7 @@ impl FileIndex {
     /// step for each run from there on.
     #[tactic(auto, using(crate::proofs::Counts::how_many_le))]
     pub fn present_from(&self, page: u32) -> u32
+        // How many pages are present from a page on is told.
         ensures count { result ≡ present_from page self.now.pages }
         ensures within { result ≤ FILE_PAGES }
     {
@@ -102,6 +117,8 @@ impl FileIndex {
     /// one run. Costs one read.
     #[tactic(auto, using(crate::proofs::Counts::run_count_is))]
     pub fn run_count(&self) -> usize
+        // Neighbours in one entry are one page run.
+        // The number of page runs is that of the pages.
         ensures { result ≡ run_count_of self.now.pages }
     {
         self.runs.len()
@@ -122,13 +139,17 @@ impl FileIndex {
     /// 2^63 bytes or more is; then nothing has changed.
     #[tactic(auto, using(crate::proofs::Counts::run_count_is))]
     pub fn reserve_for(&mut self, runs: usize) -> Result<(), Fault>
+        // Room for a number of writes is made before them.
         ensures pages { self.new.pages ≡ self.old.pages }
         ensures ok { OnOk result (2 * runs ≤ self.new.room) }
         ensures kept { self.old.room ≤ self.new.room }
+        // Room is made for no more page runs than that, or than there are.
         ensures most { OnOk result (self.new.room
             ≤ max self.old.room (max (2 * runs) (run_count_of self.old.pages))) }
+        // A refused growth changes nothing and comes only where room was missing.
         ensures err { OnErr result (self.new.room ≡ self.old.room) }
         ensures missing { OnErr result (self.old.room < 2 * runs) }
+        // The only error is `OutOfMemory`.
         ensures fault { IfErr result (λ fault. fault ≡ out_of_memory) }
     {
         if runs <= self.room() / 2 {
@@ -145,11 +166,23 @@ impl FileIndex {
     /// Costs two look-ups, of which the second begins where the first one ended, and for each run that there is more or
     /// less than before a move of 128 runs at most and a step for each 64 runs behind: an overwrite of just one run
     /// moves nothing.
+    /// Each full row has a start, for which there is room.
+    /// Only tested: an overwrite of one page run moves nothing.
+    /// Only tested: a write moves page runs of two rows at most for each page run more or less
+    /// ([gate.md](gate.md)).
     #[tactic(auto, using(crate::proofs::Counts::run_count_is))]
     pub fn set_run(&mut self, first: u32, len: u32, entry: EntryId)
         requires some { 0 < len }
         requires within { first + len ≤ FILE_PAGES }
+        // A write raises the number of page runs by at most two, and takes as much room.
         requires room { 2 ≤ self.old.room }
+        // A write sets each of its pages.
+        // The pages of a write have the places of its entry from 0 on.
+        // The pages of a write no longer lie where they lay.
+        // All pages that a write does not set lie where they lay.
+        // The pages behind a write lie where they lay.
+        // A page run goes on from row to row, and none is lost.
+        // The pages of bordering page runs lie where they lay.
         ensures pages { SetsRun first len entry (ref_at self.old.pages) (ref_at self.new.pages) }
         ensures runs { run_count_of self.new.pages ≤ run_count_of self.old.pages + 2 }
         ensures room { self.new.room + run_count_of self.new.pages
@@ -167,7 +200,10 @@ impl FileIndex {
     /// go. Costs one look-up and what it takes out.
     #[tactic(auto, using(crate::proofs::Counts::run_count_is))]
     pub fn cut_from(&mut self, page: u32)
+        // A cut makes the pages from one on absent.
+        // A cut leaves all pages before it.
         ensures pages { CutsFrom page (ref_at self.old.pages) (ref_at self.new.pages) }
+        // A cut never raises the number of page runs.
         ensures runs { run_count_of self.new.pages ≤ run_count_of self.old.pages }
         ensures room { self.new.room + run_count_of self.new.pages
             ≡ self.old.room + run_count_of self.old.pages }

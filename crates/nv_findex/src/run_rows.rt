@@ -29,6 +29,8 @@ impl Model for RunRows {
     ghost view = { λ r.
         record { items = in_rows r.starts.items r.runs.items; capacity = vec_capacity r.runs } };
 
+    // It has as many starts as full rows of 64 page runs, each within its row.
+    // Where there is room for page runs, there is room for the starts of all full rows of as many.
     ghost invariant = { λ r. AreStarts r.starts.items (length r.runs.items)
         × (vec_capacity r.runs < vec_capacity r.starts * 64 + 64) };
 }

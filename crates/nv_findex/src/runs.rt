@@ -85,7 +85,7 @@ fn ended_by(runs: &RunRows, page: u32) -> usize
     ended_near(runs, guess, page)
 }
 
-/// The same where it may be known: a right guess spares the search.
+/// How many of the runs end at or before a page, where that number may be known. A right guess spares the search.
 fn ended_at(runs: &RunRows, guess: usize, page: u32) -> usize
     requires { AreRuns runs.now.items }
     ensures within { result ≤ length runs.now.items }
@@ -98,7 +98,8 @@ fn ended_at(runs: &RunRows, guess: usize, page: u32) -> usize
     ended_by(runs, page)
 }
 
-/// The same behind a run: a write of just the pages of one run ends where the next one begins.
+/// How many of the runs end at or before a page that lies behind a run. A write of just the pages of one run ends
+/// where the next one begins.
 fn ended_behind(runs: &RunRows, run: usize, page: u32) -> usize
     requires { AreRuns runs.now.items }
     ensures within { result ≤ length runs.now.items }
@@ -120,7 +121,8 @@ pub fn run_from(runs: &RunRows, page: u32) -> Option<PageRun>
     runs.get(ended_by(runs, page))
 }
 
-/// The same run, which is looked for at a place first. That becomes the place behind it.
+/// The run that holds a page, or else the first one behind it, which is looked for at a place first. That becomes
+/// the place behind it.
 pub fn run_near(runs: &RunRows, page: u32, place: &mut usize) -> Option<PageRun>
     requires { AreRuns runs.now.items }
     ensures run { IsRunFrom page (ref_at runs.now.items) result }

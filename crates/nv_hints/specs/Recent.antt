@@ -27,7 +27,8 @@ Keeps all w = (front : List ℕ) × (all ≡ front ++ w.kept) × AreLines front 
 abbrev pub IsBehindLine : List ℕ → Type 0
 IsBehindLine rest = (rest ≡ []) ⊎ ((more : List ℕ) × (rest ≡ 10 ∷ more))
 
--- the line of a number, counted from 1, without its end, as far as it was read
+-- the line of a number, counted from 1, without its end, as far as it was read.
+-- The line of a number stands behind one line fewer, has no LF, and ends at one or where nothing more was read.
 abbrev pub IsLineOf : (all : List ℕ) → (number : ℕ) → (line : List ℕ) → Type 0
 IsLineOf all number line = (front : List ℕ) × (rest : List ℕ) × (lines : ℕ) × (all ≡ front ++ (line ++ rest)) × (number ≡ lines + 1)
     × AreLines front lines × HasNoEnd line × IsBehindLine rest

@@ -8,6 +8,7 @@ use std::alloc::Global;
 use std::io::Read;
 
 /// A reader that counts its failures, and keeps the lines that were read last through it.
+/// It reads what its reader reads, and keeps it.
 #[derive(Drop)]
 pub struct KeptReader<'a, R> {
     reader: &'a mut R,

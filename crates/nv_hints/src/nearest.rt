@@ -15,6 +15,7 @@ pub(crate) fn nearest(
     word: &[u8],
     names: &[&'static [u8]],
 ) -> Result<Option<&'static [u8]>, AllocError>
+    // A near name that takes the fewest edits, or none if none is near.
     ensures { IfOk result (λ found.
         IsNearest word.now (map (λ name. name.now) names.now) (option_copied found)) }
 {

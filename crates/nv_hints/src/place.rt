@@ -11,6 +11,7 @@ const MOST_OF_LINE: usize = 120;
 
 /// The line that tells of a fault behind its own text: the script's name, the line's number and its text, and what is wrong with
 /// it. There is none for a fault that is of no line, or where the line was not kept.
+/// Only tested: what is told of a fault.
 pub fn hint_line(
     alloc: Global,
     script: &str,

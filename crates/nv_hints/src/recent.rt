@@ -39,6 +39,7 @@ impl Recent {
 
     /// Nothing is read.
     pub fn new(alloc: Global) -> Recent
+        // Nothing is kept at first.
         ensures kept { Keeps [] result }
         ensures lost { result.lost ≡ false }
         ensures all_read { result.all_read ≡ false }
@@ -54,6 +55,7 @@ impl Recent {
     /// Keeps the bytes of one more read, and lets go the whole lines of those before. Where memory is refused for them, no
     /// line is told from then on.
     pub fn add(&mut self, alloc: Global, bytes: &[u8])
+        // What is kept is the end of all bytes that were read.
         ensures kept { (all : List ℕ) → Keeps all self.old → self.new.lost ≡ false
             → Keeps (all ++ bytes.now) self.new }
         ensures all_read { self.new.all_read ≡ self.old.all_read }
@@ -84,6 +86,7 @@ impl Recent {
 
     /// Notes that the script has no more bytes.
     pub fn end(&mut self)
+        // That the script has no more bytes is noted and told.
         ensures { self.new ≡ record self.old { all_read = true } }
     {
         self.all_read = true;
@@ -97,9 +100,12 @@ impl Recent {
     }
 
     /// The line of this number, counted from 1, without its end: as far as it was read, if its beginning is kept.
+    /// Only tested: a line is told wherever its beginning is kept and memory was there.
     pub fn line(&self, number: u64) -> Option<&[u8]>
+        // The line of a number is that line of all bytes that were read.
         ensures line { IfSome result (λ line. (all : List ℕ) → Keeps all self.now
             → IsLineOf all number line.now) }
+        // No line is told once memory was refused for one.
         ensures lost { self.now.lost ≡ true → result ≡ None }
     {
         if self.lost || number <= self.before {

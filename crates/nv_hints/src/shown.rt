@@ -53,6 +53,7 @@ fn hex_digit(value: u8) -> u8
 
 /// Adds bytes in quotes, cut at `most` bytes. Dots stand for what is cut.
 pub(crate) fn push_quoted(out: &mut String, bytes: &[u8], most: usize) -> Result<(), AllocError>
+    // Bytes are shown in quotes, with dots for the rest.
     ensures { OnOk result (string_bytes out.new ≡ string_bytes out.old ++ quoted most bytes.now) }
 {
     out.push('\'')?;
@@ -65,5 +66,6 @@ pub(crate) fn push_quoted(out: &mut String, bytes: &[u8], most: usize) -> Result
 
 /// A law: what is shown of any bytes is visible, so that a terminal only shows it.
 pub fn shown_bytes_are_visible()
+    // A law: what is shown is visible.
     ensures { (bytes : List ℕ) → All (λ byte. byte < 256) bytes → All IsVisible (shown bytes) }
 {}

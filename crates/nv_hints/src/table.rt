@@ -136,7 +136,7 @@ pub(crate) const SETTINGS: [Part; 7] = [
 ];
 
 /// The commands.
-static COMMANDS: [Form; 12] = [
+static COMMANDS: [Form; 13] = [
     Form {
         name: b"format",
         parts: &SETTINGS,
@@ -166,6 +166,12 @@ static COMMANDS: [Form; 12] = [
         parts: &[ACTOR],
         optional: 0,
         about: "makes steps of the actor's call until it waits or ends",
+    },
+    Form {
+        name: b"stop",
+        parts: &[],
+        optional: 0,
+        about: "stops the machine, which goes on from what stands",
     },
     Form {
         name: b"tree",
@@ -336,6 +342,7 @@ pub(crate) fn commands() -> &'static [Form] {
 
 /// The calls, with the names of the grammar, each with as many words.
 pub(crate) fn calls() -> &'static [Form]
+    // The forms of calls have the names of the grammar, and as many words.
     ensures names { map (λ form. form.name.now) result.now ≡ map (λ c. name_in (row c)) all_calls }
     ensures counts { map (λ form. length form.parts.now) result.now
         ≡ map (λ c. length (fields_in (row c))) all_calls }

@@ -116,6 +116,7 @@ fn behind_thread(line: &[u8]) -> &[u8] {
 
 /// Adds how many lines had each refusal, in the order in which each came first, and what the want of blocks means. Where none are
 /// counted, it adds nothing.
+/// Only tested: the text of a summary.
 pub fn push_summary(out: &mut String, tally: &Tally) -> Result<(), AllocError> {
     if !tally.counts {
         return Ok(());
@@ -147,6 +148,7 @@ of a log. 'auto INO' gives log pages back, and 'drain COUNT' what no snapshot ho
 ";
 
 /// A writer that counts its failures, and the refusals among what it writes where its tally counts them.
+/// Only tested: it writes what it is given, and counts the refusals in it.
 #[derive(Drop)]
 pub struct TallyWriter<'a, W> {
     writer: &'a mut W,

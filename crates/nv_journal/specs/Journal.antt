@@ -22,6 +22,7 @@ pub record IsJournal (tails : List OldTail) : Type 0 where
 abbrev pub tail_noted : List OldTail → ℕ → Option ℕ
 tail_noted tails ino = option_map (λ t. t.tail) (find (λ t. t.ino == ino) tails)
 
+-- the tail that was noted, or another where none was
 abbrev pub noted_or : Option ℕ → ℕ → ℕ
 noted_or (Some tail) other = tail
 noted_or None other = other

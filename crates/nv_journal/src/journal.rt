@@ -15,6 +15,7 @@ const PLACES: usize = 4;
 /// The inodes of one commit with their old tails, from its opening to its closing. Contracts see the list of
 /// them, which is empty while the journal is closed. It takes no memory, and each call costs at most a look at the
 /// four places.
+/// Only tested: a journal is `Send` and `Sync`.
 #[derive(Debug, Drop)]
 pub struct Journal {
     places: [OldTail; PLACES],
@@ -30,6 +31,7 @@ impl Model for Journal {
 
     ghost view = { λ journal. take journal.count journal.places };
 
+    // It is empty, or has two to four distinct inodes.
     ghost invariant = { λ journal. (journal.count ≤ 4)
         × IsJournal (take journal.count journal.places) };
 }
@@ -37,6 +39,7 @@ impl Model for Journal {
 impl Journal {
     /// A closed journal.
     pub fn new() -> Journal
+        // A new journal is closed, and whether one is open is told.
         ensures { result ≡ [] }
     {
         Journal {
@@ -52,6 +55,7 @@ impl Journal {
         requires two { 2 ≤ small_vec_len tails.now }
         requires four { small_vec_len tails.now ≤ 4 }
         requires distinct { AreDistinct tails.now.items }
+        // A journal notes the old tails that it is given.
         ensures { self.new ≡ tails.now.items }
     {
         self.places = places_with(tails.as_slice());
@@ -60,6 +64,7 @@ impl Journal {
 
     /// Forgets what was noted.
     pub fn close(&mut self)
+        // After `close` a journal has nothing noted.
         ensures { self.new ≡ [] }
     {
         self.count = 0;
@@ -67,6 +72,7 @@ impl Journal {
 
     /// The inodes that were noted, with their old tails, in the order in which they were noted.
     pub fn pending(&self) -> &[OldTail]
+        // A journal gives back what it has noted.
         ensures noted { result.now ≡ self.now }
         ensures sound { IsJournal self.now }
     {
@@ -83,6 +89,7 @@ impl Journal {
 
     /// The old tail that was noted for the inode, if the journal is open and names it.
     pub fn tail_of(&self, ino: Ino) -> Option<u64>
+        // The old tail of one inode is told, and none where none is noted.
         ensures value { result ≡ tail_noted self.now ino }
         ensures noted { (tail : ℕ) → (result ≡ Some tail)
             ↔ Contains self.now (record { ino = ino; tail = tail }) }

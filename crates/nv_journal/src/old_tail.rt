@@ -27,6 +27,7 @@ impl Default for OldTail {
 
 /// Whether no two of the tails are of one inode. Costs the square of their number at most.
 pub fn are_distinct(tails: &[OldTail]) -> bool
+    // Whether the inodes of old tails are distinct is told.
     ensures { IsTrue result ↔ AreDistinct tails.now }
 {
     for i in 0..tails.len() {

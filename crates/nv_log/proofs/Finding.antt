@@ -15,7 +15,7 @@ use Rattle.nv_base.specs.declared.numbers.EntryId.{EntryId}
 use Rattle.nv_entry.specs.declared.item.Entry.{Entry}
 use Rattle.nv_base.specs.Ids.{IsIdBefore, is_same_id}
 use Rattle.nv_entry.specs.Log.{IsLog}
-use Rattle.nv_log.specs.Chain.{place_of}
+use Rattle.nv_log.specs.Chain.{place_of_id}
 use Rattle.nv_log.proofs.Logs.{ordered_at}
 
 -- how two ids compare
@@ -53,20 +53,20 @@ abbrev has_id : EntryId → Entry → Bool
 has_id id e = is_same_id e.id id
 
 place_at : (es : List Entry) (id : EntryId) (k : ℕ) (d : Entry) → k < length es → ((j : ℕ) → j < k → has_id id (get_or es j d) ≡ false)
-    → has_id id (get_or es k d) ≡ true → place_of es id ≡ Some k
+    → has_id id (get_or es k d) ≡ true → place_of_id es id ≡ Some k
 place_at es id k d within others here =
     let is : position_or_len (has_id id) es ≡ k = position_or_len_is (has_id id) es k d (omega arith) others (λ _. here) in
     rw is (rw (lt-ltb k (length es) within) refl)
 
 place_none : (es : List Entry) (id : EntryId) (d : Entry) → ((j : ℕ) → j < length es → has_id id (get_or es j d) ≡ false)
-    → place_of es id ≡ None
+    → place_of_id es id ≡ None
 place_none es id d others =
     let is : position_or_len (has_id id) es ≡ length es =
     position_or_len_is (has_id id) es (length es) d (omega arith) others (λ lt. absurd (omega arith)) in
     rw is (rw (le-ltb (length es) (length es) (omega arith)) refl)
 
 found_by : (es : List Entry) (id : EntryId) (d : Entry) (r : Result ℕ ℕ) → IsLog es → IsSearchInRange r (length es)
-    → IsBinarySearchResult (λ e. id_cmp e.id id) es r → result_ok r ≡ place_of es id
+    → IsBinarySearchResult (λ e. id_cmp e.id id) es r → result_ok r ≡ place_of_id es id
 found_by es id d (Ok k) is within at =
     let here = same-equal (get_or es k d).id id (at d) in
     sym (place_at es id k d within (λ j lt. before-other (get_or es j d).id (get_or es k d).id id
@@ -81,7 +81,7 @@ found_by es id d (Err k) is within split =
 
 -- the place that a search by halving finds is that of the entry
 pub found : (es : List Entry) (id : EntryId) (r : Result ℕ ℕ) → IsLog es → IsSearchInRange r (length es)
-    → IsBinarySearchResult (λ e. id_cmp e.id id) es r → result_ok r ≡ place_of es id
+    → IsBinarySearchResult (λ e. id_cmp e.id id) es r → result_ok r ≡ place_of_id es id
 found [] id (Ok k) is within at = absurd (omega arith)
 found [] id (Err k) is within split = refl
 found (e ∷ es) id r is within at = found_by (e ∷ es) id e r is within at
@@ -95,19 +95,19 @@ none_is true m e = cc
 none_is false m e = refl
 
 -- the entry at the place of an id is the entry of that id
-pub entry_at : (es : List Entry) (id : EntryId) (k : ℕ) → place_of es id ≡ Some k → find (has_id id) es ≡ slice_get es k
+pub entry_at : (es : List Entry) (id : EntryId) (k : ℕ) → place_of_id es id ≡ Some k → find (has_id id) es ≡ slice_get es k
 entry_at es id k e =
     find_at (has_id id) es
     ∙ ap (slice_get es) (some_is (nat_lt (position_or_len (has_id id) es) (length es)) (position_or_len (has_id id) es) k e)
 
-pub entry_none : (es : List Entry) (id : EntryId) → place_of es id ≡ None → find (has_id id) es ≡ None
+pub entry_none : (es : List Entry) (id : EntryId) → place_of_id es id ≡ None → find (has_id id) es ≡ None
 entry_none es id e =
     let past = none_is (nat_lt (position_or_len (has_id id) es) (length es)) (position_or_len (has_id id) es) e in
     let beyond : length es ≤ position_or_len (has_id id) es = grind (arith, nat_tests) in
     find_at (has_id id) es ∙ slice_get_past es (position_or_len (has_id id) es) beyond
 
 -- the place of an id is within
-pub found_within : (es : List Entry) (id : EntryId) (place : Option ℕ) → place ≡ place_of es id → IfSome place (λ k. k < length es)
+pub found_within : (es : List Entry) (id : EntryId) (place : Option ℕ) → place ≡ place_of_id es id → IfSome place (λ k. k < length es)
 found_within es id None e = tt
 found_within es id (Some k) e = small (nat_lt (position_or_len (has_id id) es) (length es)) refl (sym e)
   where
@@ -118,7 +118,7 @@ found_within es id (Some k) e = small (nat_lt (position_or_len (has_id id) es) (
 
 -- an entry of that id stands at its place
 pub placed : (es : List Entry) (id : EntryId) (k : ℕ) (d : Entry) → IsLog es → k < length es → is_same_id (get_or es k d).id id ≡ true
-    → place_of es id ≡ Some k
+    → place_of_id es id ≡ Some k
 placed es id k d is within here =
     place_at es id k d within
     (λ j lt. before-other (get_or es j d).id (get_or es k d).id id (ordered_at es j k d is lt within).id_rises here) here

@@ -5,4 +5,5 @@ pub mod Flags
 pub mod Logs
 pub mod Removals
 pub mod Chains
+pub mod Cuts
 pub mod Growth

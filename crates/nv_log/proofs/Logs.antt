@@ -1,5 +1,5 @@
 -- Logs: any two entries of one, one more entry, and what is left of one.
-use Rattle.std.proofs.Common.{◌≡◌, ℕ, zero, suc, ◌-◌, ◌<◌, Bool, true, false, List, [], ◌∷◌, ◌++◌, length, get_or, arith}
+use Rattle.std.proofs.Common.{◌≡◌, ℕ, zero, suc, ◌-◌, ◌<◌, Bool, true, false, List, [], ◌∷◌, ◌++◌, length, get_or, take, arith}
 use Rattle.std.specs.List.{AllByRecursion}
 use Rattle.nv_base.proofs.Ids.{before-trans}
 use Rattle.nv_entry.specs.declared.item.Entry.{Entry}
@@ -46,6 +46,19 @@ push (x ∷ es) e is all = (all_append (MayFollow x) es (e ∷ []) is.0 (all.0, 
 pub IsLog-push : (es : List Entry) (e : Entry) → IsLog es → (0 < length es → MayFollow (get_or es (length es - 1) e) e)
     → IsLog (es ++ e ∷ [])
 IsLog-push es e is last = push es e is (follows_each es e is last)
+
+-- the first entries of a log are one
+all_front : {X : Type 0} (P : X → Type 0) (t : ℕ) (xs : List X) → AllByRecursion P xs → AllByRecursion P (take t xs)
+all_front P zero [] all = tt
+all_front P (suc t) [] all = tt
+all_front P zero (x ∷ xs) all = tt
+all_front P (suc t) (x ∷ xs) all = (all.0, all_front P t xs all.1)
+
+pub IsLog-take : (t : ℕ) (es : List Entry) → IsLog es → IsLog (take t es)
+IsLog-take zero [] is = tt
+IsLog-take (suc t) [] is = tt
+IsLog-take zero (e ∷ es) is = tt
+IsLog-take (suc t) (e ∷ es) is = (all_front (MayFollow e) t es is.0, IsLog-take t es is.1)
 
 -- what is left of a log is one
 pub IsLog-left_of : (stays : List Bool) (es : List Entry) → IsLog es → IsLog (left_of stays es)

@@ -7,7 +7,7 @@ use Rattle.nv_base.specs.declared.numbers.EntryId.{EntryId}
 use Rattle.nv_base.specs.Ids.{is_same_id}
 use Rattle.nv_entry.specs.declared.item.Entry.{Entry}
 use Rattle.nv_entry.specs.Log.{IsLog}
-use Rattle.nv_log.specs.Chain.{place_of}
+use Rattle.nv_log.specs.Chain.{place_of_id}
 use Rattle.nv_log.specs.CommitRun.{IsCommitRun, id_in}
 use Rattle.nv_log.specs.declared.commit_run.CommitRun.{CommitRun}
 use Rattle.nv_log.proofs.Finding.{placed}
@@ -16,7 +16,7 @@ same_self : (a b : EntryId) → a ≡ b → is_same_id a b ≡ true
 same_self a b e = rw e (grind (arith, nat_tests))
 
 pub placed_in_run : (es : List Entry) (run : CommitRun) (id : EntryId) (k : ℕ) → IsLog es → IsCommitRun es run
-    → run.from ≤ k → k < length es → id ≡ id_in run k → place_of es id ≡ Some k
+    → run.from ≤ k → k < length es → id ≡ id_in run k → place_of_id es id ≡ Some k
 placed_in_run [] run id k is ids from within e = absurd (omega arith)
 placed_in_run (first ∷ es) run id k is ids from within e =
     placed (first ∷ es) id k first is within (same_self (get_or (first ∷ es) k first).id id (ids k first from within ∙ sym e))
@@ -27,7 +27,7 @@ id_is run id k commit place = rw (← commit, ← place) refl
 -- the place that an id tells of, where it is one of the entries'
 pub told_by_run : (es : List Entry) (run : CommitRun) (id : EntryId) (k : ℕ) (b : Bool) → IsLog es → IsCommitRun es run
     → run.from ≤ k → (k < length es → id.commit ≡ run.first + (k - run.from)) → id.place ≡ 0 → nat_lt k (length es) ≡ b
-    → IfSome (then_some b k) (λ place. (place < length es) × (place_of es id ≡ Some place))
+    → IfSome (then_some b k) (λ place. (place < length es) × (place_of_id es id ≡ Some place))
 told_by_run es run id k false is ids from commit zero within = tt
 told_by_run es run id k true is ids from commit zero within =
     let less : k < length es = grind (arith, nat_tests) in

@@ -14,10 +14,15 @@ use Rattle.nv_entry.specs.Log.{IsLog}
 -- how many entries a page holds, the block of each page, where each page with entries ends (they stand first), all
 -- entries in append order, and how many of them count
 pub record ChainState : Type 0 where
+  -- how many entries a page holds
   pub page : ℕ
+  -- the block of each page
   pub blocks : List BlockValue
+  -- where each page with entries ends, as a number of entries
   pub ends : List ℕ
+  -- the entries in append order, those past the tail too
   pub entries : List Entry
+  -- how many of them count
   pub tail : ℕ
 
 -- a chain, and how many more pages may be added without memory
@@ -33,15 +38,19 @@ empty_chain page = record { page = page; blocks = []; ends = []; entries = []; t
 abbrev pub log : ChainState → List Entry
 log chain = take chain.tail chain.entries
 
+-- the last of a list, if there is one
 abbrev pub last_of : {X : Type 0} → List X → Option X
 last_of xs = slice_get xs (length xs - 1)
 
+-- the last entry of a chain, if it has one
 abbrev pub last_entry : ChainState → Option Entry
 last_entry chain = last_of chain.entries
 
+-- the id of the last entry, if there is one
 abbrev pub last_id : ChainState → Option EntryId
 last_id chain = option_map (λ e. e.id) (last_entry chain)
 
+-- the epoch of the last entry, if there is one
 abbrev pub last_epoch : ChainState → Option ℕ
 last_epoch chain = option_map (λ e. e.epoch) (last_entry chain)
 
@@ -50,19 +59,22 @@ abbrev pub entry_of : ChainState → EntryId → Option Entry
 entry_of chain id = find (λ e. is_same_id e.id id) chain.entries
 
 -- the place of the entry of that id, in append order
-abbrev pub place_of : List Entry → EntryId → Option ℕ
-place_of entries id = position (λ e. is_same_id e.id id) entries
+abbrev pub place_of_id : List Entry → EntryId → Option ℕ
+place_of_id entries id = position (λ e. is_same_id e.id id) entries
 
 -- where page `k` begins and ends among `len` items; one past those that have items, where all items end
 abbrev pub start_in : List ℕ → ℕ → ℕ → ℕ
 start_in ends len k = slice_index_or (0 ∷ ends) k len
 
+-- where page `k` ends: the number of all entries behind the last page with entries
 abbrev pub end_in : List ℕ → ℕ → ℕ → ℕ
 end_in ends len k = slice_index_or ends k len
 
+-- where a page of the chain starts, as a number of entries
 abbrev pub start_of : ChainState → ℕ → ℕ
 start_of chain k = start_in chain.ends (length chain.entries) k
 
+-- where a page of the chain ends, as a number of entries
 abbrev pub end_of : ChainState → ℕ → ℕ
 end_of chain k = end_in chain.ends (length chain.entries) k
 
@@ -75,6 +87,7 @@ parts_from start (end ∷ ends) xs = take (end - start) xs ∷ parts_from end en
 abbrev pub pages_of : ChainState → List (List Entry)
 pages_of chain = parts_from 0 chain.ends chain.entries
 
+-- the entries of the log, page by page
 abbrev pub log_pages : ChainState → List (List Entry)
 log_pages chain = parts_from 0 chain.ends (log chain)
 
@@ -86,14 +99,18 @@ page_entries chain k = slice_index_or (pages_of chain) k []
 abbrev pub open_page : ℕ → List ℕ → ℕ → ℕ
 open_page page ends len = if nat_lt (len - start_in ends len (length ends - 1)) page then length ends - 1 else length ends
 
+-- the page of the chain that gets the next entry
 abbrev pub open_of : ChainState → ℕ
 open_of chain = open_page chain.page chain.ends (length chain.entries)
 
--- how many more entries the pages that are there take
+-- how many more entries the pages that are there take.
+-- Room: how many more entries the log pages of a chain take, with those that have no entry yet.
 abbrev pub room_of : ChainState → ℕ
 room_of chain = chain.page * (length chain.blocks - open_of chain) - (length chain.entries - start_of chain (open_of chain))
 
--- by how many pages a log with so many grows: it doubles up to eight, and then grows by eight
+-- by how many pages a log with so many grows: it doubles up to eight, and then grows by eight.
+-- Growth of a log: how many log pages it takes at once. A log without pages takes one. One with fewer than eight
+-- doubles, up to eight. From there on it takes eight. Example: a log grows from 0 to 1, 2, 4, 8, 16 and 24 pages.
 abbrev pub growth : ℕ → ℕ
 growth pages = if pages == 0 then 1 else if nat_lt pages 8 then min pages (8 - pages) else 8
 
@@ -104,7 +121,10 @@ pages_in (suc steps) page pages room entries =
     if nat_le entries room then 0
     else growth pages + pages_in steps page (pages + growth pages) (room + growth pages * page) entries
 
--- how many more pages it takes to append so many entries
+-- how many more pages it takes to append so many entries.
+-- The log pages that a log takes for so many entries: those of as many growths, one after the other, as give room
+-- for all. Example: a log with two full pages of two entries takes two pages for one to four entries, and six for
+-- five.
 abbrev pub pages_for : ChainState → ℕ → ℕ
 pages_for chain n = pages_in n chain.page (length chain.blocks) (room_of chain) n
 
@@ -131,6 +151,7 @@ gone_of stays xs = select (map not stays) xs
 abbrev pub flags_from : ℕ → List Bool → List Bool
 flags_from first stays = replicate first true ++ stays
 
+-- flags of which only that of page `k` is not set
 abbrev pub all_but : ℕ → List Bool
 all_but k = flags_from k (false ∷ [])
 
@@ -138,6 +159,7 @@ all_but k = flags_from k (false ∷ [])
 abbrev pub joined : {X : Type 0} → List (List X) → List X
 joined parts = flat_map (λ part. part) parts
 
+-- where each of these parts ends, the first of which starts at a place
 abbrev pub ends_from : {X : Type 0} → ℕ → List (List X) → List ℕ
 ends_from start [] = []
 ends_from start (part ∷ parts) = (start + length part) ∷ ends_from (start + length part) parts
@@ -150,6 +172,7 @@ with_entries_left stays chain = record chain {
   tail = length (joined (left_of stays (log_pages chain)));
 }
 
+-- the chain without the pages whose flags are not set
 abbrev pub with_pages_left : List Bool → ChainState → ChainState
 with_pages_left stays chain = record (with_entries_left stays chain) { blocks = left_of stays chain.blocks }
 

@@ -4,9 +4,11 @@ use Rattle.nv_log.specs.declared.chain.Chain.TheInside.{Inside}
 use Rattle.nv_log.specs.Chain.{ChainState, ChainValue, IsChain}
 use Rattle.nv_log.specs.CommitRun.{IsCommitRun}
 
+-- what the fields of a chain show
 abbrev pub state_in : Inside → ChainState
 state_in c = record { page = c.page; blocks = c.blocks.items; ends = c.ends.items; entries = c.entries.items; tail = c.tail }
 
+-- the same with the room that is reserved
 abbrev pub value_in : Inside → ChainValue
 value_in c = record { state = state_in c; spare = c.reserved - vec_len c.blocks }
 

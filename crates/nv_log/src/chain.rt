@@ -5,10 +5,11 @@ ghost use Rattle.std.specs.List.Sorted.{IsStrictlyIncreasing};
 ghost use Rattle.std.specs.Option.{ForSome, option_copied};
 ghost use Rattle.nv_base.specs.Ids.{IsIdBefore};
 ghost use Rattle.nv_base.specs.Refusals.{FailsOnlyWhere, KeepsOnErr};
-ghost use Rattle.nv_log.specs.Chain.{AppendsEntry, IsChain, appended, empty_chain, end_of, entry_of, joined, last_epoch, last_id, last_of, log, log_pages, page_entries, pages_for, place_of, room_of, start_of, with_page};
+ghost use Rattle.nv_log.specs.Chain.{AppendsEntry, IsChain, appended, empty_chain, end_of, entry_of, joined, last_epoch, last_id, last_of, log, log_pages, page_entries, pages_for, place_of_id, room_of, start_of, with_page};
 ghost use Rattle.nv_base.specs.Memory.{out_of_memory};
 
 mod clean;
+mod imaging;
 
 use crate::commit_run::CommitRun;
 use crate::reads::ReadCount;
@@ -28,6 +29,7 @@ use std::mem;
 /// A call takes constant time where its doc comment says no more: one that shows entries hands out a slice.
 ///
 /// A chain owns its blocks, so it is no `Drop`: [`Chain::into_blocks`] takes it apart.
+/// Only tested: a chain is `Send` and `Sync`.
 pub struct Chain {
     // How many entries a page holds.
     page: usize,
@@ -51,6 +53,14 @@ impl Model for Chain {
 
     ghost view = { value_in };
 
+    // A log page holds 2 to 63 entries.
+    // No more log pages have entries than there are.
+    // The log pages with entries stand first; each has one entry up to a page's number of them; the last ends where
+    // all entries end.
+    // Ids rise and epochs never fall along its entries, those past the tail too.
+    // The tail is within its entries.
+    // There is room for as many log pages as are reserved, for their ends and for their entries.
+    // In its stretch of commits each entry is the first of its commit, and the commits follow one another.
     ghost invariant = { AreFields };
 }
 
@@ -59,6 +69,7 @@ impl Chain {
     pub fn new(alloc: Global, page: usize) -> Chain
         requires least { LEAST_PAGE_ENTRIES ≤ page }
         requires most { page ≤ PAGE_ENTRIES }
+        // A new chain has no log pages, no entries and no room.
         ensures state { result.state ≡ empty_chain page }
         ensures spare { result.spare ≡ 0 }
     {
@@ -84,6 +95,7 @@ impl Chain {
 
     /// The blocks of the pages.
     pub fn blocks(&self) -> &[Block]
+        // Readers tell a log page's entries, the blocks and the number of entries.
         ensures { result.now ≡ self.now.state.blocks }
     {
         self.blocks.as_slice()
@@ -92,7 +104,9 @@ impl Chain {
     /// Where each page with entries ends, as a number of entries. These pages stand first, each has an entry,
     /// and the last ends where all entries end.
     pub fn ends(&self) -> &[usize]
+        // The ends are those of the chain, which always is a chain.
         ensures value { result.now ≡ self.now.state.ends }
+        // The ends of the log pages with entries rise, and the last is the number of entries.
         ensures rising { IsStrictlyIncreasing result.now }
         ensures last { 0 < length result.now
             → slice_index result.now (length result.now - 1) ≡ length self.now.state.entries }
@@ -126,6 +140,7 @@ impl Chain {
     /// All entries, those past the tail too.
     pub fn entries(&self) -> &[Entry]
         ensures value { result.now ≡ self.now.state.entries }
+        // Ids rise and epochs never fall along every chain.
         ensures chain { IsChain self.now.state }
     {
         self.read(&self.entries)
@@ -133,7 +148,9 @@ impl Chain {
 
     /// The entries that count.
     pub fn log(&self) -> &[Entry]
+        // Only the log is shown as the log.
         ensures value { result.now ≡ log self.now.state }
+        // The log is its log pages joined.
         ensures pages { result.now ≡ joined (log_pages self.now.state) }
     {
         self.read(&self.entries[..self.tail])
@@ -141,6 +158,7 @@ impl Chain {
 
     /// The entries of page `k`.
     pub fn page_entries(&self, k: usize) -> &[Entry]
+        // A log page's entries are those between its start and its end.
         ensures { result.now ≡ page_entries self.now.state k }
     {
         self.read(&self.entries[self.page_start(k)..self.page_end(k)])
@@ -148,6 +166,7 @@ impl Chain {
 
     /// The place of the first entry of page `k`: of one that has none, where all entries end.
     pub fn page_start(&self, k: usize) -> usize
+        // Where a log page starts and ends is told.
         ensures value { result ≡ start_of self.now.state k }
         ensures within { result ≤ end_of self.now.state k }
     {
@@ -170,8 +189,10 @@ impl Chain {
     }
 
     /// The page in which the entry at a place stands. The time grows with the logarithm of the pages.
+    /// Only tested: a log page is found by halving.
     pub fn page_of(&self, place: usize) -> usize
         requires { place < length self.now.state.entries }
+        // The log page of an entry's place is told.
         ensures within { result < length self.now.state.ends }
         ensures start { start_of self.now.state result ≤ place }
         ensures end { place < end_of self.now.state result }
@@ -180,15 +201,20 @@ impl Chain {
     }
 
     /// The place of the entry of that id, in append order. The time grows with the logarithm of the entries.
+    /// Only tested: how far a commit run reaches.
     pub fn place_of(&self, id: EntryId) -> Option<usize>
-        ensures value { result ≡ place_of self.now.state.entries id }
+        // An entry whose place a commit run tells is found.
+        // A commit run tells the right place.
+        ensures value { result ≡ place_of_id self.now.state.entries id }
         ensures within { IfSome result (λ place. place < length self.now.state.entries) }
     {
         search::place_of(&self.entries, self.run, id)
     }
 
     /// The entry of that id. The time grows with the logarithm of the entries.
+    /// Only tested: the time to find an entry grows with the logarithm of the number of entries.
     pub fn entry(&self, id: EntryId) -> Option<&Entry>
+        // An entry is found by its id, and its place is within the chain.
         ensures { option_copied result ≡ entry_of self.now.state id }
     {
         let place = self.place_of(id)?;
@@ -199,6 +225,7 @@ impl Chain {
     /// The entry at a place, also past the tail. It is not counted as read.
     pub fn entry_at(&self, place: usize) -> &Entry
         requires { place < length self.now.state.entries }
+        // The entry at a place is told.
         ensures { slice_get self.now.state.entries place ≡ Some result.now }
     {
         &self.entries[place]
@@ -206,6 +233,7 @@ impl Chain {
 
     /// The last of the entries that count.
     pub fn last_published(&self) -> Option<&Entry>
+        // The last entry that counts is told.
         ensures { option_copied result ≡ last_of (log self.now.state) }
     {
         let last = self.entries[..self.tail].last();
@@ -215,6 +243,7 @@ impl Chain {
 
     /// The id of the last entry, also past the tail. Ids rise: the next entry's is above it.
     pub fn last_id(&self) -> Option<EntryId>
+        // Readers tell the tail and the last entry's id and epoch.
         ensures { result ≡ last_id self.now.state }
     {
         self.entries.last().map(|entry| entry.id)
@@ -229,6 +258,7 @@ impl Chain {
 
     /// Whether an entry of that id and epoch may stand next.
     pub fn may_append(&self, id: EntryId, epoch: Epoch) -> bool
+        // Whether an entry may follow is told.
         ensures { IsTrue result ↔ (ForSome (last_id self.now.state) (λ last. IsIdBefore last id)
             × ForSome (last_epoch self.now.state) (λ last. last ≤ epoch)) }
     {
@@ -240,6 +270,7 @@ impl Chain {
 
     /// How many more entries the pages that are there take.
     pub fn room(&self) -> usize
+        // For how many more entries the log pages have room is told, also of empty ones.
         ensures { result ≡ room_of self.now.state }
     {
         let open = pages::open_page(self.page, &self.ends, self.entries.len());
@@ -249,9 +280,13 @@ impl Chain {
 
     /// How many more pages the log takes to append so many entries: those of as many growths as make room for
     /// them. The time grows with an eighth of these pages.
+    /// Only tested: reckoning the pages takes no memory.
     pub fn pages_for(&self, entries: usize) -> usize
+        // A log doubles up to eight pages, then grows by eight.
+        // A log takes the pages of as many growths as give room for the entries.
         ensures value { result ≡ pages_for self.now.state entries }
         ensures enough { entries ≤ room_of self.now.state + result * self.now.state.page }
+        // A log takes at most seven pages more than it gets entries.
         ensures few { result ≤ entries + 7 }
     {
         let mut pages = 0;
@@ -274,9 +309,12 @@ impl Chain {
     /// Makes room for so many more pages, and for all entries that they and the pages that are there hold:
     /// `OutOfMemory` where there is none. It may take room for more than that, so that the time of many calls
     /// is linear in the pages that they make room for. What it changes is room alone.
+    /// Only tested: many small reserves are linear in all.
     pub fn reserve(&mut self, pages: usize) -> Result<(), Fault>
+        // Room for log pages, with their ends and entries, is made before a change.
         ensures state { self.new.state ≡ self.old.state }
         ensures ok { OnOk result (self.new.spare ≡ max self.old.spare pages) }
+        // A refused growth changes nothing and comes only where room was missing.
         ensures err { FailsOnlyWhere out_of_memory (self.old.spare < pages) result }
         ensures same { KeepsOnErr result self.old self.new }
     {
@@ -296,6 +334,7 @@ impl Chain {
     /// Adds a page behind the others.
     pub fn add_page(&mut self, block: Block)
         requires reserved { 0 < self.old.spare }
+        // A log page goes behind the others and brings room for its entries.
         ensures state { self.new.state ≡ with_page block self.old.state }
         ensures room { room_of self.new.state ≡ room_of self.old.state + self.old.state.page }
         ensures spare { self.new.spare + 1 ≡ self.old.spare }
@@ -307,9 +346,12 @@ impl Chain {
     /// page after it.
     pub fn append(&mut self, entry: Entry)
         requires room { 0 < room_of self.old.state }
+        // Callers append only an entry of a later id than the last one's, and of no earlier epoch.
         requires id { ForSome (last_id self.old.state) (λ last. IsIdBefore last entry.id) }
         requires epoch { ForSome (last_epoch self.old.state) (λ last. last ≤ entry.epoch) }
+        // Where that page is full, the entry goes to the next one.
         ensures state { self.new.state ≡ appended entry self.old.state }
+        // A chain is a list of log pages: an entry goes to the page of the last one.
         ensures pages { AppendsEntry entry self.old.state self.new.state }
         ensures spare { self.new.spare ≡ self.old.spare }
     {
@@ -324,6 +366,7 @@ impl Chain {
     pub fn publish_to(&mut self, tail: usize)
         requires onward { self.old.state.tail ≤ tail }
         requires within { tail ≤ length self.old.state.entries }
+        // Publishing moves the tail and nothing else.
         ensures state { self.new.state ≡ record self.old.state { tail = tail } }
         ensures spare { self.new.spare ≡ self.old.spare }
     {
@@ -333,6 +376,7 @@ impl Chain {
     /// Puts another chain in the place of this one, and hands out the blocks of all old pages. The time is
     /// linear in the old entries, which are let go.
     pub fn replace(&mut self, chain: Chain) -> Vec<Block>
+        // A chain that takes another's place is that chain, and every old block is handed out.
         ensures chain { self.new ≡ chain }
         ensures blocks { result.items ≡ self.old.state.blocks }
     {
@@ -358,6 +402,7 @@ impl Chain {
     /// Takes the chain apart, and hands out the blocks of all pages. The time is linear in the entries, which
     /// are let go.
     pub fn into_blocks(self) -> Vec<Block>
+        // A chain that is taken apart hands out every block.
         ensures { result.items ≡ self.state.blocks }
     {
         let Chain {
@@ -376,6 +421,7 @@ impl Chain {
     /// How many entries were handed out to be read so far, up to the greatest number: each one of
     /// [`Chain::entry`] and [`Chain::last_published`], and those of [`Chain::entries`], [`Chain::log`] and
     /// [`Chain::page_entries`]. What goes by places, as changes do, by [`Chain::entry_at`], is not among them.
+    /// Only tested: how many entries were read is counted, up to the greatest number.
     pub fn reads(&self) -> u64 {
         self.reads.get()
     }

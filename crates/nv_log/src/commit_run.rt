@@ -3,7 +3,7 @@
 ghost use Rattle.std.specs.Prelude.{◌≡◌, ◌<◌, ◌≤◌, ◌++◌, ◌∷◌, List, [], IfSome, Some, length};
 ghost use Rattle.nv_entry.specs.Log.{IsLog};
 ghost use Rattle.nv_entry.specs.declared.item.Entry.{Entry};
-ghost use Rattle.nv_log.specs.Chain.{place_of};
+ghost use Rattle.nv_log.specs.Chain.{place_of_id};
 ghost use Rattle.nv_log.specs.CommitRun.{IsCommitRun};
 
 use nv_base::EntryId;
@@ -55,7 +55,7 @@ impl CommitRun {
         requires log { IsLog entries.now }
         requires run { IsCommitRun entries.now self }
         ensures { IfSome result
-            (λ place. (place < length entries.now) × (place_of entries.now id ≡ Some place)) }
+            (λ place. (place < length entries.now) × (place_of_id entries.now id ≡ Some place)) }
     {
         let commit = id.commit.number();
         if id.place != 0 || commit < self.first {

@@ -6,10 +6,12 @@
 
 mod chain;
 mod commit_run;
+mod image;
 mod pages;
 mod reads;
 mod removal;
 mod search;
 
 pub use chain::Chain;
+pub use image::ChainImage;
 pub use reads::ReadCount;

@@ -1,8 +1,9 @@
 //! Where the pages of a chain begin and end among its entries.
 
-ghost use Rattle.std.specs.Prelude.{◌≡◌, ℕ, ◌<◌, ◌≤◌, length, vec_capacity};
+ghost use Rattle.std.specs.Prelude.{◌≡◌, ℕ, ◌<◌, ◌≤◌, ◌++◌, ◌∷◌, [], length, take, vec_capacity};
 ghost use Rattle.std.specs.Int.{div_ceil};
 ghost use Rattle.nv_log.specs.Chain.{AreEnds, end_in, growth, open_page, packed, start_in};
+ghost use Rattle.nv_log.specs.Image.{cut_ends};
 
 /// Where page `k` begins among `len` entries: one that has none begins where all end.
 pub fn start_of(ends: &[usize], len: usize, k: usize) -> usize
@@ -53,6 +54,51 @@ pub fn page_of(ends: &[usize], len: usize, place: usize) -> usize
     ensures end { place < end_in ends.now len result }
 {
     ends.partition_point(|end| *end <= place)
+}
+
+/// How many pages end before the place `tail`.
+fn ended_before(ends: &[usize], tail: usize) -> usize
+    requires { (page : ℕ) × (len : ℕ) × AreEnds page 0 ends.now len }
+    ensures all { length ends.now ≤ result → cut_ends tail ends.now ≡ ends.now }
+    ensures some { 0 < tail → result < length ends.now
+        → cut_ends tail ends.now ≡ take result ends.now ++ tail ∷ [] }
+{
+    ends.partition_point(|end| *end < tail)
+}
+
+/// On how many pages the first `tail` entries stand.
+pub fn count_for(ends: &[usize], tail: usize) -> usize
+    requires { (page : ℕ) × (len : ℕ) × AreEnds page 0 ends.now len }
+    ensures { result ≡ length (cut_ends tail ends.now) }
+{
+    if tail == 0 {
+        return 0;
+    }
+    let full = ended_before(ends, tail);
+    let pages = ends.len();
+    if pages <= full {
+        return pages;
+    }
+    full + 1
+}
+
+/// Leaves the ends of the pages on which the first `tail` entries stand. Takes no memory.
+pub fn cut(ends: &mut Vec<usize>, tail: usize)
+    requires { (page : ℕ) × (len : ℕ) × AreEnds page 0 ends.old.items len }
+    ensures ends { ends.new.items ≡ cut_ends tail ends.old.items }
+    ensures capacity { vec_capacity ends.new ≡ vec_capacity ends.old }
+{
+    if tail == 0 {
+        ends.clear();
+        return;
+    }
+    let full = ended_before(ends.as_slice(), tail);
+    let pages = ends.len();
+    if pages <= full {
+        return;
+    }
+    ends.truncate(full);
+    ends.push_reserved(tail);
 }
 
 /// Sets the ends to those of full pages, of which the last may be short.

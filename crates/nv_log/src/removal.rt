@@ -1,7 +1,7 @@
 //! What is left of a chain's entries and pages once some are taken out. Flags say which stay, as do all items
 //! past the flags. Nothing here takes memory.
 
-ghost use Rattle.std.specs.Prelude.{◌≡◌, ℕ, ◌+◌, ◌-◌, ◌<◌, ◌≤◌, ◌++◌, length, take, drop, slice_range, slice_index_or, not, true, vec_len, vec_capacity};
+ghost use Rattle.std.specs.Prelude.{◌≡◌, ℕ, ◌+◌, ◌-◌, ◌<◌, ◌≤◌, ◌++◌, length, reverse, take, drop, slice_range, slice_index_or, not, true, vec_len, vec_capacity};
 ghost use Rattle.std.specs.List.{count_by};
 ghost use Rattle.nv_alloc.specs.Block.{AreSized};
 ghost use Rattle.nv_log.specs.Chain.{AreEnds, ends_from, flags_from, gone_of, joined, left_of, parts_from};
@@ -133,4 +133,24 @@ pub fn hand_out(blocks: &mut Vec<Block>, stays: &[bool], out: &mut BlockQueue)
         }
     }
     mem::replace(blocks, queue.into_vec()).destroy_empty();
+}
+
+/// Puts the blocks past the first `count` into the queue, the last one first.
+pub fn hand_out_past(blocks: &mut Vec<Block>, count: usize, out: &mut BlockQueue)
+    requires count { count ≤ vec_len blocks.old }
+    requires room { length (drop count blocks.old.items) ≤ out.old.room }
+    requires sized { AreSized out.old.size (drop count blocks.old.items) }
+    ensures blocks { blocks.new.items ≡ take count blocks.old.items }
+    ensures capacity { vec_capacity blocks.new ≡ vec_capacity blocks.old }
+    ensures out { out.new ≡ record out.old {
+      blocks = out.old.blocks ++ reverse (drop count blocks.old.items);
+      room = out.old.room - length (drop count blocks.old.items);
+    } }
+{
+    for _page in count..blocks.len() {
+        let Some(block) = blocks.pop() else {
+            unreachable!()
+        };
+        out.put(block);
+    }
 }

@@ -3,7 +3,7 @@
 ghost use Rattle.std.specs.Prelude.{◌≡◌, ◌<◌, ◌≤◌, ◌↔◌, IfSome, IsTrue, Some, length, true};
 ghost use Rattle.nv_base.specs.Ids.{IsIdBefore};
 ghost use Rattle.nv_entry.specs.Log.{IsLog};
-ghost use Rattle.nv_log.specs.Chain.{place_of};
+ghost use Rattle.nv_log.specs.Chain.{place_of_id};
 ghost use Rattle.nv_log.specs.CommitRun.{IsCommitRun};
 
 use crate::commit_run::CommitRun;
@@ -23,7 +23,7 @@ const NEAR: usize = 16;
 /// Whether the entry of that id stands at a place.
 fn is_at(entries: &[Entry], place: usize, id: EntryId) -> bool
     requires { IsLog entries.now }
-    ensures { result ≡ true → place_of entries.now id ≡ Some place }
+    ensures { result ≡ true → place_of_id entries.now id ≡ Some place }
 {
     place < entries.len() && entries[place].id == id
 }
@@ -65,7 +65,7 @@ fn near(entries: &[Entry], place: usize, id: EntryId) -> usize {
 pub fn place_of(entries: &[Entry], run: CommitRun, id: EntryId) -> Option<usize>
     requires log { IsLog entries.now }
     requires run { IsCommitRun entries.now run }
-    ensures value { result ≡ place_of entries.now id }
+    ensures value { result ≡ place_of_id entries.now id }
     ensures within { IfSome result (λ place. place < length entries.now) }
 {
     if let Some(place) = run.place_of(entries, id) {

@@ -9,7 +9,7 @@ use Rattle.nv_machine.specs.Hands.{is_going}
 use Rattle.nv_machine.specs.Kinds.{result_by}
 use Rattle.nv_machine.specs.Maintenance.{shown_by}
 use Rattle.nv_machine.specs.Step.{kind_turn, turned}
-use Rattle.nv_machine.specs.World.{Actor, Answers, ReturnNumber, Drains, Ending, Ends, Give, HandState, Moves, Next, Overtaken, Refused, Refuses, Running, Shared, Maintenance, Turn, Unlock, Unpin, Waits, World, Cleans}
+use Rattle.nv_machine.specs.World.{Actor, Answers, ReturnNumber, Drains, Ending, Ends, Give, HandState, Moves, Next, BoundAnew, Refused, Refuses, Running, Shared, Maintenance, Turn, Unlock, Unpin, Waits, World, Cleans}
 use Rattle.nv_machine.proofs.OverEvents.{OwnAfter}
 use Rattle.nv_machine.proofs.AloneLooks.{IsLate}
 use Rattle.nv_machine.proofs.StepWays.{After, Closes, Going, Telling}
@@ -39,21 +39,21 @@ module _ (P : Fault → Type 0) where
   abbrev pub OnFine : Turn → Type 0
   OnFine t = After FineGoes FineTold t
 
-  closes_fine : {s : Shared} {h : HandState} {r : Running} (e : Ending) → (e ≡ Overtaken → ⊥) → Fine e → Closes FineGoes FineTold s h r e
+  closes_fine : {s : Shared} {h : HandState} {r : Running} (e : Ending) → (e ≡ BoundAnew → ⊥) → Fine e → Closes FineGoes FineTold s h r e
   closes_fine e over is = record {
     last = λ k on. is;
     told = told _ e over is;
     again = λ n overtaken some. tt;
     picks = λ d left drains some. tt;
   } where
-    told : (r : Running) (x : Ending) → (x ≡ Overtaken → ⊥) → Fine x → ResultFine (result_by x r)
+    told : (r : Running) (x : Ending) → (x ≡ BoundAnew → ⊥) → Fine x → ResultFine (result_by x r)
     told r (Refuses fault) over is = is
-    told r Overtaken over is = absurd (over refl)
+    told r BoundAnew over is = absurd (over refl)
     told r other over is = tt
 
   -- the last steps leave it so
   pub ends_fine : (k : Next) (block actor : ℕ) (granted : Bool) (s : Shared) (h : HandState) (r : Running) → is_going k ≡ false
-      → (IsLate k → r.ending ≡ Overtaken → ⊥) → Fine r.ending → OnFine (kind_turn k block actor granted s h r)
+      → (IsLate k → r.ending ≡ BoundAnew → ⊥) → Fine r.ending → OnFine (kind_turn k block actor granted s h r)
   ends_fine (Unlock place) block actor granted s h r last over is =
       last_walk FineGoes FineTold block actor s h r (Unlock place) granted refl (closes_fine r.ending (over tt) is)
   ends_fine (Give cpu) block actor granted s h r last over is =
@@ -73,7 +73,7 @@ module _ (P : Fault → Type 0) where
     go : (e : Ending) → EndsFor C Q q.next e → Fine e
     go Answers f = tt
     go (Refuses fault) f = cause fault f.0
-    go Overtaken f = tt
+    go BoundAnew f = tt
     go (Drains draining) f = tt
     go (Cleans cleaned) f = tt
   caused_fine C Q cause Waits is = tt

@@ -19,7 +19,7 @@ use Rattle.nv_machine.specs.Sequence.{beginning, directories, locking, looking}
 use Rattle.nv_machine.specs.Settled.{settled_nodes}
 use Rattle.nv_machine.specs.Starts.{IsStart}
 use Rattle.nv_machine.specs.Step.{after, ending_at, handle_at, is_numbered, kind_turn, made_in, same_looked, turn}
-use Rattle.nv_machine.specs.World.{Actor, Answers, Check, Ending, Ends, Event, Go, HandState, Lock, Look, Moves, Next, Number, Overtaken, Running, Shared, MaintenanceStep, Maintenance, Turn, Waits, World, actor_at, go_to, owner_at}
+use Rattle.nv_machine.specs.World.{Actor, Answers, Check, Ending, Ends, Event, Go, HandState, Lock, Look, Moves, Next, Number, BoundAnew, Running, Shared, MaintenanceStep, Maintenance, Turn, Waits, World, actor_at, go_to, owner_at}
 use Rattle.nv_machine.proofs.EveryWorld.{all_known}
 use Rattle.nv_calls.proofs.CheckEnds.{looked_self}
 use Rattle.nv_machine.proofs.AloneLooks.{FoundBy, HasFound, IsLate, OnFound, call_sees, check_same, late_turn, locking_found, on_found, refused_found}
@@ -81,7 +81,7 @@ module _ (block actor : ℕ) (granted : Bool) (s : Shared) (h : HandState) (r : 
       on_found (directories r.call) all _
       (late_turn Check block actor granted s h r refl (λ at e. check_same _ _ _ _ _ same (sym (given.ends refl) ∙ e))
       (λ e. not_over (sym (given.going refl) ∙ e))) where
-        not_over : Answers ≡ Overtaken → ⊥
+        not_over : Answers ≡ BoundAnew → ⊥
         not_over e = cc
   kind_found all (Maintenance kind) given is had = absurd (given.files kind refl)
   kind_found all other given is had =

@@ -15,7 +15,7 @@ use Rattle.nv_machine.specs.Kinds.{check_ending, seen_at}
 use Rattle.nv_machine.specs.Reads.{written_slots}
 use Rattle.nv_machine.specs.Sequence.{directories, locking, sequel}
 use Rattle.nv_machine.specs.Step.{ending_at, handle_at, kind_turn}
-use Rattle.nv_machine.specs.World.{Append, Check, Close, Ending, Ends, Enter, HandState, Lock, Look, Moves, Next, Number, Open, Overtaken, Publish, Ready, Refuses, Retire, Running, Shared, Maintenance, Turn, Waits}
+use Rattle.nv_machine.specs.World.{Append, Check, Close, Ending, Ends, Enter, HandState, Lock, Look, Moves, Next, Number, Open, BoundAnew, Publish, Ready, Refuses, Retire, Running, Shared, Maintenance, Turn, Waits}
 use Rattle.nv_calls.proofs.CheckEnds.{handle_is}
 use Rattle.nv_machine.proofs.NextSteps.{Known, KnowsNext, OnKnown, Untold}
 use Rattle.nv_machine.proofs.LoopSteps.{Commits, appending_any, goes_on, locking_any, publishing_any, retiring_any}
@@ -35,7 +35,7 @@ HasFound dirs all Number r = r.looked ≡ all
 HasFound dirs all (Look place) r = Upto dirs all place r.looked
 HasFound dirs all (Lock place) r = r.looked ≡ all
 HasFound dirs all Check r = r.looked ≡ all
-HasFound dirs all other r = r.ending ≡ Overtaken → ⊥
+HasFound dirs all other r = r.ending ≡ BoundAnew → ⊥
 
 abbrev pub FoundBy : List Handle → LookupResult → Known
 FoundBy dirs all k s h q = HasFound dirs all k q
@@ -57,12 +57,12 @@ IsLate Check = ⊥
 IsLate other = Unit {0}
 
 abbrev pub LateBy : Known
-LateBy k s h q = IsLate k × (q.ending ≡ Overtaken → ⊥)
+LateBy k s h q = IsLate k × (q.ending ≡ BoundAnew → ⊥)
 
 abbrev pub OnLate : Turn → Type 0
 OnLate t = OnKnown LateBy t
 
-pub late_found : (dirs : List Handle) (all : LookupResult) (k : Next) (r : Running) → IsLate k → (r.ending ≡ Overtaken → ⊥)
+pub late_found : (dirs : List Handle) (all : LookupResult) (k : Next) (r : Running) → IsLate k → (r.ending ≡ BoundAnew → ⊥)
     → HasFound dirs all k r
 late_found dirs all Number r late over = absurd late
 late_found dirs all (Look place) r late over = absurd late
@@ -104,7 +104,7 @@ sequel_late Close q is on = retiring_any IsLate commits_late 0 (written_slots q)
 sequel_late (Retire place) q is on = retiring_any IsLate commits_late (place + 1) (written_slots q)
 sequel_late other q is on = cc
 
-late_closes : {s : Shared} {h : HandState} {r : Running} (e : Ending) → (e ≡ Overtaken → ⊥) → Closes (KnowsNext LateBy) Untold s h r e
+late_closes : {s : Shared} {h : HandState} {r : Running} (e : Ending) → (e ≡ BoundAnew → ⊥) → Closes (KnowsNext LateBy) Untold s h r e
 late_closes e not = record {
   last = λ k is. (last_late k is, not);
   told = tt;
@@ -113,13 +113,13 @@ late_closes e not = record {
 }
 
 stops_late : (k : Next) (block : ℕ) (s : Shared) (h : HandState) (r : Running) (e : Ending)
-    → (k ≡ Check → ending_at block s h r ≡ Some Overtaken → ⊥) → StopsBy k block s h r e → e ≡ Overtaken → ⊥
+    → (k ≡ Check → ending_at block s h r ≡ Some BoundAnew → ⊥) → StopsBy k block s h r e → e ≡ BoundAnew → ⊥
 stops_late k block s h r (Refuses fault) not by over = cc
 stops_late Check block s h r e not by over = not refl (by ∙ ap (λ (x : Ending). Some x) over)
 stops_late k block s h r e not by over = by
 
 pub late_turn : (k : Next) (block a : ℕ) (granted : Bool) (s : Shared) (h : HandState) (r : Running) → leads_late k ≡ true
-    → (k ≡ Check → ending_at block s h r ≡ Some Overtaken → ⊥) → (r.ending ≡ Overtaken → ⊥)
+    → (k ≡ Check → ending_at block s h r ≡ Some BoundAnew → ⊥) → (r.ending ≡ BoundAnew → ⊥)
     → OnLate (kind_turn k block a granted s h r)
 late_turn (Maintenance step) block a granted s h r is not over = absurd (false≢true is)
 late_turn other block a granted s h r is not over = walk (KnowsNext LateBy) Untold block a s h r other granted (record {
@@ -213,7 +213,7 @@ module _ (copied plain : Handle → Option NodeCopy) (before : LookupResult) whe
 -- ---- a check that finds what the looks found
 
 pub check_same : (first : Tests) (b : Bool) (rest : Tests) (numbered : Bool) (changes : List Change) → b ≡ true
-    → check_ending first b rest numbered changes ≡ Some Overtaken → ⊥
+    → check_ending first b rest numbered changes ≡ Some BoundAnew → ⊥
 check_same (Err fault) b rest numbered changes same e = cc
 check_same (Ok passed) false rest numbered changes same e = cc
 check_same (Ok passed) true (Err fault) numbered changes same e = cc

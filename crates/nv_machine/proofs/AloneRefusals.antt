@@ -24,7 +24,7 @@ use Rattle.nv_machine.specs.Sequence.{Beginning, beginning, begun, directories, 
 use Rattle.nv_machine.specs.Settled.{settled_nodes}
 use Rattle.nv_machine.specs.Starts.{IsStart}
 use Rattle.nv_machine.specs.Step.{after, same_looked, step, turn}
-use Rattle.nv_machine.specs.World.{Actor, Answers, ReturnNumber, Check, Ending, Enter, Event, Give, Go, HandState, Leave, Lock, Look, Next, Number, Overtaken, Ready, Refused, Retire, Running, Shared, Maintenance, Start, Started, TakeBlocks, TakeLogPages, Turn, Unlock, Visit, World, actor_at}
+use Rattle.nv_machine.specs.World.{Actor, Answers, ReturnNumber, Check, Ending, Enter, Event, Give, Go, HandState, Leave, Lock, Look, Next, Number, BoundAnew, Ready, Refused, Retire, Running, Shared, Maintenance, Start, Started, TakeBlocks, TakeLogPages, Turn, Unlock, Visit, World, actor_at}
 use Rattle.nv_machine.proofs.EveryWorld.{all_numbers}
 use Rattle.nv_machine.proofs.AloneEndings.{Fine, FineOf, OnFine, after_fine, caused_fine, ends_fine, reply_fine}
 use Rattle.nv_machine.proofs.AloneFinds.{FoundOf, found_more, unchanged}
@@ -150,7 +150,7 @@ module _ (g : GeometryNumbers) (start : World) (records : List Record) (is_start
                 ∙ ap (λ (d : Call). same_looked (looked (node_in nodes) d) r.looked) same_call
                 ∙ ap (same_looked (looked (node_in nodes) c)) found ∙ looked_self (looked (node_in nodes) c)
 
-      not_over : (k : Next) → HasFound (directories c) (looked (node_in nodes) c) k r → IsLate k → r.ending ≡ Overtaken → ⊥
+      not_over : (k : Next) → HasFound (directories c) (looked (node_in nodes) c) k r → IsLate k → r.ending ≡ BoundAnew → ⊥
       not_over Number had late = absurd late
       not_over (Look place) had late = absurd late
       not_over (Lock place) had late = absurd late

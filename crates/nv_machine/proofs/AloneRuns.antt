@@ -19,7 +19,7 @@ use Rattle.nv_machine.proofs.EveryWorld.{all_numbers, reached}
 use Rattle.nv_machine.proofs.DecidedTurns.{nothing_is as no_change}
 use Rattle.nv_machine.specs.Alone.{IsAnsweredOn, goes}
 use Rattle.nv_machine.specs.EndsDecided.{decided, decides, decision_of, is_maintenance, is_pass, unless_started}
-use Rattle.nv_machine.specs.PlainRun.{Commits, Deed, Nothing, deed, deed_by, deed_of, keeps_nodes}
+use Rattle.nv_machine.specs.PlainRun.{Commits, PlainChange, Nothing, plain_change, plain_change_by, plain_change_of, keeps_nodes}
 use Rattle.nv_machine.specs.Reads.{written_slots}
 use Rattle.nv_machine.specs.Sequence as sequence
 use Rattle.nv_machine.specs.Sequence.{Beginning, beginning, begun}
@@ -47,7 +47,7 @@ a_not false e = refl
 
 -- where nothing is decided the nodes stay
 undecided : (k : Next) (block : ℕ) (s : Shared) (r : Running) (t : Turn) → decides k block s r t ≡ false
-    → keeps_nodes (deed k (written_slots r) t) ≡ true
+    → keeps_nodes (plain_change k (written_slots r) t) ≡ true
 undecided Check block s r t e = refl
 undecided Visit block s r t e = refl
 undecided other block s r t e = no_not _ e
@@ -67,7 +67,7 @@ back_true false b e = absurd (false≢true e)
 -- where it is, that is a commit point; or the call passes, and changes nothing
 record ChangesNothing (k : Next) (block : ℕ) (s : Shared) (r : Running) (t : Turn) : Type 0 where
   passes_is : refusal block (node_in (settled_nodes s)) r.call ≡ passes
-  keeps : keeps_nodes (deed k (written_slots r) t) ≡ true
+  keeps : keeps_nodes (plain_change k (written_slots r) t) ≡ true
   no_effect : effect (node_in (settled_nodes s)) r.made r.call ≡ []
 
 visit_effect : (nodes : Handle → Option NodeCopy) (made : Handle) (c : Call) → beginning c ≡ sequence.Visits → effect nodes made c ≡ []
@@ -79,7 +79,7 @@ visit_effect nodes made (call.Maintenance what) e = refl
 visit_effect nodes made other e = cc
 
 decided_how : (k : Next) (block : ℕ) (s : Shared) (r : Running) (t : Turn) → (k ≡ Visit → beginning r.call ≡ sequence.Visits)
-    → decides k block s r t ≡ true → ChangesNothing k block s r t ⊎ (deed k (written_slots r) t ≡ Commits)
+    → decides k block s r t ≡ true → ChangesNothing k block s r t ⊎ (plain_change k (written_slots r) t ≡ Commits)
 decided_how Check block s r t visits e = inl (record {
   passes_is = all_pass _ (front_true _ _ (front_true _ _ e));
   keeps = refl;
@@ -92,7 +92,7 @@ decided_how Visit block s r t visits e = inl (record {
 })
 decided_how other block s r t visits e = inr (commits _ (a_not _ e))
 
-kept_if : (b : Bool) (d : Deed) → keeps_nodes d ≡ true → keeps_nodes (if b then d else Nothing) ≡ true
+kept_if : (b : Bool) (d : PlainChange) → keeps_nodes d ≡ true → keeps_nodes (if b then d else Nothing) ≡ true
 kept_if true d e = e
 kept_if false d e = refl
 
@@ -131,7 +131,7 @@ module _ (g : GeometryNumbers) (start : World) (records : List Record) (is_start
   call_then = subst (λ (v : World). IsCallOf c (actor_at v actor).running) next
 
   quiet : IsCallOf c (actor_at (step w e).world actor).running → decision_of (actor_at w actor).running w actor granted ≡ []
-      → keeps_nodes (deed_of w e) ≡ true → IsAlone g start records actor c nodes (events ++ e ∷ [])
+      → keeps_nodes (plain_change_of w e) ≡ true → IsAlone g start records actor c nodes (events ++ e ∷ [])
   quiet call none keeps =
       let same : decided actor start (events ++ e ∷ []) [] ≡ before = list ∙ ap (λ (l : List Answer). l ++ before) none in
       record {
@@ -157,8 +157,8 @@ module _ (g : GeometryNumbers) (start : World) (records : List Record) (is_start
     same_call : r.call ≡ c
     same_call = subst (IsCallOf c) is was.call
 
-    deed_is : deed_of w e ≡ (if nat_lt actor (length w.actors) then deed r.next (written_slots r) t else Nothing)
-    deed_is = ap (λ (o : Option Running). if nat_lt actor (length w.actors) then deed_by o w actor granted else Nothing) is
+    deed_is : plain_change_of w e ≡ (if nat_lt actor (length w.actors) then plain_change r.next (written_slots r) t else Nothing)
+    deed_is = ap (λ (o : Option Running). if nat_lt actor (length w.actors) then plain_change_by o w actor granted else Nothing) is
 
     abbrev left : Handle → Option PlainNode
     left = settled_nodes (after start (events ++ e ∷ [])).shared
@@ -175,7 +175,7 @@ module _ (g : GeometryNumbers) (start : World) (records : List Record) (is_start
     answered_now here =
         go (decided_how r.next w.numbers.block w.shared r t (λ visit. visits_of g start records events actor is_start r is visit)
         here) where
-          go : ChangesNothing r.next w.numbers.block w.shared r t ⊎ (deed r.next (written_slots r) t ≡ Commits)
+          go : ChangesNothing r.next w.numbers.block w.shared r t ⊎ (plain_change r.next (written_slots r) t ≡ Commits)
               → IsAnsweredOn w.numbers.block (settled_nodes w.shared) left r.call now
           go (inl quiet_it) = record {
             made = r.made;
@@ -184,12 +184,12 @@ module _ (g : GeometryNumbers) (start : World) (records : List Record) (is_start
             told_is = refl;
             becomes = λ handle. stands handle
                 ∙ reached_nodes w e (reached g start records events is_start)
-                (ap keeps_nodes deed_is ∙ kept_if (nat_lt actor (length w.actors)) (deed r.next (written_slots r) t) quiet_it.keeps) handle
+                (ap keeps_nodes deed_is ∙ kept_if (nat_lt actor (length w.actors)) (plain_change r.next (written_slots r) t) quiet_it.keeps) handle
                 ∙ ap (λ (l : List Change). nodes_after r.commit l (settled_nodes w.shared) handle) (sym quiet_it.no_effect);
           }
           go (inr commits_it) =
               let there = runs_inside w actor r is in
-              let point = deed_is ∙ ap (λ (b : Bool). if b then deed r.next (written_slots r) t else Nothing)
+              let point = deed_is ∙ ap (λ (b : Bool). if b then plain_change r.next (written_slots r) t else Nothing)
               (lt-ltb actor (length w.actors) there) ∙ commits_it in
               record {
                 made = r.made;
@@ -230,7 +230,7 @@ module _ (g : GeometryNumbers) (start : World) (records : List Record) (is_start
         quiet (call_stays w actor granted r c is same_call)
         (ap (λ (o : Option Running). decision_of o w actor granted) is
         ∙ ap (λ (b : Bool). cond b (answer (settled_nodes w.shared) r.made r.call ∷ []) []) other)
-        (ap keeps_nodes deed_is ∙ kept_if (nat_lt actor (length w.actors)) (deed r.next (written_slots r) t)
+        (ap keeps_nodes deed_is ∙ kept_if (nat_lt actor (length w.actors)) (plain_change r.next (written_slots r) t)
         (undecided r.next w.numbers.block w.shared r t other))
 
   pub more : IsAlone g start records actor c nodes (events ++ e ∷ [])
@@ -240,7 +240,7 @@ module _ (g : GeometryNumbers) (start : World) (records : List Record) (is_start
     go None is =
         quiet (own_goes (λ (x : Actor). IsCallOf c x.running) w actor granted (λ none. was.call) (λ r there some. absurd (none-some r (sym is ∙ some))))
         (ap (λ (o : Option Running). decision_of o w actor granted) is)
-        (ap (λ (o : Option Running). keeps_nodes (if nat_lt actor (length w.actors) then deed_by o w actor granted else Nothing)) is
+        (ap (λ (o : Option Running). keeps_nodes (if nat_lt actor (length w.actors) then plain_change_by o w actor granted else Nothing)) is
         ∙ kept_if (nat_lt actor (length w.actors)) Nothing refl)
 
 -- ---- from the start on

@@ -11,7 +11,7 @@ use Rattle.nv_calls.specs.Slots.{IsBefore, entries_of}
 use Rattle.nv_cell.specs.Cell.{CellState, empty_cell}
 use Rattle.nv_entry.specs.declared.item.Entry.{Entry}
 use Rattle.nv_entry.specs.declared.item.Item.{Item}
-use Rattle.nv_machine.specs.Kinds.{end_turn, with_entries, with_pages}
+use Rattle.nv_machine.specs.Kinds.{end_turn, with_entries, with_log_pages}
 use Rattle.nv_machine.specs.Locks.{HoldsIts, is_owner}
 use Rattle.nv_machine.specs.Order.{AreLogsOrdered, CommitsIn, entries_at, to_append}
 use Rattle.nv_machine.specs.Sequence.{closing, opening, publishing, retiring}
@@ -45,7 +45,7 @@ appended_log commit epoch place items log h = record {
       (later_too commit epoch log h).earlier (own_entries commit epoch place items);
 }
 
-pub pages_keep : (pages : List BlockValue) (cell : CellState) → (with_pages pages cell).chain.entries ≡ cell.chain.entries
+pub pages_keep : (pages : List BlockValue) (cell : CellState) → (with_log_pages pages cell).chain.entries ≡ cell.chain.entries
 pages_keep [] cell = refl
 pages_keep (b ∷ pages) cell = pages_keep pages _
 

@@ -5,7 +5,7 @@ use Rattle.std.proofs.lemmas.List.{get_or_past}
 use Rattle.std.specs.List.{flat_map}
 use Rattle.nv_alloc.specs.Block.{BlockValue, numbers_of}
 use Rattle.nv_alloc.specs.FreeList.{FreeBlocks}
-use Rattle.nv_alloc.specs.Giving.{after_giving, kept_of, takes}
+use Rattle.nv_alloc.specs.Giving.{after_giving, not_taken, takes}
 use Rattle.nv_alloc.specs.Numbers.{times}
 use Rattle.nv_alloc.proofs.GivingLemmas.{kept_of-append, times-blocks, times-given}
 use Rattle.nv_alloc.proofs.Lists.{times-append, times-cons}
@@ -17,7 +17,7 @@ use Rattle.nv_entry.specs.declared.item.Entry.{Entry}
 use Rattle.nv_entry.specs.declared.item.Item.{Item}
 use Rattle.nv_entry.specs.declared.item.Item.TheVariants.{Write}
 use Rattle.nv_machine.specs.Frame.{lent}
-use Rattle.nv_machine.specs.Kinds.{asked_list, blocks_in, blocks_left, entries_for, given, less_list, with_bytes, with_entries, with_erased, with_given, with_pages}
+use Rattle.nv_machine.specs.Kinds.{asked_list, blocks_in, blocks_left, entries_for, given, less_list, with_bytes, with_entries, with_erased, with_given, with_log_pages}
 use Rattle.nv_machine.specs.Numbers.{free_of, held_in}
 use Rattle.nv_calls.proofs.FillPages.{filled_numbers}
 use Rattle.nv_calls.specs.FillPages.{fresh_pages}
@@ -71,7 +71,7 @@ taken_more n bs cs = times-blocks n bs cs
 takes_none : (b : BlockValue) → takes no_list b ≡ false
 takes_none b = rw (le-leb 0 b.number (omega arith), le-ltb b.number 0 (omega arith)) refl
 
-pub none_given : (bs : List BlockValue) → (after_giving no_list bs ≡ no_list) × (kept_of no_list bs ≡ bs)
+pub none_given : (bs : List BlockValue) → (after_giving no_list bs ≡ no_list) × (not_taken no_list bs ≡ bs)
 none_given [] = (refl, refl)
 none_given (b ∷ bs) =
     let more = none_given bs in (
@@ -79,9 +79,9 @@ none_given (b ∷ bs) =
       rw (takes_none b) (ap (λ (l : List BlockValue). b ∷ l) more.1),
     )
 
-pub given_all : (cpu : ℕ) (s : Shared) (h : HandState) → blocks_in (given cpu s h) ≡ kept_of (list_at s cpu) (blocks_in h)
+pub given_all : (cpu : ℕ) (s : Shared) (h : HandState) → blocks_in (given cpu s h) ≡ not_taken (list_at s cpu) (blocks_in h)
 given_all cpu s h = sym (kept_of-append (list_at s cpu) (h.blocks ++ h.pages) h.chain
-    ∙ ap (λ (l : List BlockValue). l ++ kept_of (after_giving (list_at s cpu) (h.blocks ++ h.pages)) h.chain)
+    ∙ ap (λ (l : List BlockValue). l ++ not_taken (after_giving (list_at s cpu) (h.blocks ++ h.pages)) h.chain)
     (kept_of-append (list_at s cpu) h.blocks h.pages))
 
 given_times : (n cpu : ℕ) (s : Shared) (h : HandState) → count n (with_given cpu h s) (given cpu s h) ≡ count n s h
@@ -99,7 +99,7 @@ given_times n cpu s h =
 -- ---- append: log pages and data blocks go to the cell
 
 paged : (n : ℕ) (pages : List BlockValue) (cell : CellState)
-    → times n (stored_in (with_pages pages cell)) ≡ times n (stored_in cell) + times n (numbers_of pages)
+    → times n (stored_in (with_log_pages pages cell)) ≡ times n (stored_in cell) + times n (numbers_of pages)
 paged n [] cell = omega arith
 paged n (b ∷ pages) cell =
     let one : CellState = record cell { chain = record cell.chain { blocks = cell.chain.blocks ++ b ∷ [] } } in
@@ -154,7 +154,7 @@ appended_times n (e ∷ entries) bs cell =
 append_times : (n ino pages : ℕ) (s : Shared) (h : HandState) (r : Running) → ino < length s.cells
     → count n (append_work ino pages s h r).shared (append_work ino pages s h r).hand ≡ count n s h
 append_times n ino pages s h r inside =
-    let more = with_pages (take pages h.pages) (cell_at s ino) in
+    let more = with_log_pages (take pages h.pages) (cell_at s ino) in
     let new = with_entries (entries_for r ino) h.blocks more in
     let e = set_times stored_in n s.cells ino new no_cell (λ past. absurd (omega (arith, past, inside))) in
     omega (

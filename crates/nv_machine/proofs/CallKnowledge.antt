@@ -19,7 +19,7 @@ use Rattle.nv_machine.specs.Kinds.{check_ending, with_bytes}
 use Rattle.nv_machine.specs.Reads.{copies, plan_by, taken_by}
 use Rattle.nv_machine.specs.Sequence.{locking}
 use Rattle.nv_machine.specs.Maintenance.{maintenance_turn}
-use Rattle.nv_machine.specs.World.{Answers, Ending, HandState, Next, Overtaken, Refuses, Running, Shared, MaintenanceStep, Turn}
+use Rattle.nv_machine.specs.World.{Answers, Ending, HandState, Next, BoundAnew, Refuses, Running, Shared, MaintenanceStep, Turn}
 use Rattle.nv_machine.proofs.StepWork.{number_work}
 use Rattle.nv_machine.proofs.NextSteps.{Known, KnowsNext, OnKnown, Untold}
 use Rattle.nv_machine.proofs.PlansOfBlocks.{length_numbers, plan_fits, runs_are, small_numbers}
@@ -34,13 +34,13 @@ KnownBy block cpu k s h r = Knows k block s cpu h r
 abbrev pub OnKnows : ℕ → ℕ → Turn → Type 0
 OnKnows block cpu t = OnKnown (KnownBy block cpu) t
 
-pub not_overtaken : (e : Ending) → e ≡ Answers → e ≡ Overtaken → ⊥
+pub not_overtaken : (e : Ending) → e ≡ Answers → e ≡ BoundAnew → ⊥
 not_overtaken e a o = false≢true (ap is_overtaken (sym a ∙ o))
 
 module _ (block cpu : ℕ) where
   -- ---- the last steps
 
-  pub closes_knows : (s : Shared) (h : HandState) (r : Running) (e : Ending) → (e ≡ Overtaken → HasNothing h)
+  pub closes_knows : (s : Shared) (h : HandState) (r : Running) (e : Ending) → (e ≡ BoundAnew → HasNothing h)
       → Closes (KnowsNext (KnownBy block cpu)) Untold s h r e
   closes_knows s h r e none = record {
     last = last;

@@ -17,7 +17,7 @@ use Rattle.nv_cell.specs.declared.killed.KilledPart.{KilledPart}
 use Rattle.nv_epoch.specs.SnapList.{ids}
 use Rattle.nv_machine.specs.Frame.{lent}
 use Rattle.nv_machine.specs.Hands.{IsParted, unpublished_at}
-use Rattle.nv_machine.specs.Kinds.{entries_for, first_killed, retired_book, retired_cell, with_entries, with_erased, with_pages}
+use Rattle.nv_machine.specs.Kinds.{entries_for, first_killed, retired_book, retired_cell, with_entries, with_erased, with_log_pages}
 use Rattle.nv_machine.specs.Reads.{pages_needed, slot_at, written_slots}
 use Rattle.nv_machine.specs.World.{Append, ReturnNumber, Close, Enter, HandState, Leave, Make, Next, Number, Open, Publish, Release, Retire, Running, Shared, MaintenanceStep, Maintenance, cell_at, no_cell, owner_at, with_book, with_cell, Compact, Fresh, Unlink}
 use Rattle.nv_machine.proofs.Occurrences.{set_times}
@@ -283,7 +283,7 @@ lent_inside_own k a s r b ino is =
 
 -- the cell of a slot with the entries of a call
 abbrev pub appended_at : ℕ → Shared → HandState → Running → CellState
-appended_at ino s h r = with_entries (entries_for r ino) h.blocks (with_pages (take (pages_needed s r.plan ino) h.pages) (cell_at s ino))
+appended_at ino s h r = with_entries (entries_for r ino) h.blocks (with_log_pages (take (pages_needed s r.plan ino) h.pages) (cell_at s ino))
 
 -- WHAT A LAW SAYS OF THE CELL that a kind changes
 pub record CellWays (P : ℕ → CellState → Type 0) (k : Next) (s : Shared) (h : HandState) (r : Running) : Type 0 where

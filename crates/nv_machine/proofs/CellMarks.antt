@@ -26,8 +26,8 @@ use Rattle.nv_entry.specs.Blocks.{item_blocks}
 use Rattle.nv_entry.specs.Covered.{is_covered, part_total}
 use Rattle.nv_entry.specs.Log.{IsLog}
 use Rattle.nv_entry.specs.declared.item.Entry.{Entry}
-use Rattle.nv_machine.specs.Kinds.{with_entries, with_pages}
-use Rattle.nv_machine.specs.Recorded.{is_kept}
+use Rattle.nv_machine.specs.Kinds.{with_entries, with_log_pages}
+use Rattle.nv_machine.specs.Recorded.{is_marked_kept}
 use Rattle.nv_machine.specs.Whole.{HasItsParts}
 use Rattle.nv_machine.proofs.FiledLists.{count, one}
 use Rattle.nv_machine.proofs.FiledMarks.{filed_number, is_so, kept_not_current, kept_so, killed_not_current, low, low_filed}
@@ -39,7 +39,7 @@ use Rattle.nv_machine.proofs.PartPlaces.{entry_blocks, sized_first, sized_later}
 -- ---- more log pages, and more entries
 
 pub paged_parts : (block : ℕ) (pages : List BlockValue) (cell : CellState) → HasItsParts block cell
-    → HasItsParts block (with_pages pages cell)
+    → HasItsParts block (with_log_pages pages cell)
 paged_parts block [] cell h = h
 paged_parts block (b ∷ pages) cell h =
     paged_parts block pages (record cell { chain = record cell.chain { blocks = cell.chain.blocks ++ b ∷ [] } }) (record {
@@ -193,8 +193,8 @@ released_parts block living epoch killed before after d cell is m pair counts h 
       same = sym (ap (λ (o : Option ℕ). unwrap_or o 0)
           (filed_number living d.ino epoch killed before after d cell.block (log_of cell) cell.marks is m refl pair counts))
 
-      kept : is_kept (mark_at cell.marks n) ≡ true
-      kept = ap (λ (i : ℕ). is_kept (mark_at cell.marks i)) (sym same)
+      kept : is_marked_kept (mark_at cell.marks n) ≡ true
+      kept = ap (λ (i : ℕ). is_marked_kept (mark_at cell.marks i)) (sym same)
           ∙ kept_so living d.ino epoch killed before after d cell.block (log_of cell) cell.marks is m refl pair counts
 
       there : n < length cell.marks

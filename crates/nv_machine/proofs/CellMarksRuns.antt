@@ -20,7 +20,7 @@ use Rattle.std.specs.List.{AllByRecursion}
 use Rattle.nv_machine.specs.Format.{formatted, root_cell}
 use Rattle.nv_machine.specs.Hands.{HandAt, HandOf}
 use Rattle.nv_machine.specs.Held.{killed_in, picked_at, picked_by_actor, picked_by_call}
-use Rattle.nv_machine.specs.Kinds.{entries_for, first_killed, with_pages}
+use Rattle.nv_machine.specs.Kinds.{entries_for, first_killed, with_log_pages}
 use Rattle.nv_machine.specs.Locks.{commits_at}
 use Rattle.nv_machine.specs.Reads.{pages_needed, slot_at, written_slots}
 use Rattle.nv_machine.specs.Step.{step}
@@ -83,7 +83,7 @@ module _ (g : GeometryNumbers) (w : World) (known : IsKnown g w) (all : HaveThei
       let hand = hand_at (Append place) e in
       let ino = slot_at (written_slots r) place in
       let pages = take (pages_needed s r.plan ino) h.pages in
-      entries_parts g.block (entries_for r ino) h.blocks (with_pages pages (cell_at s ino))
+      entries_parts g.block (entries_for r ino) h.blocks (with_log_pages pages (cell_at s ino))
       (entries_within r.commit r.epoch (place_in r.plan ino) (items_for r.plan ino) (hand.within ino))
       (slot_first place h r inside hand)
       (sized_left g.block h.blocks h.pages (sized_left g.block _ h.chain (known.numbers.sized a)))

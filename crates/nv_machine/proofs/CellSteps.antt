@@ -26,7 +26,7 @@ use Rattle.nv_entry.specs.declared.item.Entry.{Entry}
 use Rattle.nv_entry.specs.declared.item.Item.{Item}
 use Rattle.nv_machine.specs.Effects.{IsSoundIn}
 use Rattle.nv_machine.specs.Kept.{AreApart, AreCovered, HasPages}
-use Rattle.nv_machine.specs.Kinds.{with_entries, with_pages}
+use Rattle.nv_machine.specs.Kinds.{with_entries, with_log_pages}
 use Rattle.nv_machine.specs.Reads.{bytes_among}
 use Rattle.nv_machine.specs.Settled.{node_by}
 use Rattle.nv_machine.proofs.CellPages.{among_at, appended_node, appended_pages, appended_sound, page_there, same_node, same_sound}
@@ -35,7 +35,7 @@ use Rattle.nv_machine.proofs.CellPages.{among_at, appended_node, appended_pages,
 
 -- log pages change no entry and no data block
 pub paged : (pages : List BlockValue) (cell : CellState)
-    → with_pages pages cell ≡ record cell { chain = record cell.chain { blocks = cell.chain.blocks ++ pages } }
+    → with_log_pages pages cell ≡ record cell { chain = record cell.chain { blocks = cell.chain.blocks ++ pages } }
 paged [] cell = ap (λ (l : List BlockValue). let c : CellState = record cell { chain = record cell.chain { blocks = l } } in c)
     (sym (append-nil cell.chain.blocks))
 paged (b ∷ pages) cell = paged pages _
@@ -134,7 +134,7 @@ entries_grow t (e ∷ entries) bs cell le within front h =
 -- an append leaves each log that ends before it
 pub append_grows : (t : ℕ) (entries : List Entry) (bs pages : List BlockValue) (cell : CellState) → t ≤ length cell.chain.entries
     → AllByRecursion IsWithinFile (items_in entries) → HaveFront (items_in entries) (numbers_of bs)
-    → HasPages (take t cell.chain.entries) cell → Grows t cell (with_entries entries bs (with_pages pages cell))
+    → HasPages (take t cell.chain.entries) cell → Grows t cell (with_entries entries bs (with_log_pages pages cell))
 append_grows t entries bs pages cell le within front h =
     rw (paged pages cell)
     (grows_on t cell _ _ (record {

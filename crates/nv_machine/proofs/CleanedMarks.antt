@@ -13,7 +13,7 @@ use Rattle.nv_cell.specs.declared.mark.Mark.TheVariants.{Kept}
 use Rattle.nv_entry.specs.Held.{Retention, holds}
 use Rattle.nv_entry.specs.Log.{IsLog}
 use Rattle.nv_machine.specs.Held.{is_of_slot}
-use Rattle.nv_machine.specs.Recorded.{is_kept}
+use Rattle.nv_machine.specs.Recorded.{is_marked_kept}
 use Rattle.nv_machine.proofs.CleanedCells.{Cleans}
 use Rattle.nv_machine.proofs.EachElement.{all_with}
 use Rattle.nv_machine.proofs.FiledLists.{count, count_cons, count_same, one}
@@ -34,7 +34,7 @@ all_alike : (p q : Record → Bool) → ((d : Record) → p d ≡ q d) → (rs :
 all_alike p q same [] = tt
 all_alike p q same (d ∷ rs) = (same d, all_alike p q same rs)
 
-kept_there : (m : Mark) → is_kept m ≡ true → is_there m ≡ true
+kept_there : (m : Mark) → is_marked_kept m ≡ true → is_there m ≡ true
 kept_there Kept e = refl
 kept_there other e = absurd (false≢true e)
 
@@ -59,8 +59,8 @@ module _ (r : Retention) (flags : List Bool) (old new : CellState) (c : Cleans r
       } in
       let its : is_filed_on ino (log_of old) o.n d ≡ true =
       rw (mine, self ino, record_number r.snapshots old.block (log_of old) d is o) (self o.n) in
-      let kept : is_kept (mark_at old.marks o.n) ≡ true =
-      bit_is (is_kept (mark_at old.marks o.n))
+      let kept : is_marked_kept (mark_at old.marks o.n) ≡ true =
+      bit_is (is_marked_kept (mark_at old.marks o.n))
       (omega (arith, le (is_filed_on ino (log_of old) o.n), ap one its, m.kept_are o.n)) in
       let now = c.records.recorded (name_of d) d.birth (λ s. is_held_by s d) dead (kept_there (mark_at old.marks o.n) kept) in
       record {
@@ -82,7 +82,7 @@ module _ (r : Retention) (flags : List Bool) (old new : CellState) (c : Cleans r
         count_same (is_filed_on ino (log_of new) n) (is_filed_on ino (log_of old) (was n)) rs
         (all_alike (is_filed_on ino (log_of new) n) (is_filed_on ino (log_of old) (was n))
         (λ d. ap (λ (b : Bool). is_of_slot ino d && b) (c.records.names (name_of d) n)) rs)
-        ∙ m.kept_are (was n) ∙ ap (λ (x : Mark). bit (is_kept x)) (sym (c.records.marks n));
+        ∙ m.kept_are (was n) ∙ ap (λ (x : Mark). bit (is_marked_kept x)) (sym (c.records.marks n));
     dying = tt;
     told = each_counted (IsTold r.snapshots ino old.block (log_of old)) (IsTold r.snapshots ino new.block (log_of new)) rs
         still_told m.told;

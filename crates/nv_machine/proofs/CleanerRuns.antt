@@ -13,7 +13,7 @@ use Rattle.nv_machine.specs.CleanerAnswers.{IsCleanedBy, IsRefusedInOrder, Clean
 use Rattle.nv_machine.specs.Frame.{Frame, lent, IsOneStep, Stays, lent_on}
 use Rattle.nv_machine.specs.Numbers.{IdleHaveNothing}
 use Rattle.nv_machine.specs.OwnSteps.{OwnStep, own_steps, turn_of}
-use Rattle.nv_machine.specs.PlainRun.{Deed, Maintains, Plain, after_step, deed, deed_of, done, done_on, keeps_nodes, plain_step, Nothing}
+use Rattle.nv_machine.specs.PlainRun.{PlainChange, Maintains, Plain, after_step, plain_change, plain_change_of, done, done_on, keeps_nodes, plain_step, Nothing}
 use Rattle.nv_machine.specs.Reads.{written_slots}
 use Rattle.nv_machine.specs.Recorded.{after_deed, after_retire, records_in, retired_in}
 use Rattle.nv_machine.specs.Sequence.{Beginning, Numbers, beginning, begun, first_clean, slots_on, started}
@@ -103,7 +103,7 @@ module _ (manner : Manner) (ino cells lists : ℕ) (some : 0 < lists) (actor : �
 -- ---- from a start
 
 -- a deed is no commit, and leaves the plain world as it is, and the list of records
-record LeavesPlain (d : Deed) : Type 0 where
+record LeavesPlain (d : PlainChange) : Type 0 where
   keeps : keeps_nodes d ≡ true
   plain : (running : Option Running) (p : Plain) → done d running p ≡ p
   records : (living : List ℕ) (rs : List Record) → after_deed d living rs ≡ rs
@@ -199,7 +199,7 @@ module _ (g : GeometryNumbers) (start : World) (records : List Record) (events :
     few : now.made ≤ 4 + 2 * g.cpus
     book : (lent k (length w.shared.lists) actor r).book ≡ false
     cells : (other : ℕ) → other ≢ ino → (lent k (length w.shared.lists) actor r).cell ≢ Some other
-    deeds : (x : Turn) → LeavesPlain (deed k (written_slots r) x)
+    deeds : (x : Turn) → LeavesPlain (plain_change k (written_slots r) x)
     retires : (rs : List Record) → after_retire k w.shared (actor_at w actor).hand r rs ≡ rs
 
   nothing_done : LeavesPlain Nothing
@@ -260,11 +260,11 @@ module _ (g : GeometryNumbers) (start : World) (records : List Record) (events :
 
   -- ---- what it leaves
 
-  its_leaves : LeavesPlain (deed_of w (Go actor granted))
+  its_leaves : LeavesPlain (plain_change_of w (Go actor granted))
   its_leaves =
       subst LeavesPlain (rw (lt-ltb actor (length w.actors) (runs_inside w actor r runs)) (rw runs refl)) (is_one.deeds t)
 
-  pub cleaner_commits : keeps_nodes (deed_of w (Go actor granted)) ≡ true
+  pub cleaner_commits : keeps_nodes (plain_change_of w (Go actor granted)) ≡ true
   cleaner_commits = its_leaves.keeps
 
   pub cleaner_plain : (p : Plain) → plain_step w (Go actor granted) p ≡ p

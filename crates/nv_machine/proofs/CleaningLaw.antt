@@ -14,7 +14,7 @@ use Rattle.nv_clean.specs.Cleaned.{answer_of}
 use Rattle.nv_clean.specs.Plans.{entries_staying, pages_staying, wanted_of}
 use Rattle.nv_clean.specs.declared.cleaned.Cleaned.{Cleaned}
 use Rattle.nv_clean.proofs.Cleanings.{entries_are, none_left, pages_are, pages_flagged}
-use Rattle.nv_entry.specs.Clean.{kept_of, pages_left, pages_stay, select}
+use Rattle.nv_entry.specs.Clean.{thorough_leaves, pages_left, pages_stay, select}
 use Rattle.nv_entry.specs.Held.{Retention}
 use Rattle.nv_entry.specs.Laws.{NoneDroppable}
 use Rattle.nv_entry.specs.declared.item.Entry.{Entry}
@@ -60,7 +60,7 @@ module _ (cell : CellState) (is : IsCell cell) (last : cell.chain.tail ≡ lengt
     cleans : CleansCell by (entries_staying cell) cell new
     cleans = compact_cleans by cell is last marks h count
 
-    compacted_log : log_of new ≡ kept_of by (log_of cell)
+    compacted_log : log_of new ≡ thorough_leaves by (log_of cell)
     compacted_log = cleans.left ∙ ap (λ (flags : List Bool). select flags (log_of cell)) (entries_are cell is by marks)
 
     compacted_pages : length new.chain.blocks ≡ div_ceil (length (log_of new)) cell.chain.page

@@ -27,7 +27,7 @@ use Rattle.nv_machine.specs.Grown.{AreGrown, fresh_entries}
 use Rattle.nv_machine.specs.Kept.{AreApart, AreBlocksApart, HasPages, IsKept}
 use Rattle.nv_machine.specs.Locks.{AreLocks}
 use Rattle.nv_machine.specs.Order.{IsInOrder}
-use Rattle.nv_machine.specs.PlainRun.{Commits, deed_of}
+use Rattle.nv_machine.specs.PlainRun.{Commits, plain_change_of}
 use Rattle.nv_machine.specs.Reads.{bytes_among, written_slots}
 use Rattle.nv_machine.specs.Settled.{settled, settled_nodes}
 use Rattle.nv_machine.specs.Step.{step}
@@ -119,7 +119,7 @@ read_before bytes block w r kept apart plan = record
 module _ (bytes : ℕ → List ℕ) (w : World) (actor : ℕ) (granted : Bool) (r : Running) (locks : AreLocks w) (order : IsInOrder w)
     (kept : IsKept w)
     (grown : AreGrown w) (apart : AreBlocksApart w) (there : actor < length w.actors) (is : (actor_at w actor).running ≡ Some r)
-    (e : deed_of w (Go actor granted) ≡ Commits) (plan : HasPlanNow bytes w.numbers.block w.shared r) where
+    (e : plain_change_of w (Go actor granted) ≡ Commits) (plan : HasPlanNow bytes w.numbers.block w.shared r) where
   abbrev v : World
   v = (step w (Go actor granted)).world
 

@@ -7,7 +7,7 @@ use Rattle.nv_calls.specs.declared.answer.Answer.{Answer}
 use Rattle.nv_book.specs.Book.{BookState}
 use Rattle.nv_machine.specs.Frame.{IsFramed, Lent, Stays}
 use Rattle.nv_machine.specs.Locks.{commits_at}
-use Rattle.nv_machine.specs.PlainRun.{Commits, Deed, Nothing, Numbers, Maintains, Plain, deed, deed_of, done, done_on, entered, plain_after, plain_step}
+use Rattle.nv_machine.specs.PlainRun.{Commits, PlainChange, Nothing, Numbers, Maintains, Plain, plain_change, plain_change_of, done, done_on, entered, plain_after, plain_step}
 use Rattle.nv_machine.specs.Reads.{written_slots}
 use Rattle.nv_machine.specs.Sequence.{appending}
 use Rattle.nv_machine.specs.Maintenance.{maintenance_turn}
@@ -22,22 +22,22 @@ use Rattle.nv_machine.proofs.StepWays.{After, Closes, is_last, by_last}
 use Rattle.nv_machine.proofs.StepWalk.{walk}
 
 -- the number after a deed
-abbrev counted : Deed → ℕ → ℕ
+abbrev counted : PlainChange → ℕ → ℕ
 counted Numbers n = n + 1
 counted other n = n
 
-done_counted : (d : Deed) (running : Option Running) (p : Plain) → (done d running p).commit ≡ counted d p.commit
+done_counted : (d : PlainChange) (running : Option Running) (p : Plain) → (done d running p).commit ≡ counted d p.commit
 done_counted (Maintains Make) running p = refl
 done_counted other running p = refl
 
 -- a turn leaves the book with the number after its deed
-abbrev OnNumber : Deed → Shared → Turn → Type 0
+abbrev OnNumber : PlainChange → Shared → Turn → Type 0
 OnNumber d s (Moves t h q) = t.book.commit ≡ counted d s.book.commit
 OnNumber d s Waits = s.book.commit ≡ counted d s.book.commit
 OnNumber d s (Ends result t h) = t.book.commit ≡ counted d s.book.commit
 
 -- a step that is not lent the book
-same_book : (l : Lent) (d : Deed) (s : Shared) (t : Turn) → l.book ≡ false → ((n : ℕ) → n ≡ counted d n) → IsFramed l s t → OnNumber d s t
+same_book : (l : Lent) (d : PlainChange) (s : Shared) (t : Turn) → l.book ≡ false → ((n : ℕ) → n ≡ counted d n) → IsFramed l s t → OnNumber d s t
 same_book l d s (Moves t h q) e same f = ap (λ (b : BookState). b.commit) (subst (λ (b : Bool). Stays b (t.book ≡ s.book)) e f.book)
     ∙ same s.book.commit
 same_book l d s Waits e same f = same s.book.commit
@@ -101,7 +101,7 @@ deed_counted (Unpin snapshot seen) n (Ends result s h) = refl
 deed_counted other n (Ends (Ok found) s h) = refl
 deed_counted other n (Ends (Err fault) s h) = refl
 
-after_counted : (d : Deed) (s : Shared) (t : Turn) → counted d s.book.commit ≡ s.book.commit
+after_counted : (d : PlainChange) (s : Shared) (t : Turn) → counted d s.book.commit ≡ s.book.commit
     → AfterTurn (λ u h. u.book.commit ≡ s.book.commit) t → OnNumber d s t
 after_counted d s (Moves u h r) e on = on ∙ sym e
 after_counted d s Waits e on = sym e
@@ -118,7 +118,7 @@ snapshot_counted step a granted s h r =
       same other = refl
 
 kind_counted : (k : Next) (block a : ℕ) (granted : Bool) (s : Shared) (h : HandState) (r : Running)
-    → OnNumber (deed k (written_slots r) (kind_turn k block a granted s h r)) s (kind_turn k block a granted s h r)
+    → OnNumber (plain_change k (written_slots r) (kind_turn k block a granted s h r)) s (kind_turn k block a granted s h r)
 kind_counted Enter block a granted s h r = enter_counted s block a granted h r
 kind_counted (Append place) block a granted s h r = refl
 kind_counted Open block a granted s h r = refl
@@ -130,13 +130,13 @@ kind_counted other block a granted s h r = same_book _ Nothing s _ refl (λ n. r
 
 -- ---- events
 
-turned_counted : (d : Deed) (t : Turn) (actor : ℕ) (w : World) → OnNumber d w.shared t
+turned_counted : (d : PlainChange) (t : Turn) (actor : ℕ) (w : World) → OnNumber d w.shared t
     → (turned t actor w).world.shared.book.commit ≡ counted d w.shared.book.commit
 turned_counted d (Moves s h r) actor w on = on
 turned_counted d other actor w on = on
 
-event_counted : (w : World) (e : Event) → (step w e).world.shared.book.commit ≡ counted (deed_of w e) w.shared.book.commit
-event_counted w e = event_deed (λ (d : Deed) (v : World). v.shared.book.commit ≡ counted d w.shared.book.commit) w refl e
+event_counted : (w : World) (e : Event) → (step w e).world.shared.book.commit ≡ counted (plain_change_of w e) w.shared.book.commit
+event_counted w e = event_deed (λ (d : PlainChange) (v : World). v.shared.book.commit ≡ counted d w.shared.book.commit) w refl e
     (λ actor c there is. refl)
     (λ actor granted r there is. turned_counted _ (turn_at w actor granted r) actor w
     (kind_counted r.next w.numbers.block actor granted w.shared (actor_at w actor).hand r))
@@ -145,4 +145,4 @@ pub events_counted : (events : List Event) (w : World) (p : Plain) → w.shared.
     → (after w events).shared.book.commit ≡ (plain_after w events p).commit
 events_counted [] w p e = e
 events_counted (event ∷ events) w p e = events_counted events (step w event).world (plain_step w event p)
-    (event_counted w event ∙ ap (counted (deed_of w event)) e ∙ sym (done_counted (deed_of w event) _ p))
+    (event_counted w event ∙ ap (counted (plain_change_of w event)) e ∙ sym (done_counted (plain_change_of w event) _ p))

@@ -17,7 +17,7 @@ use Rattle.nv_log.specs.Chain.{ChainState}
 use Rattle.nv_journal.specs.declared.old_tail.OldTail.{OldTail}
 use Rattle.nv_machine.specs.Grown.{HasGrown, IsAllSettled, fresh_entries}
 use Rattle.nv_machine.specs.Kept.{AreClosed, AreLogsKept, HasNoted}
-use Rattle.nv_machine.specs.Kinds.{append_turn, close_turn, entries_for, old_tails, open_turn, publish_turn, retire_turn, retired_book, retired_cell, with_entries, with_pages}
+use Rattle.nv_machine.specs.Kinds.{append_turn, close_turn, entries_for, old_tails, open_turn, publish_turn, retire_turn, retired_book, retired_cell, with_entries, with_log_pages}
 use Rattle.nv_machine.specs.Locks.{AreSlots}
 use Rattle.nv_machine.specs.Reads.{is_written, slot_at, written_slots}
 use Rattle.nv_machine.specs.Sequence.{appending, closing, publishing, retiring}
@@ -54,7 +54,7 @@ pub tail_keeps : (entries : List Entry) (blocks : List BlockValue) (cell : CellS
 tail_keeps [] blocks cell = refl
 tail_keeps (e ∷ entries) blocks cell = tail_keeps entries _ _
 
-pub paged_tail : (pages : List BlockValue) (cell : CellState) → (with_pages pages cell).chain.tail ≡ cell.chain.tail
+pub paged_tail : (pages : List BlockValue) (cell : CellState) → (with_log_pages pages cell).chain.tail ≡ cell.chain.tail
 paged_tail [] cell = refl
 paged_tail (b ∷ pages) cell = paged_tail pages _
 
@@ -178,7 +178,7 @@ module _ (a : ℕ) (s : Shared) (h : HandState) (r : Running) (kept : AreLogsKep
           (λ ino ne q e. g.tails ino q (sym (there ino ne) ∙ e))),
     ) where
       new : CellState
-      new = with_entries (entries_for r slot) h.blocks (with_pages (take pages h.pages) cell)
+      new = with_entries (entries_for r slot) h.blocks (with_log_pages (take pages h.pages) cell)
 
       here : has (take (place + 1) written) slot ≡ true
       here = has_take place written slot inside ∙ ap (λ (b : Bool). (has (take place written) slot || b)) (self slot)
@@ -190,10 +190,10 @@ module _ (a : ℕ) (s : Shared) (h : HandState) (r : Running) (kept : AreLogsKep
           ∙ or_false (has (take place written) ino)
 
       tail : new.chain.tail ≡ cell.chain.tail
-      tail = tail_keeps (entries_for r slot) h.blocks (with_pages (take pages h.pages) cell) ∙ paged_tail (take pages h.pages) cell
+      tail = tail_keeps (entries_for r slot) h.blocks (with_log_pages (take pages h.pages) cell) ∙ paged_tail (take pages h.pages) cell
 
       entries : new.chain.entries ≡ cell.chain.entries ++ entries_for r slot
-      entries = entries_more (entries_for r slot) h.blocks (with_pages (take pages h.pages) cell)
+      entries = entries_more (entries_for r slot) h.blocks (with_log_pages (take pages h.pages) cell)
           ∙ ap (λ (l : List Entry). l ++ entries_for r slot) (pages_keep (take pages h.pages) cell)
 
       before : cell.chain.entries ≡ settled s slot

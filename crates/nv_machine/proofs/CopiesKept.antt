@@ -12,7 +12,7 @@ use Rattle.nv_epoch.specs.SnapList.{Snapshots as Living, ids, numbers}
 use Rattle.nv_epoch.specs.declared.snapshot.Snapshot.{Snapshot}
 use Rattle.nv_epoch.proofs.Last.{contains_cases, contains_first, contains_later}
 use Rattle.nv_machine.specs.Directories.{AreTree, HasName}
-use Rattle.nv_machine.specs.PlainRun.{Copy, Deed, Maintains, Plain, deed_of, plain_step}
+use Rattle.nv_machine.specs.PlainRun.{Copy, PlainChange, Maintains, Plain, plain_change_of, plain_step}
 use Rattle.nv_machine.specs.Reading.{AreCopied}
 use Rattle.nv_machine.specs.Settled.{settled_copies, settled_nodes}
 use Rattle.nv_machine.specs.Step.{step}
@@ -25,7 +25,7 @@ use Rattle.nv_machine.proofs.SnapshotCopies.{AreAlike, Lives, deed_alike, lived,
 
 -- ---- who lives after a deed lived before it, but for a new snapshot
 
-pub work_lives : (d : Deed) (l : Living) (n : ℕ) → is_make d ≡ false → Lives (snaps_after d l) n → Lives l n
+pub work_lives : (d : PlainChange) (l : Living) (n : ℕ) → is_make d ≡ false → Lives (snaps_after d l) n → Lives l n
 work_lives (Maintains Make) l n e is = cc
 work_lives (Maintains (Drop snapshot)) l n e is = lived_then l n snapshot is
 work_lives (Maintains (Pin snapshot)) l n e is = lived l n snapshot (λ pins. pins + 1) is
@@ -94,16 +94,16 @@ module _ (inodes : ℕ) (s : Shared) where
 pub stays : (g : GeometryNumbers) (w : World) (e : Event) → IsReadable g w → IsReadable g (step w e).world → AreBare w → (n : ℕ)
     → Contains (ids (step w e).world.shared.book.snaps) n → (handle : Handle)
     → settled_copies (step w e).world.shared n handle ≡ settled_copies w.shared n handle
-stays g w e a b bare n lives handle = go (is_make (deed_of w e)) refl where
+stays g w e a b bare n lives handle = go (is_make (plain_change_of w e)) refl where
   v : Shared
   v = (step w e).world.shared
 
-  go : (c : Bool) → is_make (deed_of w e) ≡ c → settled_copies v n handle ≡ settled_copies w.shared n handle
+  go : (c : Bool) → is_make (plain_change_of w e) ≡ c → settled_copies v n handle ≡ settled_copies w.shared n handle
   go true make = make_copies w e make n handle
   go false other =
       event_copies g w e a b n
       (lives-from_pins w.shared.book.snaps.living n
-      (work_lives (deed_of w e) w.shared.book.snaps n other
+      (work_lives (plain_change_of w e) w.shared.book.snaps n other
       (subst (λ (l : Living). Lives l n) (event_snaps w e bare) (pins_at-lives v.book.snaps.living n lives)))) lives handle
 
 module _ (g : GeometryNumbers) (inodes : ℕ) (w : World) (e : Event) (a : IsReadable g w) (b : IsReadable g (step w e).world)
@@ -122,7 +122,7 @@ module _ (g : GeometryNumbers) (inodes : ℕ) (w : World) (e : Event) (a : IsRea
 
   before : AreAlike (ReadsAs inodes w.shared) v.book.snaps.living (plain_step w e p).copies
   before = subst (λ (l : Living). AreAlike (ReadsAs inodes w.shared) l.living (plain_step w e p).copies) (sym (event_snaps w e bare))
-      (deed_alike (ReadsAs inodes w.shared) (deed_of w e) _ w.shared.book.snaps p epoch (λ is. made) are)
+      (deed_alike (ReadsAs inodes w.shared) (plain_change_of w e) _ w.shared.book.snaps p epoch (λ is. made) are)
 
   pub event_alike : AreAlike (ReadsAs inodes v) v.book.snaps.living (plain_step w e p).copies
   event_alike =

@@ -16,7 +16,7 @@ use Rattle.nv_journal.specs.declared.old_tail.OldTail.{OldTail}
 use Rattle.nv_cell.specs.Cell.{CellState}
 use Rattle.nv_machine.specs.Locks.{commits_at}
 use Rattle.nv_machine.specs.Order.{AreLogsOrdered}
-use Rattle.nv_machine.specs.PlainRun.{Commits, Deed, Nothing, Numbers, Maintains, deed as deed_in, deed_of, done_on, entered}
+use Rattle.nv_machine.specs.PlainRun.{Commits, PlainChange, Nothing, Numbers, Maintains, plain_change as deed_in, plain_change_of, done_on, entered}
 use Rattle.nv_machine.specs.Reads.{bytes_among, written_slots}
 use Rattle.nv_machine.specs.Settled.{node_by, settled, settled_copies, settled_nodes}
 use Rattle.nv_machine.specs.Step.{kind_turn, step}
@@ -30,7 +30,7 @@ abbrev pub is_make_step : MaintenanceStep → Bool
 is_make_step Make = true
 is_make_step other = false
 
-abbrev pub is_make : Deed → Bool
+abbrev pub is_make : PlainChange → Bool
 is_make (Maintains step) = is_make_step step
 is_make other = false
 
@@ -74,8 +74,8 @@ made_keeps k block a granted s h r e =
     subst (λ (n : Next). AfterTurn (λ (t : Shared) (x : HandState). Leaves s t) (kind_turn n block a granted s h r)) (sym e)
     (turn_keeps (λ (t : Shared) (x : HandState). Leaves s t) (Maintenance Make) block a granted s h r (refl, refl) (refl, refl))
 
-pub event_leaves : (w : World) (e : Event) → is_make (deed_of w e) ≡ true → Leaves w.shared (step w e).world.shared
-event_leaves w e = event_deed (λ (d : Deed) (v : World). is_make d ≡ true → Leaves w.shared v.shared) w (λ make. cc) e
+pub event_leaves : (w : World) (e : Event) → is_make (plain_change_of w e) ≡ true → Leaves w.shared (step w e).world.shared
+event_leaves w e = event_deed (λ (d : PlainChange) (v : World). is_make d ≡ true → Leaves w.shared v.shared) w (λ make. cc) e
     (λ actor c there is make. cc)
     (λ actor granted r there is make. turned_shared (Leaves w.shared) (turn_at w actor granted r) actor w (refl, refl)
     (made_keeps r.next w.numbers.block actor granted w.shared (actor_at w actor).hand r
@@ -84,7 +84,7 @@ event_leaves w e = event_deed (λ (d : Deed) (v : World). is_make d ≡ true →
 abbrev copies_by : List CellState → List (List OldTail) → Shared → ℕ → Handle → Option NodeCopy
 copies_by cells journals s = settled_copies (record s { cells = cells; book = record s.book { journals = journals } })
 
-pub make_copies : (w : World) (e : Event) → is_make (deed_of w e) ≡ true → (epoch : ℕ) (handle : Handle)
+pub make_copies : (w : World) (e : Event) → is_make (plain_change_of w e) ≡ true → (epoch : ℕ) (handle : Handle)
     → settled_copies (step w e).world.shared epoch handle ≡ settled_copies w.shared epoch handle
 make_copies w e made epoch handle =
     let both = event_leaves w e made in

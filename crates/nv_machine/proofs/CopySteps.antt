@@ -24,7 +24,7 @@ use Rattle.nv_entry.specs.declared.item.Entry.{Entry}
 use Rattle.nv_epoch.specs.SnapList.{ids}
 use Rattle.nv_log.specs.Chain.{ChainState}
 use Rattle.nv_machine.specs.Grown.{HasGrown, is_behind}
-use Rattle.nv_machine.specs.Kinds.{entries_for, first_killed, with_entries, with_pages}
+use Rattle.nv_machine.specs.Kinds.{entries_for, first_killed, with_entries, with_log_pages}
 use Rattle.nv_machine.specs.Locks.{commits_at}
 use Rattle.nv_machine.specs.Reads.{pages_needed, slot_at, written_slots}
 use Rattle.nv_machine.specs.World.{Append, cell_at, HandState, Next, Open, Publish, Release, Retire, Running, Shared, Maintenance}
@@ -141,13 +141,13 @@ entries_later epoch r ino log lt = up_to-append epoch log (entries_for r ino) (a
 
 append_continues : (epoch : ℕ) (entries : List Entry) (bs pages : List BlockValue) (cell : CellState)
     → up_to epoch (cell.chain.entries ++ entries) ≡ up_to epoch cell.chain.entries
-    → Continues epoch cell (with_entries entries bs (with_pages pages cell))
+    → Continues epoch cell (with_entries entries bs (with_log_pages pages cell))
 append_continues epoch entries bs pages cell later =
     let w = append_wider entries bs pages cell in
     record {
       block = w.block;
       generation = w.generation;
-      log = ap (up_to epoch) (entries_more entries bs (with_pages pages cell)
+      log = ap (up_to epoch) (entries_more entries bs (with_log_pages pages cell)
           ∙ ap (λ (l : List Entry). l ++ entries) (pages_keep pages cell)) ∙ later;
       same = λ n x y e q. same_Some x y (sym (w.blocks n x e) ∙ q);
     }

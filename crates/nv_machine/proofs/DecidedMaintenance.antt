@@ -6,7 +6,7 @@ use Rattle.nv_calls.specs.declared.call.Call.{Call}
 use Rattle.nv_machine.specs.EndsDecided.{decides}
 use Rattle.nv_machine.specs.Locks.{commits_at}
 use Rattle.nv_machine.specs.Step.{kind_turn, step}
-use Rattle.nv_machine.specs.World.{Append, ReturnNumber, Close, Ending, Ends, Give, HandState, Leave, Moves, Next, Open, Overtaken, Publish, Retire, Running, Shared, Maintenance, Turn, Unlock, Waits}
+use Rattle.nv_machine.specs.World.{Append, ReturnNumber, Close, Ending, Ends, Give, HandState, Leave, Moves, Next, Open, BoundAnew, Publish, Retire, Running, Shared, Maintenance, Turn, Unlock, Waits}
 use Rattle.nv_machine.proofs.NextSteps.{Untold}
 use Rattle.nv_machine.proofs.MaintenanceTurns.{done_keeps, fair_for, is_fair, is_quiet, snapshot_any}
 use Rattle.nv_machine.proofs.StepWays.{After, Going, Rests}
@@ -44,7 +44,7 @@ rests_quiet = record {
   lasts = λ none gone. record { told = λ full. tt; picks = λ d left drains some. (refl, refl) };
 }
 
-unlock_fair : (place : ℕ) (e : Ending) → is_fair (Unlock place) e ≡ true → e ≡ Overtaken → ⊥
+unlock_fair : (place : ℕ) (e : Ending) → is_fair (Unlock place) e ≡ true → e ≡ BoundAnew → ⊥
 unlock_fair place e fair over = false≢true (sym (ap (is_fair (Unlock place)) over) ∙ fair)
 
 pub quiet_kind : (k : Next) (block a : ℕ) (granted : Bool) (s : Shared) (h : HandState) (r : Running) → is_quiet k ≡ true

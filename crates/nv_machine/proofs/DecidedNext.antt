@@ -11,7 +11,7 @@ use Rattle.nv_machine.specs.Answered.{answer_of}
 use Rattle.nv_machine.specs.EndsDecided.{is_maintenance}
 use Rattle.nv_machine.specs.Kinds.{result_by}
 use Rattle.nv_machine.specs.Sequence.{Visits, appending, beginning, closing, locking, looking, opening, publishing, retiring}
-use Rattle.nv_machine.specs.World.{Answers, Append, ReturnNumber, Check, Close, Drains, Ending, Give, HandState, Leave, Lock, Look, Next, Number, Open, Overtaken, Publish, Refuses, Retire, Running, Shared, Maintenance, Turn, Unlock, Visit, go_to, Cleans}
+use Rattle.nv_machine.specs.World.{Answers, Append, ReturnNumber, Check, Close, Drains, Ending, Give, HandState, Leave, Lock, Look, Next, Number, Open, BoundAnew, Publish, Refuses, Retire, Running, Shared, Maintenance, Turn, Unlock, Visit, go_to, Cleans}
 use Rattle.nv_machine.proofs.LoopSteps.{by_test, either, locking_any, looking_any}
 use Rattle.nv_machine.proofs.StepWays.{AfterBy, EndsBy, Going, Lasts, Overs, Rests, Telling, by_taking, is_maintained, is_taking}
 use Rattle.nv_calls.specs.declared.call.Call.TheVariants as call
@@ -44,7 +44,7 @@ Stage (Look place) e c = IsNoVisit c
 Stage (Lock place) e c = IsNoVisit c
 Stage Check e c = IsNoVisit c
 Stage Visit e c = beginning c ≡ Visits
-Stage (Unlock place) e c = IsLastOf e c × (e ≡ Overtaken → IsNoVisit c)
+Stage (Unlock place) e c = IsLastOf e c × (e ≡ BoundAnew → IsNoVisit c)
 Stage (Give cpu) e c = IsLastOf e c
 Stage ReturnNumber e c = IsLastOf e c
 Stage (Maintenance step) e c = ⊥
@@ -104,7 +104,7 @@ module _ {d : List Answer} {r : Running} {e : Ending} (last : IsLastOf e r.call)
     lasts = λ none gone. lasts_told;
   }
 
-  module _ (none : e ≡ Overtaken → IsNoVisit r.call) where
+  module _ (none : e ≡ BoundAnew → IsNoVisit r.call) where
     pub overs_told : {s : Shared} {h : HandState} → Overs (ToldGoes d) (ToldEnds d) s h r e
     overs_told = record {
       again = λ n over some. record { told = is ∙ ap (λ (x : Ending). told_by x (answer_of r)) over; stage = none over };

@@ -13,7 +13,7 @@ use Rattle.nv_machine.specs.EndsDecided.{decided, decided_in, decision_of, is_ma
 use Rattle.nv_machine.specs.Hands.{HandOf}
 use Rattle.nv_machine.specs.Kept.{Knows, KnowsOf}
 use Rattle.nv_machine.specs.Locks.{commits_at}
-use Rattle.nv_machine.specs.PlainRun.{Commits, actor_of, deed_of}
+use Rattle.nv_machine.specs.PlainRun.{Commits, actor_of, plain_change_of}
 use Rattle.nv_machine.specs.Reads.{slots_of, written_slots}
 use Rattle.nv_machine.specs.Sequence.{Beginning, Locks, Maintains, Visits, beginning, begun, nothing_looked}
 use Rattle.nv_machine.specs.Settled.{settled_nodes}
@@ -302,7 +302,7 @@ module _ (g : GeometryNumbers) (start : World) (records : List Record) (events :
 
   -- what commits has something to change
   pub commits_something : (granted : Bool) (r : Running) → actor < length w.actors → (actor_at w actor).running ≡ Some r
-      → deed_of w (Go actor granted) ≡ Commits → 0 < length (effect (node_in (settled_nodes w.shared)) r.made r.call)
+      → plain_change_of w (Go actor granted) ≡ Commits → 0 < length (effect (node_in (settled_nodes w.shared)) r.made r.call)
   commits_something granted r there is e =
       let block = w.numbers.block in
       let taken : Allocation = record { made = r.made; runs = [] } in

@@ -27,7 +27,7 @@ use Rattle.nv_machine.specs.Reads.{copies, nodes, written_slots}
 use Rattle.nv_machine.specs.Sequence.{Visits, appending, beginning, nothing_looked, publishing, retiring}
 use Rattle.nv_machine.specs.Settled.{settled, settled_nodes}
 use Rattle.nv_machine.specs.Step.{ending_at, handle_at, is_numbered, kind_turn, made_in, same_looked, visit_grows, with_made}
-use Rattle.nv_machine.specs.World.{Answers, Append, ReturnNumber, Check, Close, Draining, Drains, Ending, Ends, Enter, Give, HandState, Leave, Lock, Look, Moves, Next, Number, Open, Overtaken, Publish, Ready, Refuses, Retire, Running, Shared, Maintenance, TakeBlocks, TakeLogPages, Turn, Unlock, Visit, Waits, cell_at, go_to, owner_at, Cleans}
+use Rattle.nv_machine.specs.World.{Answers, Append, ReturnNumber, Check, Close, Draining, Drains, Ending, Ends, Enter, Give, HandState, Leave, Lock, Look, Moves, Next, Number, Open, BoundAnew, Publish, Ready, Refuses, Retire, Running, Shared, Maintenance, TakeBlocks, TakeLogPages, Turn, Unlock, Visit, Waits, cell_at, go_to, owner_at, Cleans}
 use Rattle.nv_machine.proofs.EndingsStay.{no_node_tells}
 use Rattle.nv_machine.proofs.DecidedReads.{ending_settled, settled_ending}
 use Rattle.nv_machine.proofs.DecidedNext.{IsNoVisit, IsTold, OnTold, ToldEnds, ToldGoes, appending_before, before_told, behind_told, denied_told, ends_told, lasts_told, locking_told, looking_told, no_visit, overs_told, plain_visit, rests_told, retiring_behind, several_before, single_behind, taking_told, told_by}
@@ -195,7 +195,7 @@ module _ (block a cpu : ℕ) (s : Shared) (h : HandState) (r : Running) where
   check_is false None x before is same e = e
   check_is false (Some (Refuses fault)) x before is same e = e
   check_is false (Some (Drains draining)) x before is same e = e
-  check_is false (Some Overtaken) x before is same e = e
+  check_is false (Some BoundAnew) x before is same e = e
   check_is false (Some (Cleans cleaned)) x before is same e = e
   check_is true other x before is same e = cc
 

@@ -44,7 +44,7 @@ use Rattle.nv_machine.specs.Directories.{AreTree, HasName, HaveOneName}
 use Rattle.nv_machine.specs.FitsNow.{bytes_in}
 use Rattle.nv_machine.specs.Format.{formatted}
 use Rattle.nv_machine.specs.Hands.{makes_inode}
-use Rattle.nv_machine.specs.PlainRun.{Commits, deed_of, keeps_nodes, root_alone}
+use Rattle.nv_machine.specs.PlainRun.{Commits, plain_change_of, keeps_nodes, root_alone}
 use Rattle.nv_machine.specs.Sequence.{beginning}
 use Rattle.nv_machine.specs.Settled.{settled_nodes}
 use Rattle.nv_machine.specs.Starts.{IsStart}
@@ -222,13 +222,13 @@ abbrev nodes_of : World → Handle → Option NodeCopy
 nodes_of w = node_in (settled_nodes w.shared)
 
 module _ (g : GeometryNumbers) (w : World) (known : IsKnown g w) (tree : AreTree (nodes_of w)) where
-  stays_tree : (e : Event) → keeps_nodes (deed_of w e) ≡ true → AreTree (nodes_of (step w e).world)
+  stays_tree : (e : Event) → keeps_nodes (plain_change_of w e) ≡ true → AreTree (nodes_of (step w e).world)
   stays_tree e keeps =
       let k = known.reached in
       subst (λ n. AreTree (node_in n)) (sym (fun_ext (nodes_stay w e k.locks k.order k.kept k.apart keeps))) tree
 
   commit_tree : (actor : ℕ) (granted : Bool) (r : Running) → actor < length w.actors → (actor_at w actor).running ≡ Some r
-      → deed_of w (Go actor granted) ≡ Commits → AreTree (nodes_of (step w (Go actor granted)).world)
+      → plain_change_of w (Go actor granted) ≡ Commits → AreTree (nodes_of (step w (Go actor granted)).world)
   commit_tree actor granted r there is e =
       let k = known.reached in
       let nodes = settled_nodes w.shared in

@@ -15,7 +15,7 @@ use Rattle.nv_machine.specs.PlainRun.{actor_of}
 use Rattle.nv_machine.specs.Reading.{releases, releases_at, releases_in, releases_of}
 use Rattle.nv_machine.specs.Maintenance.{maintenance_turn}
 use Rattle.nv_machine.specs.Step.{after, go_step, kind_turn, reply_of, step, turn, turned}
-use Rattle.nv_machine.specs.World.{Actor, Answers, ReturnNumber, Done, Draining, Drains, Ending, Ends, Event, Give, Go, HandState, LockPicked, Moves, Next, Overtaken, Pick, Refused, Refuses, Release, Running, Shared, MaintenanceStep, Maintenance, Start, Started, Turn, Unlock, Waits, World, actor_at, idle, Cleans}
+use Rattle.nv_machine.specs.World.{Actor, Answers, ReturnNumber, Done, Draining, Drains, Ending, Ends, Event, Give, Go, HandState, LockPicked, Moves, Next, BoundAnew, Pick, Refused, Refuses, Release, Running, Shared, MaintenanceStep, Maintenance, Start, Started, Turn, Unlock, Waits, World, actor_at, idle, Cleans}
 use Rattle.nv_machine.proofs.StepWays.{After, AfterBy, EndsBy, Going, IsFull, Lasts, Overs, Rests, Telling, any_ends}
 use Rattle.nv_machine.proofs.StepWalk.{walk_by}
 use Rattle.nv_machine.proofs.MaintenanceWalk.{step_walk_by}
@@ -31,7 +31,7 @@ abbrev pub HasReleased : ℕ → ℕ → Ending → Type 0
 HasReleased all n (Drains draining) = (draining.released ≡ n) × (draining.released + draining.left ≡ all)
 HasReleased all n (Refuses fault) = (fault ≡ out_of_memory) × (n ≡ 0)
 HasReleased all n Answers = ⊥
-HasReleased all n Overtaken = ⊥
+HasReleased all n BoundAnew = ⊥
 HasReleased all n (Cleans cleaned) = ⊥
 
 -- one more is picked, or to be picked

@@ -10,7 +10,7 @@ use Rattle.nv_machine.specs.Frame.{lent}
 use Rattle.nv_machine.specs.Kept.{IsKept, Knows, KnowsOf}
 use Rattle.nv_machine.specs.Kinds.{result_by}
 use Rattle.nv_machine.specs.Locks.{commits_at}
-use Rattle.nv_machine.specs.PlainRun.{Commits, Nothing, Numbers, deed, deed_by, deed_of, done_on, entered, keeps_nodes}
+use Rattle.nv_machine.specs.PlainRun.{Commits, Nothing, Numbers, plain_change, plain_change_by, plain_change_of, done_on, entered, keeps_nodes}
 use Rattle.nv_machine.specs.Reads.{written_slots}
 use Rattle.nv_machine.specs.Sequence.{Visits, beginning}
 use Rattle.nv_machine.specs.Step.{kind_turn, reply_of, step, turn, turned}
@@ -91,7 +91,7 @@ no_commit_on step t e = elim (done_is step t) [
 ]
 
 commit_answer : (k : Next) (block a cpu : ℕ) (granted : Bool) (s : Shared) (h : HandState) (r : Running) → Knows k block s cpu h r
-    → deed k (written_slots r) (kind_turn k block a granted s h r) ≡ Commits → OnEnd Answers r (kind_turn k block a granted s h r)
+    → plain_change k (written_slots r) (kind_turn k block a granted s h r) ≡ Commits → OnEnd Answers r (kind_turn k block a granted s h r)
 commit_answer Close block a cpu granted s h r knows e = kind_end Answers Close block a granted s h r tt knows.1 tt
 commit_answer (Publish place) block a cpu granted s h r knows e = kind_end Answers (Publish place) block a granted s h r tt knows.1 tt
 commit_answer Enter block a cpu granted s h r knows e = absurd (entered_none _ e)
@@ -120,12 +120,12 @@ goes_to_end e w actor granted r final there is waits =
     (kind_end e r.next w.numbers.block actor granted w.shared (actor_at w actor).hand r final waits.ends waits.last))
 
 pub deed_is : (b : Bool) (running : Option Running) (w : World) (actor : ℕ) (granted : Bool) (r : Running) → b ≡ true → running ≡ Some r
-    → (if b then deed_by running w actor granted else Nothing)
-    ≡ deed r.next (written_slots r) (turn w.numbers.block actor granted w.shared (actor_at w actor).hand r)
+    → (if b then plain_change_by running w actor granted else Nothing)
+    ≡ plain_change r.next (written_slots r) (turn w.numbers.block actor granted w.shared (actor_at w actor).hand r)
 deed_is b running w actor granted r there is = rw there (rw is refl)
 
 pub commits_to_answer : (w : World) (actor : ℕ) (granted : Bool) (r : Running) → IsKept w → actor < length w.actors
-    → (actor_at w actor).running ≡ Some r → deed_of w (Go actor granted) ≡ Commits → GoesTo Answers actor r (step w (Go actor granted))
+    → (actor_at w actor).running ≡ Some r → plain_change_of w (Go actor granted) ≡ Commits → GoesTo Answers actor r (step w (Go actor granted))
 commits_to_answer w actor granted r kept there is e =
     let inside = lt-ltb actor (length w.actors) there in
     subst (GoesTo Answers actor r)

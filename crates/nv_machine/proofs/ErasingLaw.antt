@@ -32,7 +32,7 @@ use Rattle.nv_machine.specs.Erasing.{IsErasedWhole, IsOnItsWay, IsOver, emptied,
 use Rattle.nv_machine.specs.Hands.{IsParted}
 use Rattle.nv_machine.specs.Held.{in_use_by, is_of_slot, killed_in, pending_at, pending_in, retention_at}
 use Rattle.nv_machine.specs.Locks.{commits_at}
-use Rattle.nv_machine.specs.Recorded.{is_kept, with_parts}
+use Rattle.nv_machine.specs.Recorded.{is_marked_kept, with_parts}
 use Rattle.nv_machine.specs.Kept.{AreClosed, Knows}
 use Rattle.nv_machine.specs.Kinds.{first_killed, retired_book, retired_cell, with_erased, with_freed}
 use Rattle.nv_machine.specs.Reads.{slot_at, written_slots}
@@ -180,7 +180,7 @@ module _ (g : GeometryNumbers) (w : World) (all : IsKnown g w) (actor place : �
             where
               once : (pair : Pair) → count (λ d. is_filed_on slot (log_of left) n d)
                   ((all_records s.book.manifests ++ more) ++ pending_in w)
-                  ≡ bit (is_kept (mark_at left.marks n))
+                  ≡ bit (is_marked_kept (mark_at left.marks n))
               once pair =
                   let p : Record → Bool = λ d. is_filed_on slot (log_of left) n d in
                   omega (

@@ -13,7 +13,7 @@ use Rattle.nv_machine.specs.Format.{formatted}
 use Rattle.nv_machine.specs.Grown.{HasGrownBy}
 use Rattle.nv_machine.specs.Hands.{makes_inode}
 use Rattle.nv_machine.specs.Kinds.{entries_for}
-use Rattle.nv_machine.specs.PlainRun.{Commits, deed_of}
+use Rattle.nv_machine.specs.PlainRun.{Commits, plain_change_of}
 use Rattle.nv_cell.specs.Readers.{is_erased, has_entry, has_inode}
 use Rattle.nv_machine.specs.Reached.{IsReached}
 use Rattle.nv_machine.specs.Reads.{pages_needed, slot_at, written_slots}
@@ -139,7 +139,7 @@ new_counted g events ino limits there =
 -- and so is a new inode's handle
 pub made_counted : (g : GeometryNumbers) (events : List Event) (actor : ℕ) (granted : Bool) (r : Running) → IsWithinLimits g
     → actor < length (after (formatted g) events).actors → (actor_at (after (formatted g) events) actor).running ≡ Some r
-    → deed_of (after (formatted g) events) (Go actor granted) ≡ Commits → makes_inode (beginning r.call) ≡ true
+    → plain_change_of (after (formatted g) events) (Go actor granted) ≡ Commits → makes_inode (beginning r.call) ≡ true
     → r.made.generation ≡ 1 + erasings r.made.ino (formatted g) events
 made_counted g events actor granted r limits there is e makes =
     let w = after (formatted g) events in

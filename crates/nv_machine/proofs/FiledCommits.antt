@@ -15,7 +15,7 @@ use Rattle.nv_entry.specs.declared.item.Item.{Item}
 use Rattle.nv_epoch.specs.SnapList.{ids}
 use Rattle.nv_log.specs.Chain.{ChainState}
 use Rattle.nv_machine.specs.Held.{killed_by_actor, killed_by_call, killed_in, killed_slots, parts_for, picked_at, picked_by_actor, picked_by_call}
-use Rattle.nv_machine.specs.Kinds.{append_turn, entries_for, first_killed, publish_turn, retire_turn, retired_cell, with_entries, with_erased, with_freed, with_pages}
+use Rattle.nv_machine.specs.Kinds.{append_turn, entries_for, first_killed, publish_turn, retire_turn, retired_cell, with_entries, with_erased, with_freed, with_log_pages}
 use Rattle.nv_machine.specs.Locks.{AreLocks}
 use Rattle.nv_machine.specs.Reads.{slot_at, written_slots}
 use Rattle.nv_machine.specs.Recorded.{with_parts}
@@ -136,7 +136,7 @@ module _ (w : World) (a : ℕ) (rs : List Record) (r : Running) (there : a < len
       → (cell_at s slot).chain.tail ≤ length (cell_at s slot).chain.entries → h.killed ≡ [] → picked_at (sequel r (Append place)) ≡ []
       → AreMarked (turned (append_turn slot pages place s h r) a w).world rs
   append_marked slot pages place next low within none picks =
-      let new = with_entries (entries_for r slot) h.blocks (with_pages (take pages h.pages) (cell_at s slot)) in
+      let new = with_entries (entries_for r slot) h.blocks (with_log_pages (take pages h.pages) (cell_at s slot)) in
       let v : World = (turned (append_turn slot pages place s h r) a w).world in
       let same : (ino : ℕ) → killed_in v ino ≡ killed_in w ino = λ ino. same_killed w a ino v.shared _ _
       (none_for (killed_slots (sequel r (Append place)) written) h.killed ino none

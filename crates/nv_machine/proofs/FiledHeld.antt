@@ -25,7 +25,7 @@ use Rattle.nv_entry.specs.declared.item.Entry.{Entry}
 use Rattle.nv_entry.proofs.Currents.{any_map, any_same}
 use Rattle.nv_epoch.specs.SnapList.{ids}
 use Rattle.nv_machine.specs.Held.{is_of_slot, killed_in}
-use Rattle.nv_machine.specs.Recorded.{is_kept, is_killed_pair, is_recorded_for, recorded_in}
+use Rattle.nv_machine.specs.Recorded.{is_marked_kept, is_killed_pair, is_recorded_for, recorded_in}
 use Rattle.nv_machine.specs.Step.{after}
 use Rattle.nv_machine.proofs.EveryWorld.{all_marked}
 use Rattle.nv_machine.proofs.WorldFacts.{log_in, recorded_all, recorded_once}
@@ -94,7 +94,7 @@ module _ (living : List ℕ) (ino epoch : ℕ) (killed : List KilledPart) (rs : 
             ∙ ap (holds snapshot) same
 
   pub held_told : (snapshot : ℕ) (recorded : List Record) → AllByRecursion (IsTold living ino block log) recorded
-      → count (is_filed_on ino log n) recorded ≡ bit (is_kept (mark_at ms n)) → Contains living snapshot
+      → count (is_filed_on ino log n) recorded ≡ bit (is_marked_kept (mark_at ms n)) → Contains living snapshot
       → list_any (λ d. is_of_slot ino d && (is_held_by snapshot d && has_name pair (name_of d))) recorded
       ≡ (holds snapshot pair && (not (is_current pair) && not (list_any (has_name pair) (map (λ (k : KilledPart). k.part) killed))))
   held_told snapshot recorded told once lives =
@@ -104,12 +104,12 @@ module _ (living : List ℕ) (ino epoch : ℕ) (killed : List KilledPart) (rs : 
       (λ d. (is_of_slot ino d && (is_held_by snapshot d && has_name pair (name_of d))) ≡ (is_filed_on ino log n d && holds snapshot pair))
       (held_so snapshot lives) recorded told)
       ∙ any_and (is_filed_on ino log n) (holds snapshot pair) recorded
-      ∙ ap (λ (b : Bool). b && holds snapshot pair) (any_of (is_filed_on ino log n) recorded (is_kept (mark_at ms n)) once)
+      ∙ ap (λ (b : Bool). b && holds snapshot pair) (any_of (is_filed_on ino log n) recorded (is_marked_kept (mark_at ms n)) once)
       ∙ by_mark (mark_at ms n) (holds snapshot pair)
       (λ out. all_at (λ s. holds s pair ≡ false) living snapshot (h.out n pair got out) lives)
       ∙ rw (current_so, killed_so) refl where
         by_mark : (m : Mark) (c : Bool) → (m ≡ Out → c ≡ false)
-            → (is_kept m && c) ≡ (c && (not (marks.is_current m) && not (is_killed m)))
+            → (is_marked_kept m && c) ≡ (c && (not (marks.is_current m) && not (is_killed m)))
         by_mark Current true out = refl
         by_mark Current false out = refl
         by_mark Killed true out = refl

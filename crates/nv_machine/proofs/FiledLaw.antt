@@ -30,7 +30,7 @@ module _ (g : GeometryNumbers) (w : World) (is_known : IsListable g w) (rs : Lis
   go_marked : (b : Bool) (running : Option Running) (actor : ℕ) (granted : Bool) → nat_lt actor (length w.actors) ≡ b
       → (actor_at w actor).running ≡ running
       → AreMarked (go_step b running actor granted w).world
-      (after_deed (if b then plain.deed_by running w actor granted else plain.Nothing) (ids w.shared.book.snaps)
+      (after_deed (if b then plain.plain_change_by running w actor granted else plain.Nothing) (ids w.shared.book.snaps)
       (retired_in w (Go actor granted) running rs))
   go_marked false None actor granted there e = m
   go_marked false (Some r) actor granted there e = absurd (omega (arith, ltb-false actor (length w.actors) there, runs_inside w actor r e))

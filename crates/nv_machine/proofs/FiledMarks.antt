@@ -23,7 +23,7 @@ use Rattle.nv_entry.specs.declared.item.Entry.{Entry}
 use Rattle.nv_epoch.specs.Holders as holders
 use Rattle.nv_epoch.proofs.Last.{none_passes}
 use Rattle.nv_machine.specs.Held.{is_of_slot}
-use Rattle.nv_machine.specs.Recorded.{is_kept}
+use Rattle.nv_machine.specs.Recorded.{is_marked_kept}
 use Rattle.nv_machine.proofs.EachElement.{all_append, all_at}
 use Rattle.nv_machine.proofs.FiledLists.{count, count_append, count_cons, one}
 use Rattle.nv_machine.proofs.Lists.{self}
@@ -52,7 +52,7 @@ pub record AreMarks (living : List ℕ) (ino epoch : ℕ) (killed : List KilledP
   pub len : length marks ≡ part_total log
   pub current : (n : ℕ) → n < part_total log → is_current (mark_at marks n) ≡ not (is_covered block log n)
   pub killed_are : (n : ℕ) → count (is_killed_on log n) killed ≡ bit (is_killed (mark_at marks n))
-  pub kept_are : (n : ℕ) → count (is_filed_on ino log n) records ≡ bit (is_kept (mark_at marks n))
+  pub kept_are : (n : ℕ) → count (is_filed_on ino log n) records ≡ bit (is_marked_kept (mark_at marks n))
   pub dying : AllByRecursion (IsDying epoch block log) killed
   pub told : AllByRecursion (IsTold living ino block log) records
   pub out : (n : ℕ) (pair : Pair) → slice_get (pairs block log) n ≡ Some pair → mark_at marks n ≡ Out
@@ -68,7 +68,7 @@ pub bit_none : (b : Bool) → bit b ≡ 0 → b ≡ false
 bit_none true e = absurd (omega (arith, e))
 bit_none false e = refl
 
-killed_not_kept : (m : Mark) → is_killed m ≡ true → is_kept m ≡ false
+killed_not_kept : (m : Mark) → is_killed m ≡ true → is_marked_kept m ≡ false
 killed_not_kept Kept e = absurd (false≢true e)
 killed_not_kept other e = refl
 
@@ -76,15 +76,15 @@ pub killed_not_current : (m : Mark) → is_killed m ≡ true → is_current m �
 killed_not_current Current e = absurd (false≢true e)
 killed_not_current other e = refl
 
-kept_not_killed : (m : Mark) → is_kept m ≡ true → is_killed m ≡ false
+kept_not_killed : (m : Mark) → is_marked_kept m ≡ true → is_killed m ≡ false
 kept_not_killed Killed e = absurd (false≢true e)
 kept_not_killed other e = refl
 
-pub kept_not_current : (m : Mark) → is_kept m ≡ true → is_current m ≡ false
+pub kept_not_current : (m : Mark) → is_marked_kept m ≡ true → is_current m ≡ false
 kept_not_current Current e = absurd (false≢true e)
 kept_not_current other e = refl
 
-pub current_not_kept : (m : Mark) → is_current m ≡ true → is_kept m ≡ false
+pub current_not_kept : (m : Mark) → is_current m ≡ true → is_marked_kept m ≡ false
 current_not_kept Kept e = absurd (false≢true e)
 current_not_kept other e = refl
 
@@ -111,7 +111,7 @@ remarked : (living : List ℕ) (ino epoch : ℕ) (killed more : List KilledPart)
     → AreMarks living ino epoch killed records block log marks → m < length marks → is_current (mark_at marks m) ≡ false
     → is_current x ≡ false
     → ((n : ℕ) → count (is_killed_on log n) more ≡ bit (is_killed (cond (m == n) x (mark_at marks n))))
-    → ((n : ℕ) → count (is_filed_on ino log n) others ≡ bit (is_kept (cond (m == n) x (mark_at marks n))))
+    → ((n : ℕ) → count (is_filed_on ino log n) others ≡ bit (is_marked_kept (cond (m == n) x (mark_at marks n))))
     → AllByRecursion (IsDying epoch block log) more → AllByRecursion (IsTold living ino block log) others
     → ((pair : Pair) → slice_get (pairs block log) m ≡ Some pair → x ≡ Out → AllByRecursion (λ s. holds s pair ≡ false) living)
     → AreMarks living ino epoch more others block log (set marks m x)
@@ -119,7 +119,7 @@ remarked living ino epoch killed more records others block log marks m x h low w
   len = length-set marks m x ∙ h.len;
   current = λ n lt. ap is_current (mark_set marks m n x low) ∙ same n (m == n) refl ∙ h.current n lt;
   killed_are = λ n. killed_now n ∙ ap (λ (y : Mark). bit (is_killed y)) (sym (mark_set marks m n x low));
-  kept_are = λ n. kept_now n ∙ ap (λ (y : Mark). bit (is_kept y)) (sym (mark_set marks m n x low));
+  kept_are = λ n. kept_now n ∙ ap (λ (y : Mark). bit (is_marked_kept y)) (sym (mark_set marks m n x low));
   dying = dying;
   told = told;
   out = λ n pair got mark. at n (m == n) refl pair got (sym (mark_set marks m n x low) ∙ mark);
@@ -199,21 +199,21 @@ module _ (living : List ℕ) (ino epoch : ℕ) (k : KilledPart) (parts : List Ki
       (λ e. record_killed living ino epoch k block log h.dying.0, tt))
       (λ pair got e. cc) where
         filed : (n : ℕ) → count (is_filed_on ino log n) (records ++ record_of ino epoch k ∷ [])
-            ≡ bit (is_kept (cond (m == n) Kept (mark_at marks n)))
+            ≡ bit (is_marked_kept (cond (m == n) Kept (mark_at marks n)))
         filed n =
             count_append (is_filed_on ino log n) records (record_of ino epoch k ∷ [])
             ∙ go (m == n) refl (h.kept_are n) (count_cons (is_filed_on ino log n) (record_of ino epoch k) []) where
               mine : is_filed_on ino log n (record_of ino epoch k) ≡ (m == n)
               mine = rw (self ino) (own n)
 
-              go : (b : Bool) → (m == n) ≡ b → count (is_filed_on ino log n) records ≡ bit (is_kept (mark_at marks n))
+              go : (b : Bool) → (m == n) ≡ b → count (is_filed_on ino log n) records ≡ bit (is_marked_kept (mark_at marks n))
                   → count (is_filed_on ino log n) (record_of ino epoch k ∷ [])
                   ≡ one (is_filed_on ino log n (record_of ino epoch k)) + count (is_filed_on ino log n) []
                   → count (is_filed_on ino log n) records + count (is_filed_on ino log n) (record_of ino epoch k ∷ [])
-                  ≡ bit (is_kept (cond b Kept (mark_at marks n)))
+                  ≡ bit (is_marked_kept (cond b Kept (mark_at marks n)))
               go true e f c =
-                  let not_yet : is_kept (mark_at marks n) ≡ false =
-                  ap (λ (i : ℕ). is_kept (mark_at marks i)) (sym (eqb-true m n e)) ∙ killed_not_kept (mark_at marks m) is_so in
+                  let not_yet : is_marked_kept (mark_at marks n) ≡ false =
+                  ap (λ (i : ℕ). is_marked_kept (mark_at marks i)) (sym (eqb-true m n e)) ∙ killed_not_kept (mark_at marks m) is_so in
                   omega (arith, f, c, ap bit not_yet, ap one (mine ∙ e))
               go false e f c = omega (arith, f, c, ap one (mine ∙ e))
 
@@ -230,13 +230,13 @@ module _ (living : List ℕ) (ino epoch : ℕ) (k : KilledPart) (parts : List Ki
         its_place : its_record.n ≡ m
         its_place = same_Some its_record.n m (sym (record_number living block log (record_of ino epoch k) is its_record) ∙ killed_number)
 
-        filed : (n : ℕ) → count (is_filed_on ino log n) records ≡ bit (is_kept (cond (m == n) Out (mark_at marks n)))
+        filed : (n : ℕ) → count (is_filed_on ino log n) records ≡ bit (is_marked_kept (cond (m == n) Out (mark_at marks n)))
         filed n = go (m == n) refl (h.kept_are n) where
-          go : (b : Bool) → (m == n) ≡ b → count (is_filed_on ino log n) records ≡ bit (is_kept (mark_at marks n))
-              → count (is_filed_on ino log n) records ≡ bit (is_kept (cond b Out (mark_at marks n)))
+          go : (b : Bool) → (m == n) ≡ b → count (is_filed_on ino log n) records ≡ bit (is_marked_kept (mark_at marks n))
+              → count (is_filed_on ino log n) records ≡ bit (is_marked_kept (cond b Out (mark_at marks n)))
           go true e f =
-              let not_yet : is_kept (mark_at marks n) ≡ false =
-              ap (λ (i : ℕ). is_kept (mark_at marks i)) (sym (eqb-true m n e)) ∙ killed_not_kept (mark_at marks m) is_so in
+              let not_yet : is_marked_kept (mark_at marks n) ≡ false =
+              ap (λ (i : ℕ). is_marked_kept (mark_at marks i)) (sym (eqb-true m n e)) ∙ killed_not_kept (mark_at marks m) is_so in
               omega (arith, f, ap bit not_yet)
           go false e f = f
 
@@ -252,16 +252,16 @@ module _ (living : List ℕ) (ino epoch : ℕ) (killed : List KilledPart) (befor
   its : (n : ℕ) → is_filed_on ino log n d ≡ (pair.n == n)
   its n = rw (mine, self ino, filed_number) refl
 
-  once : (n : ℕ) → one (pair.n == n) + count (is_filed_on ino log n) after ≡ bit (is_kept (mark_at marks n))
+  once : (n : ℕ) → one (pair.n == n) + count (is_filed_on ino log n) after ≡ bit (is_marked_kept (mark_at marks n))
   once n = omega (arith, ap one (its n), counts (is_filed_on ino log n), h.kept_are n)
 
-  pub kept_so : is_kept (mark_at marks pair.n) ≡ true
-  kept_so = bit_is (is_kept (mark_at marks pair.n)) (omega (arith, once pair.n, ap one (self pair.n)))
+  pub kept_so : is_marked_kept (mark_at marks pair.n) ≡ true
+  kept_so = bit_is (is_marked_kept (mark_at marks pair.n)) (omega (arith, once pair.n, ap one (self pair.n)))
 
   pub low_filed : pair.n < length marks
   low_filed = elim (cases_lt pair.n (length marks)) [
     | inl lt ↦ lt
-    | inr ge ↦ absurd (false≢true (ap is_kept (sym (get_or_past marks pair.n Out ge)) ∙ kept_so))
+    | inr ge ↦ absurd (false≢true (ap is_marked_kept (sym (get_or_past marks pair.n Out ge)) ∙ kept_so))
   ]
 
   pub released_marks : AllByRecursion (IsTold living ino block log) after → holder_of living d ≡ None
@@ -280,12 +280,12 @@ module _ (living : List ℕ) (ino epoch : ℕ) (killed : List KilledPart) (befor
               omega (arith, f, ap bit no)
           go false e f = f
 
-        filed : (n : ℕ) → count (is_filed_on ino log n) after ≡ bit (is_kept (cond (pair.n == n) Out (mark_at marks n)))
+        filed : (n : ℕ) → count (is_filed_on ino log n) after ≡ bit (is_marked_kept (cond (pair.n == n) Out (mark_at marks n)))
         filed n = go (pair.n == n) refl (once n) where
-          go : (b : Bool) → (pair.n == n) ≡ b → one b + count (is_filed_on ino log n) after ≡ bit (is_kept (mark_at marks n))
-              → count (is_filed_on ino log n) after ≡ bit (is_kept (cond b Out (mark_at marks n)))
+          go : (b : Bool) → (pair.n == n) ≡ b → one b + count (is_filed_on ino log n) after ≡ bit (is_marked_kept (mark_at marks n))
+              → count (is_filed_on ino log n) after ≡ bit (is_marked_kept (cond b Out (mark_at marks n)))
           go true e f =
-              let so : is_kept (mark_at marks n) ≡ true =
-              ap (λ (i : ℕ). is_kept (mark_at marks i)) (sym (eqb-true pair.n n e)) ∙ kept_so in
+              let so : is_marked_kept (mark_at marks n) ≡ true =
+              ap (λ (i : ℕ). is_marked_kept (mark_at marks i)) (sym (eqb-true pair.n n e)) ∙ kept_so in
               omega (arith, f, ap bit so)
           go false e f = omega (arith, f)

@@ -16,7 +16,7 @@ use Rattle.nv_epoch.specs.SnapList.{ids}
 use Rattle.nv_machine.specs.Held.{picked_by_actor, picked_by_call}
 use Rattle.nv_machine.specs.Kept.{IsReleaseCovered, IsReleaseCoveredBy}
 use Rattle.nv_machine.specs.Order.{IsInOrder}
-use Rattle.nv_machine.specs.Recorded.{is_kept}
+use Rattle.nv_machine.specs.Recorded.{is_marked_kept}
 use Rattle.nv_machine.specs.World.{Next, Release, Running, Maintenance, World, actor_at, cell_at}
 use Rattle.nv_machine.proofs.OverEvents.{runs_inside}
 use Rattle.nv_machine.proofs.EachElement.{all_back}
@@ -43,8 +43,8 @@ filed_covered living ino epoch killed rs block log marks d is h mine pair some =
       its : is_filed_on ino log pair.n d ≡ true
       its = rw (mine, self ino, record_number living block log d is pair) (self pair.n)
 
-      kept : is_kept (mark_at marks pair.n) ≡ true
-      kept = bit_is (is_kept (mark_at marks pair.n)) (omega (arith, some, ap one its, h.kept_are pair.n))
+      kept : is_marked_kept (mark_at marks pair.n) ≡ true
+      kept = bit_is (is_marked_kept (mark_at marks pair.n)) (omega (arith, some, ap one its, h.kept_are pair.n))
 
       covered : (b : Bool) → not b ≡ false → b ≡ true
       covered true e = refl

@@ -27,7 +27,7 @@ use Rattle.nv_entry.specs.Log.{IsLog, pairs}
 use Rattle.nv_entry.specs.declared.held.Pair.{Pair}
 use Rattle.nv_entry.specs.declared.item.Entry.{Entry}
 use Rattle.nv_machine.specs.Held.{is_of_slot}
-use Rattle.nv_machine.specs.Recorded.{is_kept}
+use Rattle.nv_machine.specs.Recorded.{is_marked_kept}
 use Rattle.nv_machine.proofs.EachElement.{all_append, all_weaker}
 use Rattle.nv_machine.proofs.FiledLists.{count, count_append, count_cons, count_same, one}
 use Rattle.nv_machine.proofs.FiledMarks.{AreMarks, IsDying, IsTold, bit_none, current_not_kept, is_filed_on, is_killed_on, pair_low}
@@ -201,10 +201,10 @@ module _ (block : ℕ) (es : List Entry) (tail : ℕ) (is : IsLog es) where
     was_not_killed n = bit_none (is_killed (mark_at marks n)) (sym (h.killed_are n))
 
     -- what dies was current, or has had no mark
-    was_not_kept : (n : ℕ) → dies_now n ≡ true → is_kept (mark_at marks n) ≡ false
+    was_not_kept : (n : ℕ) → dies_now n ≡ true → is_marked_kept (mark_at marks n) ≡ false
     was_not_kept n d = elim (cases_lt n (part_total (take tail es))) [
       | inl lt ↦ current_not_kept (mark_at marks n) (h.current n lt ∙ ap not (dead_both n d).1)
-      | inr ge ↦ ap is_kept (get_or_past marks n Out (omega (arith, ge, h.len)))
+      | inr ge ↦ ap is_marked_kept (get_or_past marks n Out (omega (arith, ge, h.len)))
     ]
 
     killed_now : (d a c : Bool) (old : Mark) → is_killed old ≡ false
@@ -214,8 +214,8 @@ module _ (block : ℕ) (es : List Entry) (tail : ℕ) (is : IsLog es) where
     killed_now false false true old e = refl
     killed_now false false false old e = refl
 
-    kept_now : (d a c : Bool) (old : Mark) → (d ≡ true → is_kept old ≡ false) → (a ≡ false → is_kept old ≡ false)
-        → bit (is_kept old) ≡ bit (is_kept (cond d Killed (cond a old (cond c Current Out))))
+    kept_now : (d a c : Bool) (old : Mark) → (d ≡ true → is_marked_kept old ≡ false) → (a ≡ false → is_marked_kept old ≡ false)
+        → bit (is_marked_kept old) ≡ bit (is_marked_kept (cond d Killed (cond a old (cond c Current Out))))
     kept_now true a c old e f = ap bit (e refl)
     kept_now false true c old e f = refl
     kept_now false false true old e f = ap bit (f refl)
@@ -286,8 +286,8 @@ module _ (block : ℕ) (es : List Entry) (tail : ℕ) (is : IsLog es) where
           records h.told)
           ∙ h.kept_are n
           ∙ kept_now (dies_now n) (nat_lt n (part_base es tail)) (nat_lt n (part_total es)) (mark_at marks n) (was_not_kept n)
-          (λ e. ap is_kept (fresh_out n e))
-          ∙ ap (λ (m : Mark). bit (is_kept m)) (sym (mark_is n));
+          (λ e. ap is_marked_kept (fresh_out n e))
+          ∙ ap (λ (m : Mark). bit (is_marked_kept m)) (sym (mark_is n));
       dying = all_dying epoch fresh (range_with_len 0 (part_total es));
       told = all_weaker (IsTold living ino block (take tail es)) (IsTold living ino block es) more_told records h.told;
       out = λ n pair got e. out_now n pair got (dies_now n) (nat_lt n (part_base es tail)) (nat_lt n (part_total es)) refl refl
@@ -337,7 +337,7 @@ module _ (living : List ℕ) (ino epoch : ℕ) (killed : List KilledPart) (recor
     kept_are = λ n. none_there n records;
     dying = rw none tt;
     told = all_weaker (λ (d : Record). d.ino ≡ ino → ⊥) (IsTold living ino block []) (λ d never e. absurd (never e)) records
-        (none_filed records h.told (λ n. h.kept_are n ∙ ap (λ (m : Mark). bit (is_kept m)) (outs n)));
+        (none_filed records h.told (λ n. h.kept_are n ∙ ap (λ (m : Mark). bit (is_marked_kept m)) (outs n)));
     out = λ n pair got e. cc;
   } where
     none : killed ≡ []

@@ -59,7 +59,7 @@ turned_listed k rs (Ends result s g) actor w h r is waits on = on
 module _ (g : GeometryNumbers) (w : World) (known : IsListable g w) (rs : List Record) (is : Listed rs w.shared) where
   go_listed : (b : Bool) (running : Option Running) (actor : ℕ) (granted : Bool) → nat_lt actor (length w.actors) ≡ b
       → (actor_at w actor).running ≡ running
-      → Listed (after_deed (if b then plain.deed_by running w actor granted else plain.Nothing) (ids w.shared.book.snaps)
+      → Listed (after_deed (if b then plain.plain_change_by running w actor granted else plain.Nothing) (ids w.shared.book.snaps)
       (retired_in w (Go actor granted) running rs)) (go_step b running actor granted w).world.shared
   go_listed false None actor granted there e = is
   go_listed false (Some r) actor granted there e = absurd (omega (arith, ltb-false actor (length w.actors) there, runs_inside w actor r e))

@@ -21,7 +21,7 @@ use Rattle.nv_cell.proofs.Publishing.{take_whole}
 use Rattle.nv_entry.specs.Blocks.{item_blocks}
 use Rattle.nv_entry.specs.Log.{IsLog}
 use Rattle.nv_entry.specs.declared.item.Entry.{Entry}
-use Rattle.nv_machine.specs.Kinds.{with_entries, with_pages}
+use Rattle.nv_machine.specs.Kinds.{with_entries, with_log_pages}
 use Rattle.nv_machine.specs.Recorded.{with_parts}
 use Rattle.nv_machine.proofs.EachElement.{all_append}
 use Rattle.nv_machine.proofs.FiledLists.{HasHolder, count, count_cons, one}
@@ -43,7 +43,7 @@ record Appends (entries : List Entry) (old new : CellState) : Type 0 where
   marks : new.marks ≡ old.marks
   block : new.block ≡ old.block
 
-pages_append : (pages : List BlockValue) (cell : CellState) → Appends [] cell (with_pages pages cell)
+pages_append : (pages : List BlockValue) (cell : CellState) → Appends [] cell (with_log_pages pages cell)
 pages_append [] cell = record { entries_are = sym (append-nil cell.chain.entries); tail = refl; marks = refl; block = refl }
 pages_append (b ∷ pages) cell =
     let more = pages_append pages (record cell { chain = record cell.chain { blocks = cell.chain.blocks ++ b ∷ [] } }) in
@@ -61,10 +61,10 @@ entries_append (e ∷ entries) bs cell =
     }
 
 appends : (entries : List Entry) (bs pages : List BlockValue) (cell : CellState)
-    → Appends entries cell (with_entries entries bs (with_pages pages cell))
+    → Appends entries cell (with_entries entries bs (with_log_pages pages cell))
 appends entries bs pages cell =
     let first = pages_append pages cell in
-    let more = entries_append entries bs (with_pages pages cell) in
+    let more = entries_append entries bs (with_log_pages pages cell) in
     record {
       entries_are = more.entries_are ∙ ap (λ (l : List Entry). l ++ entries) (first.entries_are ∙ append-nil cell.chain.entries);
       tail = more.tail ∙ first.tail;
@@ -79,9 +79,9 @@ same_log entries old new within is =
 
 pub appended_marks : (living : List ℕ) (ino epoch : ℕ) (killed : List KilledPart) (rs : List Record) (entries : List Entry)
     (bs pages : List BlockValue) (cell : CellState) → cell.chain.tail ≤ length cell.chain.entries → MarksOf living ino epoch killed rs cell
-    → MarksOf living ino epoch killed rs (with_entries entries bs (with_pages pages cell))
+    → MarksOf living ino epoch killed rs (with_entries entries bs (with_log_pages pages cell))
 appended_marks living ino epoch killed rs entries bs pages cell within h =
-    let new = with_entries entries bs (with_pages pages cell) in
+    let new = with_entries entries bs (with_log_pages pages cell) in
     let is = appends entries bs pages cell in
     subst (λ (block : ℕ). AreMarks living ino epoch killed rs block (log_of new) new.marks) (sym is.block)
     (subst (λ (log : List Entry). AreMarks living ino epoch killed rs cell.block log new.marks)
@@ -90,9 +90,9 @@ appended_marks living ino epoch killed rs entries bs pages cell within h =
 
 -- so an inode is gone, and nothing is there of it, exactly where that was so
 pub appended_gone : (entries : List Entry) (bs pages : List BlockValue) (cell : CellState) → cell.chain.tail ≤ length cell.chain.entries
-    → is_erased (with_entries entries bs (with_pages pages cell)) ≡ is_erased cell
+    → is_erased (with_entries entries bs (with_log_pages pages cell)) ≡ is_erased cell
 appended_gone entries bs pages cell within =
-    let new = with_entries entries bs (with_pages pages cell) in
+    let new = with_entries entries bs (with_log_pages pages cell) in
     let is = appends entries bs pages cell in
     ap (λ (log : List Entry). is_gone log && not (list_any is_there new.marks)) (same_log entries cell new within is)
     ∙ ap (λ (marks : List Mark). is_gone (log_of cell) && not (list_any is_there marks)) is.marks
@@ -110,7 +110,7 @@ none_fresh epoch cell last = rw last (go cell.chain.entries) where
 
 pub appended_fresh : (epoch : ℕ) (entries : List Entry) (bs pages : List BlockValue) (cell : CellState)
     → cell.chain.tail ≤ length cell.chain.entries → AllByRecursion (λ (e : Entry). e.epoch ≡ epoch) entries → AreFresh epoch cell
-    → AreFresh epoch (with_entries entries bs (with_pages pages cell))
+    → AreFresh epoch (with_entries entries bs (with_log_pages pages cell))
 appended_fresh epoch entries bs pages cell within new old =
     let is = appends entries bs pages cell in
     rw (is.tail, is.entries_are, drop-append-le cell.chain.tail cell.chain.entries entries within)

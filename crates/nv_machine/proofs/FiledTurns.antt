@@ -152,7 +152,7 @@ pub record CanList (k : Next) (s : Shared) (h : HandState) (r : Running) : Type 
 
 -- the list after a step of this kind, where the turn is this
 abbrev pub list_after : Next → Shared → HandState → Running → Turn → List Record → List Record
-list_after k s h r t rs = after_deed (plain.deed k (written_slots r) t) (ids s.book.snaps) (after_retire k s h r rs)
+list_after k s h r t rs = after_deed (plain.plain_change k (written_slots r) t) (ids s.book.snaps) (after_retire k s h r rs)
 
 module _ (block a : ℕ) (granted : Bool) (rs : List Record) (s : Shared) (h : HandState) (r : Running) (is : Listed rs s) where
   -- a kind that leaves what is filed

@@ -35,7 +35,7 @@ use Rattle.nv_machine.specs.Hands.{makes_inode}
 use Rattle.nv_machine.specs.Kept.{AreApart}
 use Rattle.nv_machine.specs.Locks.{commits_at}
 use Rattle.nv_machine.specs.Numbers.{all_blocks, free_of, held_by_actor, used_blocks}
-use Rattle.nv_machine.specs.PlainRun.{Commits, deed}
+use Rattle.nv_machine.specs.PlainRun.{Commits, plain_change}
 use Rattle.nv_machine.specs.Reads.{bytes_among, is_written, written_slots}
 use Rattle.nv_machine.specs.Sequence.{beginning}
 use Rattle.nv_machine.specs.Settled.{settled, settled_nodes}
@@ -244,7 +244,7 @@ module _ (bytes : ℕ → List ℕ) (block : ℕ) (s : Shared) (is : IsRead byte
 
 -- a commit point is a step at which this is known
 pub point_fits : (k : Next) (block a : ℕ) (granted : Bool) (s : Shared) (h : HandState) (r : Running)
-    → deed k (written_slots r) (kind_turn k block a granted s h r) ≡ Commits → FitsAt k block s h r
+    → plain_change k (written_slots r) (kind_turn k block a granted s h r) ≡ Commits → FitsAt k block s h r
     → (commits_at k ≡ true) × Passed block s r × Drawn block s r (AllByRecursion (IsStored s r.slots))
 point_fits Close block a granted s h r e f = (refl, f.0, f.1)
 point_fits (Publish place) block a granted s h r e f = (refl, f.0, f.1)

@@ -13,7 +13,7 @@ use Rattle.nv_entry.specs.declared.item.Item.{Item}
 use Rattle.nv_entry.specs.declared.item.Item.TheVariants.{Write}
 use Rattle.nv_journal.specs.Journal.{settled_tail}
 use Rattle.nv_machine.specs.Kept.{AreClosed, HasNoted}
-use Rattle.nv_machine.specs.Kinds.{with_entries, with_pages}
+use Rattle.nv_machine.specs.Kinds.{with_entries, with_log_pages}
 use Rattle.nv_machine.specs.Settled.{settled}
 use Rattle.nv_machine.specs.World.{Shared, cell_at, with_cell}
 use Rattle.nv_machine.proofs.CellSteps.{HaveFront, first_blocks, items_in, later_blocks, later_rest}
@@ -55,12 +55,12 @@ entries_wider [] bs cell = same_wider cell
 entries_wider (e ∷ entries) bs cell =
     wider_on cell _ _ (appended_wider e (blocks_for e.item bs) cell) (entries_wider entries (drop (length (item_blocks e.item)) bs) _)
 
-pages_wider : (pages : List BlockValue) (cell : CellState) → IsWider cell (with_pages pages cell)
+pages_wider : (pages : List BlockValue) (cell : CellState) → IsWider cell (with_log_pages pages cell)
 pages_wider [] cell = same_wider cell
 pages_wider (b ∷ pages) cell = wider_on cell _ _ (record { generation = refl; block = refl; blocks = λ n x e. e }) (pages_wider pages _)
 
 pub append_wider : (entries : List Entry) (bs pages : List BlockValue) (cell : CellState)
-    → IsWider cell (with_entries entries bs (with_pages pages cell))
+    → IsWider cell (with_entries entries bs (with_log_pages pages cell))
 append_wider entries bs pages cell = wider_on cell _ _ (pages_wider pages cell) (entries_wider entries bs _)
 
 -- ---- the blocks that an append puts there
@@ -135,13 +135,13 @@ module _ (s : Shared) (slot : ℕ) (new : CellState) (low : slot < length s.cell
 
 pub append_logs : (s : Shared) (slot : ℕ) (entries : List Entry) (bs pages : List BlockValue) → slot < length s.cells
     → AreClosed s.book.journals → (cell_at s slot).chain.tail ≤ length (cell_at s slot).chain.entries
-    → (ino : ℕ) → settled (with_cell slot (with_entries entries bs (with_pages pages (cell_at s slot))) s) ino ≡ settled s ino
+    → (ino : ℕ) → settled (with_cell slot (with_entries entries bs (with_log_pages pages (cell_at s slot))) s) ino ≡ settled s ino
 append_logs s slot entries bs pages low closed within =
     let cell = cell_at s slot in
-    let new = with_entries entries bs (with_pages pages cell) in
-    let tail : new.chain.tail ≡ cell.chain.tail = tail_keeps entries bs (with_pages pages cell) ∙ paged_tail pages cell in
+    let new = with_entries entries bs (with_log_pages pages cell) in
+    let tail : new.chain.tail ≡ cell.chain.tail = tail_keeps entries bs (with_log_pages pages cell) ∙ paged_tail pages cell in
     let more : new.chain.entries ≡ cell.chain.entries ++ entries =
-    entries_more entries bs (with_pages pages cell) ∙ ap (λ (l : List Entry). l ++ entries) (pages_keep pages cell) in
+    entries_more entries bs (with_log_pages pages cell) ∙ ap (λ (l : List Entry). l ++ entries) (pages_keep pages cell) in
     same_logs s slot new low (rw (tail, more) (take-append-le (settled_tail s.book.journals slot cell.chain.tail) cell.chain.entries entries
     (omega (arith, closed_tail s.book.journals slot cell.chain.tail closed, within))))
 

@@ -23,7 +23,7 @@ use Rattle.nv_machine.specs.Hands.{AreNumbers, HandAt, HandOf}
 use Rattle.nv_machine.specs.Kinds.{entries_for}
 use Rattle.nv_machine.specs.Locks.{HoldsIts, commits_at}
 use Rattle.nv_machine.specs.Order.{CommitsIn}
-use Rattle.nv_machine.specs.PlainRun.{Commits, deed_of}
+use Rattle.nv_machine.specs.PlainRun.{Commits, plain_change_of}
 use Rattle.nv_machine.specs.Reached.{IsReached}
 use Rattle.nv_machine.specs.Reads.{pages_needed, slot_at, slots_of, written_slots}
 use Rattle.nv_machine.specs.Sequence.{Beginning, Locks, beginning, begun, nothing_looked}
@@ -213,7 +213,7 @@ module _ (g : GeometryNumbers) (w : World) (known : IsKnown g w) (actor : ℕ) w
         (turn_keeps (λ (t : Shared) (h : HandState). AreSizes block t) r.next block actor granted s h r known.fit.sizes
         (work_sizes r.next block actor s h r b known.fit.sizes))
 
-    module _ (there : actor < length w.actors) (e : deed_of w (Go actor granted) ≡ Commits) where
+    module _ (there : actor < length w.actors) (e : plain_change_of w (Go actor granted) ≡ Commits) where
       at : (commits_at r.next ≡ true) × Passed block w.shared r × Drawn block w.shared r (AllByRecursion (IsStored w.shared r.slots))
       at = point_fits r.next block actor granted w.shared (actor_at w actor).hand r
           (sym (deed_is (nat_lt actor (length w.actors)) (actor_at w actor).running w actor granted r

@@ -12,7 +12,7 @@ use Rattle.nv_cell.proofs.Publishing.{take_whole}
 use Rattle.nv_machine.specs.Grown.{HasGrown, is_appended, is_behind}
 use Rattle.nv_machine.specs.Hands.{HandAt}
 use Rattle.nv_machine.specs.Kept.{HasNoted, IsNotedIf}
-use Rattle.nv_machine.specs.Kinds.{asked_list, blocks_left, entries_for, old_tails, with_entries, with_killed, with_pages}
+use Rattle.nv_machine.specs.Kinds.{asked_list, blocks_left, entries_for, old_tails, with_entries, with_killed, with_log_pages}
 use Rattle.nv_machine.specs.Locks.{AreSlots, held_at}
 use Rattle.nv_machine.specs.PlainRun.{Commits, Nothing, keeps_nodes}
 use Rattle.nv_machine.specs.Reads.{if_number, is_written, pages_needed, slot_at, slots_in, written_slots}
@@ -68,7 +68,7 @@ module _ (g : GeometryNumbers) (a : ℕ) (s : Shared) (h : HandState) (r : Runni
     pages = pages_needed s r.plan slot
 
     abbrev old : CellState
-    old = with_pages (take pages h.pages) (cell_at s slot)
+    old = with_log_pages (take pages h.pages) (cell_at s slot)
 
     abbrev new : CellState
     new = with_entries (entries_for r slot) h.blocks old

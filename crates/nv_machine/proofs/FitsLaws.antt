@@ -8,7 +8,7 @@ use Rattle.nv_calls.specs.Plain.{node_in, nodes_after}
 use Rattle.nv_calls.specs.Refusals.{passes}
 use Rattle.nv_machine.specs.Effects.{HasPlanNow}
 use Rattle.nv_machine.specs.FitsNow.{bytes_in, is_checked}
-use Rattle.nv_machine.specs.PlainRun.{Commits, deed_of}
+use Rattle.nv_machine.specs.PlainRun.{Commits, plain_change_of}
 use Rattle.nv_machine.specs.Settled.{settled_nodes}
 use Rattle.nv_machine.specs.Starts.{IsStart}
 use Rattle.nv_machine.specs.Step.{after, step}
@@ -46,7 +46,7 @@ module _ (g : GeometryNumbers) (start : World) (records : List Record) (events :
   abbrev w : World
   w = after start events
 
-  module _ (there : actor < length w.actors) (is : (actor_at w actor).running ≡ Some r) (e : deed_of w (Go actor granted) ≡ Commits) where
+  module _ (there : actor < length w.actors) (is : (actor_at w actor).running ≡ Some r) (e : plain_change_of w (Go actor granted) ≡ Commits) where
     -- at a commit point the plan fits the effect of its call
     pub has_plan : HasPlanNow (bytes_in w.shared) w.numbers.block w.shared r
     has_plan = fits_now g w (all_known g start records is_start events) actor granted r is there e

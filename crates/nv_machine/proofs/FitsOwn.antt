@@ -10,9 +10,9 @@ use Rattle.nv_base.specs.declared.numbers.Handle.{Handle}
 use Rattle.nv_calls.proofs.Commits.{entries-items}
 use Rattle.nv_calls.proofs.Keeps.{keeps_to_its}
 use Rattle.nv_calls.specs.AllCalls.{blocks_wanted, early, effect, looked, plan, present_in, refusal}
-use Rattle.nv_calls.specs.Locked.{KeepsToIts, handles, made_by}
+use Rattle.nv_calls.specs.Locked.{KeepsToIts, handles, handles_made_by}
 use Rattle.nv_calls.specs.Plain.{Change, node_in}
-use Rattle.nv_calls.specs.Plan.{plan_blocks, runs_of}
+use Rattle.nv_calls.specs.Plan.{plan_blocks, block_runs_of}
 use Rattle.nv_calls.specs.Refusals.{Check as Tests, passes}
 use Rattle.nv_calls.specs.Slots.{IsFree, InodeSlot, items_for, place_in}
 use Rattle.nv_calls.specs.declared.call.Call.{Call}
@@ -109,7 +109,7 @@ cover_each many locked (x ∷ list) f = (
 
 cover_made : (P : Handle → Type 0) (s : Shared) (number : Option ℕ) (made : Handle) (c : Call) (list : List Handle)
     → is_numbered (beginning c) number ≡ true → ((ino : ℕ) → number ≡ Some ino → P (made_in s (Some ino) made)) → AllByRecursion P list
-    → AllByRecursion P (made_by (made_in s number made) c ++ list)
+    → AllByRecursion P (handles_made_by (made_in s number made) c ++ list)
 cover_made P s None made (call.Create dir name mode) list e f all = cc
 cover_made P s None made (call.Mkdir dir name mode) list e f all = cc
 cover_made P s (Some ino) made (call.Create dir name mode) list e f all = (f ino refl, all)
@@ -201,7 +201,7 @@ module _ (block : ℕ) (s : Shared) (h : HandState) (r : Running)
     drawn_now : IsDrawn block (now s) r.call r.made (plan_by block s h r) fresh
     drawn_now = record {
       plan = ap (λ (numbers : List ℕ).
-          plan block (copies s) (let t : Allocation = record { made = r.made; runs = runs_of numbers } in t) r.call)
+          plan block (copies s) (let t : Allocation = record { made = r.made; runs = block_runs_of numbers } in t) r.call)
           (sym (filled_numbers (fresh_pages block (copies s) r.call) h.blocks));
       filled = record {
         before = h.blocks;

@@ -9,7 +9,7 @@ use Rattle.nv_calls.specs.AllCalls.{effect}
 use Rattle.nv_calls.specs.Plain.{PlainNode, node_in, nodes_after}
 use Rattle.nv_machine.specs.Effects.{AreSound}
 use Rattle.nv_machine.specs.FitsNow.{bytes_in}
-use Rattle.nv_machine.specs.PlainRun.{Commits, Deed, Plain, actor_of, deed_of, done, keeps_nodes, plain_after, plain_of, plain_step, Maintains, after_step}
+use Rattle.nv_machine.specs.PlainRun.{Commits, PlainChange, Plain, actor_of, plain_change_of, done, keeps_nodes, plain_after, plain_of, plain_step, Maintains, after_step}
 use Rattle.nv_machine.specs.Settled.{settled_nodes}
 use Rattle.nv_machine.specs.Starts.{IsStart}
 use Rattle.nv_machine.specs.Step.{after, step}
@@ -21,7 +21,7 @@ use Rattle.nv_machine.proofs.OverEvents.{by_points}
 use Rattle.nv_machine.proofs.FitsEvents.{IsKnown, fits_now, number_now}
 use Rattle.nv_machine.proofs.LogsKeptRuns.{nodes_stay}
 
-same_done : (d : Deed) (running : Option Running) (p : Plain) → keeps_nodes d ≡ true → (done d running p).nodes ≡ p.nodes
+same_done : (d : PlainChange) (running : Option Running) (p : Plain) → keeps_nodes d ≡ true → (done d running p).nodes ≡ p.nodes
 same_done Commits running p e = absurd (true≢false (sym e))
 same_done (Maintains what) running p e = step_nodes what p where
   step_nodes : (what : MaintenanceStep) (p : Plain) → (after_step what p).nodes ≡ p.nodes
@@ -31,14 +31,14 @@ same_done other running p e = refl
 
 module _ (g : GeometryNumbers) (w : World) (known : IsKnown g w) (p : Plain)
     (nodes : p.nodes ≡ settled_nodes w.shared) (number : w.shared.book.commit ≡ p.commit) where
-  stays_plain : (e : Event) (running : Option Running) → keeps_nodes (deed_of w e) ≡ true
-      → (done (deed_of w e) running p).nodes ≡ settled_nodes (step w e).world.shared
+  stays_plain : (e : Event) (running : Option Running) → keeps_nodes (plain_change_of w e) ≡ true
+      → (done (plain_change_of w e) running p).nodes ≡ settled_nodes (step w e).world.shared
   stays_plain e running keeps =
       let k = known.reached in
-      same_done (deed_of w e) running p keeps ∙ nodes ∙ sym (fun_ext (nodes_stay w e k.locks k.order k.kept k.apart keeps))
+      same_done (plain_change_of w e) running p keeps ∙ nodes ∙ sym (fun_ext (nodes_stay w e k.locks k.order k.kept k.apart keeps))
 
   commit_plain : (actor : ℕ) (granted : Bool) (r : Running) → actor < length w.actors → (actor_at w actor).running ≡ Some r
-      → deed_of w (Go actor granted) ≡ Commits
+      → plain_change_of w (Go actor granted) ≡ Commits
       → (done Commits (Some r) p).nodes ≡ settled_nodes (step w (Go actor granted)).world.shared
   commit_plain actor granted r there is e =
       let k = known.reached in
@@ -50,7 +50,7 @@ module _ (g : GeometryNumbers) (w : World) (known : IsKnown g w) (p : Plain)
 
   event_plain : (e : Event) → (plain_step w e p).nodes ≡ settled_nodes (step w e).world.shared
   event_plain = by_points w (λ (e : Event). (plain_step w e p).nodes ≡ settled_nodes (step w e).world.shared)
-      (λ actor granted r there is e. ap (λ (d : Deed). (done d (actor_at w actor).running p).nodes) e
+      (λ actor granted r there is e. ap (λ (d : PlainChange). (done d (actor_at w actor).running p).nodes) e
       ∙ ap (λ (o : Option Running). (done Commits o p).nodes) is ∙ commit_plain actor granted r there is e)
       (λ e keeps. stays_plain e (actor_at w (actor_of e)).running keeps)
 

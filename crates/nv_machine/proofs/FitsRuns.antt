@@ -7,7 +7,7 @@ use Rattle.nv_base.specs.declared.numbers.Handle.{Handle}
 use Rattle.nv_calls.specs.AllCalls.{IsReady, present_in}
 use Rattle.nv_calls.specs.Locked.{Agree, handles}
 use Rattle.nv_calls.specs.Plain.{PlainNode, node_in}
-use Rattle.nv_calls.specs.Plan.{AreMaximal, run_if, runs_of, stretches, with_number}
+use Rattle.nv_calls.specs.Plan.{AreMaximal, run_if, block_runs_of, stretches, with_number}
 use Rattle.nv_calls.specs.Slots.{IsFree, InodeSlot}
 use Rattle.nv_calls.specs.declared.call.Call.{Call}
 use Rattle.nv_calls.specs.declared.call.Call.TheVariants as call
@@ -78,13 +78,13 @@ made_maximal (run ∷ next ∷ runs) small h =
     subst AreMaximal (sym (f.is ∙ ap (λ (l : List BlockRun). f.one ∷ l) g.is))
     (omega (arith, h.0, f.len), (λ same. h.1 (omega (arith, same, f.start, f.len, g.start))), more)
 
-pub runs_maximal : (numbers : List ℕ) → AllByRecursion (λ n. n < 2 ^ 32) numbers → AreMaximal (runs_of numbers)
+pub runs_maximal : (numbers : List ℕ) → AllByRecursion (λ n. n < 2 ^ 32) numbers → AreMaximal (block_runs_of numbers)
 runs_maximal numbers small = made_maximal (stretches numbers) (all_end (2 ^ 32) numbers small) (are_maximal numbers)
 
 -- ---- what a call needs
 
 abbrev pub taken_of : Handle → List BlockValue → Allocation
-taken_of new fresh = record { made = new; runs = runs_of (numbers_of fresh) }
+taken_of new fresh = record { made = new; runs = block_runs_of (numbers_of fresh) }
 
 module _ (bytes : ℕ → List ℕ) (block : ℕ) (slots : ℕ → InodeSlot) (nodes : Handle → Option NodeCopy) (new : Handle) (fresh : List BlockValue)
     (read : AreRead bytes fresh) where

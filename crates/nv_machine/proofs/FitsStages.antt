@@ -6,7 +6,7 @@ use Rattle.nv_alloc.specs.Block.{BlockValue}
 use Rattle.nv_alloc.specs.Numbers.{has}
 use Rattle.nv_base.specs.declared.numbers.Handle.{Handle}
 use Rattle.nv_calls.specs.AllCalls.{blocks_wanted, looked, plan, present_in, refusal}
-use Rattle.nv_calls.specs.Locked.{Agree, SameCall, handles, locks, made_by}
+use Rattle.nv_calls.specs.Locked.{Agree, SameCall, handles, locks, handles_made_by}
 use Rattle.nv_calls.specs.Plain.{PlainNode, node_in}
 use Rattle.nv_calls.specs.Refusals.{passes}
 use Rattle.nv_calls.specs.Slots.{IsFree, InodeSlot}
@@ -81,7 +81,7 @@ made_locked many locked seen new other e all = cc
 module _ (block : ℕ) (v w : View) (c : Call) (seen : LookupResult) (new : Handle) (locked : List ℕ) (same : SameFor v w locked)
     (p : IsPassed block v c seen new locked) where
   agree : Agree v.nodes w.nodes (handles seen c)
-  agree = agree_on v w locked same (handles seen c) (all_back (IsLocked v.many locked) (made_by new c) (handles seen c) p.covers)
+  agree = agree_on v w locked same (handles seen c) (all_back (IsLocked v.many locked) (handles_made_by new c) (handles seen c) p.covers)
 
   same_call : (taken : Allocation) → SameCall block v.nodes w.nodes taken c
   same_call taken = call_same block v.nodes w.nodes taken c (subst (λ (l : LookupResult). Agree v.nodes w.nodes (handles l c))

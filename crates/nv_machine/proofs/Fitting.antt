@@ -13,7 +13,7 @@ use Rattle.nv_base.specs.declared.numbers.Handle.{Handle}
 use Rattle.nv_calls.specs.AllCalls.{blocks_wanted, effect, plan, refusal}
 use Rattle.nv_calls.specs.Locked.{KeepsToIts}
 use Rattle.nv_calls.specs.Plain.{Change, same_handle}
-use Rattle.nv_calls.specs.Plan.{plan_blocks, run_if, runs_of, stretches, with_number}
+use Rattle.nv_calls.specs.Plan.{plan_blocks, run_if, block_runs_of, stretches, with_number}
 use Rattle.nv_calls.specs.Refusals.{Check as Tests, found, passes}
 use Rattle.nv_calls.specs.Slots.{items_for}
 use Rattle.nv_calls.specs.calls.Rename.{bound_plan, move_plan, own_place, replaced_plan}
@@ -73,7 +73,7 @@ runs_few (run ∷ runs) =
       one_run run.0 run.1 (nat_lt (run.0 + run.1) (2 ^ 64)) refl,
     )
 
-pub runs_short : (numbers : List ℕ) → length (blocks_of (runs_of numbers)) ≤ length numbers
+pub runs_short : (numbers : List ℕ) → length (blocks_of (block_runs_of numbers)) ≤ length numbers
 runs_short numbers = omega (arith, runs_few (stretches numbers), weight_is numbers)
 
 -- ---- where they fit, runs have just the blocks that were taken
@@ -126,7 +126,7 @@ runs_fit many (run ∷ runs) small h =
     (one_fits run.0 run.1 (nat_lt (run.0 + run.1) (2 ^ 64)) refl (omega (arith, small, h.0)))
     ∙ ap (λ (l : List ℕ). range_with_len run.0 run.1 ++ l) (runs_fit many runs small h.1)
 
-runs_same : (many : ℕ) (numbers : List ℕ) → many < 2 ^ 64 → AllByRecursion (λ n. n < many) numbers → blocks_of (runs_of numbers) ≡ numbers
+runs_same : (many : ℕ) (numbers : List ℕ) → many < 2 ^ 64 → AllByRecursion (λ n. n < many) numbers → blocks_of (block_runs_of numbers) ≡ numbers
 runs_same many numbers small h = runs_fit many (stretches numbers) small (ends_below many numbers h) ∙ expand_is numbers
 
 -- ---- slots that rise have no more of a plan's blocks than the plan
@@ -200,7 +200,7 @@ planned_few plan slots r =
     omega (arith, length-flat_map (λ ino. flat_map item_blocks (items_for plan ino)) slots, costs_few plan slots r)
 
 pub plan_few : (block : ℕ) (nodes : Handle → Option NodeCopy) (taken : Allocation) (c : Call) (numbers : List ℕ)
-    → taken.runs ≡ runs_of numbers → length (plan_blocks (plan block nodes taken c)) ≤ length numbers
+    → taken.runs ≡ block_runs_of numbers → length (plan_blocks (plan block nodes taken c)) ≤ length numbers
 plan_few block nodes taken c numbers is =
     let keeps : KeepsToIts nodes c taken (plan block nodes taken c) = keeps_to_its block nodes taken c in
     let short = runs_short numbers in
@@ -258,7 +258,7 @@ by_plan (p ∷ q ∷ plan) slots numbers r several same =
     inl (empty_by_length (planned_blocks (p ∷ q ∷ plan) slots) (omega (arith, few, none)))
 
 pub plan_first : (block many : ℕ) (nodes : Handle → Option NodeCopy) (taken : Allocation) (c : Call) (numbers slots : List ℕ)
-    → taken.runs ≡ runs_of numbers → many < 2 ^ 64 → AllByRecursion (λ n. n < many) numbers → IsRising slots
+    → taken.runs ≡ block_runs_of numbers → many < 2 ^ 64 → AllByRecursion (λ n. n < many) numbers → IsRising slots
     → take (length (planned_blocks (plan block nodes taken c) slots)) numbers ≡ planned_blocks (plan block nodes taken c) slots
 plan_first block many nodes taken c numbers slots is small below r =
     let keeps : KeepsToIts nodes c taken (plan block nodes taken c) = keeps_to_its block nodes taken c in
@@ -330,7 +330,7 @@ all_within block count nodes taken (call.Read file offset many) few fits = tt
 all_within block count nodes taken other few fits = tt
 
 pub plan_within : (block : ℕ) (nodes : Handle → Option NodeCopy) (taken : Allocation) (c : Call) (numbers : List ℕ)
-    → taken.runs ≡ runs_of numbers → FitsFile block c (length numbers) → (ino : ℕ)
+    → taken.runs ≡ block_runs_of numbers → FitsFile block c (length numbers) → (ino : ℕ)
     → AllByRecursion IsWithinFile (items_for (plan block nodes taken c) ino)
 plan_within block nodes taken c numbers is fits ino =
     items_within (plan block nodes taken c) ino

@@ -9,7 +9,7 @@ use Rattle.nv_cell.specs.Cell.{CellState, published}
 use Rattle.nv_machine.specs.Erasing.{emptied}
 use Rattle.nv_machine.specs.Grown.{HasGrown}
 use Rattle.nv_machine.specs.Held.{killed_slots}
-use Rattle.nv_machine.specs.Kinds.{entries_for, first_killed, retired_book, retired_cell, with_entries, with_pages}
+use Rattle.nv_machine.specs.Kinds.{entries_for, first_killed, retired_book, retired_cell, with_entries, with_log_pages}
 use Rattle.nv_machine.specs.Locks.{commits_at}
 use Rattle.nv_machine.specs.Reads.{pages_needed, slot_at, written_slots}
 use Rattle.nv_machine.specs.Step.{kind_turn}
@@ -70,10 +70,10 @@ module _ (s : Shared) (h : HandState) (r : Running) (place : ℕ) (inside : plac
 
   append_gone : cell.chain.tail ≤ length cell.chain.entries → OnlyGone [] s
       → OnlyGone [] (with_cell slot
-      (with_entries (entries_for r slot) h.blocks (with_pages (take (pages_needed s r.plan slot) h.pages) cell)) s)
+      (with_entries (entries_for r slot) h.blocks (with_log_pages (take (pages_needed s r.plan slot) h.pages) cell)) s)
   append_gone within none ino =
       let pages = take (pages_needed s r.plan slot) h.pages in
-      let more = with_entries (entries_for r slot) h.blocks (with_pages pages cell) in
+      let more = with_entries (entries_for r slot) h.blocks (with_log_pages pages cell) in
       cell_set s slot more ino (λ (c : CellState). is_erased c ≡ true → false ≡ true) low
       (λ same gone. none slot (sym (appended_gone (entries_for r slot) h.blocks pages cell within) ∙ gone))
       (λ other gone. none ino gone)

@@ -11,9 +11,9 @@ use Rattle.nv_journal.specs.declared.old_tail.OldTail.{OldTail}
 use Rattle.nv_log.specs.Chain.{ChainState}
 use Rattle.nv_machine.specs.Grown.{fresh_entries}
 use Rattle.nv_machine.specs.Kept.{HasNoted, IsNotedIf}
-use Rattle.nv_machine.specs.Kinds.{entries_for, with_entries, with_pages}
+use Rattle.nv_machine.specs.Kinds.{entries_for, with_entries, with_log_pages}
 use Rattle.nv_machine.specs.Locks.{AreSlots}
-use Rattle.nv_machine.specs.PlainRun.{Commits, Deed, Nothing, deed, deed_of, keeps_nodes}
+use Rattle.nv_machine.specs.PlainRun.{Commits, PlainChange, Nothing, plain_change, plain_change_of, keeps_nodes}
 use Rattle.nv_machine.specs.Reached.{IsReached}
 use Rattle.nv_machine.specs.Reads.{pages_needed, slot_at, written_slots}
 use Rattle.nv_machine.specs.Settled.{settled}
@@ -84,7 +84,7 @@ module _ (block a : ℕ) (s : Shared) (h : HandState) (r : Running) where
       let pages = take (pages_needed s r.plan slot) h.pages in
       let low = written_inside (length s.cells) r place (inside (Append place) st) st.before.inside in
       log_lives s (work (Append place) block a s h r).shared ino
-      (wider_cells s slot (with_entries (entries_for r slot) h.blocks (with_pages pages (cell_at s slot))) low
+      (wider_cells s slot (with_entries (entries_for r slot) h.blocks (with_log_pages pages (cell_at s slot))) low
       (append_wider (entries_for r slot) h.blocks pages (cell_at s slot)) ino).generation
       (append_logs s slot (entries_for r slot) h.blocks pages low st.knows.2 (st.kept.pages slot).within ino)
 
@@ -158,7 +158,7 @@ module _ (block a : ℕ) (s : Shared) (h : HandState) (r : Running) where
   many_published false e = cc
 
   work_lives : (k : Next) (granted : Bool) → Standing k block a s h r
-      → keeps_nodes (deed k (written_slots r) (kind_turn k block a granted s h r)) ≡ true → LivesOn s (work k block a s h r).shared
+      → keeps_nodes (plain_change k (written_slots r) (kind_turn k block a granted s h r)) ≡ true → LivesOn s (work k block a s h r).shared
   work_lives (Append place) granted st keeps = append_lives place st
   work_lives Open granted st keeps = open_lives st
   work_lives (Publish place) granted st keeps = publish_lives place st (many_published (nat_lt 1 (length (written_slots r))) keeps)
@@ -167,8 +167,8 @@ module _ (block a : ℕ) (s : Shared) (h : HandState) (r : Running) where
 
 -- ---- events
 
-kept_lives : (w : World) → IsReached w → (e : Event) → keeps_nodes (deed_of w e) ≡ true → LivesOn w.shared (step w e).world.shared
-kept_lives w known e = event_deed (λ (d : Deed) (v : World). keeps_nodes d ≡ true → LivesOn w.shared v.shared) w
+kept_lives : (w : World) → IsReached w → (e : Event) → keeps_nodes (plain_change_of w e) ≡ true → LivesOn w.shared (step w e).world.shared
+kept_lives w known e = event_deed (λ (d : PlainChange) (v : World). keeps_nodes d ≡ true → LivesOn w.shared v.shared) w
     (λ keeps. same_lives w.shared) e (λ actor c there is keeps. same_lives w.shared)
     (λ actor granted r there is keeps.
     let s = w.shared in
@@ -180,7 +180,7 @@ kept_lives w known e = event_deed (λ (d : Deed) (v : World). keeps_nodes d ≡ 
 
 -- at a commit point logs grow
 point_lives : (w : World) (actor : ℕ) (granted : Bool) (r : Running) → IsReached w → actor < length w.actors
-    → (actor_at w actor).running ≡ Some r → deed_of w (Go actor granted) ≡ Commits
+    → (actor_at w actor).running ≡ Some r → plain_change_of w (Go actor granted) ≡ Commits
     → LivesOn w.shared (step w (Go actor granted)).world.shared
 point_lives w actor granted r known there is e ino =
     let both = point_shared w actor granted r known.locks known.kept known.grown there is e in

@@ -13,7 +13,7 @@ use Rattle.nv_machine.specs.Kinds.{blocks_in}
 use Rattle.nv_machine.specs.Reads.{home_from, slots_of}
 use Rattle.nv_machine.specs.Sequence.{beginning, directories, locking, looking, nothing_looked}
 use Rattle.nv_machine.specs.Step.{same_looked}
-use Rattle.nv_machine.specs.World.{Answers, Ending, HandState, Look, Next, Overtaken, Refuses, Running, Shared, Turn, empty_hand, go_to}
+use Rattle.nv_machine.specs.World.{Answers, Ending, HandState, Look, Next, BoundAnew, Refuses, Running, Shared, Turn, empty_hand, go_to}
 use Rattle.nv_machine.proofs.StepWork.{number_work}
 use Rattle.nv_machine.proofs.Homes.{AreBelow, IsFound, found_home, given_all_home, given_none}
 use Rattle.nv_machine.proofs.LoopSteps.{either, locking_any}
@@ -83,7 +83,7 @@ module _ (g : GeometryNumbers) where
         (subst (λ (o : Option ℕ). IsFound g g.cpus (blocks_in h) o) none found)
 
   pub overs_hand : {r : Running} {e : Ending} (s : Shared) (h : HandState) → GoesHome g s h → h.killed ≡ []
-      → (e ≡ Overtaken → BeginsAnew h r) → Overs (HandGoes g) HandTold s h r e
+      → (e ≡ BoundAnew → BeginsAnew h r) → Overs (HandGoes g) HandTold s h r e
   overs_hand s h goes killed o = record {
     again = λ n over some. (((o over).empty, (o over).looks), λ e. refl);
     contended = λ over none. (o over).empty;
@@ -91,7 +91,7 @@ module _ (g : GeometryNumbers) where
   }
 
   pub ends_hand : {slots : List ℕ} {r : Running} {e : Ending} (s : Shared) (h : HandState) → GoesHome g s h → h.killed ≡ []
-      → (e ≡ Overtaken → BeginsAnew h r) → EndsBy (HandGoes g) HandTold slots s h r e
+      → (e ≡ BoundAnew → BeginsAnew h r) → EndsBy (HandGoes g) HandTold slots s h r e
   ends_hand s h goes killed o = record {
     unlock = λ some. (
       (killed, λ is. record { empty = (o is).empty; looks = (o is).looks }),

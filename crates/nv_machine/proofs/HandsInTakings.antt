@@ -15,7 +15,7 @@ use Rattle.nv_calls.specs.FillPages.{filled, fresh_pages}
 use Rattle.nv_machine.specs.Reads.{copies, has_last_page, is_written, plan_by, taken_by, written_slots}
 use Rattle.nv_machine.specs.Sequence.{beginning}
 use Rattle.nv_machine.specs.Step.{ending_at, is_numbered, made_in, same_looked}
-use Rattle.nv_machine.specs.World.{Enter, HandState, Overtaken, Ready, Running, Shared}
+use Rattle.nv_machine.specs.World.{Enter, HandState, BoundAnew, Ready, Running, Shared}
 use Rattle.nv_machine.proofs.Fitting.{checked, plan_few, plan_first, plan_within, planned_few, wants_fitting}
 use Rattle.nv_machine.proofs.HandsAfterSteps.{is_empty, same_nothing}
 use Rattle.nv_machine.proofs.Homes.{AreBelow}
@@ -26,7 +26,7 @@ use Rattle.nv_machine.proofs.LocksHeld.{Before}
 
 -- a call that is overtaken has looked names up
 overtaken_looked : (early : Tests) (same : Bool) (tests : Tests) (numbered : Bool) (changes : List _)
-    → check_ending early same tests numbered changes ≡ Some Overtaken → same ≡ false
+    → check_ending early same tests numbered changes ≡ Some BoundAnew → same ≡ false
 overtaken_looked (Err fault) same tests numbered changes h = cc
 overtaken_looked (Ok passed) false tests numbered changes h = refl
 overtaken_looked (Ok passed) true (Err fault) numbered changes h = cc
@@ -39,7 +39,7 @@ or_true true h = absurd (h refl)
 or_true false h = refl
 
 pub check_overtaken : (block : ℕ) (s : Shared) (h : HandState) (r : Running) → HasTakenNone h r
-    → ending_at block s h r ≡ Some Overtaken → BeginsAnew h r
+    → ending_at block s h r ≡ Some BoundAnew → BeginsAnew h r
 check_overtaken block s h r none is =
     let bound_anew = overtaken_looked (early (copies s) r.call) (same_looked (looked (copies s) r.call) r.looked)
     (refusal block (copies s) r.call) (is_numbered (beginning r.call) h.ino)

@@ -12,7 +12,7 @@ use Rattle.nv_calls.specs.declared.answer.Answer.{Answer}
 use Rattle.nv_calls.specs.declared.answer.Answer.TheVariants as answers
 use Rattle.nv_machine.specs.Happened.{added, all_noted, happened}
 use Rattle.nv_machine.specs.Locks.{commits_at}
-use Rattle.nv_machine.specs.PlainRun.{Commits, Deed, Nothing, Numbers, Maintains, actor_of, deed, deed_of, done_on, entered}
+use Rattle.nv_machine.specs.PlainRun.{Commits, PlainChange, Nothing, Numbers, Maintains, actor_of, plain_change, plain_change_of, done_on, entered}
 use Rattle.nv_machine.specs.Reads.{written_slots}
 use Rattle.nv_machine.specs.Sequence.{appending, slots_on}
 use Rattle.nv_machine.specs.Maintenance.{maintenance_turn}
@@ -33,20 +33,20 @@ use Rattle.nv_machine.proofs.WorkKeeps.{AfterTurn, turn_keeps}
 use Rattle.nv_machine.specs.Hands.{HandOn}
 
 -- the history of what is shared, with what a deed adds
-abbrev told_after : Deed → ℕ → Shared → Account
+abbrev told_after : PlainChange → ℕ → Shared → Account
 told_after d a s = all_noted s.book.history (added d a s)
 
-abbrev Tells : Deed → ℕ → Shared → Shared → Type 0
+abbrev Tells : PlainChange → ℕ → Shared → Shared → Type 0
 Tells d a s t = t.book.history ≡ told_after d a s
 
 -- a turn leaves the history with what its deed adds
-abbrev OnHistory : Deed → ℕ → Shared → Turn → Type 0
+abbrev OnHistory : PlainChange → ℕ → Shared → Turn → Type 0
 OnHistory d a s (Moves t h r) = Tells d a s t
 OnHistory d a s Waits = Tells d a s s
 OnHistory d a s (Ends result t h) = Tells d a s t
 
 -- one whose deed adds nothing
-same_history : (d : Deed) (a : ℕ) (s : Shared) (t : Turn) → added d a s ≡ []
+same_history : (d : PlainChange) (a : ℕ) (s : Shared) (t : Turn) → added d a s ≡ []
     → AfterTurn (λ (u : Shared) (h : HandState). u.book.history ≡ s.book.history) t → OnHistory d a s t
 same_history d a s t none on = go t on where
   same : s.book.history ≡ told_after d a s
@@ -105,7 +105,7 @@ module _ (a : ℕ) (granted : Bool) (s : Shared) (h : HandState) (r : Running) w
 
 -- ---- enter
 
-abbrev if_in : Next → Deed
+abbrev if_in : Next → PlainChange
 if_in k = if commits_at k then Numbers else Nothing
 
 module _ (a : ℕ) (s : Shared) where
@@ -153,15 +153,15 @@ publish_none false a s = refl
 
 module _ (block a : ℕ) (granted : Bool) (s : Shared) (h : HandState) (r : Running) where
   file_told : (k : Next) → (work k block a s h r).shared.book.history ≡ s.book.history
-      → added (deed k (written_slots r) (kind_turn k block a granted s h r)) a s ≡ []
-      → OnHistory (deed k (written_slots r) (kind_turn k block a granted s h r)) a s (kind_turn k block a granted s h r)
+      → added (plain_change k (written_slots r) (kind_turn k block a granted s h r)) a s ≡ []
+      → OnHistory (plain_change k (written_slots r) (kind_turn k block a granted s h r)) a s (kind_turn k block a granted s h r)
   file_told k same none =
       let t = kind_turn k block a granted s h r in
-      same_history (deed k (written_slots r) t) a s t none
+      same_history (plain_change k (written_slots r) t) a s t none
       (turn_keeps (λ (u : Shared) (x : HandState). u.book.history ≡ s.book.history) k block a granted s h r refl same)
 
   kind_told : (k : Next) → IsBare k h r
-      → OnHistory (deed k (written_slots r) (kind_turn k block a granted s h r)) a s (kind_turn k block a granted s h r)
+      → OnHistory (plain_change k (written_slots r) (kind_turn k block a granted s h r)) a s (kind_turn k block a granted s h r)
   kind_told Number bare = file_told Number
       (by_number (λ (u : Shared) (x : HandState). u.book.history ≡ s.book.history) s h (λ numbers ino. refl)) refl
   kind_told Enter bare = enter_told a s block granted h r
@@ -173,17 +173,17 @@ module _ (block a : ℕ) (granted : Bool) (s : Shared) (h : HandState) (r : Runn
 
 -- ---- events
 
-turned_told : (d : Deed) (t : Turn) (actor : ℕ) (w : World) → OnHistory d actor w.shared t
+turned_told : (d : PlainChange) (t : Turn) (actor : ℕ) (w : World) → OnHistory d actor w.shared t
     → Tells d actor w.shared (turned t actor w).world.shared
 turned_told d (Moves s h r) actor w on = on
 turned_told d other actor w on = on
 
-event_told : (w : World) (e : Event) → AreBare w → Tells (deed_of w e) (actor_of e) w.shared (step w e).world.shared
+event_told : (w : World) (e : Event) → AreBare w → Tells (plain_change_of w e) (actor_of e) w.shared (step w e).world.shared
 event_told w (Start actor c) bare =
-    start_deed (λ (d : Deed) (v : World). Tells d actor w.shared v.shared) w refl (nat_lt actor (length w.actors)) (actor_at w actor).running
+    start_deed (λ (d : PlainChange) (v : World). Tells d actor w.shared v.shared) w refl (nat_lt actor (length w.actors)) (actor_at w actor).running
     actor c refl refl (λ there none. refl)
 event_told w (Go actor granted) bare =
-    go_deed (λ (d : Deed) (v : World). Tells d actor w.shared v.shared) w refl (nat_lt actor (length w.actors)) (actor_at w actor).running
+    go_deed (λ (d : PlainChange) (v : World). Tells d actor w.shared v.shared) w refl (nat_lt actor (length w.actors)) (actor_at w actor).running
     actor granted refl refl (λ r there is. turned_told _ (turn_at w actor granted r) actor w
     (kind_told w.numbers.block actor granted w.shared (actor_at w actor).hand r r.next (bare actor r is)))
 
@@ -198,7 +198,7 @@ events_told [] w bare = refl
 events_told (e ∷ events) w bare =
     events_told events (step w e).world (λ before. bare (e ∷ before))
     ∙ ap (λ (a : Account). all_noted a (happened (step w e).world events)) (event_told w e (bare []))
-    ∙ sym (noted_both (added (deed_of w e) (actor_of e) w.shared) (happened (step w e).world events) w.shared.book.history)
+    ∙ sym (noted_both (added (plain_change_of w e) (actor_of e) w.shared) (happened (step w e).world events) w.shared.book.history)
 
 -- ---- the law
 

@@ -5,7 +5,7 @@ use Rattle.std.specs.List.{AllByRecursion, list_any}
 use Rattle.std.proofs.lemmas.Bool.{le-leb, ltb-false, ltb-true, false≢true}
 use Rattle.nv_alloc.specs.Block.{AreSized, BlockValue, numbers_of}
 use Rattle.nv_alloc.specs.FreeList.{FreeBlocks, IsHomeList, is_home}
-use Rattle.nv_alloc.specs.Giving.{kept_of}
+use Rattle.nv_alloc.specs.Giving.{not_taken}
 use Rattle.nv_alloc.specs.Numbers.{times}
 use Rattle.nv_alloc.proofs.GivingLemmas.{goes_home}
 use Rattle.nv_base.specs.Homes.{home_start}
@@ -146,12 +146,12 @@ kept_given g cpu list (b ∷ bs) start end given = go (is_home list b.number) re
 pub kept_is_given : (g : GeometryNumbers) (cpu : ℕ) (list : FreeBlocks) (bs : List BlockValue) → list.start ≡ home_start g.blocks g.cpus cpu
     → list.end ≡ home_start g.blocks g.cpus (cpu + 1) → list.size ≡ g.block → AreSized g.block bs
     → ((n : ℕ) → times n (numbers_of bs) + times n (numbers_of list.blocks) ≤ 1) → AreGiven g cpu bs
-    → AreGiven g (cpu + 1) (kept_of list bs)
+    → AreGiven g (cpu + 1) (not_taken list bs)
 kept_is_given g cpu list bs start end size sized once given =
     let goes = goes_home list bs (subst (λ (n : ℕ). AreSized n bs) (sym size) sized) once in
     subst (λ (l : List BlockValue). AreGiven g (cpu + 1) l) (sym goes.kept) (kept_given g cpu list bs start end given)
 
 pub all_given : (g : GeometryNumbers) (cpu : ℕ) (list : FreeBlocks) (bs : List BlockValue) → IsHomeList g cpu list → AreSized g.block bs
     → ((n : ℕ) → times n (numbers_of bs) + times n (numbers_of list.blocks) ≤ 1) → AreGiven g cpu bs
-    → AreGiven g (cpu + 1) (kept_of list bs)
+    → AreGiven g (cpu + 1) (not_taken list bs)
 all_given g cpu list bs home sized once given = kept_is_given g cpu list bs home.start home.end home.size sized once given

@@ -20,7 +20,7 @@ use Rattle.nv_entry.proofs.SoundLogs.{empty_sound}
 use Rattle.nv_journal.specs.Journal.{settled_tail}
 use Rattle.nv_machine.specs.Effects.{IsSoundIn}
 use Rattle.nv_machine.specs.Kept.{AreApart, AreClosed, AreCovered, AreKilledIn, AreLogsKept, HasNoted, HasPages, IsNotedIf, IsPlanFor, Knows}
-use Rattle.nv_machine.specs.Kinds.{append_turn, close_turn, entries_for, first_killed, old_tails, open_turn, publish_turn, retire_turn, retired_book, retired_cell, with_entries, with_pages}
+use Rattle.nv_machine.specs.Kinds.{append_turn, close_turn, entries_for, first_killed, old_tails, open_turn, publish_turn, retire_turn, retired_book, retired_cell, with_entries, with_log_pages}
 use Rattle.nv_machine.specs.Locks.{AreSlots, is_owner}
 use Rattle.nv_machine.specs.Reads.{bytes_among, is_written, slot_at, written_slots}
 use Rattle.nv_machine.specs.Sequence.{appending, closing, opening, publishing, retiring}
@@ -170,7 +170,7 @@ module _ (block a : ℕ) (s : Shared) (h : HandState) (r : Running) (kept : AreL
       t = settled_tail s.book.journals slot cell.chain.tail
 
       new : CellState
-      new = with_entries (entries_for r slot) h.blocks (with_pages (take pages h.pages) cell)
+      new = with_entries (entries_for r slot) h.blocks (with_log_pages (take pages h.pages) cell)
 
       plan : IsPlanFor r.plan (numbers_of h.blocks)
       plan = k.3 (numbers_of h.blocks) (λ e. refl)

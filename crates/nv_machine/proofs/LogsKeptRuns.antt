@@ -13,7 +13,7 @@ use Rattle.nv_machine.proofs.BlockNumbers.{lent_settled}
 use Rattle.nv_machine.proofs.Cleanable.{cleanable}
 use Rattle.nv_machine.specs.Locks.{AreLocks, HoldsIts, commits_at, commits_by, held_at, is_owner}
 use Rattle.nv_machine.specs.Order.{IsInOrder}
-use Rattle.nv_machine.specs.PlainRun.{Deed, deed_by, deed_of, keeps_nodes}
+use Rattle.nv_machine.specs.PlainRun.{PlainChange, plain_change_by, plain_change_of, keeps_nodes}
 use Rattle.nv_machine.specs.Reads.{is_written, slots_of, written_slots}
 use Rattle.nv_machine.specs.Sequence.{Beginning, Locks, Maintains, Visits, beginning, begun, nothing_looked}
 use Rattle.nv_machine.specs.Settled.{settled_nodes}
@@ -227,7 +227,7 @@ empty_nothing h e = record { blocks = ap (λ (x : HandState). x.blocks) e; kille
 
 module _ (w : World) (locks : AreLocks w) (order : IsInOrder w) (kept : IsKept w) (apart : AreBlocksApart w) where
   stands : (actor : ℕ) (granted : Bool) (r : Running) → (actor_at w actor).running ≡ Some r
-      → OnKept (keeps_nodes (deed_by (Some r) w actor granted)) w.numbers.block actor w.shared (turn_at w actor granted r)
+      → OnKept (keeps_nodes (plain_change_by (Some r) w actor granted)) w.numbers.block actor w.shared (turn_at w actor granted r)
   stands actor granted r is =
       kept_turn r.next w.numbers.block actor granted w.shared (actor_at w actor).hand r (standing w actor r locks order kept apart is)
 
@@ -242,22 +242,22 @@ module _ (w : World) (locks : AreLocks w) (order : IsInOrder w) (kept : IsKept w
       })
       (λ actor granted r there is. turned_kept _ (turn_at w actor granted r) actor w there locks kept (stands actor granted r is))
 
-  event_nodes : (e : Event) → keeps_nodes (deed_of w e) ≡ true → SameLogs w.shared (step w e).world.shared
-  event_nodes e = event_deed (λ (d : Deed) (v : World). keeps_nodes d ≡ true → SameLogs w.shared v.shared) w
+  event_nodes : (e : Event) → keeps_nodes (plain_change_of w e) ≡ true → SameLogs w.shared (step w e).world.shared
+  event_nodes e = event_deed (λ (d : PlainChange) (v : World). keeps_nodes d ≡ true → SameLogs w.shared v.shared) w
       (λ keeps. same_logs w.shared) e (λ actor c there is keeps. same_logs w.shared)
       (λ actor granted r there is keeps. turned_nodes (turn_at w actor granted r) w.numbers.block actor w
       (subst (λ (b : Bool). OnKept b w.numbers.block actor w.shared (turn_at w actor granted r)) keeps (stands actor granted r is)))
 
-pub shapes_stay : (w : World) (e : Event) → AreLocks w → IsInOrder w → IsKept w → AreBlocksApart w → keeps_nodes (deed_of w e) ≡ true
+pub shapes_stay : (w : World) (e : Event) → AreLocks w → IsInOrder w → IsKept w → AreBlocksApart w → keeps_nodes (plain_change_of w e) ≡ true
     → (block : ℕ) → AreShaped block w.shared → AreShaped block (step w e).world.shared
 shapes_stay w e locks order kept apart same = (event_nodes w locks order kept apart e same).shaped
 
-pub nodes_stay : (w : World) (e : Event) → AreLocks w → IsInOrder w → IsKept w → AreBlocksApart w → keeps_nodes (deed_of w e) ≡ true
+pub nodes_stay : (w : World) (e : Event) → AreLocks w → IsInOrder w → IsKept w → AreBlocksApart w → keeps_nodes (plain_change_of w e) ≡ true
     → (handle : Handle) → settled_nodes (step w e).world.shared handle ≡ settled_nodes w.shared handle
 nodes_stay w e locks order kept apart same = same_nodes w.shared (step w e).world.shared
     (event_nodes w locks order kept apart e same).nodes
 
-pub sound_stays : (w : World) (e : Event) → AreLocks w → IsInOrder w → IsKept w → AreBlocksApart w → keeps_nodes (deed_of w e) ≡ true
+pub sound_stays : (w : World) (e : Event) → AreLocks w → IsInOrder w → IsKept w → AreBlocksApart w → keeps_nodes (plain_change_of w e) ≡ true
     → AreSound w.shared → AreSound (step w e).world.shared
 sound_stays w e locks order kept apart same = (event_nodes w locks order kept apart e same).sound
 

@@ -16,11 +16,11 @@ use Rattle.nv_machine.proofs.Cleanable.{IsCleanable}
 use Rattle.nv_machine.proofs.LogTails.{IsTailLast}
 use Rattle.nv_machine.specs.Locks.{AreSlots, is_owner}
 use Rattle.nv_machine.specs.Order.{AreLogsOrdered}
-use Rattle.nv_machine.specs.PlainRun.{Commits, Nothing, deed, keeps_nodes}
+use Rattle.nv_machine.specs.PlainRun.{Commits, Nothing, plain_change, keeps_nodes}
 use Rattle.nv_machine.specs.Reads.{copies, has_last_page, slot_at, written_slots}
 use Rattle.nv_machine.specs.Sequence.{beginning, locking, looking}
 use Rattle.nv_machine.specs.Step.{ending_at, is_numbered, kind_turn, made_in, same_looked}
-use Rattle.nv_machine.specs.World.{Append, ReturnNumber, Check, Close, Ending, Ends, Enter, Give, HandState, Leave, Lock, LockPicked, Look, Moves, Next, Number, Open, Overtaken, Publish, Ready, Refuses, Release, Retire, Running, Shared, Show, MaintenanceStep, Maintenance, TakeBlocks, TakeLogPages, Turn, Unlock, Visit, Waits, cell_at, go_to, no_cell, owner_at, with_book, LockCleaned, Judge, Fresh, Unlink, Compact, with_cell}
+use Rattle.nv_machine.specs.World.{Append, ReturnNumber, Check, Close, Ending, Ends, Enter, Give, HandState, Leave, Lock, LockPicked, Look, Moves, Next, Number, Open, BoundAnew, Publish, Ready, Refuses, Release, Retire, Running, Shared, Show, MaintenanceStep, Maintenance, TakeBlocks, TakeLogPages, Turn, Unlock, Visit, Waits, cell_at, go_to, no_cell, owner_at, with_book, LockCleaned, Judge, Fresh, Unlink, Compact, with_cell}
 use Rattle.nv_machine.proofs.LogsKeptByCommits.{OnKept, append_kept, close_kept, knows_appending, open_kept, publish_kept, retire_kept}
 use Rattle.nv_machine.proofs.UnlentSteps.{IsBeside, aside, is_aside}
 use Rattle.nv_machine.proofs.CallKnowledge.{KnownBy, OnKnows, closes_knows, denied_knows, locking_knows, not_overtaken, number_nothing, passed_check, ready_knows, snapshot_knows, wanted_in_file}
@@ -139,7 +139,7 @@ kept_after block a s (Ends result t h) left on = (left.0, λ e. left.1)
 
 abbrev Keeps : Next → ℕ → ℕ → Bool → Shared → HandState → Running → Type 0
 Keeps k block a granted s h r =
-    OnKept (keeps_nodes (deed k (written_slots r) (kind_turn k block a granted s h r))) block a s (kind_turn k block a granted s h r)
+    OnKept (keeps_nodes (plain_change k (written_slots r) (kind_turn k block a granted s h r))) block a s (kind_turn k block a granted s h r)
 
 slots_of_cells : (k : Next) (block a : ℕ) (s : Shared) (h : HandState) (r : Running) → Standing k block a s h r
     → AreSlots (length s.cells) r.slots
@@ -221,7 +221,7 @@ module _ (block a : ℕ) (granted : Bool) (s : Shared) (h : HandState) (r : Runn
   abbrev Knows_ : Going
   Knows_ = KnowsNext (KnownBy block (a % length s.lists))
 
-  closes_if : {t : Shared} {x : HandState} {q : Running} {e : Ending} → (e ≡ Overtaken → HasNothing x) → Closes Knows_ Untold t x q e
+  closes_if : {t : Shared} {x : HandState} {q : Running} {e : Ending} → (e ≡ BoundAnew → HasNothing x) → Closes Knows_ Untold t x q e
   closes_if none = closes_knows block (a % length s.lists) _ _ _ _ none
 
   denied : {slots : List ℕ} {t : Shared} {x : HandState} {q : Running} {fault : Fault} → EndsBy Knows_ Untold slots t x q (Refuses fault)

@@ -14,7 +14,7 @@ use Rattle.nv_machine.specs.Reads.{copies, written_slots}
 use Rattle.nv_machine.specs.Sequence.{Beginning, Locks, Looks, beginning, begun, directories, locking, looking, nothing_looked, sequel}
 use Rattle.nv_machine.specs.Starts.{AreIdle}
 use Rattle.nv_machine.specs.Step.{after, ending_at, is_numbered, kind_turn, made_in, same_looked}
-use Rattle.nv_machine.specs.World.{Actor, Append, Check, Close, Ending, Enter, Event, HandState, Lock, Look, Next, Number, Open, Overtaken, Publish, Ready, Refuses, Retire, Running, Shared, Maintenance, TakeBlocks, TakeLogPages, World, actor_at, go_to}
+use Rattle.nv_machine.specs.World.{Actor, Append, Check, Close, Ending, Enter, Event, HandState, Lock, Look, Next, Number, Open, BoundAnew, Publish, Ready, Refuses, Retire, Running, Shared, Maintenance, TakeBlocks, TakeLogPages, World, actor_at, go_to}
 use Rattle.nv_machine.proofs.RefusalCauses.{CheckCause, check_told}
 use Rattle.nv_machine.proofs.OverEvents.{Keeps, each, steady}
 use Rattle.nv_machine.proofs.LoopSteps.{Commits, appending_any, locking_any, publishing_any, retiring_any}
@@ -31,7 +31,7 @@ IsLookIn k c = (place : ℕ) → k ≡ Look place → place < length (directorie
 pub record HasLooks (r : Running) : Type 0 where
   pub place : IsLookIn r.next r.call
   pub nothing : directories r.call ≡ [] → r.looked ≡ nothing_looked
-  pub names : r.ending ≡ Overtaken → 0 < length (directories r.call)
+  pub names : r.ending ≡ BoundAnew → 0 < length (directories r.call)
 
 abbrev pub HasLooksOf : Option Running → Type 0
 HasLooksOf None = Unit {0}
@@ -112,7 +112,7 @@ P s h q = HasLooks q
 abbrev E : Result Answer Fault → Shared → HandState → Type 0
 E result s h = Unit {0}
 
-closes : (s : Shared) (h : HandState) (r : Running) (e : Ending) → HasLooks r → (e ≡ Overtaken → 0 < length (directories r.call))
+closes : (s : Shared) (h : HandState) (r : Running) (e : Ending) → HasLooks r → (e ≡ BoundAnew → 0 < length (directories r.call))
     → Closes P E s h r e
 closes s h r e has names = record {
   last = λ k is. record { place = λ p q. absurd (false≢true (ap is_last (sym q) ∙ is)); nothing = has.nothing; names = names };
@@ -140,14 +140,14 @@ alike nodes (call.Rmdir dir name) before none e = omega arith
 alike nodes (call.Rename from old to new) before none e = some_dirs from to (same_handle from to)
 alike nodes other before none e = absurd (not_alike before (none refl) e)
 
-check_names : (block : ℕ) (s : Shared) (h : HandState) (r : Running) → HasLooks r → ending_at block s h r ≡ Some Overtaken
+check_names : (block : ℕ) (s : Shared) (h : HandState) (r : Running) → HasLooks r → ending_at block s h r ≡ Some BoundAnew
     → 0 < length (directories r.call)
 check_names block s h r has e =
     let tests = refusal block (copies s) r.call in
     let first = early (copies s) r.call in
     let same = same_looked (looked (copies s) r.call) r.looked in
     let numbered = is_numbered (beginning r.call) h.ino in
-    let cause : CheckCause first same tests numbered (Some Overtaken) =
+    let cause : CheckCause first same tests numbered (Some BoundAnew) =
     subst (λ (o : Option Ending). CheckCause first same tests numbered o) e
     (check_told first same tests numbered (effect (copies s) (made_in s h.ino r.made) r.call)) in
     alike (copies s) r.call r.looked has.nothing cause.1

@@ -5,7 +5,7 @@ use Rattle.nv_base.specs.declared.fault.Fault.{Fault}
 use Rattle.nv_calls.specs.declared.answer.Answer.{Answer}
 use Rattle.nv_machine.specs.Maintenance.{maintenance_turn}
 use Rattle.nv_machine.specs.Step.{kind_turn}
-use Rattle.nv_machine.specs.World.{Ending, HandState, Next, Overtaken, Refuses, Running, Shared, MaintenanceStep, Turn}
+use Rattle.nv_machine.specs.World.{Ending, HandState, Next, BoundAnew, Refuses, Running, Shared, MaintenanceStep, Turn}
 use Rattle.nv_machine.proofs.StepWays.{After, Closes, any_ends, is_last}
 use Rattle.nv_machine.proofs.StepWalk.{last_walk}
 use Rattle.nv_machine.proofs.MaintenanceWalk.{maintenance_walk, ends_apart}
@@ -14,7 +14,7 @@ use Rattle.nv_machine.proofs.MaintenanceWalk.{maintenance_walk, ends_apart}
 pub record IsFrom (r q : Running) : Type 0 where
   pub call : q.call ≡ r.call
   pub looked : q.looked ≡ r.looked
-  pub over : q.ending ≡ Overtaken → r.ending ≡ Overtaken
+  pub over : q.ending ≡ BoundAnew → r.ending ≡ BoundAnew
 
 abbrev From : Running → Shared → HandState → Running → Type 0
 From b s h q = IsFrom b q
@@ -25,7 +25,7 @@ IsEnd result s h = Unit {0}
 abbrev pub OnFrom : Running → Turn → Type 0
 OnFrom b turn = After (From b) IsEnd turn
 
-closes : (s : Shared) (h : HandState) (r : Running) (e : Ending) → (e ≡ Overtaken → r.ending ≡ Overtaken)
+closes : (s : Shared) (h : HandState) (r : Running) (e : Ending) → (e ≡ BoundAnew → r.ending ≡ BoundAnew)
     → Closes (From r) IsEnd s h r e
 closes s h r e over = record {
   last = λ k is. record { call = refl; looked = refl; over = over };

@@ -5,7 +5,7 @@ use Rattle.nv_base.specs.declared.fault.Fault.{Fault}
 use Rattle.nv_calls.specs.declared.answer.Answer.{Answer}
 use Rattle.nv_machine.specs.PlainRun.{Nothing, Maintains, done_on, keeps_nodes}
 use Rattle.nv_machine.specs.Maintenance.{maintenance_turn}
-use Rattle.nv_machine.specs.World.{Answers, ReturnNumber, Drains, Ending, Ends, Give, HandState, Moves, Next, Overtaken, Refuses, Running, Shared, MaintenanceStep, Maintenance, Turn, Unlock, Unpin, Waits}
+use Rattle.nv_machine.specs.World.{Answers, ReturnNumber, Drains, Ending, Ends, Give, HandState, Moves, Next, BoundAnew, Refuses, Running, Shared, MaintenanceStep, Maintenance, Turn, Unlock, Unpin, Waits}
 use Rattle.nv_machine.proofs.StepWays.{After, Closes, any_ends, is_last, by_last}
 use Rattle.nv_machine.proofs.MaintenanceWalk.{maintenance_walk, ends_apart}
 
@@ -18,14 +18,14 @@ is_quiet other = false
 
 -- the unlock is that of a call whose names were not bound anew
 abbrev pub is_fair : Next → Ending → Bool
-is_fair (Unlock place) Overtaken = false
+is_fair (Unlock place) BoundAnew = false
 is_fair other ending = true
 
 pub last_quiet : (k : Next) → is_last k ≡ true → is_quiet k ≡ true
 last_quiet = by_last (λ (k : Next). is_quiet k ≡ true) (λ place. refl) (λ cpu. refl) refl
 
-pub fair_for : (k : Next) (e : Ending) → (e ≡ Overtaken → ⊥) → is_fair k e ≡ true
-fair_for (Unlock place) Overtaken not = absurd (not refl)
+pub fair_for : (k : Next) (e : Ending) → (e ≡ BoundAnew → ⊥) → is_fair k e ≡ true
+fair_for (Unlock place) BoundAnew not = absurd (not refl)
 fair_for (Unlock place) Answers not = refl
 fair_for (Unlock place) (Refuses fault) not = refl
 fair_for (Unlock place) (Drains draining) not = refl
@@ -41,7 +41,7 @@ module _ (P : Turn → Type 0) (waits : P Waits)
   on_turn Waits on = waits
   on_turn (Ends x s h) on = on
 
-  closes : (s : Shared) (h : HandState) (r : Running) (e : Ending) → (e ≡ Overtaken → ⊥)
+  closes : (s : Shared) (h : HandState) (r : Running) (e : Ending) → (e ≡ BoundAnew → ⊥)
       → Closes (λ (s : Shared) (h : HandState) (q : Running). P (Moves s h q))
       (λ (x : Result Answer Fault) (s : Shared) (h : HandState). P (Ends x s h)) s h r e
   closes s h r e not = record {

@@ -19,7 +19,7 @@ use Rattle.nv_machine.specs.Kinds.{asked_list}
 use Rattle.nv_cell.specs.Readers.{has_inode}
 use Rattle.nv_machine.specs.Sequence.{slots_on}
 use Rattle.nv_machine.specs.Maintenance.{copies_at, drop_tests, drop_turn, first_showing, if_free, is_first, lock_picked_turn, make_tests, make_turn, one_more, picked_turn, pin_turn, seen_on, show_turn, showing_on, shown_by, maintenance_turn, visited, show_or_unpin}
-use Rattle.nv_machine.specs.World.{Cleans, Compact, Draining, Drains, Drop, Ending, Fresh, HandState, Judge, LockCleaned, LockPicked, Make, Manner, Overtaken, Pick, Pin, Refuses, Release, Running, Shared, Show, Showing, MaintenanceStep, Maintenance, Turn, Unlink, Unpin, cell_at, go_to, list_at, owner_at}
+use Rattle.nv_machine.specs.World.{Cleans, Compact, Draining, Drains, Drop, Ending, Fresh, HandState, Judge, LockCleaned, LockPicked, Make, Manner, BoundAnew, Pick, Pin, Refuses, Release, Running, Shared, Show, Showing, MaintenanceStep, Maintenance, Turn, Unlink, Unpin, cell_at, go_to, list_at, owner_at}
 use Rattle.nv_machine.proofs.StepWork.{maintenance_work}
 use Rattle.nv_machine.proofs.StepWays.{After, AfterBy, EndsBy, Going, IsBlockedOn, IsClearOn, IsHeld, Telling, ends_go, is_overtaken}
 use Rattle.nv_machine.proofs.StepWalk.{Denies, grown_goes, refused_goes}
@@ -136,7 +136,7 @@ ends_fair (Compact ino) a s h e is = ap is_overtaken is
 ends_fair other a s h e is = absurd is
 
 pub ends_apart : (step : MaintenanceStep) (a : ℕ) (s : Shared) (h : HandState) (e : Ending) → EndsWith step a s h e
-    → e ≡ Overtaken → ⊥
+    → e ≡ BoundAnew → ⊥
 ends_apart step a s h e is over = true≢false (sym (ap is_overtaken over) ∙ ends_fair step a s h e is)
 
 -- such a step has a slot locked

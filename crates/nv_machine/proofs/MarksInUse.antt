@@ -27,7 +27,7 @@ use Rattle.nv_epoch.specs.Holders as holders
 use Rattle.nv_epoch.specs.SnapList.{ids}
 use Rattle.nv_epoch.proofs.Last.{last_passes}
 use Rattle.nv_machine.specs.Held.{is_of_slot, killed_in, pending_in, retention_at}
-use Rattle.nv_machine.specs.Recorded.{AreRecordedOnce, is_kept, recorded_in}
+use Rattle.nv_machine.specs.Recorded.{AreRecordedOnce, is_marked_kept, recorded_in}
 use Rattle.nv_machine.specs.World.{World, cell_at}
 use Rattle.nv_machine.proofs.EachElement.{all_append, all_at, all_back, all_front, all_with}
 use Rattle.nv_machine.proofs.FiledLists.{HasHolder, all_filed, count, count_append, count_cons, count_filed, held_filed, one}
@@ -80,7 +80,7 @@ any_there f (x ∷ xs) t (suc k, lt, at) e = or_true (f x) (any_there f xs t (k,
 -- ---- by its mark a part is current, held, pending or killed, or none of these
 
 by_mark : (m : Mark) (current held pending killed filed : Bool) → current ≡ marks.is_current m → killed ≡ is_killed m
-    → (filed || pending) ≡ is_kept m → (filed ≡ true → held ≡ true) → (m ≡ Out → held ≡ false)
+    → (filed || pending) ≡ is_marked_kept m → (filed ≡ true → held ≡ true) → (m ≡ Out → held ≡ false)
     → ((current || held) || (pending || killed)) ≡ is_there m
 by_mark Current current held pending killed filed a k f t o = rw a refl
 by_mark Killed current held pending killed filed a k f t o = rw (a, k) (go held pending) where
@@ -100,7 +100,7 @@ module _ (living : List ℕ) (ino epoch : ℕ) (killed : List KilledPart) (rs : 
     (is : IsLog log) (h : AreMarks living ino epoch killed rs block log ms) (n : ℕ) (pair : Pair)
     (got : slice_get (pairs block log) n ≡ Some pair) (filed pending : List Record)
     (told : AllByRecursion (IsTold living ino block log) filed) (held_by : AllByRecursion (HasHolder living) filed)
-    (once : count (is_filed_on ino log n) (filed ++ pending) ≡ bit (is_kept (mark_at ms n))) where
+    (once : count (is_filed_on ino log n) (filed ++ pending) ≡ bit (is_marked_kept (mark_at ms n))) where
   abbrev test : Record → Bool
   test d = is_filed_on ino log n d
 
@@ -142,7 +142,7 @@ module _ (living : List ℕ) (ino epoch : ℕ) (killed : List KilledPart) (rs : 
       ∙ by_mark (mark_at ms n) (is_current pair) (is_held living pair) (list_any test pending)
       (list_any (has_name pair) (map (λ (k : KilledPart). k.part) killed)) (list_any test filed)
       (current_is block log is n pair got ∙ sym (h.current n (pair_low block log n pair got))) killed_so
-      (sym (list_any-append test filed pending) ∙ any_of test (filed ++ pending) (is_kept (mark_at ms n)) once)
+      (sym (list_any-append test filed pending) ∙ any_of test (filed ++ pending) (is_marked_kept (mark_at ms n)) once)
       (any_gives test (is_held living pair ≡ true) filed
       (all_with (IsTold living ino block log) (HasHolder living) (λ d. test d ≡ true → is_held living pair ≡ true) held_so filed
       told held_by))

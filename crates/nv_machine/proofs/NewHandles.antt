@@ -7,7 +7,7 @@ use Rattle.nv_alloc.specs.Numbers.{has}
 use Rattle.nv_base.specs.declared.geometry.GeometryNumbers.{GeometryNumbers}
 use Rattle.nv_base.specs.declared.numbers.Handle.{Handle}
 use Rattle.nv_calls.specs.AllCalls.{plan}
-use Rattle.nv_calls.specs.Locked.{made_by}
+use Rattle.nv_calls.specs.Locked.{handles_made_by}
 use Rattle.nv_calls.specs.Plain.{PlainNode, node_in, same_handle}
 use Rattle.nv_calls.specs.Slots.{IsFree, entries_of, items_for, place_in}
 use Rattle.nv_calls.specs.declared.call.Call.{Call}
@@ -22,7 +22,7 @@ use Rattle.nv_machine.specs.Grown.{fresh_entries}
 use Rattle.nv_machine.specs.Hands.{makes_inode}
 use Rattle.nv_machine.specs.Kinds.{entries_for}
 use Rattle.nv_machine.specs.Made.{handles_made, has_handle, made_at}
-use Rattle.nv_machine.specs.PlainRun.{Commits, Deed, actor_of, deed_of, keeps_nodes}
+use Rattle.nv_machine.specs.PlainRun.{Commits, PlainChange, actor_of, plain_change_of, keeps_nodes}
 use Rattle.nv_machine.specs.Reads.{is_written, written_slots}
 use Rattle.nv_machine.specs.Sequence.{beginning}
 use Rattle.nv_machine.specs.Settled.{node_by, settled, settled_nodes}
@@ -68,7 +68,7 @@ entries_count commit epoch place [] some = absurd (omega (arith, some))
 entries_count commit epoch place (item ∷ items) some = omega arith
 
 module _ (g : GeometryNumbers) (w : World) (known : IsKnown g w) (actor : ℕ) (granted : Bool) (r : Running)
-    (there : actor < length w.actors) (is : (actor_at w actor).running ≡ Some r) (e : deed_of w (Go actor granted) ≡ Commits)
+    (there : actor < length w.actors) (is : (actor_at w actor).running ≡ Some r) (e : plain_change_of w (Go actor granted) ≡ Commits)
     (makes : makes_inode (beginning r.call) ≡ true) where
   passed : Passed w.numbers.block w.shared r
   passed = passed_now g w known actor granted r is there e
@@ -137,26 +137,26 @@ one_handle made handle e = go (same_handle made handle) e where
   go true e = refl
   go false e = cc
 
-is_made : (made : Handle) (c : Call) (handle : Handle) → has_handle (made_by made c) handle ≡ true → IsMade made c handle
+is_made : (made : Handle) (c : Call) (handle : Handle) → has_handle (handles_made_by made c) handle ≡ true → IsMade made c handle
 is_made made (call.Create dir name mode) handle e = record { same = one_handle made handle e; makes = refl }
 is_made made (call.Mkdir dir name mode) handle e = record { same = one_handle made handle e; makes = refl }
 is_made made other handle e = cc
 
 module _ (g : GeometryNumbers) (w : World) (known : IsKnown g w) (handle : Handle) where
-  none_made : (d : Deed) (running : Option Running) → keeps_nodes d ≡ true → has_handle (made_at d running) handle ≡ true → ⊥
+  none_made : (d : PlainChange) (running : Option Running) → keeps_nodes d ≡ true → has_handle (made_at d running) handle ≡ true → ⊥
   none_made Commits running keeps made = cc
   none_made other running keeps made = cc
 
-  pub event_made : (e : Event) → has_handle (made_at (deed_of w e) (actor_at w (actor_of e)).running) handle ≡ true
+  pub event_made : (e : Event) → has_handle (made_at (plain_change_of w e) (actor_at w (actor_of e)).running) handle ≡ true
       → IsUsed (step w e).world.shared handle
-  event_made = by_points w (λ (e : Event). has_handle (made_at (deed_of w e) (actor_at w (actor_of e)).running) handle ≡ true
+  event_made = by_points w (λ (e : Event). has_handle (made_at (plain_change_of w e) (actor_at w (actor_of e)).running) handle ≡ true
       → IsUsed (step w e).world.shared handle)
       (λ actor granted r there is e made.
-      let one = is_made r.made r.call handle (sym (ap (λ (d : Deed). has_handle (made_at d (actor_at w actor).running) handle) e
+      let one = is_made r.made r.call handle (sym (ap (λ (d : PlainChange). has_handle (made_at d (actor_at w actor).running) handle) e
       ∙ ap (λ (o : Option Running). has_handle (made_at Commits o) handle) is) ∙ made) in
       used_as (step w (Go actor granted)).world.shared r.made handle one.same
       (now_used g w known actor granted r there is e one.makes))
-      (λ e keeps made. absurd (none_made (deed_of w e) (actor_at w (actor_of e)).running keeps made))
+      (λ e keeps made. absurd (none_made (plain_change_of w e) (actor_at w (actor_of e)).running keeps made))
 
 pub has_either : (xs ys : List Handle) (handle : Handle) → has_handle (xs ++ ys) handle ≡ true
     → (has_handle xs handle ≡ true) ⊎ (has_handle ys handle ≡ true)
@@ -174,7 +174,7 @@ events_made : (g : GeometryNumbers) (events : List Event) (w : World) (handle : 
     → IsUsed (after w events).shared handle
 events_made g [] w handle known made = cc
 events_made g (e ∷ events) w handle known made =
-    elim (has_either (made_at (deed_of w e) (actor_at w (actor_of e)).running) (handles_made (step w e).world events) handle made) [
+    elim (has_either (made_at (plain_change_of w e) (actor_at w (actor_of e)).running) (handles_made (step w e).world events) handle made) [
       | inl now ↦ events_used events (step w e).world handle (λ before. (known (e ∷ before)).reached)
           (event_made g w (known []) handle e now)
       | inr later ↦ events_made g events (step w e).world handle (λ before. known (e ∷ before)) later
@@ -189,7 +189,7 @@ node_used s handle some = let there = node_there s handle some in inr (sym there
 module _ (g : GeometryNumbers) (start : World) (records : List Record) (events : List Event) (actor : ℕ) (granted : Bool)
     (r : Running) (is_start : IsStart g start records)
     (there : actor < length (after start events).actors) (is : (actor_at (after start events) actor).running ≡ Some r)
-    (e : deed_of (after start events) (Go actor granted) ≡ Commits) (makes : makes_inode (beginning r.call) ≡ true) where
+    (e : plain_change_of (after start events) (Go actor granted) ≡ Commits) (makes : makes_inode (beginning r.call) ≡ true) where
   pub made_node : settled_nodes (after start events).shared r.made ≡ None
   made_node =
       no_node g (after start events) (all_known g start records is_start events) actor

@@ -12,7 +12,7 @@ use Rattle.nv_machine.specs.Directories.{AreTree}
 use Rattle.nv_machine.specs.Format.{formatted, root_cell}
 use Rattle.nv_machine.specs.Held.{picked_by_actor}
 use Rattle.nv_machine.specs.PoolScan.{is_number_used, number_held, pool_from_scratch}
-use Rattle.nv_machine.specs.Recorded.{is_kept, recorded_in}
+use Rattle.nv_machine.specs.Recorded.{is_marked_kept, recorded_in}
 use Rattle.nv_machine.specs.Starts.{IsStart}
 use Rattle.nv_machine.specs.World.{World, cell_at, idle}
 use Rattle.nv_machine.proofs.DirectoryLaws.{new_nodes, root_tree}
@@ -60,7 +60,7 @@ none_recorded : (g : GeometryNumbers) → recorded_in (formatted g) ≡ []
 none_recorded g = none_of picked_by_actor (formatted g).actors (λ b. ap picked_by_actor (all_same g.actors b idle))
 
 abbrev IsPlain : CellState → Type 0
-IsPlain c = (n : ℕ) → (is_killed (mark_at c.marks n) ≡ false) × (is_kept (mark_at c.marks n) ≡ false)
+IsPlain c = (n : ℕ) → (is_killed (mark_at c.marks n) ≡ false) × (is_marked_kept (mark_at c.marks n) ≡ false)
 
 root_plain : (g : GeometryNumbers) → IsPlain (root_cell g)
 root_plain g zero = (refl, refl)

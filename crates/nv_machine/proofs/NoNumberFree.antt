@@ -16,7 +16,7 @@ use Rattle.nv_machine.specs.Reads.{copies, nodes}
 use Rattle.nv_machine.specs.Sequence.{Beginning, beginning, begun, directories, locking, nothing_looked}
 use Rattle.nv_machine.specs.Starts.{IsStart}
 use Rattle.nv_machine.specs.Step.{after, is_numbered, kind_turn, same_looked, step}
-use Rattle.nv_machine.specs.World.{Actor, Check, Ends, Event, Go, HandState, Lock, Look, Moves, Next, Number, Overtaken, Running, Shared, MaintenanceStep, Maintenance, Start, Started, Turn, Waits, World, actor_at}
+use Rattle.nv_machine.specs.World.{Actor, Check, Ends, Event, Go, HandState, Lock, Look, Moves, Next, Number, BoundAnew, Running, Shared, MaintenanceStep, Maintenance, Start, Started, Turn, Waits, World, actor_at}
 use Rattle.nv_machine.proofs.AloneRefusals.{nothing_to_look}
 use Rattle.nv_calls.proofs.CheckEnds.{looked_self}
 use Rattle.nv_machine.proofs.AloneLooks.{IsLate, OnLate, check_same, late_turn}
@@ -101,7 +101,7 @@ module _ (block actor : ℕ) (granted : Bool) (s : Shared) (h : HandState) (r : 
     makes : makes_inode (beginning r.call) ≡ true
     denied : k ≡ Number → s.pool.numbers ≡ [] → b ≡ true
     nothing : r.looked ≡ nothing_looked
-    over : r.ending ≡ Overtaken → ⊥
+    over : r.ending ≡ BoundAnew → ⊥
     files : (kind : MaintenanceStep) → k ≡ Maintenance kind → ⊥
 
   no_looks : makes_inode (beginning r.call) ≡ true → beginning r.call ≡ sequence.Looks → ⊥

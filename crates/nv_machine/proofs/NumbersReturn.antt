@@ -16,7 +16,7 @@ use Rattle.nv_machine.specs.Reads.{slot_at, written_slots}
 use Rattle.nv_machine.specs.PlainRun.{actor_of}
 use Rattle.nv_machine.specs.Starts.{IsStart}
 use Rattle.nv_machine.specs.Step.{Step, after, kind_turn, step, turned}
-use Rattle.nv_machine.specs.World.{Actor, Answers, ReturnNumber, Ending, Ends, Event, Give, Go, HandState, Leave, Moves, Next, Overtaken, Retire, Running, Shared, Start, Turn, Unlock, Waits, World, actor_at, idle}
+use Rattle.nv_machine.specs.World.{Actor, Answers, ReturnNumber, Ending, Ends, Event, Give, Go, HandState, Leave, Moves, Next, BoundAnew, Retire, Running, Shared, Start, Turn, Unlock, Waits, World, actor_at, idle}
 use Rattle.nv_machine.proofs.EveryWorld.{all_known}
 use Rattle.nv_machine.proofs.OverEvents.{others_stay, runs_inside}
 use Rattle.nv_machine.proofs.FitsEvents.{IsKnown}
@@ -53,7 +53,7 @@ module _ {ino : ℕ} {h : HandState} (is : h.ino ≡ Some ino) where
     lasts = λ none gone. absurd (none-some ino (sym gone ∙ is));
   }
 
-  overs_way : {s : Shared} {r : Running} {e : Ending} → e ≢ Overtaken → Overs (WayGoes ino) (WayTold ino) s h r e
+  overs_way : {s : Shared} {r : Running} {e : Ending} → e ≢ BoundAnew → Overs (WayGoes ino) (WayTold ino) s h r e
   overs_way going = record {
     again = λ n over some. absurd (going over);
     contended = λ over zero. absurd (going over);

@@ -9,7 +9,7 @@ use Rattle.nv_calls.specs.Slots.{IsBefore, items_for, place_in}
 use Rattle.nv_cell.specs.Cell.{CellState}
 use Rattle.nv_entry.specs.declared.item.Entry.{Entry}
 use Rattle.nv_log.specs.Chain.{ChainState, left_of}
-use Rattle.nv_machine.specs.Kinds.{enter_turn, entries_for, with_entries, with_pages}
+use Rattle.nv_machine.specs.Kinds.{enter_turn, entries_for, with_entries, with_log_pages}
 use Rattle.nv_machine.specs.Locks.{commits_at, is_owner}
 use Rattle.nv_machine.specs.Order.{AreLogsOrdered, CommitsIn, entries_at, to_append}
 use Rattle.nv_machine.specs.Reads.{is_written, pages_needed, slot_at, written_slots}
@@ -58,11 +58,11 @@ or_second false c e = e
 appended_cell : (s : Shared) (r : Running) (slot : ℕ) (blocks pages : List BlockValue) → r.commit ≡ s.book.commit
     → r.epoch ≡ s.book.snaps.epoch → IsBefore r.commit r.epoch (entries_at s slot)
     → IsBefore (s.book.commit + 1) s.book.snaps.epoch
-    (with_entries (entries_for r slot) blocks (with_pages pages (cell_at s slot))).chain.entries
+    (with_entries (entries_for r slot) blocks (with_log_pages pages (cell_at s slot))).chain.entries
 appended_cell s r slot blocks pages c e early =
-    let same : (with_entries (entries_for r slot) blocks (with_pages pages (cell_at s slot))).chain.entries
+    let same : (with_entries (entries_for r slot) blocks (with_log_pages pages (cell_at s slot))).chain.entries
     ≡ entries_at s slot ++ entries_for r slot =
-    entries_more (entries_for r slot) blocks (with_pages pages (cell_at s slot))
+    entries_more (entries_for r slot) blocks (with_log_pages pages (cell_at s slot))
     ∙ ap (λ (l : List Entry). l ++ entries_for r slot) (pages_keep pages (cell_at s slot)) in
     subst (λ (l : List Entry). IsBefore (s.book.commit + 1) s.book.snaps.epoch l) (sym same)
     (subst (λ (n : ℕ). IsBefore (n + 1) s.book.snaps.epoch (entries_at s slot ++ entries_for r slot)) c

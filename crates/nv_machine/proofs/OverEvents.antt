@@ -8,7 +8,7 @@ use Rattle.std.proofs.lemmas.Option.{none-some}
 use Rattle.nv_base.specs.declared.fault.Fault.{Fault}
 use Rattle.nv_calls.specs.declared.answer.Answer.{Answer}
 use Rattle.nv_calls.specs.declared.call.Call.{Call}
-use Rattle.nv_machine.specs.PlainRun.{Commits, Deed, Nothing, actor_of, deed_by, deed_of, keeps_nodes}
+use Rattle.nv_machine.specs.PlainRun.{Commits, PlainChange, Nothing, actor_of, plain_change_by, plain_change_of, keeps_nodes}
 use Rattle.nv_machine.specs.Sequence.{beginning, begun}
 use Rattle.nv_machine.specs.Step.{after, changed, go_step, start_step, step, turn, turned}
 use Rattle.nv_machine.specs.World.{Actor, Ends, Event, Go, HandState, Moves, Running, Shared, Start, Started, Turn, Waits, World, actor_at, idle}
@@ -37,12 +37,12 @@ runs_inside w actor r runs = elim (cases_lt actor (length w.actors)) [
 -- ---- one event
 
 -- of what it does, and of the world after it
-module _ (P : Deed → World → Type 0) (w : World) (same : P Nothing w) where
+module _ (P : PlainChange → World → Type 0) (w : World) (same : P Nothing w) where
   pub go_deed : (b : Bool) (running : Option Running) (a : ℕ) (granted : Bool) → nat_lt a (length w.actors) ≡ b
       → (actor_at w a).running ≡ running
       → ((r : Running) → a < length w.actors → (actor_at w a).running ≡ Some r
-      → P (deed_by (Some r) w a granted) (turned (turn_at w a granted r) a w).world)
-      → P (if b then deed_by running w a granted else Nothing) (go_step b running a granted w).world
+      → P (plain_change_by (Some r) w a granted) (turned (turn_at w a granted r) a w).world)
+      → P (if b then plain_change_by running w a granted else Nothing) (go_step b running a granted w).world
   go_deed false running a granted e is turns = same
   go_deed true None a granted e is turns = same
   go_deed true (Some r) a granted e is turns = turns r (ltb-true a (length w.actors) e) is
@@ -57,8 +57,8 @@ module _ (P : Deed → World → Type 0) (w : World) (same : P Nothing w) where
   pub event_deed : (e : Event)
       → ((a : ℕ) (c : Call) → a < length w.actors → (actor_at w a).running ≡ None → P Nothing (begun_in w a c))
       → ((a : ℕ) (granted : Bool) (r : Running) → a < length w.actors → (actor_at w a).running ≡ Some r
-      → P (deed_by (Some r) w a granted) (turned (turn_at w a granted r) a w).world)
-      → P (deed_of w e) (step w e).world
+      → P (plain_change_by (Some r) w a granted) (turned (turn_at w a granted r) a w).world)
+      → P (plain_change_of w e) (step w e).world
   event_deed (Start a c) begins turns = start_deed (nat_lt a (length w.actors)) (actor_at w a).running a c refl refl (begins a c)
   event_deed (Go a granted) begins turns =
       go_deed (nat_lt a (length w.actors)) (actor_at w a).running a granted refl refl (turns a granted)
@@ -69,27 +69,27 @@ pub event_by : (P : World → Type 0) (w : World) → P w → (e : Event)
     → ((a : ℕ) (granted : Bool) (r : Running) → a < length w.actors → (actor_at w a).running ≡ Some r
     → P (turned (turn_at w a granted r) a w).world)
     → P (step w e).world
-event_by P w same e begins turns = event_deed (λ (d : Deed) (v : World). P v) w same e begins turns
+event_by P w same e begins turns = event_deed (λ (d : PlainChange) (v : World). P v) w same e begins turns
 
-pub commits_if : (d : Deed) → keeps_nodes d ≡ false → d ≡ Commits
+pub commits_if : (d : PlainChange) → keeps_nodes d ≡ false → d ≡ Commits
 commits_if Commits e = refl
 commits_if other e = cc
 
 -- each event keeps what settled logs tell, or is a commit point
 module _ (w : World) (P : Event → Type 0)
     (points : (a : ℕ) (granted : Bool) (r : Running) → a < length w.actors → (actor_at w a).running ≡ Some r
-    → deed_of w (Go a granted) ≡ Commits → P (Go a granted)) where
+    → plain_change_of w (Go a granted) ≡ Commits → P (Go a granted)) where
   point_by : (b : Bool) (running : Option Running) (a : ℕ) (granted : Bool) → nat_lt a (length w.actors) ≡ b
-      → (actor_at w a).running ≡ running → keeps_nodes (deed_of w (Go a granted)) ≡ false → P (Go a granted)
+      → (actor_at w a).running ≡ running → keeps_nodes (plain_change_of w (Go a granted)) ≡ false → P (Go a granted)
   point_by true (Some r) a granted there is e =
-      points a granted r (ltb-true a (length w.actors) there) is (commits_if (deed_of w (Go a granted)) e)
+      points a granted r (ltb-true a (length w.actors) there) is (commits_if (plain_change_of w (Go a granted)) e)
   point_by true None a granted there is e =
-      absurd (true≢false (sym (rw there (ap (λ (o : Option Running). keeps_nodes (deed_by o w a granted)) is)) ∙ e))
+      absurd (true≢false (sym (rw there (ap (λ (o : Option Running). keeps_nodes (plain_change_by o w a granted)) is)) ∙ e))
   point_by false running a granted there is e = absurd (true≢false (sym (rw there refl) ∙ e))
 
-  pub by_points : ((e : Event) → keeps_nodes (deed_of w e) ≡ true → P e) → (e : Event) → P e
-  by_points keeps e = go (keeps_nodes (deed_of w e)) e refl where
-    go : (b : Bool) (e : Event) → keeps_nodes (deed_of w e) ≡ b → P e
+  pub by_points : ((e : Event) → keeps_nodes (plain_change_of w e) ≡ true → P e) → (e : Event) → P e
+  by_points keeps e = go (keeps_nodes (plain_change_of w e)) e refl where
+    go : (b : Bool) (e : Event) → keeps_nodes (plain_change_of w e) ≡ b → P e
     go true e is = keeps e is
     go false (Start a c) is = absurd (true≢false is)
     go false (Go a granted) is = point_by (nat_lt a (length w.actors)) (actor_at w a).running a granted refl refl is
@@ -108,10 +108,10 @@ module _ (w : World) (b : ℕ) where
   -- another's event leaves it as it was
   pub others_stay : (e : Event) → b ≢ actor_of e → AsItWas (step w e).world
   others_stay (Start a c) ne =
-      start_deed (λ (d : Deed). AsItWas) w refl (nat_lt a (length w.actors)) (actor_at w a).running a c refl refl
+      start_deed (λ (d : PlainChange). AsItWas) w refl (nat_lt a (length w.actors)) (actor_at w a).running a c refl refl
       (λ there none. get_or-set_other w.actors a b (begun_at w a c) idle ne)
   others_stay (Go a granted) ne =
-      go_deed (λ (d : Deed). AsItWas) w refl (nat_lt a (length w.actors)) (actor_at w a).running a granted refl refl
+      go_deed (λ (d : PlainChange). AsItWas) w refl (nat_lt a (length w.actors)) (actor_at w a).running a granted refl refl
       (λ r there is. turn_leaves (turn_at w a granted r) a ne)
 
 -- a call that is started has begun

@@ -15,7 +15,7 @@ use Rattle.nv_machine.specs.Sequence.{Beginning, Numbers, beginning, begun}
 use Rattle.nv_machine.specs.Settled.{settled_nodes}
 use Rattle.nv_machine.specs.Starts.{IsStart}
 use Rattle.nv_machine.specs.Step.{Step, after, kind_turn, step, turned}
-use Rattle.nv_machine.specs.World.{Answers, Draining, Drains, Ending, Ends, Event, Go, Moves, Next, Overtaken, Refused, Refuses, Reply, Running, Shared, Turn, Unlock, Waits, World, actor_at, Cleans, HandState}
+use Rattle.nv_machine.specs.World.{Answers, Draining, Drains, Ending, Ends, Event, Go, Moves, Next, BoundAnew, Refused, Refuses, Reply, Running, Shared, Turn, Unlock, Waits, World, actor_at, Cleans, HandState}
 use Rattle.nv_machine.proofs.DecidedRefusals.{plainly_caused}
 use Rattle.nv_machine.proofs.OverEvents.{runs_inside, turn_at}
 use Rattle.nv_machine.proofs.RefusalCauses.{contended}
@@ -31,7 +31,7 @@ use Rattle.nv_machine.proofs.OverOwnSteps.{HasAfter, KeepsSteps, one_more, runni
 abbrev StandsBy : List Fault → Type 0 → Ending → Next → Type 0
 StandsBy faults left Answers k = (faults ≡ []) × (is_open k ≡ true → left)
 StandsBy faults left (Refuses fault) k = (faults ≡ fault ∷ []) × left × (is_closing k ≡ true)
-StandsBy faults left Overtaken k = (faults ≡ []) × left × (is_unlock k ≡ true)
+StandsBy faults left BoundAnew k = (faults ≡ []) × left × (is_unlock k ≡ true)
 StandsBy faults left (Drains draining) k = (faults ≡ []) × (0 < draining.released) × (is_last k ≡ true)
 StandsBy faults left (Cleans cleaned) k = (faults ≡ []) × (is_last k ≡ true)
 
@@ -54,7 +54,7 @@ module _ (k : Next) (s : Shared) (faults : List Fault) (left : Type 0) where
     go : (e : Ending) → OpenGoes k s t e q.next → StandsBy (fault_of e ++ faults) (SameButPins s t × left) e q.next
     go Answers on = (none, λ o. let both = on o in (both.1, may both.0))
     go (Refuses fault) on = (ap (λ (l : List Fault). fault ∷ l) none, (on.1.1, may on.1.0), on.0)
-    go Overtaken on = (none, (on.1.1, may on.1.0), on.0)
+    go BoundAnew on = (none, (on.1.1, may on.1.0), on.0)
     go (Drains d) on = (none, on.1, on.0)
     go (Cleans c) on = (none, on)
   from_answers Waits on none may = (none, λ o. (tt, may o))
@@ -71,11 +71,11 @@ module _ (k : Next) (s : Shared) (faults : List Fault) (left : Type 0) where
       (one ∙ ap (λ (x : Result Answer Fault). fault_told x) (sym on.0), (on.1, had))
 
   from_overtaken : (t : Turn) → After (OverGoes s) (OverTold s) t → faults ≡ [] → left
-      → is_unlock k ≡ true → AfterStep Overtaken k (fault_in t ++ faults) (LeavesButPins s t × left) t
+      → is_unlock k ≡ true → AfterStep BoundAnew k (fault_in t ++ faults) (LeavesButPins s t × left) t
   from_overtaken (Moves t h q) on none had unlock = go q.ending on where
     go : (e : Ending) → OvertakenGoes s t e q.next → StandsBy (fault_of e ++ faults) (SameButPins s t × left) e q.next
     go Answers on = (none, λ o. (on, had))
-    go Overtaken on = (none, (on.1, had), on.0)
+    go BoundAnew on = (none, (on.1, had), on.0)
     go other on = absurd on
   from_overtaken Waits on none had unlock = (none, (tt, had), unlock)
   from_overtaken (Ends (Ok found) t h) on none had unlock = tt
@@ -162,7 +162,7 @@ module _ (w : World) (known : HasCauses w) (actor : ℕ) (granted : Bool) (r : R
       → AllByRecursion (HasCauseBy e its) (refused_by e its_turn)
   caused_by Answers is stands = all_met _ _ its_turn (known actor granted r runs is)
   caused_by (Refuses fault) is stands = tt
-  caused_by Overtaken is stands = go r.next refl stands.2 where
+  caused_by BoundAnew is stands = go r.next refl stands.2 where
     go : (k : Next) → r.next ≡ k → is_unlock k ≡ true → AllByRecursion (IsRoundless r) (fault_in its_turn)
     go (Unlock place) next on =
         all_met (IsRoundless r) (Unit {0}) its_turn
@@ -188,7 +188,7 @@ module _ (w : World) (known : HasCauses w) (actor : ℕ) (granted : Bool) (r : R
       from_refused r.next w.shared (refused_for before) left_before fault its_turn
       (closing_kind fault w.numbers.block actor granted w.shared (actor_at w actor).hand r is r.next stands.2)
       stands.0 stands.1 stands.2
-  stands_after Overtaken is stands =
+  stands_after BoundAnew is stands =
       from_overtaken r.next w.shared (refused_for before) left_before its_turn
       (over_kind w.numbers.block actor granted w.shared (actor_at w actor).hand r is r.next stands.2) stands.0 stands.1 stands.2
   stands_after (Drains d) is stands =

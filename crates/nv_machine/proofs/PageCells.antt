@@ -16,7 +16,7 @@ use Rattle.nv_log.specs.Chain.{AreEnds, ChainState, IsChain, appended as appende
 use Rattle.nv_log.proofs.Chains.{IsOpen, appends_entry, is_open, open_within}
 use Rattle.nv_log.proofs.Parts.{AreEnds-push, AreEnds-take}
 use Rattle.nv_calls.proofs.Next.{Keeps}
-use Rattle.nv_machine.specs.Kinds.{with_entries, with_pages}
+use Rattle.nv_machine.specs.Kinds.{with_entries, with_log_pages}
 use Rattle.nv_machine.specs.Cleaning.{unlinked, compacted_cell}
 use Rattle.nv_machine.specs.Pages.{AreOnPages, HasLogPages}
 use Rattle.nv_machine.specs.World.{Compact, HandState, Maintenance, Next, Running, Shared, Unlink, cell_at}
@@ -55,7 +55,7 @@ module _ (page : ℕ) (least : LEAST_PAGE_ENTRIES ≤ page) (most : page ≤ PAG
     parted = on.parted;
   }
 
-  pages_on : (pages : List BlockValue) (cell : CellState) → AreOnPages page cell.chain → AreOnPages page (with_pages pages cell).chain
+  pages_on : (pages : List BlockValue) (cell : CellState) → AreOnPages page cell.chain → AreOnPages page (with_log_pages pages cell).chain
   pages_on [] cell on = on
   pages_on (b ∷ pages) cell on = pages_on pages (record cell { chain = with_page b cell.chain }) (page_on b cell.chain on)
 
@@ -94,14 +94,14 @@ module _ (page : ℕ) (least : LEAST_PAGE_ENTRIES ≤ page) (most : page ≤ PAG
       entries_on entries _ (appended e (blocks_for e.item bs) cell) (appended_on e chain on some)
       (subst IsLog (sym (append_assoc chain.entries (e ∷ []) entries)) log) (omega (arith, room, falls))
 
-  same_entries : (pages : List BlockValue) (cell : CellState) → (with_pages pages cell).chain.entries ≡ cell.chain.entries
+  same_entries : (pages : List BlockValue) (cell : CellState) → (with_log_pages pages cell).chain.entries ≡ cell.chain.entries
   same_entries [] cell = refl
   same_entries (b ∷ pages) cell = same_entries pages (record cell { chain = with_page b cell.chain })
 
   -- ---- room on the pages that are there
 
   pages_room : (pages : List BlockValue) (cell : CellState) → AreOnPages page cell.chain → IsLog cell.chain.entries
-      → room_of (with_pages pages cell).chain ≡ room_of cell.chain + length pages * page
+      → room_of (with_log_pages pages cell).chain ≡ room_of cell.chain + length pages * page
   pages_room [] cell on log = omega arith
   pages_room (b ∷ pages) cell on log =
       let next : CellState = record cell { chain = with_page b cell.chain } in
@@ -114,7 +114,7 @@ module _ (page : ℕ) (least : LEAST_PAGE_ENTRIES ≤ page) (most : page ≤ PAG
 
   -- as many pages as are needed make room
   pages_serve : (pages : List BlockValue) (n : ℕ) (cell : CellState) → AreOnPages page cell.chain → IsLog cell.chain.entries
-      → pages_for cell.chain n ≡ length pages → n ≤ room_of (with_pages pages cell).chain
+      → pages_for cell.chain n ≡ length pages → n ≤ room_of (with_log_pages pages cell).chain
   pages_serve pages n cell on log e =
       let all = enough n cell.chain (omega (arith, least, on.size)) in
       let same : pages_for cell.chain n * cell.chain.page ≡ length pages * page =
@@ -124,9 +124,9 @@ module _ (page : ℕ) (least : LEAST_PAGE_ENTRIES ≤ page) (most : page ≤ PAG
 
   pub append_on : (entries : List Entry) (bs pages : List BlockValue) (cell : CellState) → AreOnPages page cell.chain
       → IsLog (cell.chain.entries ++ entries) → pages_for cell.chain (length entries) ≡ length pages
-      → AreOnPages page (with_entries entries bs (with_pages pages cell)).chain
+      → AreOnPages page (with_entries entries bs (with_log_pages pages cell)).chain
   append_on entries bs pages cell on log e =
-      entries_on entries bs (with_pages pages cell) (pages_on pages cell on)
+      entries_on entries bs (with_log_pages pages cell) (pages_on pages cell on)
       (subst (λ (es : List Entry). IsLog (es ++ entries)) (sym (same_entries pages cell)) log)
       (pages_serve pages (length entries) cell on (front_log cell.chain.entries entries log) e)
 

@@ -7,7 +7,7 @@ use Rattle.nv_cell.specs.Cell.{CellState}
 use Rattle.nv_entry.specs.declared.item.Entry.{Entry}
 use Rattle.nv_log.specs.Chain.{with_page}
 use Rattle.nv_machine.specs.Exact.{Leaves}
-use Rattle.nv_machine.specs.Kinds.{entries_for, with_entries, with_pages}
+use Rattle.nv_machine.specs.Kinds.{entries_for, with_entries, with_log_pages}
 use Rattle.nv_machine.specs.Locks.{AreLocks}
 use Rattle.nv_machine.specs.Pages.{TakesPages}
 use Rattle.nv_machine.specs.Reads.{is_written, pages_needed, slot_at, written_slots}
@@ -16,7 +16,7 @@ use Rattle.nv_machine.specs.World.{Append, HandState, Running, Shared, World, ac
 use Rattle.nv_machine.proofs.Lists.{rising_filter}
 use Rattle.nv_machine.proofs.LocksOverEvents.{before}
 
-more_pages : (pages : List BlockValue) (cell : CellState) → (with_pages pages cell).chain.blocks ≡ cell.chain.blocks ++ pages
+more_pages : (pages : List BlockValue) (cell : CellState) → (with_log_pages pages cell).chain.blocks ≡ cell.chain.blocks ++ pages
 more_pages [] cell = sym (append-nil cell.chain.blocks)
 more_pages (b ∷ pages) cell =
     more_pages pages (record cell { chain = with_page b cell.chain }) ∙ append_assoc cell.chain.blocks (b ∷ []) pages
@@ -33,11 +33,11 @@ pub pages_go : (place block actor : ℕ) (granted : Bool) (s : Shared) (h : Hand
 pages_go place block actor granted s h r low =
     let slot = slot_at (written_slots r) place in
     let pages = take (pages_needed s r.plan slot) h.pages in
-    let new = with_entries (entries_for r slot) h.blocks (with_pages pages (cell_at s slot)) in
+    let new = with_entries (entries_for r slot) h.blocks (with_log_pages pages (cell_at s slot)) in
     record {
       chain =
           ap (λ (c : CellState). c.chain.blocks) (get_or-set_same s.cells slot new no_cell low)
-          ∙ same_pages (entries_for r slot) h.blocks (with_pages pages (cell_at s slot)) ∙ more_pages pages (cell_at s slot);
+          ∙ same_pages (entries_for r slot) h.blocks (with_log_pages pages (cell_at s slot)) ∙ more_pages pages (cell_at s slot);
       hand = refl;
     }
 

@@ -17,7 +17,7 @@ use Rattle.nv_entry.specs.declared.item.Item.{Item}
 use Rattle.nv_log.specs.Chain.{pages_for}
 use Rattle.nv_machine.specs.Grown.{HasGrown, is_appended, is_behind}
 use Rattle.nv_machine.specs.Hands.{HandAt}
-use Rattle.nv_machine.specs.Kinds.{asked_list, entries_for, first_killed, retired_cell, with_entries, with_freed, with_pages}
+use Rattle.nv_machine.specs.Kinds.{asked_list, entries_for, first_killed, retired_cell, with_entries, with_freed, with_log_pages}
 use Rattle.nv_machine.specs.Locks.{AreSlots, commits_at, held_at, IsInside}
 use Rattle.nv_machine.specs.Order.{entries_at, to_append}
 use Rattle.nv_machine.specs.Pages.{AreOnPages, HasLogPages}
@@ -120,7 +120,7 @@ module _ (g : GeometryNumbers) (a : ℕ) (granted : Bool) (s : Shared) (h : Hand
   ways (Append place) at b has_them =
       let slot = slot_at (written_slots r) place in
       let pages = pages_needed s r.plan slot in
-      let new = with_entries (entries_for r slot) h.blocks (with_pages (take pages h.pages) (cell_at s slot)) in
+      let new = with_entries (entries_for r slot) h.blocks (with_log_pages (take pages h.pages) (cell_at s slot)) in
       appending_pages g.block (with_cell slot new s) _ (go_to (appending (place + 1) (written_slots r)) r) (place + 1)
       (subst (λ (n : ℕ). length (drop pages h.pages) ≡ pages_wanted (with_cell slot new s) (drop n (written_slots r)) r.plan)
       (sym (add-one place)) (left_are s h r place b.inside has_them (length s.owners) b.are b.wide new))

@@ -9,7 +9,7 @@ use Rattle.nv_book.specs.Records.{is_held_by}
 use Rattle.nv_book.specs.declared.record.Record.{Record}
 use Rattle.nv_calls.specs.Retiring.{name_of, record_of}
 use Rattle.nv_cell.specs.Killed.{part_of_pair}
-use Rattle.nv_cell.specs.Named.{number_named, place_of}
+use Rattle.nv_cell.specs.Named.{number_named, place_of_part}
 use Rattle.nv_cell.specs.Numbers.{is_number, killed_part}
 use Rattle.nv_cell.specs.declared.killed.KilledPart.{KilledPart}
 use Rattle.nv_cell.specs.Cleaned.{HasDeadPair}
@@ -61,9 +61,9 @@ number_front (x ∷ xs) ys id n e = go (is_same_id x.id id.entry) e (number_name
   more None q f rec = cc
   more (Some m) q f rec = rw (rec m q) f
 
-  go : (b : Bool) → (if b then place_of x.item id.part else option_map (λ m. part_count x + m) (number_named xs id)) ≡ Some n
+  go : (b : Bool) → (if b then place_of_part x.item id.part else option_map (λ m. part_count x + m) (number_named xs id)) ≡ Some n
       → (o : Option ℕ) → number_named xs id ≡ o → ((m : ℕ) → number_named xs id ≡ Some m → number_named (xs ++ ys) id ≡ Some m)
-      → (if b then place_of x.item id.part else option_map (λ m. part_count x + m) (number_named (xs ++ ys) id)) ≡ Some n
+      → (if b then place_of_part x.item id.part else option_map (λ m. part_count x + m) (number_named (xs ++ ys) id)) ≡ Some n
   go true f o q rec = f
   go false f o q rec = more o q (rw q at f) rec
 

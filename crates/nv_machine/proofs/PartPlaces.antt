@@ -28,7 +28,7 @@ use Rattle.nv_entry.specs.declared.item.Item.TheVariants.{Gone, Init, Unbind, Wr
 use Rattle.nv_calls.proofs.Appends.{front, map-drop, map-take}
 use Rattle.nv_machine.specs.Hands.{ArePagesTold, IsParted}
 use Rattle.nv_cell.specs.Readers.{is_erased}
-use Rattle.nv_machine.specs.Kinds.{with_entries, with_pages}
+use Rattle.nv_machine.specs.Kinds.{with_entries, with_log_pages}
 
 -- ---- sizes
 
@@ -49,7 +49,7 @@ sized_later size (suc n) (b ∷ bs) h = sized_later size n bs h.1
 -- ---- more log pages
 
 pub paged_parted : (block : ℕ) (pages : List BlockValue) (cell : CellState) → AreSized block pages → IsParted block cell
-    → IsParted block (with_pages pages cell)
+    → IsParted block (with_log_pages pages cell)
 paged_parted block [] cell sized h = h
 paged_parted block (b ∷ pages) cell sized h =
     paged_parted block pages (record cell { chain = record cell.chain { blocks = cell.chain.blocks ++ b ∷ [] } }) sized.1 (record {

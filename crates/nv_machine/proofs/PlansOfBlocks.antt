@@ -10,7 +10,7 @@ use Rattle.nv_calls.specs.Refusals.{found}
 use Rattle.nv_calls.specs.calls.Rename.{bound_plan, own_place, replaced_plan}
 use Rattle.nv_calls.specs.calls.Unlink.{leave_plan}
 use Rattle.nv_calls.specs.Plain.{same_handle}
-use Rattle.nv_calls.specs.Plan.{plan_blocks, run_if, runs_of, stretches, with_number}
+use Rattle.nv_calls.specs.Plan.{plan_blocks, run_if, block_runs_of, stretches, with_number}
 use Rattle.nv_calls.specs.declared.call.Call.{Call}
 use Rattle.nv_calls.specs.declared.plan.InodePlan.{InodePlan}
 use Rattle.nv_calls.specs.declared.allocation.Allocation.{Allocation}
@@ -69,7 +69,7 @@ runs_blocks (run ∷ runs) all =
     ∙ ap (λ (l : List ℕ). range_with_len run.0 run.1 ++ l) (runs_blocks runs all.1)
 
 -- runs have the blocks that they are made of
-pub runs_are : (numbers : List ℕ) → AllByRecursion (λ n. n < 2 ^ 32) numbers → blocks_of (runs_of numbers) ≡ numbers
+pub runs_are : (numbers : List ℕ) → AllByRecursion (λ n. n < 2 ^ 32) numbers → blocks_of (block_runs_of numbers) ≡ numbers
 runs_are numbers all = runs_blocks (stretches numbers) (all_end (2 ^ 32) numbers all) ∙ stretched numbers
 
 pub small_numbers : (bs : List BlockValue) → AllByRecursion (λ (b : BlockValue). b.number < 2 ^ 32) bs

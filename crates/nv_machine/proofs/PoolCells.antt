@@ -20,7 +20,7 @@ use Rattle.nv_entry.specs.Blocks.{item_blocks}
 use Rattle.nv_entry.specs.declared.item.Entry.{Entry}
 use Rattle.nv_entry.specs.declared.item.Item.{Item}
 use Rattle.nv_log.specs.Chain.{log}
-use Rattle.nv_machine.specs.Kinds.{entries_for, with_entries, with_pages}
+use Rattle.nv_machine.specs.Kinds.{entries_for, with_entries, with_log_pages}
 use Rattle.nv_machine.specs.Reads.{is_written}
 use Rattle.nv_machine.specs.World.{Running}
 use Rattle.nv_machine.proofs.AppendsToCome.{entries_more, pages_keep}
@@ -68,7 +68,7 @@ like_inode old new same h = same.inode ∙ h
 -- ---- append
 
 paged_rest : (pages : List BlockValue) (cell : CellState)
-    → ((with_pages pages cell).chain.tail ≡ cell.chain.tail) × ((with_pages pages cell).generation ≡ cell.generation)
+    → ((with_log_pages pages cell).chain.tail ≡ cell.chain.tail) × ((with_log_pages pages cell).generation ≡ cell.generation)
 paged_rest [] cell = (refl, refl)
 paged_rest (b ∷ pages) cell = paged_rest pages _
 
@@ -80,9 +80,9 @@ more_rest (e ∷ entries) blocks cell =
 
 -- entries past the tail change neither
 pub appended_like : (entries : List Entry) (blocks pages : List BlockValue) (cell : CellState)
-    → cell.chain.tail ≤ length cell.chain.entries → IsLike cell (with_entries entries blocks (with_pages pages cell))
+    → cell.chain.tail ≤ length cell.chain.entries → IsLike cell (with_entries entries blocks (with_log_pages pages cell))
 appended_like entries blocks pages cell within =
-    let more = with_pages pages cell in
+    let more = with_log_pages pages cell in
     let rest = more_rest entries blocks more in
     let first = paged_rest pages cell in
     record {

@@ -14,7 +14,7 @@ use Rattle.nv_machine.specs.Hands.{AreNumbers}
 use Rattle.nv_machine.specs.Kept.{AreApart, AreBlocksApart, AreCleanable, IsReleaseCoveredBy}
 use Rattle.nv_machine.specs.Locks.{AreLocks}
 use Rattle.nv_machine.specs.Numbers.{all_blocks, free_of, held_by_actor, held_in, used_blocks}
-use Rattle.nv_machine.specs.PlainRun.{deed_of, keeps_nodes}
+use Rattle.nv_machine.specs.PlainRun.{plain_change_of, keeps_nodes}
 use Rattle.nv_machine.specs.Reached.{IsReached}
 use Rattle.nv_machine.specs.Settled.{settled_nodes}
 use Rattle.nv_machine.specs.Step.{step}
@@ -152,6 +152,6 @@ blocks_apart g w fits locks all releases cleanable = record {
   cleanable = cleanable;
 }
 
-pub reached_nodes : (w : World) (e : Event) → IsReached w → keeps_nodes (deed_of w e) ≡ true
+pub reached_nodes : (w : World) (e : Event) → IsReached w → keeps_nodes (plain_change_of w e) ≡ true
     → (handle : Handle) → settled_nodes (step w e).world.shared handle ≡ settled_nodes w.shared handle
 reached_nodes w e is keeps = nodes_stay w e is.locks is.order is.kept is.apart keeps

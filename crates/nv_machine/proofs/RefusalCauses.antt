@@ -18,7 +18,7 @@ use Rattle.nv_machine.specs.Reads.{copies}
 use Rattle.nv_machine.specs.Sequence.{beginning, directories, sequel}
 use Rattle.nv_machine.specs.Maintenance.{shown_by, maintenance_turn}
 use Rattle.nv_machine.specs.Step.{check_grows, ending_at, handle_at, is_numbered, kind_turn, made_in, same_looked, visit_grows, with_made}
-use Rattle.nv_machine.specs.World.{Answers, ReturnNumber, Check, Draining, Drains, Ending, Enter, Give, HandState, Leave, Lock, Look, Make, Moves, Next, Overtaken, Ready, Refuses, Running, Shared, MaintenanceStep, Maintenance, TakeBlocks, TakeLogPages, Turn, Unlock, Unpin, Visit, list_at, owner_at, Cleans, Compact, Fresh, Judge, Release, Unlink}
+use Rattle.nv_machine.specs.World.{Answers, ReturnNumber, Check, Draining, Drains, Ending, Enter, Give, HandState, Leave, Lock, Look, Make, Moves, Next, BoundAnew, Ready, Refuses, Running, Shared, MaintenanceStep, Maintenance, TakeBlocks, TakeLogPages, Turn, Unlock, Unpin, Visit, list_at, owner_at, Cleans, Compact, Fresh, Judge, Release, Unlink}
 use Rattle.nv_machine.proofs.StepWays.{After, Closes, EndsBy, Going, IsClear, Takes, Telling, any_ends, any_lasts, any_rests, asks_on, by_last, is_last, is_overtaken, noted, noted_ending}
 use Rattle.nv_machine.proofs.StepWalk.{WaysOf, last_ways, walk_of}
 use Rattle.nv_machine.proofs.MaintenanceWalk.{next_on, no_growth, maintenance_walk, told_on, EndsWith}
@@ -74,7 +74,7 @@ look_told (suc place) tests fault e = cc
 abbrev pub CheckCause : Tests → Bool → Tests → Bool → Option Ending → Type 0
 CheckCause first same all numbered None = all ≡ passes
 CheckCause first same all numbered (Some Answers) = Unit {0}
-CheckCause first same all numbered (Some Overtaken) = (first ≡ passes) × (same ≡ false)
+CheckCause first same all numbered (Some BoundAnew) = (first ≡ passes) × (same ≡ false)
 CheckCause first same all numbered (Some (Drains draining)) = ⊥
 CheckCause first same all numbered (Some (Cleans cleaned)) = ⊥
 CheckCause first same all numbered (Some (Refuses fault)) =
@@ -156,7 +156,7 @@ module _ (nodes : Handle → Option NodeCopy) (block a : ℕ) (granted : Bool) (
       (is_numbered (beginning r.call) h.ino) (Some e)
       → EndsBy (Goes Check) (Tells Check) r.slots s h (with_made s h r) e
   check_ends Answers told = any_ends (answers (For Check) (MayBeOvertaken Check nodes r) Answers refl)
-  check_ends Overtaken told = record {
+  check_ends BoundAnew told = record {
     unlock = λ some. told;
     overs = λ none. record {
       again = λ n over some. tt;
@@ -258,7 +258,7 @@ caused k block actor granted s h r going = caused_by (copies s) block actor gran
 
 -- ---- the last unlock of a call that was overtaken
 
-pub contended : (place block actor : ℕ) (granted : Bool) (s : Shared) (h : HandState) (r : Running) → r.ending ≡ Overtaken
+pub contended : (place block actor : ℕ) (granted : Bool) (s : Shared) (h : HandState) (r : Running) → r.ending ≡ BoundAnew
     → RefusesFor (IsRoundless r) (Unit {0}) (kind_turn (Unlock place) block actor granted s h r)
 contended place block actor granted s h r over =
     on_turn (IsRoundless r) (Unit {0}) (kind_turn (Unlock place) block actor granted s h r)

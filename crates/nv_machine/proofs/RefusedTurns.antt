@@ -17,7 +17,7 @@ use Rattle.nv_machine.specs.Reads.{copies, written_slots}
 use Rattle.nv_machine.specs.Sequence.{beginning, sequel}
 use Rattle.nv_machine.specs.Maintenance.{is_first, one_more, shown_by}
 use Rattle.nv_machine.specs.Step.{ending_at, is_numbered, kind_turn, same_looked, with_made}
-use Rattle.nv_machine.specs.World.{Answers, Append, ReturnNumber, Check, Close, Draining, Drains, Drop, Ending, Enter, Give, HandState, Leave, Lock, LockPicked, Look, Make, Next, Number, Open, Overtaken, Pick, Pin, Publish, Ready, Refuses, Release, Retire, Running, Shared, Show, MaintenanceStep, Maintenance, TakeBlocks, TakeLogPages, Unlock, Unpin, Visit, with_book, Cleans, Compact, Fresh, Judge, LockCleaned, Unlink, cell_at}
+use Rattle.nv_machine.specs.World.{Answers, Append, ReturnNumber, Check, Close, Draining, Drains, Drop, Ending, Enter, Give, HandState, Leave, Lock, LockPicked, Look, Make, Next, Number, Open, BoundAnew, Pick, Pin, Publish, Ready, Refuses, Release, Retire, Running, Shared, Show, MaintenanceStep, Maintenance, TakeBlocks, TakeLogPages, Unlock, Unpin, Visit, with_book, Cleans, Compact, Fresh, Judge, LockCleaned, Unlink, cell_at}
 use Rattle.nv_machine.proofs.LoopSteps.{Commits, appending_any, publishing_any, retiring_any}
 use Rattle.nv_machine.proofs.RefusalCauses.{CheckCause, reads_itself}
 use Rattle.nv_machine.proofs.MaintenanceWalk.{StepWaysOf, next_on, step_walk_by}
@@ -129,7 +129,7 @@ IsOpenLeft k s t = (is_open k ≡ true) × SameButPins s t
 abbrev pub OpenGoes : Next → Shared → Shared → Ending → Next → Type 0
 OpenGoes k s t Answers n = is_open n ≡ true → IsOpenLeft k s t
 OpenGoes k s t (Refuses fault) n = (is_closing n ≡ true) × IsOpenLeft k s t
-OpenGoes k s t Overtaken n = (is_unlock n ≡ true) × IsOpenLeft k s t
+OpenGoes k s t BoundAnew n = (is_unlock n ≡ true) × IsOpenLeft k s t
 OpenGoes k s t (Drains draining) n = (is_last n ≡ true) × (0 < draining.released)
 OpenGoes k s t (Cleans cleaned) n = is_last n ≡ true
 
@@ -243,7 +243,7 @@ module _ (block a : ℕ) (granted : Bool) (s : Shared) (h : HandState) (r : Runn
   check_ends : (e : Ending) → ending_at block s h r ≡ Some e → EndsBy (Goes Check s) (Tells Check s) r.slots s h (with_made s h r) e
   check_ends Answers by = any_ends (answered_closes Check s Answers refl)
   check_ends (Refuses fault) by = denies Check fault (refl, same_as s)
-  check_ends Overtaken by = record {
+  check_ends BoundAnew by = record {
     unlock = λ some. (refl, (refl, same_as s));
     overs = λ none. record {
       again = λ n over some o. (refl, same_as s);
@@ -380,7 +380,7 @@ module _ (fault : Fault) (block a : ℕ) (granted : Bool) (s : Shared) (h : Hand
 
 abbrev pub OvertakenGoes : Shared → Shared → Ending → Next → Type 0
 OvertakenGoes s t Answers n = SameButPins s t
-OvertakenGoes s t Overtaken n = (is_unlock n ≡ true) × SameButPins s t
+OvertakenGoes s t BoundAnew n = (is_unlock n ≡ true) × SameButPins s t
 OvertakenGoes s t other n = ⊥
 
 abbrev pub OverGoes : Shared → Going
@@ -389,7 +389,7 @@ OverGoes s t h q = OvertakenGoes s t q.ending q.next
 abbrev pub OverTold : Shared → Telling
 OverTold s x t h = SameButPins s t
 
-module _ (block a : ℕ) (granted : Bool) (s : Shared) (h : HandState) (r : Running) (is : r.ending ≡ Overtaken) where
+module _ (block a : ℕ) (granted : Bool) (s : Shared) (h : HandState) (r : Running) (is : r.ending ≡ BoundAnew) where
   pub over_kind : (k : Next) → is_unlock k ≡ true → After (OverGoes s) (OverTold s) (kind_turn k block a granted s h r)
   over_kind (Unlock place) on = walk_of (OverGoes s) (OverTold s) block a s h r (Unlock place) granted (
     λ more. subst (λ (e : Ending). OvertakenGoes s (work (Unlock place) block a s h r).shared e (Unlock (place + 1))) (sym is)

@@ -32,7 +32,7 @@ use Rattle.nv_machine.specs.Hands.{IsParted}
 use Rattle.nv_machine.specs.Held.{is_of_slot, killed_by_call, killed_in, killed_slots, parts_for, pending_in, picked_at, picked_by_actor, picked_by_call}
 use Rattle.nv_machine.specs.Kinds.{end_turn, with_erased}
 use Rattle.nv_machine.specs.Reads.{written_slots}
-use Rattle.nv_machine.specs.Recorded.{is_kept}
+use Rattle.nv_machine.specs.Recorded.{is_marked_kept}
 use Rattle.nv_machine.specs.Settled.{settled}
 use Rattle.nv_machine.specs.Maintenance.{one_more, with_released}
 use Rattle.nv_machine.specs.Starts.{IsStart}
@@ -171,7 +171,7 @@ module _ (g : GeometryNumbers) (w : World) (all : IsKnown g w) (actor : ℕ) (dr
               let filed_told = all_filed T living s.book.manifests s.book.deferred all.rs all.listed.list
               (all_front T all.rs (picked_in but) told) in
               let p : Record → Bool = λ x. is_filed_on d.ino (log_of cell) n x in
-              let once : count p (all_records s.book.manifests ++ pending_in but) ≡ bit (is_kept (mark_at left.marks n)) = omega (
+              let once : count p (all_records s.book.manifests ++ pending_in but) ≡ bit (is_marked_kept (mark_at left.marks n)) = omega (
                 arith,
                 left_marks.kept_are n,
                 count_append p (all_records s.book.manifests) (pending_in but),

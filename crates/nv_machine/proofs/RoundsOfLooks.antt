@@ -11,7 +11,7 @@ use Rattle.nv_machine.specs.Rounds.{HasRounds, checks_left, failed_checks, fails
 use Rattle.nv_machine.specs.Sequence.{Beginning, Numbers, beginning, begun}
 use Rattle.nv_machine.specs.Maintenance.{maintenance_turn}
 use Rattle.nv_machine.specs.Step.{after, ending_at, kind_turn, step, turn}
-use Rattle.nv_machine.specs.World.{Actor, Check, Ending, Ends, Event, Go, HandState, Moves, Next, Number, Overtaken, Refuses, Running, Shared, MaintenanceStep, Maintenance, Start, Started, Turn, Waits, World, actor_at}
+use Rattle.nv_machine.specs.World.{Actor, Check, Ending, Ends, Event, Go, HandState, Moves, Next, Number, BoundAnew, Refuses, Running, Shared, MaintenanceStep, Maintenance, Start, Started, Turn, Waits, World, actor_at}
 use Rattle.nv_machine.proofs.OverEvents.{OwnAfter, event_of, own_goes, started, turn_at}
 use Rattle.nv_machine.proofs.Lists.{self}
 use Rattle.nv_machine.proofs.StepWays.{After, Closes, StopsBy, any_ends, noted, stopped, is_overtaken}
@@ -30,11 +30,11 @@ abbrev KeepsLeft : ℕ → ℕ → Turn → Type 0
 KeepsLeft least failed turn = After (HasLeft least failed) IsEnd turn
 
 one_more : (e : Ending) (rounds : ℕ) → checks_left e rounds ≤ rounds + 1
-one_more Overtaken rounds = omega arith
+one_more BoundAnew rounds = omega arith
 one_more other rounds = omega arith
 
 left_if : (least : ℕ) (e : Ending) (rounds : ℕ) → least ≤ rounds + 1 → is_overtaken e ≡ false → least ≤ 0 + checks_left e rounds
-left_if least Overtaken rounds few is = absurd (true≢false is)
+left_if least BoundAnew rounds few is = absurd (true≢false is)
 left_if least other rounds few is = omega (arith, few)
 
 -- ---- every kind
@@ -57,9 +57,9 @@ noted_left other block s h r = refl
 stops_left : (k : Next) (block : ℕ) (s : Shared) (h : HandState) (r : Running) (e : Ending) → StopsBy k block s h r e
     → Closes (HasLeft (checks_left r.ending r.rounds) (fails_by k (ending_at block s h r))) IsEnd s h (stopped k s h r) e
 stops_left Check block s h r (Refuses fault) by = closes _ _ s h _ _ (let more = one_more r.ending r.rounds in omega (arith, more))
-stops_left Check block s h r Overtaken by =
-    subst (λ (o : Option Ending). Closes (HasLeft (checks_left r.ending r.rounds) (fails_by Check o)) IsEnd s h (stopped Check s h r) Overtaken)
-    (sym by) (closes _ 1 s h _ Overtaken (let more = one_more r.ending r.rounds in omega (arith, more)))
+stops_left Check block s h r BoundAnew by =
+    subst (λ (o : Option Ending). Closes (HasLeft (checks_left r.ending r.rounds) (fails_by Check o)) IsEnd s h (stopped Check s h r) BoundAnew)
+    (sym by) (closes _ 1 s h _ BoundAnew (let more = one_more r.ending r.rounds in omega (arith, more)))
 stops_left Check block s h r e by = closes _ _ s h _ _ (let more = one_more r.ending r.rounds in omega (arith, more))
 stops_left other block s h r (Refuses fault) by = closes _ _ s h _ _ (let more = one_more r.ending r.rounds in omega (arith, more))
 stops_left other block s h r e by = absurd by
@@ -151,13 +151,13 @@ pub start_rounds : (w : World) (actor : ℕ) (c : Call) → (step w (Start actor
 start_rounds w actor c e =
     subst (λ (x : Actor). HasRounds 8 0 x.running) (sym (started w actor c e)) (begun_rounds (beginning c) w.shared c)
 
-none_left : (failed : ℕ) (r : Running) → HasRounds 8 failed (Some r) → r.ending ≡ Overtaken → r.rounds ≡ 0 → 8 ≤ failed
+none_left : (failed : ℕ) (r : Running) → HasRounds 8 failed (Some r) → r.ending ≡ BoundAnew → r.rounds ≡ 0 → 8 ≤ failed
 none_left failed r k over none =
     let left : checks_left r.ending r.rounds ≡ 0 = ap (λ e. checks_left e r.rounds) over ∙ none in omega (arith, k, left)
 
 pub eight_failed : (w : World) (actor : ℕ) (c : Call) (events : List Event) (r : Running) → (step w (Start actor c)).reply ≡ Started
     → AllByRecursion (IsNoStart actor) events → (actor_at (after (step w (Start actor c)).world events) actor).running ≡ Some r
-    → r.ending ≡ Overtaken → r.rounds ≡ 0 → 8 ≤ failed_checks actor (step w (Start actor c)).world events
+    → r.ending ≡ BoundAnew → r.rounds ≡ 0 → 8 ≤ failed_checks actor (step w (Start actor c)).world events
 eight_failed w actor c events r e none is over last =
     let v : World = (step w (Start actor c)).world in
     let eight = none_left (0 + failed_checks actor v events) r

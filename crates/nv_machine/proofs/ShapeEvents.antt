@@ -9,7 +9,7 @@ use Rattle.nv_entry.specs.declared.item.Entry.{Entry}
 use Rattle.nv_entry.specs.declared.item.Item.{Item}
 use Rattle.nv_machine.specs.Grown.{fresh_entries}
 use Rattle.nv_machine.specs.Format.{formatted}
-use Rattle.nv_machine.specs.PlainRun.{deed_of, keeps_nodes}
+use Rattle.nv_machine.specs.PlainRun.{plain_change_of, keeps_nodes}
 use Rattle.nv_machine.specs.Reads.{written_slots}
 use Rattle.nv_machine.specs.Settled.{settled}
 use Rattle.nv_entry.specs.Shape.{AreLawful, IsShaped, items_of, kind_after}
@@ -82,7 +82,7 @@ module _ (g : GeometryNumbers) (w : World) (known : IsKnown g w) (are : AreShape
   abbrev Shaped : Event → Type 0
   Shaped e = AreShaped w.numbers.block (step w e).world.shared
 
-  kept_shaped : (e : Event) → keeps_nodes (deed_of w e) ≡ true → Shaped e
+  kept_shaped : (e : Event) → keeps_nodes (plain_change_of w e) ≡ true → Shaped e
   kept_shaped e keeps =
       let k = known.reached in
       shapes_stay w e k.locks k.order k.kept k.apart keeps w.numbers.block are

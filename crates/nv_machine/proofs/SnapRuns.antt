@@ -10,7 +10,7 @@ use Rattle.nv_base.specs.declared.numbers.Handle.{Handle}
 use Rattle.nv_calls.specs.Refusals.{Check as Tests, passes}
 use Rattle.nv_entry.specs.declared.node.NodeCopy.{NodeCopy}
 use Rattle.nv_epoch.specs.SnapList.{Snapshots as Living, pins_of}
-use Rattle.nv_machine.specs.PlainRun.{copy_in, Plain, deed_of, plain_after, plain_of, plain_step}
+use Rattle.nv_machine.specs.PlainRun.{copy_in, Plain, plain_change_of, plain_after, plain_of, plain_step}
 use Rattle.nv_machine.specs.Reading.{plain_tests, test_pins, test_there, tests_on}
 use Rattle.nv_machine.specs.Maintenance.{drop_tests}
 use Rattle.nv_machine.specs.Starts.{IsStart}
@@ -43,7 +43,7 @@ event_in_step : (g : GeometryNumbers) (w : World) (e : Event) (p : Plain) → Ar
     → InStep g (step w e).world.shared.book.snaps (plain_step w e p)
 event_in_step g w e p bare is =
     let l = w.shared.book.snaps in
-    let d = deed_of w e in
+    let d = plain_change_of w e in
     rw (event_snaps w e bare) (record {
       epoch = deed_epoch d _ l p is.epoch;
       alike = deed_alike Any d _ l p is.epoch (λ made. tt) is.alike;

@@ -11,7 +11,7 @@ use Rattle.nv_epoch.specs.SnapList.{Snapshots as Living, after_making, after_pin
 use Rattle.nv_machine.specs.Hands.{AreNumbers, HandAt, HandOf, HandOn}
 use Rattle.nv_machine.specs.Locks.{AreLocks, HasSlots, IsInside, commits_at}
 use Rattle.nv_machine.specs.Sequence.{slots_on}
-use Rattle.nv_machine.specs.PlainRun.{Commits, Deed, Nothing, Numbers, Maintains, deed, deed_of, done_on, entered}
+use Rattle.nv_machine.specs.PlainRun.{Commits, PlainChange, Nothing, Numbers, Maintains, plain_change, plain_change_of, done_on, entered}
 use Rattle.nv_machine.specs.Reads.{written_slots}
 use Rattle.nv_machine.specs.Maintenance.{maintenance_turn}
 use Rattle.nv_machine.specs.Step.{kind_turn, step, turned}
@@ -22,20 +22,20 @@ use Rattle.nv_machine.proofs.WorkKeeps.{AfterTurn, turn_keeps}
 
 -- ---- the list after a deed
 
-abbrev pub snaps_after : Deed → Living → Living
+abbrev pub snaps_after : PlainChange → Living → Living
 snaps_after (Maintains Make) l = after_making l
 snaps_after (Maintains (Drop snapshot)) l = after_removal l snapshot
 snaps_after (Maintains (Pin snapshot)) l = after_pin l snapshot
 snaps_after (Maintains (Unpin snapshot seen)) l = after_unpin l snapshot
 snaps_after other l = l
 
-abbrev OnSnaps : Deed → Living → Turn → Type 0
+abbrev OnSnaps : PlainChange → Living → Turn → Type 0
 OnSnaps d l (Moves t h r) = t.book.snaps ≡ snaps_after d l
 OnSnaps d l Waits = l ≡ snaps_after d l
 OnSnaps d l (Ends result t h) = t.book.snaps ≡ snaps_after d l
 
 -- a turn that leaves it, whose deed does
-same_snaps : (d : Deed) (l : Living) (t : Turn) → snaps_after d l ≡ l → AfterTurn (λ (u : Shared) (h : HandState). u.book.snaps ≡ l) t
+same_snaps : (d : PlainChange) (l : Living) (t : Turn) → snaps_after d l ≡ l → AfterTurn (λ (u : Shared) (h : HandState). u.book.snaps ≡ l) t
     → OnSnaps d l t
 same_snaps d l (Moves s h r) e on = on ∙ sym e
 same_snaps d l Waits e on = sym e
@@ -118,15 +118,15 @@ back_same (Some ino) s h = refl
 
 module _ (block a : ℕ) (granted : Bool) (s : Shared) (h : HandState) (r : Running) where
   file_snaps : (k : Next) → (work k block a s h r).shared.book.snaps ≡ s.book.snaps
-      → snaps_after (deed k (written_slots r) (kind_turn k block a granted s h r)) s.book.snaps ≡ s.book.snaps
-      → OnSnaps (deed k (written_slots r) (kind_turn k block a granted s h r)) s.book.snaps (kind_turn k block a granted s h r)
+      → snaps_after (plain_change k (written_slots r) (kind_turn k block a granted s h r)) s.book.snaps ≡ s.book.snaps
+      → OnSnaps (plain_change k (written_slots r) (kind_turn k block a granted s h r)) s.book.snaps (kind_turn k block a granted s h r)
   file_snaps k same e =
       let t = kind_turn k block a granted s h r in
-      same_snaps (deed k (written_slots r) t) s.book.snaps t e
+      same_snaps (plain_change k (written_slots r) t) s.book.snaps t e
       (turn_keeps (λ (u : Shared) (x : HandState). u.book.snaps ≡ s.book.snaps) k block a granted s h r refl same)
 
   kind_snaps : (k : Next) → IsBare k h r
-      → OnSnaps (deed k (written_slots r) (kind_turn k block a granted s h r)) s.book.snaps (kind_turn k block a granted s h r)
+      → OnSnaps (plain_change k (written_slots r) (kind_turn k block a granted s h r)) s.book.snaps (kind_turn k block a granted s h r)
   kind_snaps Number bare = file_snaps Number (number_same s.pool.numbers s h) refl
   kind_snaps Enter bare = file_snaps Enter refl (entered_same (kind_turn Enter block a granted s h r) s.book.snaps)
   kind_snaps (Publish place) bare = file_snaps (Publish place) refl (publish_same (nat_lt 1 (length (written_slots r))) s.book.snaps)
@@ -139,14 +139,14 @@ module _ (block a : ℕ) (granted : Bool) (s : Shared) (h : HandState) (r : Runn
 abbrev pub AreBare : World → Type 0
 AreBare w = (actor : ℕ) (r : Running) → (actor_at w actor).running ≡ Some r → IsBare r.next (actor_at w actor).hand r
 
-turned_snaps : (d : Deed) (t : Turn) (actor : ℕ) (w : World) → OnSnaps d w.shared.book.snaps t
+turned_snaps : (d : PlainChange) (t : Turn) (actor : ℕ) (w : World) → OnSnaps d w.shared.book.snaps t
     → (turned t actor w).world.shared.book.snaps ≡ snaps_after d w.shared.book.snaps
 turned_snaps d (Moves s h r) actor w on = on
 turned_snaps d other actor w on = on
 
 pub event_snaps : (w : World) (e : Event) → AreBare w
-    → (step w e).world.shared.book.snaps ≡ snaps_after (deed_of w e) w.shared.book.snaps
-event_snaps w e bare = event_deed (λ (d : Deed) (v : World). v.shared.book.snaps ≡ snaps_after d w.shared.book.snaps) w refl e
+    → (step w e).world.shared.book.snaps ≡ snaps_after (plain_change_of w e) w.shared.book.snaps
+event_snaps w e bare = event_deed (λ (d : PlainChange) (v : World). v.shared.book.snaps ≡ snaps_after d w.shared.book.snaps) w refl e
     (λ actor c there is. refl)
     (λ actor granted r there is. turned_snaps _ (turn_at w actor granted r) actor w
     (kind_snaps w.numbers.block actor granted w.shared (actor_at w actor).hand r r.next (bare actor r is)))

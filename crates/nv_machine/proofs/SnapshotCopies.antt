@@ -7,7 +7,7 @@ use Rattle.nv_calls.specs.Plain.{node_in}
 use Rattle.nv_entry.specs.declared.node.NodeCopy.{NodeCopy}
 use Rattle.nv_epoch.specs.SnapList.{Snapshots as Living, living_without, pins_at, pins_of, repinned, with_pins}
 use Rattle.nv_epoch.specs.declared.snapshot.Snapshot.{Snapshot}
-use Rattle.nv_machine.specs.PlainRun.{Copy, Deed, Maintains, Plain, done, is_of, with_pins as copy_with_pins}
+use Rattle.nv_machine.specs.PlainRun.{Copy, PlainChange, Maintains, Plain, done, is_of, with_pins as copy_with_pins}
 use Rattle.nv_machine.specs.Reading.{pins_in}
 use Rattle.nv_machine.specs.World.{Drop, Make, Pin, Running, Unpin}
 use Rattle.nv_epoch.proofs.Pins.{pins_at-changed, pins_at-kept, pins_at-push, pins_at-removed, pins_at-unchanged}
@@ -71,7 +71,7 @@ module _ (N : ℕ → (Handle → Option NodeCopy) → Type 0) where
 
   -- ---- what a deed makes of them
 
-  pub deed_alike : (d : Deed) (running : Option Running) (l : Living) (p : Plain) → l.epoch ≡ p.epoch
+  pub deed_alike : (d : PlainChange) (running : Option Running) (l : Living) (p : Plain) → l.epoch ≡ p.epoch
       → (d ≡ Maintains Make → N l.epoch (node_in p.nodes)) → AreAlike N l.living p.copies
       → AreAlike N (snaps_after d l).living (done d running p).copies
   deed_alike (Maintains Make) running l p epoch new are =
@@ -105,12 +105,12 @@ module _ (N : ℕ → (Handle → Option NodeCopy) → Type 0) where
 
 -- ---- the epoch
 
-pub deed_epoch : (d : Deed) (running : Option Running) (l : Living) (p : Plain) → l.epoch ≡ p.epoch
+pub deed_epoch : (d : PlainChange) (running : Option Running) (l : Living) (p : Plain) → l.epoch ≡ p.epoch
     → (snaps_after d l).epoch ≡ (done d running p).epoch
 deed_epoch (Maintains Make) running l p e = ap (λ n. n + 1) e
 deed_epoch other running l p e = e
 
-pub deed_most : (d : Deed) (l : Living) → (snaps_after d l).most ≡ l.most
+pub deed_most : (d : PlainChange) (l : Living) → (snaps_after d l).most ≡ l.most
 deed_most (Maintains Make) l = refl
 deed_most other l = refl
 
@@ -155,7 +155,7 @@ made_before l n are is =
     go None had true e some = omega (arith, eqb-true l.epoch n e)
     go None had false e some = cc
 
-pub deed_before : (d : Deed) (l : Living) → AreBefore l → AreBefore (snaps_after d l)
+pub deed_before : (d : PlainChange) (l : Living) → AreBefore l → AreBefore (snaps_after d l)
 deed_before (Maintains Make) l are = λ n is. made_before l n are is
 deed_before (Maintains (Drop snapshot)) l are = λ n is. are n (lived_then l n snapshot is)
 deed_before (Maintains (Pin snapshot)) l are = λ n is. are n (lived l n snapshot (λ pins. pins + 1) is)

@@ -19,7 +19,7 @@ use Rattle.nv_entry.specs.Bytes.{page_of}
 use Rattle.nv_entry.specs.declared.item.Entry.{Entry}
 use Rattle.nv_entry.specs.declared.item.Item.{Item}
 use Rattle.nv_machine.specs.Hands.{AreLists, HandAt, HasPlanned, IsParted}
-use Rattle.nv_machine.specs.Kinds.{asked_list, blocks_in, blocks_left, entries_for, less_list, with_entries, with_pages}
+use Rattle.nv_machine.specs.Kinds.{asked_list, blocks_in, blocks_left, entries_for, less_list, with_entries, with_log_pages}
 use Rattle.nv_calls.specs.FillPages.{filled, fresh_pages}
 use Rattle.nv_machine.specs.Reads.{copies, pages_needed, slot_at, written_slots}
 use Rattle.nv_machine.specs.World.{Append, ReturnNumber, Check, Give, HandState, Look, Next, Number, Publish, Ready, Retire, Running, Shared, Maintenance, MaintenanceStep, Compact, Unlink, TakeBlocks, TakeLogPages, Visit, cell_at, list_at, no_cell, no_list, with_cell, with_numbers}
@@ -161,7 +161,7 @@ append_sound g place pages s h r inside planned sound =
     let ino = slot_at (written_slots r) place in
     let all = all_sized g.block h sound.sized in
     let entries = entries_for r ino in
-    let more = with_pages (take pages h.pages) (cell_at s ino) in
+    let more = with_log_pages (take pages h.pages) (cell_at s ino) in
     let paged = paged_parted g.block (take pages h.pages) (cell_at s ino) (sized_first g.block pages h.pages all.pages) (sound.cells ino) in
     let parted = entries_parted g.block entries h.blocks more
     (entries_within r.commit r.epoch (place_in r.plan ino) (items_for r.plan ino) (planned.within ino))

@@ -18,7 +18,7 @@ use Rattle.nv_entry.specs.declared.item.Entry.{Entry}
 use Rattle.nv_epoch.specs.SnapList.{ids, numbers, pins_at}
 use Rattle.nv_epoch.specs.declared.snapshot.Snapshot.{Snapshot}
 use Rattle.nv_machine.specs.Held.{killed_by_actor, killed_in, picked_by_actor}
-use Rattle.nv_machine.specs.Recorded.{IsOfPair, is_kept, recorded_in}
+use Rattle.nv_machine.specs.Recorded.{IsOfPair, is_marked_kept, recorded_in}
 use Rattle.nv_machine.specs.Starts.{IsStart}
 use Rattle.nv_machine.specs.World.{World, cell_at, no_cell}
 use Rattle.nv_machine.proofs.FiledLists.{count, count_append, count_filed}
@@ -77,7 +77,7 @@ module _ (g : GeometryNumbers) (w : World) (records : List Record) (is : IsStart
 
   -- a part is recorded on the list as often as in manifests and among what is pending
   filed : (ino n : ℕ) → count (is_filed_on ino (log_of (cell_at w.shared ino)) n) records
-      ≡ bit (is_kept (mark_at (cell_at w.shared ino).marks n))
+      ≡ bit (is_marked_kept (mark_at (cell_at w.shared ino).marks n))
   filed ino n =
       let p : Record → Bool = is_filed_on ino (log_of (cell_at w.shared ino)) n in
       let book = w.shared.book in
@@ -85,7 +85,7 @@ module _ (g : GeometryNumbers) (w : World) (records : List Record) (is : IsStart
       let rest = count_append p book.deferred (picked_in w) in
       let picked : count p (picked_in w) ≡ 0 = ap (count p) no_picked in
       let list = count_filed p (ids book.snaps) book.manifests book.deferred records is.rising is.list in
-      let once : count p (recorded_in w) ≡ bit (is_kept (mark_at (cell_at w.shared ino).marks n)) = is.recorded ino n in
+      let once : count p (recorded_in w) ≡ bit (is_marked_kept (mark_at (cell_at w.shared ino).marks n)) = is.recorded ino n in
       omega (arith, all, rest, picked, list, once)
 
   marks_of : (ino : ℕ) → HasMarks (cell_at w.shared ino)

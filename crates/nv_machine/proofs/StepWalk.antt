@@ -14,7 +14,7 @@ use Rattle.nv_machine.specs.Kinds.{return_number_turn, blocks_in, blocks_turn, c
 use Rattle.nv_machine.specs.Reads.{copies, home_from, nodes, slot_at}
 use Rattle.nv_machine.specs.Sequence.{directories, nothing_looked, sequel}
 use Rattle.nv_machine.specs.Step.{check_grows, ending_at, handle_at, kind_turn, visit_grows, with_made}
-use Rattle.nv_machine.specs.World.{Answers, ReturnNumber, Check, Cleans, Drains, Ending, Ends, Enter, Give, HandState, Leave, Lock, Look, Next, Number, Overtaken, Ready, Refuses, Running, Shared, Maintenance, TakeBlocks, TakeLogPages, Turn, Unlock, Visit, go_to, owner_at}
+use Rattle.nv_machine.specs.World.{Answers, ReturnNumber, Check, Cleans, Drains, Ending, Ends, Enter, Give, HandState, Leave, Lock, Look, Next, Number, BoundAnew, Ready, Refuses, Running, Shared, Maintenance, TakeBlocks, TakeLogPages, Turn, Unlock, Visit, go_to, owner_at}
 use Rattle.nv_machine.proofs.StepWork.{return_number_work, work, number_work}
 use Rattle.nv_machine.proofs.LoopSteps.{is_on_files}
 use Rattle.nv_machine.proofs.StepWays.{After, AfterBy, Closes, EndsBy, Going, IsBlocked, IsClear, Lasts, Overs, Rests, StopsBy, Takes, Telling, Ways, any_ends, any_lasts, any_overs, any_rests, asks_on, ends_go, is_last, is_taking, last_goes, may_ask, noted, numbered_slots, over_goes, pages_yet, rest_goes, wanted_yet}
@@ -229,7 +229,7 @@ module _ (P : Going) (E : Telling) (block a : ℕ) (s : Shared) (h : HandState) 
     check_stops : (e : Ending) → ending_at block s h r ≡ Some e → StopsBy Check block s h r e
     check_stops (Refuses fault) by = refl
     check_stops Answers by = by
-    check_stops Overtaken by = by
+    check_stops BoundAnew by = by
     check_stops (Drains d) by = by
     check_stops (Cleans cleaned) by = by
   any_ways (TakeBlocks asked) granted w is =

@@ -15,7 +15,7 @@ use Rattle.nv_machine.specs.Reads.{copies, has_last_page, home_from, nodes, page
 use Rattle.nv_machine.specs.Sequence.{directories, nothing_looked, sequel}
 use Rattle.nv_machine.specs.Maintenance.{drop_tests, make_tests, visited}
 use Rattle.nv_machine.specs.Step.{ending_at, handle_at, with_made}
-use Rattle.nv_machine.specs.World.{Answers, ReturnNumber, Check, Compact, Draining, Drains, Drop, Ending, Ends, Enter, Fresh, Give, HandState, Judge, Leave, Lock, LockCleaned, LockPicked, Look, Make, Moves, Next, Number, Overtaken, Pick, Pin, Ready, Refuses, Release, Running, Shared, Show, MaintenanceStep, Maintenance, TakeBlocks, TakeLogPages, Turn, Unlink, Unlock, Unpin, Visit, Waits, go_to, list_at, owner_at, Cleans}
+use Rattle.nv_machine.specs.World.{Answers, ReturnNumber, Check, Compact, Draining, Drains, Drop, Ending, Ends, Enter, Fresh, Give, HandState, Judge, Leave, Lock, LockCleaned, LockPicked, Look, Make, Moves, Next, Number, BoundAnew, Pick, Pin, Ready, Refuses, Release, Running, Shared, Show, MaintenanceStep, Maintenance, TakeBlocks, TakeLogPages, Turn, Unlink, Unlock, Unpin, Visit, Waits, go_to, list_at, owner_at, Cleans}
 use Rattle.nv_machine.proofs.StepWork.{work}
 use Rattle.nv_machine.proofs.LoopSteps.{goes_on}
 
@@ -89,7 +89,7 @@ module _ (P : Next → Type 0) where
 pub record Closes (P : Going) (E : Telling) (s : Shared) (h : HandState) (r : Running) (e : Ending) : Type 0 where
   pub last : (k : Next) → is_last k ≡ true → P s h (record r { ending = e; next = k })
   pub told : E (result_by e r) s h
-  pub again : (n : ℕ) → e ≡ Overtaken → r.rounds ≡ suc n → P s h (record r { ending = Answers; rounds = n; next = Look 0 })
+  pub again : (n : ℕ) → e ≡ BoundAnew → r.rounds ≡ suc n → P s h (record r { ending = Answers; rounds = n; next = Look 0 })
   pub picks : (d : Draining) (left : ℕ) → e ≡ Drains d → d.left ≡ suc left
       → P s h (record r { ending = Answers; slots = []; next = Maintenance (Pick (record { released = d.released; left = left })) })
 
@@ -199,7 +199,7 @@ pub record Ways (P : Going) (E : Telling) (k : Next) (block a : ℕ) (s : Shared
 -- ---- the last steps, with what is known at each
 
 abbrev pub is_overtaken : Ending → Bool
-is_overtaken Overtaken = true
+is_overtaken BoundAnew = true
 is_overtaken other = false
 
 abbrev pub is_drain : Ending → Bool
@@ -229,8 +229,8 @@ pub record Rests (P : Going) (E : Telling) (home : Option ℕ) (s : Shared) (h :
   pub lasts : home ≡ None → h.ino ≡ None → Lasts P E s h r e
 
 pub record Overs (P : Going) (E : Telling) (s : Shared) (h : HandState) (r : Running) (e : Ending) : Type 0 where
-  pub again : (n : ℕ) → e ≡ Overtaken → r.rounds ≡ suc n → P s h (record r { ending = Answers; rounds = n; next = Look 0 })
-  pub contended : e ≡ Overtaken → r.rounds ≡ 0 → E (Err Contended) s h
+  pub again : (n : ℕ) → e ≡ BoundAnew → r.rounds ≡ suc n → P s h (record r { ending = Answers; rounds = n; next = Look 0 })
+  pub contended : e ≡ BoundAnew → r.rounds ≡ 0 → E (Err Contended) s h
   pub rests : is_overtaken e ≡ false → Rests P E (home_from 0 0 s.lists (blocks_in h)) s h r e
 
 -- with these slots locked
@@ -257,7 +257,7 @@ module _ (W : Type 0) (P : Going) (E : Telling) (s : Shared) (h : HandState) (r 
   rest_goes None None is c = last_goes e refl (c.lasts refl is)
 
   pub over_goes : (x : Ending) → e ≡ x → Overs P E s h r e → AfterBy W P E (over_turn x s h (record r { ending = e }))
-  over_goes Overtaken is c = go r.rounds refl where
+  over_goes BoundAnew is c = go r.rounds refl where
     go : (n : ℕ) → r.rounds ≡ n → AfterBy W P E (again_turn n s h (record r { ending = e }))
     go zero q = c.contended is q
     go (suc n) q = c.again n is q

@@ -8,7 +8,7 @@ use Rattle.nv_calls.specs.Retiring.{erased, released}
 use Rattle.nv_cell.specs.Cell.{killed_by, published}
 use Rattle.nv_cell.specs.declared.killed.KilledPart.{KilledPart}
 use Rattle.nv_machine.specs.Cleaning.{compacted_cell, unlinked, with_fresh, with_old_chain, with_unlinked}
-use Rattle.nv_machine.specs.Kinds.{asked_list, blocks_left, entries_for, first_killed, given, less_list, old_tails, retired_book, retired_cell, with_bytes, with_entries, with_erased, with_freed, with_given, with_killed, with_pages}
+use Rattle.nv_machine.specs.Kinds.{asked_list, blocks_left, entries_for, first_killed, given, less_list, old_tails, retired_book, retired_cell, with_bytes, with_entries, with_erased, with_freed, with_given, with_killed, with_log_pages}
 use Rattle.nv_machine.specs.Reads.{pages_needed, slot_at, written_slots}
 use Rattle.nv_machine.specs.Maintenance.{with_released}
 use Rattle.nv_machine.specs.World.{Append, ReturnNumber, Close, Compact, Drop, Enter, Fresh, Give, HandState, Judge, Leave, Lock, LockCleaned, LockPicked, Make, Next, Number, Open, Pick, Pin, Publish, Ready, Release, Retire, Running, Shared, Show, MaintenanceStep, Maintenance, TakeBlocks, TakeLogPages, Unlink, Unlock, Unpin, cell_at, list_at, with_book, with_cell, with_numbers, with_owner}
@@ -27,7 +27,7 @@ number_work (ino ∷ numbers) s h = both (with_numbers numbers s) (record h { in
 
 abbrev pub append_work : ℕ → ℕ → Shared → HandState → Running → Both
 append_work ino pages s h r =
-    both (with_cell ino (with_entries (entries_for r ino) h.blocks (with_pages (take pages h.pages) (cell_at s ino))) s)
+    both (with_cell ino (with_entries (entries_for r ino) h.blocks (with_log_pages (take pages h.pages) (cell_at s ino))) s)
     (record h { blocks = blocks_left (entries_for r ino) h.blocks; pages = drop pages h.pages })
 
 abbrev pub retire_work : ℕ → List KilledPart → Shared → HandState → Running → Both

@@ -7,7 +7,7 @@ use Rattle.nv_machine.specs.Grown.{AreGrown, HasGrown, HasGrownBy, IsAllSettled,
 use Rattle.nv_machine.specs.Kept.{AreClosed, AreLogsKept, HasNoted, IsKept, IsNotedIf, Knows, KnowsOf}
 use Rattle.nv_machine.specs.Kinds.{enter_turn, first_killed}
 use Rattle.nv_machine.specs.Locks.{AreLocks, AreSlots, commits_at, is_owner}
-use Rattle.nv_machine.specs.PlainRun.{Commits, deed, deed_of}
+use Rattle.nv_machine.specs.PlainRun.{Commits, plain_change, plain_change_of}
 use Rattle.nv_machine.specs.Reads.{is_written, slot_at, written_slots}
 use Rattle.nv_machine.specs.Sequence.{appending}
 use Rattle.nv_machine.specs.Settled.{settled}
@@ -141,7 +141,7 @@ OnSettling s r Waits = ⊥
 OnSettling s r (Ends result t h) = ⊥
 
 commit_settles : (k : Next) (block a : ℕ) (granted : Bool) (s : Shared) (h : HandState) (r : Running) → Standing k block a s h r
-    → deed k (written_slots r) (kind_turn k block a granted s h r) ≡ Commits → OnSettling s r (kind_turn k block a granted s h r)
+    → plain_change k (written_slots r) (kind_turn k block a granted s h r) ≡ Commits → OnSettling s r (kind_turn k block a granted s h r)
 commit_settles Close block a granted s h r st e = (
   close_settles a s h r st.kept (slots_are Close block a s h r st)
       (own_slots Close block a s h r st (λ ino. sym (st.before.mine.owners ino))) st.free
@@ -183,7 +183,7 @@ standing w actor r locks kept grown is = record {
 }
 
 pub point_shared : (w : World) (actor : ℕ) (granted : Bool) (r : Running) → AreLocks w → IsKept w → AreGrown w → actor < length w.actors
-    → (actor_at w actor).running ≡ Some r → deed_of w (Go actor granted) ≡ Commits
+    → (actor_at w actor).running ≡ Some r → plain_change_of w (Go actor granted) ≡ Commits
     → SettlesAll w.shared (step w (Go actor granted)).world.shared r × SameBlocks w.shared (step w (Go actor granted)).world.shared
 point_shared w actor granted r locks kept grown there is e =
     let inside = lt-ltb actor (length w.actors) there in
@@ -195,7 +195,7 @@ point_shared w actor granted r locks kept grown there is e =
     (sym (deed_is (nat_lt actor (length w.actors)) (actor_at w actor).running w actor granted r inside is) ∙ e)))
 
 pub point_settles : (w : World) (actor : ℕ) (granted : Bool) (r : Running) → AreLocks w → IsKept w → AreGrown w → actor < length w.actors
-    → (actor_at w actor).running ≡ Some r → deed_of w (Go actor granted) ≡ Commits
+    → (actor_at w actor).running ≡ Some r → plain_change_of w (Go actor granted) ≡ Commits
     → (ino : ℕ) → settled (step w (Go actor granted)).world.shared ino
     ≡ settled w.shared ino ++ fresh_entries (has (written_slots r) ino) r ino
 point_settles w actor granted r locks kept grown there is e = (point_shared w actor granted r locks kept grown there is e).0

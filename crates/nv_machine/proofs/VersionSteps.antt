@@ -11,7 +11,7 @@ use Rattle.nv_cell.specs.Cell.{CellState, published}
 use Rattle.nv_entry.specs.Blocks.{item_blocks}
 use Rattle.nv_entry.specs.declared.item.Entry.{Entry}
 use Rattle.nv_machine.specs.Frame.{IsFramed, Lent, Stays, lent}
-use Rattle.nv_machine.specs.Kinds.{enter_turn, entries_for, with_entries, with_pages}
+use Rattle.nv_machine.specs.Kinds.{enter_turn, entries_for, with_entries, with_log_pages}
 use Rattle.nv_machine.specs.Locks.{AreSlots, HoldsIts, commits_at, held_at, is_owner}
 use Rattle.nv_machine.specs.Reads.{is_written, pages_needed, slot_at, written_slots}
 use Rattle.nv_machine.specs.Sequence.{closing, opening, publishing, retiring}
@@ -31,7 +31,7 @@ use Rattle.nv_machine.proofs.CellChanges.{cells_after, commit_stays, enters, rem
 
 -- ---- cells
 
-paged_version : (pages : List BlockValue) (cell : CellState) → (with_pages pages cell).version ≡ cell.version
+paged_version : (pages : List BlockValue) (cell : CellState) → (with_log_pages pages cell).version ≡ cell.version
 paged_version [] cell = refl
 paged_version (b ∷ pages) cell = paged_version pages _
 
@@ -42,8 +42,8 @@ more_version (e ∷ entries) blocks cell =
     more_version entries (drop (length (item_blocks e.item)) blocks) (appended e (blocks_for e.item blocks) cell)
 
 appended_version : (entries : List Entry) (blocks pages : List BlockValue) (cell : CellState)
-    → (with_entries entries blocks (with_pages pages cell)).version ≡ cell.version
-appended_version entries blocks pages cell = more_version entries blocks (with_pages pages cell) ∙ paged_version pages cell
+    → (with_entries entries blocks (with_log_pages pages cell)).version ≡ cell.version
+appended_version entries blocks pages cell = more_version entries blocks (with_log_pages pages cell) ∙ paged_version pages cell
 
 -- ---- what a commit has yet to publish
 

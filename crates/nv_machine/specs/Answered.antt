@@ -4,7 +4,7 @@ use Rattle.nv_calls.specs.AllCalls.{answer}
 use Rattle.nv_calls.specs.declared.answer.Answer.{Answer}
 use Rattle.nv_machine.specs.Kinds.{result_by}
 use Rattle.nv_machine.specs.Step.{Step, reply_of}
-use Rattle.nv_machine.specs.World.{Answers, Append, ReturnNumber, Cleans, Close, Drains, Ending, Give, Leave, Moved, Next, Open, Overtaken, Publish, Refuses, Retire, Running, Maintenance, Unlock, Unpin, actor_at}
+use Rattle.nv_machine.specs.World.{Answers, Append, ReturnNumber, Cleans, Close, Drains, Ending, Give, Leave, Moved, Next, Open, BoundAnew, Publish, Refuses, Retire, Running, Maintenance, Unlock, Unpin, actor_at}
 
 -- no step is left that decides anything: a commit is under way, or what is locked or in the hand is given up
 abbrev pub IsLast : Next → Type 0
@@ -28,11 +28,13 @@ IsEnding other = IsLast other
 abbrev pub IsFinal : Ending → Type 0
 IsFinal Answers = Unit {0}
 IsFinal (Refuses fault) = Unit {0}
-IsFinal Overtaken = ⊥
+IsFinal BoundAnew = ⊥
 IsFinal (Drains draining) = ⊥
 IsFinal (Cleans cleaned) = Unit {0}
 
--- a call is to end so, and has only such steps left
+-- a call is to end so, and has only such steps left.
+-- To end so: a call that is to end with its answer, or with a refusal, and has no step left that decides anything.
+-- It is so from its first `append` on, or from where it was refused.
 pub record IsToEnd (e : Ending) (r : Running) : Type 0 where
   pub ends : r.ending ≡ e
   pub last : IsLast r.next
@@ -46,6 +48,7 @@ pub record IsMovedOn (e : Ending) (before after : Running) : Type 0 where
   pub waits : IsToEnd e after
   pub answer : answer_of after ≡ answer_of before
 
+-- the call that goes on is the one before, moved on towards this end
 abbrev pub IsMovedTo : Ending → Running → Option Running → Type 0
 IsMovedTo e before None = ⊥
 IsMovedTo e before (Some after) = IsMovedOn e before after

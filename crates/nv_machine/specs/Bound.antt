@@ -55,12 +55,16 @@ abbrev pub rank_behind : ℕ → Ending → ℕ
 rank_behind cpus (Drains draining) = draining.left * round cpus
 rank_behind cpus other = 0
 
--- the steps left of a call, with the rounds that it may still make
+-- the steps left of a call, with the rounds that it may still make.
+-- Steps left: the rank of the next step in its round, and a whole round for each that is left, or for each record
+-- that a `drain` call may yet release.
 abbrev pub bound : ℕ → Running → ℕ
 bound cpus r = rank_behind cpus r.ending + r.rounds * round cpus + rank cpus (length r.slots) r.next
 
 -- the steps of a call: eight rounds, a visit for each inode that there can be, or a round for each
--- record that it may release
+-- record that it may release.
+-- At a start it is at most 8 * (44 + 3 * CPUs), for a `show` call as many more as inodes are allowed, and for a
+-- `drain` call at most (8 + 1,048,576) * (44 + 3 * CPUs).
 abbrev pub most_steps_of : Call → ℕ → ℕ
 most_steps_of (call.Maintenance (on.Drain count)) cpus = (8 + DRAIN) * round cpus
 most_steps_of (call.Maintenance c) cpus = 8 * round cpus + INODES
@@ -78,6 +82,7 @@ Falls cpus n (Ends result s h) = Unit {0}
 
 -- ---- over events
 
+-- the bound of an actor's call, 0 where it has none
 abbrev pub bound_of : ℕ → Option Running → ℕ
 bound_of cpus None = 0
 bound_of cpus (Some r) = bound cpus r
@@ -91,6 +96,7 @@ abbrev pub moves_by : Reply → ℕ
 moves_by Moved = 1
 moves_by other = 0
 
+-- how often an event moved the call of an actor
 abbrev pub moves_in : ℕ → Event → Reply → ℕ
 moves_in actor (Start other c) reply = 0
 moves_in actor (Go other granted) reply = if other == actor then moves_by reply else 0

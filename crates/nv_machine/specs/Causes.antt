@@ -16,7 +16,7 @@ use Rattle.nv_machine.specs.Sequence.{beginning}
 use Rattle.nv_epoch.specs.SnapList.{pins_of}
 use Rattle.nv_machine.specs.Maintenance.{drop_tests, is_first, make_tests}
 use Rattle.nv_machine.specs.Step.{check_grows, is_numbered, same_looked, visit_grows}
-use Rattle.nv_machine.specs.World.{Answers, Check, Cleans, Drains, Drop, Ending, Ends, Enter, Fresh, HandState, Judge, Look, Make, Moves, Next, Overtaken, Pick, Pin, Ready, Refuses, Running, Shared, Show, MaintenanceStep, Maintenance, TakeBlocks, TakeLogPages, Turn, Visit, Waits, cell_at, list_at}
+use Rattle.nv_machine.specs.World.{Answers, Check, Cleans, Drains, Drop, Ending, Ends, Enter, Fresh, HandState, Judge, Look, Make, Moves, Next, BoundAnew, Pick, Pin, Ready, Refuses, Running, Shared, Show, MaintenanceStep, Maintenance, TakeBlocks, TakeLogPages, Turn, Visit, Waits, cell_at, list_at}
 
 -- ---- causes
 
@@ -78,7 +78,8 @@ IsCauseOn (Fresh ino asked wanted) actor granted s fault =
     IsShort s (asked_list (length s.lists) actor asked) asked wanted fault
 IsCauseOn other actor granted s fault = ⊥
 
--- for what each step refuses its call, where it reads these nodes; the others refuse nothing
+-- for what each step refuses its call, where it reads these nodes; the others refuse nothing.
+-- A cause: for what each step may refuse its call, and when.
 abbrev pub IsCause : Next → ℕ → ℕ → Bool → (Handle → Option NodeCopy) → Shared → HandState → Running → Fault → Type 0
 IsCause (Look place) block actor granted nodes s h r fault = look_refusal nodes r.call ≡ Err fault
 IsCause Check block actor granted nodes s h r fault =
@@ -108,10 +109,11 @@ MayBeOvertaken other nodes r = ⊥
 abbrev pub EndsFor : (Fault → Type 0) → Type 0 → Next → Ending → Type 0
 EndsFor P Q next (Refuses fault) = P fault × IsEnding next
 EndsFor P Q next Answers = Unit {0}
-EndsFor P Q next Overtaken = Q
+EndsFor P Q next BoundAnew = Q
 EndsFor P Q next (Drains draining) = Unit {0}
 EndsFor P Q next (Cleans cleaned) = Unit {0}
 
+-- the fault of a result is one of these
 abbrev pub ResultFor : (Fault → Type 0) → Result Answer Fault → Type 0
 ResultFor P (Ok found) = Unit {0}
 ResultFor P (Err fault) = P fault

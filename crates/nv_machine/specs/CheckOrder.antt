@@ -5,7 +5,7 @@ use Rattle.nv_calls.specs.Refusals.{Check as Tests, passes}
 use Rattle.nv_calls.specs.Rules.{Rule, rule}
 use Rattle.nv_machine.specs.Sequence.{beginning}
 use Rattle.nv_machine.specs.Step.{is_numbered}
-use Rattle.nv_machine.specs.World.{Ending, HandState, Overtaken, Refuses, Running}
+use Rattle.nv_machine.specs.World.{Ending, HandState, BoundAnew, Refuses, Running}
 
 -- what the ending of a check refuses its call for
 abbrev pub tests_of : Option Ending → Tests
@@ -19,4 +19,4 @@ number_rule h r = rule NoInode (not (is_numbered (beginning r.call) h.ino))
 -- a call whose names were bound anew: it is refused by their tests, or its round has failed
 abbrev pub bound_anew : Tests → Ending
 bound_anew (Err fault) = Refuses fault
-bound_anew (Ok passed) = Overtaken
+bound_anew (Ok passed) = BoundAnew

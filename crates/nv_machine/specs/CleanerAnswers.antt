@@ -32,25 +32,31 @@ pub record CleanerWork : Type 0 where
   pub entries : ℕ
   pub pages : ℕ
 
+-- a cleaner that has done nothing yet
 abbrev pub no_work : CleanerWork
 no_work = record { made = 0; judges = []; asked = 0; cleans = []; entries = 0; pages = 0 }
 
+-- the judge of a step, if it is one
 abbrev pub judges_at : Next → OwnStep → List OwnStep
 judges_at (Maintenance (Judge manner slot)) x = x ∷ []
 judges_at other x = []
 
+-- 1 for a step that asks a list for log pages, else 0
 abbrev pub asks_at : Next → ℕ
 asks_at (Maintenance (Fresh ino asked wanted)) = 1
 asks_at other = 0
 
+-- for a clean step whether it goes entry by entry
 abbrev pub cleans_at : Next → List Bool
 cleans_at (Maintenance (Unlink ino)) = false ∷ []
 cleans_at (Maintenance (Compact ino)) = true ∷ []
 cleans_at other = []
 
+-- how many entries a log lost
 abbrev pub entries_lost : CellState → CellState → ℕ
 entries_lost old new = length old.chain.entries - length new.chain.entries
 
+-- how many log pages a log lost
 abbrev pub pages_lost : CellState → CellState → ℕ
 pages_lost old new = length old.chain.blocks - length new.chain.blocks
 
@@ -71,13 +77,16 @@ with_turn ino x (Moves t h r) work = with_made x.running.next ino x t work
 with_turn ino x Waits work = work
 with_turn ino x (Ends result t h) work = with_made x.running.next ino x t work
 
--- THE WORK of these steps, the last first, on the log of a slot
+-- THE WORK of these steps, the last first, on the log of a slot.
+-- The work of a cleaner, by its own steps: how many it made, its judges, how many lists it asked, how many steps
+-- cleaned, and how many entries and log pages the log of its number lost.
 abbrev pub work_done : ℕ → List OwnStep → CleanerWork
 work_done ino [] = no_work
 work_done ino (x ∷ steps) = with_turn ino x (turn_of x) (work_done ino steps)
 
 -- ---- what its judge finds
 
+-- the cell that a judge walked
 abbrev pub judged_cell : ℕ → OwnStep → CellState
 judged_cell ino judge = cell_at judge.world.shared ino
 
@@ -85,7 +94,8 @@ judged_cell ino judge = cell_at judge.world.shared ino
 abbrev pub is_passed : ℕ → OwnStep → Bool
 is_passed ino judge = has_inode (judged_cell ino judge) && judge.granted
 
--- it goes entry by entry: auto does where less than half of the entries stay
+-- it goes entry by entry: auto does where less than half of the entries stay.
+-- It goes entry by entry or by whole log pages.
 abbrev pub by_entries : Manner → CellState → Bool
 by_entries Fast cell = false
 by_entries Thorough cell = true
@@ -97,7 +107,11 @@ goes_none manner cell = by_entries manner cell && ((wanted_of cell).dropped == 0
 
 -- ---- what it is told
 
--- THE ANSWER of a cleaner that has done this work: it was judged once, and then made one clean step or found nothing
+-- THE ANSWER of a cleaner that has done this work: it was judged once, and then made one clean step or found nothing.
+-- By its work it is answered or refused. Example: a log of six entries has four log pages with room for two entries
+-- each, and four entries may go. `thorough`, where the own list has a free block, makes five steps before `give`:
+-- `lock cleaned`, `judge`, `fresh`, `compact`, `unlock`. The log has lost four entries and three log pages, and the
+-- answer tells these.
 pub record IsCleanedBy (manner : Manner) (ino : ℕ) (work : CleanerWork) (told : Answer) : Type 0 where
   pub judge : OwnStep
   pub judged : work.judges ≡ judge ∷ []

@@ -15,11 +15,13 @@ HasName nodes dir bound = Contains (names_under nodes dir) bound
 abbrev pub LeadsTo : (Handle → Option NodeCopy) → Handle → Handle → Type 0
 LeadsTo nodes dir handle = (bound : BoundName) × HasName nodes dir bound × (bound.to ≡ handle)
 
--- names lead from the root to a handle through these directories, the last one first
+-- names lead from the root to a handle through these directories, the last one first.
+-- Each node is reached from the root through names.
 abbrev pub IsReachedBy : (Handle → Option NodeCopy) → List Handle → Handle → Type 0
 IsReachedBy nodes [] handle = handle ≡ root
 IsReachedBy nodes (dir ∷ above) handle = LeadsTo nodes dir handle × IsReachedBy nodes above dir
 
+-- two bindings have neither the name nor the handle in common
 abbrev pub AreApart : BoundName → BoundName → Type 0
 AreApart one other = (one.name ≢ other.name) × (one.to ≢ other.to)
 
@@ -33,7 +35,9 @@ pub record HaveOneName (nodes : Handle → Option NodeCopy) : Type 0 where
   pub apart : (dir : Handle) → AllPairs AreApart (names_under nodes dir)
   pub one : (dir other handle : Handle) → LeadsTo nodes dir handle → LeadsTo nodes other handle → dir ≡ other
 
--- DIRECTORIES FORM A TREE: every node but the root is reached from it by exactly one name
+-- DIRECTORIES FORM A TREE: every node but the root is reached from it by exactly one name.
+-- Directories form a tree, in `nv_machine`: the root is a directory, which no name leads to. Each name stands in a
+-- directory and leads to a node.
 pub record AreTree (nodes : Handle → Option NodeCopy) : Type 0 where
   pub one_name : HaveOneName nodes
   pub reached : (handle : Handle) → IsSome (nodes handle) → (above : List Handle) × IsReachedBy nodes above handle

@@ -7,7 +7,8 @@ use Rattle.nv_machine.specs.World.{Draining, Pick, Running, Maintenance, World, 
 abbrev pub drain_number : ℕ → ℕ
 drain_number count = if nat_lt count 1 then 1 else if nat_lt DRAIN count then DRAIN else count
 
--- an actor's drain is to pick its next record, and none is deferred
+-- an actor's drain is to pick its next record, and none is deferred.
+-- Its drain finds nothing where it is to pick and no record is deferred.
 pub record FindsNothing (actor : ℕ) (w : World) : Type 0 where
   pub running : Running
   pub draining : Draining

@@ -8,7 +8,7 @@ use Rattle.nv_calls.specs.Refusals.{Check as Tests}
 use Rattle.nv_calls.specs.declared.answer.Answer.{Answer}
 use Rattle.nv_calls.specs.declared.call.Call.{Call}
 use Rattle.nv_calls.specs.declared.call.Call.TheVariants as call
-use Rattle.nv_machine.specs.PlainRun.{deed, keeps_nodes}
+use Rattle.nv_machine.specs.PlainRun.{plain_change, keeps_nodes}
 use Rattle.nv_machine.specs.Reads.{written_slots}
 use Rattle.nv_machine.specs.Settled.{settled_nodes}
 use Rattle.nv_machine.specs.Step.{same_looked, step, turn}
@@ -16,10 +16,12 @@ use Rattle.nv_machine.specs.World.{Check, Ends, Event, Go, Moves, Next, Reply, R
 
 -- ---- what decides
 
+-- the tests are passed
 abbrev pub is_pass : Tests → Bool
 is_pass (Ok passed) = true
 is_pass (Err fault) = false
 
+-- nothing is changed
 abbrev pub is_no_change : List Change → Bool
 is_no_change [] = true
 is_no_change (change ∷ changes) = false
@@ -46,7 +48,7 @@ is_maintenance other = false
 abbrev pub decides : Next → ℕ → Shared → Running → Turn → Bool
 decides Check block s r t = has_nothing_to_do block (node_in (settled_nodes s)) r
 decides Visit block s r t = is_pass (refusal block (node_in (settled_nodes s)) r.call) && is_answered t
-decides other block s r t = not (keeps_nodes (deed other (written_slots r) t))
+decides other block s r t = not (keeps_nodes (plain_change other (written_slots r) t))
 
 -- the plain world's answer there, where a step decides
 abbrev pub decision : Next → ℕ → Shared → Running → Turn → List Answer
@@ -54,6 +56,7 @@ decision next block s r t = if decides next block s r t then answer (settled_nod
 
 -- ---- over events
 
+-- what an actor's next step decides, if anything
 abbrev pub decision_of : Option Running → World → ℕ → Bool → List Answer
 decision_of None w actor granted = []
 decision_of (Some r) w actor granted =
@@ -64,13 +67,16 @@ abbrev pub unless_started : Reply → List Answer → List Answer
 unless_started Started before = []
 unless_started other before = before
 
+-- the answers that were decided since an actor's call was started
 abbrev pub decided_in : ℕ → World → Event → List Answer → List Answer
 decided_in actor w (Start other c) before =
     if other == actor then unless_started (step w (Start other c)).reply before else before
 decided_in actor w (Go other granted) before =
     if other == actor then decision_of (actor_at w actor).running w actor granted ++ before else before
 
--- WHAT HAS BEEN DECIDED of the actor's call since it was started, the last first
+-- WHAT HAS BEEN DECIDED of the actor's call since it was started, the last first.
+-- What has been decided of a call since its start: the plain world's answers at the steps that decide it. These are
+-- a commit point, a `visit` that is answered, or a `check` that passes with nothing to change.
 abbrev pub decided : ℕ → World → List Event → List Answer → List Answer
 decided actor w [] before = before
 decided actor w (e ∷ events) before = decided actor (step w e).world events (decided_in actor w e before)

@@ -28,7 +28,9 @@ keepers_of pending s ino = record {
 -- THE INODE OF A SLOT IS GONE, AND NOTHING IS KEPT OF IT: its settled log ends with the entry that says it is gone, and
 -- no pair of that log is current, held by a living snapshot or among these that are pending
 pub record IsOver (pending : List Record) (s : Shared) (ino : ℕ) : Type 0 where
+  -- the settled log ends with a Gone
   pub gone : is_gone (settled s ino) ≡ true
+  -- no pair of it is kept
   pub kept : AllByRecursion (λ (pair : Pair). keeps (keepers_of pending s ino) pair ≡ false)
       (pairs (cell_at s ino).block (settled s ino))
 
@@ -43,10 +45,14 @@ emptied cell = empty_cell cell.block cell.chain.page (cell.generation + 1) cell.
 -- ERASED WHOLE, by a step of an actor: the slot is empty, of the next generation; the actor's hand has each page of the
 -- chain, the block of each part, and the number, unless the slot is now of the last generation
 pub record IsErasedWhole (actor ino : ℕ) (w t : World) : Type 0 where
+  -- the slot is empty, and of the next generation
   pub slot : cell_at t.shared ino ≡ emptied (cell_at w.shared ino)
+  -- the hand has the log pages of its chain
   pub chain : (actor_at t actor).hand.chain ≡ (actor_at w actor).hand.chain ++ (cell_at w.shared ino).chain.blocks
+  -- the hand has the blocks of its parts
   pub blocks : (n : ℕ) (b : BlockValue) → slice_index_or (cell_at w.shared ino).blocks n None ≡ Some b
       → has (numbers_of (actor_at t actor).hand.blocks) b.number ≡ true
+  -- the hand has its number, unless the generation is the last
   pub number : (actor_at t actor).hand.ino ≡ (if is_withheld (cell_at t.shared ino) then None else Some ino)
 
 -- ---- the number goes back
@@ -60,7 +66,8 @@ is_late (Give cpu) = true
 is_late ReturnNumber = true
 is_late other = false
 
--- a number is in the hand of such a call
+-- a number is in the hand of such a call.
+-- A number is on its way in the hand of a call that retires or has only its last steps left.
 pub record IsOnItsWay (actor ino : ℕ) (w : World) : Type 0 where
   pub running : Running
   pub runs : (actor_at w actor).running ≡ Some running
@@ -75,10 +82,14 @@ is_done_with (Some r) = picks_next r.next where
   picks_next (Maintenance (Pick draining)) = true
   picks_next other = false
 
--- so it is, and the pool has the number
+-- so it is, and the pool has the number.
+-- It is back once the call has ended and the pool has it. Example: a file with its log page in block 1 and a page
+-- in block 2 is unlinked. After the 14th step of that call its inode slot is empty, and of generation 2. The hand
+-- has blocks 1 and 2 and the number. The number is in the pool at the end of the call.
 pub record IsBack (actor ino : ℕ) (w : World) : Type 0 where
   pub ended : is_done_with (actor_at w actor).running ≡ true
   pub pool : has w.shared.pool.numbers ino ≡ true
 
+-- the number is on its way, or in the pool
 abbrev pub IsOnItsWayOrBack : ℕ → ℕ → World → Type 0
 IsOnItsWayOrBack actor ino w = IsOnItsWay actor ino w ⊎ IsBack actor ino w

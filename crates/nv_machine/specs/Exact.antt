@@ -21,7 +21,8 @@ first_blocks s cpu wanted = take wanted (list_at s cpu).blocks
 abbrev pub HasGiven : Shared → ℕ → ℕ → Shared → Type 0
 HasGiven s cpu wanted t = list_at t cpu ≡ record (list_at s cpu) { blocks = drop wanted (list_at s cpu).blocks }
 
--- the hand has them as data blocks, behind those that it had, and else what it had
+-- the hand has them as data blocks, behind those that it had, and else what it had.
+-- What a step takes: the first blocks of a list, the first number of the pool.
 pub record TakesData (s : Shared) (cpu : ℕ) (h : HandState) (wanted : ℕ) (t : Shared) (after : HandState) : Type 0 where
   pub hand : after ≡ record h { blocks = h.blocks ++ first_blocks s cpu wanted }
   pub list : HasGiven s cpu wanted t

@@ -6,10 +6,12 @@ use Rattle.nv_cell.specs.Cell.{CellState}
 use Rattle.nv_machine.specs.Reads.{bytes_among}
 use Rattle.nv_machine.specs.World.{Append, Close, Enter, Next, Open, Publish, Ready, Shared, TakeBlocks, TakeLogPages}
 
+-- the blocks of all parts of all cells
 abbrev pub all_parts : List CellState → List (Option BlockValue)
 all_parts cells = flat_map (λ (c : CellState). c.blocks) cells
 
--- the bytes of the block of that number
+-- the bytes of the block of that number.
+-- The bytes of all blocks are told by their numbers.
 abbrev pub bytes_in : Shared → ℕ → List ℕ
 bytes_in s number = bytes_among (all_parts s.cells) number
 

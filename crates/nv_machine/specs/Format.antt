@@ -22,6 +22,7 @@ full_list g cpu = record {
   blocks = zero_blocks g.block (home_start g.blocks g.cpus cpu) (home_start g.blocks g.cpus (cpu + 1) - home_start g.blocks g.cpus cpu);
 }
 
+-- the lists once the root has its log page
 abbrev pub without_lowest : List FreeBlocks → List FreeBlocks
 without_lowest [] = []
 without_lowest (list ∷ lists) = record list { blocks = drop 1 list.blocks } ∷ lists
@@ -41,7 +42,8 @@ root_cell g = record {
   blocks = replicate 3 None;
 }
 
--- block 0 is the root's log page, and number 0 its slot; all else is free, and nobody has a call
+-- block 0 is the root's log page, and number 0 its slot; all else is free, and nobody has a call.
+-- A new world is `formatted`.
 abbrev pub formatted : GeometryNumbers → World
 formatted g = record {
   numbers = g;

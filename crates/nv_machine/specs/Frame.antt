@@ -17,6 +17,7 @@ pub record Lent : Type 0 where
   pub book : Bool
   pub commit_lock : Bool
 
+-- a step that is lent nothing
 abbrev pub nothing_lent : Lent
 nothing_lent = record { list = None; pool = false; cell = None; lock = None; book = false; commit_lock = false }
 
@@ -32,7 +33,8 @@ lent_on (Unlink ino) cpus actor = record nothing_lent { cell = Some ino }
 lent_on (Compact ino) cpus actor = record nothing_lent { cell = Some ino }
 lent_on other cpus actor = record nothing_lent { book = true }
 
--- what an actor's step is lent, with so many CPUs
+-- what an actor's step is lent, with so many CPUs.
+-- What a step is lent: of lists, cells and locks at most one, the pool, the book, the commit lock.
 abbrev pub lent : Next → ℕ → ℕ → Running → Lent
 lent Number cpus actor r = record nothing_lent { pool = true }
 lent (Look place) cpus actor r = nothing_lent
@@ -59,7 +61,8 @@ abbrev pub Stays : Bool → Type 0 → Type 0
 Stays true claim = Unit {0}
 Stays false claim = claim
 
--- THE FRAME: all that is not lent is as before, and no part comes or goes
+-- THE FRAME: all that is not lent is as before, and no part comes or goes.
+-- The rest is as before.
 pub record Frame (l : Lent) (s t : Shared) : Type 0 where
   pub lists : (cpu : ℕ) → l.list ≢ Some cpu → list_at t cpu ≡ list_at s cpu
   pub pool : Stays l.pool (t.pool ≡ s.pool)
@@ -88,8 +91,11 @@ pub record LeavesOthers (actor : ℕ) (w v : World) : Type 0 where
 -- ONE STEP: what an actor's Go comes to is the turn of the step that comes next in its call, which changes its actor
 -- and the parts that it is lent, and nothing else
 pub record IsOneStep (w : World) (actor : ℕ) (granted : Bool) (r : Running) (made : Step) : Type 0 where
+  -- it is the turn of the step that comes next
   pub is_turn : made ≡ turned (turn w.numbers.block actor granted w.shared (actor_at w actor).hand r) actor w
+  -- what the step is not lent stays
   pub frame : Frame (lent r.next (length w.shared.lists) actor r) w.shared made.world.shared
+  -- all other actors stay
   pub others : LeavesOthers actor w made.world
 
 -- a start changes its actor alone; one without a call has this call now, and its hand as it was

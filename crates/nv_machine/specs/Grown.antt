@@ -38,11 +38,13 @@ pub record HasGrown (k : Next) (s : Shared) (actor : ℕ) (r : Running) : Type 0
   pub tails : (ino : ℕ) → owner_at s ino ≡ Some actor → is_behind k (written_slots r) ino ≡ false
       → (cell_at s ino).chain.tail ≡ length (cell_at s ino).chain.entries
 
+-- an actor's call has appended what is told of its step
 abbrev pub HasGrownBy : Option Running → Shared → ℕ → Type 0
 HasGrownBy None s actor = Unit {0}
 HasGrownBy (Some r) s actor = HasGrown r.next s actor r
 
--- and the logs of slots that nobody holds are settled
+-- and the logs of slots that nobody holds are settled.
+-- Past the settled logs stand the entries that the commit under way has appended, and no others.
 pub record AreGrown (w : World) : Type 0 where
   pub free : (ino : ℕ) → owner_at w.shared ino ≡ None → IsAllSettled w.shared ino
   pub each : (actor : ℕ) → HasGrownBy (actor_at w actor).running w.shared actor

@@ -20,10 +20,11 @@ use Rattle.nv_machine.specs.Kinds.{blocks_in}
 use Rattle.nv_machine.specs.Numbers.{all_blocks}
 use Rattle.nv_machine.specs.Reads.{written_slots}
 use Rattle.nv_machine.specs.Sequence.{Beginning, Looks, Locks, Numbers, Maintains, Visits, beginning, nothing_looked}
-use Rattle.nv_machine.specs.World.{Answers, Append, ReturnNumber, Check, Close, Compact, Enter, Fresh, Give, HandState, Leave, Lock, Look, Next, Number, Open, Overtaken, Publish, Ready, Retire, Running, Shared, MaintenanceStep, Maintenance, TakeBlocks, TakeLogPages, Unlock, Unpin, Visit, World, actor_at, cell_at, empty_hand, list_at}
+use Rattle.nv_machine.specs.World.{Answers, Append, ReturnNumber, Check, Close, Compact, Enter, Fresh, Give, HandState, Leave, Lock, Look, Next, Number, Open, BoundAnew, Publish, Ready, Retire, Running, Shared, MaintenanceStep, Maintenance, TakeBlocks, TakeLogPages, Unlock, Unpin, Visit, World, actor_at, cell_at, empty_hand, list_at}
 
 -- ---- lists and cells
 
+-- each CPU has its list, which has blocks of its home range, in order
 pub record AreLists (g : GeometryNumbers) (s : Shared) : Type 0 where
   pub cpus : length s.lists ≡ g.cpus
   pub each : (cpu : ℕ) → cpu < g.cpus → IsHomeList g cpu (list_at s cpu)
@@ -52,6 +53,7 @@ unpublished_at Open written = written
 unpublished_at (Publish place) written = drop place written
 unpublished_at other written = []
 
+-- the slots that an actor's call has yet to publish
 abbrev pub unpublished_by : Option Running → List ℕ
 unpublished_by None = []
 unpublished_by (Some r) = unpublished_at r.next (written_slots r)
@@ -84,6 +86,7 @@ FitsFile block (call.Write file offset text) count = offset / block + count ≤ 
 FitsFile block (call.Size file size) count = size / block + count ≤ FILE_PAGES
 FitsFile block other count = count ≡ 0
 
+-- nothing is killed yet, and the blocks are pages of a file
 pub record HasFitting (block : ℕ) (h : HandState) (r : Running) (count : ℕ) : Type 0 where
   pub killed : h.killed ≡ []
   pub fits : FitsFile block r.call count
@@ -118,6 +121,7 @@ HandOn (Fresh ino asked wanted) h = HasPagesAlone h
 HandOn (Compact ino) h = HasPagesAlone h
 HandOn other h = h ≡ empty_hand
 
+-- What a hand has before each step.
 abbrev pub HandAt : GeometryNumbers → Next → HandState → Running → Type 0
 HandAt g Number h r = (h ≡ empty_hand) × (makes_inode (beginning r.call) ≡ true) × (r.looked ≡ nothing_looked)
 HandAt g (Look place) h r = (h ≡ empty_hand) × (makes_inode (beginning r.call) ≡ false)
@@ -133,7 +137,7 @@ HandAt g (Publish place) h r = length h.killed ≡ place
 HandAt g Close h r = length h.killed ≡ length (written_slots r)
 HandAt g (Retire place) h r = length h.killed + place ≡ length (written_slots r)
 HandAt g Leave h r = h.killed ≡ []
-HandAt g (Unlock place) h r = (h.killed ≡ []) × (r.ending ≡ Overtaken → BeginsAnew h r)
+HandAt g (Unlock place) h r = (h.killed ≡ []) × (r.ending ≡ BoundAnew → BeginsAnew h r)
 HandAt g (Give cpu) h r = (h.killed ≡ []) × (cpu < g.cpus) × AreGiven g cpu (blocks_in h)
 HandAt g ReturnNumber h r = (h.killed ≡ []) × (blocks_in h ≡ [])
 HandAt g Visit h r = h ≡ empty_hand
@@ -144,6 +148,7 @@ abbrev pub is_going_on : MaintenanceStep → Bool
 is_going_on (Unpin snapshot seen) = false
 is_going_on other = true
 
+-- the step is none of the last ones of a call
 abbrev pub is_going : Next → Bool
 is_going (Unlock place) = false
 is_going (Give cpu) = false
@@ -151,13 +156,15 @@ is_going ReturnNumber = false
 is_going (Maintenance step) = is_going_on step
 is_going other = true
 
+-- the hand of an actor is as its call's next step says
 abbrev pub HandOf : GeometryNumbers → HandState → Option Running → Type 0
 HandOf g h None = h ≡ empty_hand
 HandOf g h (Some r) = HandAt g r.next h r × (is_going r.next ≡ true → r.ending ≡ Answers)
 
 -- ---- the whole
 
--- WHAT HOLDS OF THE NUMBERS of each world
+-- WHAT HOLDS OF THE NUMBERS of each world.
+-- `AreNumbers` is what the laws of lists, cells and hands are proved from.
 pub record AreNumbers (g : GeometryNumbers) (w : World) : Type 0 where
   pub numbers : w.numbers ≡ g
   pub once : IsEachOnce g.blocks (all_blocks w)

@@ -7,28 +7,31 @@ use Rattle.nv_book.specs.declared.event.Event.TheVariants.{Committed, Dropped, M
 use Rattle.nv_book.specs.declared.history.TheConstants.{LATEST}
 use Rattle.nv_journal.specs.Journal.{tail_noted}
 use Rattle.nv_journal.specs.declared.old_tail.OldTail.{OldTail}
-use Rattle.nv_machine.specs.PlainRun.{Commits, Deed, Nothing, Numbers, Maintains, actor_of, deed_of}
+use Rattle.nv_machine.specs.PlainRun.{Commits, PlainChange, Nothing, Numbers, Maintains, actor_of, plain_change_of}
 use Rattle.nv_machine.specs.Step.{step}
 use Rattle.nv_machine.specs.World.{Close, Drop, Event, Make, Next, Publish, Shared, MaintenanceStep, World}
 
 -- ---- the history
 
+-- what a step adds to the history
 abbrev pub added_on : MaintenanceStep → Shared → List BookEvent
 added_on Make s = Made s.book.snaps.epoch ∷ []
 added_on (Drop snapshot) s = Dropped snapshot ∷ []
 added_on other s = []
 
 -- what an actor's deed adds: the commit that it enters is its own, of the next number and of this epoch
-abbrev pub added : Deed → ℕ → Shared → List BookEvent
+abbrev pub added : PlainChange → ℕ → Shared → List BookEvent
 added Nothing actor s = []
 added Numbers actor s = Committed actor (s.book.commit + 1) s.book.snaps.epoch ∷ []
 added Commits actor s = []
 added (Maintains step) actor s = added_on step s
 
--- WHAT HAPPENED, the earliest first
+-- WHAT HAPPENED, the earliest first.
+-- What happened: each `enter` that goes on into its commit, with its actor, and each snapshot that was made or
+-- dropped. The history is these, noted one after another.
 abbrev pub happened : World → List Event → List BookEvent
 happened w [] = []
-happened w (e ∷ events) = added (deed_of w e) (actor_of e) w.shared ++ happened (step w e).world events
+happened w (e ∷ events) = added (plain_change_of w e) (actor_of e) w.shared ++ happened (step w e).world events
 
 -- several events more, of which the latest are told
 abbrev pub all_noted : Account → List BookEvent → Account
@@ -37,6 +40,7 @@ all_noted a (e ∷ es) = all_noted (noted LATEST a e) es
 
 -- ---- journals
 
+-- what the journal of a CPU has noted
 abbrev pub journal_at : Shared → ℕ → List OldTail
 journal_at s cpu = slice_index_or s.book.journals cpu []
 
@@ -46,7 +50,8 @@ is_journaled (Publish place) written = nat_lt 1 (length written)
 is_journaled Close written = true
 is_journaled other written = false
 
--- THE OPEN JOURNAL is that of this CPU: it has noted exactly these slots, and no other has noted anything
+-- THE OPEN JOURNAL is that of this CPU: it has noted exactly these slots, and no other has noted anything.
+-- The open journal of a CPU has noted exactly some inode slots, and no other journal has noted anything.
 pub record IsOpenAt (s : Shared) (cpu : ℕ) (written : List ℕ) : Type 0 where
   pub own : (ino : ℕ) → is_some (tail_noted (journal_at s cpu) ino) ≡ has written ino
   pub others : (other : ℕ) → other ≢ cpu → journal_at s other ≡ []

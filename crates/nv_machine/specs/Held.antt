@@ -35,35 +35,43 @@ parts_for [] killed ino = []
 parts_for (slot ∷ slots) [] ino = []
 parts_for (slot ∷ slots) (parts ∷ rest) ino = if slot == ino then parts else parts_for slots rest ino
 
+-- the parts of an inode that a call has killed and not yet retired
 abbrev pub killed_by_call : Option Running → HandState → ℕ → List KilledPart
 killed_by_call None h ino = []
 killed_by_call (Some r) h ino = parts_for (killed_slots r.next (written_slots r)) h.killed ino
 
+-- the parts of an inode that an actor's call has so killed
 abbrev pub killed_by_actor : ℕ → Actor → List KilledPart
 killed_by_actor ino actor = killed_by_call actor.running actor.hand ino
 
--- the killed parts of a slot, in all hands
+-- the killed parts of a slot, in all hands.
+-- Killed are the parts that a call has published over and not yet retired, as hands have them inode slot by slot.
 abbrev pub killed_in : World → ℕ → List KilledPart
 killed_in w ino = flat_map (killed_by_actor ino) w.actors
 
 -- ---- what is pending: deferred, or picked by a drain and not yet released
 
+-- the record that a drain has picked, at such a step
 abbrev pub picked_on : MaintenanceStep → List Record
 picked_on (LockPicked draining picked) = picked ∷ []
 picked_on (Release draining picked) = picked ∷ []
 picked_on other = []
 
+-- the record that a call has picked, if it has
 abbrev pub picked_at : Next → List Record
 picked_at (Maintenance step) = picked_on step
 picked_at other = []
 
+-- the record that a running call has picked, if it has
 abbrev pub picked_by_call : Option Running → List Record
 picked_by_call None = []
 picked_by_call (Some r) = picked_at r.next
 
+-- the record that an actor's call has picked, if it has
 abbrev pub picked_by_actor : Actor → List Record
 picked_by_actor actor = picked_by_call actor.running
 
+-- the records that wait: deferred, or picked and not yet released
 abbrev pub pending_in : World → List Record
 pending_in w = w.shared.book.deferred ++ flat_map picked_by_actor w.actors
 
@@ -71,10 +79,12 @@ pending_in w = w.shared.book.deferred ++ flat_map picked_by_actor w.actors
 abbrev pub is_of_slot : ℕ → Record → Bool
 is_of_slot ino d = d.ino == ino
 
+-- the parts of an inode that wait so, by name
 abbrev pub pending_at : World → ℕ → List PartId
 pending_at w ino = map name_of (filter (is_of_slot ino) (pending_in w))
 
--- what keeps the pairs of a slot: the living snapshots and, by name, those that are pending or killed
+-- what keeps the pairs of a slot: the living snapshots and, by name, those that are pending or killed.
+-- A law says the same of pairs: in use are those that are needed, deferred or killed.
 abbrev pub retention_at : World → ℕ → Retention
 retention_at w ino = record {
   block = (cell_at w.shared ino).block;
@@ -90,7 +100,9 @@ in_use_by r None = true
 in_use_by r (Some pair) = keeps r pair
 
 -- a part is in use whose pair is; and so are all parts of entries past the tail, which the commit
--- under way has appended
+-- under way has appended.
+-- A part is in use that no later entry covers, up to the log's tail, or that is killed; so is each part past the
+-- tail.
 abbrev pub is_in_use : Retention → CellState → ℕ → Bool
 is_in_use r cell n = in_use_by r (slice_get (pairs cell.block (log_of cell)) n)
 
@@ -107,11 +119,14 @@ blocks_in_use r cell =
 abbrev pub used_by_slot : World → ℕ → List ℕ
 used_by_slot w ino = numbers_of (cell_at w.shared ino).chain.blocks ++ blocks_in_use (retention_at w ino) (cell_at w.shared ino)
 
--- THE USED BLOCKS: those of slots, and those in hands
+-- THE USED BLOCKS: those of slots, and those in hands.
+-- Used are the log pages of chains, the blocks that entries say of pages in use, and what hands have. The rest of a
+-- home range is free.
 abbrev pub used_by_logs : World → List ℕ
 used_by_logs w = flat_map (used_by_slot w) (range_with_len 0 (length w.shared.cells)) ++ flat_map held_by_actor w.actors
 
--- THE FREE LIST OF A CPU BY THE LOGS: the numbers of its home range that are not used
+-- THE FREE LIST OF A CPU BY THE LOGS: the numbers of its home range that are not used.
+-- What is free by the logs, where no block of a part is asked for.
 abbrev pub free_by_logs : GeometryNumbers → World → ℕ → List ℕ
 free_by_logs g w cpu =
     unused (has (used_by_logs w)) (home_start g.blocks g.cpus cpu)

@@ -22,7 +22,7 @@ use Rattle.nv_machine.specs.Hands.{AreTailsLast}
 use Rattle.nv_machine.specs.Pages.{PagesOf}
 use Rattle.nv_machine.specs.Reads.{written_slots}
 use Rattle.nv_machine.specs.Settled.{settled}
-use Rattle.nv_machine.specs.World.{Answers, Append, ReturnNumber, Check, Close, Enter, Give, HandState, Leave, Lock, Look, Next, Number, Open, Overtaken, Publish, Ready, Release, Retire, Running, Shared, Maintenance, TakeBlocks, TakeLogPages, Unlock, Visit, World, actor_at, cell_at, empty_hand}
+use Rattle.nv_machine.specs.World.{Answers, Append, ReturnNumber, Check, Close, Enter, Give, HandState, Leave, Lock, Look, Next, Number, Open, BoundAnew, Publish, Ready, Release, Retire, Running, Shared, Maintenance, TakeBlocks, TakeLogPages, Unlock, Visit, World, actor_at, cell_at, empty_hand}
 
 -- ---- blocks
 
@@ -44,6 +44,7 @@ IsReleaseCovered s (Maintenance (Release draining picked)) =
     is_covered (cell_at s picked.ino).block (log_of (cell_at s picked.ino)) (number_in (cell_at s picked.ino) (name_of picked)) ≡ true
 IsReleaseCovered s other = Unit {0}
 
+-- what an actor's call is to release is covered by a later entry
 abbrev pub IsReleaseCoveredBy : Shared → Option Running → Type 0
 IsReleaseCoveredBy s None = Unit {0}
 IsReleaseCoveredBy s (Some r) = IsReleaseCovered s r.next
@@ -137,24 +138,29 @@ Knows Close block s cpu h r = AreKilledIn s (written_slots r) h.killed × (r.end
 Knows (Retire place) block s cpu h r =
     AreKilledIn s (drop place (written_slots r)) h.killed × (r.ending ≡ Answers) × AreClosed s.book.journals
 Knows Leave block s cpu h r = (r.ending ≡ Answers) × AreClosed s.book.journals
-Knows (Unlock place) block s cpu h r = r.ending ≡ Overtaken → HasNothing h
+Knows (Unlock place) block s cpu h r = r.ending ≡ BoundAnew → HasNothing h
 Knows (Give home) block s cpu h r = Unit {0}
 Knows ReturnNumber block s cpu h r = Unit {0}
 Knows Visit block s cpu h r = Unit {0}
 Knows (Maintenance step) block s cpu h r = Unit {0}
 
+-- an actor's call knows what its next step asks
 abbrev pub KnowsOf : Option Running → ℕ → Shared → ℕ → HandState → Type 0
 KnowsOf None block s cpu h = Unit {0}
 KnowsOf (Some r) block s cpu h = Knows r.next block s cpu h r
 
 -- ---- worlds
 
+-- each settled log has the blocks of its pages, and a journal is open within a commit alone
 pub record AreLogsKept (s : Shared) : Type 0 where
   pub pages : (ino : ℕ) → HasPages (settled s ino) (cell_at s ino)
   pub closed : s.holder ≡ None → AreClosed s.book.journals
   pub wide : length s.book.journals ≡ length s.lists
   pub some : 0 < length s.lists
 
+-- Kept: each page of a settled log that no later entry covers has its block in the cell. A journal is open only
+-- between `open` and `close` of a commit of several inodes, and notes its inode slots alone. What `publish` has
+-- killed is covered. The blocks in a hand are those of its plan.
 pub record IsKept (w : World) : Type 0 where
   pub logs : AreLogsKept w.shared
   pub each : (actor : ℕ) → KnowsOf (actor_at w actor).running w.numbers.block w.shared (actor % length w.shared.lists)

@@ -8,6 +8,7 @@ abbrev pub takes_fresh : MaintenanceStep → Bool
 takes_fresh (Fresh ino asked wanted) = true
 takes_fresh other = false
 
+-- the step takes blocks from a list, or gives them
 abbrev pub moves_blocks : Next → Bool
 moves_blocks (TakeBlocks asked) = true
 moves_blocks (TakeLogPages asked) = true
@@ -28,6 +29,7 @@ takes_out (Unlink ino) = true
 takes_out (Compact ino) = true
 takes_out other = false
 
+-- the step changes a log, or what is kept of it
 abbrev pub changes_log : Next → Bool
 changes_log (Append place) = true
 changes_log (Publish place) = true
@@ -41,6 +43,7 @@ locks_slot (LockPicked draining picked) = true
 locks_slot (LockCleaned manner ino) = true
 locks_slot other = false
 
+-- the step takes a slot's lock or gives it back
 abbrev pub changes_lock : Next → Bool
 changes_lock (Lock place) = true
 changes_lock (Unlock place) = true
@@ -57,6 +60,7 @@ changes_snapshots (Unpin snapshot seen) = true
 changes_snapshots (Pick draining) = true
 changes_snapshots other = false
 
+-- the step changes the book
 abbrev pub changes_book : Next → Bool
 changes_book Enter = true
 changes_book Open = true
@@ -71,7 +75,9 @@ bounds_commit Enter = true
 bounds_commit Leave = true
 bounds_commit other = false
 
--- WHAT A STEP IS LENT, by this table
+-- WHAT A STEP IS LENT, by this table.
+-- The same part by part: which kinds of steps are lent it. Example: the pool is lent to `number` and
+-- `return_number`, and the book to no `check`.
 pub record IsLentByTable (k : Next) (l : Lent) : Type 0 where
   pub list : is_some l.list ≡ moves_blocks k
   pub pool : l.pool ≡ moves_numbers k

@@ -24,7 +24,9 @@ held_on (Unlink ino) slots = slots
 held_on (Compact ino) slots = slots
 held_on other slots = []
 
--- the slots that a call holds before a step: those that it has locked and not yet unlocked
+-- the slots that a call holds before a step: those that it has locked and not yet unlocked.
+-- What a call holds: the inode slots that it has locked and not yet unlocked, and from `enter` to `leave` the
+-- commit lock.
 abbrev pub held_at : Next → List ℕ → List ℕ
 held_at Number slots = []
 held_at (Look place) slots = []
@@ -46,14 +48,17 @@ commits_at (Retire place) = true
 commits_at Leave = true
 commits_at other = false
 
+-- the slots that an actor's call has locked
 abbrev pub held_by : Option Running → List ℕ
 held_by None = []
 held_by (Some r) = held_at r.next r.slots
 
+-- an actor's call holds the commit lock
 abbrev pub commits_by : Option Running → Bool
 commits_by None = false
 commits_by (Some r) = commits_at r.next
 
+-- the lock is this actor's
 abbrev pub is_owner : ℕ → Option ℕ → Bool
 is_owner actor None = false
 is_owner actor (Some other) = other == actor
@@ -74,6 +79,7 @@ IsInside Visit r = r.slots ≡ []
 IsInside (Maintenance step) r = r.slots ≡ slots_on step
 IsInside other r = Unit {0}
 
+-- the slots of an actor's call rise and are there
 abbrev pub HasSlots : ℕ → Option Running → Type 0
 HasSlots slots None = Unit {0}
 HasSlots slots (Some r) = AreSlots slots r.slots × IsInside r.next r
@@ -117,7 +123,10 @@ WaitsOn s actor (Unlink ino) = ⊥
 WaitsOn s actor (Compact ino) = ⊥
 WaitsOn s actor other = IsHeldByOther actor s.holder
 
--- the lock that a step needs; most need none that is not held already
+-- the lock that a step needs; most need none that is not held already.
+-- What a step waits for: that another actor holds the lock which the step needs. `look`, `lock`, `visit`, `show`,
+-- `lock picked` and `lock cleaned` need that of an inode slot. `enter` and the other steps on snapshots except
+-- `release` need the commit lock. Every other step needs none.
 abbrev pub WaitsFor : Shared → ℕ → Running → Next → Type 0
 WaitsFor s actor r (Look place) = IsHeldByOther actor (owner_at s (handle_at (directories r.call) place).ino)
 WaitsFor s actor r (Lock place) = IsHeldByOther actor (owner_at s (slot_at r.slots place))

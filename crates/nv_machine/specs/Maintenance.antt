@@ -30,22 +30,26 @@ if_free None turn = turn
 
 -- ---- make: the current epoch becomes a snapshot
 
+-- what a `snap` is refused for
 abbrev pub make_tests : Living → Tests
 make_tests snaps =
     if nat_le NUMBER snaps.epoch then Err EpochLimit
     else if nat_le snaps.most (length snaps.living) then Err TooManySnapshots else Ok tt
 
+-- a make: a snapshot of the epoch, and the next epoch, or the call is refused
 abbrev pub make_turn : Tests → Shared → HandState → Running → Turn
 make_turn (Err fault) s h r = refuse fault s h r
 make_turn (Ok passed) s h r = Ends (Ok (answers.Snapshot s.book.snaps.epoch)) (with_book (after_make_snapshot s.book) s) h
 
 -- ---- drop: a snapshot that lives and has no pin, by its pins
 
+-- what a `drop` is refused for, by the pins
 abbrev pub drop_tests : Option ℕ → Tests
 drop_tests None = Err NoSnapshot
 drop_tests (Some zero) = Ok tt
 drop_tests (Some (suc pins)) = Err Pinned
 
+-- a drop: the snapshot lives no more, or the call is refused
 abbrev pub drop_turn : ℕ → Tests → Shared → HandState → Running → Turn
 drop_turn snapshot (Err fault) s h r = refuse fault s h r
 drop_turn snapshot (Ok passed) s h r = Ends (Ok answers.Nothing) (with_book (after_drop_snapshot snapshot s.book) s) h
@@ -62,15 +66,18 @@ show_or_unpin zero visits snapshot showing = Unpin snapshot showing.seen
 show_or_unpin (suc left) [] snapshot showing = Unpin snapshot showing.seen
 show_or_unpin (suc left) (visit ∷ visits) snapshot showing = Show snapshot showing
 
+-- the step that comes next in a show
 abbrev pub showing_on : ℕ → Showing → MaintenanceStep
 showing_on snapshot showing = show_or_unpin showing.left showing.visits snapshot showing
 
+-- a pin: one more pin, and the walk begins, or the call is refused
 abbrev pub pin_turn : ℕ → Option ℕ → Shared → HandState → Running → Turn
 pin_turn snapshot None s h r = refuse NoSnapshot s h r
 pin_turn snapshot (Some pins) s h r =
     Moves (with_book (after_pin_snapshot snapshot s.book) s) h (go_to (Maintenance (showing_on snapshot (first_showing s))) r)
 
--- the node under a handle at the end of an epoch, by the log of its cell
+-- the node under a handle at the end of an epoch, by the log of its cell.
+-- Each visit reads the node at the snapshot's epoch by the log of one cell.
 abbrev pub copies_at : Shared → ℕ → Handle → Option NodeCopy
 copies_at s epoch handle = copy_in (bytes_among (cell_at s handle.ino).blocks) (Some (cell_at s handle.ino)) epoch handle
 
@@ -82,15 +89,18 @@ show_turn None true found snapshot showing s h r =
 show_turn None false found snapshot showing s h r =
     Moves s h (record r { ending = Refuses out_of_memory; next = Maintenance (Unpin snapshot []) })
 
+-- what a show is answered: the tree, or its fault
 abbrev pub shown_by : Ending → List TreeNode → Result Answer Fault
 shown_by (Refuses fault) seen = Err fault
 shown_by other seen = Ok (answers.Tree seen)
 
+-- an unpin: one pin less, and the call ends
 abbrev pub unpin_turn : ℕ → List TreeNode → Shared → HandState → Running → Turn
 unpin_turn snapshot seen s h r = Ends (shown_by r.ending seen) (with_book (after_unpin_snapshot snapshot s.book) s) h
 
 -- ---- pick: the first deferred record; where there is none, a drain is over
 
+-- a drain has picked the first deferred record, or ends where there is none
 abbrev pub picked_turn : List Record → Draining → Shared → HandState → Running → Turn
 picked_turn [] draining s h r = Ends (Ok (answers.Count draining.released)) s h
 picked_turn (picked ∷ deferred) draining s h r =
@@ -100,11 +110,13 @@ picked_turn (picked ∷ deferred) draining s h r =
 abbrev pub is_first : Draining → Bool
 is_first draining = draining.released == 0
 
+-- a pick: room is made at the first one
 abbrev pub pick_turn : Draining → Bool → Shared → HandState → Running → Turn
 pick_turn draining granted s h r = grown (granted || not (is_first draining)) (picked_turn s.book.deferred draining s h r) s h r
 
 -- ---- lock the inode of the picked record
 
+-- a drain locks the inode of its record, or waits
 abbrev pub lock_picked_turn : Option ℕ → ℕ → Draining → Record → Shared → HandState → Running → Turn
 lock_picked_turn (Some other) actor draining picked s h r = Waits
 lock_picked_turn None actor draining picked s h r =
@@ -112,12 +124,15 @@ lock_picked_turn None actor draining picked s h r =
 
 -- ---- release: the part goes out, and its block goes to the hand; a gone inode that keeps nothing is erased
 
+-- the hand with the block that a release puts out
 abbrev pub with_released : Record → Shared → HandState → HandState
 with_released picked s h = record h { blocks = h.blocks ++ released_blocks picked (cell_at s picked.ino) }
 
+-- a drain that has released one record more
 abbrev pub one_more : Draining → Draining
 one_more draining = record draining { released = draining.released + 1 }
 
+-- a release: the part is out, and the inode may be erased
 abbrev pub release_turn : Draining → Record → Shared → HandState → Running → Turn
 release_turn draining picked s h r =
     end_turn r.slots (Drains (one_more draining)) (with_cell picked.ino (erased (released picked (cell_at s picked.ino))) s)
@@ -125,6 +140,7 @@ release_turn draining picked s h r =
 
 -- ---- THE STEP of a call on snapshots, or of a cleaner
 
+-- what a step of a call on snapshots, or of a cleaner, makes
 abbrev pub maintenance_turn : MaintenanceStep → ℕ → Bool → Shared → HandState → Running → Turn
 maintenance_turn Make actor granted s h r = if_free s.holder (make_turn (make_tests s.book.snaps) s h r)
 maintenance_turn (Drop snapshot) actor granted s h r =

@@ -30,14 +30,17 @@ is_onward (Look place) = false
 is_onward (Maintenance step) = false
 is_onward other = is_going other
 
+-- the turn moves on to a step that is none of the last ones
 abbrev pub moves_onward : Turn → Bool
 moves_onward (Moves t after q) = is_onward q.next
 moves_onward other = false
 
+-- the turn moves the call
 abbrev pub moves_on : Turn → Bool
 moves_on (Moves t after q) = true
 moves_on other = false
 
+-- the turn ends the call with an answer
 abbrev pub is_answered : Turn → Bool
 is_answered (Ends (Ok found) t after) = true
 is_answered other = false
@@ -47,10 +50,12 @@ abbrev pub is_unrefused : Ending → Bool
 is_unrefused (Refuses fault) = false
 is_unrefused other = true
 
+-- the step is of a call on snapshots, or of a cleaner
 abbrev pub is_maintaining : Next → Bool
 is_maintaining (Maintenance step) = true
 is_maintaining other = false
 
+-- the turn moves a call that is not refused
 abbrev pub moves_unrefused : Turn → Bool
 moves_unrefused (Moves t after q) = is_maintaining q.next || is_unrefused q.ending
 moves_unrefused other = false
@@ -75,7 +80,8 @@ denied_at (Maintenance (Show snapshot showing)) s h r =
 denied_at other s h r = refuse out_of_memory s h r
 
 -- THE TURN WHERE MEMORY IS REFUSED, by the turn where it is granted: it refuses the call where that one does its work,
--- with what is shared and the hand as they were; and where that one does not, it is the same
+-- with what is shared and the hand as they were; and where that one does not, it is the same.
+-- Where memory is refused a step that would do its work refuses its call, and leaves all else.
 abbrev pub denied_turn : Next → Shared → HandState → Running → Turn → Turn
 denied_turn k s h r granted = if does_its_work k granted then denied_at k s h (noted k s h r) else granted
 

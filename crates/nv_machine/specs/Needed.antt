@@ -40,17 +40,21 @@ abbrev pub needed_by_slot : World → ℕ → List ℕ
 needed_by_slot w ino =
     numbers_of (cell_at w.shared ino).chain.blocks ++ needed_blocks (ids w.shared.book.snaps) (cell_at w.shared ino)
 
--- THE NEEDED BLOCKS: what a chain, the present nodes or a living snapshot uses
+-- THE NEEDED BLOCKS: what a chain, the present nodes or a living snapshot uses.
+-- What is needed: of each log the blocks that entries say of pages that are current or that a living snapshot
+-- holds.
 abbrev pub needed_in : World → List ℕ
 needed_in w = flat_map (needed_by_slot w) (range_with_len 0 (length w.shared.cells))
 
--- and the numbers of the home range of a CPU that are not needed
+-- and the numbers of the home range of a CPU that are not needed.
+-- With the log pages of chains they are what is needed, and the rest of a home range is `free_but_needed`.
 abbrev pub free_but_needed : GeometryNumbers → World → ℕ → List ℕ
 free_but_needed g w cpu =
     unused (has (needed_in w)) (home_start g.blocks g.cpus cpu)
     (home_start g.blocks g.cpus (cpu + 1) - home_start g.blocks g.cpus cpu)
 
--- no call is running
+-- no call is running.
+-- A world is at rest while no call runs.
 abbrev pub IsAtRest : World → Type 0
 IsAtRest w = (actor : ℕ) → (actor_at w actor).running ≡ None
 
@@ -61,19 +65,26 @@ abbrev pub count_in : Reply → ℕ
 count_in (Done (answers.Count told)) = told
 count_in other = 0
 
+-- how many records a drain is told that it released, 0 for other calls
 abbrev pub told_to : Call → ℕ → ℕ
 told_to (call.Maintenance (on.Drain count)) told = told
 told_to other told = 0
 
+-- how many records a running call is told so
 abbrev pub told_to_call : Option Running → Reply → ℕ
 told_to_call None reply = 0
 told_to_call (Some r) reply = told_to r.call (count_in reply)
 
+-- how many records an event tells so
 abbrev pub told_in : World → Event → ℕ
 told_in w (Start actor c) = 0
 told_in w (Go actor granted) = told_to_call (actor_at w actor).running (step w (Go actor granted)).reply
 
--- HOW MANY RECORDS drains were answered, together: 1 for each `drain 1` that was answered 1
+-- HOW MANY RECORDS drains were answered, together: 1 for each `drain 1` that was answered 1.
+-- How many records drains were answered is the sum of what `drain` calls were told at their last steps. Example: a
+-- file's page in block 2 is overwritten by block 3 under snapshot 1, and snapshot 1 is dropped. Then the root's log
+-- page, the file's and block 3 are needed. Two records are deferred: those of the old Size and of the page in block
+-- 2. Once `drain 1` was answered 1 twice, block 2 is free.
 abbrev pub drained : World → List Event → ℕ
 drained w [] = 0
 drained w (e ∷ events) = told_in w e + drained (step w e).world events
@@ -83,9 +94,11 @@ abbrev pub is_drop : Call → Bool
 is_drop (call.Maintenance (on.Drop snapshot)) = true
 is_drop other = false
 
+-- the event starts no drop
 abbrev pub IsNoDrop : Event → Type 0
 IsNoDrop (Start actor c) = is_drop c ≡ false
 IsNoDrop (Go actor granted) = Unit {0}
 
+-- none of the events starts a drop
 abbrev pub AreNoDrops : List Event → Type 0
 AreNoDrops events = AllByRecursion IsNoDrop events

@@ -8,6 +8,7 @@ abbrev pub is_denied : Next → List ℕ → Bool
 is_denied Number [] = true
 is_denied next numbers = false
 
+-- an actor's call was denied a number
 abbrev pub denied_of : Option Running → List ℕ → Bool
 denied_of None numbers = false
 denied_of (Some r) numbers = is_denied r.next numbers

@@ -21,6 +21,7 @@ free_of list = numbers_of list.blocks
 abbrev pub held_in : HandState → List ℕ
 held_in hand = numbers_of (blocks_in hand)
 
+-- the numbers of all blocks that an actor's hand has
 abbrev pub held_by_actor : Actor → List ℕ
 held_by_actor actor = held_in actor.hand
 
@@ -28,7 +29,9 @@ held_by_actor actor = held_in actor.hand
 abbrev pub used_blocks : World → List ℕ
 used_blocks w = flat_map stored_in w.shared.cells ++ flat_map held_by_actor w.actors
 
--- EVERY BLOCK, as often as it stands in a free list, in a cell or in a hand
+-- EVERY BLOCK, as often as it stands in a free list, in a cell or in a hand.
+-- All blocks: the numbers in free lists, in cells and in hands. A cell has the log pages of its chain and blocks of
+-- parts.
 abbrev pub all_blocks : World → List ℕ
 all_blocks w = flat_map free_of w.shared.lists ++ used_blocks w
 
@@ -38,6 +41,7 @@ pub record HoldsNothing (w : World) (actor : ℕ) : Type 0 where
   pub locks : (ino : ℕ) → is_owner actor (owner_at w.shared ino) ≡ false
   pub commit_lock : is_owner actor w.shared.holder ≡ false
 
+-- an actor without a call has an empty hand and no lock
 abbrev pub IdleHaveNothing : World → Type 0
 IdleHaveNothing w = (actor : ℕ) → (actor_at w actor).running ≡ None → HoldsNothing w actor
 

@@ -22,6 +22,7 @@ pub record IsEntered (s : Shared) (r : Running) : Type 0 where
   pub epoch : r.epoch ≡ s.book.snaps.epoch
   pub earlier : (ino : ℕ) → has (to_append r.next (written_slots r)) ino ≡ true → IsBefore r.commit r.epoch (entries_at s ino)
 
+-- an actor's call that commits has the book's number and epoch
 abbrev pub CommitsIn : Shared → Option Running → Type 0
 CommitsIn s None = Unit {0}
 CommitsIn s (Some r) = commits_at r.next ≡ true → IsEntered s r
@@ -30,6 +31,8 @@ CommitsIn s (Some r) = commits_at r.next ≡ true → IsEntered s r
 abbrev pub AreLogsOrdered : Shared → Type 0
 AreLogsOrdered s = (ino : ℕ) → IsBefore (s.book.commit + 1) s.book.snaps.epoch (entries_at s ino)
 
+-- In order: along each log ids rise and epochs never fall. No entry is of a later commit or epoch than the book's,
+-- and a commit under way has both.
 pub record IsInOrder (w : World) : Type 0 where
   pub logs : AreLogsOrdered w.shared
   pub each : (actor : ℕ) → CommitsIn w.shared (actor_at w actor).running

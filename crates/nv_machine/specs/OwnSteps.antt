@@ -9,7 +9,7 @@ use Rattle.nv_epoch.specs.declared.snapshot.Snapshot.{Snapshot}
 use Rattle.nv_machine.specs.Causes.{IsCause, IsRoundless}
 use Rattle.nv_machine.specs.Settled.{settled_nodes}
 use Rattle.nv_machine.specs.Step.{step, turn}
-use Rattle.nv_machine.specs.World.{Ending, Ends, Event, Go, Moves, Overtaken, Refuses, Reply, Running, Shared, Start, Started, Turn, Waits, World, actor_at}
+use Rattle.nv_machine.specs.World.{Ending, Ends, Event, Go, Moves, BoundAnew, Refuses, Reply, Running, Shared, Start, Started, Turn, Waits, World, actor_at}
 
 -- a step: the world that it found, the call before it, and whether memory was granted
 pub record OwnStep : Type 0 where
@@ -18,19 +18,23 @@ pub record OwnStep : Type 0 where
   pub running : Running
   pub granted : Bool
 
+-- what a step made
 abbrev pub turn_of : OwnStep → Turn
 turn_of x = turn x.world.numbers.block x.actor x.granted x.world.shared (actor_at x.world x.actor).hand x.running
 
 -- ---- over events
 
+-- the steps of an actor's call, with one more
 abbrev pub with_step : Option Running → World → ℕ → Bool → List OwnStep → List OwnStep
 with_step None w actor granted before = before
 with_step (Some r) w actor granted before = record { world = w; actor = actor; running = r; granted = granted } ∷ before
 
+-- no step yet, where a call was just started
 abbrev pub none_if_started : Reply → List OwnStep → List OwnStep
 none_if_started Started before = []
 none_if_started other before = before
 
+-- the steps that an actor's call has made since its start
 abbrev pub steps_in : ℕ → World → Event → List OwnStep → List OwnStep
 steps_in actor w (Start other c) before = if other == actor then none_if_started (step w (Start other c)).reply before else before
 steps_in actor w (Go other granted) before =
@@ -43,14 +47,17 @@ own_steps actor w (e ∷ events) before = own_steps actor (step w e).world event
 
 -- ---- for what they refused it
 
+-- the fault of an end, if it refuses
 abbrev pub fault_of : Ending → List Fault
 fault_of (Refuses fault) = fault ∷ []
 fault_of other = []
 
+-- the fault of a result, if it is one
 abbrev pub fault_told : Result Answer Fault → List Fault
 fault_told (Ok found) = []
 fault_told (Err fault) = fault ∷ []
 
+-- the fault that a turn refuses its call for, if it does
 abbrev pub fault_in : Turn → List Fault
 fault_in (Moves s h r) = fault_of r.ending
 fault_in Waits = []
@@ -61,9 +68,11 @@ abbrev pub refused_by : Ending → Turn → List Fault
 refused_by (Refuses fault) t = []
 refused_by other t = fault_in t
 
+-- the fault that a step refused its call for, if it did
 abbrev pub refused_at : OwnStep → List Fault
 refused_at x = refused_by x.running.ending (turn_of x)
 
+-- For what they refused it are the faults of steps that turned to a refusal.
 abbrev pub refused_for : List OwnStep → List Fault
 refused_for [] = []
 refused_for (x ∷ steps) = refused_at x ++ refused_for steps
@@ -72,19 +81,22 @@ refused_for (x ∷ steps) = refused_at x ++ refused_for steps
 
 -- the cause was there at that step, over the settled nodes; and no round of looks was left to a call that was overtaken
 abbrev pub HasCauseBy : Ending → OwnStep → Fault → Type 0
-HasCauseBy Overtaken x fault = IsRoundless x.running fault
+HasCauseBy BoundAnew x fault = IsRoundless x.running fault
 HasCauseBy other x fault =
     IsCause x.running.next x.world.numbers.block x.actor x.granted (node_in (settled_nodes x.world.shared)) x.world.shared
     (actor_at x.world x.actor).hand x.running fault
 
+-- each fault that a step refused for had its cause there
 abbrev pub IsCaused : OwnStep → Type 0
 IsCaused x = AllByRecursion (HasCauseBy x.running.ending x) (refused_at x)
 
 -- ---- what they left
 
+-- a snapshot without pins
 abbrev pub unpinned : Snapshot → Snapshot
 unpinned snapshot = record snapshot { pins = 0 }
 
+-- the book without pins
 abbrev pub without_pins : BookState → BookState
 without_pins b = record b { snaps = record b.snaps { living = map unpinned b.snaps.living } }
 
@@ -93,17 +105,22 @@ pub record SameButPins (s t : Shared) : Type 0 where
   pub book : without_pins t.book ≡ without_pins s.book
   pub cells : t.cells ≡ s.cells
 
+-- a turn leaves all except pins
 abbrev pub LeavesButPins : Shared → Turn → Type 0
 LeavesButPins s (Moves t h r) = SameButPins s t
 LeavesButPins s Waits = Unit {0}
 LeavesButPins s (Ends result t h) = SameButPins s t
 
+-- a step left all except pins
 abbrev pub IsLeft : OwnStep → Type 0
 IsLeft x = LeavesButPins x.world.shared (turn_of x)
 
 -- ---- a call that is refused
 
--- exactly one of its steps refused it, for this fault, whose cause was there; and all of them left these parts
+-- exactly one of its steps refused it, for this fault, whose cause was there; and all of them left these parts.
+-- A refused call has met its cause. Example: a `write` call on a full device makes `lock`, `check`, two `take`
+-- steps on two CPUs, and `unlock`. The second `take` step refuses it, for want of space. The list is that fault
+-- alone, and `unlock` replies it.
 pub record MetItsCause (fault : Fault) (steps : List OwnStep) : Type 0 where
   pub once : refused_for steps ≡ fault ∷ []
   pub caused : AllByRecursion IsCaused steps

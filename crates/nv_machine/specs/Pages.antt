@@ -20,6 +20,7 @@ HasPagesOn (Fresh ino asked wanted) s h = length h.pages + wanted ≡ (wanted_of
 HasPagesOn (Compact ino) s h = length h.pages ≡ (wanted_of (cell_at s ino)).pages
 HasPagesOn other s h = Unit {0}
 
+-- Log pages are in a hand as many as are needed for the entries yet to be appended.
 abbrev pub HasLogPages : Next → ℕ → Shared → HandState → Running → Type 0
 HasLogPages (TakeBlocks asked) block s h r = length h.pages ≡ 0
 HasLogPages (TakeLogPages asked) block s h r = length h.pages + r.wanted ≡ log_pages_wanted block s h r
@@ -34,6 +35,7 @@ HasLogPages Leave block s h r = length h.pages ≡ 0
 HasLogPages (Maintenance step) block s h r = HasPagesOn step s h
 HasLogPages other block s h r = Unit {0}
 
+-- the hand of an actor has the log pages that its call's next step needs
 abbrev pub PagesOf : Option Running → ℕ → Shared → HandState → Type 0
 PagesOf None block s h = Unit {0}
 PagesOf (Some r) block s h = HasLogPages r.next block s h r

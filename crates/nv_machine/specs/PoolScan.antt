@@ -11,6 +11,7 @@ use Rattle.nv_machine.specs.World.{Actor, World, cell_at}
 abbrev pub number_held : Actor → List ℕ
 number_held actor = if_number actor.hand.ino
 
+-- the inode numbers in hands
 abbrev pub numbers_held : World → List ℕ
 numbers_held w = flat_map number_held w.actors
 
@@ -18,6 +19,8 @@ numbers_held w = flat_map number_held w.actors
 abbrev pub is_number_used : World → ℕ → Bool
 is_number_used w ino = has_inode (cell_at w.shared ino) || is_withheld (cell_at w.shared ino) || has (numbers_held w) ino
 
--- THE POOL FROM SCRATCH: the numbers that are not in use, in rising order, each once
+-- THE POOL FROM SCRATCH: the numbers that are not in use, in rising order, each once.
+-- The pool by one scan: the numbers whose inode slots have no entry and are not of the last generation, and that no
+-- hand has.
 abbrev pub pool_from_scratch : GeometryNumbers → World → List ℕ
 pool_from_scratch g w = unused (is_number_used w) 0 g.inodes

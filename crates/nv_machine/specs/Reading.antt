@@ -18,10 +18,15 @@ use Rattle.nv_machine.specs.World.{Actor, Drop, Event, Go, Make, Next, Pin, Refu
 
 -- ---- copies
 
--- a living snapshot and the plain world's copy: the same number and pins, and at its epoch each node is the copy's
+-- a living snapshot and the plain world's copy: the same number and pins, and at its epoch each node is the copy's.
+-- A living snapshot reads as a copy: number and pins are the copy's, and at its epoch the settled log of each inode
+-- slot gives the copy's node.
 pub record IsCopied (s : Shared) (snapshot : Snapshot) (copy : Copy) : Type 0 where
+  -- the numbers are one
   pub number : snapshot.number ≡ copy.snapshot
+  -- the pins are as many
   pub pins : snapshot.pins ≡ copy.pins
+  -- the settled logs give the copy's nodes at its epoch
   pub nodes : (handle : Handle) → settled_copies s snapshot.number handle ≡ copy.nodes handle
 
 -- so of all, in order
@@ -45,20 +50,24 @@ copied_tree inodes (copy ∷ copies) snapshot =
 
 -- ---- pins: what is between a show's first step and its last
 
+-- such a step is of a show that pins the snapshot
 abbrev pub pins_on : ℕ → MaintenanceStep → Bool
 pins_on snapshot (Show other showing) = other == snapshot
 pins_on snapshot (Unpin other seen) = other == snapshot
 pins_on snapshot other = false
 
+-- a call before this step pins the snapshot
 abbrev pub pins_at : ℕ → Next → Bool
 pins_at snapshot (Maintenance step) = pins_on snapshot step
 pins_at snapshot other = false
 
+-- an actor's call pins the snapshot
 abbrev pub pins_by_call : ℕ → Option Running → Bool
 pins_by_call snapshot None = false
 pins_by_call snapshot (Some r) = pins_at snapshot r.next
 
--- how many shows of a snapshot are under way
+-- how many shows of a snapshot are under way.
+-- `show` calls of a snapshot: those between their first step and their last.
 abbrev pub shows_of : ℕ → World → ℕ
 shows_of snapshot w = count_by (λ (actor : Actor). pins_by_call snapshot actor.running) w.actors
 
@@ -74,16 +83,20 @@ abbrev pub pins_in : List Copy → ℕ → Option ℕ
 pins_in [] snapshot = None
 pins_in (copy ∷ copies) snapshot = if is_of snapshot copy then Some copy.pins else pins_in copies snapshot
 
+-- a drop is refused by the pins of its snapshot
 abbrev pub test_pins : Option ℕ → Tests
 test_pins None = Err NoSnapshot
 test_pins (Some zero) = passes
 test_pins (Some (suc pins)) = Err Pinned
 
+-- a show is refused where its snapshot does not live
 abbrev pub test_there : Option ℕ → Tests
 test_there None = Err NoSnapshot
 test_there (Some pins) = passes
 
--- for what the plain world refuses a step, where so many snapshots may live
+-- for what the plain world refuses a step, where so many snapshots may live.
+-- What the plain world refuses the calls `snap`, `drop` and `show` for is told by its epoch, its copies and their
+-- pins.
 abbrev pub plain_tests : ℕ → MaintenanceStep → Plain → Tests
 plain_tests most Make p =
     if nat_le NUMBER p.epoch then Err EpochLimit else if nat_le most (length p.copies) then Err TooManySnapshots else passes
@@ -112,19 +125,33 @@ GoesBy (Ok passed) reply = (fault : Fault) → reply ≢ Refused fault
 
 -- ---- releases
 
+-- 1 for a step that releases a record, else 0
 abbrev pub releases_at : Next → ℕ
 releases_at (Maintenance (Release draining picked)) = 1
 releases_at other = 0
 
+-- how many records the next step of an actor's call releases
 abbrev pub releases_of : Option Running → ℕ
 releases_of None = 0
 releases_of (Some r) = releases_at r.next
 
+-- how many records an event of an actor releases
 abbrev pub releases_in : ℕ → World → Event → ℕ
 releases_in actor w (Start other c) = 0
 releases_in actor w (Go other granted) = if other == actor then releases_of (actor_at w actor).running else 0
 
--- HOW MANY RECORDS an actor's steps release
+-- HOW MANY RECORDS an actor's steps release.
+-- Releases: how many `release` steps an actor has made. Example, in a new world of 16 blocks. A file gets a page
+-- under epoch 1, snapshot 1 is made, and the page is written again. The Size and the page of the first Write are
+-- recorded, in the manifest of 1, which holds one block. A `show` call of it has four steps: `pin`, `show` of the
+-- root, `show` of the file, `unpin`. A `drop` call in between is refused as pinned. Once it is dropped both records
+-- are deferred. `drain 1` releases the Size in four steps: `pick`, `lock picked`, `release`, `unlock`. The next one
+-- releases the page in five, with its block in the hand after the third and in a free list after the last. One
+-- `pick` more finds nothing. Examples, with 16 blocks on 2 CPUs and 4 entries a log page. A `create` call that
+-- takes one log page has 18 steps: `number`, `lock`, `lock`, `check`, `take`, `ready`, `enter`, `append`, `append`,
+-- `open`, `publish`, `publish`, `close`, `retire`, `retire`, `leave`, `unlock`, `unlock`. A write over a present
+-- page that starts and makes four steps (`lock`, `check`, `take`, `ready`) has one block in its hand. 12 are free
+-- and 2 in chains.
 abbrev pub releases : ℕ → World → List Event → ℕ
 releases actor w [] = 0
 releases actor w (e ∷ events) = releases_in actor w e + releases actor (step w e).world events

@@ -18,7 +18,7 @@ use Rattle.nv_entry.specs.declared.held.Pair.{Pair}
 use Rattle.nv_epoch.specs.SnapList.{ids}
 use Rattle.nv_machine.specs.Held.{is_of_slot, killed_in, pending_in}
 use Rattle.nv_machine.specs.Kinds.{first_killed}
-use Rattle.nv_machine.specs.PlainRun.{Deed, Maintains, actor_of, deed_of}
+use Rattle.nv_machine.specs.PlainRun.{PlainChange, Maintains, actor_of, plain_change_of}
 use Rattle.nv_machine.specs.Reads.{slot_at, written_slots}
 use Rattle.nv_machine.specs.Step.{step}
 use Rattle.nv_machine.specs.World.{Drop, Event, Go, HandState, Next, Pick, Retire, Running, Shared, Start, World, actor_at, cell_at}
@@ -38,11 +38,12 @@ after_retire (Retire place) s h r rs =
 after_retire other s h r rs = rs
 
 -- a drop moves those of its snapshot to the end, and a pick takes out the first that no living one holds
-abbrev pub after_deed : Deed → List ℕ → List Record → List Record
+abbrev pub after_deed : PlainChange → List ℕ → List Record → List Record
 after_deed (Maintains (Drop snapshot)) living rs = with_moved snapshot living rs
 after_deed (Maintains (Pick draining)) living rs = without_first living rs
 after_deed other living rs = rs
 
+-- the records behind what an event retires
 abbrev pub retired_in : World → Event → Option Running → List Record → List Record
 retired_in w (Start actor c) running rs = rs
 retired_in w (Go actor granted) None rs = rs
@@ -51,8 +52,11 @@ retired_in w (Go actor granted) (Some r) rs = after_retire r.next w.shared (acto
 -- by an event of an actor that there is
 abbrev pub records_in : World → Event → List Record → List Record
 records_in w e rs =
-    after_deed (deed_of w e) (ids w.shared.book.snaps) (retired_in w e (actor_at w (actor_of e)).running rs)
+    after_deed (plain_change_of w e) (ids w.shared.book.snaps) (retired_in w e (actor_at w (actor_of e)).running rs)
 
+-- The records of a run: one list. `retire` puts to its end the killed parts of its inode that a living snapshot
+-- holds. `drop` puts there the records that its snapshot was the youngest to hold. `pick` takes out the first that
+-- no living snapshot holds.
 abbrev pub records_after : World → List Event → List Record → List Record
 records_after w [] rs = rs
 records_after w (e ∷ events) rs = records_after (step w e).world events (records_in w e rs)
@@ -67,18 +71,20 @@ recorded_in w = all_records w.shared.book.manifests ++ pending_in w
 abbrev pub is_record_of : CellState → ℕ → ℕ → Record → Bool
 is_record_of cell ino n d = is_of_slot ino d && is_number (number_named (log_of cell) (name_of d)) n
 
+-- how many records are of a part of an inode, by its number
 abbrev pub times_recorded : World → ℕ → ℕ → ℕ
 times_recorded w ino n = length (filter (is_record_of (cell_at w.shared ino) ino n) (recorded_in w))
 
-abbrev pub is_kept : Mark → Bool
-is_kept Current = false
-is_kept Killed = false
-is_kept Kept = true
-is_kept Out = false
+-- the part has a record: it is marked kept
+abbrev pub is_marked_kept : Mark → Bool
+is_marked_kept Current = false
+is_marked_kept Killed = false
+is_marked_kept Kept = true
+is_marked_kept Out = false
 
 -- A PART IS MARKED KEPT exactly where it has one record, and no part has two
 abbrev pub AreRecordedOnce : World → Type 0
-AreRecordedOnce w = (ino n : ℕ) → times_recorded w ino n ≡ bit (is_kept (mark_at (cell_at w.shared ino).marks n))
+AreRecordedOnce w = (ino n : ℕ) → times_recorded w ino n ≡ bit (is_marked_kept (mark_at (cell_at w.shared ino).marks n))
 
 -- a record is of a pair of its slot's log, of that birth and no longer current; and each living snapshot holds the record
 -- exactly where it holds the pair
@@ -93,11 +99,13 @@ pub record IsOfPair (w : World) (d : Record) : Type 0 where
 
 -- ---- what a snapshot holds, by records and by killed parts
 
--- a pair of a slot is recorded, with this snapshot as a holder
+-- a pair of a slot is recorded, with this snapshot as a holder.
+-- Recorded for a snapshot is a pair with a record of its name that the snapshot holds.
 abbrev pub is_recorded_for : ℕ → World → ℕ → Pair → Bool
 is_recorded_for snapshot w ino pair =
     list_any (λ d. is_of_slot ino d && (is_held_by snapshot d && has_name pair (name_of d))) (recorded_in w)
 
--- a pair of a slot is killed, and not yet retired
+-- a pair of a slot is killed, and not yet retired.
+-- Killed is one that a commit has killed and not yet retired.
 abbrev pub is_killed_pair : World → ℕ → Pair → Bool
 is_killed_pair w ino pair = is_named (map (λ (k : KilledPart). k.part) (killed_in w ino)) pair

@@ -2,13 +2,13 @@
 use Rattle.std.specs.Prelude.{◌≡◌, true, Ok, Err}
 use Rattle.nv_book.specs.Book.{BookState, after_unpin_snapshot}
 use Rattle.nv_machine.specs.Hands.{is_going_on}
-use Rattle.nv_machine.specs.World.{Answers, Cleans, Drains, Ending, Ends, Moves, Next, Overtaken, Refuses, Shared, Maintenance, Turn, Unpin, Waits}
+use Rattle.nv_machine.specs.World.{Answers, Cleans, Drains, Ending, Ends, Moves, Next, BoundAnew, Refuses, Shared, Maintenance, Turn, Unpin, Waits}
 
 -- the call is to be refused, or its names are looked up again
 abbrev pub IsUnanswered : Ending → Type 0
 IsUnanswered Answers = ⊥
 IsUnanswered (Refuses fault) = Unit {0}
-IsUnanswered Overtaken = Unit {0}
+IsUnanswered BoundAnew = Unit {0}
 IsUnanswered (Drains draining) = ⊥
 IsUnanswered (Cleans cleaned) = ⊥
 
@@ -21,7 +21,8 @@ book_left other b = b
 abbrev pub SameBooks : Next → Shared → Shared → Type 0
 SameBooks next s t = (t.book ≡ book_left next s.book) × (t.cells ≡ s.cells)
 
--- a step after which its call is not to be answered, or that refuses it, leaves these
+-- a step after which its call is not to be answered, or that refuses it, leaves these.
+-- Books are left by a step after which its call is not answered: the book and all cells are as before.
 abbrev pub LeavesBooks : Next → Shared → Turn → Type 0
 LeavesBooks next s (Moves t h r) = IsUnanswered r.ending → SameBooks next s t
 LeavesBooks next s Waits = Unit {0}

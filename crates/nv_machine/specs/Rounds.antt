@@ -1,7 +1,7 @@
 -- How often a call may still find a name bound anew.
 use Rattle.std.specs.Prelude.{ℕ, ◌+◌, ◌≤◌, ◌==◌, if◌then◌else◌, List, [], ◌∷◌, Option, Some, None}
 use Rattle.nv_machine.specs.Step.{ending_at, step}
-use Rattle.nv_machine.specs.World.{Answers, Check, Cleans, Drains, Ending, Event, Go, HandState, Next, Overtaken, Refuses, Running, Shared, Start, World, actor_at}
+use Rattle.nv_machine.specs.World.{Answers, Check, Cleans, Drains, Ending, Event, Go, HandState, Next, BoundAnew, Refuses, Running, Shared, Start, World, actor_at}
 
 -- the checks that a call may still fail so: in each round one, and in this round none where it has failed
 abbrev pub checks_left : Ending → ℕ → ℕ
@@ -9,13 +9,14 @@ checks_left Answers rounds = rounds + 1
 checks_left (Refuses fault) rounds = rounds + 1
 checks_left (Drains draining) rounds = rounds + 1
 checks_left (Cleans cleaned) rounds = rounds + 1
-checks_left Overtaken rounds = rounds
+checks_left BoundAnew rounds = rounds
 
 -- one where a step is a check that finds a name bound anew
 abbrev pub fails_by : Next → Option Ending → ℕ
-fails_by Check (Some Overtaken) = 1
+fails_by Check (Some BoundAnew) = 1
 fails_by other ending = 0
 
+-- how many rounds an actor's next step fails
 abbrev pub fails_of : Option Running → ℕ → Shared → HandState → ℕ
 fails_of None block s h = 0
 fails_of (Some r) block s h = fails_by r.next (ending_at block s h r)
@@ -31,7 +32,8 @@ abbrev pub failed_checks : ℕ → World → List Event → ℕ
 failed_checks actor w [] = 0
 failed_checks actor w (e ∷ events) = fails_in actor w e + failed_checks actor (step w e).world events
 
--- a call that runs has failed so often that so many in all are failed or left
+-- a call that runs has failed so often that so many in all are failed or left.
+-- `HasRounds` counts them with those that are left.
 abbrev pub HasRounds : ℕ → ℕ → Option Running → Type 0
 HasRounds all failed None = Unit {0}
 HasRounds all failed (Some r) = all ≤ failed + checks_left r.ending r.rounds

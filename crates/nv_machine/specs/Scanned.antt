@@ -16,6 +16,9 @@ use Rattle.nv_machine.specs.World.{Shared, World, cell_at}
 abbrev pub pages_that : (Pair → Bool) → CellState → ℕ
 pages_that passes cell = count_by (λ (pair : Pair). is_page pair.part && passes pair) (pairs cell.block (log_of cell))
 
+-- What a scan counts: of all logs the pages that pass a test, as `scanned_data` those that are needed. Example: a
+-- call has published over a page that no snapshot holds, and has not retired it. Then the page is killed. It is no
+-- data and not pending, and its block counts as in a hand.
 abbrev pub all_pages_that : (ℕ → Pair → Bool) → Shared → ℕ
 all_pages_that passes s = sum_by (λ ino. pages_that (passes ino) (cell_at s ino)) (range_with_len 0 (length s.cells))
 
@@ -52,5 +55,6 @@ is_kept_alone snapshot w ino pair =
 abbrev pub scanned_held : World → ℕ → ℕ
 scanned_held w snapshot = all_pages_that (is_kept_for snapshot w) w.shared
 
+-- how many pages a snapshot alone holds, by a scan
 abbrev pub scanned_gain : World → ℕ → ℕ
 scanned_gain w snapshot = all_pages_that (is_kept_alone snapshot w) w.shared

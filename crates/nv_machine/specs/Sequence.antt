@@ -21,6 +21,7 @@ pub data Beginning : Type 0 where
   Visits : Beginning
   Maintains : (what : MaintenanceCall) → Beginning
 
+-- how a call begins
 abbrev pub beginning : Call → Beginning
 beginning (call.Create dir name mode) = Numbers
 beginning (call.Mkdir dir name mode) = Numbers
@@ -38,12 +39,15 @@ beginning (call.Maintenance what) = Maintains what
 
 -- ---- loops: the step for a place, or what comes behind the last one
 
+-- the next step in the loop of locks
 abbrev pub locking : ℕ → List ℕ → Next
 locking place slots = if nat_lt place (length slots) then Lock place else Check
 
+-- the next step in the loop of looks
 abbrev pub looking : ℕ → Running → Next
 looking place r = if nat_lt place (length (directories r.call)) then Look place else locking 0 r.slots
 
+-- the next step in the loop of retirements
 abbrev pub retiring : ℕ → List ℕ → Next
 retiring place written = if nat_lt place (length written) then Retire place else Leave
 
@@ -51,17 +55,22 @@ retiring place written = if nat_lt place (length written) then Retire place else
 abbrev pub closing : List ℕ → Next
 closing written = if nat_lt 1 (length written) then Close else retiring 0 written
 
+-- the next step in the loop of publishes
 abbrev pub publishing : ℕ → List ℕ → Next
 publishing place written = if nat_lt place (length written) then Publish place else closing written
 
+-- the step behind the appends
 abbrev pub opening : List ℕ → Next
 opening written = if nat_lt 1 (length written) then Open else publishing 0 written
 
+-- the next step in the loop of appends
 abbrev pub appending : ℕ → List ℕ → Next
 appending place written = if nat_lt place (length written) then Append place else opening written
 
 -- THE SEQUENCE: what comes behind a step that has done its work. A check and a taking go on by what is still wanted,
 -- and a leave and the last steps by what is locked or in the hand.
+-- What comes next follows from how many directories, inode slots and inodes written there are. A loop over nothing
+-- has no step.
 abbrev pub sequel : Running → Next → Next
 sequel r Number = locking 0 r.slots
 sequel r (Look place) = looking (place + 1) r
@@ -77,6 +86,7 @@ sequel r other = other
 
 -- ---- a call that starts
 
+-- a call that begins with a step
 abbrev pub started : Call → Next → List ℕ → Running
 started c next slots = record {
   call = c;
@@ -122,6 +132,7 @@ slots_on (Unlink ino) = ino ∷ []
 slots_on (Compact ino) = ino ∷ []
 slots_on other = []
 
+-- a call at its beginning
 abbrev pub begun : Beginning → Shared → Call → Running
 begun Numbers s c = started c Number []
 begun Looks s c = started c (Look 0) []

@@ -21,6 +21,7 @@ settled s ino = take (settled_tail s.book.journals ino (cell_at s ino).chain.tai
 abbrev pub node_by : CellState → List Entry → Option PlainNode
 node_by cell log = stamped (last_commit log) (node_now (bytes_among cell.blocks) cell.block log)
 
+-- the node under a handle by the settled log of its slot
 abbrev pub settled_nodes : Shared → Handle → Option PlainNode
 settled_nodes s handle =
     if handle.generation == (cell_at s handle.ino).generation then node_by (cell_at s handle.ino) (settled s handle.ino) else None
@@ -36,5 +37,6 @@ settled_copies s epoch handle =
 abbrev pub snapshot_tree : World → ℕ → List TreeNode
 snapshot_tree w snapshot = tree_from (settled_copies w.shared snapshot) (length w.shared.cells) [] root
 
+-- The tree is that of the settled logs, and that of a snapshot the same at its epoch.
 abbrev pub tree_of : World → List TreeNode
 tree_of w = tree_from (node_in (settled_nodes w.shared)) (length w.shared.cells) [] root

@@ -32,10 +32,12 @@ abbrev pub made_in : Shared → Option ℕ → Handle → Handle
 made_in s None made = made
 made_in s (Some ino) made = record { ino = ino; generation = (cell_at s ino).generation }
 
+-- a running call with the handle that its number and its look give
 abbrev pub with_made : Shared → HandState → Running → Running
 with_made s h r = record r { made = made_in s h.ino r.made }
 
--- how its check ends a call, if it does
+-- how its check ends a call, if it does.
+-- How a check ends, as tests: the calls' rules, and then that a call that makes an inode has a number.
 abbrev pub ending_at : ℕ → Shared → HandState → Running → Option Ending
 ending_at block s h r =
     check_ending (early (copies s) r.call) (same_looked (looked (copies s) r.call) r.looked) (refusal block (copies s) r.call)
@@ -49,6 +51,9 @@ check_grows block s h r =
 
 -- ---- THE STEP
 
+-- Step (`kind_turn`, with one function a kind in the same crate's `Kinds.antt`): what is shared, the hand and the
+-- call after the step; or that it waits; or, at the last step, what the call is answered. What decides a step is an
+-- argument of its function.
 abbrev pub kind_turn : Next → ℕ → ℕ → Bool → Shared → HandState → Running → Turn
 kind_turn Number block actor granted s h r = number_turn s.pool.numbers s h r
 kind_turn (Look place) block actor granted s h r =
@@ -77,6 +82,7 @@ kind_turn Visit block actor granted s h r =
     (granted || not (visit_grows r.call)) (answer (nodes s) r.made r.call) s h r
 kind_turn (Maintenance step) block actor granted s h r = maintenance_turn step actor granted s h r
 
+-- the turn of a running call's next step
 abbrev pub turn : ℕ → ℕ → Bool → Shared → HandState → Running → Turn
 turn block actor granted s h r = kind_turn r.next block actor granted s h r
 
@@ -91,13 +97,16 @@ pub record Step : Type 0 where
   pub reply : Reply
   pub world : World
 
+-- a reply, and the world as it was
 abbrev pub stays : Reply → World → Step
 stays reply w = record { reply = reply; world = w }
 
+-- the reply of a last step
 abbrev pub reply_of : Result Answer Fault → Reply
 reply_of (Ok found) = Done found
 reply_of (Err fault) = Refused fault
 
+-- reply and world of a turn
 abbrev pub turned : Turn → ℕ → World → Step
 turned (Moves s h r) actor w = record { reply = Moved; world = changed s h (Some r) actor w }
 turned Waits actor w = stays Waiting w
@@ -110,12 +119,14 @@ start_step true (Some r) actor c w = stays (Refused ActorBusy) w
 start_step true None actor c w =
     record { reply = Started; world = changed w.shared (actor_at w actor).hand (Some (begun (beginning c) w.shared c)) actor w }
 
+-- a Go: refused for its actor, or one step of its call
 abbrev pub go_step : Bool → Option Running → ℕ → Bool → World → Step
 go_step false running actor granted w = stays (Refused NoActor) w
 go_step true None actor granted w = stays (Refused ActorIdle) w
 go_step true (Some r) actor granted w = turned (turn w.numbers.block actor granted w.shared (actor_at w actor).hand r) actor w
 
--- ONE EVENT
+-- ONE EVENT.
+-- One event is a start or a `Go` of an actor. It gives a reply and the world after it.
 abbrev pub step : World → Event → Step
 step w (Start actor c) = start_step (nat_lt actor (length w.actors)) (actor_at w actor).running actor c w
 step w (Go actor granted) = go_step (nat_lt actor (length w.actors)) (actor_at w actor).running actor granted w
@@ -125,6 +136,7 @@ abbrev pub replies : World → List Event → List Reply
 replies w [] = []
 replies w (e ∷ events) = (step w e).reply ∷ replies (step w e).world events
 
+-- the world after events, one after another
 abbrev pub after : World → List Event → World
 after w [] = w
 after w (e ∷ events) = after (step w e).world events

@@ -1,6 +1,8 @@
 -- The steps of a call by name, each with the slot, the CPU or the directory that it is of.
 use Rattle.std.specs.Prelude.{ℕ}
 
+-- Each is told by its name with its inode slot or its CPU. Example: a `mode` of the file in slot 1 makes `lock 1`,
+-- `check`, `ready`, `enter`, `append 1`, `publish 1`, `retire 1`, `leave`, `unlock 1`.
 pub data StepName : Type 0 where
   Number : StepName
   Look : (dir : ℕ) → StepName

@@ -17,6 +17,7 @@ use Rattle.nv_machine.specs.World.{Append, ReturnNumber, Check, Close, Compact, 
 
 -- ---- the steps of a call
 
+-- the name of a step on snapshots, or of a cleaner
 abbrev pub name_on : MaintenanceStep → ℕ → ℕ → named.StepName
 name_on Make cpus actor = named.Make
 name_on (Drop snapshot) cpus actor = named.Drop
@@ -59,17 +60,20 @@ pub record Made : Type 0 where
   pub steps : List named.StepName
   pub world : World
 
+-- the steps with one more before them
 abbrev pub step_first : named.StepName → Made → Made
 step_first name made = record made { steps = name ∷ made.steps }
 
-abbrev pub made_by : Option Running → ℕ → World → (World → Made) → Made
-made_by None actor w rest = record { steps = []; world = w }
-made_by (Some r) actor w rest =
+-- the steps of a call, and the world behind them
+abbrev pub row_made_by : Option Running → ℕ → World → (World → Made) → Made
+row_made_by None actor w rest = record { steps = []; world = w }
+row_made_by (Some r) actor w rest =
     step_first (name_of r.next w.numbers.cpus actor r) (rest (step w (Go actor true)).world)
 
+-- at most so many steps of an actor's call
 abbrev pub steps_made : ℕ → ℕ → World → Made
 steps_made zero actor w = record { steps = []; world = w }
-steps_made (suc n) actor w = made_by (actor_at w actor).running actor w (steps_made n actor)
+steps_made (suc n) actor w = row_made_by (actor_at w actor).running actor w (steps_made n actor)
 
 -- ---- a row
 
@@ -79,16 +83,20 @@ pub record Row : Type 0 where
   pub call : Call
   pub steps : List named.StepName
 
+-- the device of the worked rows
 abbrev pub device : GeometryNumbers
 device = record { blocks = 16; cpus = 2; block = 4; page = 4; inodes = 8; snaps = 4; actors = 2 }
 
+-- a whole call of actor 1
 abbrev pub call_made : Call → World → Made
 call_made c w = steps_made 99 1 (step w (Start 1 c)).world
 
+-- the world behind some calls of actor 1
 abbrev pub after_calls : List Call → World → World
 after_calls [] w = w
 after_calls (c ∷ calls) w = after_calls calls (call_made c w).world
 
+-- A worked row of steps: after some calls of actor 1 the next call makes these steps.
 abbrev pub IsRow : Row → Type 0
 IsRow row = (call_made row.call (after_calls row.before (formatted device))).steps ≡ row.steps
 
@@ -97,12 +105,15 @@ IsRow row = (call_made row.call (after_calls row.before (formatted device))).ste
 abbrev handle : ℕ → Handle
 handle ino = record { ino = ino; generation = 1 }
 
+-- a `create` of `a` in the root
 abbrev pub create_a : Call
 create_a = call.Create (handle 0) (97 ∷ []) 420
 
+-- a `write` of four bytes to the file in slot 1
 abbrev pub write_a : Call
 write_a = call.Write (handle 1) 0 (1 ∷ 2 ∷ 3 ∷ 4 ∷ [])
 
+-- a `mkdir` in the root
 abbrev pub make_directory : ℕ → Call
 make_directory name = call.Mkdir (handle 0) (name ∷ []) 493
 
@@ -110,6 +121,7 @@ make_directory name = call.Mkdir (handle 0) (name ∷ []) 493
 abbrev pub commit_one : ℕ → List named.StepName
 commit_one slot = named.Enter ∷ named.Append slot ∷ named.Publish slot ∷ named.Retire slot ∷ named.Leave ∷ []
 
+-- the steps of a commit of two slots
 abbrev pub commit_two : ℕ → ℕ → List named.StepName
 commit_two slot other =
     named.Enter ∷ named.Append slot ∷ named.Append other ∷ named.Open 1 ∷ named.Publish slot ∷ named.Publish other ∷ named.Close 1
@@ -127,9 +139,11 @@ of_gone =
     named.Look 0 ∷ named.Lock 0 ∷ named.Lock 1 ∷ named.Check ∷ named.Ready ∷ commit_two 0 1
     ++ named.Unlock 0 ∷ named.Unlock 1 ∷ named.Give 1 ∷ named.ReturnNumber ∷ []
 
+-- a row: the calls before it, the call, and its steps
 abbrev pub row : List Call → Call → List named.StepName → Row
 row before c steps = record { before = before; call = c; steps = steps }
 
+-- the rows of calls that change nodes
 abbrev pub rows_of_changes : List Row
 rows_of_changes =
     row [] create_a of_new
@@ -155,6 +169,7 @@ rows_of_changes =
     ∷ named.Unlock 1 ∷ named.Unlock 2 ∷ named.Unlock 3 ∷ named.Unlock 4 ∷ named.Give 1 ∷ named.ReturnNumber ∷ [])
     ∷ []
 
+-- the rows of calls that read
 abbrev pub rows_of_readers : List Row
 rows_of_readers =
     row (create_a ∷ write_a ∷ []) (call.Read (handle 1) 0 4) (named.Visit 1 ∷ [])
@@ -167,6 +182,7 @@ rows_of_readers =
 abbrev pub two_deferred : List Call
 two_deferred = create_a ∷ write_a ∷ call.Maintenance on.Snap ∷ write_a ∷ call.Maintenance (on.Drop 1) ∷ []
 
+-- the rows of calls on snapshots
 abbrev pub rows_on_snapshots : List Row
 rows_on_snapshots =
     row [] (call.Maintenance on.Snap) (named.Make ∷ [])
@@ -187,6 +203,7 @@ rows_on_snapshots =
 abbrev pub written_over : List Call
 written_over = create_a ∷ write_a ∷ write_a ∷ []
 
+-- the rows of cleaners
 abbrev pub rows_of_cleaners : List Row
 rows_of_cleaners =
     -- whole pages: a step that cleans, also where nothing goes

@@ -17,14 +17,18 @@ pub record Asked : Type 0 where
   pub left : ℕ
   pub more : ℕ
 
--- a taking: how many blocks it wants in all, and the lists that it has asked, the last one first
+-- a taking: how many blocks it wants in all, and the lists that it has asked, the last one first.
+-- What a taking has asked: the lists that its steps asked, each with what it had, what it has left, and what the
+-- hand has more.
 pub record Taking : Type 0 where
   pub wanted : ℕ
   pub asked : List Asked
 
+-- a taking that has asked no list
 abbrev pub no_taking : Taking
 no_taking = record { wanted = 0; asked = [] }
 
+-- what a list had and gave, where it was asked
 abbrev pub asked_in : ℕ → Shared → HandState → Shared → HandState → Asked
 asked_in cpu s h t after = record {
   cpu = cpu;
@@ -33,6 +37,7 @@ asked_in cpu s h t after = record {
   more = length (blocks_in after) - length (blocks_in h);
 }
 
+-- the taking with one more list that was asked
 abbrev pub and_asked : ℕ → Shared → HandState → Shared → HandState → Taking → Taking
 and_asked cpu s h t after taking = record taking { asked = asked_in cpu s h t after ∷ taking.asked }
 
@@ -52,6 +57,7 @@ beginning_with (Maintenance (Fresh ino asked wanted)) other taking =
     if asked == 0 then record { wanted = wanted; asked = [] } else taking
 beginning_with other wanted taking = taking
 
+-- the taking behind a turn
 abbrev pub taking_by : Next → ℕ → Shared → HandState → Turn → Taking → Taking
 taking_by k actor s h (Moves t after r) taking = beginning_with r.next r.wanted (asking k actor s h t after taking)
 taking_by k actor s h Waits taking = taking
@@ -59,6 +65,7 @@ taking_by k actor s h (Ends result t after) taking = asking k actor s h t after 
 
 -- ---- over events
 
+-- the taking behind an actor's step
 abbrev pub taking_of : Option Running → World → ℕ → Bool → Taking → Taking
 taking_of None w actor granted taking = taking
 taking_of (Some r) w actor granted taking =
@@ -91,6 +98,7 @@ AreEmptied cpus actor (suc n) [] = ⊥
 AreEmptied cpus actor (suc n) (one ∷ asked) =
     (one.cpu ≡ (actor + n) % cpus) × IsEmptied one × AreEmptied cpus actor n asked
 
+-- the step asks a list for blocks
 abbrev pub asks_list : Next → Bool
 asks_list (TakeBlocks asked) = true
 asks_list (TakeLogPages asked) = true

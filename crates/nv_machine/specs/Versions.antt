@@ -24,10 +24,12 @@ abbrev pub HasUnseen : Shared → Running → Type 0
 HasUnseen s r = commits_at r.next ≡ true → (ino : ℕ) → has (to_publish r.next (written_slots r)) ino ≡ true
     → (cell_at s ino).version < r.commit
 
+-- what an actor's call has yet to publish has not seen its commit
 abbrev pub HasUnseenBy : Shared → Option Running → Type 0
 HasUnseenBy s None = Unit {0}
 HasUnseenBy s (Some r) = HasUnseen s r
 
+-- versions are not above the commits, and calls have unseen what they have yet to publish
 pub record AreCounted (w : World) : Type 0 where
   pub versions : AreVersions w.shared
   pub each : (actor : ℕ) → HasUnseenBy w.shared (actor_at w actor).running

@@ -7,7 +7,9 @@ use Rattle.nv_machine.specs.World.{Check, Ends, HandState, Moves, Next, Ready, R
 
 -- ---- how much is wanted
 
--- of data, by what the check reads
+-- of data, by what the check reads.
+-- What its takings want: of data what `check` reads, and of log pages what the plan needs that the data in the hand
+-- makes.
 abbrev pub data_wanted : ℕ → Shared → Running → ℕ
 data_wanted block s r = blocks_wanted block (copies s) (has_last_page block s r.call) r.call
 
@@ -39,7 +41,8 @@ HasAllData Check block actor s r = data_wanted block s r ≡ 0
 HasAllData (TakeBlocks asked) block actor s r = lacking asked actor s r ≡ 0
 HasAllData other block actor s r = ⊥
 
--- a step `k` that goes on to a taking, or past both, and leaves this behind it
+-- a step `k` that goes on to a taking, or past both, and leaves this behind it.
+-- `LeadsTo` says from which step a call goes on to which taking.
 abbrev pub LeadsTo : Next → Next → ℕ → ℕ → Shared → Running → Shared → HandState → Running → Type 0
 LeadsTo (TakeBlocks asked) k block actor s r t after q =
     ((k ≡ Check) × Begins asked q.wanted (data_wanted block s r))

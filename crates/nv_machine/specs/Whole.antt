@@ -10,5 +10,6 @@ pub record HasItsParts (block : ℕ) (cell : CellState) : Type 0 where
   pub marks : HasMarks cell
   pub blocks : HasBlocks cell
 
+-- each slot's cell has its parts
 abbrev pub HaveTheirParts : ℕ → Shared → Type 0
 HaveTheirParts block s = (ino : ℕ) → ino < length s.cells → HasItsParts block (cell_at s ino)

@@ -17,7 +17,14 @@ ghost use Rattle.nv_machine.specs.World.{Draining, Event, Go, Release, Retire, R
 /// hand, unless that generation is the last. From there on the number stays in the hand, whatever others do, up to
 /// the step that ends the call, or the drain's record, which puts it into the pool. So no slot has such an inode
 /// while no commit is under way.
+/// A retire that loses the chain, a block or the number is no step of the machine, by a worked unlink.
+/// A retire that keeps the generation or erases nothing is no step of the machine, by that unlink.
 pub fn gone_inodes_are_erased()
+    // A gone inode of which nothing is kept is erased by the retire of what was killed of it.
+    // Nothing is kept where no pair of its settled log is current, held by a living snapshot or deferred.
+    // An erased inode's slot is empty and of the next generation.
+    // The hand of the call has each log page of the erased inode and the block of each of its parts.
+    // The hand has the erased inode's number, unless the next generation is the last.
     ensures retire { (g : GeometryNumbers) (start : World) (records : List Record)
         (events : List Event) (actor place : ℕ) (granted : Bool) (r : Running)
         → IsStart g start records → (actor_at (after start events) actor).running ≡ Some r
@@ -25,6 +32,7 @@ pub fn gone_inodes_are_erased()
         (after start events).shared (slot_at (written_slots r) place) → IsErasedWhole actor
         (slot_at (written_slots r) place) (after start events)
         (step (after start events) (Go actor granted)).world }
+    // A gone inode is erased by the release of its last record.
     ensures release { (g : GeometryNumbers) (start : World) (records : List Record)
         (events : List Event) (actor : ℕ) (draining : Draining) (picked : Record) (granted : Bool)
         (r : Running) → IsStart g start records
@@ -33,6 +41,8 @@ pub fn gone_inodes_are_erased()
         → IsOver (pending_but actor (after start events)) (after start events).shared picked.ino
         → IsErasedWhole actor picked.ino (after start events)
         (step (after start events) (Go actor granted)).world }
+    // The number of an erased inode stays in the hand of its call, whatever any actor does.
+    // Each number of a hand whose call retires or has only its last steps left goes back so.
     ensures hand { (g : GeometryNumbers) (start : World) (records : List Record)
         (events : List Event) (actor place : ℕ) (granted : Bool) (r : Running)
         → IsStart g start records → (actor_at (after start events) actor).running ≡ Some r
@@ -41,6 +51,7 @@ pub fn gone_inodes_are_erased()
         → is_withheld (cell_at (step (after start events) (Go actor granted)).world.shared
         (slot_at (written_slots r) place)) ≡ false → IsOnItsWay actor
         (slot_at (written_slots r) place) (step (after start events) (Go actor granted)).world }
+    // The step that lets a drain pick its next record puts that number into the pool.
     ensures released { (g : GeometryNumbers) (start : World) (records : List Record)
         (events : List Event) (actor : ℕ) (draining : Draining) (picked : Record) (granted : Bool)
         (r : Running) → IsStart g start records
@@ -50,10 +61,12 @@ pub fn gone_inodes_are_erased()
         → is_withheld
         (cell_at (step (after start events) (Go actor granted)).world.shared picked.ino) ≡ false
         → IsOnItsWay actor picked.ino (step (after start events) (Go actor granted)).world }
+    // The step that ends the call puts the number into the pool.
     ensures pool { (g : GeometryNumbers) (start : World) (records : List Record)
         (events : List Event) (actor ino : ℕ) (e : Event) → IsStart g start records
         → IsOnItsWay actor ino (after start events)
         → IsOnItsWayOrBack actor ino (step (after start events) e).world }
+    // No inode slot has a gone inode of which nothing is kept while the commit lock is free.
     ensures none { (g : GeometryNumbers) (start : World) (records : List Record)
         (events : List Event) (ino : ℕ) → IsStart g start records
         → (after start events).shared.holder ≡ None

@@ -14,6 +14,9 @@ ghost use Rattle.nv_machine.specs.World.{Event, Go, Refused, Running, World, act
 /// settled nodes, which the plain world has. Each step of the call has left all cells as they were, and the book, except
 /// that a show has put its pin on and taken it off.
 pub fn refused_calls_met_their_cause()
+    // Exactly one step of a refused call refused it, for the fault that it is told.
+    // The cause of that fault was there at that step, over the settled nodes.
+    // All its steps left every cell, and the book except for pins.
     ensures { (g : GeometryNumbers) (start : World) (records : List Record) (events : List Event)
         (actor : ℕ) (granted : Bool) (r : Running) (fault : Fault) → IsStart g start records
         → (actor_at (after start events) actor).running ≡ Some r

@@ -15,6 +15,7 @@ ghost use Rattle.nv_machine.specs.World.{Event, Running, World, actor_at};
 /// names, of those that its looks have found and of its new inode, without any that are out of range. The list rises
 /// ([`crate::laws::who_holds_what`]), so each slot is locked once.
 pub fn calls_lock_what_they_need()
+    // A call locks exactly the inode slots of its handles, its found handles and its new inode.
     ensures { (g : GeometryNumbers) (start : World) (records : List Record) (events : List Event)
         (actor ino : ℕ) (r : Running) → IsStart g start records
         → (actor_at (after start events) actor).running ≡ Some r → is_locking r.next ≡ true
@@ -26,6 +27,8 @@ pub fn calls_lock_what_they_need()
 /// two directories has a look for each, and one within a directory has one look. Each slot that a call needs has one
 /// lock, and no other slot has any. The journal of two slots or more is that of the actor's CPU.
 pub fn calls_make_these_steps()
+    // Worked rows: the steps of each of the nineteen calls, in order.
+    // A rename of two directories has a look for each, and one within a directory has one.
     ensures changes { AllByRecursion IsRow rows_of_changes }
     ensures readers { AllByRecursion IsRow rows_of_readers }
     ensures snapshots { AllByRecursion IsRow rows_on_snapshots }

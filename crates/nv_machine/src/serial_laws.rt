@@ -21,6 +21,9 @@ ghost use Rattle.nv_machine.specs.World.{Done, Event, Go, Refused, Running, Star
 /// commit number or of memory, and never as contended. It leaves the nodes as they stood. None waits where no other
 /// actor runs a call ([`crate::laws::who_waits`]).
 pub fn calls_alone_are_the_plain_worlds()
+    // A call made alone is told what the plain world answers on the nodes that stood at its start.
+    // Such a call is on files and directories; no other actor makes a step from its start to its last.
+    // The nodes at its start do not refuse it, and with its effect they are those that stand at its end.
     ensures answered { (g : GeometryNumbers) (start : World) (records : List Record)
         (before : List Event) (actor : ℕ) (c : Call) (grants : List Bool) (granted : Bool)
         (r : Running) (told : Answer) → IsStart g start records → is_maintenance c ≡ false
@@ -29,6 +32,9 @@ pub fn calls_alone_are_the_plain_worlds()
         (actor_at w actor).running ≡ Some r → (step w (Go actor granted)).reply ≡ Done told
         → IsAnsweredOn g.block (settled_nodes (after start before).shared)
         (settled_nodes (step w (Go actor granted)).world.shared) c told }
+    // A call made alone that is refused is refused for what the nodes at its start refuse it for.
+    // Where they do not refuse it, it is for want of a number, of blocks, of a commit number or of memory.
+    // A call made alone is never refused as contended, and a refused one leaves the nodes as they stood.
     ensures refused { (g : GeometryNumbers) (start : World) (records : List Record)
         (before : List Event) (actor : ℕ) (c : Call) (grants : List Bool) (granted : Bool)
         (r : Running) (fault : Fault) → IsStart g start records → is_maintenance c ≡ false

@@ -14,7 +14,9 @@ ghost use Rattle.nv_machine.specs.World.{Event, World};
 /// A run may start in a new world, which has no records. And it may start again in each world that events lead to from
 /// a start and in which no call runs: with the records to which they lead. So what laws say of any start holds of both.
 pub fn runs_may_start_where_nothing_runs()
+    // A run may start in a new world, without records.
     ensures new { (g : GeometryNumbers) → IsWithinLimits g → IsStart g (formatted g) [] }
+    // A run may start again in each world that events lead to and in which no call runs, with its records.
     ensures again { (g : GeometryNumbers) (start : World) (records : List Record) (events : List Event)
         → IsStart g start records → IsAtRest (after start events)
         → IsStart g (after start events) (records_after start events records) }

@@ -18,6 +18,7 @@ ghost use Rattle.nv_machine.specs.World.{HandState, Next, Running, Shared};
 /// lent stays as it is ([`crate::laws::one_step`]), and a cell that is lent is locked
 /// ([`crate::laws::who_holds_what`]).
 pub fn parts_are_lent_by_one_table()
+    // Each part of what is shared is lent to the kinds of steps that a table names, and to no other.
     ensures { (next : Next) (cpus actor : ℕ) (r : Running)
         → IsLentByTable next (lent next cpus actor r) }
 {}
@@ -26,10 +27,12 @@ pub fn parts_are_lent_by_one_table()
 /// ([`nv_calls::rule_laws::the_first_rule_refuses`]), and behind all of these for want of a number. Where a name was bound
 /// anew since the looks, the rules of the two names alone come before that.
 pub fn checks_refuse_in_order()
+    // A check refuses its call for the first rule that applies, and behind all for want of a number.
     ensures found { (block : ℕ) (s : Shared) (h : HandState) (r : Running)
         → same_looked (looked (copies s) r.call) r.looked ≡ true
         → tests_of (ending_at block s h r)
         ≡ first_that_applies (rules block (copies s) r.call ++ number_rule h r ∷ []) }
+    // Where a name was bound anew, the rules of the names come first, and else the round has failed.
     ensures anew { (block : ℕ) (s : Shared) (h : HandState) (r : Running)
         → looks_up r.call ≡ true → same_looked (looked (copies s) r.call) r.looked ≡ false
         → ending_at block s h r ≡ Some (bound_anew (first_that_applies

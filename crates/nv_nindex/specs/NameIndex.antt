@@ -18,7 +18,8 @@ pub record Names : Type 0 where
 abbrev pub binding_of : List ℕ → List (List ℕ × Binding) → Option Binding
 binding_of name names = lookup (same_name name) names
 
--- each name is bound to the same in both
+-- each name is bound to the same in both.
+-- Names (`HaveSameBindings` with the log's bindings): each name is bound to the same, by the same entry.
 abbrev pub HaveSameBindings : List (List ℕ × Binding) → List (List ℕ × Binding) → Type 0
 HaveSameBindings old new = (name : List ℕ) → binding_of name new ≡ binding_of name old
 
@@ -30,6 +31,7 @@ Rebinds old new name to = (other : List ℕ) → binding_of other new ≡ (if sa
 abbrev pub AreDistinct : List (List ℕ × Binding) → Type 0
 AreDistinct names = IsDistinct same_name (keys_of names)
 
+-- each name is lawful
 abbrev pub AreLawful : List (List ℕ × Binding) → Type 0
 AreLawful names = AllByRecursion (λ bound. IsTrue (is_lawful_name bound.0)) names
 

@@ -11,6 +11,7 @@ use std::iter::FusedIterator;
 use std::marker::Model;
 
 /// The names that a walk has not given yet, each as its bytes and what it is bound to.
+/// The names are given one by one, in storage order.
 #[derive(Drop)]
 pub struct Bindings<'a> {
     rest: Iter<'a, Vec<u8>, Binding>,

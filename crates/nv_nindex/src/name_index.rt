@@ -18,6 +18,7 @@ use std::marker::Model;
 ///
 /// A call for one name costs the name's length and a look-up in a map of hashes, which on average doesn't grow
 /// with the names; `reserve_one` costs a move of all names besides where the map grows.
+/// Only tested: an index is `Send` and `Sync`.
 #[derive(Debug, Drop)]
 pub struct NameIndex {
     alloc: Global,
@@ -38,6 +39,8 @@ impl Model for NameIndex {
       reserved = option_map (λ key. key.items) n.reserved;
     } };
 
+    // Its names are distinct and lawful.
+    // The reserved name is lawful and not bound, and there is room for it.
     ghost invariant = { λ n. IsNameIndex (record {
       names = map shown n.bindings.entries;
       reserved = option_map (λ key. key.items) n.reserved;
@@ -47,6 +50,7 @@ impl Model for NameIndex {
 impl NameIndex {
     /// An index without names. What it grows later comes from this allocator; it takes no memory yet.
     pub fn new(alloc: Global) -> NameIndex
+        // A new index is empty; how many names are bound is told.
         ensures { result ≡ record { names = []; reserved = None } }
     {
         NameIndex {
@@ -73,7 +77,9 @@ impl NameIndex {
     }
 
     /// What this name is bound to, and by which entry. Costs one look-up.
+    /// Only tested: a look-up takes no scan ([gate.md](gate.md)).
     pub fn get(&self, name: &[u8]) -> Option<Binding>
+        // A name leads to its handle and the id of the entry that bound it.
         ensures { result ≡ binding_of name.now self.now.names }
     {
         self.bindings.get(name).copied()
@@ -81,6 +87,7 @@ impl NameIndex {
 
     /// Whether this name is bound. Costs one look-up.
     pub fn is_bound(&self, name: &[u8]) -> bool
+        // Whether a name is bound is told.
         ensures { result ≡ is_some (binding_of name.now self.now.names) }
     {
         self.bindings.contains_key(name)
@@ -88,6 +95,7 @@ impl NameIndex {
 
     /// Whether this name stands reserved. A reserved name is not bound. Costs one comparison.
     pub fn is_reserved(&self, name: &[u8]) -> bool
+        // The reserved name is not bound yet and shows nowhere.
         ensures value { IsTrue result ↔ (self.now.reserved ≡ Some name.now) }
         ensures unseen { IsTrue result → binding_of name.now self.now.names ≡ None }
     {
@@ -102,7 +110,9 @@ impl NameIndex {
     /// Costs memory for `n` names and `n` times the logarithm of `n` comparisons. `OutOfMemory` where room for
     /// the list was refused.
     pub fn list(&self) -> Result<Vec<(&[u8], Binding)>, Fault>
+        // Names stand once each, in the order of the entries that bound them.
         ensures names { IfOk result (λ list. IsListOf self.now.names (map lent list.items)) }
+        // Listed names are lawful, and the only error is `OutOfMemory`.
         ensures lawful { IfOk result (λ list. AreLawful (map lent list.items)) }
         ensures err { IfErr result (λ fault. fault ≡ out_of_memory) }
     {
@@ -114,6 +124,7 @@ impl NameIndex {
     /// The name at this place, counted from 0, and its binding. Which name stands where is not told, and after a
     /// change of the names it may be another. Costs one read.
     pub fn at(&self, place: usize) -> Option<(&[u8], Binding)>
+        // Each name is given with its binding.
         ensures { option_map lent result ≡ slice_get self.now.names place }
     {
         let (name, binding) = self.bindings.get_index(place)?;
@@ -136,9 +147,11 @@ impl NameIndex {
     /// Costs one look-up and a copy of the name, and a move of all names where the map grows, by steps that
     /// double. `OutOfMemory` where the room was refused: nothing has changed.
     pub fn reserve_one(&mut self, name: &Name) -> Result<(), Fault>
+        // One name that is not bound is reserved, and no binding changes.
         ensures names { self.new.names ≡ self.old.names }
         ensures reserved { binding_of name.now self.old.names ≡ None
             → OnOk result (self.new.reserved ≡ Some name.now) }
+        // Reserving a bound name changes nothing, nor does a refused growth.
         ensures bound { IsSome (binding_of name.now self.old.names)
             → (result ≡ Ok tt) × (self.new ≡ self.old) }
         ensures fault { IfErr result (λ fault. fault ≡ out_of_memory) }
@@ -157,9 +170,13 @@ impl NameIndex {
     /// Binds a name that is reserved or bound, and takes no memory. The reserved name, once it is bound, is
     /// no longer reserved; another stays. Costs two look-ups.
     pub fn bind(&mut self, name: &[u8], to: Binding)
+        // Callers bind only a name that is bound or reserved.
         requires { IsSome (binding_of name.now self.old.names)
             ⊎ (self.old.reserved ≡ Some name.now) }
+        // Binding sets the handle and the entry of this name.
+        // Binding leaves every other name, and takes no memory.
         ensures names { Rebinds self.old.names self.new.names name.now (Some to) }
+        // Binding the reserved name takes the reservation; binding a bound name keeps it.
         ensures kept { IsSome (binding_of name.now self.old.names)
             → self.new.reserved ≡ self.old.reserved }
         ensures taken { self.old.reserved ≡ Some name.now → self.new.reserved ≡ None }
@@ -174,7 +191,9 @@ impl NameIndex {
 
     /// Takes a name out. An absent name changes nothing, and the reserved name stays. Costs two look-ups: the
     /// last name moves to the place of the one taken out.
+    /// Only tested: the cost of unbinding does not grow with the names ([gate.md](gate.md)).
     pub fn unbind(&mut self, name: &[u8])
+        // Unbinding takes this name out and no other.
         ensures names { Rebinds self.old.names self.new.names name.now None }
         ensures kept { self.new.reserved ≡ self.old.reserved }
     {
@@ -183,6 +202,7 @@ impl NameIndex {
 
     /// Takes all names out. The reserved name stays, and so does the room. Costs a step for each name.
     pub fn clear(&mut self)
+        // Clearing takes all names out, and the reserved name stays.
         ensures { self.new ≡ record self.old { names = [] } }
     {
         self.bindings.clear();

@@ -28,7 +28,7 @@ use Rattle.nv_entry.specs.Refs.{left_by, part_ref, place_in, ref_after, scan_ref
 use Rattle.nv_entry.proofs.Refs.{refs_give, scan_ref-cons}
 use Rattle.nv_cell.specs.Cell.{CellState, IsCell, block_named, log_of, mark_or_fresh, page_block}
 use Rattle.nv_cell.specs.Marks.{is_there}
-use Rattle.nv_cell.specs.Named.{number_named, place_of}
+use Rattle.nv_cell.specs.Named.{number_named, place_of_part}
 use Rattle.nv_cell.specs.Numbers.{number}
 use Rattle.nv_cell.specs.Pages.{AreBytesOf, own_bytes, own_page, slot_bytes}
 use Rattle.nv_cell.proofs.Numbers.{scan_key, scan_n}
@@ -62,7 +62,7 @@ same_id-self id = rw (eq-eqb id.commit id.commit refl, eq-eqb id.place id.place 
 
 -- a page that an item sets stands at the place of its key
 page_place : (block : ℕ) (item : Item) (p : ℕ) (value : Datum) → sets block item (PageKey p) ≡ Present value
-    → place_of item (Page p) ≡ Some (place_in item (PageKey p))
+    → place_of_part item (Page p) ≡ Some (place_in item (PageKey p))
 page_place block (Write first run size) p value h = go (in_run first run p) h where
   go : (b : Bool) → cond b (Present (Block (run.start + (p - first)))) Untouched ≡ Present value
       → cond b (Some (p - first + 1)) None ≡ Some (p - first + 1)
@@ -130,8 +130,8 @@ named_front (e ∷ log) more id n q = go (is_same_id e.id id.entry) (λ m h. nam
   later (Some m) rec h k = rw (rec m h) k
 
   go : (b : Bool) → ((m : ℕ) → number_named log id ≡ Some m → number_named (log ++ more) id ≡ Some m)
-      → cond b (place_of e.item id.part) (option_map (λ m. part_count e + m) (number_named log id)) ≡ Some n
-      → cond b (place_of e.item id.part) (option_map (λ m. part_count e + m) (number_named (log ++ more) id)) ≡ Some n
+      → cond b (place_of_part e.item id.part) (option_map (λ m. part_count e + m) (number_named log id)) ≡ Some n
+      → cond b (place_of_part e.item id.part) (option_map (λ m. part_count e + m) (number_named (log ++ more) id)) ≡ Some n
   go true rec h = h
   go false rec h = later (number_named log id) rec refl h
 

@@ -8,7 +8,9 @@ use Rattle.nv_entry.specs.declared.names.BoundName.{BoundName}
 use Rattle.nv_entry.specs.declared.node.NodeCopy.{NodeCopy}
 use Rattle.nv_entry.specs.declared.tree.TreeNode.{TreeNode}
 
--- a handle that is to be visited, its path, and how many nodes deep the tree may be below it
+-- a handle that is to be visited, its path, and how many nodes deep the tree may be below it.
+-- Visit: a handle that a walk is still to visit, its path, and how many nodes deep the tree may be below it. A walk
+-- is the list of its visits.
 pub record Visit : Type 0 where
   pub path : List (List ℕ)
   pub below : ℕ
@@ -48,7 +50,8 @@ abbrev pub visits_after : List Visit → Option NodeCopy → List Visit
 visits_after visits None = drop 1 visits
 visits_after visits (Some node) = visits_below visits node.names
 
--- the nodes that are still to come
+-- the nodes that are still to come.
+-- What is to come is the trees of these, one after another.
 abbrev pub to_come : (Handle → Option NodeCopy) → List Visit → List TreeNode
 to_come nodes visits = flat_map (λ visit. tree_from nodes (suc visit.below) visit.path visit.handle) visits
 
@@ -73,6 +76,7 @@ given_in nodes zero visits = []
 given_in nodes (suc count) visits =
     let node = wanted_node nodes visits in option_to_list (given_for visits node) ++ given_in nodes count (visits_after visits node)
 
+-- the visits that are left after so many more
 abbrev pub left_after : (Handle → Option NodeCopy) → ℕ → List Visit → List Visit
 left_after nodes zero visits = visits
 left_after nodes (suc count) visits = left_after nodes count (visits_after visits (wanted_node nodes visits))

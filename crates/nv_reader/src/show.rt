@@ -33,13 +33,23 @@ impl PartBlocks for InodeCell {
 /// Costs what it hands out, and three passes over the log's entries up to the epoch, however many pages they write: in
 /// all in the order of these entries and the file's pages together, times the logarithm of the pages. The block of each
 /// page is looked up, which grows with the logarithm of the log.
+/// Only tested: the greatest file, of 65,536 file pages, is shown whole.
+/// Only tested: the cost of showing a node ([gate.md](gate.md)).
 pub fn show_on(alloc: Global, cell: &InodeCell, epoch: Epoch) -> Result<Option<NodeCopy>, Fault>
+    // At an epoch a cell shows the node of its log there, by its own blocks.
+    // A shown node has the pages and names of the epoch.
+    // A shown node's pages end with its size.
+    // Each page of a shown node has its last writer.
+    // All pages of a block run have their last writer.
     ensures own { IfOk result (λ node. node
         ≡ own_node cell.now.state (up_to epoch (log_of cell.now.state))) }
+    // Where no part that holds one of its pages is out, a shown node is that by the bytes of blocks.
+    // No node is shown where the inode has no kind.
     ensures node { (bytes : ℕ → List ℕ) → AreBytesOf cell.now.state bytes
         → NoneOut cell.now.state (up_to epoch (log_of cell.now.state))
         → IfOk result (λ node. node
         ≡ node_at bytes cell.now.state.block epoch (log_of cell.now.state)) }
+    // The only error is `OutOfMemory`.
     ensures err { FailsOnly out_of_memory result }
 {
     // What a cell keeps of its log and its blocks.
@@ -56,6 +66,8 @@ pub fn copy_on(
     handle: &Handle,
     epoch: Epoch,
 ) -> Result<Option<NodeCopy>, Fault>
+    // The node under a handle at an epoch is that of its inode slot's cell, in that generation only.
+    // Where there is no such inode slot there is no node; the only error is `OutOfMemory`.
     ensures ok { (bytes : ℕ → List ℕ)
         → ForSome cell.entry (λ cell. IsWhole bytes epoch cell.now.state)
         → IfOk result (λ node. node
@@ -74,18 +86,22 @@ pub fn copy_on(
 ///
 /// Without a noted tail it costs what it hands out, with a look-up for each run of pages, and no pass over the log;
 /// with one, as much as [`show_on`].
+/// Only tested: where no tail is noted, no more entries are read than there are pages.
 pub fn settled_on(
     alloc: Global,
     cell: &InodeCell,
     noted: Option<usize>,
 ) -> Result<Option<NodeCopy>, Fault>
     requires { ForSome noted (λ tail. tail ≤ cell.now.state.chain.tail) }
+    // The settled log's node is that of the entries up to a noted tail.
+    // The settled log's node is that of the whole log where no tail is noted.
     ensures own { IfOk result (λ node. node
         ≡ own_node cell.now.state (settled noted cell.now.state)) }
     ensures node { (bytes : ℕ → List ℕ) → AreBytesOf cell.now.state bytes
         → ForSome noted (λ tail. NoneOut cell.now.state (settled noted cell.now.state))
         → IfOk result (λ node. node
         ≡ node_now bytes cell.now.state.block (settled noted cell.now.state)) }
+    // The wrong bodies of `show_on` break `settled_on` too; the only error is `OutOfMemory`.
     ensures err { FailsOnly out_of_memory result }
 {
     let Some(tail) = noted else {

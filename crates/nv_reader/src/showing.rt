@@ -41,7 +41,9 @@ impl Model for Showing {
 
 impl Showing {
     /// Before the first visit, which is that of the root, of a tree at most `depth` nodes deep. Takes no memory.
+    /// A new show takes no memory.
     pub fn new(alloc: Global, depth: usize) -> Showing
+        // A show begins at the root.
         ensures { result ≡ new_showing depth }
     {
         Showing {
@@ -54,6 +56,7 @@ impl Showing {
 
     /// Whether all visits are made.
     pub fn is_over(&self) -> bool
+        // A show goes on to the end of its walk.
         ensures { result ≡ is_over self.now }
     {
         self.left == 0
@@ -65,6 +68,7 @@ impl Showing {
 
     /// The handle of the next visit.
     pub fn visited(&self) -> Handle
+        // A show visits the handle that its walk wants next.
         ensures { result ≡ visited self.now.visits }
     {
         match &self.walk {
@@ -84,10 +88,14 @@ impl Showing {
         epoch: Epoch,
     ) -> Result<Showing, Fault>
         requires { is_over self ≡ false }
+        // The node of a visit is seen with its path, and what its names lead to comes next.
+        // A visit is counted, so that there are no more than there can be inodes.
+        // A visit reads the node under its handle at the epoch by the one cell that it is lent.
         ensures ok { (bytes : ℕ → List ℕ)
             → ForSome cell.entry (λ cell. IsWhole bytes epoch cell.now.state)
             → IfOk result (λ after. after ≡ seen_on (copy_in bytes
             (option_map (λ cell. cell.now.state) cell.entry) epoch (visited self.visits)) self) }
+        // The only error is `OutOfMemory`.
         ensures err { FailsOnly out_of_memory result }
     {
         let node = copy_on(alloc, cell, &self.visited(), epoch)?;
@@ -120,6 +128,7 @@ impl Showing {
 
     /// The nodes that it has seen: once all visits are made, the tree.
     pub fn into_seen(self) -> Tree
+        // A show gives out the nodes that it has seen.
         ensures { result ≡ self.seen }
     {
         Tree::from_vec(self.seen)

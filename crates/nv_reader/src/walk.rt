@@ -17,6 +17,7 @@ use std::marker::Model;
 
 /// The handle of the root directory, in every world.
 pub fn root() -> Handle
+    // The handle of the root is told, the same in every world.
     ensures { result ≡ tree.root }
 {
     Handle {
@@ -52,12 +53,15 @@ impl Model for Walk {
 
     ghost view = { λ w. visits_of w.depth w.next w.way.path.items w.way.left.items };
 
+    // There are as many names on the way as directories with names left; the way is empty once nothing is wanted.
+    // A node that is wanted is no deeper than the tree may be.
     ghost invariant = { λ w. IsWay w.depth w.next w.way.path.items w.way.left.items };
 }
 
 impl Walk {
     /// A walk from a root on, at most `depth` nodes deep. `OutOfMemory` where room for it was refused.
     pub fn new(alloc: Global, root: Handle, depth: usize) -> Result<Walk, Fault>
+        // A walk begins at its root; the only error is `OutOfMemory`.
         ensures ok { IfOk result (λ walk. walk ≡ root_visit depth root) }
         ensures err { FailsOnly out_of_memory result }
     {
@@ -75,6 +79,7 @@ impl Walk {
 
     /// The handle whose node is wanted next; none once all is visited.
     pub fn wanted(&self) -> Option<Handle>
+        // A walk wants the handle of its next visit, and none once all are made.
         ensures { result ≡ next_handle self.now }
     {
         self.next
@@ -82,6 +87,7 @@ impl Walk {
 
     /// The names on the way from the root to the node that is wanted next; none for the root, and once all is visited.
     pub fn path(&self) -> &[Name]
+        // A walk lends the path of its next visit.
         ensures { result.now ≡ first_path self.now }
     {
         &self.way.path
@@ -91,10 +97,16 @@ impl Walk {
     /// refused: the walk stands where it stood.
     pub fn enter(&mut self, names: NameList) -> Result<(), Fault>
         requires { IsSome (next_handle self.old) }
+        // A walk goes on from a node with its names, in order.
+        // A name leads to its handle.
+        // A walk goes no deeper once the depth is used up.
         ensures ok { OnOk result (self.new ≡ visits_below self.old names) }
+        // In any world, the next visit's node is the next of the tree that is to come.
+        // One visit less is left each time, so that a walk ends.
         ensures next { (nodes : Handle → Option NodeCopy) (node : NodeCopy)
             → wanted_node nodes self.old ≡ Some node → node.names ≡ names
             → OnOk result (GivesNext nodes self.old (given_for self.old (Some node)) self.new) }
+        // A refused growth leaves the visits as they were.
         ensures err { FailsOnly out_of_memory result }
         ensures same { KeepsOnErr result self.old self.new }
     {
@@ -105,6 +117,7 @@ impl Walk {
     /// Goes past the handle that is wanted, which leads to no node.
     pub fn pass(&mut self)
         requires { IsSome (next_handle self.old) }
+        // A walk goes on past a name that leads to no node.
         ensures visits { self.new ≡ visits_after self.old None }
         ensures next { (nodes : Handle → Option NodeCopy) → wanted_node nodes self.old ≡ None
             → GivesNext nodes self.old None self.new }
@@ -116,6 +129,8 @@ impl Walk {
     /// handle leads to no node.
     pub fn hand_in(&mut self, node: Option<NodeCopy>) -> Result<Option<TreeNode>, Fault>
         requires { IsSome (next_handle self.old) }
+        // The node that is handed in goes out with its path.
+        // Nothing goes out for a name that leads to no node.
         ensures given { IfOk result (λ given. given ≡ given_for self.old node) }
         ensures left { OnOk result (self.new ≡ visits_after self.old node) }
         ensures next { (nodes : Handle → Option NodeCopy) → node ≡ wanted_node nodes self.old →

@@ -40,7 +40,7 @@ impl Way {
     }
 }
 
-/// The same path once more.
+/// A copy of the path.
 pub(crate) fn path_copied(alloc: Global, path: &[Name]) -> Result<Path, AllocError>
     ensures { IfOk result (λ copy. copy ≡ path.now) }
 {
@@ -51,7 +51,7 @@ pub(crate) fn path_copied(alloc: Global, path: &[Name]) -> Result<Path, AllocErr
     Ok(Path::from_vec(copy))
 }
 
-/// The same names once more.
+/// A copy of the names.
 pub(crate) fn names_copied(alloc: Global, names: &[BoundName]) -> Result<NameList, AllocError>
     ensures { IfOk result (λ copy. copy ≡ names.now) }
 {

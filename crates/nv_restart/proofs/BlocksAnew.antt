@@ -7,7 +7,8 @@ use Rattle.std.proofs.lemmas.List.FromFn.{get_or-map-range_with_len, length-map-
 use Rattle.std.proofs.lemmas.Option.{none-some, same_Some}
 use Rattle.nv_alloc.specs.Block.{BlockValue, block_by}
 use Rattle.nv_audit.specs.Image.{SlotImageValue}
-use Rattle.nv_audit.specs.Mounted.{block_anew, cell_with, marks_anew}
+use Rattle.nv_audit.specs.Mounted.{cell_with}
+use Rattle.nv_cell.specs.Anew.{block_anew, marks_anew}
 use Rattle.nv_base.specs.declared.geometry.GeometryNumbers.{GeometryNumbers}
 use Rattle.nv_cell.specs.Cell.{page_block}
 use Rattle.nv_cell.specs.Marks.{is_there, mark_at}

@@ -16,6 +16,7 @@ use Rattle.nv_audit.specs.Mounted.{cell_of, cell_with, cut_log, free_block, is_o
 use Rattle.nv_base.specs.Limits.{IsWithinLimits}
 use Rattle.nv_base.specs.declared.fault.ImageFault.TheVariants as fault
 use Rattle.nv_base.specs.declared.geometry.GeometryNumbers.{GeometryNumbers}
+use Rattle.nv_cell.specs.Anew.{AreThere}
 use Rattle.nv_cell.specs.Cell.{CellState, IsCell, empty_cell, log_of, of_part, page_block, stored_in}
 use Rattle.nv_cell.proofs.ValuesNow.{IsLog-take}
 use Rattle.nv_entry.specs.Log.{IsLog}
@@ -28,7 +29,7 @@ use Rattle.nv_restart.proofs.BlocksAnew.{apart_anew, told}
 use Rattle.nv_restart.proofs.Cells.{cell_is, empty_is, log_is}
 use Rattle.nv_restart.proofs.Slots.{by_cell, cell_past, cell_there}
 use Rattle.nv_restart.proofs.FreeLists.{each_once, fewer_parts, its_block, list_home}
-use Rattle.nv_restart.specs.Mounted.{AreThere, mounted}
+use Rattle.nv_restart.specs.Mounted.{mounted}
 use Rattle.nv_restart.proofs.NotedTails.{tail_low}
 use Rattle.nv_restart.proofs.CellBlocks.{fewer_slots, fewer_taken, found_there, none_held, numbers-append, over_map, sized_append, sized_or, sized_slots}
 

@@ -1,6 +1,7 @@
 -- Generations stay in their range, and a slot of the last one has no page.
 use Rattle.std.proofs.Common.{◌≡◌, ℕ, ◌<◌, ◌≤◌, ◌∙◌, Bool, true, false, cond, List, [], ◌∷◌, ap, arith, length, refl, subst, sym, take}
 use Rattle.std.proofs.lemmas.Bool.{false≢true}
+use Rattle.nv_audit.specs.DeviceParts.{IsInRange}
 use Rattle.nv_alloc.specs.Block.{BlockValue}
 use Rattle.nv_base.specs.declared.geometry.GeometryNumbers.{GeometryNumbers}
 use Rattle.nv_base.specs.declared.limits.TheConstants.{NUMBER}
@@ -33,7 +34,7 @@ use Rattle.nv_machine.specs.Reads.{is_written, pages_needed, slot_at, written_sl
 use Rattle.nv_machine.specs.Starts.{IsStart}
 use Rattle.nv_machine.specs.Step.{after, step}
 use Rattle.nv_machine.specs.World.{Compact, Event, HandState, Maintenance, Next, Running, Shared, Unlink, World, actor_at, cell_at}
-use Rattle.nv_restart.specs.Stops.{AreInRange, IsInRange}
+use Rattle.nv_restart.specs.Stops.{AreInRange}
 
 -- ---- one cell
 

@@ -57,9 +57,9 @@ use Rattle.nv_machine.proofs.StepWork.{work}
 use Rattle.nv_machine.proofs.WorkKeeps.{turn_keeps}
 use Rattle.nv_machine.specs.Grown.{HasGrown, HasGrownBy}
 use Rattle.nv_machine.specs.Held.{retention_at}
-use Rattle.nv_machine.specs.Kinds.{entries_for, with_pages}
+use Rattle.nv_machine.specs.Kinds.{entries_for, with_log_pages}
 use Rattle.nv_machine.specs.Locks.{commits_at}
-use Rattle.nv_machine.specs.PlainRun.{Deed, Maintains, deed_of}
+use Rattle.nv_machine.specs.PlainRun.{PlainChange, Maintains, plain_change_of}
 use Rattle.nv_machine.specs.Reached.{IsReached}
 use Rattle.nv_machine.specs.Reads.{pages_needed, slot_at, written_slots}
 use Rattle.nv_machine.specs.Settled.{settled}
@@ -194,7 +194,7 @@ module _ (g : GeometryNumbers) (w : World) (known : IsKnown g w) (epoch : ℕ)
               own_later w known.reached epoch past actor r runs (ap commits_at is) in
               subst (KeepsKind g.block)
               (sym (ap (up_to epoch)
-              (entries_more (entries_for r slot) h.blocks (with_pages pages cell)
+              (entries_more (entries_for r slot) h.blocks (with_log_pages pages cell)
               ∙ ap (λ (l : List Entry). l ++ entries_for r slot) (pages_keep pages cell))
               ∙ entries_later epoch r slot cell.chain.entries later))
               (keep slot);
@@ -229,7 +229,7 @@ abbrev HaveKinds : ℕ → World → Type 0
 HaveKinds block w =
     (epoch : ℕ) → Contains (ids w.shared.book.snaps) epoch → HasKinds block epoch w.shared
 
-makes : (d : Deed) (l : Snapshots) → is_make d ≡ true → snaps_after d l ≡ after_making l
+makes : (d : PlainChange) (l : Snapshots) → is_make d ≡ true → snaps_after d l ≡ after_making l
 makes (Maintains Make) l e = refl
 makes other l e = absurd (false≢true e)
 
@@ -242,7 +242,7 @@ module _ (g : GeometryNumbers) (w : World) (e : Event) (is : IsStepped g w e)
   l = w.shared.book.snaps
 
   module _ (epoch : ℕ) (lives : Contains (ids (step w e).world.shared.book.snaps) epoch) where
-    lives_after : Lives (snaps_after (deed_of w e) w.shared.book.snaps) epoch
+    lives_after : Lives (snaps_after (plain_change_of w e) w.shared.book.snaps) epoch
     lives_after =
         subst (λ (x : Snapshots). Lives x epoch) (event_snaps w e is.bare)
         (pins_at-lives (step w e).world.shared.book.snaps.living epoch lives)
@@ -254,7 +254,7 @@ module _ (g : GeometryNumbers) (w : World) (e : Event) (is : IsStepped g w e)
         (earlier w epoch is.earlier_all then_lives) (keep epoch then_lives) e
 
     -- an epoch that is over is older than the one that a making ends
-    made_earlier : is_make (deed_of w e) ≡ true → epoch < w.shared.book.snaps.epoch
+    made_earlier : is_make (plain_change_of w e) ≡ true → epoch < w.shared.book.snaps.epoch
         → Contains (ids w.shared.book.snaps) epoch
     made_earlier make lt =
         lives-from_pins w.shared.book.snaps.living epoch
@@ -266,14 +266,14 @@ module _ (g : GeometryNumbers) (w : World) (e : Event) (is : IsStepped g w e)
         option_or (pins_at w.shared.book.snaps.living epoch) (cond b (Some 0) None))
         (ne_eqb w.shared.book.snaps.epoch epoch (λ same. omega (arith, lt, same))))
         (subst (λ (x : Snapshots). Lives x epoch)
-        (makes (deed_of w e) w.shared.book.snaps make) lives_after)))
+        (makes (plain_change_of w e) w.shared.book.snaps make) lives_after)))
       where
         from_or : (o : Option ℕ) → IsSome (option_or o None) → IsSome o
         from_or None there = there
         from_or (Some pins) there = refl
 
     -- of the epoch that it ends, the log is the settled one
-    made_now : is_make (deed_of w e) ≡ true → w.shared.book.snaps.epoch ≤ epoch
+    made_now : is_make (plain_change_of w e) ≡ true → w.shared.book.snaps.epoch ≤ epoch
         → HasKinds g.block epoch (step w e).world.shared
     made_now make le ino =
         subst (KeepsKind g.block) says
@@ -316,12 +316,12 @@ module _ (g : GeometryNumbers) (w : World) (e : Event) (is : IsStepped g w e)
               (earlier (step w e).world epoch is.next_earlier lives) ino
 
     one_event : HasKinds g.block epoch (step w e).world.shared
-    one_event = go (is_make (deed_of w e)) refl where
-      go : (b : Bool) → is_make (deed_of w e) ≡ b
+    one_event = go (is_make (plain_change_of w e)) refl where
+      go : (b : Bool) → is_make (plain_change_of w e) ≡ b
           → HasKinds g.block epoch (step w e).world.shared
       go false other =
           lived (lives-from_pins w.shared.book.snaps.living epoch
-          (work_lives (deed_of w e) w.shared.book.snaps epoch other lives_after))
+          (work_lives (plain_change_of w e) w.shared.book.snaps epoch other lives_after))
       go true make = elim (cases_lt epoch w.shared.book.snaps.epoch) [
         | inl lt ↦ lived (made_earlier make lt)
         | inr le ↦ made_now make le

@@ -2,36 +2,36 @@
 use Rattle.std.proofs.Common.{◌≡◌, ℕ, zero, suc, ◌+◌, ◌-◌, ◌<◌, ◌≤◌, ◌==◌, ◌&&◌, ◌∙◌, ◌⊎◌, inl, inr, Bool, true, false, cond, filter, not, List, [], ◌∷◌, Option, Some, None, ap, arith, length, map, nat_le, refl, subst, sym}
 use Rattle.std.specs.Prelude.{if◌then◌else◌, ◌||◌, slice_get, slice_index_or}
 use Rattle.std.specs.List.{AllByRecursion}
-use Rattle.std.specs.Option.{IsSome}
-use Rattle.std.proofs.lemmas.Bool.{cases_lt, eqb-false, eqb-true, false≢true, le-leb, lt-leb}
-use Rattle.std.proofs.lemmas.List.{length-map}
-use Rattle.std.proofs.lemmas.Option.{same_Some}
-use Rattle.nv_audit.specs.Mounted.{is_recorded, log_records, mark_by, marks_anew, record_by}
+use Rattle.std.proofs.lemmas.Bool.{cases_lt, eqb-false, eqb-true, le-leb, lt-leb}
+use Rattle.nv_audit.proofs.NeededPages.{mark_of}
+use Rattle.nv_cell.specs.Anew.{mark_by, marks_anew}
+use Rattle.nv_audit.specs.Mounted.{is_recorded, log_records, record_by}
 use Rattle.nv_book.specs.Records.{is_held_by}
 use Rattle.nv_book.specs.declared.record.Record.{Record}
-use Rattle.nv_cell.specs.Marks.{bit, is_current, is_killed, is_there, mark_at}
+use Rattle.nv_cell.specs.Marks.{bit, is_current, is_killed, mark_at}
 use Rattle.nv_cell.specs.Named.{number_named}
 use Rattle.nv_cell.specs.Numbers.{is_number}
 use Rattle.nv_cell.specs.declared.mark.Mark.{Mark}
 use Rattle.nv_cell.specs.declared.mark.Mark.TheVariants.{Current, Kept, Out}
-use Rattle.nv_cell.proofs.NamedPairs.{current_is, its_number}
-use Rattle.nv_entry.proofs.PartLists.{length-pairs}
+use Rattle.nv_cell.proofs.MarksAnew.{current_anew, len_anew}
+use Rattle.nv_cell.proofs.NamedPairs.{its_number}
 use Rattle.nv_entry.specs.Covered.{is_covered, part_total}
-use Rattle.nv_entry.specs.Held.{holds, is_current as pair_current, is_held, is_needed, pair_name}
+use Rattle.nv_entry.specs.Held.{holds, is_current as pair_current, is_held, pair_name}
 use Rattle.nv_entry.specs.Log.{IsLog, pairs}
 use Rattle.nv_entry.specs.declared.held.Pair.{Pair}
 use Rattle.nv_entry.specs.declared.item.Entry.{Entry}
-use Rattle.nv_machine.specs.Recorded.{is_kept}
+use Rattle.nv_machine.specs.Recorded.{is_marked_kept}
 use Rattle.nv_machine.proofs.FiledLists.{count, count_cons, one}
 use Rattle.nv_machine.proofs.FiledMarks.{is_filed_on}
 use Rattle.nv_machine.proofs.Lists.{self}
-use Rattle.nv_machine.proofs.Pairs.{IsRecordOf, pair_there}
+use Rattle.nv_machine.proofs.MarksInUse.{same_default}
+use Rattle.nv_machine.proofs.Pairs.{IsRecordOf}
 
 -- ---- one mark
 
-kept_by : (living : List ℕ) (pair : Pair) → is_kept (mark_by living pair) ≡ is_recorded living pair
+kept_by : (living : List ℕ) (pair : Pair) → is_marked_kept (mark_by living pair) ≡ is_recorded living pair
 kept_by living pair = go (pair_current pair) (is_held living pair) where
-  go : (a b : Bool) → is_kept (if a then Current else if b then Kept else Out) ≡ (not a && b)
+  go : (a b : Bool) → is_marked_kept (if a then Current else if b then Kept else Out) ≡ (not a && b)
   go true b = refl
   go false true = refl
   go false false = refl
@@ -39,21 +39,6 @@ kept_by living pair = go (pair_current pair) (is_held living pair) where
 not_killed : (living : List ℕ) (pair : Pair) → is_killed (mark_by living pair) ≡ false
 not_killed living pair = go (pair_current pair) (is_held living pair) where
   go : (a b : Bool) → is_killed (if a then Current else if b then Kept else Out) ≡ false
-  go true b = refl
-  go false true = refl
-  go false false = refl
-
-current_by : (living : List ℕ) (pair : Pair) → is_current (mark_by living pair) ≡ pair_current pair
-current_by living pair = go (pair_current pair) (is_held living pair) where
-  go : (a b : Bool) → is_current (if a then Current else if b then Kept else Out) ≡ a
-  go true b = refl
-  go false true = refl
-  go false false = refl
-
-pub there_by : (living : List ℕ) (pair : Pair)
-    → is_there (mark_by living pair) ≡ is_needed living pair
-there_by living pair = go (pair_current pair) (is_held living pair) where
-  go : (a b : Bool) → is_there (if a then Current else if b then Kept else Out) ≡ (a || b)
   go true b = refl
   go false true = refl
   go false false = refl
@@ -68,12 +53,6 @@ out_by living pair e = go (pair_current pair) (is_held living pair) refl e where
 
 -- ---- all marks
 
-pub mark_of : (living : List ℕ) (ps : List Pair) (n : ℕ) (pair : Pair) → slice_get ps n ≡ Some pair
-    → slice_index_or (map (mark_by living) ps) n Out ≡ mark_by living pair
-mark_of living [] n pair e = cc
-mark_of living (p ∷ ps) zero pair e = ap (mark_by living) (same_Some p pair e)
-mark_of living (p ∷ ps) (suc n) pair e = mark_of living ps n pair e
-
 every_mark : (P : Mark → Type 0) (living : List ℕ) (ps : List Pair)
     → ((pair : Pair) → P (mark_by living pair)) → P Out → (n : ℕ)
     → P (slice_index_or (map (mark_by living) ps) n Out)
@@ -82,9 +61,6 @@ every_mark P living (p ∷ ps) all out zero = all p
 every_mark P living (p ∷ ps) all out (suc n) = every_mark P living ps all out n
 
 module _ (living : List ℕ) (block : ℕ) (log : List Entry) where
-  pub len_anew : length (marks_anew living block log) ≡ part_total log
-  len_anew = length-map (pairs block log) (mark_by living) ∙ length-pairs block log
-
   pub none_killed : (n : ℕ) → is_killed (mark_at (marks_anew living block log) n) ≡ false
   none_killed =
       every_mark (λ m. is_killed m ≡ false) living (pairs block log) (not_killed living) refl
@@ -94,16 +70,12 @@ module _ (living : List ℕ) (block : ℕ) (log : List Entry) where
   out_unheld n pair got e =
       out_by living pair (sym (mark_of living (pairs block log) n pair got) ∙ e)
 
-  pub current_marks : IsLog log → (n : ℕ) → n < part_total log
+  pub current_marks : (n : ℕ) → n < part_total log
       → is_current (mark_at (marks_anew living block log) n) ≡ not (is_covered block log n)
-  current_marks is n lt =
-      at (slice_get (pairs block log) n) refl (pair_there block log n is lt) where
-        at : (o : Option Pair) → slice_get (pairs block log) n ≡ o → IsSome o
-            → is_current (mark_at (marks_anew living block log) n) ≡ not (is_covered block log n)
-        at None e there = absurd (false≢true there)
-        at (Some pair) e there =
-            ap is_current (mark_of living (pairs block log) n pair e) ∙ current_by living pair
-            ∙ current_is block log is n pair e
+  current_marks n lt =
+      ap is_current (sym (same_default (marks_anew living block log) n
+      (omega (arith, lt, len_anew living block log))))
+      ∙ current_anew living block log n lt
 
 -- ---- each kept part has one record
 
@@ -116,7 +88,7 @@ module _ (living : List ℕ) (ino : ℕ) (log : List Entry) (n : ℕ) where
       → ((i : ℕ) (pair : Pair) → slice_get ps i ≡ Some pair
       → number_named log (pair_name pair) ≡ Some (k + i))
       → count filed (map (record_by ino) (filter (is_recorded living) ps))
-      ≡ cond (nat_le k n) (bit (is_kept (slice_index_or (map (mark_by living) ps) (n - k) Out))) 0
+      ≡ cond (nat_le k n) (bit (is_marked_kept (slice_index_or (map (mark_by living) ps) (n - k) Out))) 0
   counted k [] named = go (nat_le k n) where
     go : (b : Bool) → 0 ≡ cond b (bit false) 0
     go true = refl
@@ -136,29 +108,29 @@ module _ (living : List ℕ) (ino : ℕ) (log : List Entry) (n : ℕ) where
         by : (r : Bool) → is_recorded living pair ≡ r → (s : Bool) → (k == n) ≡ s
             → count filed (map (record_by ino) (filter (is_recorded living) ps))
             ≡ cond (nat_le (k + 1) n)
-            (bit (is_kept (slice_index_or (map (mark_by living) ps) (n - (k + 1)) Out))) 0
+            (bit (is_marked_kept (slice_index_or (map (mark_by living) ps) (n - (k + 1)) Out))) 0
             → count filed
             (map (record_by ino)
             (cond r (pair ∷ filter (is_recorded living) ps) (filter (is_recorded living) ps)))
             ≡ cond (nat_le k n)
-            (bit (is_kept
+            (bit (is_marked_kept
             (slice_index_or (mark_by living pair ∷ map (mark_by living) ps) (n - k) Out)))
             0
         by r p true q more =
             let same = eqb-true k n q in
             let none : count filed (map (record_by ino) (filter (is_recorded living) ps)) ≡ 0 =
             more ∙ ap (λ (b : Bool).
-            cond b (bit (is_kept (slice_index_or (map (mark_by living) ps) (n - (k + 1)) Out))) 0)
+            cond b (bit (is_marked_kept (slice_index_or (map (mark_by living) ps) (n - (k + 1)) Out))) 0)
             (past (k + 1) (omega (arith, same))) in
             let zeroth : n - k ≡ 0 = omega (arith, same) in
             own r p none
             ∙ sym (ap (λ (b : Bool).
             cond b (bit
-            (is_kept (slice_index_or (mark_by living pair ∷ map (mark_by living) ps) (n - k)
+            (is_marked_kept (slice_index_or (mark_by living pair ∷ map (mark_by living) ps) (n - k)
             Out))) 0)
             (upto k (omega (arith, same)))
             ∙ ap (λ (i : ℕ).
-            bit (is_kept (slice_index_or (mark_by living pair ∷ map (mark_by living) ps) i Out)))
+            bit (is_marked_kept (slice_index_or (mark_by living pair ∷ map (mark_by living) ps) i Out)))
             zeroth
             ∙ ap bit (kept_by living pair ∙ p)) where
               past : (m : ℕ) → n < m → nat_le m n ≡ false
@@ -199,47 +171,47 @@ module _ (living : List ℕ) (ino : ℕ) (log : List Entry) (n : ℕ) where
 
           shifted : (k < n) ⊎ (n ≤ k)
               → cond (nat_le (k + 1) n)
-              (bit (is_kept (slice_index_or (map (mark_by living) ps) (n - (k + 1)) Out))) 0
+              (bit (is_marked_kept (slice_index_or (map (mark_by living) ps) (n - (k + 1)) Out))) 0
               ≡ cond (nat_le k n)
-              (bit (is_kept
+              (bit (is_marked_kept
               (slice_index_or (mark_by living pair ∷ map (mark_by living) ps) (n - k) Out))) 0
           shifted (inl lt) =
               let a : nat_le (k + 1) n ≡ true = le-leb (k + 1) n (omega (arith, lt)) in
               let b : nat_le k n ≡ true = le-leb k n (omega (arith, lt)) in
               let step : n - k ≡ suc (n - (k + 1)) = omega (arith, lt) in
               ap (λ (c : Bool).
-              cond c (bit (is_kept (slice_index_or (map (mark_by living) ps) (n - (k + 1)) Out))) 0)
+              cond c (bit (is_marked_kept (slice_index_or (map (mark_by living) ps) (n - (k + 1)) Out))) 0)
               a
               ∙ sym (ap (λ (c : Bool).
               cond c (bit
-              (is_kept (slice_index_or (mark_by living pair ∷ map (mark_by living) ps) (n - k)
+              (is_marked_kept (slice_index_or (mark_by living pair ∷ map (mark_by living) ps) (n - k)
               Out))) 0) b
               ∙ ap (λ (i : ℕ).
-              bit (is_kept (slice_index_or (mark_by living pair ∷ map (mark_by living) ps) i Out)))
+              bit (is_marked_kept (slice_index_or (mark_by living pair ∷ map (mark_by living) ps) i Out)))
               step)
           shifted (inr ge) =
               let ne = eqb-false k n q in
               let a : nat_le (k + 1) n ≡ false = lt-leb (k + 1) n (omega (arith, ge)) in
               let b : nat_le k n ≡ false = lt-leb k n (omega (arith, ge, ne)) in
               ap (λ (c : Bool).
-              cond c (bit (is_kept (slice_index_or (map (mark_by living) ps) (n - (k + 1)) Out))) 0)
+              cond c (bit (is_marked_kept (slice_index_or (map (mark_by living) ps) (n - (k + 1)) Out))) 0)
               a
               ∙ sym (ap (λ (c : Bool).
               cond c (bit
-              (is_kept (slice_index_or (mark_by living pair ∷ map (mark_by living) ps) (n - k)
+              (is_marked_kept (slice_index_or (mark_by living pair ∷ map (mark_by living) ps) (n - k)
               Out))) 0) b)
 
 -- EACH PART IS RECORDED as often as its mark says
 pub recorded_anew : (living : List ℕ) (ino block : ℕ) (log : List Entry) (n : ℕ) → IsLog log
     → count (is_filed_on ino log n) (log_records block living ino log)
-    ≡ bit (is_kept (mark_at (marks_anew living block log) n))
+    ≡ bit (is_marked_kept (mark_at (marks_anew living block log) n))
 recorded_anew living ino block log n is =
     counted living ino log n 0 (pairs block log) (λ i pair e. its_number block log is i pair e
     ∙ ap (λ (m : ℕ). Some m) (omega arith))
     ∙ ap (λ (b : Bool).
-    cond b (bit (is_kept (slice_index_or (map (mark_by living) (pairs block log)) (n - 0) Out))) 0)
+    cond b (bit (is_marked_kept (slice_index_or (map (mark_by living) (pairs block log)) (n - 0) Out))) 0)
     (le-leb 0 n (omega arith))
-    ∙ ap (λ (i : ℕ). bit (is_kept (slice_index_or (map (mark_by living) (pairs block log)) i Out)))
+    ∙ ap (λ (i : ℕ). bit (is_marked_kept (slice_index_or (map (mark_by living) (pairs block log)) i Out)))
     (omega arith)
 
 -- ---- each record is of its pair

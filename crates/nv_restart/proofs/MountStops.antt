@@ -4,10 +4,12 @@ use Rattle.std.specs.List.{list_any}
 use Rattle.std.proofs.lemmas.Bool.{and_parts, false≢true}
 use Rattle.std.proofs.lemmas.List.{length-map}
 use Rattle.std.proofs.lemmas.List.FromFn.{length-map-range_with_len}
+use Rattle.nv_audit.specs.DeviceParts.{IsInRange}
 use Rattle.nv_alloc.specs.Block.{BlockValue}
 use Rattle.nv_audit.specs.Faults.{FitsGeometry, IsFaultless}
 use Rattle.nv_audit.specs.Image.{ImageValue, slot_of}
-use Rattle.nv_audit.specs.Mounted.{cell_of, cut_log, tail_of, unpinned}
+use Rattle.nv_audit.specs.Mounted.{cell_of, cut_log, tail_of}
+use Rattle.nv_epoch.specs.SnapList.{unpinned}
 use Rattle.nv_base.specs.Limits.{IsWithinLimits}
 use Rattle.nv_base.specs.declared.fault.ImageFault.TheVariants as fault
 use Rattle.nv_base.specs.declared.geometry.GeometryNumbers.{GeometryNumbers}
@@ -25,7 +27,7 @@ use Rattle.nv_restart.proofs.JudgedLogs.{settled_is}
 use Rattle.nv_restart.proofs.Slots.{by_cell, cell_there}
 use Rattle.nv_restart.proofs.Start.{cut_early}
 use Rattle.nv_restart.specs.Mounted.{mounted}
-use Rattle.nv_restart.specs.Stops.{AreHeldLawful, AreInRange, IsInRange, MayStop}
+use Rattle.nv_restart.specs.Stops.{AreHeldLawful, AreInRange, MayStop}
 
 none_taken : (n : ℕ) → take {A = BlockValue} n [] ≡ []
 none_taken zero = refl

@@ -2,7 +2,7 @@
 use Rattle.std.proofs.Common.{◌≡◌, ℕ, ◌++◌, ◌∙◌, true, false, List, [], ◌∷◌, map, Option, ap, refl, subst, sym}
 use Rattle.std.specs.List.{Contains}
 use Rattle.std.proofs.Math.Path.{fun_ext}
-use Rattle.nv_audit.specs.Mounted as mounted
+use Rattle.nv_epoch.specs.SnapList as snap_list
 use Rattle.nv_base.specs.Limits.{IsWithinLimits}
 use Rattle.nv_base.specs.declared.geometry.GeometryNumbers.{GeometryNumbers}
 use Rattle.nv_base.specs.declared.numbers.Handle.{Handle}
@@ -45,13 +45,13 @@ plain_steps g start records events is e =
 same_copy : (s t : Shared) (living : List Snapshot)
     → ((epoch : ℕ) → Contains (numbers living) epoch
     → settled_copies t epoch ≡ settled_copies s epoch)
-    → map (copy_in t) (map mounted.unpinned (numbers living))
+    → map (copy_in t) (map snap_list.unpinned (numbers living))
     ≡ map unpinned (map (copy_in s) living)
 same_copy s t [] same = refl
 same_copy s t (snapshot ∷ living) same =
     let rest = map unpinned (map (copy_in s) living) in
     let own : Copy → List Copy = λ copy. copy ∷ rest in
-    ap (λ (l : List Copy). copy_in t (mounted.unpinned snapshot.number) ∷ l)
+    ap (λ (l : List Copy). copy_in t (snap_list.unpinned snapshot.number) ∷ l)
     (same_copy s t living
     (λ epoch lives. same epoch (contains_later snapshot.number (numbers living) epoch lives)))
     ∙ ap (λ (nodes : Handle → Option NodeCopy).

@@ -18,7 +18,7 @@ use Rattle.nv_entry.specs.declared.held.Pair.{Pair}
 use Rattle.nv_entry.specs.declared.item.Entry.{Entry}
 use Rattle.nv_epoch.specs.Holders.{IsRising, holds}
 use Rattle.nv_machine.specs.Held.{is_of_slot, picked_by_actor}
-use Rattle.nv_machine.specs.Recorded.{IsOfPair, is_kept, is_record_of, recorded_in}
+use Rattle.nv_machine.specs.Recorded.{IsOfPair, is_marked_kept, is_record_of, recorded_in}
 use Rattle.nv_machine.specs.World.{World, cell_at, idle}
 use Rattle.nv_machine.proofs.EachElement.{all_append, all_with}
 use Rattle.nv_machine.proofs.FiledLists.{count, count_append, count_filed}
@@ -223,10 +223,10 @@ module _ (image : ImageValue) (rising : IsRising image.snapshots)
   -- EACH PART IS RECORDED ONCE that is marked kept, and no other is
   pub once : (ino n : ℕ) → ino < length image.slots
       → count (is_record_of (cell_of image ino) ino n) (recorded_in w)
-      ≡ bit (is_kept (mark_at (cell_of image ino).marks n))
+      ≡ bit (is_marked_kept (mark_at (cell_of image ino).marks n))
   once ino n lt =
       by_cell (λ (c : CellState). count (is_record_of c ino n) (recorded_in w)
-      ≡ bit (is_kept (mark_at c.marks n)))
+      ≡ bit (is_marked_kept (mark_at c.marks n)))
       image.numbers image.snapshots (tail_of image ino) (slot_of image ino) erased left where
         never : (d : Record) → (is_of_slot ino d && false) ≡ false
         never d = go (is_of_slot ino d) where
@@ -251,7 +251,7 @@ module _ (image : ImageValue) (rising : IsRising image.snapshots)
         log = cut_log image ino
 
         left : is_over image.snapshots image.numbers.block (cut_log image ino) ≡ false
-            → count (is_record_of cell ino n) (recorded_in w) ≡ bit (is_kept (mark_at cell.marks n))
+            → count (is_record_of cell ino n) (recorded_in w) ≡ bit (is_marked_kept (mark_at cell.marks n))
         left kept =
             let in_range : (nat_le 0 ino && nat_lt ino (0 + length image.slots)) ≡ true =
             (let low : nat_le 0 ino ≡ true = le-leb 0 ino (omega arith) in

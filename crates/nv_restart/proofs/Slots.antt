@@ -5,7 +5,8 @@ use Rattle.std.proofs.lemmas.Bool.{and_parts, true≢false}
 use Rattle.std.proofs.lemmas.List.{get_or_past}
 use Rattle.std.proofs.lemmas.List.FromFn.{get_or-map-range_with_len, length-map-range_with_len}
 use Rattle.nv_audit.specs.Image.{ImageValue, SlotImageValue}
-use Rattle.nv_audit.specs.Mounted.{cell_anew, cell_of, cell_with, cells_of, is_over, is_recorded, log_records, mark_by, record_by, unpinned}
+use Rattle.nv_cell.specs.Anew.{mark_by}
+use Rattle.nv_audit.specs.Mounted.{cell_anew, cell_of, cell_with, cells_of, is_over, is_recorded, log_records, record_by}
 use Rattle.nv_base.specs.declared.geometry.GeometryNumbers.{GeometryNumbers}
 use Rattle.nv_cell.specs.Cell.{CellState, empty_cell}
 use Rattle.nv_cell.specs.Marks.{is_there}
@@ -14,10 +15,10 @@ use Rattle.nv_entry.specs.Held.{is_current, is_held}
 use Rattle.nv_entry.specs.Log.{pairs}
 use Rattle.nv_entry.specs.declared.held.Pair.{Pair}
 use Rattle.nv_entry.specs.declared.item.Entry.{Entry}
-use Rattle.nv_epoch.specs.SnapList.{numbers}
+use Rattle.nv_epoch.specs.SnapList.{numbers, unpinned}
 use Rattle.nv_machine.specs.World.{cell_at, no_cell}
 use Rattle.nv_restart.proofs.Cells.{log_is}
-use Rattle.nv_restart.proofs.Marks.{there_by}
+use Rattle.nv_audit.proofs.NeededPages.{there_by}
 use Rattle.nv_restart.specs.Mounted.{mounted}
 
 -- ---- cells

@@ -10,7 +10,7 @@ use Rattle.nv_alloc.specs.Block.{BlockValue}
 use Rattle.nv_alloc.specs.Numbers.{has, unused}
 use Rattle.nv_audit.specs.Faults.{IsFaultless}
 use Rattle.nv_audit.specs.Image.{ImageValue, slot_of}
-use Rattle.nv_audit.specs.Mounted.{book_anew, cell_of, cell_with, cells_of, cut_log, free_block, list_anew, records_anew, slot_records, tail_of, unpinned, used_anew}
+use Rattle.nv_audit.specs.Mounted.{book_anew, cell_of, cell_with, cells_of, cut_log, free_block, list_anew, records_anew, slot_records, tail_of, used_anew}
 use Rattle.nv_audit.specs.Nodes.{AreTrees}
 use Rattle.nv_audit.specs.Pool.{is_used}
 use Rattle.nv_audit.specs.Sound.{EndsAtSize}
@@ -33,11 +33,11 @@ use Rattle.nv_entry.specs.declared.item.Entry.{Entry}
 use Rattle.nv_epoch.specs.Holders.{IsRising}
 use Rattle.nv_log.specs.Chain.{AreEnds}
 use Rattle.nv_machine.specs.Held.{is_of_slot}
-use Rattle.nv_epoch.specs.SnapList.{numbers, pins_at}
+use Rattle.nv_epoch.specs.SnapList.{numbers, pins_at, unpinned}
 use Rattle.nv_machine.specs.Pages.{AreOnPages}
 use Rattle.nv_machine.specs.PoolScan.{is_number_used as is_used_in, number_held, numbers_held}
 use Rattle.nv_machine.specs.Reading.{ArePins}
-use Rattle.nv_machine.specs.Recorded.{is_kept, is_record_of, recorded_in}
+use Rattle.nv_machine.specs.Recorded.{is_marked_kept, is_record_of, recorded_in}
 use Rattle.nv_machine.specs.Starts.{IsStart}
 use Rattle.nv_machine.specs.World.{World, cell_at, idle, no_cell}
 use Rattle.nv_machine.proofs.EachElement.{all_append, all_weaker}
@@ -295,7 +295,7 @@ module _ (image : ImageValue) (limits : IsWithinLimits image.numbers)
     recorded = λ ino n.
         at_slot image limits faultless
         (λ m (c : CellState). count (is_record_of c m n) (recorded_in w)
-        ≡ bit (is_kept (mark_at c.marks n))) ino
+        ≡ bit (is_marked_kept (mark_at c.marks n))) ino
         (none_counted ino n (recorded_in w))
         (λ lt. once image (faultless fault.Snaps).rising (cut_rises image limits faultless) ino n
         lt);

@@ -24,7 +24,7 @@ use Rattle.nv_machine.proofs.NewHandles.{event_made, has_either, node_used, not_
 use Rattle.nv_machine.proofs.NewWorld.{none_closed}
 use Rattle.nv_machine.specs.Hands.{makes_inode}
 use Rattle.nv_machine.specs.Made.{has_handle}
-use Rattle.nv_machine.specs.PlainRun.{Commits, deed_of}
+use Rattle.nv_machine.specs.PlainRun.{Commits, plain_change_of}
 use Rattle.nv_machine.specs.Reached as machine
 use Rattle.nv_machine.specs.Sequence.{beginning}
 use Rattle.nv_machine.specs.Settled.{settled, settled_nodes}
@@ -36,7 +36,7 @@ use Rattle.nv_restart.proofs.JudgedLogs.{settled_is}
 use Rattle.nv_restart.proofs.Slots.{by_cell, cell_there}
 use Rattle.nv_restart.proofs.WorldCells as of_world
 use Rattle.nv_restart.proofs.WorldSlots.{slot_is}
-use Rattle.nv_restart.specs.Happenings.{Happening, IsReached, On, Stop, after_all, all_made, happen, made_by}
+use Rattle.nv_restart.specs.Happenings.{Happening, IsReached, On, Stop, after_all, all_made, happen, handles_made_at}
 use Rattle.nv_restart.specs.Restarted.{image_of, restarted}
 
 -- ---- a stop
@@ -141,7 +141,7 @@ module _ (g : GeometryNumbers) (handle : Handle) where
   all_used (h ∷ happenings) w is used =
       all_used happenings (happen w h) (one g w h is) (one_used w h is used)
 
-  one_made : (w : World) (h : Happening) → IsReached g w → has_handle (made_by w h) handle ≡ true
+  one_made : (w : World) (h : Happening) → IsReached g w → has_handle (handles_made_at w h) handle ≡ true
       → IsUsed (happen w h).shared handle
   one_made w (On e) is made = event_made g w (known_of w is) handle e made
   one_made w (Stop granted) is made = absurd (false≢true made)
@@ -151,7 +151,7 @@ module _ (g : GeometryNumbers) (handle : Handle) where
       → IsUsed (after_all w happenings).shared handle
   made_used [] w is made = absurd (false≢true made)
   made_used (h ∷ happenings) w is made =
-      elim (has_either (made_by w h) (all_made (happen w h) happenings) handle made) [
+      elim (has_either (handles_made_at w h) (all_made (happen w h) happenings) handle made) [
         | inl now ↦
             all_used happenings (happen w h) (one g w h is) (one_made w h is now)
         | inr later ↦ made_used happenings (happen w h) (one g w h is) later
@@ -173,7 +173,7 @@ module _ (g : GeometryNumbers) (happenings : List Happening) (w : World) (is : I
     (actor : ℕ) (granted : Bool) (r : Running)
     (there : actor < length (after_all w happenings).actors)
     (runs : (actor_at (after_all w happenings) actor).running ≡ Some r)
-    (commits : deed_of (after_all w happenings) (Go actor granted) ≡ Commits)
+    (commits : plain_change_of (after_all w happenings) (Go actor granted) ≡ Commits)
     (makes : makes_inode (beginning r.call) ≡ true) where
   abbrev v : World
   v = after_all w happenings

@@ -9,13 +9,13 @@ use Rattle.std.proofs.lemmas.List.{length-map, take-take}
 use Rattle.std.proofs.lemmas.Option.{none-some, same_Some}
 use Rattle.nv_alloc.specs.Block.{AreSized, BlockValue, block_by, number_of}
 use Rattle.nv_audit.specs.Image.{ImageValue, SlotImageValue, slot_of}
-use Rattle.nv_audit.specs.Mounted.{are_journals_good, cell_with, cut_log, marks_anew, tail_of}
+use Rattle.nv_audit.specs.Mounted.{are_journals_good, cell_with, cut_log, tail_of}
+use Rattle.nv_cell.specs.Anew.{AreThere, marks_anew}
 use Rattle.nv_audit.specs.Sound.{EndsAtSize}
 use Rattle.nv_base.specs.Limits.{IsWithinLimits}
 use Rattle.nv_base.specs.declared.geometry.GeometryNumbers.{GeometryNumbers}
 use Rattle.nv_book.specs.declared.record.Record.{Record}
 use Rattle.nv_cell.proofs.Publishing.{total_take as front_total}
-use Rattle.nv_cell.proofs.ValuesNow.{IsLog-take}
 use Rattle.nv_cell.specs.Cell.{AreSlotsSized, CellState, IsCell, log_of, page_block}
 use Rattle.nv_cell.specs.Marks.{is_current, is_there, mark_at}
 use Rattle.nv_cell.specs.declared.mark.Mark.{Mark}
@@ -50,7 +50,6 @@ use Rattle.nv_restart.proofs.WorldBlocks.{sized_data}
 use Rattle.nv_restart.proofs.WorldJournals.{journals_good}
 use Rattle.nv_restart.proofs.WorldRuns.{are_apart, are_there}
 use Rattle.nv_restart.proofs.WorldSlots.{at_cell, cut_is, slot_is}
-use Rattle.nv_restart.specs.Mounted.{AreThere}
 use Rattle.nv_restart.specs.Restarted.{image_of, slot_image}
 
 -- ---- lists
@@ -302,11 +301,9 @@ module _ (g : GeometryNumbers) (start : World) (records : List Record) (events :
         sym (ap₂ (λ (k : ℕ) (l : List Entry). page_block k l n) size log_same) ∙ at.says in
         let uncovered : is_covered w.numbers.block (cut_log image ino) n ≡ false =
         sym (ap₂ (λ (k : ℕ) (l : List Entry). is_covered k l n) size log_same) ∙ at.uncovered in
-        let rises : IsLog (cut_log image ino) =
-        IsLog-take (tail_of image ino) (slot_of image ino).chain.entries (rising ino) in
         let marked : is_there (mark_at new.marks n) ≡ true =
         current_there (mark_at new.marks n)
-        (current_marks living w.numbers.block (cut_log image ino) rises n inside
+        (current_marks living w.numbers.block (cut_log image ino) n inside
         ∙ ap not uncovered) in
         let stands : slice_index_or new.blocks n None ≡ Some b =
         at_part w.numbers living (tail_of image ino) (slot_of image ino) n inside

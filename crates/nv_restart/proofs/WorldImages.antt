@@ -6,6 +6,7 @@ use Rattle.std.specs.Option.{option_map}
 use Rattle.std.proofs.lemmas.Bool.{false≢true, true≢false}
 use Rattle.std.proofs.lemmas.List.{length-map}
 use Rattle.std.proofs.lemmas.Option.{none-some}
+use Rattle.nv_audit.specs.DeviceParts.{IsInRange}
 use Rattle.nv_alloc.specs.Block.{block_by, number_of}
 use Rattle.nv_audit.specs.Faults.{AreItemsGood, AreOrdered, FitsGeometry, FitsSlot, IsFaultless, IsLogGood, IsNeededPage, IsRunGood}
 use Rattle.nv_audit.specs.Image.{ImageValue, SlotImageValue, slot_of}
@@ -42,7 +43,7 @@ use Rattle.nv_restart.proofs.WorldCells as of_world
 use Rattle.nv_restart.proofs.WorldSlots.{slot_is}
 use Rattle.nv_restart.proofs.WorldTrees.{world_trees}
 use Rattle.nv_restart.specs.Restarted.{image_of}
-use Rattle.nv_restart.specs.Stops.{IsInRange, MayStop}
+use Rattle.nv_restart.specs.Stops.{MayStop}
 
 none_later : (commit epoch : ℕ) (log : List Entry)
     → AllByRecursion (λ (e : Entry). (e.id.commit < commit + 1) × (e.epoch ≤ epoch)) log → (i : ℕ)

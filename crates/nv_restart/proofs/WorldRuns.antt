@@ -8,7 +8,7 @@ use Rattle.std.proofs.lemmas.Bool.{cases_lt, eqb-true, eq-eqb, false≢true, le-
 use Rattle.std.proofs.lemmas.List.{take-append-drop, take-take}
 use Rattle.std.proofs.lemmas.Option.{none-some, same_Some}
 use Rattle.nv_alloc.specs.Block.{BlockValue, block_by, number_of}
-use Rattle.nv_audit.specs.Mounted.{marks_anew}
+use Rattle.nv_cell.specs.Anew.{AreThere, marks_anew}
 use Rattle.nv_cell.proofs.DeadPairs.{more_entries}
 use Rattle.nv_cell.proofs.NamedPairs.{current_is, its_number}
 use Rattle.nv_cell.proofs.Numbers.{total_append}
@@ -30,8 +30,7 @@ use Rattle.nv_machine.proofs.CellPages.{front_says}
 use Rattle.nv_machine.proofs.MarksInUse.{same_default}
 use Rattle.nv_machine.proofs.Pairs.{number_front, pair_there}
 use Rattle.nv_machine.specs.Kept.{AreApart, HasPages}
-use Rattle.nv_restart.proofs.Marks.{mark_of, there_by}
-use Rattle.nv_restart.specs.Mounted.{AreThere}
+use Rattle.nv_audit.proofs.NeededPages.{mark_of, there_by}
 use Rattle.nv_restart.specs.Restarted.{data_blocks}
 
 -- ---- lists

@@ -5,7 +5,7 @@ use Rattle.nv_base.specs.declared.geometry.GeometryNumbers.{GeometryNumbers}
 use Rattle.nv_base.specs.declared.numbers.Handle.{Handle}
 use Rattle.nv_book.specs.declared.record.Record.{Record}
 use Rattle.nv_machine.specs.Made.{made_at}
-use Rattle.nv_machine.specs.PlainRun.{Copy, Plain, actor_of, deed_of, plain_step}
+use Rattle.nv_machine.specs.PlainRun.{Copy, Plain, actor_of, plain_change_of, plain_step}
 use Rattle.nv_machine.specs.Starts.{IsStart}
 use Rattle.nv_machine.specs.Step.{after, step}
 use Rattle.nv_machine.specs.World.{Event, Refused, Reply, World, actor_at}
@@ -28,40 +28,49 @@ happen w (On e) = (step w e).world
 happen w (Stop true) = restarted w
 happen w (Stop false) = w
 
-abbrev pub told_of : World → Happening → Told
-told_of w (On e) = Replied (step w e).reply
-told_of w (Stop true) = Stopped
-told_of w (Stop false) = Replied (Refused out_of_memory)
+-- what a happening is told: the reply of an event, or that the machine stopped
+abbrev pub told_at : World → Happening → Told
+told_at w (On e) = Replied (step w e).reply
+told_at w (Stop true) = Stopped
+told_at w (Stop false) = Replied (Refused out_of_memory)
 
--- several, one after another
+-- several, one after another, and what they are answered
 abbrev pub after_all : World → List Happening → World
 after_all w [] = w
 after_all w (h ∷ happenings) = after_all (happen w h) happenings
+
+abbrev pub all_told : World → List Happening → List Told
+all_told w [] = []
+all_told w (h ∷ happenings) = told_at w h ∷ all_told (happen w h) happenings
 
 -- THE PLAIN WORLD BESIDE IT: a stop takes all pins off, and changes nothing else
 abbrev pub unpinned : Copy → Copy
 unpinned copy = record copy { pins = 0 }
 
+-- the plain world once the machine stopped: no copy is pinned
 abbrev pub plain_stopped : Plain → Plain
 plain_stopped p = record p { copies = map unpinned p.copies }
 
+-- the plain world after one happening
 abbrev pub plain_happens : World → Happening → Plain → Plain
 plain_happens w (On e) p = plain_step w e p
 plain_happens w (Stop true) p = plain_stopped p
 plain_happens w (Stop false) p = p
 
+-- the plain world after happenings, one after another
 abbrev pub plain_after_all : World → List Happening → Plain → Plain
 plain_after_all w [] p = p
 plain_after_all w (h ∷ happenings) p = plain_after_all (happen w h) happenings (plain_happens w h p)
 
 -- THE HANDLES that commit points have made, the earliest first
-abbrev pub made_by : World → Happening → List Handle
-made_by w (On e) = made_at (deed_of w e) (actor_at w (actor_of e)).running
-made_by w (Stop granted) = []
+abbrev pub handles_made_at : World → Happening → List Handle
+handles_made_at w (On e) = made_at (plain_change_of w e) (actor_at w (actor_of e)).running
+handles_made_at w (Stop granted) = []
 
+-- the handles that happenings made, in order
 abbrev pub all_made : World → List Happening → List Handle
 all_made w [] = []
-all_made w (h ∷ happenings) = made_by w h ++ all_made (happen w h) happenings
+all_made w (h ∷ happenings) = handles_made_at w h ++ all_made (happen w h) happenings
 
 -- some events lead to the world from one where a run may start, and which may stop
 pub record IsReached (g : GeometryNumbers) (w : World) : Type 0 where

@@ -1,22 +1,16 @@
 -- The world that a mount makes of an image.
-use Rattle.std.specs.Prelude.{◌≡◌, ℕ, List, None, Some, replicate, true}
-use Rattle.std.specs.Option.{option_map}
-use Rattle.nv_alloc.specs.Block.{BlockValue, block_by, number_of}
+use Rattle.std.specs.Prelude.{None, replicate}
 use Rattle.nv_audit.specs.Image.{ImageValue}
-use Rattle.nv_audit.specs.Mounted.{book_anew, cells_of, lists_anew, marks_anew, pool_anew}
-use Rattle.nv_cell.specs.Cell.{page_block}
-use Rattle.nv_cell.specs.Marks.{is_there, mark_at}
-use Rattle.nv_entry.specs.declared.item.Entry.{Entry}
+use Rattle.nv_audit.specs.Mounted.{book_anew, cells_of, lists_anew, pool_anew}
 use Rattle.nv_machine.specs.World.{World, idle}
 
--- each page of a log that is to be there has its block among these
-abbrev pub AreThere : ℕ → List ℕ → List BlockValue → List Entry → Type 0
-AreThere block living blocks log =
-    (n number : ℕ) → is_there (mark_at (marks_anew living block log) n) ≡ true
-    → page_block block log n ≡ Some number
-    → option_map number_of (block_by blocks number) ≡ Some number
-
--- THE WORLD THAT A MOUNT MAKES: no lock is held, and every actor is idle
+-- THE WORLD THAT A MOUNT MAKES: no lock is held, and every actor is idle.
+-- In `nv_restart`: the world that a mount makes has these cells, lists, pool and book. No lock is held, and no
+-- actor has a call. Example: a file of block 2 is overwritten by block 3 under the living snapshot 1, and then by
+-- block 4. Behind its Init its log has three Writes. Write(block 2), epoch 1    Size and page 0 are kept: snapshot
+-- 1 holds them Write(block 3), epoch 2    Size and page 0 are out Write(block 4), epoch 2    Size and page 0 are
+-- current The records anew are those of the first Size and of block 2, on the manifest of snapshot 1. Block 3 is
+-- free, with its bytes. Where block 2 is not among the data blocks of the slot, the first fault is `run`.
 abbrev pub mounted : ImageValue → World
 mounted image = record {
   numbers = image.numbers;

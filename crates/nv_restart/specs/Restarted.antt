@@ -27,7 +27,10 @@ slot_image cell = record {
   blocks = data_blocks cell;
 }
 
--- THE IMAGE OF A WORLD: hands, locks, pins, records and the deferred list are not in it
+-- THE IMAGE OF A WORLD: hands, locks, pins, records and the deferred list are not in it.
+-- In `nv_restart`: the image of a world has each slot's generation, its chain as it stands, also past the tail, and
+-- the blocks of its published parts; the journals, the numbers of the living snapshots, the epoch and the number of
+-- the last commit. Hands, locks, pins, records and the deferred list are not in it.
 abbrev pub image_of : World → ImageValue
 image_of w = record {
   numbers = w.numbers;

@@ -21,6 +21,7 @@ ghost use Rattle.nv_machine.specs.World.{Shared, World, cell_at};
 /// Where no journal is open, and the nodes of the cells form trees now and at each living snapshot,
 /// so do the settled nodes and the copies of each snapshot.
 pub fn judged_trees_are_trees()
+    // Where the nodes of cells form trees by slots and no journal is open, so do the settled nodes and the copies.
     ensures now { (s : Shared) → AreClosed s.book.journals → AreTrees (ids s.book.snaps) s.cells
         → AreTree (node_in (settled_nodes s)) }
     ensures at { (s : Shared) (snapshot : ℕ) → AreClosed s.book.journals
@@ -30,6 +31,7 @@ pub fn judged_trees_are_trees()
 
 /// Where no journal is open and the log of each cell is of its shape, so are the settled logs.
 pub fn judged_logs_are_shaped()
+    // Where the log of each cell is of its shape and no journal is open, the settled logs are.
     ensures { (block : ℕ) (s : Shared) → AreClosed s.book.journals
         → ((ino : ℕ) → ino < length s.cells → IsLeftShaped block (log_of (cell_at s ino)))
         → AreShaped block s }
@@ -38,6 +40,7 @@ pub fn judged_logs_are_shaped()
 /// Where beside it each block number stands once and the file of each cell ends at its size, they
 /// are sound.
 pub fn judged_logs_are_sound()
+    // Where beside it each block stands once and each file ends at its size, the settled logs are sound.
     ensures { (many : ℕ) (w : World) → AreClosed w.shared.book.journals
         → IsEachOnce many (all_blocks w)
         → ((ino : ℕ) → ino < length w.shared.cells → IsCell (cell_at w.shared ino))

@@ -16,14 +16,16 @@ ghost use Rattle.nv_entry.specs.Log.{IsLog};
 ghost use Rattle.nv_epoch.specs.Holders.{IsRising};
 ghost use Rattle.nv_log.specs.Image.{IsPaged};
 ghost use Rattle.nv_machine.specs.Numbers.{free_of};
-ghost use Rattle.nv_machine.specs.Recorded.{IsOfPair, is_kept, times_recorded};
+ghost use Rattle.nv_machine.specs.Recorded.{IsOfPair, is_marked_kept, times_recorded};
 ghost use Rattle.nv_machine.specs.Starts.{IsStart};
 ghost use Rattle.nv_machine.specs.World.{cell_at};
-ghost use Rattle.nv_restart.specs.Mounted.{AreThere, mounted};
+ghost use Rattle.nv_cell.specs.Anew.{AreThere};
+ghost use Rattle.nv_restart.specs.Mounted.{mounted};
 
 /// AN IMAGE WITHOUT A FAULT mounts to a world where a run may start, with the records anew. So what
 /// laws say of any start holds of each world to which events lead from there.
 pub fn faultless_images_mount_to_a_start()
+    // An image without a fault mounts to a world where a run may start, with the records anew.
     ensures { (image : ImageValue) → IsWithinLimits image.numbers → IsFaultless image
         → IsStart image.numbers (mounted image) (records_anew image) }
 {}
@@ -31,6 +33,7 @@ pub fn faultless_images_mount_to_a_start()
 /// The cell that the first entries of a slot's log give is one, where these stand on the slot's
 /// pages and rise, and the block of each page that is not out is there.
 pub fn slots_mount_to_cells()
+    // The cell that a slot's first entries give is one, where its chain and blocks are good.
     ensures { (g : GeometryNumbers) → IsWithinLimits g
         → (living : List ℕ) (n : ℕ) (slot : SlotImageValue) → IsPaged g.page slot.chain
         → n ≤ length slot.chain.entries → IsLog slot.chain.entries
@@ -41,6 +44,7 @@ pub fn slots_mount_to_cells()
 
 /// The free lists anew have each block of the device that is not used, once.
 pub fn lists_anew_have_the_rest()
+    // The free lists anew have each block that is not used, once.
     ensures { (g : GeometryNumbers) → 0 < g.cpus → (used : List ℕ) (block : ℕ → BlockValue)
         → ((n : ℕ) → (block n).number ≡ n) → ((n : ℕ) → 1 ≤ times n used → n < g.blocks)
         → ((n : ℕ) → times n used ≤ 1) → (n : ℕ)
@@ -53,12 +57,15 @@ pub fn lists_anew_have_the_rest()
 /// cut logs rise, each part that is kept has one of them and no other part has any, and each is of
 /// its pair, with the same holders.
 pub fn records_anew_are_of_what_is_kept()
+    // The records anew are those of the manifests, and none is deferred.
     ensures filed { (image : ImageValue) → IsRecordList image.snapshots (book_anew image).manifests
         (book_anew image).deferred (records_anew image) }
+    // Each part that is kept has one of them, and no other part has any.
     ensures once { (image : ImageValue) → IsRising image.snapshots
         → ((ino : ℕ) → IsLog (cut_log image ino)) → (ino n : ℕ) → ino < length image.slots
         → times_recorded (mounted image) ino n
-        ≡ bit (is_kept (mark_at (cell_at (mounted image).shared ino).marks n)) }
+        ≡ bit (is_marked_kept (mark_at (cell_at (mounted image).shared ino).marks n)) }
+    // Each of them is of its pair, and the same snapshots hold both.
     ensures paired { (image : ImageValue) → IsRising image.snapshots
         → ((ino : ℕ) → IsLog (cut_log image ino))
         → AllByRecursion (IsOfPair (mounted image)) (records_anew image) }

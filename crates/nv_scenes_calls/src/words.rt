@@ -44,6 +44,7 @@ pub enum Want {
     Started,
     Moved,
     Waits,
+    Stopped,
     Made(At),
     Count(u64),
     Nothing,

@@ -18,6 +18,7 @@ pub fn is_wanted(reply: &Reply, want: &Want) -> bool {
         Reply::Started => matches!(want, Want::Started),
         Reply::Moved => matches!(want, Want::Moved),
         Reply::Waits => matches!(want, Want::Waits),
+        Reply::Stopped => matches!(want, Want::Stopped),
         Reply::Refused(fault) => is_fault(*fault, want),
         Reply::Done(answer) => is_answer(answer, want),
     }

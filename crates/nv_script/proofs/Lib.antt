@@ -1,3 +1,4 @@
+pub mod Acting
 pub mod Ahead
 pub mod Alike
 pub mod Answering
@@ -22,6 +23,7 @@ pub mod RunsPlayed
 pub mod SerialAlike
 pub mod SerialReports
 pub mod SerialRows
+pub mod SerialStops
 pub mod SerialTexts
 pub mod Solid
 pub mod Taken

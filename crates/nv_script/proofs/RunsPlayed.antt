@@ -1,6 +1,6 @@
 -- Events lead to each world that a script plays on, so that its reports are what a scan counts.
 use Rattle.std.proofs.Common.{◌≡◌, ◌∙◌, ℕ, ◌+◌, ◌++◌, ◌≤◌, Bool, true, false, List, [], ◌∷◌, Option, Some, None, ap, arith, inl, inr, refl, subst, sym}
-use Rattle.std.specs.Prelude.{MatchBool, min, nat_le, nat_lt, length}
+use Rattle.std.specs.Prelude.{◌≢◌, MatchBool, Ok, min, nat_le, nat_lt, length}
 use Rattle.std.specs.List.{AllByRecursion}
 use Rattle.std.proofs.lemmas.Bool.{and_parts, leb-true}
 use Rattle.nv_alloc.specs.declared.runs.FreeRun.{FreeRun}
@@ -10,12 +10,10 @@ use Rattle.nv_base.specs.declared.fault.GeometryField.TheVariants as field
 use Rattle.nv_base.specs.declared.geometry.GeometryNumbers.{GeometryNumbers}
 use Rattle.nv_base.specs.declared.limits.TheConstants.{ACTORS, BLOCKS, BLOCK_BYTES, CPUS, INODES, LEAST_BLOCKS, LEAST_PAGE_ENTRIES, PAGE_ENTRIES, SNAPS}
 use Rattle.nv_entry.specs.declared.tree.TreeNode.{TreeNode}
-use Rattle.nv_machine.specs.Format.{formatted}
 use Rattle.nv_machine.specs.Starts.{IsStart}
 use Rattle.nv_machine.specs.Step.{after, step}
 use Rattle.nv_machine.specs.World.{Event, Reply, Start, Started, World}
 use Rattle.nv_machine.proofs.EveryWorld.{all_numbers}
-use Rattle.nv_machine.proofs.NewStart.{new_start}
 use Rattle.nv_core.specs.Whole.{RunsFrom, Runs}
 use Rattle.nv_core.specs.declared.reports.LogCounts.{LogCounts}
 use Rattle.nv_core.specs.declared.reports.Space.{Space}
@@ -23,9 +21,12 @@ use Rattle.nv_core.specs.declared.snaps.Snaps.{Snaps}
 use Rattle.nv_core.specs.Worlds.{HasRun, gos}
 use Rattle.nv_core.proofs.RoomsAfter.{after_more}
 use Rattle.nv_core.proofs.ScannedReports.{lists_scanned, logs_scanned, snaps_scanned, space_scanned}
+use Rattle.nv_restart.proofs.Happenings.{new_reached, one}
+use Rattle.nv_restart.specs.Happenings.{IsReached, On, Stop}
+use Rattle.nv_restart.specs.Restarted.{restarted}
 use Rattle.nv_script.specs.declared.command.Command.{Command}
 use Rattle.nv_script.specs.declared.command.Command.TheVariants as command
-use Rattle.nv_script.specs.Grammar.{is_skipped}
+use Rattle.nv_script.specs.Grammar.{command_of, is_skipped}
 use Rattle.nv_script.specs.Play.{Acts, ActsBy, Formats, Plays, PlaysAll, PlaysFrom, PlaysWords, Reports, ShowsLog, ShowsTree, machine_player, machine_player_with, no_head, nodes_at, reports_by_scan, reports_of}
 use Rattle.nv_script.specs.Results.{HasAnyRun}
 use Rattle.nv_script.specs.Texts.{lists_lines, log_line, snaps_lines, space_line}
@@ -33,6 +34,7 @@ use Rattle.nv_script.specs.Words.{words_of}
 
 -- ---- events
 
+-- the same events lead to a world, and one more to the next
 run_more : (m : World) (e : Event) → HasRun m → HasRun (step m e).world
 run_more m e has =
     let run = has.0 in
@@ -45,16 +47,28 @@ run_more m e has =
       next,
     )
 
-run_after : (events : List Event) (m : World) → HasRun m → HasRun (after m events)
-run_after [] m has = has
-run_after (e ∷ events) m has = run_after events (step m e).world (run_more m e has)
+-- a world of its own geometry to which events lead from a start that may stop
+abbrev IsReachedHere : World → Type 0
+IsReachedHere m = IsReached m.numbers m
 
-run_runs : (m : World) (actor : ℕ) (last : Reply) (n : World) → Runs m actor last n → HasRun m → HasRun n
-run_runs m actor last n runs has = subst HasRun (sym runs.goes.world) (run_after (gos actor runs.goes.grants) m has)
+reached_more : (m : World) (e : Event) → IsReachedHere m → IsReachedHere (step m e).world
+reached_more m e has =
+    let next : IsReached m.numbers (step m e).world = one m.numbers m (On e) has in
+    let numbers = (all_numbers m.numbers next.start next.records next.events next.is_start).numbers in
+    subst (λ (n : GeometryNumbers). IsReached n (step m e).world) (sym numbers ∙ ap (λ (w : World). w.numbers) next.leads) next
 
-run_from : (first : Reply) (m : World) (actor : ℕ) (last : Reply) (n : World) → RunsFrom first m actor last n → HasRun m → HasRun n
-run_from Started m actor last n runs has = run_runs m actor last n runs has
-run_from _ m actor last n ends has = subst HasRun (sym ends.1) has
+-- what each event keeps
+module _ (P : World → Type 0) (more : (m : World) (e : Event) → P m → P (step m e).world) where
+  after_by : (events : List Event) (m : World) → P m → P (after m events)
+  after_by [] m has = has
+  after_by (e ∷ events) m has = after_by events (step m e).world (more m e has)
+
+  runs_by : (m : World) (actor : ℕ) (last : Reply) (n : World) → Runs m actor last n → P m → P n
+  runs_by m actor last n runs has = subst P (sym runs.goes.world) (after_by (gos actor runs.goes.grants) m has)
+
+  from_by : (first : Reply) (m : World) (actor : ℕ) (last : Reply) (n : World) → RunsFrom first m actor last n → P m → P n
+  from_by Started m actor last n runs has = runs_by m actor last n runs has
+  from_by _ m actor last n ends has = subst P (sym ends.1) has
 
 -- ---- commands
 
@@ -66,23 +80,27 @@ run_tree : (nodes : Option (List TreeNode)) (m : World) (text : List ℕ) (n : W
 run_tree (Some nodes) m text n shows = shows.1
 run_tree None m text n shows = shows.1
 
-run_acts : (m : World) (c : Command) (text : List ℕ) (n : World) → Acts m c text n → HasRun m → HasRun n
-run_acts m (command.Start actor call) text n acts has = subst HasRun (sym acts.1) (run_more m (Start actor call) has)
-run_acts m (command.Go actor more) text n acts has =
-    subst HasRun (sym acts.1.world) (run_after (gos actor acts.1.grants) m has)
-run_acts m (command.Run actor) text n acts has = run_runs m actor acts.0 n acts.1 has
-run_acts m (command.Do actor call) text n acts has =
-    run_from (step m (Start actor call)).reply (step m (Start actor call)).world actor acts.0 n acts.1
-    (run_more m (Start actor call) has)
-run_acts m command.Tree text n acts has = subst HasRun (sym acts.1) has
-run_acts m (command.SnapTree snapshot) text n acts has =
-    subst HasRun (sym (run_tree (nodes_at m (Some snapshot)) m text n acts)) has
-run_acts m command.Snaps text n acts has = subst HasRun (sym acts.1) has
-run_acts m command.Space text n acts has = subst HasRun (sym acts.1) has
-run_acts m command.Lists text n acts has = subst HasRun (sym acts.1) has
-run_acts m (command.Log ino) text n acts has =
-    subst HasRun (sym (run_log (nat_lt ino (length m.shared.cells)) ino m text n acts)) has
-run_acts m command.Audit text n acts has = subst HasRun (sym acts.1) has
+-- so each command keeps it, where a stop does
+module _ (P : World → Type 0) (more : (m : World) (e : Event) → P m → P (step m e).world) where
+  acts_by : (m : World) (c : Command) (text : List ℕ) (n : World) → (c ≡ command.Stop → P (restarted m)) → Acts m c text n → P m → P n
+  acts_by m (command.Start actor call) text n stops acts has = subst P (sym acts.1) (more m (Start actor call) has)
+  acts_by m (command.Go actor least) text n stops acts has =
+      subst P (sym acts.1.world) (after_by P more (gos actor acts.1.grants) m has)
+  acts_by m (command.Run actor) text n stops acts has = runs_by P more m actor acts.0 n acts.1 has
+  acts_by m (command.Do actor call) text n stops acts has =
+      from_by P more (step m (Start actor call)).reply (step m (Start actor call)).world actor acts.0 n acts.1
+      (more m (Start actor call) has)
+  acts_by m command.Stop text n stops (inl stopped) has = subst P (sym stopped.1) (stops refl)
+  acts_by m command.Stop text n stops (inr refused) has = subst P (sym refused.1) has
+  acts_by m command.Tree text n stops acts has = subst P (sym acts.1) has
+  acts_by m (command.SnapTree snapshot) text n stops acts has =
+      subst P (sym (run_tree (nodes_at m (Some snapshot)) m text n acts)) has
+  acts_by m command.Snaps text n stops acts has = subst P (sym acts.1) has
+  acts_by m command.Space text n stops acts has = subst P (sym acts.1) has
+  acts_by m command.Lists text n stops acts has = subst P (sym acts.1) has
+  acts_by m (command.Log ino) text n stops acts has =
+      subst P (sym (run_log (nat_lt ino (length m.shared.cells)) ino m text n acts)) has
+  acts_by m command.Audit text n stops acts has = subst P (sym acts.1) has
 
 -- ---- a new world
 
@@ -129,37 +147,56 @@ within numbers e =
       actors_fit = actors.1;
     }
 
-run_formats : (field : Option GeometryField) (numbers : GeometryNumbers) (text : List ℕ) (n : Option World)
-    → first_bad_field numbers ≡ field → Formats machine_player field numbers text n → HasAnyRun n
-run_formats (Some field) numbers text n is formats = subst HasAnyRun (sym formats.1) tt
-run_formats None numbers text n is (inl made) =
-    subst HasAnyRun (sym made.1)
-    (record { start = formatted numbers; records = []; events = [] }, new_start numbers (within numbers is), refl)
-run_formats None numbers text n is (inr none) = subst HasAnyRun (sym none.1) tt
-
 -- ---- lines
 
-run_words : (m : Option World) (words : List (List ℕ)) (text : List ℕ) (n : Option World)
-    → PlaysWords machine_player m words text n → HasAnyRun m → HasAnyRun n
-run_words None words text n plays has = run_formats (first_bad_field plays.0) plays.0 text n refl plays.2
-run_words (Some m) words text n plays has =
-    subst HasAnyRun (sym plays.4) (run_acts m plays.0 text plays.1 plays.3 has)
+-- a line that is no stop keeps that events lead to a world
+pub run_line : (m : World) (line text : List ℕ) (n : Option World) → is_skipped line ≡ false
+    → command_of (words_of line) ≢ Ok command.Stop → Plays machine_player (Some m) line text n → HasRun m → HasAnyRun n
+run_line m line text n skipped other plays has = kept (rw skipped at plays) where
+  kept : PlaysWords machine_player (Some m) (words_of line) text n → HasAnyRun n
+  kept words =
+      subst HasAnyRun (sym words.4)
+      (acts_by HasRun run_more m words.0 text words.1
+      (λ is. absurd (other (subst (λ (c : Command). command_of (words_of line) ≡ Ok c) is words.2))) words.3 has)
 
-pub run_line : (m : Option World) (line text : List ℕ) (n : Option World) → Plays machine_player m line text n → HasAnyRun m → HasAnyRun n
-run_line m line text n plays has = go (is_skipped line) plays where
-  go : (b : Bool) → MatchBool b ((text ≡ []) × (n ≡ m)) (PlaysWords machine_player m (words_of line) text n) → HasAnyRun n
-  go true skips = subst HasAnyRun (sym skips.1) has
-  go false words = run_words m (words_of line) text n words has
+-- events lead to a world, where there is one, from a start that may stop
+abbrev IsAnyReached : Option World → Type 0
+IsAnyReached None = Unit {0}
+IsAnyReached (Some m) = IsReachedHere m
 
-run_lines : (head : ℕ → List ℕ → List ℕ) (number : ℕ) (m : Option World) (lines : List (List ℕ)) (text : List ℕ) (n : Option World)
-    → PlaysFrom (machine_player_with head) number m lines text n → HasAnyRun m → HasAnyRun n
-run_lines head number m [] text n plays has = subst HasAnyRun (sym plays.1) has
-run_lines head number m (line ∷ lines) text n plays has =
-    run_lines head (number + 1) plays.2 lines plays.1 n plays.5 (run_line m line plays.0 plays.2 plays.4 has)
+has_any : (m : Option World) → IsAnyReached m → HasAnyRun m
+has_any None is = tt
+has_any (Some m) is = (record { start = is.start; records = is.records; events = is.events }, is.is_start, sym is.leads)
+
+reached_formats : (field : Option GeometryField) (numbers : GeometryNumbers) (text : List ℕ) (n : Option World)
+    → first_bad_field numbers ≡ field → Formats machine_player field numbers text n → IsAnyReached n
+reached_formats (Some field) numbers text n is formats = subst IsAnyReached (sym formats.1) tt
+reached_formats None numbers text n is (inl made) = subst IsAnyReached (sym made.1) (new_reached numbers (within numbers is))
+reached_formats None numbers text n is (inr none) = subst IsAnyReached (sym none.1) tt
+
+reached_words : (m : Option World) (words : List (List ℕ)) (text : List ℕ) (n : Option World)
+    → PlaysWords machine_player m words text n → IsAnyReached m → IsAnyReached n
+reached_words None words text n plays is = reached_formats (first_bad_field plays.0) plays.0 text n refl plays.2
+reached_words (Some m) words text n plays is =
+    subst IsAnyReached (sym plays.4)
+    (acts_by IsReachedHere reached_more m plays.0 text plays.1 (λ stop. one m.numbers m (Stop true) is) plays.3 is)
+
+reached_line : (m : Option World) (line text : List ℕ) (n : Option World) → Plays machine_player m line text n
+    → IsAnyReached m → IsAnyReached n
+reached_line m line text n plays is = go (is_skipped line) plays where
+  go : (b : Bool) → MatchBool b ((text ≡ []) × (n ≡ m)) (PlaysWords machine_player m (words_of line) text n) → IsAnyReached n
+  go true skips = subst IsAnyReached (sym skips.1) is
+  go false words = reached_words m (words_of line) text n words is
+
+reached_lines : (head : ℕ → List ℕ → List ℕ) (number : ℕ) (m : Option World) (lines : List (List ℕ)) (text : List ℕ) (n : Option World)
+    → PlaysFrom (machine_player_with head) number m lines text n → IsAnyReached m → IsAnyReached n
+reached_lines head number m [] text n plays is = subst IsAnyReached (sym plays.1) is
+reached_lines head number m (line ∷ lines) text n plays is =
+    reached_lines head (number + 1) plays.2 lines plays.1 n plays.5 (reached_line m line plays.0 plays.2 plays.4 is)
 
 pub plays_run_by : (head : ℕ → List ℕ → List ℕ) (lines : List (List ℕ)) (text : List ℕ) (n : Option World)
     → PlaysAll (machine_player_with head) None lines text n → HasAnyRun n
-plays_run_by head lines text n plays = run_lines head 1 None lines text n plays tt
+plays_run_by head lines text n plays = has_any n (reached_lines head 1 None lines text n plays tt)
 
 pub plays_run : (lines : List (List ℕ)) (text : List ℕ) (n : Option World) → PlaysAll machine_player None lines text n → HasAnyRun n
 plays_run lines text n plays = plays_run_by no_head lines text n plays
@@ -182,6 +219,7 @@ acts_scanned m (command.Start actor call) text n has acts = acts
 acts_scanned m (command.Go actor more) text n has acts = acts
 acts_scanned m (command.Run actor) text n has acts = acts
 acts_scanned m (command.Do actor call) text n has acts = acts
+acts_scanned m command.Stop text n has acts = acts
 acts_scanned m command.Tree text n has acts = acts
 acts_scanned m (command.SnapTree snapshot) text n has acts = acts
 acts_scanned m command.Audit text n has acts = acts

@@ -4,7 +4,7 @@ use Rattle.std.proofs.Math.Path.{fun_ext}
 use Rattle.std.proofs.lemmas.List.{length-map}
 use Rattle.std.specs.Prelude.{IsSome, option_map}
 use Rattle.std.specs.List.{AllByRecursion, range_with_len}
-use Rattle.nv_alloc.specs.Runs.{runs_of}
+use Rattle.nv_alloc.specs.Runs.{free_runs_of}
 use Rattle.nv_base.specs.declared.geometry.GeometryNumbers.{GeometryNumbers}
 use Rattle.nv_book.specs.declared.record.Record.{Record}
 use Rattle.nv_entry.specs.declared.tree.TreeNode.{TreeNode}
@@ -57,8 +57,8 @@ module _ (g : GeometryNumbers) (w : World) (rs : List Record) (is : IsStart g w 
 
   lists_same : lists_by_scan w ≡ (serial_reports s).lists
   lists_same =
-      ap (λ (n : GeometryNumbers). map (λ cpu. runs_of (free_by_logs n w cpu)) (range_with_len 0 n.cpus)) is.numbers
-      ∙ ap (λ (free : ℕ → List ℕ). map (λ cpu. runs_of (free cpu)) (range_with_len 0 g.cpus)) (fun_ext (λ cpu. scan_is g w rs is cpu))
+      ap (λ (n : GeometryNumbers). map (λ cpu. free_runs_of (free_by_logs n w cpu)) (range_with_len 0 n.cpus)) is.numbers
+      ∙ ap (λ (free : ℕ → List ℕ). map (λ cpu. free_runs_of (free cpu)) (range_with_len 0 g.cpus)) (fun_ext (λ cpu. scan_is g w rs is cpu))
 
   log_same : (ino : ℕ) → log_by_scan w ino ≡ serial_log s ino
   log_same ino =

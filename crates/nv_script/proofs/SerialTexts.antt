@@ -6,6 +6,7 @@ use Rattle.nv_base.specs.declared.geometry.GeometryNumbers.{GeometryNumbers}
 use Rattle.nv_entry.specs.declared.tree.TreeNode.{TreeNode}
 use Rattle.nv_serial.specs.OneCall.{serial_call}
 use Rattle.nv_serial.specs.Serial.{Serial, new_serial}
+use Rattle.nv_serial.specs.Stopped.{serial_stopped}
 use Rattle.nv_script.specs.declared.command.Command.{Command}
 use Rattle.nv_script.specs.declared.command.Command.TheVariants as command
 use Rattle.nv_script.specs.Grammar.{Parsed, command_of, format_of}
@@ -30,11 +31,13 @@ report_text s other = []
 -- what a line writes, and the world after it
 abbrev pub text_by : Serial → Parsed Command → List ℕ
 text_by s (Ok (command.Do actor c)) = reply_line ((serial_call s actor c).reply)
+text_by s (Ok command.Stop) = line_of (codes "stopped")
 text_by s (Ok report) = report_text s report
 text_by s (Err fault) = []
 
 abbrev pub world_by : Serial → Parsed Command → Serial
 world_by s (Ok (command.Do actor c)) = (serial_call s actor c).world
+world_by s (Ok command.Stop) = serial_stopped s
 world_by s (Ok report) = s
 world_by s (Err fault) = s
 

@@ -310,6 +310,9 @@ acts_told m (command.Start actor call) text n acts = subst IsAnswer (sym acts.0)
 acts_told m (command.Go actor more) text n acts = subst IsAnswer (sym acts.2) (reply_told acts.0)
 acts_told m (command.Run actor) text n acts = subst IsAnswer (sym acts.2) (reply_told acts.0)
 acts_told m (command.Do actor call) text n acts = subst IsAnswer (sym acts.2) (reply_told acts.0)
+acts_told m command.Stop text n (inl stopped) =
+    subst IsAnswer (sym stopped.0) (line_told (codes "stopped") (clean_text (codes "stopped") refl) refl)
+acts_told m command.Stop text n (inr refused) = subst IsAnswer (sym refused.0) (refused_told out_of_memory)
 acts_told m command.Tree text n acts = shown_tree (nodes_at m None) m text n acts
 acts_told m (command.SnapTree snapshot) text n acts = shown_tree (nodes_at m (Some snapshot)) m text n acts
 acts_told m command.Snaps text n acts =

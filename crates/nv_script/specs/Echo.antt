@@ -11,10 +11,12 @@ use Rattle.nv_script.specs.Lines.{HasNoEnd, ended}
 use Rattle.nv_script.specs.Play.{Ends, machine_player, machine_player_with, no_head}
 use Rattle.nv_script.specs.Texts.{line_of}
 
+-- the echo of a line
 abbrev pub echo_line : ℕ → List ℕ → List ℕ
 echo_line number line = line_of (codes "> " ++ decimal number ++ codes " " ++ line)
 
--- a line that is skipped has no answers, and no echo
+-- a line that is skipped has no answers, and no echo.
+-- Echo: the number and the text of a command's line, on a line before its answers. Example: `> 7 tree`.
 abbrev pub echo_of : ℕ → List ℕ → List ℕ
 echo_of number line = if is_skipped line then [] else echo_line number line
 
@@ -34,9 +36,11 @@ abbrev pub is_echo : List ℕ → Bool
 is_echo (a ∷ b ∷ rest) = (a == 62) && (b == 32) && list_any (λ byte. byte == 32) rest
 is_echo _ = false
 
+-- the lines without echoes
 abbrev pub without_echoes : List (List ℕ) → List (List ℕ)
 without_echoes lines = filter (λ line. not (is_echo line)) lines
 
+-- no line has a line end in it
 abbrev pub AreClean : List (List ℕ) → Type 0
 AreClean [] = Unit {0}
 AreClean (line ∷ lines) = HasNoEnd line × AreClean lines
@@ -45,7 +49,9 @@ AreClean (line ∷ lines) = HasNoEnd line × AreClean lines
 abbrev pub IsEchoed : (written text : List ℕ) → Type 0
 IsEchoed written text = (lines : List (List ℕ)) × AreClean lines × (written ≡ ended lines) × (text ≡ ended (without_echoes lines))
 
--- A SCRIPT ENDS AS IT DOES WITHOUT AN ECHO, and without the echoes its text is the same; a failed write can leave a piece of one
+-- A SCRIPT ENDS AS IT DOES WITHOUT AN ECHO, and without the echoes its text is the same; a failed write can leave a piece of one.
+-- Without them the output is that of a script without echoes, except that a failed write can leave a piece of one.
+-- Example: `> 1.1` is no echo. It tells of a file with the name `>`.
 abbrev pub PlaysWithoutEchoes : Result (Unit {0}) Fault → (input left old new : Option (List ℕ)) → Type 0
 PlaysWithoutEchoes result input left old new = result ≢ Err fault.Write
     → Ends machine_player result input left (λ text. (written : List ℕ) × IsEchoed written text × Appends old new written)

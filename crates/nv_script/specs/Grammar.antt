@@ -32,6 +32,7 @@ Parsed T = Result T ScriptFaultKind
 
 -- goes on with what was read
 infixl 10 ◌>>=◌
+-- what is read next, where the first was read
 abbrev pub ◌>>=◌ : {A B : Type 0} → Parsed A → (A → Parsed B) → Parsed B
 (Ok a) >>= next = next a
 (Err fault) >>= next = Err fault
@@ -98,15 +99,18 @@ row calls.Fast = entry (codes "fast") (field.Number ∷ []) (λ ino. call.Mainte
 row calls.Thorough = entry (codes "thorough") (field.Number ∷ []) (λ ino. call.Maintenance (maintenance.Thorough ino))
 row calls.Auto = entry (codes "auto") (field.Number ∷ []) (λ ino. call.Maintenance (maintenance.Auto ino))
 
+-- all words of calls, in the order of their table
 abbrev pub all_calls : List CallWord
 all_calls =
     calls.Create ∷ calls.Mkdir ∷ calls.Write ∷ calls.Read ∷ calls.Size ∷ calls.Mode ∷ calls.Stat ∷ calls.List
     ∷ calls.Lookup ∷ calls.Unlink ∷ calls.Rmdir ∷ calls.Rename ∷ calls.Snap ∷ calls.Drop ∷ calls.Show ∷ calls.Drain
     ∷ calls.Fast ∷ calls.Thorough ∷ calls.Auto ∷ []
 
+-- the name of a row
 abbrev pub name_in : Row → List ℕ
 name_in (entry name fields make) = name
 
+-- the kinds of words of a row
 abbrev pub fields_in : Row → List Field
 fields_in (entry name fields make) = fields
 
@@ -114,6 +118,7 @@ fields_in (entry name fields make) = fields
 abbrev pub call_in : Row → List (List ℕ) → Parsed Call
 call_in (entry name fields make) words = made_of {A = Call} fields make words 3
 
+-- the call that these words make
 abbrev pub call_with : CallWord → List (List ℕ) → Parsed Call
 call_with c words = call_in (row c) words
 
@@ -169,6 +174,7 @@ abbrev pub plain_word : List ℕ → Option CommandWord
 plain_word name =
     if bytes_eq name (codes "go") then Some word.Go
     else if bytes_eq name (codes "run") then Some word.Run
+    else if bytes_eq name (codes "stop") then Some word.Stop
     else if bytes_eq name (codes "tree") then Some word.Tree
     else if bytes_eq name (codes "stree") then Some word.SnapTree
     else if bytes_eq name (codes "snaps") then Some word.Snaps
@@ -207,9 +213,11 @@ called_count (word.Start c) = 1 + length (fields_in (row c))
 called_count (word.Do c) = 1 + length (fields_in (row c))
 called_count _ = 0
 
+-- how many words a command takes
 abbrev pub word_count : CommandWord → ℕ
 word_count w = 1 + length (own_fields w) + called_count w
 
+-- no word is empty
 abbrev pub none_empty : List (List ℕ) → Bool
 none_empty words = list_all (λ w. nat_lt 0 (length w)) words
 
@@ -231,6 +239,7 @@ command_with (word.Start c) words = value_at field.Number words 1 >>= λ actor. 
 command_with (word.Do c) words = value_at field.Number words 1 >>= λ actor. call_with c words >>= λ call. Ok (command.Do actor call)
 command_with word.Go words = value_at field.Number words 1 >>= λ actor. goes_in words >>= λ count. Ok (command.Go actor (count - 1))
 command_with word.Run words = value_at field.Number words 1 >>= λ actor. Ok (command.Run actor)
+command_with word.Stop words = Ok command.Stop
 command_with word.Tree words = Ok command.Tree
 command_with word.SnapTree words = value_at field.Number words 1 >>= λ s. Ok (command.SnapTree s)
 command_with word.Snaps words = Ok command.Snaps
@@ -243,6 +252,7 @@ command_with word.Audit words = Ok command.Audit
 abbrev pub setting_of : List ℕ → List ℕ → Option ℕ
 setting_of name w = if bytes_eq (take (length name) w) name then number_of (drop (length name) w) else None
 
+-- a setting of `format` at a place
 abbrev pub setting_at : List (List ℕ) → ℕ → List ℕ → Parsed ℕ
 setting_at words place name = ok_or (setting_of name (word_at words place)) kind.Number
 
@@ -269,14 +279,20 @@ command_due head.Format words = Err kind.Order
 command_due (head.Command w) words = if_so (are_counted (word_count w) (optional_count w) words) kind.Count (command_with w words)
 
 -- what some words spell, or the first fault: of the first words, of the order of lines, of the number of words, and
--- then of the words from left to right
+-- then of the words from left to right.
+-- Command of a line (`format_of` where no world is made, else `command_of`): the command that its words spell, or
+-- the first fault that applies. The faults are `word` or `count` of the first words, `order`, `count` of all words,
+-- then `number` or `text` from left to right.
 abbrev pub format_of : List (List ℕ) → Parsed GeometryNumbers
 format_of words = head_of words >>= λ h. format_with h words
 
+-- the command of a line's words
 abbrev pub command_of : List (List ℕ) → Parsed Command
 command_of words = head_of words >>= λ h. command_due h words
 
--- an empty line, or one that begins with `#`
+-- an empty line, or one that begins with `#`.
+-- An empty line, or one that begins with `#`, has none. Example: `do 0 create 0.1 %4 4096` has the fault `text`,
+-- since its escape stands before its mode. `do 0 ` has the fault `word`, since its third word names no call.
 abbrev pub is_skipped : List ℕ → Bool
 is_skipped [] = true
 is_skipped (byte ∷ bytes) = byte == 35
@@ -285,6 +301,7 @@ is_skipped (byte ∷ bytes) = byte == 35
 abbrev pub texts : List (Bor (List ℕ)) → List (List ℕ)
 texts words = map (λ w. w.now) words
 
+-- the fault of a line is that of its reading
 abbrev pub IsLineFault : {A : Type 0} → LineFault → Parsed A → Type 0
 IsLineFault (line.OutOfMemory _) read = Unit {0}
 IsLineFault line.Write read = ⊥

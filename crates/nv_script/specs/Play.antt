@@ -22,6 +22,7 @@ use Rattle.nv_core.specs.declared.reports.LogCounts.{LogCounts}
 use Rattle.nv_core.specs.declared.reports.Space.{Space}
 use Rattle.nv_core.specs.declared.snaps.Snaps.{Snaps}
 use Rattle.nv_core.specs.Whole.{Calls, GoesOn, Runs}
+use Rattle.nv_restart.specs.Restarted.{restarted}
 use Rattle.nv_script.specs.declared.command.Command.{Command}
 use Rattle.nv_script.specs.declared.command.Command.TheVariants as command
 use Rattle.nv_script.specs.Grammar.{command_of, format_of, is_skipped}
@@ -31,7 +32,10 @@ use Rattle.nv_script.specs.Words.{words_of}
 use Rattle.nv_base.specs.Memory.{out_of_memory}
 
 -- WHO PLAYS A SCRIPT: the kind of its worlds, the empty one of a geometry, what a command on a world is answered and leaves,
--- the nodes of the tree that a command lists, and what is written before the answers to the line with a number
+-- the nodes of the tree that a command lists, and what is written before the answers to the line with a number.
+-- Player: a kind of world, and the empty one of a geometry. It tells what a command on a world is answered and
+-- leaves, and which nodes of a tree a command lists. It also tells what is written before the answers to a line of
+-- some number. The rows below hold of any player.
 pub record Player : Type 1 where
   pub World : Type 0
   pub empty : GeometryNumbers → World
@@ -69,7 +73,9 @@ abbrev pub ShowsTree : {W : Type 0} → Option (List TreeNode) → W → List �
 ShowsTree (Some nodes) old text new = Reports (tree_lines nodes) old text new
 ShowsTree None old text new = (text ≡ refused_line fault.NoSnapshot) × (new ≡ old)
 
--- what a command that asks for a report writes, where the world reports this; nothing changes
+-- what a command that asks for a report writes, where the world reports this; nothing changes.
+-- What a report writes, where a world of any kind reports so much: its text, or that memory is refused. `space` is
+-- never refused. The world stays. Example: `log 9` of a world with eight inode slots is refused as `Stale`.
 abbrev pub Tells : {W : Type 0} → WorldReports → W → Command → List ℕ → W → Type 0
 Tells told old command.Tree text new = ShowsTree (told.nodes None) old text new
 Tells told old (command.SnapTree snapshot) text new = ShowsTree (told.nodes (Some snapshot)) old text new
@@ -79,6 +85,10 @@ Tells told old command.Lists text new = Reports (lists_lines told.lists) old tex
 Tells told old (command.Log ino) text new = ShowsLog (nat_lt ino told.slots) told ino old text new
 Tells told old command.Audit text new = Reports (line_of (codes "audit ok")) old text new
 Tells told old _ text new = ⊥
+
+-- the machine stops and goes on as this; or memory is refused, and nothing changes
+abbrev pub Restarts : {W : Type 0} → (stopped old : W) → List ℕ → W → Type 0
+Restarts stopped old text new = ((text ≡ line_of (codes "stopped")) × (new ≡ stopped)) ⊎ ((text ≡ refused_line out_of_memory) × (new ≡ old))
 
 -- a command lists a tree
 abbrev pub is_list : Command → Bool
@@ -92,7 +102,10 @@ nodes_listed told command.Tree = told.nodes None
 nodes_listed told (command.SnapTree snapshot) = told.nodes (Some snapshot)
 nodes_listed told _ = None
 
--- the lines of the first of these nodes
+-- the lines of the first of these nodes.
+-- Where the command lists a tree, the lines of a front of its nodes may be written too. Example: of `/`, `/d` and
+-- `/d/x` the lines of `/` and `/d`. At a failed write, that text is written and a front of the text of the line
+-- that broke off.
 abbrev pub ListsFront : Option (List TreeNode) → List ℕ → Type 0
 ListsFront nodes sent = (front rest : List TreeNode) × (nodes ≡ Some (front ++ rest)) × (sent ≡ flat_map node_line front)
 
@@ -115,6 +128,7 @@ abbrev pub WordsFail : Bool → List (List ℕ) → ScriptFaultKind → Type 0
 WordsFail false words fault = format_of words ≡ Err fault
 WordsFail true words fault = command_of words ≡ Err fault
 
+-- a line that is not skipped has this fault
 abbrev pub LineFails : Bool → List ℕ → ScriptFaultKind → Type 0
 LineFails made line fault = (is_skipped line ≡ false) × WordsFail made (words_of line) fault
 
@@ -128,7 +142,10 @@ IsFaultBy Fails number bytes fault = MatchBool (nat_lt most_lines number)
     ((fault ≡ kind.Lines) × (bytes ≢ []))
     (((fault ≡ kind.Long) × IsLong bytes) ⊎ (((fault ≡ kind.Unended) × IsUnended bytes) ⊎ IsFaulty Fails bytes fault))
 
--- the same of a line of a script without `fork`, whose words may have a fault
+-- the same of a line of a script without `fork`, whose words may have a fault.
+-- Fault of a line: `lines` for any byte past line 1,048,576; `long` for more than 4,096 bytes before the next line
+-- end; `unended` for a last piece without its line end; else the fault of its words. Example: a script that ends
+-- with `tree` and no LF has the fault `unended` there.
 abbrev pub IsFault : ℕ → Bool → List ℕ → ScriptFaultKind → Type 0
 IsFault number made bytes fault = IsFaultBy (LineFails made) number bytes fault
 
@@ -147,7 +164,9 @@ PlaysWords player (Some old) words text new =
     (command : Command) × (world : player.World) × (command_of words ≡ Ok command) × player.Acts old command text world
     × (new ≡ Some world)
 
--- one line without a fault, and its answers; one that is skipped has none and changes nothing
+-- one line without a fault, and its answers; one that is skipped has none and changes nothing.
+-- What a line is answered and leaves: nothing where it is skipped. Else it is what its command does to the player's
+-- world. Where no world is made, a `format` makes the empty one.
 abbrev pub Plays : (player : Player) → Option player.World → List ℕ → List ℕ → Option player.World → Type 0
 Plays player old line text new =
     MatchBool (is_skipped line) ((text ≡ []) × (new ≡ old)) (PlaysWords player old (words_of line) text new)
@@ -186,7 +205,8 @@ abbrev pub StopsAt : (player : Player) → (head : List ℕ) → Option player.W
 StopsAt player head world line sent = (is_skipped line ≡ false)
     × ((sent ≡ []) ⊎ ((front : List ℕ) × ListsWords player world (words_of line) front × (sent ≡ head ++ front)))
 
--- memory is refused before the first line, or at the next one
+-- memory is refused before the first line, or at the next one.
+-- For want of memory it is so before the first line and at a command.
 abbrev pub Stops : (player : Player) → List (List ℕ) → List ℕ → Option player.World → List ℕ → Type 0
 Stops player lines bytes world sent = ((lines ≡ []) × (sent ≡ []))
     ⊎ ((line rest : List ℕ) × IsLine line × (bytes ≡ (line ++ 10 ∷ []) ++ rest)
@@ -225,7 +245,10 @@ abbrev pub Ends : (player : Player) → Result (Unit {0}) Fault → (input left 
 Ends player (Ok done) input left Writes = EndsWell player input left Writes
 Ends player (Err why) input left Writes = EndsBy player why input left Writes
 
--- how many reads fail in a script that ends so: one where it ends by a failed read, and else none
+-- how many reads fail in a script that ends so: one where it ends by a failed read, and else none.
+-- Failed reads and writes of an ending: one read at E28, one write at E29, and else none. A reader or a writer
+-- counts them (`CountedRead`, `CountedWrite`). Example: the second read fails behind a `format`. The ending is E28
+-- with one failed read and no failed write, and `formatted` is written.
 abbrev pub failed_reads : {A : Type 0} → Result A Fault → ℕ
 failed_reads (Err fault.Read) = 1
 failed_reads _ = 0
@@ -254,6 +277,7 @@ reports_of w = record {
   nodes = nodes_at w;
 }
 
+-- Reports are those of one scan. Example: `do 0 stat 0.1` is all steps of that call.
 abbrev pub reports_by_scan : World → WorldReports
 reports_by_scan w = record {
   space = space_by_scan w;
@@ -271,9 +295,11 @@ ActsBy told old (command.Start actor call) text new =
 ActsBy told old (command.Go actor more) text new = Answers (GoesOn (more + 1) old actor) text new
 ActsBy told old (command.Run actor) text new = Answers (Runs old actor) text new
 ActsBy told old (command.Do actor call) text new = Answers (Calls old actor call) text new
+ActsBy told old command.Stop text new = Restarts (restarted old) old text new
 ActsBy told old report text new = Tells told old report text new
 
--- reports are those of a scan
+-- reports are those of a scan.
+-- What moves a call goes there by the steps of `nv_machine`, and writes the last reply.
 abbrev pub Acts : World → Command → List ℕ → World → Type 0
 Acts old command text new = ActsBy (reports_by_scan old) old command text new
 
@@ -291,9 +317,14 @@ machine_player_with head = record {
 abbrev pub no_head : ℕ → List ℕ → List ℕ
 no_head number line = []
 
+-- `play` keeps to `machine_player`, whose worlds are the machine's.
 abbrev pub machine_player : Player
 machine_player = machine_player_with no_head
 
--- HOW THE MACHINE ENDS A SCRIPT, where the writer has this at first and is left with that
+-- HOW THE MACHINE ENDS A SCRIPT, where the writer has this at first and is left with that.
+-- How a script ends: with all lines played and their text written, or by a fault. Example: a format and then `jump`
+-- write `formatted`, and the fault is `word` at line 2. A fault of the next line has its number. What was written
+-- is the text of the lines before. So it is at a failed read. No more of the reader is gone than a piece of the
+-- next line.
 abbrev pub PlaysScript : Result (Unit {0}) Fault → (input left old new : Option (List ℕ)) → Type 0
 PlaysScript result input left old new = Ends machine_player result input left (λ text. Appends old new text)

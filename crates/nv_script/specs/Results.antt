@@ -103,6 +103,7 @@ ListBehind head (Err (line_fault.OutOfMemory _)) old new rest nodes =
 ListBehind head (Err line_fault.Write) old new rest nodes = (text : List ℕ) × ListsText nodes text × Fails old new (head ++ text)
 ListBehind head (Err (line_fault.Faulty fault)) old new rest nodes = ⊥
 
+-- a list of nodes is written, or a front of it
 abbrev pub ListIs : Result (Unit {0}) LineFault → Sent → Sent → List ℕ → Option (List TreeNode) → Type 0
 ListIs result old new rest nodes = ListBehind [] result old new rest nodes
 
@@ -206,6 +207,7 @@ pub record AtLineBy (head : ℕ → List ℕ → List ℕ) (input known old new 
   pub plays : PlaysAll (machine_player_with head) None lines text world
   pub written : WritesFront old new text gathered
 
+-- a player is at a line, with nothing written before its answers
 abbrev pub AtLine : (input known old new : Option (List ℕ)) → List ℕ → ℕ → Option machine.World → Type 0
 AtLine input known old new gathered number world = AtLineBy no_head input known old new gathered number world
 

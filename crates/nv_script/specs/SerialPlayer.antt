@@ -1,7 +1,7 @@
 -- The plain world with numbers as a player: what it reports, and what a call is answered.
 use Rattle.std.specs.Prelude.{ℕ, List, length, map, Option, Some, None}
 use Rattle.std.specs.List.{range_with_len}
-use Rattle.nv_alloc.specs.Runs.{runs_of}
+use Rattle.nv_alloc.specs.Runs.{free_runs_of}
 use Rattle.nv_entry.specs.declared.tree.TreeNode.{TreeNode}
 use Rattle.nv_core.specs.declared.reports.LogCounts.{LogCounts}
 use Rattle.nv_core.specs.declared.reports.Space.{Space}
@@ -12,6 +12,7 @@ use Rattle.nv_serial.specs.Law.{IsOutcome}
 use Rattle.nv_serial.specs.OneCall.{serial_call}
 use Rattle.nv_serial.specs.Reports.{chain_count, data_count, entry_count, free_count, gain_by, held_by, log_told, pending_count, snapshot_tree_told, tree_told}
 use Rattle.nv_serial.specs.Serial.{Serial, living, new_serial}
+use Rattle.nv_serial.specs.Stopped.{serial_stopped}
 use Rattle.nv_script.specs.Play.{Player, WorldReports}
 use Rattle.nv_script.specs.Serially.{player_of_calls}
 
@@ -25,6 +26,7 @@ serial_space s = record {
   hand = 0;
 }
 
+-- what `log` tells, by the world with numbers
 abbrev pub serial_log : Serial → ℕ → LogCounts
 serial_log s ino = record { entries = entry_count s ino; pages = log_told s ino }
 
@@ -32,23 +34,28 @@ serial_log s ino = record { entries = entry_count s ino; pages = log_told s ino 
 abbrev pub serial_snap : Serial → ℕ → SnapCounts
 serial_snap s snapshot = record { snapshot = snapshot; held = held_by s snapshot; gain = gain_by s snapshot; pins = 0 }
 
+-- what `snaps` tells, by the world with numbers
 abbrev pub serial_snaps : Serial → Snaps
 serial_snaps s = record { epoch = s.plain.epoch; commit = s.plain.commit; living = map (serial_snap s) (living s) }
 
+-- the nodes that a tree command lists, by the world with numbers
 abbrev pub serial_nodes : Serial → Option ℕ → Option (List TreeNode)
 serial_nodes s None = Some (tree_told s)
 serial_nodes s (Some snapshot) = snapshot_tree_told s snapshot
 
+-- A `do` is one call of them, and its reports are counts of theirs. Fifteen worked scripts are computed so in
+-- SerialRows, with every byte of their output.
 abbrev pub serial_reports : Serial → WorldReports
 serial_reports s = record {
   space = serial_space s;
-  lists = map (λ cpu. runs_of (free_on s cpu)) (range_with_len 0 s.numbers.cpus);
+  lists = map (λ cpu. free_runs_of (free_on s cpu)) (range_with_len 0 s.numbers.cpus);
   slots = length s.slots;
   log = serial_log s;
   snaps = serial_snaps s;
   nodes = serial_nodes s;
 }
 
--- THE SERIAL PLAYER
+-- THE SERIAL PLAYER.
+-- The serial player has worlds with numbers.
 abbrev pub serial_player : Player
-serial_player = player_of_calls new_serial serial_reports (λ old actor c. IsOutcome c old (serial_call old actor c))
+serial_player = player_of_calls new_serial serial_reports serial_stopped (λ old actor c. IsOutcome c old (serial_call old actor c))

@@ -9,7 +9,7 @@ use Rattle.nv_script.specs.declared.command.Command.{Command}
 use Rattle.nv_script.specs.declared.command.Command.TheVariants as command
 use Rattle.nv_script.specs.Grammar.{command_of}
 use Rattle.nv_script.specs.Lines.{IsLine, ended}
-use Rattle.nv_script.specs.Play.{Answers, Ends, Player, Tells, WorldReports, no_head, nodes_listed}
+use Rattle.nv_script.specs.Play.{Answers, Ends, Player, Restarts, Tells, WorldReports, no_head, nodes_listed}
 use Rattle.nv_script.specs.Words.{words_of}
 
 -- a `start`, a `go` or a `run`
@@ -24,16 +24,21 @@ abbrev pub HasNoSteps : List ℕ → Type 0
 HasNoSteps bytes = (before : List (List ℕ)) (line rest : List ℕ) (c : Command) → bytes ≡ ended before ++ ((line ++ 10 ∷ []) ++ rest)
     → IsLine line → command_of (words_of line) ≡ Ok c → makes_steps c ≡ false
 
--- A PLAYER OF WHOLE CALLS: worlds of a kind with an empty one and reports, and how a call is answered that is made alone
-module _ {W : Type 0} (empty : GeometryNumbers → W) (reports : W → WorldReports) (Calls : W → ℕ → Call → Reply → W → Type 0) where
+-- A PLAYER OF WHOLE CALLS: worlds of a kind with an empty one and reports, what a stop leaves of one, and how a call is
+-- answered that is made alone
+module _ {W : Type 0} (empty : GeometryNumbers → W) (reports : W → WorldReports) (stopped : W → W)
+    (Calls : W → ℕ → Call → Reply → W → Type 0) where
   abbrev pub ActsAlone : W → Command → List ℕ → W → Type 0
   ActsAlone old (command.Do actor call) text new = Answers (Calls old actor call) text new
+  ActsAlone old command.Stop text new = Restarts (stopped old) old text new
   ActsAlone old report text new = Tells (reports old) old report text new
 
   abbrev pub player_of_calls : Player
   player_of_calls = record { World = W; empty = empty; Acts = ActsAlone; listed = λ w. nodes_listed (reports w); head = no_head }
 
--- HOW A SCRIPT ENDS, where the reader's bytes are known and no line of them makes single steps: as this player plays it
+-- HOW A SCRIPT ENDS, where the reader's bytes are known and no line of them makes single steps: as this player plays it.
+-- Played alone: where the reader's bytes are known and have no steps, a script ends as a player of whole calls
+-- plays it.
 abbrev pub PlaysAlone : Player → Result (Unit {0}) Fault → (input left old new : Option (List ℕ)) → Type 0
 PlaysAlone player result input left old new =
     (bytes : List ℕ) → input ≡ Some bytes → HasNoSteps bytes → Ends player result input left (λ text. Appends old new text)

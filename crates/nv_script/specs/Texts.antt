@@ -17,12 +17,14 @@ use Rattle.nv_core.specs.declared.reports.Space.{Space}
 use Rattle.nv_core.specs.declared.snaps.SnapCounts.{SnapCounts}
 use Rattle.nv_core.specs.declared.snaps.Snaps.{Snaps}
 use Rattle.nv_entry.specs.declared.tree.TreeNode.{TreeNode}
+use Rattle.nv_restart.specs.Happenings.{Replied, Stopped, Told}
 use Rattle.nv_script.specs.Words.{escaped}
 
 -- a text and its line end
 abbrev pub line_of : List ℕ → List ℕ
 line_of text = text ++ codes "\n"
 
+-- the line of a refusal
 abbrev pub refused_line : Fault → List ℕ
 refused_line fault = line_of (codes "refused " ++ fault_text fault)
 
@@ -31,6 +33,7 @@ abbrev pub counted_bytes : List ℕ → List ℕ
 counted_bytes [] = codes "0"
 counted_bytes (byte ∷ bytes) = decimal (length (byte ∷ bytes)) ++ codes " " ++ escaped (byte ∷ bytes)
 
+-- the text of a handle
 abbrev pub handle_text : Handle → List ℕ
 handle_text handle = decimal handle.ino ++ codes "." ++ decimal handle.generation
 
@@ -57,9 +60,11 @@ abbrev pub kind_text : Kind → ℕ → List ℕ → List ℕ
 kind_text File mode bytes = codes "f " ++ decimal mode ++ codes " " ++ counted_bytes bytes
 kind_text Dir mode bytes = codes "d " ++ decimal mode
 
+-- the line of a node in a tree
 abbrev pub node_line : TreeNode → List ℕ
 node_line node = line_of (path_text node.path ++ codes " " ++ kind_text node.node.kind node.node.mode node.node.bytes)
 
+-- the lines of a tree
 abbrev pub tree_lines : List TreeNode → List ℕ
 tree_lines nodes = flat_map node_line nodes ++ line_of (codes "end")
 
@@ -68,10 +73,13 @@ abbrev pub cleaning_name : Bool → List ℕ
 cleaning_name true = codes "thorough"
 cleaning_name false = codes "fast"
 
+-- the text of what a cleaner is answered
 abbrev pub cleaned_text : Bool → (entries pages : ℕ) → List ℕ
 cleaned_text thorough entries pages = (codes " " ++ cleaning_name thorough ++ codes " ") ++ decimal entries ++ codes " " ++ decimal pages
 
--- what an answer shows behind the word `done`
+-- what an answer shows behind the word `done`.
+-- Texts: of each answer, reply and tree. Example: an answer of three bytes 0, `a`, space is `done 3 %00a%20`. Of
+-- none it is `done 0`.
 abbrev pub answer_text : Answer → List ℕ
 answer_text (answer.Made handle) = codes " " ++ handle_text handle
 answer_text (answer.Count count) = codes " " ++ decimal count
@@ -84,12 +92,18 @@ answer_text (answer.Snapshot s) = codes " " ++ decimal s
 answer_text (answer.Tree nodes) = codes "\n" ++ flat_map node_line nodes ++ codes "end"
 answer_text (answer.Cleaned thorough entries pages) = cleaned_text thorough entries pages
 
+-- the line of a reply
 abbrev pub reply_line : Reply → List ℕ
 reply_line Started = line_of (codes "started")
 reply_line Moved = line_of (codes "moved")
 reply_line Waiting = line_of (codes "waits")
 reply_line (Done answer) = line_of (codes "done" ++ answer_text answer)
 reply_line (Refused fault) = refused_line fault
+
+-- the same of a happening
+abbrev pub told_line : Told → List ℕ
+told_line (Replied reply) = reply_line reply
+told_line Stopped = line_of (codes "stopped")
 
 -- the snapshots: how many live, epoch and last commit; and of each the blocks that it holds, those that a
 -- drop defers, and pins
@@ -98,6 +112,7 @@ snap_line snap =
     line_of (codes "snap " ++ decimal snap.snapshot ++ codes " held " ++ decimal snap.held ++ codes " gain " ++ decimal snap.gain
     ++ codes " pins " ++ decimal snap.pins)
 
+-- the lines of `snaps`
 abbrev pub snaps_lines : Snaps → List ℕ
 snaps_lines snaps =
     line_of (codes "snaps " ++ decimal (length snaps.living) ++ codes " epoch " ++ decimal snaps.epoch ++ codes " commit "
@@ -114,6 +129,7 @@ space_line space =
 abbrev pub run_text : FreeRun → List ℕ
 run_text run = codes " " ++ (if run.first == run.last then decimal run.first else decimal run.first ++ codes "-" ++ decimal run.last)
 
+-- the text of a CPU's free runs
 abbrev pub runs_text : List FreeRun → List ℕ
 runs_text [] = codes " -"
 runs_text (run ∷ runs) = flat_map run_text (run ∷ runs)
@@ -123,9 +139,11 @@ abbrev pub lists_from : ℕ → List (List FreeRun) → List ℕ
 lists_from cpu [] = []
 lists_from cpu (runs ∷ lists) = line_of (codes "cpu " ++ decimal cpu ++ runs_text runs) ++ lists_from (cpu + 1) lists
 
+-- the lines of `lists`
 abbrev pub lists_lines : List (List FreeRun) → List ℕ
 lists_lines lists = lists_from 0 lists
 
+-- the text of a log page's counts
 abbrev pub counts_text : LogPageCounts → List ℕ
 counts_text counts = codes " " ++ decimal counts.live ++ codes ":" ++ decimal counts.valid
 

@@ -4,6 +4,7 @@ use Rattle.std.specs.List.{list_all, slice_split, flat_map}
 use Rattle.std.specs.Fmt.{digit_glyph}
 use Rattle.nv_base.specs.declared.numbers.Handle.{Handle}
 
+-- the byte is a decimal digit
 abbrev pub is_digit : ℕ → Bool
 is_digit byte = nat_le 48 byte && nat_le byte 57
 
@@ -16,6 +17,7 @@ value_from front (digit ∷ digits) = value_from (10 * front + (digit - 48)) dig
 abbrev pub is_number : List ℕ → Bool
 is_number word = nat_lt 0 (length word) && nat_le (length word) 20 && list_all is_digit word && nat_lt (value_from 0 word) (2 ^ 64)
 
+-- A number is 1 to 20 decimal digits below 2^64.
 abbrev pub number_of : List ℕ → Option ℕ
 number_of word = if is_number word then Some (value_from 0 word) else None
 
@@ -28,7 +30,8 @@ abbrev pub positive_up_to : ℕ → List ℕ → Option ℕ
 positive_up_to most word =
     if is_number word && nat_le 1 (value_from 0 word) && nat_le (value_from 0 word) most then Some (value_from 0 word) else None
 
--- the words between single spaces
+-- the words between single spaces.
+-- Words: the parts of a line between single spaces.
 abbrev pub words_of : List ℕ → List (List ℕ)
 words_of line = slice_split (λ byte. byte == 32) line
 
@@ -36,6 +39,7 @@ words_of line = slice_split (λ byte. byte == 32) line
 abbrev pub parts_of : List ℕ → List (List ℕ)
 parts_of word = slice_split (λ byte. byte == 46) word
 
+-- a handle of two numbers that were read
 abbrev pub handle_from : Option ℕ → Option ℕ → Option Handle
 handle_from (Some ino) (Some generation) = Some (record { ino = ino; generation = generation })
 handle_from (Some ino) None = None
@@ -48,6 +52,7 @@ handle_of_parts (ino ∷ []) = None
 handle_of_parts (ino ∷ generation ∷ []) = handle_from (number_of ino) (number_of generation)
 handle_of_parts (ino ∷ generation ∷ more ∷ parts) = None
 
+-- A handle is number, point, number.
 abbrev pub handle_of : List ℕ → Option Handle
 handle_of word = handle_of_parts (parts_of word)
 
@@ -69,9 +74,11 @@ before (Some byte) (Some bytes) = Some (byte ∷ bytes)
 before (Some byte) None = None
 before None bytes = None
 
+-- a byte that stands for itself
 abbrev pub plain_byte : ℕ → Option ℕ
 plain_byte byte = if is_plain byte then Some byte else None
 
+-- the byte of two hexadecimal digits
 abbrev pub hex_pair : Option ℕ → Option ℕ → Option ℕ
 hex_pair (Some high) (Some low) = Some (16 * high + low)
 hex_pair (Some high) None = None
@@ -91,7 +98,9 @@ unescaped (a ∷ b ∷ c ∷ rest) =
 abbrev pub unescaped_behind : List ℕ → List ℕ → Option (List ℕ)
 unescaped_behind front text = option_map (λ bytes. front ++ bytes) (unescaped text)
 
--- text has one byte or more
+-- text has one byte or more.
+-- Text is spelled by one or more bytes: `%` and two hexadecimal digits of either case stand for one byte, and each
+-- other byte from `!` to `~` for itself. Example: `a%2Fb` stands for the three bytes `a/b`; `%4` is no text.
 abbrev pub text_of : List ℕ → Option (List ℕ)
 text_of [] = None
 text_of (byte ∷ bytes) = unescaped (byte ∷ bytes)
@@ -100,5 +109,6 @@ text_of (byte ∷ bytes) = unescaped (byte ∷ bytes)
 abbrev pub escaped_byte : ℕ → List ℕ
 escaped_byte byte = if is_plain byte then byte ∷ [] else 37 ∷ digit_glyph false (byte / 16) ∷ digit_glyph false (byte % 16) ∷ []
 
+-- a text as answers show it
 abbrev pub escaped : List ℕ → List ℕ
 escaped bytes = flat_map escaped_byte bytes

@@ -40,6 +40,7 @@ pub(crate) fn play_line<W: CountedWrite>(
     ensures line { LineIs head.now result (record { written = W.contents writer.old; gathered = outbox.old })
         (record { written = W.contents writer.new; gathered = outbox.new })
         world.old line.now out.new.items world.new }
+    // It hands on what stands for an audit, so that no line `audit` is told around it.
     ensures asked { IfOk result (λ asked.
         AsksAudit world.old line.now → TellsAudit asked out.new.items) }
     ensures failed { W.failed writer.new ≡ W.failed writer.old + failed_in_line result }
@@ -113,6 +114,7 @@ fn act(world: &mut World, command: Command, out: &mut Vec<u8>) -> Result<Option<
     requires empty { out.old.items ≡ [] }
     ensures acts { OnOk result
         (Leads (λ m n. ActsBy (reports_of m) m command out.new.items n) world.old world.new) }
+    // A line `audit` says that nothing differs only with what stands for an audit.
     ensures asked { IfOk result (λ asked. command ≡ Audit → TellsAudit asked out.new.items) }
 {
     if let Command::Audit = command {
@@ -152,6 +154,7 @@ fn tell(world: &mut World, command: Command, out: &mut Vec<u8>) -> Result<(), Al
         Command::Go(actor, more) => push_reply(out, &world.go_on(actor, more)),
         Command::Run(actor) => push_told(out, &world.finish(actor)),
         Command::Do(actor, call) => push_told(out, &world.call(actor, call)),
+        Command::Stop => push_reply(out, &world.restart()),
         Command::Tree | Command::SnapTree(_) | Command::Audit => unreachable!(),
         Command::Snaps => match world.snaps() {
             Ok(snaps) => push_snaps(out, &snaps),

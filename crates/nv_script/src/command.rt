@@ -29,6 +29,8 @@ pub enum Command {
     Run(u64),
     /// An actor makes a call.
     Do(u64, Call),
+    /// The machine stops, and goes on from what stands.
+    Stop,
     /// The tree now.
     Tree,
     /// The tree of a snapshot.
@@ -52,6 +54,7 @@ pub(crate) enum CommandWord {
     Go,
     Run,
     Do(CallWord),
+    Stop,
     Tree,
     SnapTree,
     Snaps,
@@ -156,6 +159,9 @@ impl CommandWord {
         if name == b"run".as_slice() {
             return Some(CommandWord::Run);
         }
+        if name == b"stop".as_slice() {
+            return Some(CommandWord::Stop);
+        }
         if name == b"tree".as_slice() {
             return Some(CommandWord::Tree);
         }
@@ -188,7 +194,8 @@ impl CommandWord {
             CommandWord::Start(_) | CommandWord::Do(_) => &[Field::Number],
             CommandWord::Run | CommandWord::SnapTree | CommandWord::Log => &[Field::Number],
             CommandWord::Go => &[Field::Number, Field::Number],
-            CommandWord::Tree
+            CommandWord::Stop
+            | CommandWord::Tree
             | CommandWord::Snaps
             | CommandWord::Space
             | CommandWord::Lists
@@ -239,6 +246,7 @@ impl CommandWord {
             )),
             CommandWord::Go => Ok(Command::Go(number_at(words, 1)?, goes_in(words)? - 1)),
             CommandWord::Run => Ok(Command::Run(number_at(words, 1)?)),
+            CommandWord::Stop => Ok(Command::Stop),
             CommandWord::Tree => Ok(Command::Tree),
             CommandWord::SnapTree => Ok(Command::SnapTree(number_at(words, 1)?)),
             CommandWord::Snaps => Ok(Command::Snaps),

@@ -14,6 +14,8 @@ pub struct WriteFailed;
 
 /// A reader that counts its failures. Contracts see the bytes that are left in it, where they are known, how many
 /// reads failed, and where it reads from, which no call changes: of a borrowed reader the name of the borrow.
+/// A failed call counts as one failure, and any other as none.
+/// Bytes are read and written as by std's `Read` and `Write`, and failures are told.
 pub trait CountedRead {
     ghost use Rattle.std.specs.Prelude.{◌≡◌, ℕ, ◌+◌, ◌-◌, ◌<◌, ◌^◌, List, OnErr, OnOk, Option};
     ghost use Rattle.std.specs.Io.{ReadsAtMost};
@@ -45,6 +47,7 @@ pub trait CountedRead {
 
 /// A writer that counts its failures. Contracts see the bytes that it holds, where they are known, how many writes
 /// failed, and where it writes to, which no call changes: of a borrowed writer the name of the borrow.
+/// A write that takes no byte of some is a failure.
 pub trait CountedWrite {
     ghost use Rattle.std.specs.Prelude.{◌≡◌, ℕ, ◌+◌, ◌-◌, ◌<◌, ◌^◌, List, IfOk, OnErr, OnOk, Option, length};
     ghost use Rattle.std.specs.Io.{WritesAtMost};
@@ -72,6 +75,7 @@ pub trait CountedWrite {
 }
 
 /// Counts the failed reads of a reader.
+/// Only tested: a failure is a failed call of the reader or writer itself, made once; an end is none.
 #[derive(Drop)]
 pub struct ReadCounter<'a, R> {
     reader: &'a mut R,
@@ -81,6 +85,7 @@ pub struct ReadCounter<'a, R> {
 impl<'a, R: Read> ReadCounter<'a, R> {
     /// No read has failed.
     pub fn new(reader: &'a mut R) -> ReadCounter<'a, R>
+        // No call has failed, and reader and writer are as they were.
         ensures same { result.reader.ghost_name ≡ reader.entry.ghost_name }
         ensures reader { result.reader.now ≡ reader.old }
         ensures failures { result.failures ≡ 0 }

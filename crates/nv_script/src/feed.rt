@@ -50,6 +50,8 @@ impl Model for Feed {
 
     ghost view = { λ feed. drop feed.at (take feed.end feed.chunk.items) };
 
+    // The bytes read ahead lie within the chunk, which has at least one byte; the last line end that is noted is
+    // one.
     ghost invariant = { λ feed. (feed.at ≤ feed.end) × (feed.end ≤ length feed.chunk.items)
         × (0 < length feed.chunk.items)
         × EndsLine (take feed.end feed.chunk.items) feed.lines_end };
@@ -60,6 +62,7 @@ impl Feed {
 
     /// A feed with no bytes read ahead.
     pub fn new(alloc: Global) -> Result<Feed, AllocError>
+        // A new feed has nothing read ahead.
         ensures { IfOk result (λ ahead. ahead ≡ []) }
     {
         let chunk = vec![in alloc; 0u8; CHUNK_BYTES]?;
@@ -73,6 +76,7 @@ impl Feed {
 
     /// Whether the end of the next line is read ahead: to take that line needs no read then.
     pub fn has_line(&self) -> bool
+        // Whether a line end is read ahead is told, never falsely.
         ensures { IsTrue result → Contains self.now LINE_END }
     {
         self.at < self.lines_end
@@ -89,14 +93,20 @@ impl Feed {
         requires room { MAX_LINE_BYTES ≤ vec_capacity line.old }
         requires failures { R.failed reader.old < 2 ^ 64 - 1 }
         ensures room { MAX_LINE_BYTES ≤ vec_capacity line.new }
+        // A line is taken with its end.
         ensures line { IsLine line.new.items }
+        // A line is told as the last where it has no end, and as none at the end.
+        // A line is told as too long after 4,097 bytes.
+        // A failed read leaves what was taken of it.
         ensures taken { let old = prepend_known self.old (R.remaining reader.old) in
             let new = prepend_known self.new (R.remaining reader.new) in
             MatchResult result
             (λ taken. LineResultIs taken old new line.new.items)
             (λ _. Consumes old new line.new.items) }
         ensures ahead { IsErr result → self.new ≡ [] }
+        // No read fails where the end of the line is read ahead.
         ensures there { Contains self.old LINE_END → IsOk result }
+        // It fails exactly where one more read failed.
         ensures ok { OnOk result (R.failed reader.new ≡ R.failed reader.old) }
         ensures err { OnErr result (R.failed reader.new ≡ R.failed reader.old + 1) }
         ensures same { R.place reader.new ≡ R.place reader.old }

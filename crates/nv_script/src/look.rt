@@ -9,6 +9,8 @@ use std::alloc::Global;
 
 /// Looks for the fault of a line, where a world is made or where none is: the one that a player of the line answers.
 pub fn look_at(alloc: Global, is_made: bool, line: &[u8]) -> Result<(), LineFault>
+    // The fault that is found is the one by which a player of the line ends.
+    // A line is found sound only where it has no fault.
     ensures { LooksAt result is_made line.now }
 {
     if is_skipped(line) {

@@ -27,7 +27,11 @@ pub enum Outcome {
 }
 
 /// The exit status: 0 if all was done, 1 after a fault or want of memory, 2 for a command line that is refused.
+/// Only tested: `run` is answered by the outcome that it names, apart from command lines.
 pub fn exit_code(outcome: Outcome) -> ExitCode
+    // The exit status of an outcome is 0 where a script was played or help or the version shown.
+    // The exit status is 1 after a fault.
+    // The exit status is 2 for a refused command line.
     ensures { exit_status result ≡ status_of outcome }
 {
     match outcome {
@@ -40,7 +44,9 @@ pub fn exit_code(outcome: Outcome) -> ExitCode
 }
 
 /// The line that tells of a fault, for standard error.
+/// Only tested: what standard error takes of it.
 pub fn fault_line(alloc: Global, fault: &Fault) -> Result<String, AllocError>
+    // The line that tells of a fault is `novacore: ` and the fault's text.
     ensures { IfOk result (λ line. string_bytes line
         ≡ line_of (codes "novacore: " ++ fault_text fault.now)) }
 {

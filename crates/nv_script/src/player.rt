@@ -40,6 +40,7 @@ pub struct Player {
     text: Vec<u8>,
     pub outbox: Outbox,
     pub world: Option<World>,
+    // There is room for a line of 4,096 bytes.
     ghost room: { 4096 ≤ vec_capacity line },
 }
 
@@ -248,6 +249,9 @@ impl Player {
         writer: &mut W,
     ) -> Result<Option<ScriptFaultKind>, LineFault>
         requires { W.failed writer.old < 2 ^ 64 - 1 }
+        // A line with a fault is told with its kind: nothing is written, and the world stays.
+        // A line without a fault is played and answered as in any script.
+        // It ends by no fault of a line.
         ensures line { AnswersSound result
             (record { written = W.contents writer.old; gathered = self.old.outbox })
             (record { written = W.contents writer.new; gathered = self.new.outbox })
@@ -337,6 +341,7 @@ fn write_before_read<W: CountedWrite>(
     writer: &mut W,
 ) -> Result<(), WriteFailed>
     requires { W.failed writer.old < 2 ^ 64 - 1 }
+    // Without a line end read ahead, nothing stays gathered when the next line is asked for.
     ensures unheld { OnOk result (Contains feed.now 10 ⊎ (outbox.new ≡ [])) }
     ensures sent { MatchResult result
         (λ _. WritesFront (W.contents writer.old) (W.contents writer.new) outbox.old outbox.new)

@@ -33,9 +33,39 @@ use std::mem;
 ///
 /// The library's reader and writer do not tell which calls failed. [`play_counted`] is played over counters of both,
 /// and says of them what `Read` and `Write` stand for.
+/// Nothing except these answers is written, and nothing of the reader is left.
+/// What reports write is what one scan of all logs counts.
+/// A `go` is so many events `Go` of the actor, up to the first reply that it did not move.
+/// `run` goes on until it did not move, and `do` is a start and then the same.
+/// What is written of `go`, `run` and `do` is the last reply.
+/// A fault of a line is the first that applies.
+/// A number of too many digits is a fault.
+/// A fault of a line has the number of its line.
+/// A last line without its end is a fault.
+/// The text of the lines before a fault is written.
+/// A failed read leaves the text of the lines that were read whole.
+/// A failed read takes no more of the reader than a piece of the next line.
+/// A failed write leaves the text of some lines and a front of the next line's text.
+/// Nothing is written after a failed write.
+/// Want of memory comes before the first line or at a command.
+/// Want of memory leaves the text of the lines before.
+/// Want of memory leaves nothing of a command's text, or the lines of a tree's first nodes.
+/// Want of memory is printed for a tree only in the place of its whole text.
+/// Only tested: want of memory comes only where a growth was refused, each in turn.
+/// Only tested: want of memory comes only where a growth was refused, with records of snapshots too.
+/// Only tested: want of memory comes only where a growth was refused, with short-lived pairs too.
+/// Only tested: want of memory comes only where a growth was refused, with refused calls on snapshots too.
+/// Only tested: want of memory comes only where a growth was refused, with cleaners too.
+/// Only tested: a refused line leaves what is reported, and has its answer when it is given again.
+/// Only tested: a call that is refused on its way and made again by `do` is answered as if made once.
+/// Only tested: answers that are waited for together are one write.
 pub fn play<R: Read, W: Write>(alloc: Global, reader: &mut R, writer: &mut W) -> Result<(), Fault>
+    // Where all lines are played, what is written is the text of what the world answers.
+    // What the world answers is by `step`, `replies` and `after` of `nv_machine` and the reports of `nv_core`.
     ensures script { PlaysScript result (R.remaining reader.old) (R.remaining reader.new)
         (W.contents writer.old) (W.contents writer.new) }
+    // A script that makes no single steps is played as by a plain world with numbers.
+    // A line makes single steps where it is a `start`, a `go` or a `run`.
     ensures serial { PlaysAlone serial_player result (R.remaining reader.old)
         (R.remaining reader.new) (W.contents writer.old) (W.contents writer.new) }
 {
@@ -46,6 +76,12 @@ pub fn play<R: Read, W: Write>(alloc: Global, reader: &mut R, writer: &mut W) ->
 
 /// Plays a script as [`play`] does, and does not take its world apart: for a program that ends then, whose memory goes
 /// back as a whole. Taking a large world apart block by block can take a tenth of the time of its script.
+/// Each call has its name by one table.
+/// Each call has its words by that table.
+/// The first fault of a call is that from left to right.
+/// Texts of replies are the defined ones.
+/// Texts of trees and of snapshots are the defined ones.
+/// A cleaner tells its manner, entries and pages.
 pub fn play_and_leave<R: Read, W: Write>(
     alloc: Global,
     reader: &mut R,
@@ -66,12 +102,19 @@ pub fn play_and_leave<R: Read, W: Write>(
 /// One read fails where it ends by `Read`, one write where it ends by `Write`, and else none. So a call that failed is
 /// not made again, and none comes after it, since that could fail too. For the same reason no line is asked for behind
 /// the one that ends the script, nor while an answer is due.
+/// Only tested: where its k-th read or write fails, what was answered before is written, and once.
 pub fn play_counted<R: CountedRead, W: CountedWrite>(
     alloc: Global,
     reader: &mut R,
     writer: &mut W,
 ) -> Result<(), Fault>
+    // E28 comes exactly where one more read failed, with every other ending none.
+    // No read is made again that failed.
+    // No line is asked for behind the one whose fault ends the script.
+    // The reader is not asked while an answer is due.
     requires reads { R.failed reader.old < 2 ^ 64 - 1 }
+    // E29 comes exactly where one more write failed, with every other ending none.
+    // No write is made again that failed.
     requires writes { W.failed writer.old < 2 ^ 64 - 1 }
     ensures script { PlaysScript result (R.remaining reader.old) (R.remaining reader.new)
         (W.contents writer.old) (W.contents writer.new) }
@@ -79,6 +122,7 @@ pub fn play_counted<R: CountedRead, W: CountedWrite>(
         (R.remaining reader.new) (W.contents writer.old) (W.contents writer.new) }
     ensures reads { R.failed reader.new ≡ R.failed reader.old + failed_reads result }
     ensures writes { W.failed writer.new ≡ W.failed writer.old + failed_writes result }
+    // It goes on with the reader and the writer that it was given.
     ensures same_reader { R.place reader.new ≡ R.place reader.old }
     ensures same_writer { W.place writer.new ≡ W.place writer.old }
 {
@@ -114,6 +158,8 @@ pub fn play_counted_and_leave<R: CountedRead, W: CountedWrite>(
 ///
 /// Without these lines the output is that of [`play`]. They are the ones that begin with `> ` and have another space: a line of an
 /// answer that begins so, as the one of a file with the name `>`, has none. A line with a fault has no echo.
+/// The number and the text of a command come before its answers.
+/// A line that is skipped has no echo, and one with a fault has none.
 pub fn play_echoed_and_leave<R: Read, W: Write>(
     alloc: Global,
     reader: &mut R,
@@ -121,6 +167,7 @@ pub fn play_echoed_and_leave<R: Read, W: Write>(
 ) -> Result<(), Fault>
     ensures script { PlaysEchoed Echo.On result (R.remaining reader.old) (R.remaining reader.new)
         (W.contents writer.old) (W.contents writer.new) }
+    // Without the echoes its output is that of `play`, with every end other than a failed write.
     ensures plain { PlaysWithoutEchoes result (R.remaining reader.old) (R.remaining reader.new)
         (W.contents writer.old) (W.contents writer.new) }
 {

@@ -2,11 +2,11 @@
 
 ghost use Rattle.std.specs.Prelude.{◌≡◌, ◌++◌, IfOk, OnOk, codes, decimal, string_bytes};
 ghost use Rattle.nv_base.specs.Texts.{bracketed, fault_text, script_fault_name};
-ghost use Rattle.nv_script.specs.Texts.{answer_text, bound_text, cleaned_text, cleaning_name, counted_bytes, counts_text, handle_text, kind_text, letter, lists_lines, log_line, names_text, node_line, path_text, refused_line, reply_line, run_text, runs_text, snap_line, snaps_lines, space_line};
+ghost use Rattle.nv_script.specs.Texts.{answer_text, bound_text, cleaned_text, cleaning_name, counted_bytes, counts_text, handle_text, kind_text, letter, lists_lines, log_line, names_text, node_line, path_text, refused_line, reply_line, run_text, runs_text, snap_line, snaps_lines, space_line, told_line};
 ghost use Rattle.std.specs.List.{flat_map};
 ghost use Rattle.nv_machine.specs.World.{Done};
 ghost use Rattle.nv_core.specs.Whole.{last_reply};
-ghost use Rattle.nv_core.specs.Worlds.{reply_of};
+ghost use Rattle.nv_core.specs.Worlds.{told_by};
 
 use crate::word::{push_escaped, push_number};
 use nv_alloc::FreeRun;
@@ -18,6 +18,7 @@ use std::alloc::{AllocError, Global};
 
 /// The text of a fault: its number, its name and, in brackets, its fields.
 pub fn fault_text(alloc: Global, fault: &Fault) -> Result<String, AllocError>
+    // The text of each fault is its number, name and fields in brackets.
     ensures { IfOk result (λ text. string_bytes text ≡ fault_text fault.now) }
 {
     format!(in alloc; "{fault}")
@@ -208,13 +209,14 @@ fn push_done(out: &mut Vec<u8>, answer: &Answer) -> Result<(), AllocError>
 /// Adds the line of a reply.
 pub(crate) fn push_reply(out: &mut Vec<u8>, reply: &Reply) -> Result<(), AllocError>
     ensures { OnOk result
-        (out.new.items ≡ out.old.items ++ reply_line (reply_of reply.now)) }
+        (out.new.items ≡ out.old.items ++ told_line (told_by reply.now)) }
 {
     match reply {
         Reply::Started => out.extend_from_slice(b"started\n"),
         Reply::Moved => out.extend_from_slice(b"moved\n"),
         Reply::Waits => out.extend_from_slice(b"waits\n"),
         Reply::Done(answer) => push_done(out, answer),
+        Reply::Stopped => out.extend_from_slice(b"stopped\n"),
         Reply::Refused(fault) => push_refused(out, fault),
     }
 }

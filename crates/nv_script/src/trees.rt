@@ -17,6 +17,7 @@ use nv_core::{NodeCopy, Sink, SinkFault, World};
 
 /// Writes the line of each node, which it makes in a buffer that is lent to it. It keeps whether it took a node, how
 /// often it failed for want of memory, and why it failed last.
+/// A node whose line was sent counts as no failure.
 #[derive(Drop)]
 struct NodeLines<'a, W> {
     line: &'a mut Vec<u8>,

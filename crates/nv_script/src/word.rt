@@ -29,6 +29,7 @@ const PIECE: usize = 32;
 
 /// The number that 1 to 20 decimal digits spell, if it is below 2 to the power of 64.
 pub fn number(word: &[u8]) -> Option<u64>
+    // A word is read as a number exactly where it spells one.
     ensures { result ≡ number_of word.now }
 {
     if word.is_empty() || word.len() > MAX_DIGITS {
@@ -48,6 +49,7 @@ pub fn number(word: &[u8]) -> Option<u64>
 
 /// The number that a word spells, if it is at most `most`.
 pub fn number_up_to(most: u64, word: &[u8]) -> Option<u64>
+    // A word is read as a number within limits exactly where it spells one.
     ensures { result ≡ number_up_to most word.now }
 {
     number(word).filter(|value| *value <= most)
@@ -62,6 +64,7 @@ pub fn positive(most: u64, word: &[u8]) -> Option<u64>
 
 /// The mode that a word spells in decimal digits.
 pub fn mode(word: &[u8]) -> Option<Mode>
+    // A word is read as a mode, or as a handle, exactly where it spells one.
     ensures { result ≡ number_up_to MODE word.now }
 {
     let bits = number_up_to(u64::from(limits::MODE), word)?;
@@ -92,6 +95,7 @@ fn around_point(word: &[u8]) -> Option<(&[u8], &[u8])>
 
 /// The words of a line, between single spaces. Two spaces in a row have an empty word between them.
 pub fn words(alloc: Global, line: &[u8]) -> Result<Vec<&[u8]>, AllocError>
+    // A line is cut into its words.
     ensures { IfOk result (λ v. map (λ w. w.now) v.items ≡ words_of line.now) }
 {
     let mut found = Vec::with_capacity(alloc, MOST_WORDS)?;
@@ -198,6 +202,7 @@ fn push_plain<'a>(out: &mut Vec<u8>, bytes: &'a [u8]) -> Result<&'a [u8], AllocE
 
 /// The bytes that a word of escaped text stands for. It has one or more.
 pub fn text(alloc: Global, word: &[u8]) -> Result<Option<Bytes>, AllocError>
+    // A word is read as text exactly where it spells one.
     ensures { IfOk result (λ t. t ≡ text_of word.now) }
 {
     if word.is_empty() {
@@ -258,6 +263,7 @@ fn push_piece(out: &mut Vec<u8>, piece: &[u8]) -> Result<(), AllocError>
 /// Adds bytes as they are printed. Plain ones in front are copied together, and so are those behind each piece that
 /// begins with another.
 pub fn push_escaped(out: &mut Vec<u8>, bytes: &[u8]) -> Result<(), AllocError>
+    // Bytes are printed escaped, and numbers in decimal digits.
     ensures { OnOk result (out.new.items ≡ out.old.items ++ escaped bytes.now) }
 {
     let mut rest = push_plain(out, bytes)?;
@@ -281,11 +287,13 @@ pub fn push_number(out: &mut Vec<u8>, number: u64) -> Result<(), AllocError>
 
 /// A law: printed text reads back as the bytes that were printed.
 pub fn printed_text_reads_back()
+    // What is printed as escaped text stands for the bytes that were printed.
     ensures { (bytes : List ℕ) → All (λ byte. byte < 256) bytes
         → unescaped (escaped bytes) ≡ Some bytes }
 {}
 
 /// A law: printed text has each visible byte as itself, and each other one as `%` and two digits of `0-9` and `a-f`.
 pub fn escapes_have_two_lower_case_digits()
+    // A visible byte is printed as itself, any other as `%` and two digits of `0-9` and `a-f`.
     ensures { (bytes : List ℕ) → All (λ byte. byte < 256) bytes → ArePrinted bytes (escaped bytes) }
 {}

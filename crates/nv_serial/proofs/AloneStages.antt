@@ -12,7 +12,7 @@ use Rattle.nv_epoch.specs.SnapList.{ids}
 use Rattle.nv_machine.specs.Alone.{goes}
 use Rattle.nv_machine.specs.EndsDecided.{decided, is_maintenance}
 use Rattle.nv_machine.specs.Hands.{HandOf, is_going}
-use Rattle.nv_machine.specs.PlainRun.{Deed, Nothing, Plain, deed, deed_by, deed_of, done, plain_after, plain_step}
+use Rattle.nv_machine.specs.PlainRun.{PlainChange, Nothing, Plain, plain_change, plain_change_by, plain_change_of, done, plain_after, plain_step}
 use Rattle.nv_machine.specs.Reads.{written_slots}
 use Rattle.nv_machine.specs.Recorded.{after_deed, after_retire, records_after, records_in, retired_in}
 use Rattle.nv_machine.specs.Sequence as sequence
@@ -35,23 +35,23 @@ use Rattle.nv_machine.proofs.StepWays.{After, AfterBy, Going, Telling}
 
 -- ---- what stands beside a run: the list of records, and the plain world
 
-pub record Beside : Type 0 where
+pub record PlainState : Type 0 where
   pub records : List Record
   pub plain : Plain
 
-abbrev pub beside_after : World → List Event → Beside → Beside
+abbrev pub beside_after : World → List Event → PlainState → PlainState
 beside_after w events b = record { records = records_after w events b.records; plain = plain_after w events b.plain }
 
 -- what a deed and a retire step make of it
-abbrev pub beside_by : Deed → List ℕ → List Record → Option Running → Plain → Beside
+abbrev pub beside_by : PlainChange → List ℕ → List Record → Option Running → Plain → PlainState
 beside_by d living rs running p = record { records = after_deed d living rs; plain = done d running p }
 
 -- and a turn of a call
-abbrev pub beside_then : Next → Shared → HandState → Running → Turn → Beside → Beside
+abbrev pub beside_then : Next → Shared → HandState → Running → Turn → PlainState → PlainState
 beside_then k s h r t b =
-    beside_by (deed k (written_slots r) t) (ids s.book.snaps) (after_retire k s h r b.records) (Some r) b.plain
+    beside_by (plain_change k (written_slots r) t) (ids s.book.snaps) (after_retire k s h r b.records) (Some r) b.plain
 
-abbrev pub beside_step : World → Event → Beside → Beside
+abbrev pub beside_step : World → Event → PlainState → PlainState
 beside_step w e b = record { records = records_in w e b.records; plain = plain_step w e b.plain }
 
 records_more : (events : List Event) (w : World) (e : Event) (rs : List Record)
@@ -59,26 +59,26 @@ records_more : (events : List Event) (w : World) (e : Event) (rs : List Record)
 records_more [] w e rs = refl
 records_more (x ∷ events) w e rs = records_more events (step w x).world e (records_in w x rs)
 
-pub beside_more : (events : List Event) (w : World) (e : Event) (b : Beside)
+pub beside_more : (events : List Event) (w : World) (e : Event) (b : PlainState)
     → beside_after w (events ++ e ∷ []) b ≡ beside_step (after w events) e (beside_after w events b)
 beside_more events w e b =
-    ap (λ (rs : List Record). let x : Beside = record { records = rs; plain = plain_after w (events ++ e ∷ []) b.plain } in x)
+    ap (λ (rs : List Record). let x : PlainState = record { records = rs; plain = plain_after w (events ++ e ∷ []) b.plain } in x)
     (records_more events w e b.records)
-    ∙ ap (λ (p : Plain). let x : Beside = record { records = records_in (after w events) e (records_after w events b.records); plain = p } in x)
+    ∙ ap (λ (p : Plain). let x : PlainState = record { records = records_in (after w events) e (records_after w events b.records); plain = p } in x)
     (plain_more events w e b.plain)
 
 module _ (w : World) (actor : ℕ) (granted : Bool) (r : Running) (there : actor < length w.actors) (is : (actor_at w actor).running ≡ Some r)
-    (b : Beside) where
-  deed_at : deed_of w (Go actor granted) ≡ deed r.next (written_slots r) (turn_at w actor granted r)
+    (b : PlainState) where
+  deed_at : plain_change_of w (Go actor granted) ≡ plain_change r.next (written_slots r) (turn_at w actor granted r)
   deed_at =
-      ap (λ (o : Option Running). if nat_lt actor (length w.actors) then deed_by o w actor granted else Nothing) is
-      ∙ ap (λ (x : Bool). if x then deed r.next (written_slots r) (turn_at w actor granted r) else Nothing)
+      ap (λ (o : Option Running). if nat_lt actor (length w.actors) then plain_change_by o w actor granted else Nothing) is
+      ∙ ap (λ (x : Bool). if x then plain_change r.next (written_slots r) (turn_at w actor granted r) else Nothing)
       (lt-ltb actor (length w.actors) there)
 
   pub beside_turned : beside_step w (Go actor granted) b ≡ beside_then r.next w.shared (actor_at w actor).hand r (turn_at w actor granted r) b
   beside_turned =
-      ap (λ (o : Option Running). beside_by (deed_of w (Go actor granted)) (ids w.shared.book.snaps) (retired_in w (Go actor granted) o b.records) o b.plain) is
-      ∙ ap (λ (d : Deed). beside_by d (ids w.shared.book.snaps)
+      ap (λ (o : Option Running). beside_by (plain_change_of w (Go actor granted)) (ids w.shared.book.snaps) (retired_in w (Go actor granted) o b.records) o b.plain) is
+      ∙ ap (λ (d : PlainChange). beside_by d (ids w.shared.book.snaps)
       (after_retire r.next w.shared (actor_at w actor).hand r b.records) (Some r) b.plain) deed_at
 
 -- ---- turns
@@ -97,20 +97,20 @@ both_by V W P Q E F (Ends x s h) one other = (one, other)
 
 -- ---- one event
 
-module _ (X : Beside → Known) (E : Beside → Telling) (actor : ℕ) where
-  abbrev pub StageOf : Beside → Option Running → Shared → HandState → Type 0
+module _ (X : PlainState → Known) (E : PlainState → Telling) (actor : ℕ) where
+  abbrev pub StageOf : PlainState → Option Running → Shared → HandState → Type 0
   StageOf b None s h = Unit {0}
   StageOf b (Some r) s h = X b r.next s h r
 
-  abbrev pub StageIn : Beside → World → Type 0
+  abbrev pub StageIn : PlainState → World → Type 0
   StageIn b w = StageOf b (actor_at w actor).running w.shared (actor_at w actor).hand
 
   -- what is to be shown of a turn
-  abbrev pub Turns : Beside → Shared → HandState → Running → Turn → Type 0
+  abbrev pub Turns : PlainState → Shared → HandState → Running → Turn → Type 0
   Turns b s h r t =
       let now = beside_then r.next s h r t b in AfterBy (X now r.next s h r) (KnowsNext (X now)) (E now) t
 
-  turned_stage : (b : Beside) (t : Turn) (w : World) (r : Running) → actor < length w.actors → (actor_at w actor).running ≡ Some r
+  turned_stage : (b : PlainState) (t : Turn) (w : World) (r : Running) → actor < length w.actors → (actor_at w actor).running ≡ Some r
       → AfterBy (X b r.next w.shared (actor_at w actor).hand r) (KnowsNext (X b)) (E b) t
       → StageIn b (turned t actor w).world
   turned_stage b (Moves s h q) w r there is on =
@@ -120,7 +120,7 @@ module _ (X : Beside → Known) (E : Beside → Telling) (actor : ℕ) where
   turned_stage b (Ends result s h) w r there is on =
       subst (λ (x : Actor). StageOf b x.running s x.hand) (sym (get_or-set_same w.actors actor (with_call h None) idle there)) tt
 
-  stage_goes : (w : World) (granted : Bool) (b : Beside) → StageIn b w
+  stage_goes : (w : World) (granted : Bool) (b : PlainState) → StageIn b w
       → ((r : Running) → (actor_at w actor).running ≡ Some r → X b r.next w.shared (actor_at w actor).hand r
       → Turns b w.shared (actor_at w actor).hand r (turn_at w actor granted r))
       → StageIn (beside_step w (Go actor granted) b) (step w (Go actor granted)).world
@@ -136,12 +136,12 @@ module _ (X : Beside → Known) (E : Beside → Telling) (actor : ℕ) where
         let there = runs_inside w actor r is in
         let t = turn_at w actor granted r in
         let now = beside_then r.next w.shared (actor_at w actor).hand r t b in
-        subst (λ (x : Beside). StageIn x (step w (Go actor granted)).world) (sym (beside_turned w actor granted r there is b))
+        subst (λ (x : PlainState). StageIn x (step w (Go actor granted)).world) (sym (beside_turned w actor granted r there is b))
         (subst (λ (made : Step). StageIn now made.world) (sym (goes_by_turn w actor granted r there is).is_turn)
         (turned_stage now t w r there is
         (turns r is (subst (λ (o : Option Running). StageOf b o w.shared (actor_at w actor).hand) is had))))
 
-  begins_stage : (b : Beside) (w : World) (c : Call) (there : Bool) (running : Option Running) → nat_lt actor (length w.actors) ≡ there
+  begins_stage : (b : PlainState) (w : World) (c : Call) (there : Bool) (running : Option Running) → nat_lt actor (length w.actors) ≡ there
       → (start_step there running actor c w).reply ≡ Started
       → X b (begun (beginning c) w.shared c).next w.shared (actor_at w actor).hand (begun (beginning c) w.shared c)
       → StageIn b (start_step there running actor c w).world
@@ -193,12 +193,12 @@ module _ (g : GeometryNumbers) (start : World) (records : List Record) (is_start
         stay = stay;
       }
 
-  module _ (X : Beside → Known) (E : Beside → Telling) (at_first : Beside)
-      (keeps : (events : List Event) (granted : Bool) (r : Running) (b : Beside) → IsOn events r
+  module _ (X : PlainState → Known) (E : PlainState → Telling) (at_first : PlainState)
+      (keeps : (events : List Event) (granted : Bool) (r : Running) (b : PlainState) → IsOn events r
       → X b r.next (after start events).shared (actor_at (after start events) actor).hand r
       → Turns X E actor b (after start events).shared (actor_at (after start events) actor).hand r
       (turn_at (after start events) actor granted r)) where
-    abbrev Now : List Event → Beside
+    abbrev Now : List Event → PlainState
     Now events = beside_after start events at_first
 
     record IsStaged (events : List Event) : Type 0 where
@@ -210,7 +210,7 @@ module _ (g : GeometryNumbers) (start : World) (records : List Record) (is_start
         → IsCallOf c (actor_at (step (after start events) (Go actor granted)).world actor).running
     call_more events granted call =
         let w = after start events in
-        go_deed (λ (d : Deed) (v : World). IsCallOf c (actor_at v actor).running) w call (nat_lt actor (length w.actors))
+        go_deed (λ (d : PlainChange) (v : World). IsCallOf c (actor_at v actor).running) w call (nat_lt actor (length w.actors))
         (actor_at w actor).running actor granted refl refl
         (λ r there is. moved r there is) where
           moved : (r : Running) → actor < length (after start events).actors
@@ -229,7 +229,7 @@ module _ (g : GeometryNumbers) (start : World) (records : List Record) (is_start
           call = subst (λ (v : World). IsCallOf c (actor_at v actor).running) next (call_more events granted was.call);
           stay = λ b ne. ap (λ (v : World). actor_at v b) (sym next) ∙ others_stay w b (Go actor granted) ne ∙ was.stay b ne;
           stage = subst (StageIn X E actor (Now (events ++ Go actor granted ∷ []))) next
-              (subst (λ (b : Beside). StageIn X E actor b (step w (Go actor granted)).world)
+              (subst (λ (b : PlainState). StageIn X E actor b (step w (Go actor granted)).world)
               (sym (beside_more events start (Go actor granted) at_first))
               (stage_goes X E actor w granted (Now events) was.stage
               (λ r is on. keeps events granted r (Now events) (is_on events was.call was.stay r is) on)));
@@ -266,7 +266,7 @@ module _ (g : GeometryNumbers) (start : World) (records : List Record) (is_start
               call = subst (IsCallOf c) (sym (starts g start records is_start actor c before started)) (begun_call (beginning c) s0 c);
               stay = λ b ne. ap (λ (v : World). actor_at v b) (sym next) ∙ others_stay w b (Start actor c) ne ∙ stay b ne;
               stage = subst (StageIn X E actor (Now (before ++ Start actor c ∷ []))) next
-                  (subst (λ (b : Beside). StageIn X E actor b (step w (Start actor c)).world)
+                  (subst (λ (b : PlainState). StageIn X E actor b (step w (Start actor c)).world)
                   (sym (beside_more before start (Start actor c) at_first))
                   (begins_stage X E actor (Now before) w c (nat_lt actor (length w.actors)) (actor_at w actor).running refl started
                   (subst (λ (h : HandState). X (Now before) (begun (beginning c) s0 c).next s0 h (begun (beginning c) s0 c)) (sym empty) first)));

@@ -7,7 +7,7 @@ use Rattle.nv_base.specs.declared.numbers.Handle.{Handle}
 use Rattle.nv_book.specs.declared.record.Record.{Record}
 use Rattle.nv_calls.specs.AllCalls.{blocks_wanted, plan, present_in, refusal}
 use Rattle.nv_calls.specs.Plain.{node_in}
-use Rattle.nv_calls.specs.Plan.{runs_of}
+use Rattle.nv_calls.specs.Plan.{block_runs_of}
 use Rattle.nv_calls.specs.declared.call.Call.{Call}
 use Rattle.nv_calls.specs.declared.call.Call.TheVariants as call
 use Rattle.nv_cell.specs.Cell.{CellState, log_of}
@@ -69,10 +69,10 @@ module _ (g : GeometryNumbers) (w : World) (rs : List Record) (is : IsStart g w 
       ≡ plan_by_row g.block w.shared actor c made
   plan_is actor made c =
       ap (λ (f : Handle → Option NodeCopy). plan g.block f
-      (record { made = made; runs = runs_of (take (wanted s c) (row_of s actor)) }) c)
+      (record { made = made; runs = block_runs_of (take (wanted s c) (row_of s actor)) }) c)
       copies_are
       ∙ ap (λ (n : ℕ). plan g.block (copies w.shared)
-      (record { made = made; runs = runs_of (take n (row_of s actor)) }) c) (wanted_is c)
+      (record { made = made; runs = block_runs_of (take n (row_of s actor)) }) c) (wanted_is c)
       ∙ ap (λ (ns : List ℕ). plan g.block (copies w.shared)
-      (record { made = made; runs = runs_of (take (data_for g.block w.shared c) ns) }) c)
+      (record { made = made; runs = block_runs_of (take (data_for g.block w.shared c) ns) }) c)
       (sym (row_is g w rs is actor))

@@ -33,7 +33,7 @@ use Rattle.nv_machine.specs.Starts.{IsStart}
 use Rattle.nv_machine.specs.World.{Auto, Done, Fast, HandState, Manner, Thorough, World, cell_at}
 use Rattle.nv_machine.proofs.EveryWorld.{all_listed, all_marked}
 use Rattle.nv_machine.proofs.MarksInUse.{slot_marks}
-use Rattle.nv_serial.specs.Cleaning.{auto, cleaned, entries_staying, fast, if_inode, pages_filled, pages_staying, thorough, thorough_if, with_pages}
+use Rattle.nv_serial.specs.Cleaning.{auto, cleaned, entries_staying, fast, if_inode, pages_filled, pages_staying, thorough, thorough_if, with_slot_pages}
 use Rattle.nv_serial.specs.Free.{row_of}
 use Rattle.nv_serial.specs.LogPages.{Page, entries_in, fresh, with_all}
 use Rattle.nv_serial.specs.OneCall.{serial_call}
@@ -156,7 +156,7 @@ module _ (g : GeometryNumbers) (w : World) (rs : List Record) (is : IsStart g w 
         (ap (λ (n : ℕ). n - length new.chain.entries) log_many ∙ ap (λ (n : ℕ). length (log_in s ino) - n) entries)
         (ap (λ (n : ℕ). n - length new.chain.blocks) had ∙ ap (λ (n : ℕ). length (slot_of s ino).pages - n) many))
 
-    pub world_told : record s { slots = map slot_told (slice_set w.shared.cells ino new) } ≡ with_pages s ino pages
+    pub world_told : record s { slots = map slot_told (slice_set w.shared.cells ino new) } ≡ with_slot_pages s ino pages
     world_told =
         ap (λ (slots : List NumberedSlot). let t : Serial = record s { slots = slots } in t)
         (map-set slot_told w.shared.cells ino new ∙ ap (slice_set s.slots ino) slot)

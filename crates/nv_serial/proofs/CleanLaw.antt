@@ -24,7 +24,7 @@ use Rattle.nv_serial.specs.Law.{AreRepliesTo, IsMadeAlone, IsOutcome, IsSerialCa
 use Rattle.nv_serial.specs.OneCall.{serial_call}
 use Rattle.nv_serial.specs.Serial.{Serial}
 use Rattle.nv_serial.specs.Shown.{slot_told}
-use Rattle.nv_serial.proofs.AloneStages.{Beside, beside_after, beside_more, begun_call}
+use Rattle.nv_serial.proofs.AloneStages.{PlainState, beside_after, beside_more, begun_call}
 use Rattle.nv_serial.proofs.AtRestLogs.{told_by}
 use Rattle.nv_serial.proofs.AtRestPlain.{serial_is}
 use Rattle.nv_serial.proofs.CleanRuns.{IsRunOut, IsUnder, run}
@@ -120,7 +120,7 @@ module _ (g : GeometryNumbers) (start : World) (records : List Record) (is_start
   new_is : (events : List Event) → Both events
       → serial_after g start records events ≡ record old { slots = map slot_told (after start events).shared.cells }
   new_is events same =
-      ap (λ (b : Beside). let s : Serial = record {
+      ap (λ (b : PlainState). let s : Serial = record {
         numbers = g;
         plain = b.plain;
         slots = map slot_told (after start events).shared.cells;

@@ -23,7 +23,7 @@ use Rattle.nv_machine.proofs.OverEvents.{others_stay, runs_inside, turn_at, with
 use Rattle.nv_machine.proofs.SingleEvents.{goes as goes_by_turn}
 use Rattle.nv_machine.proofs.WorldsAtRest.{start_again}
 use Rattle.nv_serial.specs.Law.{IsOutcome}
-use Rattle.nv_serial.proofs.AloneStages.{Beside, beside_after, beside_more, beside_step}
+use Rattle.nv_serial.proofs.AloneStages.{PlainState, beside_after, beside_more, beside_step}
 use Rattle.nv_serial.proofs.CleanStages.{IsTold, OnTurn, Stands, behind, made, old, step_on}
 
 module _ (g : GeometryNumbers) (start : World) (records : List Record) (is_start : IsStart g start records) (before : List Event)
@@ -40,7 +40,7 @@ module _ (g : GeometryNumbers) (start : World) (records : List Record) (is_start
   abbrev c : Call
   c = cleaner manner ino
 
-  abbrev pub first_beside : Beside
+  abbrev pub first_beside : PlainState
   first_beside = record { records = records; plain = plain_of start }
 
   abbrev pub Stays : List Event → Type 0

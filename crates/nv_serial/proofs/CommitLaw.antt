@@ -35,14 +35,14 @@ use Rattle.nv_machine.proofs.PlainOfRuns.{plain_is}
 use Rattle.nv_machine.proofs.WorldSizes.{of_numbers}
 use Rattle.nv_machine.proofs.WorldsAtRest.{start_again}
 use Rattle.nv_serial.specs.Committed.{committed, needs}
-use Rattle.nv_serial.specs.FileCalls.{commit_if, commit_with, fits, if_passes, log_pages_for, made_by, makes_inode, on_files, pass, plan_for, wanted}
+use Rattle.nv_serial.specs.FileCalls.{commit_if, commit_with, fits, if_passes, log_pages_for, handle_for, makes_inode, on_files, pass, plan_for, wanted}
 use Rattle.nv_serial.specs.Free.{pool_of, row_of}
 use Rattle.nv_serial.specs.Law.{serial_after}
 use Rattle.nv_serial.specs.OneCall.{of_call, serial_call}
 use Rattle.nv_serial.specs.Row.{plan_by_row}
 use Rattle.nv_serial.specs.Serial.{NumberedSlot, Outcome, Serial, told as told_outcome}
 use Rattle.nv_serial.specs.Shown.{slot_told}
-use Rattle.nv_serial.proofs.AloneStages.{Beside, beside_after}
+use Rattle.nv_serial.proofs.AloneStages.{PlainState, beside_after}
 use Rattle.nv_serial.proofs.AtRestLists.{pool_is, row_is}
 use Rattle.nv_serial.proofs.AtRestLogs.{slot_is, told_by}
 use Rattle.nv_serial.proofs.AtRestNodes.{plan_is, wanted_is}
@@ -68,19 +68,19 @@ module _ (g : GeometryNumbers) (w : World) (rs : List Record) (is : IsStart g w 
 
   -- the first of these numbers, with its slot's generation
   numbered : (numbers : List ℕ) (made : Handle) → made ≡ made_in w.shared (first_number sequence.Numbers numbers) root
-      → is_numbered sequence.Numbers (first_number sequence.Numbers numbers) ≡ true → made_by true numbers at_first ≡ Some made
+      → is_numbered sequence.Numbers (first_number sequence.Numbers numbers) ≡ true → handle_for true numbers at_first ≡ Some made
   numbered [] made is_it there = absurd (false≢true there)
   numbered (ino ∷ numbers) made is_it there =
       ap (λ (slot : NumberedSlot). let x : Handle = record { ino = ino; generation = slot.generation } in Some x) (slot_is g w rs is ino)
       ∙ ap (λ (x : Handle). Some x) (sym is_it)
 
   pub made_is : (c : Call) (made : Handle) → IsMade g.block actor w.shared c made
-      → made_by (makes_inode c) (pool_of at_first) at_first ≡ Some made
+      → handle_for (makes_inode c) (pool_of at_first) at_first ≡ Some made
   made_is c made new =
-      ap (λ (ns : List ℕ). made_by (makes_inode c) ns at_first) (sym (pool_is g w rs is)) ∙ go c new.made_is new.there where
+      ap (λ (ns : List ℕ). handle_for (makes_inode c) ns at_first) (sym (pool_is g w rs is)) ∙ go c new.made_is new.there where
         go : (c : Call) → made ≡ made_in w.shared (first_number (beginning c) w.shared.pool.numbers) root
             → is_numbered (beginning c) (first_number (beginning c) w.shared.pool.numbers) ≡ true
-            → made_by (makes_inode c) w.shared.pool.numbers at_first ≡ Some made
+            → handle_for (makes_inode c) w.shared.pool.numbers at_first ≡ Some made
         go (call.Create dir name mode) is_it there = numbered w.shared.pool.numbers made is_it there
         go (call.Mkdir dir name mode) is_it there = numbered w.shared.pool.numbers made is_it there
         go other is_it there = ap (λ (x : Handle). Some x) (sym is_it)
@@ -112,16 +112,16 @@ module _ (g : GeometryNumbers) (start : World) (records : List Record) (is_start
   same_end : (step (after start ran) (Go actor granted)).world ≡ w1
   same_end = after_one ran start (Go actor granted)
 
-  abbrev begin : Beside
+  abbrev begin : PlainState
   begin = beside_after start before (record { records = records; plain = plain_of start })
 
-  abbrev told_first : Beside
+  abbrev told_first : PlainState
   told_first = record { records = rs0; plain = plain_of w0 }
 
   same_begin : begin ≡ told_first
   same_begin = let plain_same = plain_is g start records before is_start in λ i. record { records = rs0; plain = plain_same i }
 
-  abbrev end : Beside
+  abbrev end : PlainState
   end = beside_after start events (record { records = records; plain = plain_of start })
 
   abbrev s : Serial
@@ -231,7 +231,7 @@ module _ (g : GeometryNumbers) (start : World) (records : List Record) (is_start
     pub file_done : on_files s actor c ≡ told_it
     file_done =
         ap (λ (x : Serial). on_files x actor c) same_serial ∙ passed
-        ∙ go (subst (λ (b : Beside). IsDone g.block actor w0.shared c b told end w1.shared.cells w1.shared.book) same_begin done) where
+        ∙ go (subst (λ (b : PlainState). IsDone g.block actor w0.shared c b told end w1.shared.cells w1.shared.book) same_begin done) where
           go : IsDone g.block actor w0.shared c told_first told end w1.shared.cells w1.shared.book
               → pass (is_nothing c) s_told actor c ≡ told_it
           go (inr answered) = commit_told answered

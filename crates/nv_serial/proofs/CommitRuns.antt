@@ -46,7 +46,7 @@ use Rattle.nv_machine.proofs.PartsFor.{none_of}
 use Rattle.nv_machine.proofs.SingleEvents.{goes as goes_by_turn}
 use Rattle.nv_machine.proofs.StepWays.{AfterBy, Going, Telling}
 use Rattle.nv_machine.proofs.WorldFacts.{hands_paged}
-use Rattle.nv_serial.proofs.AloneStages.{Beside, IsOn, Turns, after_by, beside_after, beside_more, beside_then, beside_turned, both_by, stands_on, stands_then}
+use Rattle.nv_serial.proofs.AloneStages.{PlainState, IsOn, Turns, after_by, beside_after, beside_more, beside_then, beside_turned, both_by, stands_on, stands_then}
 use Rattle.nv_serial.specs.Row.{data_for, row, row_at}
 use Rattle.nv_serial.proofs.SlotLists.{none_needed, sum_filter}
 use Rattle.nv_serial.proofs.CommitStages.{IsDone, UnchangedIn}
@@ -82,10 +82,10 @@ module _ (g : GeometryNumbers) (start : World) (records : List Record) (is_start
   s0 = (after start before).shared
 
   -- what stands beside the run, at first and when the call starts
-  abbrev pub first : Beside
+  abbrev pub first : PlainState
   first = record { records = records; plain = plain_of start }
 
-  abbrev pub b0 : Beside
+  abbrev pub b0 : PlainState
   b0 = beside_after start before first
 
   abbrev pub on_row : Known
@@ -98,10 +98,10 @@ module _ (g : GeometryNumbers) (start : World) (records : List Record) (is_start
   abbrev pub Taken : Known
   Taken k s h r = on_row k s h r × Made k s h r
 
-  abbrev pub X : Beside → Known
+  abbrev pub X : PlainState → Known
   X b k s h r = Taken k s h r × Stands g.block actor s0 c b0 b k s h r
 
-  abbrev pub E : Beside → Telling
+  abbrev pub E : PlainState → Telling
   E b x s h = (Unit {0} × Unit {0}) × Told g.block actor s0 c b0 b x s h
 
   abbrev UntoldTwice : Telling
@@ -182,7 +182,7 @@ module _ (g : GeometryNumbers) (start : World) (records : List Record) (is_start
       erases = erases;
     }
 
-    pub is_entering : (granted : Bool) (b : Beside) → Taken r.next w.shared h r → r.next ≡ Enter
+    pub is_entering : (granted : Bool) (b : PlainState) → Taken r.next w.shared h r → r.next ≡ Enter
         → IsEntering g.block actor s0 c b0 b granted w.shared h r
     is_entering granted b stage next =
         let rely = relied g w (all_known g start records is_start events) actor r on.runs in
@@ -227,14 +227,14 @@ module _ (g : GeometryNumbers) (start : World) (records : List Record) (is_start
           killed = (subst (λ (k : Next). HandAt g k h r) next own).killed;
         }
 
-    abbrev TurnsBy : GeometryNumbers → Bool → Beside → Type 0
+    abbrev TurnsBy : GeometryNumbers → Bool → PlainState → Type 0
     TurnsBy x granted b =
         let t = turn x.block actor granted w.shared h r in
         let later = beside_then r.next w.shared h r t b in
         AfterBy (Stands g.block actor s0 c b0 later r.next w.shared h r) (KnowsNext (Stands g.block actor s0 c b0 later))
         (Told g.block actor s0 c b0 later) t
 
-    pub keeps : (granted : Bool) (b : Beside) → X b r.next w.shared h r → Turns X E actor b w.shared h r (turn_at w actor granted r)
+    pub keeps : (granted : Bool) (b : PlainState) → X b r.next w.shared h r → Turns X E actor b w.shared h r (turn_at w actor granted r)
     keeps granted b had =
         let t = turn_at w actor granted r in
         let later = beside_then r.next w.shared h r t b in
@@ -256,7 +256,7 @@ module _ (g : GeometryNumbers) (start : World) (records : List Record) (is_start
 
   -- ---- its last reply
 
-  ended_told : (b : Beside) (W : Type 0) (P : Going) (t : Turn) (w : World) (told : Answer) → AfterBy W P (E b) t
+  ended_told : (b : PlainState) (W : Type 0) (P : Going) (t : Turn) (w : World) (told : Answer) → AfterBy W P (E b) t
       → (turned t actor w).reply ≡ Done told
       → IsDone g.block actor s0 c b0 told b (turned t actor w).world.shared.cells (turned t actor w).world.shared.book
   ended_told b W P (Moves s h q) w told on e = cc
@@ -265,7 +265,7 @@ module _ (g : GeometryNumbers) (start : World) (records : List Record) (is_start
       let same : found ≡ told = cc in subst (λ (x : Answer). IsDone g.block actor s0 c b0 x b s.cells s.book) same on.1
   ended_told b W P (Ends (Err fault) s h) w told on e = cc
 
-  ended_refused : (b : Beside) (W : Type 0) (P : Going) (t : Turn) (w : World) (fault : Fault) → AfterBy W P (E b) t
+  ended_refused : (b : PlainState) (W : Type 0) (P : Going) (t : Turn) (w : World) (fault : Fault) → AfterBy W P (E b) t
       → (turned t actor w).reply ≡ Refused fault → UnchangedIn g.block actor s0 c b0 b (turned t actor w).world.shared
   ended_refused b W P (Moves s h q) w fault on e = cc
   ended_refused b W P Waits w fault on e = cc
@@ -279,13 +279,13 @@ module _ (g : GeometryNumbers) (start : World) (records : List Record) (is_start
     abbrev at_last : World
     at_last = after start (ran grants)
 
-    abbrev before_last : Beside
+    abbrev before_last : PlainState
     before_last = beside_after start (ran grants) first
 
     abbrev pub at_end : World
     at_end = (step at_last (Go actor granted)).world
 
-    abbrev pub end_beside : Beside
+    abbrev pub end_beside : PlainState
     end_beside = beside_after start (ran grants ++ Go actor granted ∷ []) first
 
     there : actor < length at_last.actors
@@ -297,7 +297,7 @@ module _ (g : GeometryNumbers) (start : World) (records : List Record) (is_start
     turned_is : step at_last (Go actor granted) ≡ turned t actor at_last
     turned_is = (goes_by_turn at_last actor granted r there is).is_turn
 
-    abbrev turned_beside : Beside
+    abbrev turned_beside : PlainState
     turned_beside = beside_then r.next at_last.shared (actor_at at_last actor).hand r t before_last
 
     beside_is : end_beside ≡ turned_beside
@@ -316,7 +316,7 @@ module _ (g : GeometryNumbers) (start : World) (records : List Record) (is_start
     pub alone_done : (told : Answer) → (step at_last (Go actor granted)).reply ≡ Done told
         → IsDone g.block actor s0 c b0 told end_beside at_end.shared.cells at_end.shared.book
     alone_done told e =
-        subst (λ (b : Beside). IsDone g.block actor s0 c b0 told b at_end.shared.cells at_end.shared.book) (sym beside_is)
+        subst (λ (b : PlainState). IsDone g.block actor s0 c b0 told b at_end.shared.cells at_end.shared.book) (sym beside_is)
         (subst (λ (x : Step). IsDone g.block actor s0 c b0 told turned_beside x.world.shared.cells x.world.shared.book) (sym turned_is)
         (ended_told turned_beside _ _ t at_last told all_turns (ap (λ (x : Step). x.reply) (sym turned_is) ∙ e)))
 
@@ -324,7 +324,7 @@ module _ (g : GeometryNumbers) (start : World) (records : List Record) (is_start
     pub alone_refused : (fault : Fault) → (step at_last (Go actor granted)).reply ≡ Refused fault
         → UnchangedIn g.block actor s0 c b0 end_beside at_end.shared
     alone_refused fault e =
-        subst (λ (b : Beside). UnchangedIn g.block actor s0 c b0 b at_end.shared) (sym beside_is)
+        subst (λ (b : PlainState). UnchangedIn g.block actor s0 c b0 b at_end.shared) (sym beside_is)
         (subst (λ (x : Step). UnchangedIn g.block actor s0 c b0 turned_beside x.world.shared) (sym turned_is)
         (ended_refused turned_beside _ _ t at_last fault all_turns (ap (λ (x : Step). x.reply) (sym turned_is) ∙ e)))
 

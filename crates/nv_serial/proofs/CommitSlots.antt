@@ -16,7 +16,7 @@ use Rattle.nv_entry.specs.Log.{IsLog}
 use Rattle.nv_entry.specs.declared.item.Entry.{Entry}
 use Rattle.nv_entry.specs.declared.item.Item.{Item}
 use Rattle.nv_log.specs.Chain.{ChainState, pages_for, pages_of}
-use Rattle.nv_machine.specs.Kinds.{with_entries, with_pages}
+use Rattle.nv_machine.specs.Kinds.{with_entries, with_log_pages}
 use Rattle.nv_machine.specs.Reads.{is_written, pages_needed, pages_wanted}
 use Rattle.nv_machine.specs.Starts.{IsStart}
 use Rattle.nv_machine.specs.World.{World, cell_at}
@@ -27,7 +27,7 @@ use Rattle.nv_serial.specs.Committed.{need_of, needs, slot_after}
 use Rattle.nv_serial.specs.LogPages.{fresh as pages_with, pages_more, with_all}
 use Rattle.nv_serial.specs.Serial.{NumberedSlot, Serial, slot_of}
 use Rattle.nv_serial.specs.Shown.{pages_told, slot_told}
-use Rattle.nv_serial.proofs.AloneStages.{Beside}
+use Rattle.nv_serial.proofs.AloneStages.{PlainState}
 use Rattle.nv_serial.proofs.AtRestLogs.{slot_is, told_by}
 use Rattle.nv_serial.proofs.CommitStages.{ArePlanned, IsGrown, entries_at, fresh, front, untailed}
 use Rattle.nv_serial.proofs.LogsGrown.{grown_chain, grown_generation}
@@ -46,7 +46,7 @@ sum_range f k (suc n) from same =
     let more = sum_range f k n (from + 1) (λ x ge lt. same x (omega (arith, ge)) (omega (arith, lt))) in
     omega (arith, one, other, here, more)
 
-module _ (g : GeometryNumbers) (w : World) (rs : List Record) (is : IsStart g w rs) (actor : ℕ) (c : Call) (b0 : Beside) (plan : List InodePlan)
+module _ (g : GeometryNumbers) (w : World) (rs : List Record) (is : IsStart g w rs) (actor : ℕ) (c : Call) (b0 : PlainState) (plan : List InodePlan)
     (slots : List ℕ) (planned : ArePlanned g.block actor w.shared c b0 plan slots) where
   abbrev s : Serial
   s = told_by g w rs
@@ -126,7 +126,7 @@ module _ (g : GeometryNumbers) (w : World) (rs : List Record) (is : IsStart g w 
 
       -- as if its cell had been appended to without blocks
       abbrev pub as_grown : CellState
-      as_grown = with_entries entries [] (with_pages grown.pages cell)
+      as_grown = with_entries entries [] (with_log_pages grown.pages cell)
 
       pub chain_is : untailed now.chain ≡ untailed as_grown.chain
       chain_is = grown.chain ∙ sym (ap untailed (grown_chain entries [] grown.pages cell))

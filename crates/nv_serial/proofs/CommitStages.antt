@@ -31,11 +31,11 @@ use Rattle.nv_machine.specs.Held.{is_of_slot}
 use Rattle.nv_machine.specs.PlainRun.{Plain}
 use Rattle.nv_machine.specs.Reads.{is_written, pages_needed, pages_wanted, written_slots}
 use Rattle.nv_machine.specs.Recorded.{with_parts}
-use Rattle.nv_machine.specs.World.{Answers, Append, Cleans, Close, Drains, Ending, Give, Leave, Maintenance, Open, Overtaken, Publish, Refuses, Retire, ReturnNumber, Running, Shared, Unlock, cell_at, no_cell}
+use Rattle.nv_machine.specs.World.{Answers, Append, Cleans, Close, Drains, Ending, Give, Leave, Maintenance, Open, BoundAnew, Publish, Refuses, Retire, ReturnNumber, Running, Shared, Unlock, cell_at, no_cell}
 use Rattle.nv_machine.proofs.NextSteps.{Known}
 use Rattle.nv_machine.proofs.StepWays.{Telling}
 use Rattle.nv_serial.specs.Row.{data_for, plan_by_row, row, row_at}
-use Rattle.nv_serial.proofs.AloneStages.{Beside}
+use Rattle.nv_serial.proofs.AloneStages.{PlainState}
 use Rattle.nv_serial.proofs.MadeTaken.{IsMade}
 
 -- ---- chains
@@ -57,7 +57,7 @@ abbrev pub front : ℕ → List ℕ → List ℕ
 front ino [] = []
 front ino (m ∷ slots) = if m == ino then [] else m ∷ front ino slots
 
-module _ (block actor : ℕ) (s0 : Shared) (c : Call) (b0 : Beside) where
+module _ (block actor : ℕ) (s0 : Shared) (c : Call) (b0 : PlainState) where
   -- the numbers behind those of the data, which log pages take
   abbrev pub fresh : List ℕ
   fresh = drop (data_for block s0 c) (row_at s0 actor)
@@ -197,14 +197,14 @@ module _ (block actor : ℕ) (s0 : Shared) (c : Call) (b0 : Beside) where
 
   -- ---- before each step
 
-  abbrev pub UnchangedIn : Beside → Shared → Type 0
+  abbrev pub UnchangedIn : PlainState → Shared → Type 0
   UnchangedIn now s = IsUnchanged s.cells s.book now.plain now.records
 
-  abbrev pub UnderWayIn : Beside → Shared → Plain → List Record → Type 0
+  abbrev pub UnderWayIn : PlainState → Shared → Plain → List Record → Type 0
   UnderWayIn now s plain records = IsUnderWay s.cells s.book now.plain now.records plain records
 
   -- it had nothing to commit and has changed nothing, or its whole commit is made
-  abbrev pub IsEnded : Beside → List CellState → BookState → Handle → Type 0
+  abbrev pub IsEnded : PlainState → List CellState → BookState → Handle → Type 0
   IsEnded now cells book made =
       ((is_nothing c ≡ true) × IsUnchanged cells book now.plain now.records)
       ⊎ ((is_nothing c ≡ false) × IsCommitted cells book now.plain now.records made)
@@ -216,23 +216,23 @@ module _ (block actor : ℕ) (s0 : Shared) (c : Call) (b0 : Beside) where
     pub commits : IsCommitted cells book plain records made
     pub told : found ≡ answer (λ handle. None) made c
 
-  abbrev pub IsDone : Answer → Beside → List CellState → BookState → Type 0
+  abbrev pub IsDone : Answer → PlainState → List CellState → BookState → Type 0
   IsDone found now cells book =
       ((is_nothing c ≡ true) × IsUnchanged cells book now.plain now.records) ⊎ IsAnswered found cells book now.plain now.records
 
   -- how it ends: with a commit where there is something to commit, else with nothing
-  abbrev pub EndsSo : Ending → Beside → List CellState → BookState → Handle → Call → Type 0
+  abbrev pub EndsSo : Ending → PlainState → List CellState → BookState → Handle → Call → Type 0
   EndsSo Answers now cells book made call = (call ≡ c) × IsEnded now cells book made
   EndsSo (Refuses fault) now cells book made call = IsUnchanged cells book now.plain now.records
-  EndsSo Overtaken now cells book made call = IsUnchanged cells book now.plain now.records
+  EndsSo BoundAnew now cells book made call = IsUnchanged cells book now.plain now.records
   EndsSo (Drains draining) now cells book made call = ⊥
   EndsSo (Cleans cleaned) now cells book made call = ⊥
 
-  abbrev pub ToldSo : Beside → Telling
+  abbrev pub ToldSo : PlainState → Telling
   ToldSo now (Ok found) s h = IsDone found now s.cells s.book
   ToldSo now (Err fault) s h = UnchangedIn now s
 
-  abbrev pub CommitStage : Beside → Known
+  abbrev pub CommitStage : PlainState → Known
   CommitStage now (Append place) s h r =
       CommittingIn r × UnderWayIn now s entered b0.records × LogsAt (take place (written_slots r)) [] s r × TailsAt [] s
       × (numbers_of h.pages ++ left_row s.lists ≡ drop (pages_wanted s0 (take place (written_slots r)) r.plan) fresh)

@@ -26,7 +26,7 @@ use Rattle.nv_epoch.specs.SnapList.{ids}
 use Rattle.nv_log.specs.Chain.{ChainState, pages_for}
 use Rattle.nv_machine.specs.Erasing.{IsOver, keepers_of}
 use Rattle.nv_machine.specs.Held.{is_of_slot}
-use Rattle.nv_machine.specs.Kinds.{with_entries, with_erased, with_pages}
+use Rattle.nv_machine.specs.Kinds.{with_entries, with_erased, with_log_pages}
 use Rattle.nv_machine.specs.Reads.{pages_needed, pages_wanted, slot_at}
 use Rattle.nv_machine.specs.Recorded.{with_parts}
 use Rattle.nv_machine.specs.Settled.{settled}
@@ -36,7 +36,7 @@ use Rattle.nv_machine.proofs.FiledSteps.{retired_block}
 use Rattle.nv_machine.proofs.Lists.{has_at, take_apart}
 use Rattle.nv_machine.proofs.LogsKept.{cell_set}
 use Rattle.nv_machine.proofs.PartsFor.{slots_from, slots_to}
-use Rattle.nv_serial.proofs.AloneStages.{Beside}
+use Rattle.nv_serial.proofs.AloneStages.{PlainState}
 use Rattle.nv_serial.proofs.CommitStages.{IsGrown, IsOverThen, IsSettled, LogAt, kept_by, entries_at, entries_on, fresh, front, killed_at, log_then, pages_on, records_on, untailed}
 use Rattle.nv_serial.proofs.LogsGrown.{drop_two, front_at, grown_block, grown_chain, grown_entries, grown_generation, has_here, has_there, map_to, sum_to}
 
@@ -47,7 +47,7 @@ erased_killed ino cell h = go (is_erased cell) refl where
   go true e = rw e refl
   go false e = rw e refl
 
-module _ (block actor : ℕ) (s0 : Shared) (c : Call) (b0 : Beside) (plans : List InodePlan) (commit epoch : ℕ) (written : List ℕ) where
+module _ (block actor : ℕ) (s0 : Shared) (c : Call) (b0 : PlainState) (plans : List InodePlan) (commit epoch : ℕ) (written : List ℕ) where
   abbrev Logs : (grown settled : List ℕ) → Shared → Type 0
   Logs grown settled s = (ino : ℕ) → LogAt block actor s0 c b0 plans commit epoch (has grown ino) (has settled ino) written ino (cell_at s ino)
 
@@ -125,7 +125,7 @@ module _ (block actor : ℕ) (s0 : Shared) (c : Call) (b0 : Beside) (plans : Lis
           entries = entries_at block actor s0 c b0 plans commit epoch slot
 
           abbrev grown : CellState
-          grown = with_entries entries blocks (with_pages (take needed pages) cell)
+          grown = with_entries entries blocks (with_log_pages (take needed pages) cell)
 
           grown_is : Grown slot grown
           grown_is = record {
@@ -149,7 +149,7 @@ module _ (block actor : ℕ) (s0 : Shared) (c : Call) (b0 : Beside) (plans : Lis
 
           pub appended_tails : Tails [] s → Tails [] (with_cell slot grown s)
           appended_tails tails ino none = cell_set s slot grown ino (λ (x : CellState). x.chain.tail ≡ (cell_at s0 ino).chain.tail) low
-              (λ here. tail_keeps entries blocks (with_pages (take needed pages) cell) ∙ paged_tail (take needed pages) cell
+              (λ here. tail_keeps entries blocks (with_log_pages (take needed pages) cell) ∙ paged_tail (take needed pages) cell
               ∙ tails slot refl ∙ ap (λ (n : ℕ). (cell_at s0 n).chain.tail) here)
               (λ other. tails ino none)
 

@@ -40,7 +40,7 @@ use Rattle.nv_serial.specs.LogPages.{entries_in}
 use Rattle.nv_serial.specs.Row.{plan_by_row, row_at}
 use Rattle.nv_serial.specs.Serial.{NumberedSlot, Serial, copies_now, living, log_in, no_slot, slot_of}
 use Rattle.nv_serial.specs.Shown.{slot_told}
-use Rattle.nv_serial.proofs.AloneStages.{Beside}
+use Rattle.nv_serial.proofs.AloneStages.{PlainState}
 use Rattle.nv_serial.proofs.AtRestErased.{each_place, not_over}
 use Rattle.nv_serial.proofs.AtRestLists.{row_is}
 use Rattle.nv_serial.proofs.AtRestLogs.{living_is, log_is, shown_entries, slot_is, slots_many, told_at, told_by, whole_log}
@@ -57,10 +57,10 @@ no_items : (items : List Item) → nat_lt 0 (length items) ≡ false → items �
 no_items [] e = refl
 no_items (item ∷ items) e = absurd (let few = ltb-false 0 (length (item ∷ items)) e in omega (arith, few))
 
-module _ (g : GeometryNumbers) (w : World) (rs : List Record) (is : IsStart g w rs) (actor : ℕ) (c : Call) (after : World) (now : Beside)
+module _ (g : GeometryNumbers) (w : World) (rs : List Record) (is : IsStart g w rs) (actor : ℕ) (c : Call) (after : World) (now : PlainState)
     (is_then : IsStart g after now.records) where
   -- what stands beside the run at first
-  abbrev pub b0 : Beside
+  abbrev pub b0 : PlainState
   b0 = record { records = rs; plain = plain_of w }
 
   abbrev pub s : Serial

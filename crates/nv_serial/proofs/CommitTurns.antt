@@ -12,7 +12,7 @@ use Rattle.nv_cell.specs.Readers.{is_erased}
 use Rattle.nv_cell.specs.declared.killed.KilledPart.{KilledPart}
 use Rattle.nv_epoch.specs.SnapList.{Snapshots as Living, ids}
 use Rattle.nv_machine.specs.Erasing.{IsOver}
-use Rattle.nv_machine.specs.Kinds.{entries_for, first_killed, retired_cell, with_entries, with_freed, with_pages}
+use Rattle.nv_machine.specs.Kinds.{entries_for, first_killed, retired_cell, with_entries, with_freed, with_log_pages}
 use Rattle.nv_machine.specs.Pages.{HasLogPages}
 use Rattle.nv_machine.specs.PlainRun.{Commits, Nothing, Plain, done}
 use Rattle.nv_machine.specs.Reads.{pages_needed, slot_at, written_slots}
@@ -25,7 +25,7 @@ use Rattle.nv_machine.proofs.LoopSteps.{by_test}
 use Rattle.nv_machine.proofs.NextSteps.{KnowsNext}
 use Rattle.nv_machine.proofs.StepWalk.{Works}
 use Rattle.nv_machine.proofs.StepWork.{work}
-use Rattle.nv_serial.proofs.AloneStages.{Beside, beside_by, beside_then}
+use Rattle.nv_serial.proofs.AloneStages.{PlainState, beside_by, beside_then}
 use Rattle.nv_serial.proofs.CommitStages.{CommitStage, CommittingIn, LogsAt, TailsAt, UnderWayIn, committed, entered, killed_at, left_row, records_on}
 use Rattle.nv_serial.proofs.CommitSteps.{appended_logs, appended_tails, erased_killed, killed_from, is_over_then, killed_more, left_pages, published_logs, published_tails, records_to, retired_logs}
 
@@ -37,11 +37,11 @@ IsErasedOver k s h r =
     × (is_erased (retired_cell (slot_at (written_slots r) place) (first_killed h.killed) s r) ≡ true
     → IsOver s.book.deferred s (slot_at (written_slots r) place))
 
-module _ (block actor : ℕ) (s0 : Shared) (c : Call) (b0 : Beside) where
-  abbrev Stands : Beside → Next → Shared → HandState → Running → Type 0
+module _ (block actor : ℕ) (s0 : Shared) (c : Call) (b0 : PlainState) where
+  abbrev Stands : PlainState → Next → Shared → HandState → Running → Type 0
   Stands now = CommitStage block actor s0 c b0 now
 
-  module _ (s : Shared) (h : HandState) (r : Running) (now : Beside) (committing : CommittingIn block actor s0 c b0 r)
+  module _ (s : Shared) (h : HandState) (r : Running) (now : PlainState) (committing : CommittingIn block actor s0 c b0 r)
       (rising : IsRising (written_slots r))
       (low : (place : ℕ) → place < length (written_slots r) → slot_at (written_slots r) place < length s.cells) where
     abbrev W : List ℕ
@@ -103,7 +103,7 @@ module _ (block actor : ℕ) (s0 : Shared) (c : Call) (b0 : Beside) where
         let k = appending (place + 1) W in
         let at = low place inside in
         let cell : CellState =
-        with_entries (entries_for r slot) h.blocks (with_pages (take (pages_needed s r.plan slot) h.pages) (cell_at s slot)) in
+        with_entries (entries_for r slot) h.blocks (with_log_pages (take (pages_needed s r.plan slot) h.pages) (cell_at s slot)) in
         let u : Under d.shared (entered block actor s0 c b0) b0.records =
         with_under place cell (entered block actor s0 c b0) b0.records on.1 in
         let logs : Logs (take (place + 1) W) [] d.shared =
@@ -172,7 +172,7 @@ module _ (block actor : ℕ) (s0 : Shared) (c : Call) (b0 : Beside) where
 
     -- ---- publish
 
-    abbrev now_then : Bool → Beside
+    abbrev now_then : Bool → PlainState
     now_then several = beside_by (if several then Nothing else Commits) (ids s.book.snaps) now.records (Some r) now.plain
 
     module _ (place : ℕ) (inside : place < length W) (on : Stands now (Publish place) s h r) where
@@ -294,7 +294,7 @@ module _ (block actor : ℕ) (s0 : Shared) (c : Call) (b0 : Beside) where
       pub retire_stands : IsErasedOver (Retire place) s h r → Works (KnowsNext (Stands (record { records = records_now; plain = now.plain }))) (Retire place) block actor s h r
       retire_stands erases =
           let n = retiring (place + 1) W in
-          let B : Beside = record { records = records_now; plain = now.plain } in
+          let B : PlainState = record { records = records_now; plain = now.plain } in
           by_test (λ (x : Next). Stands B x retired_in freeing (go_to n r)) (nat_lt (place + 1) (length W)) (Retire (place + 1)) Leave
           (λ more. (committing, under_then, logs_left erases, killed_left))
           (λ last. (

@@ -26,7 +26,7 @@ use Rattle.nv_machine.specs.Reads.{copies, pages_wanted, slot_at, written_slots}
 use Rattle.nv_machine.specs.Sequence as sequence
 use Rattle.nv_machine.specs.Sequence.{appending, beginning, locking, looking, opening}
 use Rattle.nv_machine.specs.Step.{ending_at, kind_turn, made_in}
-use Rattle.nv_machine.specs.World.{Answers, Append, Check, Cleans, Close, Drains, Ending, Ends, Enter, Give, HandState, Leave, Lock, Look, Maintenance, Moves, Next, Number, Open, Overtaken, Publish, Ready, Refuses, Retire, ReturnNumber, Running, Shared, TakeBlocks, TakeLogPages, Turn, Unlock, Visit, Waits, go_to, no_cell}
+use Rattle.nv_machine.specs.World.{Answers, Append, Check, Cleans, Close, Drains, Ending, Ends, Enter, Give, HandState, Leave, Lock, Look, Maintenance, Moves, Next, Number, Open, BoundAnew, Publish, Ready, Refuses, Retire, ReturnNumber, Running, Shared, TakeBlocks, TakeLogPages, Turn, Unlock, Visit, Waits, go_to, no_cell}
 use Rattle.nv_machine.proofs.DecidedNext as told
 use Rattle.nv_machine.proofs.LoopSteps.{by_test, is_on_files, locking_any, looking_any}
 use Rattle.nv_machine.proofs.NextSteps.{KnowsNext}
@@ -34,7 +34,7 @@ use Rattle.nv_machine.proofs.StepWalk.{WaysOf, any_takes, walk_by}
 use Rattle.nv_machine.proofs.StepWays.{AfterBy, Closes, Going, IsBlocked, Telling, any_ends, any_lasts, any_overs, any_rests, by_last, by_taking, is_taking, noted}
 use Rattle.nv_machine.proofs.StepWork.{by_back, by_number, number_work, work}
 use Rattle.nv_serial.specs.Row.{IsPlannedByRow, data_for, plan_by_row, row_at}
-use Rattle.nv_serial.proofs.AloneStages.{Beside, beside_by, beside_then}
+use Rattle.nv_serial.proofs.AloneStages.{PlainState, beside_by, beside_then}
 use Rattle.nv_serial.proofs.CommitStages.{ArePlanned, CommitStage, EndsSo, IsCommitted, IsEnded, LogsOf, ToldSo, UnchangedIn, UnderWayIn, committed, records_on}
 use Rattle.nv_serial.proofs.MadeTaken.{IsMade}
 use Rattle.nv_serial.proofs.CommitTurns.{IsErasedOver, append_stands, close_stands, open_stands, publish_stands, retire_stands}
@@ -44,14 +44,14 @@ use Rattle.nv_serial.proofs.CommitTurns.{IsErasedOver, append_stands, close_stan
 abbrev ChecksSo : Ending → Tests → List Change → Type 0
 ChecksSo Answers tests changes = (tests ≡ passes) × (changes ≡ [])
 ChecksSo (Refuses fault) tests changes = Unit {0}
-ChecksSo Overtaken tests changes = Unit {0}
+ChecksSo BoundAnew tests changes = Unit {0}
 ChecksSo (Drains draining) tests changes = ⊥
 ChecksSo (Cleans cleaned) tests changes = ⊥
 
 checks_so : (first : Tests) (same : Bool) (tests : Tests) (numbered : Bool) (changes : List Change) (e : Ending)
     → check_ending first same tests numbered changes ≡ Some e → ChecksSo e tests changes
 checks_so first same tests numbered changes (Refuses fault) is = tt
-checks_so first same tests numbered changes Overtaken is = tt
+checks_so first same tests numbered changes BoundAnew is = tt
 checks_so (Err fault) same tests numbered changes e is = cc
 checks_so (Ok passed) false tests numbered changes e is = cc
 checks_so (Ok passed) true (Err fault) numbered changes e is = cc
@@ -78,19 +78,19 @@ visits_nothing (call.Lookup dir name) e = refl
 visits_nothing (call.Maintenance what) e = refl
 visits_nothing other e = cc
 
-module _ (block actor : ℕ) (s0 : Shared) (c : Call) (b0 : Beside) where
-  abbrev pub Stands : Beside → Next → Shared → HandState → Running → Type 0
+module _ (block actor : ℕ) (s0 : Shared) (c : Call) (b0 : PlainState) where
+  abbrev pub Stands : PlainState → Next → Shared → HandState → Running → Type 0
   Stands now = CommitStage block actor s0 c b0 now
 
-  abbrev pub Told : Beside → Telling
+  abbrev pub Told : PlainState → Telling
   Told now = ToldSo block actor s0 c b0 now
 
-  abbrev Same : Beside → Shared → Type 0
+  abbrev Same : PlainState → Shared → Type 0
   Same now s = UnchangedIn block actor s0 c b0 now s
 
   -- ---- the last steps
 
-  ended : (now : Beside) (s : Shared) (h : HandState) (r : Running) (e : Ending)
+  ended : (now : PlainState) (s : Shared) (h : HandState) (r : Running) (e : Ending)
       → EndsSo block actor s0 c b0 e now s.cells s.book r.made r.call → Told now (result_by e r) s h
   ended now s h r Answers so = go so.1 where
     go : IsEnded block actor s0 c b0 now s.cells s.book r.made → Told now (result_by Answers r) s h
@@ -102,11 +102,11 @@ module _ (block actor : ℕ) (s0 : Shared) (c : Call) (b0 : Beside) where
       told = ap (answer (λ handle. None) r.made) so.0;
     })
   ended now s h r (Refuses fault) so = so
-  ended now s h r Overtaken so = so
+  ended now s h r BoundAnew so = so
   ended now s h r (Drains draining) so = absurd so
   ended now s h r (Cleans cleaned) so = absurd so
 
-  closes_so : (now : Beside) {s : Shared} {h : HandState} {r : Running} (e : Ending)
+  closes_so : (now : PlainState) {s : Shared} {h : HandState} {r : Running} (e : Ending)
       → EndsSo block actor s0 c b0 e now s.cells s.book r.made r.call → Closes (KnowsNext (Stands now)) (Told now) s h r e
   closes_so now {s = s} {h = h} {r = r} e so = record {
     last = by_last (λ (n : Next). Stands now n s h (record r { ending = e; next = n })) (λ place. so) (λ cpu. so) so;
@@ -126,7 +126,7 @@ module _ (block actor : ℕ) (s0 : Shared) (c : Call) (b0 : Beside) where
     pub paged : HasLogPages k block s h r
     pub erases : IsErasedOver k s h r
 
-  module _ (now : Beside) (granted : Bool) (s : Shared) (h : HandState) (r : Running) where
+  module _ (now : PlainState) (granted : Bool) (s : Shared) (h : HandState) (r : Running) where
     abbrev P : Going
     P = KnowsNext (Stands now)
 
@@ -168,7 +168,7 @@ module _ (block actor : ℕ) (s0 : Shared) (c : Call) (b0 : Beside) where
         go Answers so =
             (call_is, inl (ap is_nothing (sym call_is) ∙ nothing_done block (copies s) (made_in s h.ino r.made) r.call so.0 so.1, same))
         go (Refuses fault) so = same
-        go Overtaken so = same
+        go BoundAnew so = same
         go (Drains draining) so = so
         go (Cleans cleaned) so = so
 
@@ -212,7 +212,7 @@ module _ (block actor : ℕ) (s0 : Shared) (c : Call) (b0 : Beside) where
 
     -- ---- enter
 
-    abbrev entering : Next → Beside
+    abbrev entering : Next → PlainState
     entering k = beside_by (if commits_at k then Numbers else Nothing) (ids s.book.snaps) now.records (Some r) now.plain
 
     abbrev EnterGoes : Going

@@ -36,7 +36,7 @@ use Rattle.nv_serial.specs.Committed.{erased}
 use Rattle.nv_serial.specs.Law.{IsMadeAlone, IsSerialCall}
 use Rattle.nv_serial.specs.Serial.{Outcome, Serial, deferred_in}
 use Rattle.nv_serial.specs.Snapshots.{drain, released}
-use Rattle.nv_serial.proofs.AloneStages.{Beside, beside_then}
+use Rattle.nv_serial.proofs.AloneStages.{PlainState, beside_then}
 use Rattle.nv_serial.proofs.AtRestLogs.{told_by}
 use Rattle.nv_serial.proofs.AtRestTests.{deferred_is}
 use Rattle.nv_serial.proofs.DrainErased.{IsSteady, erased_now, living_now, released_shared, tails_then}
@@ -56,7 +56,7 @@ none_first snapshots (d ∷ rs) none = go (is_none (holder_of snapshots d)) none
 abbrev as_of : Shared → Shared → Shared
 as_of sh other = record other { cells = sh.cells; book = sh.book; holder = sh.holder }
 
-abbrev kept : Beside → Beside
+abbrev kept : PlainState → PlainState
 kept b = record { records = b.records; plain = b.plain }
 
 module _ (g : GeometryNumbers) (w : World) (rs : List Record) (is : IsStart g w rs) (actor count : ℕ) where
@@ -78,24 +78,24 @@ module _ (g : GeometryNumbers) (w : World) (rs : List Record) (is : IsStart g w 
   -- ---- what is yet to come
 
   -- where so many may still be released, and so many are
-  pub record ToGo (left done : ℕ) (b : Beside) (sh : Shared) : Type 0 where
+  pub record ToGo (left done : ℕ) (b : PlainState) (sh : Shared) : Type 0 where
     pub steady : IsSteady w b sh
     pub comes : released (min left (length sh.book.deferred)) (numbered g w rs actor c b sh) ≡ released total s
     pub counts : done + min left (length sh.book.deferred) ≡ total
     pub begins : done ≡ 0 → numbered g w rs actor c b sh ≡ s
 
   -- and where one is picked
-  pub record Picked (draining : Draining) (b : Beside) (sh : Shared) : Type 0 where
+  pub record Picked (draining : Draining) (b : PlainState) (sh : Shared) : Type 0 where
     pub steady : IsSteady w b sh
     pub comes : released (min draining.left (length sh.book.deferred)) (erased (numbered g w rs actor c b sh)) ≡ released total s
     pub counts : draining.released + 1 + min draining.left (length sh.book.deferred) ≡ total
 
-  abbrev pub OverBy : Ending → Beside → Shared → Type 0
+  abbrev pub OverBy : Ending → PlainState → Shared → Type 0
   OverBy (Drains d) b sh = ToGo d.left d.released b sh
   OverBy (Refuses fault) b sh = (fault ≡ out_of_memory) × (numbered g w rs actor c b sh ≡ s)
   OverBy other b sh = ⊥
 
-  abbrev pub Stage : Beside → Next → Shared → HandState → Running → Type 0
+  abbrev pub Stage : PlainState → Next → Shared → HandState → Running → Type 0
   Stage b (Unlock place) sh h r = OverBy r.ending b sh
   Stage b (Give cpu) sh h r = OverBy r.ending b sh
   Stage b ReturnNumber sh h r = OverBy r.ending b sh
@@ -104,10 +104,10 @@ module _ (g : GeometryNumbers) (w : World) (rs : List Record) (is : IsStart g w 
   Stage b (Maintenance (Release d picked)) sh h r = (r.slots ≡ picked.ino ∷ []) × Picked d b sh
   Stage b k sh h r = ⊥
 
-  steady_as : (b : Beside) (sh other : Shared) → IsSteady w b sh → IsSteady w (kept b) (as_of sh other)
+  steady_as : (b : PlainState) (sh other : Shared) → IsSteady w b sh → IsSteady w (kept b) (as_of sh other)
   steady_as b sh other at = record { plain_is = at.plain_is; snaps_is = at.snaps_is; free = at.free; tails = at.tails }
 
-  over_as : (e : Ending) (b : Beside) (sh other : Shared) → OverBy e b sh → OverBy e (kept b) (as_of sh other)
+  over_as : (e : Ending) (b : PlainState) (sh other : Shared) → OverBy e b sh → OverBy e (kept b) (as_of sh other)
   over_as (Drains d) b sh other at = record {
     steady = steady_as b sh other at.steady;
     comes = at.comes;
@@ -119,7 +119,7 @@ module _ (g : GeometryNumbers) (w : World) (rs : List Record) (is : IsStart g w 
 
   -- ---- the last steps
 
-  module _ (b : Beside) where
+  module _ (b : PlainState) where
     abbrev Goes : Turn → Type 0
     Goes t = AfterBy ⊥ (KnowsNext (Stage b)) (Tells g w rs actor c made b) t
 
@@ -175,7 +175,7 @@ module _ (g : GeometryNumbers) (w : World) (rs : List Record) (is : IsStart g w 
     abbrev h : HandState
     h = (actor_at v actor).hand
 
-    abbrev b : Beside
+    abbrev b : PlainState
     b = Now g w rs actor c events
 
     abbrev Then : Next → Turn → Type 0

@@ -37,7 +37,7 @@ use Rattle.nv_serial.specs.Committed.{erased, is_over, left_in}
 use Rattle.nv_serial.specs.LogPages.{entries_in}
 use Rattle.nv_serial.specs.Serial.{NumberedSlot, Serial, living, log_in, slot_of}
 use Rattle.nv_serial.specs.Shown.{slot_told}
-use Rattle.nv_serial.proofs.AloneStages.{Beside}
+use Rattle.nv_serial.proofs.AloneStages.{PlainState}
 use Rattle.nv_serial.proofs.AtRestErased.{each_place}
 use Rattle.nv_serial.proofs.AtRestLogs.{living_is, shown_entries, told_at}
 use Rattle.nv_serial.proofs.ErasedWhereOver.{erased_over, over_by}
@@ -58,7 +58,7 @@ only {X} f (x ∷ actors) (suc actor) there others =
     ∙ only f actors actor (omega (arith, there)) (λ b ne. others (suc b) (λ e. ne (omega (arith, e))))
 
 -- what holds between the steps of a drain beside what is yet to come
-pub record IsSteady (w : World) (b : Beside) (sh : Shared) : Type 0 where
+pub record IsSteady (w : World) (b : PlainState) (sh : Shared) : Type 0 where
   pub plain_is : b.plain ≡ plain_of w
   pub snaps_is : sh.book.snaps ≡ w.shared.book.snaps
   pub free : sh.holder ≡ None
@@ -71,7 +71,7 @@ module _ (g : GeometryNumbers) (w : World) (rs : List Record) (is : IsStart g w 
   abbrev sh : Shared
   sh = v.shared
 
-  abbrev b : Beside
+  abbrev b : PlainState
   b = Now g w rs actor c events
 
   abbrev cur : Serial

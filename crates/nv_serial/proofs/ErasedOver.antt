@@ -28,7 +28,7 @@ use Rattle.nv_machine.specs.Kept.{AreClosed, Knows}
 use Rattle.nv_machine.specs.Kinds.{first_killed, retired_cell}
 use Rattle.nv_machine.specs.Locks.{commits_at}
 use Rattle.nv_machine.specs.Reads.{slot_at, written_slots}
-use Rattle.nv_machine.specs.Recorded.{is_kept, with_parts}
+use Rattle.nv_machine.specs.Recorded.{is_marked_kept, with_parts}
 use Rattle.nv_machine.specs.Settled.{settled}
 use Rattle.nv_machine.specs.World.{HandState, Next, Retire, Running, Shared, World, actor_at, cell_at, owner_at}
 use Rattle.nv_machine.proofs.EachElement.{all_append, all_back, all_front}
@@ -137,7 +137,7 @@ module _ (g : GeometryNumbers) (w : World) (all : IsKnown g w) (actor place : �
   front = all_front T (all.rs ++ picked_in w) more left_marks.told
 
   once : (n : ℕ) → count (λ d. is_filed_on slot (log_of left) n d) ((all_records s.book.manifests ++ more) ++ pending_in w)
-      ≡ bit (is_kept (mark_at left.marks n))
+      ≡ bit (is_marked_kept (mark_at left.marks n))
   once n =
       let p : Record → Bool = λ d. is_filed_on slot (log_of left) n d in
       omega (

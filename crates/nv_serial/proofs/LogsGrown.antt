@@ -12,7 +12,7 @@ use Rattle.nv_cell.specs.Cell.{CellState}
 use Rattle.nv_entry.specs.Blocks.{item_blocks}
 use Rattle.nv_entry.specs.declared.item.Entry.{Entry}
 use Rattle.nv_log.specs.Chain.{ChainState, appended, with_page}
-use Rattle.nv_machine.specs.Kinds.{with_entries, with_pages}
+use Rattle.nv_machine.specs.Kinds.{with_entries, with_log_pages}
 use Rattle.nv_machine.specs.Reads.{slot_at}
 use Rattle.nv_machine.proofs.Lists.{has_take, or_right}
 use Rattle.nv_machine.proofs.PartsFor.{slots_to}
@@ -20,15 +20,15 @@ use Rattle.nv_serial.proofs.CommitStages.{entries_on, front, pages_on}
 
 -- ---- a cell with more pages, and with more entries
 
-pages_chain : (pages : List BlockValue) (cell : CellState) → (with_pages pages cell).chain ≡ pages_on pages cell.chain
+pages_chain : (pages : List BlockValue) (cell : CellState) → (with_log_pages pages cell).chain ≡ pages_on pages cell.chain
 pages_chain [] cell = refl
 pages_chain (b ∷ pages) cell = pages_chain pages (record cell { chain = with_page b cell.chain })
 
-pages_generation : (pages : List BlockValue) (cell : CellState) → (with_pages pages cell).generation ≡ cell.generation
+pages_generation : (pages : List BlockValue) (cell : CellState) → (with_log_pages pages cell).generation ≡ cell.generation
 pages_generation [] cell = refl
 pages_generation (b ∷ pages) cell = pages_generation pages (record cell { chain = with_page b cell.chain })
 
-pages_block : (pages : List BlockValue) (cell : CellState) → (with_pages pages cell).block ≡ cell.block
+pages_block : (pages : List BlockValue) (cell : CellState) → (with_log_pages pages cell).block ≡ cell.block
 pages_block [] cell = refl
 pages_block (b ∷ pages) cell = pages_block pages (record cell { chain = with_page b cell.chain })
 
@@ -51,15 +51,15 @@ entries_block (e ∷ entries) blocks cell =
     entries_block entries (drop (length (item_blocks e.item)) blocks) (appended_cell e (blocks_for e.item blocks) cell)
 
 module _ (entries : List Entry) (blocks pages : List BlockValue) (cell : CellState) where
-  pub grown_chain : (with_entries entries blocks (with_pages pages cell)).chain ≡ entries_on entries (pages_on pages cell.chain)
+  pub grown_chain : (with_entries entries blocks (with_log_pages pages cell)).chain ≡ entries_on entries (pages_on pages cell.chain)
   grown_chain =
-      entries_chain entries blocks (with_pages pages cell) ∙ ap (λ (c : ChainState). entries_on entries c) (pages_chain pages cell)
+      entries_chain entries blocks (with_log_pages pages cell) ∙ ap (λ (c : ChainState). entries_on entries c) (pages_chain pages cell)
 
-  pub grown_generation : (with_entries entries blocks (with_pages pages cell)).generation ≡ cell.generation
-  grown_generation = entries_generation entries blocks (with_pages pages cell) ∙ pages_generation pages cell
+  pub grown_generation : (with_entries entries blocks (with_log_pages pages cell)).generation ≡ cell.generation
+  grown_generation = entries_generation entries blocks (with_log_pages pages cell) ∙ pages_generation pages cell
 
-  pub grown_block : (with_entries entries blocks (with_pages pages cell)).block ≡ cell.block
-  grown_block = entries_block entries blocks (with_pages pages cell) ∙ pages_block pages cell
+  pub grown_block : (with_entries entries blocks (with_log_pages pages cell)).block ≡ cell.block
+  grown_block = entries_block entries blocks (with_log_pages pages cell) ∙ pages_block pages cell
 
 -- the entries of such a chain
 pages_entries : (pages : List BlockValue) (chain : ChainState) → (pages_on pages chain).entries ≡ chain.entries

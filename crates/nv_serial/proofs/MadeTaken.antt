@@ -16,7 +16,7 @@ use Rattle.nv_machine.specs.Reads.{written_slots}
 use Rattle.nv_machine.specs.Sequence as sequence
 use Rattle.nv_machine.specs.Sequence.{Beginning, appending, beginning, begun, locking, looking, nothing_looked, publishing, retiring}
 use Rattle.nv_machine.specs.Step.{ending_at, is_numbered, kind_turn, made_in, with_made}
-use Rattle.nv_machine.specs.World.{Answers, Append, Check, Close, Ending, Enter, Give, HandState, Leave, Lock, Look, Maintenance, Next, Number, Open, Overtaken, Publish, Ready, Refuses, Retire, ReturnNumber, Running, Shared, TakeBlocks, TakeLogPages, Turn, Unlock, Visit, go_to, no_cell}
+use Rattle.nv_machine.specs.World.{Answers, Append, Check, Close, Ending, Enter, Give, HandState, Leave, Lock, Look, Maintenance, Next, Number, Open, BoundAnew, Publish, Ready, Refuses, Retire, ReturnNumber, Running, Shared, TakeBlocks, TakeLogPages, Turn, Unlock, Visit, go_to, no_cell}
 use Rattle.nv_machine.proofs.LoopSteps.{Commits, appending_any, is_on_files, locking_any, looking_any, publishing_any, retiring_any}
 use Rattle.nv_machine.proofs.NextSteps.{Known, KnowsNext, OnKnown, Untold}
 use Rattle.nv_machine.proofs.StepWalk.{WaysOf, any_takes, walk_of}
@@ -64,13 +64,13 @@ module _ (block actor : ℕ) (s0 : Shared) (c : Call) where
   MadeStage (TakeLogPages asked) s h r = IsMade r.made
   MadeStage Ready s h r = IsMade r.made
   MadeStage Enter s h r = IsMade r.made
-  MadeStage (Unlock place) s h r = r.ending ≡ Overtaken → NumberedIn h r
+  MadeStage (Unlock place) s h r = r.ending ≡ BoundAnew → NumberedIn h r
   MadeStage other s h r = Unit {0}
 
   abbrev pub OnMade : Turn → Type 0
   OnMade t = OnKnown MadeStage t
 
-  made_closes : {s : Shared} {h : HandState} {r : Running} {e : Ending} → (e ≡ Overtaken → NumberedIn h r)
+  made_closes : {s : Shared} {h : HandState} {r : Running} {e : Ending} → (e ≡ BoundAnew → NumberedIn h r)
       → Closes (KnowsNext MadeStage) Untold s h r e
   made_closes {s = s} {h = h} {r = r} {e = e} numbered = record {
     last = by_last (λ (n : Next). MadeStage n s h (record r { ending = e; next = n })) (λ place. numbered) (λ cpu. tt) tt;
@@ -202,7 +202,7 @@ module _ (block actor : ℕ) (s0 : Shared) (c : Call) where
         let d = work (Retire place) block actor s h r in let t : Running = go_to (retiring (place + 1) W) r in
         walks (Retire place) (retiring_any (λ (n : Next). MadeStage n d.shared d.hand t) (late d.shared d.hand t) (place + 1) W) refl
     kind_made Leave files cells going on = walks Leave (any_ends (made_closes (λ over. absurd (not_over (sym (going refl) ∙ over))))) refl where
-      not_over : Answers ≡ Overtaken → ⊥
+      not_over : Answers ≡ BoundAnew → ⊥
       not_over x = cc
     kind_made (Unlock place) files cells going on = walks (Unlock place) (λ more. on, λ past. any_overs (made_closes on)) refl
     kind_made (Give cpu) files cells going on = walks (Give cpu) rests_made refl

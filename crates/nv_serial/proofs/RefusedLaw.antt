@@ -36,14 +36,14 @@ use Rattle.nv_machine.proofs.AloneRefusals.{refused_for}
 use Rattle.nv_machine.proofs.EachElement.{all_weaker}
 use Rattle.nv_machine.proofs.WorldsAtRest.{start_again}
 use Rattle.nv_serial.specs.Committed.{need_of, needs}
-use Rattle.nv_serial.specs.FileCalls.{commit_if, commit_with, fits, if_passes, made_by, makes_inode, on_files, pass, plan_for, wanted}
+use Rattle.nv_serial.specs.FileCalls.{commit_if, commit_with, fits, if_passes, handle_for, makes_inode, on_files, pass, plan_for, wanted}
 use Rattle.nv_serial.specs.Free.{pool_of, row_of}
 use Rattle.nv_serial.specs.Law.{grows_nothing, serial_after}
 use Rattle.nv_serial.specs.OneCall.{serial_call}
 use Rattle.nv_serial.specs.Row.{plan_by_row}
 use Rattle.nv_serial.specs.Serial.{Outcome, Serial, refused}
 use Rattle.nv_serial.specs.Shown.{slot_told}
-use Rattle.nv_serial.proofs.AloneStages.{Beside, beside_after}
+use Rattle.nv_serial.proofs.AloneStages.{PlainState, beside_after}
 use Rattle.nv_serial.proofs.AtRestLists.{pool_is, row_is}
 use Rattle.nv_serial.proofs.AtRestLogs.{told_by}
 use Rattle.nv_serial.proofs.AtRestNodes.{plan_is, refusal_is, wanted_is}
@@ -121,7 +121,7 @@ module _ (g : GeometryNumbers) (start : World) (records : List Record) (is_start
   abbrev s : Serial
   s = told_by g w0 rs0
 
-  abbrev beside0 : Beside
+  abbrev beside0 : PlainState
   beside0 = beside_after start before (record { records = records; plain = plain_of start })
 
   abbrev some : 0 < length w0.shared.lists
@@ -190,8 +190,8 @@ module _ (g : GeometryNumbers) (start : World) (records : List Record) (is_start
       let f = finds_none c w0.shared.pool.numbers none in
       let numbers : pool_of s ≡ [] = sym (pool_is g w0 rs0 is0) ∙ f.none in
       ap (λ (tests : Tests). if_passes tests s actor c) passed ∙ ap (λ (b : Bool). pass b s actor c) f.something
-      ∙ ap (λ (b : Bool). commit_with (made_by b (pool_of s) s) s actor c) f.makes
-      ∙ ap (λ (ns : List ℕ). commit_with (made_by true ns s) s actor c) numbers
+      ∙ ap (λ (b : Bool). commit_with (handle_for b (pool_of s) s) s actor c) f.makes
+      ∙ ap (λ (ns : List ℕ). commit_with (handle_for true ns s) s actor c) numbers
 
   why : refusal g.block (node_in (settled_nodes w0.shared)) c ≡ passes → is_want fault ≡ true
       → Why g.block actor w0.shared c beside0 some fault → Says

@@ -35,7 +35,7 @@ use Rattle.nv_serial.specs.Law.{IsMadeAlone, IsOutcome, IsSerialCall}
 use Rattle.nv_serial.specs.Serial.{Outcome, Serial, refused, told}
 use Rattle.nv_serial.specs.Shown.{slot_told}
 use Rattle.nv_serial.specs.Snapshots.{show, show_of}
-use Rattle.nv_serial.proofs.AloneStages.{Beside, beside_then}
+use Rattle.nv_serial.proofs.AloneStages.{PlainState, beside_then}
 use Rattle.nv_serial.proofs.AtRestLogs.{told_by}
 use Rattle.nv_serial.proofs.AtRestTrees.{no_tree_reported, snapshot_tree_reported}
 use Rattle.nv_serial.proofs.SnapAlone.{Now, Tells, numbered}
@@ -84,26 +84,26 @@ module _ (g : GeometryNumbers) (w : World) (rs : List Record) (is : IsStart g w 
   made = show snapshot s
 
   -- behind its pin a show has changed the pins of its snapshot alone
-  abbrev pub pinned_beside : Beside
+  abbrev pub pinned_beside : PlainState
   pinned_beside = record { records = rs; plain = after_step (Pin snapshot) (plain_of w) }
 
   abbrev pub pinned_shared : Shared
   pinned_shared = with_book (after_pin_snapshot snapshot w.shared.book) w.shared
 
-  pub record IsPinned (n : ℕ) (b : Beside) (sh : Shared) : Type 0 where
+  pub record IsPinned (n : ℕ) (b : PlainState) (sh : Shared) : Type 0 where
     pub same : n ≡ snapshot
     pub lives : Contains (ids w.shared.book.snaps) snapshot
     pub beside_is : b ≡ pinned_beside
     pub shared_is : sh ≡ pinned_shared
 
-  abbrev pub Stage : Beside → Next → Shared → HandState → Running → Type 0
+  abbrev pub Stage : PlainState → Next → Shared → HandState → Running → Type 0
   Stage b (Maintenance (Pin n)) sh h r = IsFirst g w rs is actor what b (Maintenance (Pin n)) sh h r
   Stage b (Maintenance (Show n showing)) sh h r = (r.ending ≡ Answers) × IsPinned n b sh
   Stage b (Maintenance (Unpin n seen)) sh h r =
       ((r.ending ≡ Answers) ⊎ (r.ending ≡ Refuses out_of_memory)) × IsPinned n b sh
   Stage b k sh h r = ⊥
 
-  stage_showing : (left : ℕ) (visits : List Visit) (n : ℕ) (showing : Showing) (b : Beside) (sh : Shared) (h : HandState) (r : Running)
+  stage_showing : (left : ℕ) (visits : List Visit) (n : ℕ) (showing : Showing) (b : PlainState) (sh : Shared) (h : HandState) (r : Running)
       → r.ending ≡ Answers → IsPinned n b sh → Stage b (Maintenance (show_or_unpin left visits n showing)) sh h r
   stage_showing zero visits n showing b sh h r e at = (inl e, at)
   stage_showing (suc left) [] n showing b sh h r e at = (inl e, at)
@@ -155,13 +155,13 @@ module _ (g : GeometryNumbers) (w : World) (rs : List Record) (is : IsStart g w 
     abbrev h : HandState
     h = (actor_at v actor).hand
 
-    abbrev b : Beside
+    abbrev b : PlainState
     b = Now g w rs actor c events
 
     abbrev Then : Next → Turn → Type 0
     Then k t = let now = beside_then k sh h r t b in AfterBy ⊥ (KnowsNext (Stage now)) (Tells g w rs actor c made now) t
 
-    abbrev kept : Beside → Beside
+    abbrev kept : PlainState → PlainState
     kept x = record { records = x.records; plain = x.plain }
 
     again : (n : ℕ) → IsPinned n b sh → IsPinned n (kept b) sh
@@ -179,17 +179,17 @@ module _ (g : GeometryNumbers) (w : World) (rs : List Record) (is : IsStart g w 
     abbrev unpinned_shared : ℕ → Shared
     unpinned_shared n = with_book (after_unpin_snapshot n sh.book) sh
 
-    abbrev last_beside : ℕ → List TreeNode → Beside
+    abbrev last_beside : ℕ → List TreeNode → PlainState
     last_beside n seen = record { records = b.records; plain = after_step (Unpin n seen) b.plain }
 
     left_as_was : (n : ℕ) (seen : List TreeNode) → IsPinned n b sh
         → numbered g w rs actor c (last_beside n seen) (unpinned_shared n) ≡ s
     left_as_was n seen at =
         let plain : after_step (Unpin n seen) b.plain ≡ plain_of w =
-        ap (λ (x : Beside). after_step (Unpin n seen) x.plain) at.beside_is
+        ap (λ (x : PlainState). after_step (Unpin n seen) x.plain) at.beside_is
         ∙ ap (λ (m : ℕ). after_step (Unpin m seen) (after_step (Pin snapshot) (plain_of w))) at.same
         ∙ unpinned snapshot seen (plain_of w) in
-        let records : b.records ≡ rs = ap (λ (x : Beside). x.records) at.beside_is in
+        let records : b.records ≡ rs = ap (λ (x : PlainState). x.records) at.beside_is in
         let slots : map slot_told sh.cells ≡ map slot_told w.shared.cells = ap (λ (x : Shared). map slot_told x.cells) at.shared_is in
         λ i. record { numbers = g; plain = plain i; slots = slots i; records = records i }
 

@@ -20,7 +20,7 @@ use Rattle.nv_machine.proofs.StepWays.{AfterBy, Telling}
 use Rattle.nv_serial.specs.Law.{IsOutcome}
 use Rattle.nv_serial.specs.Serial.{Outcome, Serial}
 use Rattle.nv_serial.specs.Shown.{slot_told}
-use Rattle.nv_serial.proofs.AloneStages.{Beside, beside_after, beside_more, beside_then, beside_turned}
+use Rattle.nv_serial.proofs.AloneStages.{PlainState, beside_after, beside_more, beside_then, beside_turned}
 use Rattle.nv_serial.proofs.AtRestLogs.{told_by}
 
 -- ---- lists of replies
@@ -47,28 +47,28 @@ last_no_move (Err fault) e = cc
 
 module _ (g : GeometryNumbers) (w : World) (rs : List Record) (actor : ℕ) (c : Call) where
   -- what stands beside the run at first, and the world with numbers that this and what is shared tell
-  abbrev pub at_first : Beside
+  abbrev pub at_first : PlainState
   at_first = record { records = rs; plain = plain_of w }
 
-  abbrev pub numbered : Beside → Shared → Serial
+  abbrev pub numbered : PlainState → Shared → Serial
   numbered b s = record { numbers = g; plain = b.plain; slots = map slot_told s.cells; records = b.records }
 
   -- the last step replies and leaves what an outcome has
-  abbrev pub Tells : Outcome → Beside → Telling
+  abbrev pub Tells : Outcome → PlainState → Telling
   Tells made b result s h = IsOutcome c (told_by g w rs) made (reply_of result) (numbered b s)
 
-  abbrev pub Now : List Event → Beside
+  abbrev pub Now : List Event → PlainState
   Now events = beside_after w events at_first
 
   abbrev pub OthersRest : List Event → Type 0
   OthersRest events = (b : ℕ) → b ≢ actor → actor_at (after w events) b ≡ idle
 
   -- it holds before a step
-  abbrev pub Holds : (Beside → Known) → List Event → Running → Type 0
+  abbrev pub Holds : (PlainState → Known) → List Event → Running → Type 0
   Holds X events r = X (Now events) r.next (after w events).shared (actor_at (after w events) actor).hand r
 
   -- what is to be shown of the turn: it does not wait
-  abbrev pub HoldsThen : (Beside → Known) → Outcome → Beside → World → Running → Turn → Type 0
+  abbrev pub HoldsThen : (PlainState → Known) → Outcome → PlainState → World → Running → Turn → Type 0
   HoldsThen X made b v r t =
       let now = beside_then r.next v.shared (actor_at v actor).hand r t b in AfterBy ⊥ (KnowsNext (X now)) (Tells made now) t
 
@@ -77,7 +77,7 @@ module _ (g : GeometryNumbers) (w : World) (rs : List Record) (actor : ℕ) (c :
     pub outcome : IsOutcome c (told_by g w rs) made last (numbered (Now events) (after w events).shared)
     pub rest : IsAtRest (after w events)
 
-  module _ (X : Beside → Known) (made : Outcome)
+  module _ (X : PlainState → Known) (made : Outcome)
       (keeps : (events : List Event) (granted : Bool) (r : Running) → OthersRest events
       → (actor_at (after w events) actor).running ≡ Some r → Holds X events r
       → HoldsThen X made (Now events) (after w events) r (turn_at (after w events) actor granted r))
@@ -119,7 +119,7 @@ module _ (g : GeometryNumbers) (w : World) (rs : List Record) (actor : ℕ) (c :
           record {
             outcome =
                 subst (λ (x : World). IsOutcome c (told_by g w rs) made last (numbered (Now (events ++ e ∷ [])) x.shared)) (sym world)
-                (subst (λ (b : Beside). IsOutcome c (told_by g w rs) made last (numbered b s)) (sym then)
+                (subst (λ (b : PlainState). IsOutcome c (told_by g w rs) made last (numbered b s)) (sym then)
                 (subst (λ (l : Reply). IsOutcome c (told_by g w rs) made l
                 (numbered (beside_then r.next v.shared (actor_at v actor).hand r t (Now events)) s)) told on));
             rest = λ b. rests b (b == actor) refl;
@@ -165,7 +165,7 @@ module _ (g : GeometryNumbers) (w : World) (rs : List Record) (actor : ℕ) (c :
               (ap (λ (x : World). (actor_at x actor).running) world ∙ ap (λ (x : Actor). x.running) own)
               (subst (λ (x : World). X (Now more) q.next x.shared (actor_at x actor).hand q) (sym world)
               (subst (λ (x : Actor). X (Now more) q.next s x.hand q) (sym own)
-              (subst (λ (x : Beside). X x q.next s h q) (sym (beside_is events b r others runs t is)) on)))
+              (subst (λ (x : PlainState). X x q.next s h q) (sym (beside_is events b r others runs t is)) on)))
               (ap (λ (x : World). replies x (goes actor grants)) (sym (after_one events w (Go actor b))) ∙ tails told)
           by next (Ends result s h) is zero on told =
               let none : grants ≡ [] = no_grants (step (after w events) (Go actor b)).world actor grants (tails told) in

@@ -21,7 +21,7 @@ use Rattle.nv_serial.specs.Law.{AreRepliesTo, IsMadeAlone, IsOutcome, IsSerialCa
 use Rattle.nv_serial.specs.OneCall.{of_call, serial_call}
 use Rattle.nv_serial.specs.Serial.{Outcome, Serial, refused}
 use Rattle.nv_serial.specs.Shown.{slot_told}
-use Rattle.nv_serial.proofs.AloneStages.{Beside}
+use Rattle.nv_serial.proofs.AloneStages.{PlainState}
 use Rattle.nv_serial.proofs.AtRestLogs.{told_by}
 use Rattle.nv_serial.proofs.AtRestPlain.{serial_is}
 use Rattle.nv_serial.proofs.CommitLaw.{there_is}
@@ -74,7 +74,7 @@ module _ (g : GeometryNumbers) (w : World) (rs : List Record) (is : IsStart g w 
   pub is_inside : (step w (Start actor c)).reply ≡ Started → nat_lt actor g.actors ≡ true
   is_inside = there (nat_lt actor (length w.actors)) (actor_at w actor).running refl
 
-  module _ (X : Beside → Known) (made : Outcome)
+  module _ (X : PlainState → Known) (made : Outcome)
       (keeps : (events : List Event) (granted : Bool) (r : Running) → OthersRest g w rs actor c events
       → (actor_at (after w events) actor).running ≡ Some r → Holds g w rs actor c X events r
       → HoldsThen g w rs actor c X made (Now g w rs actor c events) (after w events) r (turn_at (after w events) actor granted r))
@@ -157,7 +157,7 @@ module _ (g : GeometryNumbers) (start : World) (records : List Record) (before :
       })
 
   -- THE LAW of a call, by what holds before its steps
-  pub is_serial : (X : Beside → Known)
+  pub is_serial : (X : PlainState → Known)
       → ((events : List Event) (granted : Bool) (r : Running) → OthersRest g world_then records_then actor c events
       → (actor_at (after world_then events) actor).running ≡ Some r → Holds g world_then records_then actor c X events r
       → HoldsThen g world_then records_then actor c X (of_call told_then actor c) (Now g world_then records_then actor c events)

@@ -28,7 +28,7 @@ use Rattle.nv_machine.proofs.StepWays.{AfterBy}
 use Rattle.nv_serial.specs.Law.{IsMadeAlone, IsSerialCall}
 use Rattle.nv_serial.specs.Serial.{Outcome, Serial, refused}
 use Rattle.nv_serial.specs.Snapshots.{drop_if, snap_if}
-use Rattle.nv_serial.proofs.AloneStages.{Beside, beside_then}
+use Rattle.nv_serial.proofs.AloneStages.{PlainState, beside_then}
 use Rattle.nv_serial.proofs.AtRestLogs.{living_is, told_by}
 use Rattle.nv_serial.proofs.AtRestTests.{drop_tests_are, make_tests_are}
 use Rattle.nv_serial.proofs.SnapAlone.{Holds, HoldsThen, Now, Tells, at_first}
@@ -38,14 +38,14 @@ module _ (g : GeometryNumbers) (w : World) (rs : List Record) (is : IsStart g w 
   abbrev pub c : Call
   c = call.Maintenance what
 
-  abbrev pub b0 : Beside
+  abbrev pub b0 : PlainState
   b0 = at_first g w rs actor c
 
   abbrev pub first_run : Running
   first_run = begun (beginning c) w.shared c
 
   -- before the first step nothing has changed
-  pub record IsFirst (b : Beside) (k : Next) (sh : Shared) (h : HandState) (r : Running) : Type 0 where
+  pub record IsFirst (b : PlainState) (k : Next) (sh : Shared) (h : HandState) (r : Running) : Type 0 where
     pub beside_is : b ≡ b0
     pub shared_is : sh ≡ w.shared
     pub hand_is : h ≡ empty_hand
@@ -55,14 +55,14 @@ module _ (g : GeometryNumbers) (w : World) (rs : List Record) (is : IsStart g w 
   first = record { beside_is = refl; shared_is = refl; hand_is = refl; run_is = refl }
 
   -- what is to be shown of a turn behind it
-  abbrev pub ThenBy : (Beside → Known) → Outcome → Beside → Shared → HandState → Running → Turn → Type 0
+  abbrev pub ThenBy : (PlainState → Known) → Outcome → PlainState → Shared → HandState → Running → Turn → Type 0
   ThenBy X made b sh h r t =
       let now = beside_then r.next sh h r t b in AfterBy ⊥ (KnowsNext (X now)) (Tells g w rs actor c made now) t
 
-  abbrev pub FirstTurn : (Beside → Known) → Outcome → Turn → Type 0
+  abbrev pub FirstTurn : (PlainState → Known) → Outcome → Turn → Type 0
   FirstTurn X made t = ThenBy X made b0 w.shared empty_hand first_run t
 
-  pub first_keeps : (X : Beside → Known) (made : Outcome) (events : List Event) (granted : Bool) (r : Running)
+  pub first_keeps : (X : PlainState → Known) (made : Outcome) (events : List Event) (granted : Bool) (r : Running)
       → Holds g w rs actor c IsFirst events r
       → FirstTurn X made (maintenance_turn (first_step (length w.shared.cells) what) actor granted w.shared empty_hand first_run)
       → HoldsThen g w rs actor c X made (Now g w rs actor c events) (after w events) r (turn_at (after w events) actor granted r)
@@ -71,7 +71,7 @@ module _ (g : GeometryNumbers) (w : World) (rs : List Record) (is : IsStart g w 
       let h = (actor_at v actor).hand in
       let T : Shared → HandState → Running → Turn = λ sh h r. kind_turn r.next v.numbers.block actor granted sh h r in
       subst (λ (q : Running). ThenBy X made (Now g w rs actor c events) v.shared h q (T v.shared h q)) (sym at.run_is)
-      (subst (λ (b : Beside). ThenBy X made b v.shared h first_run (T v.shared h first_run)) (sym at.beside_is)
+      (subst (λ (b : PlainState). ThenBy X made b v.shared h first_run (T v.shared h first_run)) (sym at.beside_is)
       (subst (λ (sh : Shared). ThenBy X made b0 sh h first_run (T sh h first_run)) (sym at.shared_is)
       (subst (λ (x : HandState). ThenBy X made b0 w.shared x first_run (T w.shared x first_run)) (sym at.hand_is) turned)))
 

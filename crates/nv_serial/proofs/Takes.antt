@@ -9,7 +9,7 @@ use Rattle.nv_base.specs.declared.fault.Fault.{Fault}
 use Rattle.nv_base.specs.declared.numbers.Handle.{Handle}
 use Rattle.nv_book.specs.Book.{BookState}
 use Rattle.nv_calls.specs.AllCalls.{blocks_wanted, plan}
-use Rattle.nv_calls.specs.Plan.{runs_of}
+use Rattle.nv_calls.specs.Plan.{block_runs_of}
 use Rattle.nv_calls.specs.declared.call.Call.{Call}
 use Rattle.nv_calls.specs.declared.plan.InodePlan.{InodePlan}
 use Rattle.nv_cell.specs.Cell.{CellState}
@@ -17,7 +17,7 @@ use Rattle.nv_machine.specs.Kinds.{asked_list, less_list}
 use Rattle.nv_machine.specs.Reads.{copies, has_last_page, plan_by, slot_at}
 use Rattle.nv_machine.specs.Sequence.{locking, looking}
 use Rattle.nv_machine.specs.Step.{kind_turn}
-use Rattle.nv_machine.specs.World.{Check, Ending, Enter, HandState, Lock, Look, Next, Number, Overtaken, Ready, Refuses, Running, Shared, TakeBlocks, TakeLogPages, Turn, Unlock, go_to, list_at, with_owner}
+use Rattle.nv_machine.specs.World.{Check, Ending, Enter, HandState, Lock, Look, Next, Number, BoundAnew, Ready, Refuses, Running, Shared, TakeBlocks, TakeLogPages, Turn, Unlock, go_to, list_at, with_owner}
 use Rattle.nv_machine.proofs.NextSteps.{Known, KnowsNext, OnKnown, Untold}
 use Rattle.nv_machine.proofs.LoopSteps.{is_on_files, locking_any, looking_any}
 use Rattle.nv_machine.proofs.StepWalk.{WaysOf, walk_of}
@@ -93,13 +93,13 @@ module _ (block actor : ℕ) (s0 : Shared) (c : Call) (some : 0 < length s0.list
   Stage (TakeLogPages asked) s h r = TakingIn asked s h r.call × (asked < cpus) × (length h.blocks ≡ wants)
   Stage Ready s h r = TakingIn 0 s h r.call × (length h.blocks ≡ wants)
   Stage Enter s h r = IsReady s.cells s.book s.lists h.blocks h.pages r.call r.made r.plan
-  Stage (Unlock place) s h r = r.ending ≡ Overtaken → EarlyIn s h r.call
+  Stage (Unlock place) s h r = r.ending ≡ BoundAnew → EarlyIn s h r.call
   Stage other s h r = Unit {0}
 
   abbrev pub OnStage : Turn → Type 0
   OnStage t = OnKnown Stage t
 
-  pub stage_closes : {s : Shared} {h : HandState} {r : Running} {e : Ending} → (e ≡ Overtaken → EarlyIn s h r.call)
+  pub stage_closes : {s : Shared} {h : HandState} {r : Running} {e : Ending} → (e ≡ BoundAnew → EarlyIn s h r.call)
       → Closes (KnowsNext Stage) Untold s h r e
   stage_closes {s = s} {h = h} {r = r} {e = e} early = record {
     last = by_last (λ (n : Next). Stage n s h (record r { ending = e; next = n })) (λ place. early) (λ cpu. tt) tt;
@@ -339,10 +339,10 @@ module _ (block actor : ℕ) (s0 : Shared) (c : Call) (some : 0 < length s0.list
 
     pub planned : plan_by block s h r ≡ plan_by_row block s0 actor c r.made
     planned =
-        ap (λ (d : Call). plan block (copies s) (record { made = r.made; runs = runs_of (numbers_of h.blocks) }) d) taking.same.call_is
-        ∙ ap (λ (ns : List ℕ). plan block (copies s) (record { made = r.made; runs = runs_of ns }) c) numbers
+        ap (λ (d : Call). plan block (copies s) (record { made = r.made; runs = block_runs_of (numbers_of h.blocks) }) d) taking.same.call_is
+        ∙ ap (λ (ns : List ℕ). plan block (copies s) (record { made = r.made; runs = block_runs_of ns }) c) numbers
         ∙ ap (λ (cs : List CellState). let x : Shared = record s0 { cells = cs } in
-        plan block (copies x) (record { made = r.made; runs = runs_of (take wants all) }) c) taking.same.cells_are
+        plan block (copies x) (record { made = r.made; runs = block_runs_of (take wants all) }) c) taking.same.cells_are
 
     ready_ways : (granted : Bool) → WaysOf (KnowsNext Stage) Untold Ready block actor granted s h r
     ready_ways granted = (

@@ -6,7 +6,7 @@ use Rattle.nv_machine.specs.Hands.{is_going}
 use Rattle.nv_machine.specs.Reads.{written_slots}
 use Rattle.nv_machine.specs.Sequence.{appending, publishing, retiring}
 use Rattle.nv_machine.specs.Step.{kind_turn}
-use Rattle.nv_machine.specs.World.{Answers, Append, Close, Ending, Enter, Give, HandState, Leave, Maintenance, Next, Open, Overtaken, Publish, Retire, ReturnNumber, Running, Shared, Unlock, Visit, go_to}
+use Rattle.nv_machine.specs.World.{Answers, Append, Close, Ending, Enter, Give, HandState, Leave, Maintenance, Next, Open, BoundAnew, Publish, Retire, ReturnNumber, Running, Shared, Unlock, Visit, go_to}
 use Rattle.nv_machine.proofs.NextSteps.{Known, KnowsNext, OnKnown, Untold}
 use Rattle.nv_machine.proofs.LoopSteps.{Commits, appending_any, is_on_files, publishing_any, retiring_any}
 use Rattle.nv_machine.proofs.StepWalk.{WaysOf, walk_of}
@@ -64,7 +64,7 @@ module _ (block actor : ℕ) (s0 : Shared) (c : Call) (some : 0 < length s0.list
         let d = work (Retire place) block actor s h r in let t : Running = go_to (retiring (place + 1) W) r in
         walks (Retire place) (retiring_any (λ (n : Next). St n d.shared d.hand t) (late_commits d.shared d.hand t) (place + 1) W) refl
     go Leave e files going on = walks Leave (any_ends (stage_closes block actor s0 c some (λ over. absurd (not_over (sym (going refl) ∙ over))))) refl where
-      not_over : Answers ≡ Overtaken → ⊥
+      not_over : Answers ≡ BoundAnew → ⊥
       not_over x = cc
     go (Unlock place) e files going on = walks (Unlock place) (λ more. on, λ past. any_overs (stage_closes block actor s0 c some on)) refl
     go (Give cpu) e files going on = walks (Give cpu) rests_on refl

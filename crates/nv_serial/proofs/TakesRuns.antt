@@ -17,7 +17,7 @@ use Rattle.nv_machine.proofs.NextSteps.{Known, KnowsNext, Untold}
 use Rattle.nv_machine.proofs.OverEvents.{turn_at}
 use Rattle.nv_machine.proofs.StepWays.{Telling}
 use Rattle.nv_serial.specs.Row.{IsPlannedByRow}
-use Rattle.nv_serial.proofs.AloneStages.{Beside, IsOn, Turns, after_by, stands}
+use Rattle.nv_serial.proofs.AloneStages.{PlainState, IsOn, Turns, after_by, stands}
 use Rattle.nv_serial.proofs.Takes.{EarlyIn, OnStage, Stage, is_before_commit, stage_on}
 use Rattle.nv_serial.proofs.TakesBehind.{past_on}
 
@@ -61,10 +61,10 @@ module _ (g : GeometryNumbers) (start : World) (records : List Record) (is_start
     OnRow k s h r = Stage g.block actor s0 c (some_lists before) k s h r
 
     -- the row speaks of nothing that stands beside
-    abbrev RowBeside : Beside → Known
+    abbrev RowBeside : PlainState → Known
     RowBeside b = OnRow
 
-    abbrev UntoldBeside : Beside → Telling
+    abbrev UntoldBeside : PlainState → Telling
     UntoldBeside b = Untold
 
     pub row_keeps : (events : List Event) (granted : Bool) (r : Running) → IsOn g start records is_start actor c plain now_others events r
@@ -85,7 +85,7 @@ module _ (g : GeometryNumbers) (start : World) (records : List Record) (is_start
               past_on g.block actor s0 c (some_lists before) r.next granted (after start events).shared
               (actor_at (after start events) actor).hand r e on.files on.going stage
 
-    row_turns : (events : List Event) (granted : Bool) (r : Running) (b : Beside) → IsOn g start records is_start actor c plain now_others events r
+    row_turns : (events : List Event) (granted : Bool) (r : Running) (b : PlainState) → IsOn g start records is_start actor c plain now_others events r
         → OnRow r.next (after start events).shared (actor_at (after start events) actor).hand r
         → Turns RowBeside UntoldBeside actor b (after start events).shared (actor_at (after start events) actor).hand r
         (turn_at (after start events) actor granted r)

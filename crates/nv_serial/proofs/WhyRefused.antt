@@ -25,7 +25,7 @@ use Rattle.nv_machine.specs.Reads.{copies, pages_wanted, plan_by, written_slots}
 use Rattle.nv_machine.specs.Sequence.{appending, beginning, locking, looking, publishing, retiring}
 use Rattle.nv_machine.specs.Sequence as sequence
 use Rattle.nv_machine.specs.Step.{ending_at, is_numbered, kind_turn, visit_grows}
-use Rattle.nv_machine.specs.World.{Answers, Append, Check, Cleans, Close, Drains, Ending, Enter, Give, HandState, Leave, Lock, Look, Maintenance, Next, Number, Open, Overtaken, Publish, Ready, Refuses, Retire, ReturnNumber, Running, Shared, TakeBlocks, TakeLogPages, Turn, Unlock, Visit, go_to, list_at}
+use Rattle.nv_machine.specs.World.{Answers, Append, Check, Cleans, Close, Drains, Ending, Enter, Give, HandState, Leave, Lock, Look, Maintenance, Next, Number, Open, BoundAnew, Publish, Ready, Refuses, Retire, ReturnNumber, Running, Shared, TakeBlocks, TakeLogPages, Turn, Unlock, Visit, go_to, list_at}
 use Rattle.nv_machine.proofs.DecidedNext as told
 use Rattle.nv_machine.proofs.LoopSteps.{Commits, appending_any, is_on_files, locking_any, looking_any, publishing_any, retiring_any}
 use Rattle.nv_machine.proofs.NextSteps.{Known, KnowsNext}
@@ -34,7 +34,7 @@ use Rattle.nv_machine.proofs.StepWays.{After, Closes, Telling, any_ends, any_las
 use Rattle.nv_machine.proofs.StepWork.{number_work, work}
 use Rattle.nv_serial.specs.Law.{grows_nothing}
 use Rattle.nv_serial.specs.Row.{data_for, plan_by_row, row_at}
-use Rattle.nv_serial.proofs.AloneStages.{Beside}
+use Rattle.nv_serial.proofs.AloneStages.{PlainState}
 use Rattle.nv_serial.proofs.CommitStages.{ArePlanned}
 use Rattle.nv_serial.proofs.MadeTaken.{IsMade, MadeStage, number_for}
 use Rattle.nv_serial.proofs.Takes.{Stage, free_short, planned}
@@ -82,7 +82,7 @@ check_fails (Ok passed) true (Ok all) false changes fault e = inr (inr (cc, refl
 check_fails (Ok passed) true (Ok all) true [] fault e = cc
 check_fails (Ok passed) true (Ok all) true (change ∷ changes) fault e = cc
 
-module _ (block actor : ℕ) (s0 : Shared) (c : Call) (b0 : Beside) (some : 0 < length s0.lists) where
+module _ (block actor : ℕ) (s0 : Shared) (c : Call) (b0 : PlainState) (some : 0 < length s0.lists) where
   -- ---- the causes
 
   -- the row has fewer blocks than the data and the log pages of the plan
@@ -132,7 +132,7 @@ module _ (block actor : ℕ) (s0 : Shared) (c : Call) (b0 : Beside) (some : 0 < 
   why_told : (s : Shared) (h : HandState) (r : Running) (e : Ending) → WhyEnds e → WhyTold (result_by e r) s h
   why_told s h r Answers why = tt
   why_told s h r (Refuses fault) why = why
-  why_told s h r Overtaken why = Late refl
+  why_told s h r BoundAnew why = Late refl
   why_told s h r (Drains draining) why = tt
   why_told s h r (Cleans cleaned) why = tt
 

@@ -26,7 +26,7 @@ use Rattle.nv_machine.proofs.SingleEvents.{goes as goes_by_turn}
 use Rattle.nv_machine.proofs.StepWays.{AfterBy, Going, Telling}
 use Rattle.nv_machine.proofs.WorldFacts.{hands_paged}
 use Rattle.nv_serial.specs.Row.{data_for, row_at}
-use Rattle.nv_serial.proofs.AloneStages.{Beside, IsOn, Turns, after_by, beside_then, both_by, stands_then}
+use Rattle.nv_serial.proofs.AloneStages.{PlainState, IsOn, Turns, after_by, beside_then, both_by, stands_then}
 use Rattle.nv_serial.proofs.CommitRuns.{E, X, b0, begun_made, begun_stands, first, held, is_entering, keeps, others}
 use Rattle.nv_serial.proofs.CommitStages.{ArePlanned}
 use Rattle.nv_serial.proofs.CommitWalk.{Stands}
@@ -40,7 +40,7 @@ module _ (g : GeometryNumbers) (start : World) (records : List Record) (is_start
   abbrev s0 : Shared
   s0 = (after start before).shared
 
-  abbrev beside0 : Beside
+  abbrev beside0 : PlainState
   beside0 = b0 g start records is_start before actor c plain started rest
 
   abbrev some : 0 < length s0.lists
@@ -52,10 +52,10 @@ module _ (g : GeometryNumbers) (start : World) (records : List Record) (is_start
   abbrev TellsWhy : Telling
   TellsWhy = WhyTold g.block actor s0 c beside0 some
 
-  abbrev XWhy : Beside → Known
+  abbrev XWhy : PlainState → Known
   XWhy b k s h r = X g start records is_start before actor c plain started rest b k s h r × Stage k s h r
 
-  abbrev EWhy : Beside → Telling
+  abbrev EWhy : PlainState → Telling
   EWhy b x s h = E g start records is_start before actor c plain started rest b x s h × TellsWhy x s h
 
   begun_why : (b : Beginning) → Stage (begun b s0 c).next s0 empty_hand (begun b s0 c)
@@ -67,7 +67,7 @@ module _ (g : GeometryNumbers) (start : World) (records : List Record) (is_start
 
   module _ (events : List Event) (r : Running)
       (on : IsOn g start records is_start actor c plain (others g start records is_start before actor c plain started rest) events r)
-      (granted : Bool) (b : Beside)
+      (granted : Bool) (b : PlainState)
       (had : X g start records is_start before actor c plain started rest b r.next (after start events).shared
       (actor_at (after start events) actor).hand r) where
     abbrev w : World
@@ -120,7 +120,7 @@ module _ (g : GeometryNumbers) (start : World) (records : List Record) (is_start
         (sym (all_numbers g start records events is_start).numbers)
         (kind_why g.block actor s0 c beside0 some granted w.shared h r r.next on.files knows why)))
 
-  ended_why : (b : Beside) (W : Type 0) (P : Going) (t : Turn) (w : World) (fault : Fault) → AfterBy W P (EWhy b) t
+  ended_why : (b : PlainState) (W : Type 0) (P : Going) (t : Turn) (w : World) (fault : Fault) → AfterBy W P (EWhy b) t
       → (turned t actor w).reply ≡ Refused fault → Why g.block actor s0 c beside0 some fault
   ended_why b W P (Moves s h q) w fault on e = cc
   ended_why b W P Waits w fault on e = cc

@@ -13,7 +13,7 @@ use Rattle.nv_log.proofs.Chains.{appends_entry, room-page}
 use Rattle.nv_log.proofs.Growth.{enough, none_more}
 use Rattle.nv_log.specs.Chain.{AreEnds, ChainState, IsChain, appended as appended_chain, pages_for, pages_of, room_of, with_page}
 use Rattle.nv_log.proofs.Parts.{length-parts}
-use Rattle.nv_machine.specs.Kinds.{with_entries, with_pages}
+use Rattle.nv_machine.specs.Kinds.{with_entries, with_log_pages}
 use Rattle.nv_machine.specs.Pages.{AreOnPages}
 use Rattle.nv_machine.proofs.PageCells.{append_on}
 use Rattle.nv_serial.specs.LogPages.{Page, fresh, with_all, with_entry}
@@ -43,25 +43,25 @@ told_behind (b ∷ blocks) more (part ∷ parts) le =
     ap (λ (l : List Page). record { number = number_of b; entries = part } ∷ l)
     (told_behind blocks more parts (omega (arith, le)))
 
-paged_blocks : (pages : List BlockValue) (cell : CellState) → (with_pages pages cell).chain.blocks
+paged_blocks : (pages : List BlockValue) (cell : CellState) → (with_log_pages pages cell).chain.blocks
     ≡ cell.chain.blocks ++ pages
 paged_blocks [] cell = sym (append-nil cell.chain.blocks)
 paged_blocks (b ∷ pages) cell =
     paged_blocks pages (record cell { chain = with_page b cell.chain })
     ∙ append_assoc cell.chain.blocks (b ∷ []) pages
 
-paged_parts : (pages : List BlockValue) (cell : CellState) → pages_of (with_pages pages cell).chain
+paged_parts : (pages : List BlockValue) (cell : CellState) → pages_of (with_log_pages pages cell).chain
     ≡ pages_of cell.chain
 paged_parts [] cell = refl
 paged_parts (b ∷ pages) cell = paged_parts pages (record cell { chain = with_page b cell.chain })
 
-paged_entries : (pages : List BlockValue) (cell : CellState) → (with_pages pages cell).chain.entries
+paged_entries : (pages : List BlockValue) (cell : CellState) → (with_log_pages pages cell).chain.entries
     ≡ cell.chain.entries
 paged_entries [] cell = refl
 paged_entries (b ∷ pages) cell = paged_entries pages
     (record cell { chain = with_page b cell.chain })
 
-paged_generation : (pages : List BlockValue) (cell : CellState) → (with_pages pages cell).generation
+paged_generation : (pages : List BlockValue) (cell : CellState) → (with_log_pages pages cell).generation
     ≡ cell.generation
 paged_generation [] cell = refl
 paged_generation (b ∷ pages) cell = paged_generation pages
@@ -70,9 +70,9 @@ paged_generation (b ∷ pages) cell = paged_generation pages
 -- FRESH PAGES stand behind those that are there
 pub shown_paged : (pages : List BlockValue) (cell : CellState) → length cell.chain.ends
     ≤ length cell.chain.blocks
-    → shown (with_pages pages cell).chain ≡ shown cell.chain ++ fresh (numbers_of pages)
+    → shown (with_log_pages pages cell).chain ≡ shown cell.chain ++ fresh (numbers_of pages)
 shown_paged pages cell paged =
-    ap (λ (bs : List BlockValue). pages_told bs (pages_of (with_pages pages cell).chain))
+    ap (λ (bs : List BlockValue). pages_told bs (pages_of (with_log_pages pages cell).chain))
     (paged_blocks pages cell)
     ∙ ap (pages_told (cell.chain.blocks ++ pages)) (paged_parts pages cell)
     ∙ told_behind cell.chain.blocks pages (pages_of cell.chain)
@@ -110,7 +110,7 @@ module _ (page : ℕ) (least : LEAST_PAGE_ENTRIES ≤ page) (most : page ≤ PAG
   }
 
   pages_on : (pages : List BlockValue) (cell : CellState) → AreOnPages page cell.chain
-      → AreOnPages page (with_pages pages cell).chain
+      → AreOnPages page (with_log_pages pages cell).chain
   pages_on [] cell on = on
   pages_on (b ∷ pages) cell on = pages_on pages (record cell { chain = with_page b cell.chain })
       (record {
@@ -121,7 +121,7 @@ module _ (page : ℕ) (least : LEAST_PAGE_ENTRIES ≤ page) (most : page ≤ PAG
 
   pages_room : (pages : List BlockValue) (cell : CellState) → AreOnPages page cell.chain
       → IsLog cell.chain.entries
-      → room_of (with_pages pages cell).chain ≡ room_of cell.chain + length pages * page
+      → room_of (with_log_pages pages cell).chain ≡ room_of cell.chain + length pages * page
   pages_room [] cell on log = omega arith
   pages_room (b ∷ pages) cell on log =
       let next : CellState = record cell { chain = with_page b cell.chain } in
@@ -167,7 +167,7 @@ module _ (page : ℕ) (least : LEAST_PAGE_ENTRIES ≤ page) (most : page ≤ PAG
   pub told_all : (entries : List Entry) (bs pages : List BlockValue) (cell : CellState)
       → AreOnPages page cell.chain
       → IsLog (cell.chain.entries ++ entries) → pages_for cell.chain (length entries) ≡ length pages
-      → slot_told (with_entries entries bs (with_pages pages cell))
+      → slot_told (with_entries entries bs (with_log_pages pages cell))
       ≡ record (slot_told cell)
       { pages = with_all page entries ((slot_told cell).pages ++ fresh (numbers_of pages)) }
   told_all entries bs pages cell on log needed =
@@ -176,12 +176,12 @@ module _ (page : ℕ) (least : LEAST_PAGE_ENTRIES ≤ page) (most : page ≤ PAG
       let same : pages_for chain (length entries) * chain.page ≡ length pages * page =
       ap (λ (k : ℕ). k * chain.page) needed ∙ ap (λ (k : ℕ). length pages * k) on.size in
       let room = pages_room pages cell on (front_log chain.entries entries log) in
-      let log_then : IsLog ((with_pages pages cell).chain.entries ++ entries) =
+      let log_then : IsLog ((with_log_pages pages cell).chain.entries ++ entries) =
       subst (λ (es : List Entry). IsLog (es ++ entries)) (sym (paged_entries pages cell)) log in
-      let stays = entries_generation entries bs (with_pages pages cell)
+      let stays = entries_generation entries bs (with_log_pages pages cell)
       ∙ paged_generation pages cell in
       let stand =
-      shown_entries entries bs (with_pages pages cell) (pages_on pages cell on) log_then
+      shown_entries entries bs (with_log_pages pages cell) (pages_on pages cell on) log_then
       (omega (arith, whole, same, room))
       ∙ ap (with_all page entries) (shown_paged pages cell on.each) in
       λ i. record { generation = stays i; pages = stand i }

@@ -24,6 +24,7 @@ use Rattle.nv_serial.specs.Serial.{NumberedSlot, Serial, copies_now, keepers, li
 abbrev pub need_of : Serial → List InodePlan → ℕ → ℕ
 need_of s plan ino = pages_more s.numbers.page (slot_of s ino).pages (length (items_for plan ino))
 
+-- how many log pages a plan needs in all slots
 abbrev pub needs : Serial → List InodePlan → ℕ
 needs s plan = sum_by (need_of s plan) (range_with_len 0 (length s.slots))
 
@@ -31,11 +32,13 @@ needs s plan = sum_by (need_of s plan) (range_with_len 0 (length s.slots))
 abbrev pub entries_by : Serial → List InodePlan → ℕ → List Entry
 entries_by s plan ino = entries_of (s.plain.commit + 1) s.plain.epoch (place_in plan ino) (items_for plan ino)
 
--- the pages with these numbers go to the slots in rising order
+-- the pages with these numbers go to the slots in rising order.
+-- Its log pages are the next ones, which go to the inodes in rising number.
 abbrev pub pages_by : Serial → List InodePlan → List ℕ → ℕ → List Page
 pages_by s plan numbers ino =
     fresh (take (need_of s plan ino) (drop (sum_by (need_of s plan) (range_with_len 0 ino)) numbers))
 
+-- a slot once a plan was appended: with log pages of these numbers
 abbrev pub slot_after : Serial → List InodePlan → List ℕ → ℕ → NumberedSlot
 slot_after s plan numbers ino = record (slot_of s ino) {
   pages = with_all s.numbers.page (entries_by s plan ino) ((slot_of s ino).pages ++ pages_by s plan numbers ino);
@@ -48,7 +51,8 @@ abbrev pub killed_of : ℕ → List Entry → List Entry → List KilledPart
 killed_of block log entries =
     flat_map (λ n. option_to_list (killed_part (log ++ entries) n)) (killed_numbers block (log ++ entries) (length log))
 
--- what of it a living snapshot holds is recorded, slot by slot
+-- what of it a living snapshot holds is recorded, slot by slot.
+-- What they kill and a living snapshot holds goes to the end of the records, inode by inode.
 abbrev pub records_with : Serial → List InodePlan → List ℕ → List Record → List Record
 records_with s plan [] rs = rs
 records_with s plan (ino ∷ inos) rs =
@@ -57,7 +61,8 @@ records_with s plan (ino ∷ inos) rs =
 
 -- ---- erasing
 
--- an inode is over that is gone, and of which nothing is kept
+-- an inode is over that is gone, and of which nothing is kept.
+-- An inode that is gone and of which nothing is kept is over: its inode slot is empty then, of the next generation.
 abbrev pub is_over : Serial → ℕ → Bool
 is_over s ino =
     is_gone (log_in s ino) && not (list_any (keeps (keepers s ino)) (pairs s.numbers.block (log_in s ino)))
@@ -66,11 +71,13 @@ is_over s ino =
 abbrev pub left_in : Serial → ℕ → NumberedSlot
 left_in s ino = if is_over s ino then record { generation = (slot_of s ino).generation + 1; pages = [] } else slot_of s ino
 
+-- the world once every inode that is over was erased
 abbrev pub erased : Serial → Serial
 erased s = record s { slots = map (left_in s) (range_with_len 0 (length s.slots)) }
 
 -- ---- THE WORLD AFTER A COMMIT of a plan, with the effect of its call and with these blocks as log pages
 
+-- What a commit leaves: the plain world with the effect of the call, and entries on their log pages.
 abbrev pub committed : Serial → Handle → Call → List InodePlan → List ℕ → Serial
 committed s made c plan numbers = erased (record s {
   plain = record s.plain {

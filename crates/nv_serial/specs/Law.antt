@@ -18,7 +18,9 @@ use Rattle.nv_serial.specs.OneCall.{serial_call}
 use Rattle.nv_serial.specs.Serial.{Outcome, Serial}
 use Rattle.nv_serial.specs.Shown.{slot_told}
 
--- the world with numbers after these events from a start on: the plain world and the records beside the run, and the slots
+-- the world with numbers after these events from a start on: the plain world and the records beside the run, and the slots.
+-- After events: the plain world and the records that stand beside the run, and of each cell the generation and the
+-- log pages.
 abbrev pub serial_after : GeometryNumbers → World → List Record → List Event → Serial
 serial_after g start records events = record {
   numbers = g;
@@ -27,7 +29,8 @@ serial_after g start records events = record {
   records = records_after start events records;
 }
 
--- a call that never wants memory, since none of its steps grows anything
+-- a call that never wants memory, since none of its steps grows anything.
+-- The calls `stat`, `lookup`, `snap` and `drop` grow nothing.
 abbrev pub grows_nothing : Call → Bool
 grows_nothing (call.Stat handle) = true
 grows_nothing (call.Lookup dir name) = true
@@ -51,20 +54,25 @@ AreRepliesTo grants told last =
     ((grants ≡ []) × (told ≡ last ∷ []) × (last ≢ Started))
     ⊎ ((count : ℕ) × (told ≡ Started ∷ (replicate count Moved ++ last ∷ [])) × (last ≢ Moved))
 
--- A CALL THAT IS MADE ALONE, after events from a start on after which no call runs, and its last reply
+-- A CALL THAT IS MADE ALONE, after events from a start on after which no call runs, and its last reply.
+-- Made alone: a start after which no other actor makes a step up to the first reply of the call that is not
+-- `Moved`, behind events after which no call runs. Where the start is refused that is all.
 pub record IsMadeAlone (g : GeometryNumbers) (start : World) (records : List Record) (before : List Event) (actor : ℕ) (c : Call)
     (grants : List Bool) (last : Reply) : Type 0 where
   pub start_is : IsStart g start records
   pub rest : IsAtRest (after start before)
   pub replies_are : AreRepliesTo grants (replies (after start before) (alone actor c grants)) last
 
--- its reply and what it leaves are those of the world with numbers, and then no call runs again
+-- its reply and what it leaves are those of the world with numbers, and then no call runs again.
+-- Serial: that reply and the world with numbers after it are those of `serial_call`, or memory is refused to a call
+-- that grows something and nothing has changed. Then no call runs.
 pub record IsSerialCall (g : GeometryNumbers) (start : World) (records : List Record) (before : List Event) (actor : ℕ) (c : Call)
     (grants : List Bool) (last : Reply) : Type 0 where
   pub outcome : IsOutcome c (serial_after g start records before) (serial_call (serial_after g start records before) actor c) last
       (serial_after g start records (before ++ alone actor c grants))
   pub rest : IsAtRest (after start (before ++ alone actor c grants))
 
+-- the law of calls that are made one at a time
 abbrev pub CallsAreSerial : Type 0
 CallsAreSerial =
     (g : GeometryNumbers) (start : World) (records : List Record) (before : List Event) (actor : ℕ) (c : Call) (grants : List Bool)

@@ -10,9 +10,11 @@ pub record Page : Type 0 where
   pub number : ℕ
   pub entries : List Entry
 
+-- the entries of pages, in order
 abbrev pub entries_in : List Page → List Entry
 entries_in pages = flat_map (λ (p : Page). p.entries) pages
 
+-- the pages have an entry
 abbrev pub has_more : List Page → Bool
 has_more pages = has_entry (entries_in pages)
 
@@ -27,6 +29,7 @@ with_entry size e (p ∷ pages) =
     if nat_lt (length p.entries) size && not (has_more pages) then record p { entries = p.entries ++ e ∷ [] } ∷ pages
     else p ∷ with_entry size e pages
 
+-- the pages with more entries, one after another
 abbrev pub with_all : ℕ → List Entry → List Page → List Page
 with_all size [] pages = pages
 with_all size (e ∷ entries) pages = with_all size entries (with_entry size e pages)
@@ -36,6 +39,7 @@ abbrev pub room_in : ℕ → List Page → ℕ
 room_in size [] = 0
 room_in size (p ∷ pages) = if has_more pages then room_in size pages else (size - length p.entries) + size * length pages
 
--- how many more pages so many entries need, of a log that grows by doubling
+-- how many more pages so many entries need, of a log that grows by doubling.
+-- How many more log pages entries need is told by the growth of chains.
 abbrev pub pages_more : ℕ → List Page → ℕ → ℕ
 pages_more size pages count = pages_in count size (length pages) (room_in size pages) count

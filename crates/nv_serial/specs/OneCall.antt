@@ -10,6 +10,7 @@ use Rattle.nv_serial.specs.FileCalls.{on_files}
 use Rattle.nv_serial.specs.Serial.{Outcome, Serial, refused}
 use Rattle.nv_serial.specs.Snapshots.{drain, drop_snapshot, show, snap}
 
+-- what a call on snapshots, or a cleaner, is replied and leaves
 abbrev pub maintained : Serial → ℕ → MaintenanceCall → Outcome
 maintained s actor on.Snap = snap s
 maintained s actor (on.Drop snapshot) = drop_snapshot snapshot s
@@ -19,10 +20,12 @@ maintained s actor (on.Fast ino) = if_inode s ino (fast s ino)
 maintained s actor (on.Thorough ino) = if_inode s ino (thorough s actor ino)
 maintained s actor (on.Auto ino) = if_inode s ino (auto s actor ino)
 
+-- what a call is replied and leaves
 abbrev pub of_call : Serial → ℕ → Call → Outcome
 of_call s actor (call.Maintenance what) = maintained s actor what
 of_call s actor c = on_files s actor c
 
+-- One call: its reply and the world after it. An actor that is not there is refused `NoActor`.
 abbrev pub serial_call : Serial → ℕ → Call → Outcome
 serial_call s actor c = if_there (nat_lt actor s.numbers.actors) where
   if_there : Bool → Outcome

@@ -5,7 +5,7 @@ use Rattle.nv_alloc.specs.Block.{BlockValue, numbers_of}
 use Rattle.nv_alloc.specs.FreeList.{FreeBlocks}
 use Rattle.nv_base.specs.declared.numbers.Handle.{Handle}
 use Rattle.nv_calls.specs.AllCalls.{blocks_wanted, plan}
-use Rattle.nv_calls.specs.Plan.{runs_of}
+use Rattle.nv_calls.specs.Plan.{block_runs_of}
 use Rattle.nv_calls.specs.declared.call.Call.{Call}
 use Rattle.nv_calls.specs.declared.plan.InodePlan.{InodePlan}
 use Rattle.nv_machine.specs.Reads.{copies, has_last_page}
@@ -29,7 +29,7 @@ data_for block s c = blocks_wanted block (copies s) (has_last_page block s c) c
 abbrev pub plan_by_row : ℕ → Shared → ℕ → Call → Handle → List InodePlan
 plan_by_row block s actor c made = plan block (copies s) (record {
   made = made;
-  runs = runs_of (take (data_for block s c) (row_at s actor));
+  runs = block_runs_of (take (data_for block s c) (row_at s actor));
 }) c
 
 -- a plan is that of the first numbers of the row, and the log pages in the hand are the next ones; the lists have the rest

@@ -22,15 +22,23 @@ use Rattle.nv_serial.specs.LogPages.{Page, entries_in}
 
 -- a slot: its generation, and the pages of its inode's log
 pub record NumberedSlot : Type 0 where
+  -- the slot's generation
   pub generation : ℕ
+  -- the pages of its log
   pub pages : List Page
 
 -- the numbers of the geometry, the plain world, its slots with their logs, and the records of what living snapshots hold
--- or have held
+-- or have held.
+-- World with numbers: the numbers of the geometry, the plain world, each inode slot with its generation and the log
+-- pages of its inode, and the records.
 pub record Serial : Type 0 where
+  -- the numbers of the geometry
   pub numbers : GeometryNumbers
+  -- the plain world
   pub plain : Plain
+  -- the inode slots, with their logs
   pub slots : List NumberedSlot
+  -- all records, in one list
   pub records : List Record
 
 -- a new world: the root, whose log has block 0
@@ -45,12 +53,15 @@ new_serial g = record {
 
 -- ---- what stands in it
 
+-- a slot that is not there
 abbrev pub no_slot : NumberedSlot
 no_slot = record { generation = 0; pages = [] }
 
+-- an inode slot
 abbrev pub slot_of : Serial → ℕ → NumberedSlot
 slot_of s ino = slice_index_or s.slots ino no_slot
 
+-- the log of an inode slot
 abbrev pub log_in : Serial → ℕ → List Entry
 log_in s ino = entries_in (slot_of s ino).pages
 
@@ -81,8 +92,10 @@ pub record Outcome : Type 0 where
   pub reply : Reply
   pub world : Serial
 
+-- a refusal, and the world as it was
 abbrev pub refused : Fault → Serial → Outcome
 refused fault s = record { reply = Refused fault; world = s }
 
+-- an answer, and the world as it was
 abbrev pub told : Answer → Serial → Outcome
 told a s = record { reply = Done a; world = s }

@@ -13,5 +13,6 @@ pages_told [] parts = []
 pages_told (b ∷ blocks) [] = record { number = number_of b; entries = [] } ∷ pages_told blocks []
 pages_told (b ∷ blocks) (part ∷ parts) = record { number = number_of b; entries = part } ∷ pages_told blocks parts
 
+-- a cell as the world with numbers has it
 abbrev pub slot_told : CellState → NumberedSlot
 slot_told cell = record { generation = cell.generation; pages = pages_told cell.chain.blocks (pages_of cell.chain) }

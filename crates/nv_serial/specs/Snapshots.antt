@@ -23,6 +23,7 @@ snap_if false false s = told (answers.Snapshot s.plain.epoch) (record s {
   };
 })
 
+-- The calls on snapshots and the cleaners have a few lines each.
 abbrev pub snap : Serial → Outcome
 snap s = snap_if (nat_le NUMBER s.plain.epoch) (nat_le s.numbers.snaps (length s.plain.copies)) s
 
@@ -35,6 +36,7 @@ drop_if true snapshot s = told answers.Nothing (record s {
   records = with_moved snapshot (living s) s.records;
 })
 
+-- a `drop`: refused where no such snapshot lives
 abbrev pub drop_snapshot : ℕ → Serial → Outcome
 drop_snapshot snapshot s = drop_if (list_any (is_of snapshot) s.plain.copies) snapshot s
 
@@ -42,17 +44,21 @@ drop_snapshot snapshot s = drop_if (list_any (is_of snapshot) s.plain.copies) sn
 abbrev pub tree_in : Serial → Copy → List TreeNode
 tree_in s copy = tree_from copy.nodes (length s.slots) [] root
 
+-- the first of a list, if there is one
 abbrev pub first_of : {X : Type 0} → List X → Option X
 first_of [] = None
 first_of (x ∷ xs) = Some x
 
+-- the tree of a snapshot, if it lives
 abbrev pub snapshot_tree_told : Serial → ℕ → Option (List TreeNode)
 snapshot_tree_told s snapshot = option_map (tree_in s) (first_of (filter (is_of snapshot) s.plain.copies))
 
+-- a `show` that is answered, or refused
 abbrev pub show_of : Option (List TreeNode) → Serial → Outcome
 show_of None s = refused NoSnapshot s
 show_of (Some nodes) s = told (answers.Tree nodes) s
 
+-- a `show`
 abbrev pub show : ℕ → Serial → Outcome
 show snapshot s = show_of (snapshot_tree_told s snapshot) s
 
@@ -65,5 +71,6 @@ released (suc more) s = released more (erased (record s { records = without_firs
 abbrev pub drain_of : ℕ → Serial → Outcome
 drain_of count s = told (answers.Count count) (released count s)
 
+-- a `drain`: at most as many records as its number says
 abbrev pub drain : ℕ → Serial → Outcome
 drain count s = drain_of (min (max 1 (min count DRAIN)) (length (deferred_in s))) s

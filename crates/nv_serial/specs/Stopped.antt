@@ -7,7 +7,8 @@ use Rattle.nv_cell.specs.Readers.{has_entry}
 use Rattle.nv_serial.specs.LogPages.{Page, entries_in}
 use Rattle.nv_serial.specs.Serial.{NumberedSlot, Serial, living, log_in}
 
--- a page without an entry goes
+-- a page without an entry goes.
+-- Log pages without an entry are gone.
 abbrev pub stays : Page → Bool
 stays p = has_entry p.entries
 
@@ -20,7 +21,11 @@ slot_stopped snapshots block slot =
     else record slot { pages = filter stays slot.pages }
 
 -- a slot has a record of each pair that is not current and that a living snapshot holds, in the
--- order of its log
+-- order of its log.
+-- The records are those of pairs that are not current and that a living snapshot holds, by rising inode number and
+-- in the order of the log. Example: a file is removed under the only snapshot, which is then dropped. Its pairs are
+-- deferred, and keep its log. A stop erases it at once: its log pages and its blocks are free, without a drain, and
+-- its number may be taken again, of the next generation.
 abbrev pub records_stopped : Serial → ℕ → List Record
 records_stopped s ino = log_records s.numbers.block (living s) ino (log_in s ino)
 

@@ -9,13 +9,13 @@ use Rattle.nv_cell.specs.Cell.{CellValue}
 use Rattle.nv_core.specs.AtRest.{IsMismatchOf}
 use Rattle.nv_core.specs.declared.parts.Parts.{Parts}
 use Rattle.nv_service.specs.Closing.{AreBeside, IsDifference, IsNotOlder}
-use Rattle.nv_service.specs.Rests.{AreAllSlots, AreInPlace, CellRestValue, IsKnown, told_by, told_of}
+use Rattle.nv_service.specs.Rests.{AreAllSlots, AreInPlace, CellRestValue, IsKnown, rest_told, cell_told}
 use Rattle.nv_service.specs.Sessions.{SessionValue}
 use Rattle.nv_service.proofs.NotOlder.{not_older}
 
 -- no cell is older than a session has seen it
 pub none_older : (opened : List ℕ) (sessions : List SessionValue) (rests : List CellRestValue) (cells : List CellValue)
-    → map told_by rests ≡ map told_of cells → AreInPlace rests
+    → map rest_told rests ≡ map cell_told cells → AreInPlace rests
     → All (λ (s : SessionValue). All (IsKnown opened s.seen) rests) sessions
     → All (λ (s : SessionValue). IsNotOlder opened s.seen cells) sessions
 none_older opened sessions rests cells fit placed known =
@@ -23,10 +23,10 @@ none_older opened sessions rests cells fit placed known =
 
 -- what lay beside cells is as it came out of their locks
 pub beside : (geometry : Geometry) (slots : ℕ) (parts : Parts) (rests cells : List CellRestValue) → cells ≡ rests
-    → parts.geometry ≡ geometry → length cells ≡ slots → AreAllSlots rests → map told_by rests ≡ map told_of parts.cells
+    → parts.geometry ≡ geometry → length cells ≡ slots → AreAllSlots rests → map rest_told rests ≡ map cell_told parts.cells
     → AreBeside geometry slots parts cells
 beside geometry slots parts rests cells same device count order told =
-    record { device = device; count = count; order = subst AreAllSlots (sym same) order; told = ap (map told_by) same ∙ told }
+    record { device = device; count = count; order = subst AreAllSlots (sym same) order; told = ap (map rest_told) same ∙ told }
 
 -- the seats are not why parts differ
 pub not_seats : (parts : Parts) (cells : List CellRestValue) (fault : Fault)

@@ -2,7 +2,7 @@
 use Rattle.std.proofs.Common.{◌≡◌, ◌+◌, ◌≤◌, ◌++◌, Bool, true, false, cond, List, [], ◌∷◌, length, length-append, arith}
 use Rattle.nv_alloc.specs.Block.{BlockValue}
 use Rattle.nv_alloc.specs.FreeList.{FreeBlocks}
-use Rattle.nv_alloc.specs.Giving.{after_giving, after_offer, kept_of, takes}
+use Rattle.nv_alloc.specs.Giving.{after_giving, after_offer, not_taken, takes}
 use Rattle.nv_alloc.specs.Hand.{blocks_of}
 use Rattle.nv_alloc.specs.Queue.{after_home}
 use Rattle.nv_alloc.specs.declared.hand.Hand.{Hand}
@@ -12,10 +12,10 @@ at_most_one : (b : BlockValue) (t : Bool) → length (cond t [] (b ∷ [])) ≤ 
 at_most_one b true = omega arith
 at_most_one b false = omega arith
 
-keeps_no_more : (list : FreeBlocks) (bs : List BlockValue) → length (kept_of list bs) ≤ length bs
+keeps_no_more : (list : FreeBlocks) (bs : List BlockValue) → length (not_taken list bs) ≤ length bs
 keeps_no_more list [] = omega arith
 keeps_no_more list (b ∷ bs) =
-    let later = kept_of (after_offer list b) bs in
+    let later = not_taken (after_offer list b) bs in
     omega (
       arith,
       keeps_no_more (after_offer list b) bs,
@@ -31,7 +31,7 @@ pub record Moves (list : FreeBlocks) (old new : Hand) : Type 0 where
 
 pub given_moves : (list : FreeBlocks) (old new : Hand) → new.«data» ≡ after_home list old.«data»
     → new.pages ≡ after_home (after_giving list old.«data».blocks) old.pages
-    → new.chain ≡ kept_of (after_giving list (old.«data».blocks ++ old.pages.blocks)) old.chain
+    → new.chain ≡ not_taken (after_giving list (old.«data».blocks ++ old.pages.blocks)) old.chain
     → Moves list old new
 given_moves list old new d p c =
     let all = hand_count list old new d p c in

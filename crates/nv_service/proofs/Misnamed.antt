@@ -13,7 +13,7 @@ pub misnamed_else : (there : Bool) (told : CheckEnd)
 misnamed_else false told = inl refl
 misnamed_else true (ends.Refuses fault.Stale) = inr (refl, refl)
 misnamed_else true (ends.Refuses other) = inl refl
-misnamed_else true ends.Overtaken = inl refl
+misnamed_else true ends.BoundAnew = inl refl
 misnamed_else true ends.Answers = inl refl
 
 -- an end that is no refusal is told as it is

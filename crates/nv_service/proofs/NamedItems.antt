@@ -18,7 +18,7 @@ use Rattle.nv_entry.specs.declared.item.Item.TheVariants.{Bind, Gone, Init, SetS
 use Rattle.nv_calls.specs.Nodes.{block_in, nodes_in}
 use Rattle.nv_calls.specs.Plain.{same_handle}
 use Rattle.nv_calls.specs.Plan.{planned}
-use Rattle.nv_calls.specs.Prepared.{CanReady, HasNumberFor, handle_in, made_by, makes, no_handle, planned_by, taken_by}
+use Rattle.nv_calls.specs.Prepared.{CanReady, HasNumberFor, handle_in, handle_made_by, makes, no_handle, planned_by, taken_by}
 use Rattle.nv_calls.specs.Refusals.{Check, found, passes, want_bound}
 use Rattle.nv_calls.specs.Slots.{items_for}
 use Rattle.nv_calls.specs.calls.Lookup.{lookup_refusal}
@@ -127,7 +127,7 @@ named cells hand (update.Rename from old to new) can whole blocks =
 
 -- ---- the inode that a call makes
 
-pub made_named : (cells : List (ℕ × CellValue)) (hand : Hand) (u : Update) (made : Handle) → made_by cells hand.ino u ≡ Some made
+pub made_named : (cells : List (ℕ × CellValue)) (hand : Hand) (u : Update) (made : Handle) → handle_made_by cells hand.ino u ≡ Some made
     → HasItems (planned_by cells hand u) made
 made_named cells hand (update.Create dir name mode) made is =
     let u = update.Create dir name mode in
@@ -153,5 +153,5 @@ some_made cells true None has = absurd has
 some_made cells false number has = refl
 
 pub made_where : (cells : List (ℕ × CellValue)) (hand : Hand) (u : Update) → CanReady cells hand u
-    → is_some (made_by cells hand.ino u) ≡ makes u
+    → is_some (handle_made_by cells hand.ino u) ≡ makes u
 made_where cells hand u can = some_made cells (makes u) hand.ino can.number

@@ -4,7 +4,7 @@ use Rattle.std.proofs.lemmas.List.{get_or-map, length-map}
 use Rattle.nv_cell.specs.Cell.{CellValue}
 use Rattle.nv_service.specs.Closing.{IsNotOlder}
 use Rattle.nv_service.specs.Locked.{version_at}
-use Rattle.nv_service.specs.Rests.{AreInPlace, CellRestValue, IsKnown, Told, told_by, told_of}
+use Rattle.nv_service.specs.Rests.{AreInPlace, CellRestValue, IsKnown, Told, rest_told, cell_told}
 
 no_rest : CellRestValue
 no_rest = record { slot = 0; ino = 0; blocks = 0; version = 0 }
@@ -23,16 +23,16 @@ known_from_start opened seen rests known = λ k d lt.
 
 -- no cell is older than what was seen, where its owner knows as much
 pub not_older : (opened seen : List ℕ) (rests : List CellRestValue) (cells : List CellValue)
-    → map told_by rests ≡ map told_of cells → AreInPlace rests → All (IsKnown opened seen) rests
+    → map rest_told rests ≡ map cell_told cells → AreInPlace rests → All (IsKnown opened seen) rests
     → IsNotOlder opened seen cells
 not_older opened seen rests cells fit placed known ino d lt =
-    let count = length-map rests told_by in
-    let many = length-map cells told_of in
+    let count = length-map rests rest_told in
+    let many = length-map cells cell_told in
     let within : ino < length rests = omega (arith, lt, count, many, ap (λ (ts : List Told). length ts) fit) in
     let rest = slice_index_or rests ino no_rest in
-    let told : told_by rest ≡ told_of (slice_index_or cells ino d) =
-    sym (get_or-map told_by rests ino no_rest no_told within)
-    ∙ ap (λ (ts : List Told). slice_index_or ts ino no_told) fit ∙ get_or-map told_of cells ino d no_told lt in
+    let told : rest_told rest ≡ cell_told (slice_index_or cells ino d) =
+    sym (get_or-map rest_told rests ino no_rest no_told within)
+    ∙ ap (λ (ts : List Told). slice_index_or ts ino no_told) fit ∙ get_or-map cell_told cells ino d no_told lt in
     let here : version_at opened ino (slice_index seen ino) ≤ rest.version =
     subst (λ (n : ℕ). version_at opened n (slice_index seen n) ≤ rest.version) (placed ino no_rest within)
     (known ino no_rest within) in

@@ -10,8 +10,8 @@ use Rattle.nv_base.specs.declared.numbers.Handle.{Handle}
 use Rattle.nv_book.specs.Book.{BookState, after_enter}
 use Rattle.nv_calls.specs.CanCommit.{IsClosed}
 use Rattle.nv_calls.specs.Cells.{ino_at, no_cell, state_at}
-use Rattle.nv_calls.specs.Committed.{hand_left, place_of, receipt_by}
-use Rattle.nv_calls.specs.Prepared.{HasNoLessRoom, HaveNoLessRoom, HoldsTheSame, made_by, makes, planned_by, plans_by}
+use Rattle.nv_calls.specs.Committed.{hand_left, cell_place_of, receipt_by}
+use Rattle.nv_calls.specs.Prepared.{HasNoLessRoom, HaveNoLessRoom, HoldsTheSame, handle_made_by, makes, planned_by, plans_by}
 use Rattle.nv_calls.specs.Ready.{CellCommitValue, ReadyValue}
 use Rattle.nv_calls.specs.Slots.{items_for}
 use Rattle.nv_calls.specs.declared.update.Update.{Update}
@@ -31,26 +31,26 @@ use Rattle.nv_service.proofs.ReadyOver.{can, placed}
 -- ---- which cells are planned
 
 is_planned : (plans : List CellCommitValue) (k n : ℕ)
-    → ((j : ℕ) × (j < n) × (place_of plans j ≡ k)) ⊎ ((j : ℕ) → j < n → place_of plans j ≡ k → ⊥)
+    → ((j : ℕ) × (j < n) × (cell_place_of plans j ≡ k)) ⊎ ((j : ℕ) → j < n → cell_place_of plans j ≡ k → ⊥)
 is_planned plans k zero = inr (λ j lt same. absurd (omega (arith, lt)))
-is_planned plans k (suc n) = go (place_of plans n == k) refl (is_planned plans k n) where
-  go : (here : Bool) → (place_of plans n == k) ≡ here
-      → ((j : ℕ) × (j < n) × (place_of plans j ≡ k)) ⊎ ((j : ℕ) → j < n → place_of plans j ≡ k → ⊥)
-      → ((j : ℕ) × (j < suc n) × (place_of plans j ≡ k)) ⊎ ((j : ℕ) → j < suc n → place_of plans j ≡ k → ⊥)
-  go true q before = inl (n, omega arith, eqb-true (place_of plans n) k q)
+is_planned plans k (suc n) = go (cell_place_of plans n == k) refl (is_planned plans k n) where
+  go : (here : Bool) → (cell_place_of plans n == k) ≡ here
+      → ((j : ℕ) × (j < n) × (cell_place_of plans j ≡ k)) ⊎ ((j : ℕ) → j < n → cell_place_of plans j ≡ k → ⊥)
+      → ((j : ℕ) × (j < suc n) × (cell_place_of plans j ≡ k)) ⊎ ((j : ℕ) → j < suc n → cell_place_of plans j ≡ k → ⊥)
+  go true q before = inl (n, omega arith, eqb-true (cell_place_of plans n) k q)
   go false q (inl found) = inl (found.0, omega (arith, found.1), found.2)
   go false q (inr none) =
       inr (λ j lt same. elim (cases_lt j n) [
         | inl less ↦ none j less same
         | inr ge ↦
             let last : j ≡ n = omega (arith, ge, lt) in
-            eqb-false (place_of plans n) k q (sym (ap (place_of plans) last) ∙ same)
+            eqb-false (cell_place_of plans n) k q (sym (ap (cell_place_of plans) last) ∙ same)
       ])
 
 module _ (cells now : List (ℕ × CellValue)) (ready : ReadyValue) (r : IsReadyOver cells ready) (book : BookState)
     (changes : CommitsCells book ready cells now) where
   raised_at : (j : ℕ) → j < length ready.plans
-      → (state_at now (place_of ready.plans j)).version ≡ (state_at cells (place_of ready.plans j)).version + 1
+      → (state_at now (cell_place_of ready.plans j)).version ≡ (state_at cells (cell_place_of ready.plans j)).version + 1
   raised_at j lt =
       ap (λ (s : CellState). s.version) (changes.planned j lt) ∙ committed_version (ids book.snaps) cells (next_commit book ready) j
 
@@ -79,12 +79,12 @@ module _ (cells now : List (ℕ × CellValue)) (ready : ReadyValue) (r : IsReady
   raised_for ino some =
       let at = found_for r.before r.hand r.update r.can ino some in
       let lt : at.0 < length ready.plans = omega (arith, at.1, ap (λ (ps : List CellCommitValue). length ps) r.is.plans) in
-      let here : place_of ready.plans at.0 ≡ place_of (plans_by r.before r.hand r.update) at.0 =
-      ap (λ (ps : List CellCommitValue). place_of ps at.0) r.is.plans in
+      let here : cell_place_of ready.plans at.0 ≡ cell_place_of (plans_by r.before r.hand r.update) at.0 =
+      ap (λ (ps : List CellCommitValue). cell_place_of ps at.0) r.is.plans in
       record {
-        at = place_of ready.plans at.0;
+        at = cell_place_of ready.plans at.0;
         within = (placed cells ready r).within at.0 lt;
-        ino_is = r.room.inos (place_of ready.plans at.0) ∙ ap (ino_at r.before) here ∙ at.2;
+        ino_is = r.room.inos (cell_place_of ready.plans at.0) ∙ ap (ino_at r.before) here ∙ at.2;
         version = raised_at at.0 lt;
       }
 
@@ -96,7 +96,7 @@ module _ (cells now : List (ℕ × CellValue)) (ready : ReadyValue) (r : IsReady
       (named r.before r.hand r.update r.can r.is.some_bytes r.is.whole))
 
   -- with the inode that it makes
-  with_made : (made : Option Handle) → made_by r.before r.hand.ino r.update ≡ made → AreRaised cells now (published_by ready.update made)
+  with_made : (made : Option Handle) → handle_made_by r.before r.hand.ino r.update ≡ made → AreRaised cells now (published_by ready.update made)
   with_made None is = all_raised
   with_made (Some made) is =
       all_append (λ (h : Handle). IsRaised cells now h.ino) (handles_of ready.update) (made ∷ []) all_raised

@@ -329,7 +329,7 @@ nothing_found (update.Rename from old to new) = refl
 
 -- ---- a call that is overtaken looks names up
 
-overtakes : (e l : Check) (same numbered nothing : Bool) → check_ends e same l numbered nothing ≡ Some ends.Overtaken → same ≡ false
+overtakes : (e l : Check) (same numbered nothing : Bool) → check_ends e same l numbered nothing ≡ Some ends.BoundAnew → same ≡ false
 overtakes (Err f) l same numbered nothing h = cc
 overtakes (Ok passed) l false numbered nothing h = refl
 overtakes (Ok passed) (Err f) true numbered nothing h = cc
@@ -356,13 +356,13 @@ bound_anew nodes (update.Rmdir dir name) before none h = refl
 bound_anew nodes (update.Rename from old to new) before none h = refl
 
 pub overtaken_looks : (block : ℕ) (cells : List (ℕ × CellValue)) (before : LookupResult) (u : Update) (hand : Hand) → LooksFor u before
-    → EndsCheck block cells before u hand ends.Overtaken → looks_up u ≡ true
+    → EndsCheck block cells before u hand ends.BoundAnew → looks_up u ≡ true
 overtaken_looks block cells before u hand looks (inl refused) = let e = refused.1 in cc
 overtaken_looks block cells before u hand looks (inr (inl refused)) = let e = refused.0 in cc
 overtaken_looks block cells before u hand looks (inr (inr told)) =
     let c = blank_call u in
     let nodes = nodes_in cells in
-    let is = told_as_it_is (directories_there nodes u) told.0 ends.Overtaken told.1 (λ why wrong. cc) in
+    let is = told_as_it_is (directories_there nodes u) told.0 ends.BoundAnew told.1 (λ why wrong. cc) in
     bound_anew nodes u before looks
     (overtakes (early nodes c) (late block nodes before c) (same_looked (looked nodes c) before) (is_some hand.ino || not (makes u))
     (is_nothing c) (told.2 ∙ ap (λ (end : CheckEnd). Some end) is))

@@ -12,8 +12,8 @@ use Rattle.nv_calls.specs.Cells.{AreCells, no_cell}
 use Rattle.nv_calls.specs.HandRoom.{pages_at_most}
 use Rattle.nv_calls.specs.Nodes.{block_in, has_page_in, nodes_in}
 use Rattle.nv_calls.specs.PagesWanted.{pages_wanted}
-use Rattle.nv_calls.specs.Plan.{runs_of}
-use Rattle.nv_calls.specs.Prepared.{CanReady, HasNumberFor, IsStill, made_by, makes, no_handle, planned_by}
+use Rattle.nv_calls.specs.Plan.{block_runs_of}
+use Rattle.nv_calls.specs.Prepared.{CanReady, HasNumberFor, IsStill, handle_made_by, makes, no_handle, planned_by}
 use Rattle.nv_calls.specs.Refusals.{passes}
 use Rattle.nv_calls.specs.AllCalls.{refusal}
 use Rattle.nv_calls.specs.Updates.{blank_call, blocks_taken}
@@ -61,7 +61,7 @@ pub planned_alike : (cells : List (ℕ × CellValue)) (one other : Hand) (u : Up
     → one.«data».blocks ≡ other.«data».blocks → planned_by cells one u ≡ planned_by cells other u
 planned_alike cells one other u ino blocks =
     ap₂ (λ (i : Option ℕ) (bs : List BlockValue).
-    let taken : Allocation = record { made = unwrap_or (made_by cells i u) no_handle; runs = runs_of (numbers_of bs) } in
+    let taken : Allocation = record { made = unwrap_or (handle_made_by cells i u) no_handle; runs = block_runs_of (numbers_of bs) } in
     plan (block_in cells) (nodes_in cells) taken (blank_call u)) ino blocks
 
 module _ (block : ℕ) (cells : List (ℕ × CellValue)) (hand : Hand) (u : Update) (wanted : ℕ) (lent : AreCells cells)

@@ -17,6 +17,10 @@ abbrev pub turned_by : Fault → Bool → Bool
 turned_by NoSpace turn = not turn
 turned_by other turn = turn
 
+-- Short of blocks: a taking asks the lists in turn, that of the seat's CPU first. The seat has a turn, which is
+-- another one each time that a taking falls short, and else stays. Only one that has asked as many lists as there
+-- are CPUs can fall short. Example: of 4 CPUs seat 5 asks the lists 1, 2, 3 and 0. Where all had too few together,
+-- the turn is another one, and the call ends by `NoSpace`.
 abbrev pub turned_in : {A : Type 0} → Result A Fault → Bool → Bool
 turned_in (Ok done) turn = turn
 turned_in (Err why) turn = turned_by why turn
@@ -28,7 +32,7 @@ turned_end (Err other) turn = turn
 
 abbrev pub turned_round : RoundEnd → Bool → Bool
 turned_round (round.Ends result) turn = turned_in result turn
-turned_round (round.Overtaken back) turn = turn
+turned_round (round.BoundAnew back) turn = turn
 
 -- a fault that tells of no taking that fell short
 abbrev pub IsNoShortage : Fault → Type 0

@@ -25,7 +25,7 @@ use Rattle.nv_calls.specs.declared.update.Update.TheVariants as update
 use Rattle.nv_cell.specs.Cell.{CellValue, IsCell, block_total}
 use Rattle.nv_entry.specs.declared.node.NodeCopy.{NodeCopy}
 use Rattle.nv_service.specs.declared.change.ChangeEnd.{ChangeEnd}
-use Rattle.nv_service.specs.declared.change.ChangeEnd.TheVariants.{Answers, Overtaken, Refuses}
+use Rattle.nv_service.specs.declared.change.ChangeEnd.TheVariants.{Answers, BoundAnew, Refuses}
 use Rattle.nv_service.specs.Refusing.{MayEnd, looks_up}
 
 -- ---- what is tested of the parts that a change is lent
@@ -38,7 +38,10 @@ AreOfSize block cells = AllByRecursion (λ (c : ℕ × CellValue). c.1.state.blo
 abbrev pub AreSettled : List (ℕ × CellValue) → Type 0
 AreSettled cells = AllByRecursion (λ (c : ℕ × CellValue). c.1.state.chain.tail ≡ length c.1.state.chain.entries) cells
 
--- why cells are not lent to a change: blocks of another size, or an entry past a tail
+-- why cells are not lent to a change: blocks of another size, or an entry past a tail.
+-- What no type keeps is tested before a change, and such a test tells `Mismatch`: that blocks have the device's
+-- size and no entry stands past a tail, that a name leads to an inode, that the cells take the book's next commit
+-- and the CPU's journal is closed, that a record can be released.
 abbrev pub RefusesCells : ℕ → List (ℕ × CellValue) → Fault → Type 0
 RefusesCells block cells refusal =
     ((refusal ≡ fault.Mismatch part.Lists) × (AreOfSize block cells → ⊥))
@@ -87,6 +90,7 @@ EndsCheck block cells looked u hand end =
 
 -- ---- blocks
 
+-- each block has a number below 2^32
 abbrev pub AreSmall : List BlockValue → Type 0
 AreSmall blocks = AllByRecursion (λ (b : BlockValue). b.number < 2 ^ 32) blocks
 
@@ -103,6 +107,7 @@ blocks_in cells = sum_by (λ (c : ℕ × CellValue). block_total c.1.state) cell
 
 -- ---- versions
 
+-- each of these cells is a cell
 abbrev pub AreWhole : List (ℕ × CellValue) → Type 0
 AreWhole cells = AllByRecursion (λ (c : ℕ × CellValue). IsCell c.1.state) cells
 
@@ -113,6 +118,7 @@ pub record MayBeRaised (old new : List (ℕ × CellValue)) : Type 0 where
   pub least : (k : ℕ) → (state_at old k).version ≤ (state_at new k).version
   pub most : (k : ℕ) → (state_at new k).version ≤ (state_at old k).version + 1
 
+-- no cell has another version than before
 abbrev pub KeepVersions : List (ℕ × CellValue) → List (ℕ × CellValue) → Type 0
 KeepVersions old new = (k : ℕ) → (state_at new k).version ≡ (state_at old k).version
 
@@ -158,12 +164,13 @@ HaveSeenHigher before after handles = AllByRecursion (λ (h : Handle). slice_ind
 abbrev pub RaisesPublished : List (ℕ × CellValue) → List (ℕ × CellValue) → Update → ReceiptValue → Type 0
 RaisesPublished old new u receipt = AreRaised old new (published_by u receipt.made)
 
+-- the session has seen a higher version of each inode that a receipt published
 abbrev pub SeesPublished : List ℕ → List ℕ → Update → ReceiptValue → Type 0
 SeesPublished before after u receipt = HaveSeenHigher before after (published_by u receipt.made)
 
 -- what a change that is overtaken hands back is the call, which looks names up; one that is answered has nothing to commit; one
 -- that is refused may be
 abbrev pub IsOfCall : Update → ChangeEnd → Type 0
-IsOfCall call (Overtaken back) = (back ≡ call) × (looks_up call ≡ true)
+IsOfCall call (BoundAnew back) = (back ≡ call) × (looks_up call ≡ true)
 IsOfCall call Answers = is_nothing (blank_call call) ≡ true
 IsOfCall call (Refuses why) = MayEnd call why

@@ -8,9 +8,10 @@ use Rattle.nv_cell.specs.Cell.{CellValue}
 use Rattle.nv_core.specs.AtRest.{IsMismatchOf}
 use Rattle.nv_core.specs.declared.parts.Parts.{Parts}
 use Rattle.nv_service.specs.Locked.{version_at}
-use Rattle.nv_service.specs.Rests.{AreAllSlots, AreInPlace, CellRestValue, told_by, told_of}
+use Rattle.nv_service.specs.Rests.{AreAllSlots, AreInPlace, CellRestValue, rest_told, cell_told}
 
--- no cell is older than what was seen of its inode
+-- no cell is older than what was seen of its inode.
+-- Not older: no cell is older than what was seen of its inode; where nothing was seen, than at the opening.
 abbrev pub IsNotOlder : List ℕ → List ℕ → List CellValue → Type 0
 IsNotOlder opened seen cells =
     (ino : ℕ) (d : CellValue) → ino < length cells
@@ -21,8 +22,9 @@ pub record AreBeside (geometry : Geometry) (slots : ℕ) (parts : Parts) (cells 
   pub device : parts.geometry ≡ geometry
   pub count : length cells ≡ slots
   pub order : AreAllSlots cells
-  pub told : map told_by cells ≡ map told_of parts.cells
+  pub told : map rest_told cells ≡ map cell_told parts.cells
 
--- WHY PARTS ARE NOT AT REST: one differs from those of a world at rest, or a cell came out of another slot's lock
+-- WHY PARTS ARE NOT AT REST: one differs from those of a world at rest, or a cell came out of another slot's lock.
+-- A difference is the first part that is not as in a world at rest, or the lists, where a cell is out of place.
 abbrev pub IsDifference : Parts → List CellRestValue → Fault → Type 0
 IsDifference parts cells fault = IsMismatchOf parts fault ⊎ ((fault ≡ Mismatch Lists) × (¬ AreInPlace cells))

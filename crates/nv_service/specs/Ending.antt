@@ -32,6 +32,7 @@ pool_with pool None = pool
 pool_with pool (Some ino) =
     if takes pool ino then record pool { numbers = put_by (λ (n : ℕ). n) ino pool.numbers } else pool
 
+-- a number that no pool takes back
 abbrev pub left_over : FreeInodes → Option ℕ → Option ℕ
 left_over pool None = None
 left_over pool (Some ino) = if takes pool ino then None else Some ino

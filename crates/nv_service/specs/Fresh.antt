@@ -73,7 +73,9 @@ pub record Fits (s : Standing) (by : ℕ) (v : View) : Type 0 where
       → (s.owned_by v.ino ≡ by) × (v.version ≡ s.version v.ino) × (v.ino < s.made)
   pub saw : (i : ℕ) → slice_index v.seen i ≤ s.version i
 
--- what each pass knows is so; an inode without an owner is at its first version
+-- what each pass knows is so; an inode without an owner is at its first version.
+-- Fresh: each inode has one pass that owns it at its version, and no pass has seen a higher one. It is the rule of
+-- the freshness cell, and each move of a pass keeps it.
 pub record AreFresh (words : List ℕ) (views : List View) : Type 0 where
   pub standing : Standing
   pub unmade : (i : ℕ) → standing.made ≤ i → standing.version i ≡ 0
@@ -85,6 +87,7 @@ pub record AreFresh (words : List ℕ) (views : List View) : Type 0 where
 abbrev pub made_one : View → View
 made_one v = record v { made = v.made + 1 }
 
+-- the pass of an inode's first owner
 abbrev pub new_owner : View → View
 new_owner v = owner v.made 0 []
 
@@ -92,6 +95,7 @@ new_owner v = owner v.made 0 []
 abbrev pub note : View → View
 note v = seer v.seen
 
+-- the pass that has seen what an owner has
 abbrev pub own_note : View → View
 own_note v = seer (only_at v.ino v.version)
 

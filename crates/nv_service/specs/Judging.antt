@@ -14,7 +14,12 @@ abbrev pub after_refusal : Fault → JudgeValue → JudgeValue
 after_refusal (Mismatch part) judge = record { turn = not judge.turn; found = Some part }
 after_refusal other judge = judge
 
--- A DIFFERENCE WAS FOUND by the judge since
+-- A DIFFERENCE WAS FOUND by the judge since.
+-- Found: the judge of parts has noted this difference since. Example: a user lets the cells of two files change
+-- places through their guards. The service does not close, by `Mismatch(lists)`. Once they have changed back, it
+-- does. Example: a service opens on a world of 3 commits. Session 0 writes a file, session 1 another one. Each has
+-- one commit, and receipts have the numbers 4 and 5, in one order or the other. Closed, the world has 3 + 1 + 1
+-- commits.
 abbrev pub IsFound : JudgeValue → JudgeValue → Fault → Type 0
 IsFound old new (Mismatch part) = (new.turn ≡ not old.turn) × (new.found ≡ Some part)
 IsFound old new other = Unit {0}

@@ -9,6 +9,7 @@ use Rattle.nv_service.specs.Rests.{list_told}
 abbrev pub version_of : CellValue → ℕ
 version_of cell = cell.state.version
 
+-- the versions of cells, in order
 abbrev pub versions_in : List CellValue → List ℕ
 versions_in cells = map version_of cells
 
@@ -16,8 +17,10 @@ versions_in cells = map version_of cells
 abbrev pub blocks_at : CellValue → ℕ
 blocks_at cell = block_total cell.state
 
+-- how many blocks cells have
 abbrev pub cell_blocks : List CellValue → ℕ
 cell_blocks cells = sum_by blocks_at cells
 
+-- how many blocks free lists have
 abbrev pub list_blocks : List FreeBlocks → ℕ
 list_blocks lists = sum_by list_told lists

@@ -22,6 +22,7 @@ use Rattle.nv_service.specs.declared.rounds.RoundEnd.TheVariants as round
 abbrev pub wants : List Fault
 wants = fault.NoSpace ∷ out_of_memory ∷ fault.CommitLimit ∷ []
 
+-- the faults of a call on snapshots, or of a cleaner
 abbrev pub maintenance_faults : MaintenanceCall → List Fault
 maintenance_faults maintenance.Snap = fault.EpochLimit ∷ fault.TooManySnapshots ∷ []
 maintenance_faults (maintenance.Drop snapshot) = fault.NoSnapshot ∷ fault.Pinned ∷ []
@@ -58,6 +59,7 @@ other_faults (update.Rmdir dir name) = fault.Contended ∷ []
 other_faults (update.Rename from old to new) = fault.Contended ∷ []
 other_faults other = []
 
+-- the faults of a change
 abbrev pub change_faults : Update → List Fault
 change_faults u = check_faults u ++ other_faults u ++ wants
 
@@ -73,9 +75,11 @@ IsMisfitOrWant why = IsMisfit why ⊎ (why ≡ out_of_memory)
 abbrev pub MayRefuseChange : Update → Fault → Type 0
 MayRefuseChange u why = Contains (change_faults u) why ⊎ IsMisfit why
 
+-- a call on snapshots, or a cleaner, may be refused by this fault
 abbrev pub MayRefuseMaintenance : MaintenanceCall → Fault → Type 0
 MayRefuseMaintenance c why = Contains (maintenance_faults c) why ⊎ IsMisfit why
 
+-- the faults of a call that reads
 abbrev pub view_faults : Call → List Fault
 view_faults (call.Read file offset count) = fault.Stale ∷ fault.NotFile ∷ out_of_memory ∷ []
 view_faults (call.Stat handle) = fault.Stale ∷ []
@@ -83,10 +87,14 @@ view_faults (call.List dir) = fault.Stale ∷ fault.NotDirectory ∷ out_of_memo
 view_faults (call.Lookup dir name) = fault.Stale ∷ fault.NotDirectory ∷ fault.BadName ∷ fault.Missing ∷ []
 view_faults other = []
 
+-- a call that reads may be refused by this fault
 abbrev pub MayRefuseView : Call → Fault → Type 0
 MayRefuseView c why = Contains (view_faults c) why ⊎ IsMisfit why
 
--- of any call, as a value
+-- of any call, as a value.
+-- What may refuse a call: a fault of the call's list, or a `Mismatch`. Example: the list of an `unlink` is `Stale`,
+-- `NotDirectory`, `BadName`, `Missing`, `NotFile`, `Contended`, `NoSpace`, `OutOfMemory` and `CommitLimit`. So it
+-- is never refused by `Exists`.
 abbrev pub MayRefuse : Call → Fault → Type 0
 MayRefuse (call.Create dir name mode) why = MayRefuseChange (update.Create dir name mode) why
 MayRefuse (call.Mkdir dir name mode) why = MayRefuseChange (update.Mkdir dir name mode) why
@@ -138,15 +146,18 @@ abbrev pub reads_failed : Fault → ℕ
 reads_failed fault.Read = 1
 reads_failed other = 0
 
+-- how many reads of a source failed, by a call's result
 abbrev pub failed_in : {A : Type 0} → Result A Fault → ℕ
 failed_in (Ok done) = 0
 failed_in (Err why) = reads_failed why
 
+-- how many reads of a source failed, by the end of a change
 abbrev pub failed_by : {A : Type 0} → Result A ChangeEnd → ℕ
 failed_by (Ok done) = 0
 failed_by (Err (ends.Refuses why)) = reads_failed why
 failed_by (Err other) = 0
 
+-- how many reads of a source failed, by the end of a round
 abbrev pub failed_round : RoundEnd → ℕ
 failed_round (round.Ends result) = failed_in result
-failed_round (round.Overtaken back) = 0
+failed_round (round.BoundAnew back) = 0

@@ -18,11 +18,13 @@ pub record Told : Type 0 where
   pub blocks : ℕ
   pub version : ℕ
 
-abbrev pub told_by : CellRestValue → Told
-told_by rest = record { blocks = rest.blocks; version = rest.version }
+-- what lay beside a cell tells of it: its blocks and its version
+abbrev pub rest_told : CellRestValue → Told
+rest_told rest = record { blocks = rest.blocks; version = rest.version }
 
-abbrev pub told_of : CellValue → Told
-told_of cell = record { blocks = block_total cell.state; version = cell.state.version }
+-- what a cell tells: its blocks and its version
+abbrev pub cell_told : CellValue → Told
+cell_told cell = record { blocks = block_total cell.state; version = cell.state.version }
 
 -- the share of a free list says how many blocks it has
 abbrev pub list_told : FreeBlocks → ℕ
@@ -36,9 +38,11 @@ IsKnown opened seen rest = version_at opened rest.ino (slice_index seen rest.ino
 abbrev pub slot_of : CellRestValue → ℕ
 slot_of rest = rest.slot
 
+-- All slots: what lay beside cells is in the order of the slots that they were taken out of.
 abbrev pub AreAllSlots : List CellRestValue → Type 0
 AreAllSlots rests = map slot_of rests ≡ range_with_len 0 (length rests)
 
--- each cell came out of the lock of its inode's slot
+-- each cell came out of the lock of its inode's slot.
+-- In place: each cell was taken out of the slot of its own inode.
 abbrev pub AreInPlace : List CellRestValue → Type 0
 AreInPlace rests = (slot : ℕ) (d : CellRestValue) → slot < length rests → (slice_index_or rests slot d).ino ≡ slot

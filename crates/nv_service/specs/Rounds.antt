@@ -9,7 +9,7 @@ use Rattle.nv_service.specs.Refusing.{MayEnd, looks_up}
 use Rattle.nv_service.specs.Sessions.{HasReceipt, IsChangedBy, SessionValue}
 use Rattle.nv_service.specs.declared.change.ChangeEnd.{ChangeEnd}
 use Rattle.nv_service.specs.declared.rounds.RoundEnd.{RoundEnd}
-use Rattle.nv_service.specs.declared.rounds.RoundEnd.TheVariants.{Ends, Overtaken}
+use Rattle.nv_service.specs.declared.rounds.RoundEnd.TheVariants.{Ends, BoundAnew}
 
 -- how a change over held cells ends: by its receipt, or with the session as it was
 abbrev pub IsEndedBy : ℕ → SessionValue → SessionValue → Update → Result ReceiptValue ChangeEnd → Type 0
@@ -20,4 +20,4 @@ IsEndedBy opening before after u (Err end) = (after ≡ before) × IsOfCall u en
 abbrev pub IsRoundOf : ℕ → SessionValue → SessionValue → Update → RoundEnd → Type 0
 IsRoundOf opening before after u (Ends (Ok seen)) = IsChangedBy opening before after u seen
 IsRoundOf opening before after u (Ends (Err fault)) = (after ≡ before) × MayEnd u fault
-IsRoundOf opening before after u (Overtaken back) = (after ≡ before) × (back ≡ u) × (looks_up u ≡ true)
+IsRoundOf opening before after u (BoundAnew back) = (after ≡ before) × (back ≡ u) × (looks_up u ≡ true)

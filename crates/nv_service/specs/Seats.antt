@@ -7,7 +7,8 @@ use Rattle.nv_service.specs.Sessions.{SessionValue}
 abbrev pub new_session : ℕ → SessionValue
 new_session number = record { number = number; commits = 0; snapped = 0; seen = [] }
 
--- the sessions of so many seats, by number: as many, and each seat's once
+-- the sessions of so many seats, by number: as many, and each seat's once.
+-- The seats of sessions: as many sessions as were given out, and each seat's number once.
 pub record AreSeats (seats : ℕ) (numbers : List ℕ) : Type 0 where
   pub count : length numbers ≡ seats
   pub each : (n : ℕ) → n < seats → times n numbers ≡ 1

@@ -17,7 +17,9 @@ use Rattle.nv_service.specs.declared.seen.Seen.{Seen}
 use Rattle.nv_service.specs.declared.seen.Seen.TheVariants as seen
 
 -- the number of its seat, its commits since the opening, its makings and drops of snapshots since, and the versions that it
--- has seen, by inode, counted from the opening on
+-- has seen, by inode, counted from the opening on.
+-- A session has the number of its seat, how many commits it has made since the opening, how many snapshots it has
+-- made and dropped since, and the versions that it has seen.
 pub record SessionValue : Type 0 where
   pub number : ℕ
   pub commits : ℕ
@@ -42,6 +44,7 @@ answered (Some handle) u = answers.Made handle
 answered None (update.Write file offset count) = answers.Count count
 answered None other = answers.Nothing
 
+-- the answer of what a session's call has seen
 abbrev pub answer_of : Seen → Answer
 answer_of (seen.Viewed view) = view.found
 answer_of (seen.Committed receipt) = answered receipt.made receipt.update
@@ -62,7 +65,11 @@ pub record HasReceipt (opening : ℕ) (before after : SessionValue) (u : Update)
   pub snapped : after.snapped ≡ before.snapped
   pub seat : after.number ≡ before.number
 
--- the session has committed this very call
+-- the session has committed this very call.
+-- Committed by a session: its call gave a receipt of that very call, with the handle of a new inode exactly where
+-- the call makes one. The session has one commit more. The receipt's number is at least that at the opening and the
+-- session's commits. Of the inode of each handle that the call names or makes a higher version was seen than
+-- before, and of no inode a lower one.
 abbrev pub IsCommittedBy : ℕ → SessionValue → SessionValue → Update → Seen → Type 0
 IsCommittedBy opening before after u (seen.Committed receipt) = HasReceipt opening before after u receipt
 IsCommittedBy opening before after u other = ⊥
@@ -92,7 +99,9 @@ pub record HasView (opened : List ℕ) (before after : SessionValue) (ino : ℕ)
   pub snapped : after.snapped ≡ before.snapped
   pub seat : after.number ≡ before.number
 
--- the session has read this very call's inode
+-- the session has read this very call's inode.
+-- Viewed by a session: its call gave a view of that very call. The view is of no older version than was seen, and
+-- that version is seen from then on.
 abbrev pub IsViewedBy : List ℕ → SessionValue → SessionValue → ℕ → Call → Seen → Type 0
 IsViewedBy opened before after ino c (seen.Viewed view) = HasView opened before after ino c view
 IsViewedBy opened before after ino c other = ⊥

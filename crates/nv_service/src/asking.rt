@@ -17,6 +17,7 @@ use std::sync::ledger::Share;
 /// How many lists the last taking of a seat has asked, in turn from that of its CPU on; and a turn, which is another one
 /// each time that a taking has asked all of them and falls short. No other module reaches the fields, and nobody can copy
 /// them: so whoever says that blocks are short has asked each list for them.
+/// Only a list that was asked counts as asked.
 #[derive(Drop)]
 pub(crate) struct Asking {
     turn: bool,
@@ -48,6 +49,7 @@ impl Asking {
     pub(crate) fn next_cpu(&self, geometry: &Geometry) -> u64
         requires first { self.now.first < geometry.now.numbers.cpus }
         requires more { self.now.asked < geometry.now.numbers.cpus }
+        // The lists are asked in turn, that of the seat's CPU first, and then round.
         ensures cpu { result ≡ next_list geometry.now.numbers.cpus self.now }
         ensures within { result < geometry.now.numbers.cpus }
     {
@@ -71,6 +73,7 @@ impl Asking {
         requires room { wanted ≤ queue.old.room }
         requires size { queue.old.size ≡ geometry.now.numbers.block }
         requires part { 0 < mine.old.parts }
+        // The CPU's own list gives the blocks of its lowest numbers.
         ensures count { IfOk result (λ n. n ≡ min wanted (length list.old.blocks)) }
         ensures taken { IfOk result (λ n. HasTaken n queue.old queue.new) }
         ensures list { OnOk result
@@ -97,6 +100,7 @@ impl Asking {
     /// A taking falls short that has asked all lists.
     pub(crate) fn fall_short(&mut self, geometry: &Geometry)
         requires { self.old.asked ≡ geometry.now.numbers.cpus }
+        // Only a taking that asked as many lists as there are CPUs falls short.
         ensures { self.new.turn ≡ not self.old.turn }
     {
         prove!(self.asked == geometry.numbers.cpus);

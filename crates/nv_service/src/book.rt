@@ -36,6 +36,7 @@ impl<C: Commits> Model for LockedBook<C> {
 
     ghost view = { λ b. b.book };
 
+    // Its commit number is that at the opening and what the ledger of commits counts.
     ghost invariant = { λ b. (b.book.state.commit ≡ C.commit + b.commits.total)
         × AreSnapped C.living C.epoch b.book.state.snaps b.snap_book.total };
 }
@@ -57,6 +58,7 @@ impl<C: Commits> LockedBook<C> {
         mine: &mut Share<C>,
     ) -> Result<(Epoch, CommitNo), Fault>
         requires part { 0 < mine.old.parts }
+        // A commit gets its number as by `Book::enter`, and counts as one of the session's.
         ensures ok { OnOk result (self.new
             ≡ record { state = after_enter seat self.old.state; room = need }) }
         ensures epoch { IfOk result (λ fixed. fixed.0 ≡ self.old.state.snaps.epoch) }
@@ -65,6 +67,7 @@ impl<C: Commits> LockedBook<C> {
         ensures enough { self.old.state.commit < NUMBER → need ≤ self.old.room → IsOk result }
         ensures err { FailsEither fault.CommitLimit out_of_memory result }
         ensures counted { OnOk result (mine.new.amount ≡ mine.old.amount + 1) }
+        // The number is at least that at the opening and the session's commits.
         ensures least { OnOk result (C.commit + mine.new.amount ≤ self.new.state.commit) }
         ensures parts { mine.new.parts ≡ mine.old.parts }
         ensures same { OnErr result ((self.new ≡ self.old) × (mine.new.amount ≡ mine.old.amount)) }
@@ -76,6 +79,7 @@ impl<C: Commits> LockedBook<C> {
     }
 
     /// Makes a snapshot of the current epoch, as [`Book::make_snapshot`] does, and counts it in the share. It is no commit.
+    /// They are those of `Book`, and no commits.
     pub(crate) fn make_snapshot(&mut self, mine: &mut Share<SnapLedger<C>>) -> Result<Epoch, Fault>
         requires part { 0 < mine.old.parts }
         ensures made { IsOk result ↔ ((self.old.state.snaps.epoch < NUMBER)
@@ -86,9 +90,11 @@ impl<C: Commits> LockedBook<C> {
             ↔ ((self.old.state.snaps.epoch < NUMBER)
             × (length self.old.state.snaps.living ≡ self.old.state.snaps.most)) }
         ensures number { IfOk result (λ s. s ≡ self.old.state.snaps.epoch) }
+        // Each is refused by its two faults alone.
         ensures err { FailsEither fault.EpochLimit fault.TooManySnapshots result }
         ensures ok { OnOk result (self.new
             ≡ record self.old { state = after_make_snapshot self.old.state }) }
+        // Each counts as one making or drop of the session's.
         ensures counted { OnOk result (mine.new.amount ≡ mine.old.amount + 1) }
         ensures parts { mine.new.parts ≡ mine.old.parts }
         ensures same { OnErr result ((self.new ≡ self.old) × (mine.new.amount ≡ mine.old.amount)) }

@@ -13,6 +13,7 @@ use std::sync::ledger::Share;
 
 /// A cell with the number of its inode, the share of its blocks, and the pass that owns the inode at its version. It owns
 /// blocks, so it is no `Drop`.
+/// No older cell can be put behind a lock.
 pub struct LockedCell<C: Commits, B: Blocks> {
     pub(crate) ino: Ino,
     pub(crate) cell: InodeCell,
@@ -29,6 +30,8 @@ impl<C: Commits, B: Blocks> Model for LockedCell<C, B> {
 
     ghost view = { λ l. record { ino = l.ino; cell = l.cell } };
 
+    // Its share has one part and as many blocks as the cell.
+    // Its pass owns the inode whose number lies beside the cell, at the cell's version since the opening.
     ghost invariant = { λ l. (l.blocks.parts ≡ 1)
         × (l.blocks.amount ≡ block_total l.cell.state)
         × (l.owner.ino ≡ l.ino)

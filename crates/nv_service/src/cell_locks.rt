@@ -78,6 +78,7 @@ impl<C: Commits, B: Blocks> CellLocks<C, B> {
         ensures taken { MatchOption result
             ((vec_len self.old.locks ≡ 0) × (vec_len self.new.locks ≡ 0))
             (λ taken. vec_len self.new.locks + 1 ≡ vec_len self.old.locks) }
+        // The slot of a cell is told when it is taken out.
         ensures slot { IfSome result (λ taken. taken.0 ≡ vec_len self.new.locks) }
         ensures room { vec_capacity self.new.locks ≡ vec_capacity self.old.locks }
     {

@@ -35,7 +35,7 @@ pub(crate) struct Change<'a> {
 #[derive(Debug, Drop)]
 pub(crate) enum ChangeEnd {
     Refuses(Fault),
-    Overtaken(Update),
+    BoundAnew(Update),
     Answers,
 }
 
@@ -58,10 +58,12 @@ pub(crate) fn change_over<C: Commits, B: Blocks, L: Cells, S: Source, R: Wait>(
     requires whole { AreWhole (L.cells lent.old) }
     requires commits_part { 0 < seat.old.commits.parts }
     requires blocks_part { 0 < seat.old.blocks.parts }
+    // Cells and hand have as many blocks as the session's share says.
     requires blocks { seat.old.blocks.amount
         ≡ length (blocks_of change.hand) + blocks_in (L.cells lent.old) }
     requires failures { S.failed source.old < 2 ^ 64 - 1 }
     ensures cells { MayBeRaised (L.cells lent.old) (L.cells lent.new) }
+    // It counts as one commit, and raises the inode of each handle that the call names or makes.
     ensures raised { IfOk result.1
         (RaisesPublished (L.cells lent.old) (L.cells lent.new) change.entry.update) }
     ensures number { seat.new.number ≡ seat.old.number }
@@ -73,11 +75,14 @@ pub(crate) fn change_over<C: Commits, B: Blocks, L: Cells, S: Source, R: Wait>(
     ensures counted { OnOk result.1 (seat.new.commits.amount ≡ seat.old.commits.amount + 1) }
     ensures least { IfOk result.1
         (λ receipt. C.commit + seat.new.commits.amount ≤ receipt.stamp.commit) }
+    // A receipt is of the call, with a made handle exactly where it makes an inode.
     ensures call { IfOk result.1 (IsReceiptOf change.entry.update) }
+    // A refused change raises no version and no share.
     ensures same { OnErr result.1 ((seat.new.commits.amount ≡ seat.old.commits.amount)
         × KeepVersions (L.cells lent.old) (L.cells lent.new)) }
     ensures some { OnOk result.1 (is_nothing (blank_call change.entry.update) ≡ false) }
     ensures overtaken { IfErr result.1 (IsOfCall change.entry.update) }
+    // A read failed exactly where it is refused by `Read`, and then one did.
     ensures reads { S.failed source.new ≡ S.failed source.old + failed_by result.1 }
     ensures short { seat.new.asking.turn ≡ turned_end result.1 seat.old.asking.turn }
     ensures frame { L.frame lent.new ≡ L.frame lent.old }
@@ -90,7 +95,7 @@ pub(crate) fn change_over<C: Commits, B: Blocks, L: Cells, S: Source, R: Wait>(
     let wanted = match check_over(&service.geometry, lent, looked, &update, &hand) {
         Ok(wanted) => wanted,
         Err(CheckEnd::Refuses(fault)) => return (hand, Err(ChangeEnd::Refuses(fault))),
-        Err(CheckEnd::Overtaken) => return (hand, Err(ChangeEnd::Overtaken(update))),
+        Err(CheckEnd::BoundAnew) => return (hand, Err(ChangeEnd::BoundAnew(update))),
         Err(CheckEnd::Answers) => return (hand, Err(ChangeEnd::Answers)),
     };
     match make_change(
@@ -108,7 +113,7 @@ pub(crate) fn change_over<C: Commits, B: Blocks, L: Cells, S: Source, R: Wait>(
     }
 }
 
-/// The same for a change that passed its check and wants so many data blocks.
+/// Makes a change that passed its check and wants so many data blocks, over cells that are lent.
 fn make_change<C: Commits, B: Blocks, L: Cells, S: Source, R: Wait>(
     rt: &R,
     service: &Service<C, B>,
@@ -176,6 +181,7 @@ fn make_change<C: Commits, B: Blocks, L: Cells, S: Source, R: Wait>(
 }
 
 /// Commits what is ready under the book's lock. With an error the hand comes back.
+/// Only tested: the history names the session's seat.
 fn commit_ready<C: Commits, B: Blocks, L: Cells, R: Wait>(
     rt: &R,
     service: &Service<C, B>,

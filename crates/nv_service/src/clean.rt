@@ -7,7 +7,7 @@ ghost use Rattle.nv_calls.specs.Retired.{CanTakeGone};
 ghost use Rattle.nv_calls.specs.Retiring.{erased, hand_with, released, released_blocks, with_back};
 ghost use Rattle.nv_cell.specs.Cell.{log_of};
 ghost use Rattle.nv_cell.specs.Removal.{KeepsTheLast};
-ghost use Rattle.nv_clean.specs.Cleaned.{HasPages, KeepsValues, LeavesNone, NodesStay, answer_of, with_chain, with_entries, with_gone, with_pages};
+ghost use Rattle.nv_clean.specs.Cleaned.{HasPages, KeepsValues, LeavesNone, NodesStay, answer_of, with_chain, with_entries, with_gone, with_pages_unlinked};
 ghost use Rattle.nv_clean.specs.Plans.{unlinkable_of, wanted_of};
 ghost use Rattle.nv_entry.specs.Clean.{entries_of, select};
 ghost use Rattle.nv_log.specs.Chain.{log_pages};
@@ -127,7 +127,7 @@ impl<C: Commits, B: Blocks> LockedCell<C, B> {
         requires part { 0 < mine.old.parts }
         requires amount { mine.old.amount ≡ length (blocks_of hand.old) }
         ensures ino { self.new.ino ≡ self.old.ino }
-        ensures cell { self.new.cell.state ≡ with_pages unlinkable self.old.cell.state }
+        ensures cell { self.new.cell.state ≡ with_pages_unlinked unlinkable self.old.cell.state }
         ensures version { self.new.cell.state.version ≡ self.old.cell.state.version }
         ensures hand { hand.new ≡ with_gone unlinkable self.old.cell.state hand.old }
         ensures answer { result ≡ answer_of false self.old.cell.state self.new.cell.state }

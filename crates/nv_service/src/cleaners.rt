@@ -52,6 +52,7 @@ pub(crate) fn clean_log<C: Commits, B: Blocks, R: Wait>(
     ensures err { IfErr result (MayRefuseMaintenance (cleaner_of manner ino)) }
     ensures parts { mine.new.parts ≡ mine.old.parts }
     ensures amount { mine.new.amount ≡ length (blocks_of hand.new) }
+    // A cleaner ends by `NoSpace` only where its taking fell short.
     ensures short { asking.new.turn ≡ turned_in result asking.old.turn }
 {
     let mut cell = hold(rt, service, ino)?;

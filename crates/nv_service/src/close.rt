@@ -10,7 +10,7 @@ ghost use Rattle.nv_core.specs.declared.parts.Parts.{Parts};
 ghost use Rattle.nv_service.specs.Closing.{AreBeside, IsDifference, IsNotOlder};
 ghost use Rattle.nv_service.specs.Judging.{IsFound};
 ghost use Rattle.nv_service.specs.Opening.{blocks_in};
-ghost use Rattle.nv_service.specs.Rests.{AreAllSlots, CellRestValue, list_told, told_by, told_of};
+ghost use Rattle.nv_service.specs.Rests.{AreAllSlots, CellRestValue, list_told, rest_told, cell_told};
 ghost use Rattle.nv_service.specs.Seats.{AreSeats};
 ghost use Rattle.nv_service.specs.Snapped.{AreSnapped};
 
@@ -79,38 +79,51 @@ impl<C: Commits, B: Blocks> Service<C, B> {
     /// the lists differ. [`Service::found`] has the part from then on. The same service and sessions come back, each cell
     /// behind the lock of the slot where it lay, and no share and no note was joined. No lock is taken, and the time is that
     /// of [`World::from_parts`].
+    /// `Mismatch` comes only where parts were judged in this call.
+    /// Only tested: these parts are the service's own.
+    /// Only tested: a block in the hand of a session makes the lists differ.
+    /// Only tested: each cell and list of that service is the one that lay there.
     pub fn close<R: Wait>(
         self,
         rt: &R,
         alloc: Global,
         sessions: Vec<Session<C, B>>,
     ) -> Result<World, (Fault, Service<C, B>, Vec<Session<C, B>>)>
+        // The world has the service's device, and passes the questions of parts at rest.
         ensures shows { IfOk result (λ world. Shows world (at_rest (parts_of world.shared))) }
         ensures judged { IfOk result (λ world. AreJudged (parts_of world.shared)) }
         ensures geometry { IfOk result (λ world. world.shared.geometry ≡ self.geometry) }
         ensures seats { OnOk result
             (AreSeats self.seating.given (map (λ s. s.number) sessions.items)) }
+        // Its commit number is that at the opening and the commits of all sessions.
         ensures commit { IfOk result (λ world. world.shared.book.state.commit
             ≡ C.commit + sum_by (λ s. s.commits) sessions.items) }
+        // As many snapshots live as makings and drops leave, and in no earlier epoch.
         ensures snapshots { IfOk result (λ world. AreSnapped C.living C.epoch
             world.shared.book.state.snaps (sum_by (λ s. s.snapped) sessions.items)) }
+        // No inode is older than at the opening, or than a session has seen it.
         ensures versions { IfOk result (λ world.
             IsNotOlder C.opened [] world.shared.cells.items) }
         ensures seen { IfOk result (λ world. All (λ s.
             IsNotOlder C.opened s.seen world.shared.cells.items) sessions.items) }
+        // Cells and lists have the blocks of the device.
         ensures blocks { IfOk result (λ world.
             blocks_in (parts_of world.shared) ≡ self.total.amount) }
+        // `SeatsOut` comes exactly where not each given session is there.
         ensures out { IfErr result (λ refused. (refused.0 ≡ SeatsOut)
             ↔ (¬ AreSeats self.seating.given (map (λ s. s.number) sessions.items))) }
+        // It names what differed in parts of the service's device, with as many cells.
         ensures err { IfErr result (λ refused. (refused.0 ≡ SeatsOut) ⊎ (refused.0 ≡ out_of_memory)
             ⊎ ((parts : Parts) × (cells : List CellRestValue)
             × AreBeside self.geometry (vec_len self.cells.locks) parts cells
             × IsDifference parts cells refused.0)) }
         ensures found { IfErr result (λ refused.
             IsFound self.judge refused.1.judge refused.0) }
+        // So does a service of the same geometry, as many blocks and as many seats given out.
         ensures service { IfErr result (λ refused. (refused.1.total ≡ self.total)
             × (refused.1.geometry ≡ self.geometry)
             × (refused.1.seating.given ≡ self.seating.given)) }
+        // After a refusal the sessions come back as they were.
         ensures sessions { IfErr result (λ refused. refused.2 ≡ sessions) }
     {
         if !are_seats(&sessions, self.seating.given) {
@@ -134,7 +147,8 @@ impl<C: Commits, B: Blocks> Service<C, B> {
 impl<C: Commits, B: Blocks> Rests<C, B> {
     /// Puts the parts behind their locks again.
     fn together(self, parts: Parts, judge: Judge) -> Service<C, B>
-        requires cells { map told_by self.cells.items ≡ map told_of parts.cells }
+        requires cells { map rest_told self.cells.items ≡ map cell_told parts.cells }
+        // All cells of a refused `close` go back in the order of their slots.
         requires slots { AreAllSlots self.cells.items }
         requires lists { self.lists.items ≡ map list_told parts.lists }
         requires commits { parts.book.state.commit ≡ C.commit + self.commits.total }

@@ -32,6 +32,7 @@ pub(crate) fn commit_over<C: Commits, L: Cells>(
 ) -> Result<(Receipt, Hand), (Fault, Ready)>
     requires part { 0 < mine.old.parts }
     requires ready { IsReadyOver (L.cells lent.old) ready }
+    // A commit over held cells is that of `commit_on`, by the book's next stamp.
     ensures cells { OnOk result
         (CommitsCells book.old.state ready (L.cells lent.old) (L.cells lent.new)) }
     ensures book { OnOk result
@@ -46,9 +47,11 @@ pub(crate) fn commit_over<C: Commits, L: Cells>(
     ensures least { OnOk result (C.commit + mine.new.amount ≤ book.new.state.commit) }
     ensures parts { mine.new.parts ≡ mine.old.parts }
     ensures frame { L.frame lent.new ≡ L.frame lent.old }
+    // It is refused by the limit, a journal, a cell that does not take it, or memory alone.
     ensures err { IfErr result (λ refused.
         RefusesCommit book.old (L.cells lent.old) ready cpu refused.0) }
     ensures ready { IfErr result (λ refused. refused.1 ≡ ready) }
+    // A refused commit changes nothing, and what was ready comes back.
     ensures same { OnErr result ((L.cells lent.new ≡ L.cells lent.old) × (book.new ≡ book.old)
         × (mine.new.amount ≡ mine.old.amount)) }
 {

@@ -41,6 +41,7 @@ pub(crate) fn empty_hand<C: Commits, B: Blocks, R: Wait>(
 /// Gives the blocks of a hand home, each CPU's to its list, and then the number in the hand to the pool. What no list and
 /// no pool takes stays in the hand. `mine` is the share of the hand's blocks. Its caller holds no lock: each list is locked
 /// for its own blocks alone, and then the pool.
+/// Only tested: it is called for each number and each block that a call has taken and not placed.
 pub(crate) fn give_back<C: Commits, B: Blocks, R: Wait>(
     rt: &R,
     service: &Service<C, B>,
@@ -93,6 +94,7 @@ fn give_number<C: Commits, B: Blocks, R: Wait>(rt: &R, service: &Service<C, B>, 
 
 /// The number in a hand goes back to the pool where that takes it. Else both stay as they are.
 fn put_back(pool: &mut InodePool, hand: &mut Hand)
+    // The number in a hand goes to the pool, where that takes it.
     ensures pool { pool.new ≡ pool_with pool.old hand.old.ino }
     ensures hand { hand.new ≡ record hand.old { ino = left_over pool.old hand.old.ino } }
 {

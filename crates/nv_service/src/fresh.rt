@@ -27,6 +27,7 @@ pub struct View {
 }
 
 /// The rule: each inode has one owner, at its version, and no pass has seen a higher one.
+/// Each inode has one owner, at its version, and no pass has seen a higher one.
 pub struct Freshness;
 
 impl Protocol<[u64; 1], View> for Freshness {

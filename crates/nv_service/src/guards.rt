@@ -106,7 +106,7 @@ pub(crate) fn change_slots<C: Commits, B: Blocks, S: Source, R: Wait>(
     }
 }
 
-/// The same over the cell of one slot.
+/// Makes a change over the cell of one slot, which it locks.
 fn over_one<C: Commits, B: Blocks, S: Source, R: Wait>(
     rt: &R,
     service: &Service<C, B>,
@@ -134,7 +134,7 @@ fn over_one<C: Commits, B: Blocks, S: Source, R: Wait>(
     }
 }
 
-/// The same over the cells of two slots.
+/// Makes a change over the cells of two slots, which it locks by rising number.
 fn over_two<C: Commits, B: Blocks, S: Source, R: Wait>(
     rt: &R,
     service: &Service<C, B>,
@@ -169,7 +169,7 @@ fn over_two<C: Commits, B: Blocks, S: Source, R: Wait>(
     }
 }
 
-/// The same over the cells of three slots.
+/// Makes a change over the cells of three slots, which it locks by rising number.
 fn over_three<C: Commits, B: Blocks, S: Source, R: Wait>(
     rt: &R,
     service: &Service<C, B>,
@@ -217,7 +217,7 @@ fn over_three<C: Commits, B: Blocks, S: Source, R: Wait>(
     }
 }
 
-/// The same over the cells of four slots.
+/// Makes a change over the cells of four slots, which it locks by rising number.
 fn over_four<C: Commits, B: Blocks, S: Source, R: Wait>(
     rt: &R,
     service: &Service<C, B>,

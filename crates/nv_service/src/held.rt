@@ -46,6 +46,7 @@ pub(crate) fn change_one<C: Commits, B: Blocks, S: Source, R: Wait>(
     ensures least { IfOk result.1
         (λ receipt. C.commit + seat.new.commits.amount ≤ receipt.stamp.commit) }
     ensures call { IfOk result.1 (IsReceiptOf change.entry.update) }
+    // The version seen of each handle rises, and none falls.
     ensures higher { IfOk result.1
         (SeesPublished seat.old.notes seat.new.notes change.entry.update) }
     ensures kept { (i : ℕ) → slice_index seat.old.notes i ≤ slice_index seat.new.notes i }
@@ -83,7 +84,7 @@ pub(crate) fn change_one<C: Commits, B: Blocks, S: Source, R: Wait>(
     done
 }
 
-/// The same over two cells.
+/// Makes a change over the two cells that it locks, whose guards are held, as [`change_one`] does over one.
 pub(crate) fn change_two<C: Commits, B: Blocks, S: Source, R: Wait>(
     rt: &R,
     service: &Service<C, B>,
@@ -169,7 +170,7 @@ pub(crate) fn change_two<C: Commits, B: Blocks, S: Source, R: Wait>(
     done
 }
 
-/// The same over three cells.
+/// Makes a change over the three cells that it locks, whose guards are held, as [`change_one`] does over one.
 pub(crate) fn change_three<C: Commits, B: Blocks, S: Source, R: Wait>(
     rt: &R,
     service: &Service<C, B>,
@@ -278,7 +279,7 @@ pub(crate) fn change_three<C: Commits, B: Blocks, S: Source, R: Wait>(
     done
 }
 
-/// The same over four cells.
+/// Makes a change over the four cells that it locks, whose guards are held, as [`change_one`] does over one.
 pub(crate) fn change_four<C: Commits, B: Blocks, S: Source, R: Wait>(
     rt: &R,
     service: &Service<C, B>,

@@ -60,8 +60,10 @@ impl Judge {
     ) -> Result<World, (Fault, Parts)>
         ensures shows { IfOk result (λ world. Shows world (at_rest parts)) }
         ensures parts { IfOk result (λ world. parts_of world.shared ≡ parts) }
+        // Parts at rest, with each cell from its own slot, make a world.
         ensures judged { OnOk result (AreJudged parts) }
         ensures placed { OnOk result (AreInPlace cells.now) }
+        // Others are refused by the first part that differs.
         ensures err { IfErr result (λ refused.
             (refused.0 ≡ out_of_memory) ⊎ IsDifference parts cells.now refused.0) }
         ensures found { IfErr result (λ refused. IsFound self.old self.new refused.0) }

@@ -1,7 +1,7 @@
 //! A free list under its lock.
 
 ghost use Rattle.std.specs.Prelude.{◌≡◌, ◌+◌, ◌-◌, ◌<◌, ◌≤◌, ◌++◌, min, length, take, drop};
-ghost use Rattle.nv_alloc.specs.Giving.{after_giving, kept_of};
+ghost use Rattle.nv_alloc.specs.Giving.{after_giving, not_taken};
 ghost use Rattle.nv_alloc.specs.Hand.{blocks_of};
 ghost use Rattle.nv_alloc.specs.Queue.{after_home};
 
@@ -24,6 +24,7 @@ impl<B: Blocks> Model for LockedList<B> {
 
     ghost view = { λ l. l.list };
 
+    // Its share has one part and as many blocks as the list.
     ghost invariant = { λ l. (l.blocks.parts ≡ 1) × (l.blocks.amount ≡ length l.list.blocks) };
 }
 
@@ -42,6 +43,7 @@ impl<B: Blocks> LockedList<B> {
         requires size { queue.old.size ≡ self.old.size }
         requires part { 0 < mine.old.parts }
         ensures taken { result ≡ min n (length self.old.blocks) }
+        // Blocks leave a list as by `FreeList::take`, and its share with them.
         ensures list { self.new ≡ record self.old { blocks = drop n self.old.blocks } }
         ensures queue { queue.new ≡ record queue.old {
           blocks = queue.old.blocks ++ take n self.old.blocks;
@@ -59,12 +61,13 @@ impl<B: Blocks> LockedList<B> {
     /// which is the share of the hand, to the list's share.
     pub(crate) fn give_blocks(&mut self, hand: &mut Hand, mine: &mut Share<B>)
         requires part { 0 < mine.old.parts }
+        // Blocks come home as by `Hand::give_blocks`, and their share with them.
         requires amount { mine.old.amount ≡ length (blocks_of hand.old) }
         ensures data { hand.new.data ≡ after_home self.old hand.old.data }
         ensures pages { hand.new.pages
             ≡ after_home (after_giving self.old hand.old.data.blocks) hand.old.pages }
         ensures chain { hand.new.chain
-            ≡ kept_of (after_giving self.old (hand.old.data.blocks ++ hand.old.pages.blocks))
+            ≡ not_taken (after_giving self.old (hand.old.data.blocks ++ hand.old.pages.blocks))
             hand.old.chain }
         ensures given { self.new ≡ after_giving self.old (blocks_of hand.old) }
         ensures ino { hand.new.ino ≡ hand.old.ino }

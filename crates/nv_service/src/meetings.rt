@@ -21,6 +21,7 @@ impl<C: Commits, B: Blocks> Session<C, B> {
     )
         ensures session { self.new ≡ self.old }
         ensures cell { cell.new ≡ cell.old }
+        // Who holds a cell's guard and a session finds at least the version that it has seen.
         ensures met { version_at C.opened cell.old.ino (slice_index self.old.seen cell.old.ino)
             ≤ cell.old.cell.state.version }
     {
@@ -32,6 +33,7 @@ impl<C: Commits, B: Blocks> Session<C, B> {
     pub fn meet_book(&mut self, book: &mut LockedBook<C>)
         ensures session { self.new ≡ self.old }
         ensures book { book.new ≡ book.old }
+        // Who holds the book's guard and a session finds at least its commits.
         ensures met { C.commit + self.old.commits ≤ book.old.state.commit }
     {
         book.commits.audit(&mut self.seat.commits);

@@ -152,6 +152,7 @@ impl Names {
     ///
     /// The only error is `OutOfMemory`.
     pub fn new(alloc: Global, geometry: &Geometry) -> Result<Names, Fault>
+        // The ledger of blocks has a part for each inode slot, each CPU and each seat, and one more.
         ensures blocks { IfOk result (λ names. names.blocks.parts
             ≡ block_parts geometry.now.numbers) }
         ensures err { FailsOnly out_of_memory result }

@@ -37,6 +37,7 @@ impl<C: Commits, B: Blocks> Service<C, B> {
     ) -> Result<Service<C, B>, (Fault, World, Names)>
         requires commits { AreCommitNames names C.name C.parts C.whole C.table }
         requires snapshots { AreSnapshotNames names C.snap_name C.snap_parts }
+        // The blocks of cells and free lists are those of the ledger, and the device stays.
         requires blocks { AreBlockNames names B.name B.parts B.whole B.placed
             world.shared.geometry.numbers }
         requires stood { (C.commit ≡ world.shared.book.state.commit)
@@ -47,7 +48,9 @@ impl<C: Commits, B: Blocks> Service<C, B> {
             service.total.amount ≡ blocks_in (parts_of world.shared)) }
         ensures geometry { IfOk result (λ service. service.geometry ≡ world.shared.geometry) }
         ensures seats { IfOk result (λ service. service.seating.given ≡ 0) }
+        // It opens only where no actor has a call.
         ensures idle { (m : machine.World) → Shows world m → OnOk result (¬ IsBusy m) }
+        // It fails only where room is refused, or an actor has a call, and world and names come back.
         ensures err { (m : machine.World) → Shows world m → IfErr result (λ refused.
             (refused.0 ≡ out_of_memory) ⊎ ((refused.0 ≡ ActorBusy) × IsBusy m)) }
         ensures same { IfErr result (λ refused. (refused.1 ≡ world) × (refused.2 ≡ names)) }
@@ -68,6 +71,7 @@ impl<C: Commits, B: Blocks> Service<C, B> {
     }
 
     /// A service of these parts, in room that was made before.
+    /// The book goes behind its lock with the snapshots of the world.
     fn of_parts(alloc: Global, parts: Parts, names: Names, room: LockRoom<C, B>) -> Service<C, B>
         requires commits { AreCommitNames names C.name C.parts C.whole C.table }
         requires snapshots { AreSnapshotNames names C.snap_name C.snap_parts }

@@ -74,7 +74,7 @@ pub(crate) fn over_two<C: Commits, B: Blocks, S: Source, R: Wait>(
     change_over(rt, service, seat, &mut lent, change, source)
 }
 
-/// The same over the cells of three.
+/// A change over the cells of three inodes, as [`change_over`] makes it.
 pub(crate) fn over_three<C: Commits, B: Blocks, S: Source, R: Wait>(
     rt: &R,
     service: &Service<C, B>,
@@ -138,7 +138,7 @@ pub(crate) fn over_three<C: Commits, B: Blocks, S: Source, R: Wait>(
     lent_three(rt, service, seat, &mut lent, change, source)
 }
 
-/// The same over the cells of four.
+/// A change over the cells of four inodes, as [`change_over`] makes it.
 pub(crate) fn over_four<C: Commits, B: Blocks, S: Source, R: Wait>(
     rt: &R,
     service: &Service<C, B>,
@@ -217,7 +217,7 @@ pub(crate) fn over_four<C: Commits, B: Blocks, S: Source, R: Wait>(
     lent_four(rt, service, seat, &mut lent, change, source)
 }
 
-/// The same over three cells that are lent: each stays behind its own reference.
+/// A change over three cells that are lent. Each stays behind its own reference.
 fn lent_three<C: Commits, B: Blocks, S: Source, R: Wait>(
     rt: &R,
     service: &Service<C, B>,
@@ -275,7 +275,7 @@ fn lent_three<C: Commits, B: Blocks, S: Source, R: Wait>(
     change_over(rt, service, seat, lent, change, source)
 }
 
-/// The same over four cells that are lent: each stays behind its own reference.
+/// A change over four cells that are lent. Each stays behind its own reference.
 fn lent_four<C: Commits, B: Blocks, S: Source, R: Wait>(
     rt: &R,
     service: &Service<C, B>,

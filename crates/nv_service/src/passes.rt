@@ -88,6 +88,7 @@ impl<C: Commits> Model for Owner<C> {
       version = (cell_view s.pass).version;
     } };
 
+    // The pass is of the service's freshness cell, and of its own kind.
     ghost invariant = { λ s. (s.pass.table_id ≡ C.table)
         × (cell_view s.pass ≡ owner (cell_view s.pass).ino (cell_view s.pass).version []) };
 }
@@ -106,6 +107,7 @@ impl<C: Commits> Owner<C> {
     pub fn meet<R: Wait>(&mut self, rt: &R, fresh: &Fresh<C>, seen: &mut Notes<C>)
         ensures owner { self.new ≡ self.old }
         ensures seen { seen.new ≡ seen.old }
+        // Nobody has seen more of an inode than its owner's version.
         ensures met { slice_index seen.old self.old.ino ≤ self.old.version }
     {
         let note = fresh.cell.split_pass::<SeenNote>(&mut seen.pass);
@@ -116,6 +118,7 @@ impl<C: Commits> Owner<C> {
     /// Tells the version: it is seen from here on.
     pub fn tell(&mut self, fresh: &Fresh<C>, seen: &mut Notes<C>)
         ensures owner { self.new ≡ self.old }
+        // A version that is told is seen from then on.
         ensures seen { seen.new ≡ greater seen.old (only_at self.old.ino self.old.version) }
     {
         let note = fresh.cell.split_pass::<OwnerNote>(&mut self.pass);

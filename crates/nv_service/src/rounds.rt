@@ -52,7 +52,7 @@ fn take_number<C: Commits, B: Blocks, R: Wait>(
 #[derive(Debug, Drop)]
 enum RoundEnd {
     Ends(Result<Seen, Fault>),
-    Overtaken(Update),
+    BoundAnew(Update),
 }
 
 impl RoundEnd {
@@ -68,7 +68,7 @@ impl RoundEnd {
             Ok(receipt) => RoundEnd::Ends(Ok(Seen::Committed(receipt))),
             Err(ChangeEnd::Answers) => RoundEnd::Ends(Ok(Seen::Other(nothing))),
             Err(ChangeEnd::Refuses(fault)) => RoundEnd::Ends(Err(fault)),
-            Err(ChangeEnd::Overtaken(update)) => RoundEnd::Overtaken(update),
+            Err(ChangeEnd::BoundAnew(update)) => RoundEnd::BoundAnew(update),
         }
     }
 }
@@ -116,6 +116,8 @@ fn round<C: Commits, B: Blocks, S: Source, R: Wait>(
 /// Round after round of a call, as long as a name leads elsewhere than its look found, and at most so many behind the
 /// first. `Contended` where the last one too is overtaken. How many rounds were made stands last. `NoSpace` comes only where
 /// a taking of blocks has asked each CPU's list.
+/// A call is `NoSpace` only where a taking of its own fell short.
+/// Only tested: a call that was overtaken in fewer goes on, and a contended one may be made again.
 fn rounds<C: Commits, B: Blocks, S: Source, R: Wait>(
     rt: &R,
     service: &Service<C, B>,
@@ -140,6 +142,7 @@ fn rounds<C: Commits, B: Blocks, S: Source, R: Wait>(
     ensures same { KeepsOnErr result.1
         (at_seat seat.old.number seat.old.commits.amount seat.old.notes)
         (at_seat seat.new.number seat.new.commits.amount seat.new.notes) }
+    // A call is `Contended` only after eight rounds that were overtaken.
     ensures err { IfErr result.1 (MayGiveUp update) }
     ensures all { IfErr result.1 (λ why. why ≡ Contended → result.2 ≡ left + 1) }
     ensures most { result.2 ≤ left + 1 }
@@ -149,8 +152,8 @@ fn rounds<C: Commits, B: Blocks, S: Source, R: Wait>(
     let (hand, end) = round(rt, service, seat, number, update, hand, source);
     match end {
         RoundEnd::Ends(result) => (hand, result, 1),
-        RoundEnd::Overtaken(_) if left == 0 => (hand, Err(Fault::Contended), 1),
-        RoundEnd::Overtaken(update) => {
+        RoundEnd::BoundAnew(_) if left == 0 => (hand, Err(Fault::Contended), 1),
+        RoundEnd::BoundAnew(update) => {
             let (hand, result, made) = rounds(
                 rt,
                 service,

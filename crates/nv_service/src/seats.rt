@@ -97,6 +97,7 @@ pub(crate) struct Seating<C: Commits, B: Blocks> {
     pub(crate) free: Vec<Mutex<FreeSeat<C, B>>>,
     pub(crate) given: u64,
     pub(crate) reserve: Mutex<Reserve<C, B>>,
+    // The seats that are free and those that were given out are 64.
     ghost all_seats: { vec_len free + given ≡ ACTORS },
 }
 
@@ -110,6 +111,7 @@ pub(crate) struct Reserve<C: Commits, B: Blocks> {
     pub(crate) snapped: Share<SnapLedger<C>>,
     pub(crate) blocks: Share<B>,
     ghost commit_parts: { commits.parts + ACTORS ≡ C.whole },
+    // What no seat and no part has of the ledgers counts nothing.
     ghost no_commit: { commits.amount ≡ 0 },
     ghost snap_parts: { snapped.parts + ACTORS ≡ C.snap_parts },
     ghost none_snapped: { snapped.amount ≡ 0 },
@@ -124,9 +126,11 @@ impl<C: Commits, B: Blocks> Service<C, B> {
     /// `SeatsOut` where sessions were given out already; `BadGeometry` where there are none or more than 64 to give out;
     /// `OutOfMemory` where room was refused. Nothing has changed then.
     pub fn seats(&mut self, alloc: Global, count: u64) -> Result<Vec<Session<C, B>>, Fault>
+        // As many sessions are given out, numbered from 0, which have seen and committed nothing.
         ensures sessions { IfOk result (λ sessions.
             sessions.items ≡ map new_session (range_with_len 0 count)) }
         ensures given { OnOk result (self.new.seating.given ≡ count) }
+        // They are given out once, 1 to 64 of them, and else nothing changes.
         ensures out { IsRefusedBy result SeatsOut ↔ (0 < self.old.seating.given) }
         ensures bad { IsRefusedBy result (BadGeometry Seats)
             ↔ ((self.old.seating.given ≡ 0) × ((count ≡ 0) ⊎ (ACTORS < count))) }

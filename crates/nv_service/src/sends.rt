@@ -32,7 +32,7 @@ fn parts_are_send(
     is_send(names);
 }
 
-/// So may what lies under a lock, and what a session has seen.
+/// What lies under a lock, and what a session has seen, may go to another thread.
 fn locked_parts_are_send<C: Commits + Send, B: Blocks>(
     cell: &LockedCell<C, B>,
     list: &LockedList<B>,

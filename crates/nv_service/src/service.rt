@@ -3,7 +3,7 @@
 ghost use Rattle.std.specs.Prelude.{◌≡◌, ◌+◌, ◌≤◌, [], MatchOption, Some, map, slice_get, vec_capacity, vec_len};
 ghost use Rattle.std.specs.Option.{option_map};
 ghost use Rattle.crossbeam_utils.specs.Padded.{padded_value};
-ghost use Rattle.nv_service.specs.Rests.{AreAllSlots, list_told, told_by, told_of};
+ghost use Rattle.nv_service.specs.Rests.{AreAllSlots, list_told, rest_told, cell_told};
 ghost use Rattle.nv_service.specs.Snapped.{AreSnapped};
 
 use crate::book::LockedBook;
@@ -38,6 +38,8 @@ pub struct Service<C: Commits, B: Blocks> {
     pub(crate) seating: Seating<C, B>,
     pub(crate) total: Total<B>,
     pub(crate) judge: Judge,
+    // The total of its ledger of blocks is the device's number of blocks, and all parts of the ledger are accounted
+    // for.
     ghost placed: { vec_len cells.locks + vec_len lists ≡ B.placed },
     ghost all_parts: { total.parts ≡ B.whole },
     ghost all_blocks: { total.amount ≡ geometry.numbers.blocks },
@@ -52,7 +54,9 @@ impl<C: Commits, B: Blocks> Service<C, B> {
     }
 
     /// The lock of an inode's cell, where there is such a slot: each slot has its own.
+    /// Only tested: each inode slot and each CPU has a lock of its own.
     pub fn inode_lock(&self, ino: Ino) -> Option<&Mutex<LockedCell<C, B>>>
+        // There is a lock exactly for the number of an inode slot.
         ensures { MatchOption result (vec_len self.now.cells.locks ≤ ino)
             (λ lock. slice_get self.now.cells.locks.items ino ≡ Some lock.now) }
     {
@@ -61,6 +65,7 @@ impl<C: Commits, B: Blocks> Service<C, B> {
 
     /// The lock of a CPU's free list, where there is such a CPU.
     pub fn list_lock(&self, cpu: u64) -> Option<&Mutex<LockedList<B>>>
+        // There is a lock exactly for the number of a CPU, and one for the book.
         ensures { MatchOption result (vec_len self.now.lists ≤ cpu)
             (λ lock. option_map padded_value (slice_get self.now.lists.items cpu)
             ≡ Some lock.now) }
@@ -78,6 +83,7 @@ impl<C: Commits, B: Blocks> Service<C, B> {
 
     /// The part that was found to differ when [`Service::close`] was last refused by a `Mismatch`, if it ever was.
     pub fn found(&self) -> Option<MismatchPart>
+        // The part is told that a `close` found to differ last.
         ensures { result ≡ self.now.judge.found }
     {
         self.judge.found()
@@ -94,7 +100,7 @@ impl<C: Commits, B: Blocks> Service<C, B> {
         requires lists { (room.lists.items ≡ []) × (vec_len self.lists ≤ vec_capacity room.lists) }
         requires list_rests { (room.list_rests.items ≡ [])
             × (vec_len self.lists ≤ vec_capacity room.list_rests) }
-        ensures cells { map told_by result.1.cells.items ≡ map told_of result.0.cells }
+        ensures cells { map rest_told result.1.cells.items ≡ map cell_told result.0.cells }
         ensures count { vec_len result.1.cells ≡ vec_len self.cells.locks }
         ensures slots { AreAllSlots result.1.cells.items }
         ensures lists { result.1.lists.items ≡ map list_told result.0.lists }

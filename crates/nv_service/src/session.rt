@@ -32,6 +32,7 @@ impl<C: Commits, B: Blocks> Model for Session<C, B> {
       seen = s.seat.notes;
     } };
 
+    // It has one part of each ledger, and as many blocks as its hand.
     ghost invariant = { λ s. (s.seat.commits.parts ≡ 1)
         × (s.seat.blocks.parts ≡ 1)
         × (s.snapped.parts ≡ 1)

@@ -75,6 +75,7 @@ pub(crate) fn take_blocks<C: Commits, B: Blocks, R: Wait>(
     ensures amount { mine.new.amount + length queue.old.blocks
         ≡ mine.old.amount + length queue.new.blocks }
     ensures err { FailsEither fault.NoSpace (fault.Mismatch part.Lists) result }
+    // A taking ends by `NoSpace` only where it fell short.
     ensures short { asking.new.turn ≡ turned_in result asking.old.turn }
 {
     let mut left = wanted;

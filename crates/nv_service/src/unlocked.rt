@@ -1,7 +1,7 @@
 //! Locked parts are taken apart for a world, and put together again where it is refused.
 
 ghost use Rattle.std.specs.Prelude.{◌≡◌, ◌≤◌, [], length, map, vec_capacity, vec_len};
-ghost use Rattle.nv_service.specs.Rests.{AreAllSlots, list_told, told_by, told_of};
+ghost use Rattle.nv_service.specs.Rests.{AreAllSlots, list_told, rest_told, cell_told};
 
 use crate::cell::LockedCell;
 use crate::cell_locks::CellLocks;
@@ -26,7 +26,8 @@ pub(crate) fn unlock_cells<C: Commits, B: Blocks>(
     ensures locks { (vec_len locks.new.locks ≡ 0)
         × (vec_capacity locks.new.locks ≡ vec_capacity locks.old.locks) }
     ensures count { vec_len result.1 ≡ vec_len locks.old.locks }
-    ensures fit { map told_by result.1.items ≡ map told_of result.0.items }
+    // Cells come out in the order of their slots, each with its slot, blocks and version beside it.
+    ensures fit { map rest_told result.1.items ≡ map cell_told result.0.items }
     ensures slots { AreAllSlots result.1.items }
 {
     while let Some((slot, locked)) = locks.take_last() {
@@ -55,10 +56,11 @@ pub(crate) fn lock_cells<C: Commits, B: Blocks>(
     mut rests: Vec<CellRest<C, B>>,
     locks: &mut CellLocks<C, B>,
 )
-    requires fit { map told_by rests.items ≡ map told_of cells.items }
+    requires fit { map rest_told rests.items ≡ map cell_told cells.items }
     requires slots { AreAllSlots rests.items }
     requires room { (vec_len locks.old.locks ≡ 0)
         × (vec_len rests ≤ vec_capacity locks.old.locks) }
+    // A cell goes back behind the lock of the slot that it came out of.
     ensures { vec_len locks.new.locks ≡ vec_len rests }
 {
     cells.reverse();
@@ -84,7 +86,7 @@ pub(crate) fn lock_cells<C: Commits, B: Blocks>(
     cells.destroy_empty();
 }
 
-/// The same of free lists: out of their locks.
+/// Takes free lists out of their locks, and keeps what lay beside each.
 pub(crate) fn unlock_lists<B: Blocks>(
     locks: &mut Vec<CachePadded<Mutex<LockedList<B>>>>,
     mut lists: Vec<FreeList>,
@@ -107,7 +109,7 @@ pub(crate) fn unlock_lists<B: Blocks>(
     (lists, rests)
 }
 
-/// And behind them.
+/// Puts free lists and what lay beside them behind locks again.
 pub(crate) fn lock_lists<B: Blocks>(
     mut lists: Vec<FreeList>,
     mut rests: Vec<ListRest<B>>,

@@ -3,7 +3,7 @@
 use crate::reads::Reads;
 use crate::steps::{Step, play};
 use Reads::{List, Lookup, Read};
-use Step::{Commits, FindsNothing, FindsNothingIn, Log, Makes, Overtaken, Refused};
+use Step::{BoundAnew, Commits, FindsNothing, FindsNothingIn, Log, Makes, Refused};
 use nv_base::Fault;
 use nv_scenes_calls::updates::Says::{Create, Mkdir, Mode, Rename, Rmdir, Size, Unlink, Write};
 
@@ -60,8 +60,8 @@ const REFUSALS: &[Step] = &[
     Refused(Create(0, "g"), Fault::NoInode),
     Refused(Mkdir(1, "g"), Fault::NoInode),
     // the name leads elsewhere than its look found
-    Overtaken(Unlink(0, "f"), 2),
-    Overtaken(Rmdir(0, "d"), 2),
+    BoundAnew(Unlink(0, "f"), 2),
+    BoundAnew(Rmdir(0, "d"), 2),
     FindsNothing(Read(0, 0, 1), Fault::NotFile),
     FindsNothing(List(3), Fault::NotDirectory),
     FindsNothing(Lookup(3, "/"), Fault::NotDirectory),

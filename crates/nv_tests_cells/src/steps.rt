@@ -28,7 +28,7 @@ pub enum Step {
     /// One that is lent the cell of this inode.
     FindsNothingIn(u64, Reads, Fault),
     /// A call whose first name was bound to this inode when it looked.
-    Overtaken(Says, u64),
+    BoundAnew(Says, u64),
     /// A snapshot of this number.
     Snapshot(u64),
     /// The entries of an inode's log, its version, and how many entries of each log page are live and how many valid.
@@ -82,7 +82,7 @@ pub fn make(rt: &impl Abort, alloc: Global, scene: &mut Scene, step: &Step) {
         Step::FindsNothingIn(ino, reads, fault) => {
             reads_in(rt, alloc, scene, ino, reads, Err(fault))
         }
-        Step::Overtaken(says, ino) => {
+        Step::BoundAnew(says, ino) => {
             same_for(
                 rt,
                 &says,

@@ -8,6 +8,7 @@ mod cleaning;
 mod device;
 pub mod entries;
 mod erase;
+mod plans;
 mod random_logs;
 mod rows;
 pub mod scene;

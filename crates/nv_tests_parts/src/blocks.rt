@@ -95,6 +95,45 @@ fn takes_the_lowest_and_shows_runs(rt: HostRuntime) {
     list.dismantle();
 }
 
+/// The list of a CPU without a block. Where its memory is refused it is asked for again.
+fn bare_list(rt: &impl Abort, alloc: Global, cpu: u64) -> FreeList {
+    let device = device(rt);
+    assert!(rt; cpu < device.numbers.cpus);
+    match FreeList::empty(alloc, &device, cpu) {
+        Ok(list) => list,
+        Err(fault) => {
+            refused_memory(rt, fault);
+            FreeList::empty(alloc, &device, cpu).expect(rt, "memory for a list")
+        }
+    }
+}
+
+/// Moves the block of a number from one list to another.
+fn move_block(rt: &impl Abort, from: &mut FreeList, to: &mut FreeList, number: u64) {
+    let number = BlockNo::new(number);
+    assert!(rt; from.has(number));
+    let block = from.take_block(number);
+    same(rt, block.number(), number);
+    assert!(rt; to.takes(&block));
+    to.give(block);
+}
+
+#[test]
+fn takes_blocks_by_number(rt: HostRuntime) {
+    let mut full = list_of(&rt, rt.alloc(), 1);
+    let mut bare = bare_list(&rt, rt.alloc(), 1);
+    same(&rt, bare.is_empty(), true);
+    for number in [11, 8, 15] {
+        move_block(&rt, &mut full, &mut bare, number);
+    }
+    assert_runs(&rt, &bare, &[(8, 8), (11, 11), (15, 15)]);
+    move_block(&rt, &mut bare, &mut full, 11);
+    assert_runs(&rt, &full, &[(9, 14)]);
+    same(&rt, (bare.len(), full.len()), (2, 6));
+    bare.dismantle();
+    full.dismantle();
+}
+
 #[test]
 fn takes_what_there_is(rt: HostRuntime) {
     let mut list = list_of(&rt, rt.alloc(), 1);
@@ -266,6 +305,31 @@ fn hands_out_the_lowest_inode(rt: HostRuntime) {
     let third = Ino::new(3);
     same(&rt, (pool.is_inode(third), pool.has(third)), (false, false));
     same(&rt, pool.take(), Some(Ino::new(1)));
+}
+
+/// A pool in which the inodes 0 and 2 are free. Where its memory is refused it is asked for again.
+fn pool_of_two(rt: &impl Abort, alloc: Global) -> InodePool {
+    let device = device(rt);
+    assert!(rt; 2 < device.numbers.inodes);
+    let free = [Ino::new(0), Ino::new(2)];
+    match InodePool::rebuild(alloc, &device, &free) {
+        Ok(pool) => pool,
+        Err(fault) => {
+            refused_memory(rt, fault);
+            InodePool::rebuild(alloc, &device, &free).expect(rt, "memory for a pool")
+        }
+    }
+}
+
+#[test]
+fn makes_a_pool_of_numbers(rt: HostRuntime) {
+    let mut pool = pool_of_two(&rt, rt.alloc());
+    same(&rt, (pool.len(), pool.has(Ino::new(1))), (2, false));
+    give_back(&rt, &mut pool, Ino::new(1));
+    for ino in 0..3 {
+        same(&rt, pool.take(), Some(Ino::new(ino)));
+    }
+    same(&rt, pool.take(), None);
 }
 
 fn give_back(rt: &impl Abort, pool: &mut InodePool, ino: Ino) {

@@ -2,6 +2,7 @@
 
 mod appends;
 mod growth;
+mod images;
 mod removal;
 
 use crate::compare::{refused_memory, same};

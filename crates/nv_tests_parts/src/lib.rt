@@ -20,6 +20,8 @@ mod entry;
 #[cfg(test)]
 mod file_index;
 #[cfg(test)]
+mod homes;
+#[cfg(test)]
 mod journal;
 #[cfg(test)]
 mod name_index;

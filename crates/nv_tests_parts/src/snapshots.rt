@@ -208,3 +208,27 @@ fn makes_as_many_as_there_is_room_for(rt: HostRuntime) -> Result<(), Fail> {
 fn a_snapshot_list_crosses_threads(rt: HostRuntime) {
     crosses_threads(&new_list(&rt, rt.alloc(), 1, 1));
 }
+
+/// The snapshots 2 and 5 in the epoch 7. Where its memory is refused it is asked for again.
+fn list_of_two(rt: &impl Abort, alloc: Global) -> SnapList {
+    let numbers = [Epoch::new(2), Epoch::new(5)];
+    match SnapList::rebuild(alloc, 3, &numbers, Epoch::new(7)) {
+        Ok(list) => list,
+        Err(fault) => {
+            refused_memory(rt, fault);
+            SnapList::rebuild(alloc, 3, &numbers, Epoch::new(7)).expect(rt, "memory for a list")
+        }
+    }
+}
+
+#[test]
+fn makes_a_list_of_numbers(rt: HostRuntime) {
+    let mut list = list_of_two(&rt, rt.alloc());
+    same(&rt, (list.len(), list.room()), (2, 1));
+    for (number, pins) in [(2, Some(0)), (3, None), (5, Some(0))] {
+        same_for(&rt, &number, list.pins(Epoch::new(number)), pins);
+    }
+    same(&rt, list.make(), Ok(Epoch::new(7)));
+    same(&rt, list.make(), Err(Fault::TooManySnapshots));
+    same(&rt, list.remove(Epoch::new(2)), Ok(()));
+}

@@ -8,7 +8,7 @@ use std::alloc::Global;
 use std::process::Abort;
 
 /// What the lines of a script write that stand whole in its first bytes.
-fn written_by_front(alloc: Global, front: &[u8]) -> Vec<u8> {
+pub fn written_by_front(alloc: Global, front: &[u8]) -> Vec<u8> {
     let whole = front.iter().rposition(|byte| *byte == b'\n');
     let lines = &front[..whole.map_or(0, |last| last + 1)];
     play_in_pieces(alloc, lines, AT_ONCE, AT_ONCE).1

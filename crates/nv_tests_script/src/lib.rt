@@ -10,6 +10,8 @@ mod cleaners_beside;
 #[cfg(test)]
 mod compare;
 #[cfg(test)]
+mod devices;
+#[cfg(test)]
 mod ends;
 #[cfg(test)]
 mod faults;
@@ -22,11 +24,21 @@ mod looked;
 #[cfg(test)]
 mod pieces;
 #[cfg(test)]
+mod playing;
+#[cfg(test)]
+mod reports;
+#[cfg(test)]
 mod rows;
 #[cfg(test)]
 mod scripts;
 #[cfg(test)]
 mod snapshots;
+#[cfg(test)]
+mod stops;
+#[cfg(test)]
+mod told;
+#[cfg(test)]
+mod twins;
 #[cfg(test)]
 mod words;
 #[cfg(test)]

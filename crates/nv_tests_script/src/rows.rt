@@ -226,7 +226,7 @@ pub const SECOND_LINES: &[(&str, ScriptFaultKind)] = &[
     ("do 0 clean 1\n", ScriptFaultKind::Word),
     ("start 0 Auto 1\n", ScriptFaultKind::Word),
     ("start 0 \n", ScriptFaultKind::Word),
-    ("stop\n", ScriptFaultKind::Word),
+    ("stops\n", ScriptFaultKind::Word),
     ("fork\n", ScriptFaultKind::Word),
     ("do x jump y\n", ScriptFaultKind::Word),
     ("do\n", ScriptFaultKind::Count),

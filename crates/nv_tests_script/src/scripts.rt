@@ -5,6 +5,7 @@ use crate::compare::{same, same_for};
 use crate::pieces::play_in_pieces;
 use crate::rows::{FAULTS, FORMAT, SCRIPTS};
 use crate::snapshots::OF_SNAPSHOTS;
+use crate::stops::OF_STOPS;
 use crate::worked::{Row, WORKED};
 use nv_base::{Fault, ScriptFaultKind};
 use nv_scenes::want_of_memory;
@@ -57,6 +58,7 @@ fn scripts_write_their_texts(rt: HostRuntime) -> Result<(), Fail> {
     check_all(&rt, &SCRIPTS);
     check_all(&rt, OF_SNAPSHOTS);
     check_all(&rt, OF_CLEANERS);
+    check_all(&rt, OF_STOPS);
     for (front, letters, end, text) in LONGEST {
         let script = filled(rt.alloc(), front, b'a', *letters, end.as_bytes())?;
         check(&rt, &script, Ok(()), text.as_bytes());

@@ -125,7 +125,7 @@ pub const A_RECORD_MOVES_DOWN: Row = (
      free 12 chain 2 data 1 pending 1 hand 0\n",
 );
 
-const A_WRITE_ACROSS_A_SNAPSHOT: Row = (
+pub const A_WRITE_ACROSS_A_SNAPSHOT: Row = (
     "format blocks=16 cpus=2 block=4 page=4 inodes=8 snaps=4 actors=3\n\
      do 0 create 0.1 a 420\n\
      do 0 write 1.1 0 aaaa\n\

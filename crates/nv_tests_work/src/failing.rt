@@ -44,6 +44,8 @@ enum Failure {
     Refused,
     /// It takes no byte.
     TakesNone,
+    /// It takes the first byte, and each later write takes all.
+    TakesOne,
 }
 
 /// Takes all of each write, and fails at the write with this number, counted from 1, and at each later one.
@@ -55,17 +57,24 @@ struct Paper {
     failure: Failure,
 }
 
+impl Paper {
+    /// How many of so many bytes the next write takes.
+    fn turn(&mut self, len: usize) -> io::Result<usize> {
+        self.writes = self.writes.saturating_add(1);
+        match self.failure {
+            Failure::Refused if self.writes >= self.failing => Err(ErrorKind::Other.into()),
+            Failure::TakesNone if self.writes >= self.failing => Ok(0),
+            Failure::TakesOne if self.writes == self.failing => Ok(len.min(1)),
+            _ => Ok(len),
+        }
+    }
+}
+
 impl Write for Paper {
     fn write(&mut self, buf: &[u8]) -> io::Result<usize> {
-        self.writes = self.writes.saturating_add(1);
-        if self.writes >= self.failing {
-            return match self.failure {
-                Failure::Refused => Err(ErrorKind::Other.into()),
-                Failure::TakesNone => Ok(0),
-            };
-        }
-        self.written.extend_from_slice(buf)?;
-        Ok(buf.len())
+        let taken = self.turn(buf.len())?.min(buf.len());
+        self.written.extend_from_slice(&buf[..taken])?;
+        Ok(taken)
     }
 
     fn flush(&mut self) -> io::Result<()> {
@@ -145,6 +154,11 @@ fn a_failed_write_ends_the_script(rt: HostRuntime) {
             same_for(&rt, &row, outcome, Err(Fault::Write));
             holds_for(&rt, &row, text.as_slice() == want);
         }
+    }
+    for (write, _) in WRITES {
+        let (outcome, text) = worked(&rt, rt.alloc(), NEVER, write, Failure::TakesOne);
+        same_for(&rt, &write, outcome, Ok(()));
+        holds_for(&rt, &write, text.as_slice() == IN_THREADS);
     }
     let (outcome, text) = worked(&rt, rt.alloc(), NEVER, 5, Failure::Refused);
     same_for(&rt, &"no fifth write", outcome, Ok(()));

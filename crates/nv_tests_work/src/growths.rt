@@ -1,4 +1,4 @@
-//! A script that threads play while the runner may refuse memory once. `tools/refused-growths` refuses each growth in turn.
+//! A script that threads play while one growth may be refused. `tools/refused-growths` refuses each in turn.
 
 use crate::compare::holds_for;
 use crate::played::played;
@@ -28,11 +28,16 @@ fn tells_of_memory(text: &[u8]) -> bool {
 /// Where a world is refused, the next line comes out of order.
 const NO_WORLD: Fault = Fault::ScriptFault(ScriptFaultKind::Order, 2);
 
+/// Whether a text is whole lines of the script's, from the first on.
+fn is_front(text: &[u8]) -> bool {
+    IN_THREADS.starts_with(text) && (text.is_empty() || text.ends_with(b"\n"))
+}
+
 /// Whether memory was refused, in a growth of the script or of what it is written into. What stands is audited.
 fn is_refused(outcome: &Result<(), Fault>, text: &[u8]) -> bool {
     match *outcome {
         Err(fault) if fault == NO_WORLD => text == b"refused E1 OutOfMemory\n".as_slice(),
-        Err(fault) => wants_memory(fault) || fault == Fault::Write,
+        Err(fault) => fault == Fault::Write || wants_memory(fault) && is_front(text),
         Ok(()) => {
             tells_of_memory(text)
                 && (text.ends_with(b"\naudit ok\n")

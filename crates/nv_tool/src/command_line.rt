@@ -43,7 +43,7 @@ directory 0.1 with mode 420 (octal 644), and list all. 'novacore play first.nova
   /notes f 420 0
   end
 
-Commands: format, do, start, go, run, tree, stree, snaps, space, lists, log, audit.
+Commands: format, do, start, go, run, stop, tree, stree, snaps, space, lists, log, audit.
 Calls, which follow 'do' or 'start' and the number of an actor: create, mkdir, write, read, size,
 mode, stat, list, lookup, unlink, rmdir, rename; on snapshots snap, drop, show, drain; and, to clean
 the log of a file or directory, fast, thorough, auto and the number of its inode. 'fast 1' unlinks
@@ -52,7 +52,8 @@ fills, and wants these pages free before it gives any back. 'auto 1' does as tho
 than half would stay, and else as fast. They are answered 'done fast E P' or 'done thorough E P',
 how many entries and pages the log lost, and the tree and all snapshots stay as they are.
 'do' makes a call whole; 'start', 'go' and 'run' take it step by step, between the steps of other
-actors.
+actors. 'stop' stops the machine, which goes on from what stands: a call past its commit point is
+wholly there, and every other wholly absent.
 
 Answers go to standard output. By '--echo' the number and the text of each command come before its
 answers, as '> 2 do 0 create 0.1 notes 420' before 'done 1.1'. Where no FILE is named and standard

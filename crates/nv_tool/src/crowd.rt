@@ -10,6 +10,7 @@ const MOST: u64 = 32;
 pub(crate) struct Crowd {
     pub(crate) threads: u64,
     pub(crate) cleaners: u64,
+    // There are 1 to 32 threads and at most 32 cleaners.
     ghost some_thread: { 1 ≤ threads },
     ghost few_threads: { threads ≤ 32 },
     ghost few_cleaners: { cleaners ≤ 32 },

@@ -49,9 +49,13 @@ fn tell_of_memory<R: Eprint>(rt: &R) {
 /// Prints what a command line without a task is answered.
 ///
 /// Help and the version go to standard output, and why a command line is refused to standard error.
+/// Only tested: which command lines these are, by what `Task::read` answers.
+/// Only tested: the texts of help and refusals.
 fn answered<R: Print + Eprint>(rt: &R, error: &clap::Error) -> Outcome
+    // Want of memory ends the program; any other command line without a task is refused.
     ensures memory { kind_of error.now ≡ ErrorKind.OutOfMemory
         → result ≡ Outcome.OutOfMemory }
+    // A request for help or the version is shown, or its write failed.
     ensures shown { (kind_of error.now ≡ ErrorKind.DisplayHelp)
         ⊎ (kind_of error.now ≡ ErrorKind.DisplayVersion)
         → (result ≡ Outcome.Shown) ⊎ (result ≡ Outcome.Failed Fault.Write) }

@@ -20,6 +20,7 @@ const AWAY: &str = "\r\x1b[K";
 const PIECE_BYTES: usize = 4096;
 
 /// How far a script has come, and when that is told next, if it is told at all.
+/// Only tested: what is told, from the first second on and at most four times a second.
 #[derive(Drop)]
 pub(crate) struct Progress<'a, T> {
     rt: &'a T,

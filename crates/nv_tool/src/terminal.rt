@@ -28,6 +28,8 @@ struct Session<'a, T> {
 
 /// Plays the lines that are typed, as they come. A line with a fault changes nothing. The end of the lines ends it well. A read or
 /// a write that fails, memory that is refused, and a line without its end end it by a fault.
+/// Only tested: a line with a fault is told, and the next one is asked for.
+/// Only tested: help is shown.
 pub(crate) fn converse<T: Eprint, R: Read, W: Write>(
     rt: &T,
     alloc: Global,

@@ -58,6 +58,7 @@ impl Told {
 
     /// How the program ends, and what is told behind the text of a fault.
     pub(crate) fn into_outcome(self) -> (Outcome, Option<String>)
+        // A fault ends the program as that fault, and else a script was played.
         ensures { MatchResult self.ended
             (λ _. result.0 ≡ Outcome.Played) (λ fault. result.0 ≡ Outcome.Failed fault) }
     {
@@ -78,6 +79,7 @@ pub(crate) fn play_told<'p, R: Read, W: Write, T: Clock + Eprint>(
     reader: &mut R,
     writer: &mut W,
 ) -> Told
+    // The writer gets what `play` writes, and nothing more.
     ensures script { PlaysScript result.ended (R.remaining reader.old) (R.remaining reader.new)
         (W.contents writer.old) (W.contents writer.new) }
     ensures serial { PlaysAlone serial_player result.ended (R.remaining reader.old)
@@ -118,6 +120,7 @@ pub(crate) fn echo_told<'p, R: Read, W: Write, T: Clock + Eprint>(
     reader: &mut R,
     writer: &mut W,
 ) -> Told
+    // The writer gets commands and answers alone.
     ensures script { PlaysEchoed Echo.On result.ended (R.remaining reader.old)
         (R.remaining reader.new) (W.contents writer.old) (W.contents writer.new) }
     ensures plain { PlaysWithoutEchoes result.ended (R.remaining reader.old)
@@ -129,7 +132,7 @@ pub(crate) fn echo_told<'p, R: Read, W: Write, T: Clock + Eprint>(
     Told::of(alloc, script, By::Play, ended, &recent, &tally)
 }
 
-/// The same with the lines that are kept and the refusals that are counted.
+/// Plays a script of this name with echoes, where the lines are kept and the refusals are counted.
 fn echo_kept<'p, R: Read, W: Write, T: Clock + Eprint>(
     alloc: Global,
     progress: &'p Progress<'p, T>,
@@ -158,6 +161,7 @@ pub(crate) fn work_told<R: Read, W: Write, T: Threads + Wait + Sync>(
     reader: &mut R,
     writer: &mut W,
 ) -> Told
+    // The writer gets what `work` writes, and nothing more.
     ensures script { WorksScript crowd.threads result.ended (R.remaining reader.old)
         (R.remaining reader.new) (W.contents writer.old) (W.contents writer.new) }
 {

@@ -14,6 +14,7 @@ use std::io::{Read, Write};
 use std::time::Clock;
 
 /// A reader that counts its failures, keeps the lines that are read last, and tells, before each line, how far the script has come.
+/// What tells how far a script has come reads nothing.
 #[derive(Drop)]
 pub(crate) struct WatchedReader<'a, 'p, T, R> {
     reader: &'a mut R,
@@ -80,6 +81,7 @@ impl<'a, 'p, T: Clock + Eprint, R: Read> CountedRead for WatchedReader<'a, 'p, T
 
 /// A writer that counts its failures and the refusals among what it writes, and makes room for answers on a terminal where something
 /// is told.
+/// It adds nothing to the answers.
 #[derive(Drop)]
 pub(crate) struct WatchedWriter<'a, 'p, T, W> {
     writer: &'a mut W,

@@ -1,6 +1,6 @@
 -- What became of a line before `fork`, and of a report behind it.
 use Rattle.std.proofs.Common.{◌≡◌, ◌∙◌, inl, Bool, false, List, [], ℕ, Option, Some, None, Ok, Err, refl, sym, subst, append-nil}
-use Rattle.std.specs.Prelude.{IsOk, is_some}
+use Rattle.std.specs.Prelude.{◌≢◌, IsOk, is_some}
 use Rattle.nv_base.specs.declared.fault.ScriptFaultKind.{ScriptFaultKind}
 use Rattle.nv_machine.specs.Starts.{IsStart}
 use Rattle.nv_machine.specs.Step.{after}
@@ -11,12 +11,13 @@ use Rattle.nv_base.specs.declared.geometry.GeometryNumbers.{GeometryNumbers}
 use Rattle.nv_script.specs.declared.fault.LineFault.{LineFault}
 use Rattle.nv_script.specs.declared.fault.LineFault.TheVariants as line_fault
 use Rattle.nv_script.specs.declared.command.Command.{Command}
+use Rattle.nv_script.specs.declared.command.Command.TheVariants as command
 use Rattle.nv_script.specs.Grammar.{Parsed, command_of, is_skipped}
 use Rattle.nv_script.specs.Lines.{WritesFront}
 use Rattle.nv_script.specs.Play.{Plays, PlaysWords, machine_player}
 use Rattle.nv_script.specs.Results.{HasAnyRun, LineFaultIs, Sends, Sent, ending_of}
 use Rattle.nv_work.specs.Work.{fork_fault, is_fork}
-use Rattle.nv_work.specs.Working.{Adds, FrontFaultIs, ReadsFork, ReportIs}
+use Rattle.nv_work.specs.Working.{AddsText, FrontFaultIs, ReadsFork, ReportIs}
 use Rattle.nv_script.specs.Words.{words_of}
 use Rattle.nv_script.proofs.Known.{writes_none}
 use Rattle.nv_script.proofs.RunsPlayed.{run_line}
@@ -67,22 +68,23 @@ world_left m line text n skipped plays = led (rw skipped at plays) where
   led (command, world, read, acts, same) = (world, same)
 
 -- a report was sent
-pub reported : (m : machine.World) (line : List ℕ) (from to : Sent) (new : Option WorldState) → is_skipped line ≡ false → HasRun m
-    → (n : Option machine.World) (text : List ℕ) → Plays machine_player (Some m) line text n → ShowsAny new n → Sends from to text
+pub reported : (m : machine.World) (line : List ℕ) (from to : Sent) (new : Option WorldState) → is_skipped line ≡ false
+    → command_of (words_of line) ≢ Ok command.Stop → HasRun m → (n : Option machine.World) (text : List ℕ)
+    → Plays machine_player (Some m) line text n → ShowsAny new n → Sends from to text
     → ReportIs (Ok tt) line m from to new
-reported m line from to new skipped has n text plays shown sends =
+reported m line from to new skipped other has n text plays shown sends =
     let left = world_left m line text n skipped plays in (
       left.0,
       text,
       subst (λ (w : Option machine.World). Plays machine_player (Some m) line text w) left.1 plays,
       subst (λ (w : Option machine.World). ShowsAny new w) left.1 shown,
-      subst (λ (w : Option machine.World). HasAnyRun w) left.1 (run_line (Some m) line text n plays has),
+      subst (λ (w : Option machine.World). HasAnyRun w) left.1 (run_line m line text n skipped other plays has),
       sends,
     )
 
 -- a report was not sent whole
 pub report_fault : (why : LineFault) (number : ℕ) (from to : Sent) (m : machine.World) (line : List ℕ)
-    → IsOk (command_of (words_of line)) → LineFaultIs why from to (Some m) line → Adds (Err (ending_of number why)) from to []
+    → IsOk (command_of (words_of line)) → LineFaultIs why from to (Some m) line → AddsText (Err (ending_of number why)) from to []
 report_fault (line_fault.OutOfMemory witness) number from to m line right is = (is.0, ([], is.0, append-nil is.0), is.2)
 report_fault line_fault.Write number from to m line right is = (is.0, ([], is.0, append-nil is.0), is.3)
 report_fault (line_fault.Faulty reason) number from to m line right is =

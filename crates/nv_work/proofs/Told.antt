@@ -19,7 +19,7 @@ use Rattle.nv_base.specs.declared.geometry.GeometryNumbers.{GeometryNumbers}
 use Rattle.nv_work.specs.declared.forked.ForkedCall.{ForkedCall}
 use Rattle.nv_work.specs.Threads.{AreThreadTexts, calls_in, shares_of}
 use Rattle.nv_work.specs.Work.{AreAnswersTo, BeginAlike, EndsAmong, EndsBefore, EndsForked, EndsReported, EndsThreads, FollowsFork, Fork, Forks, Works, WorksBy}
-use Rattle.nv_work.specs.Working.{Adds, ClosesAfter, RefusesThreads, ReportIs, TellsAll}
+use Rattle.nv_work.specs.Working.{AddsText, ClosesAfter, RefusesThreads, ReportIs, TellsAll}
 use Rattle.nv_script.proofs.Breaks.{longer, shorter}
 use Rattle.nv_script.proofs.Endings.{broken_off, broken_played, ends_on}
 use Rattle.nv_work.proofs.Forking.{broken_fork}
@@ -303,7 +303,7 @@ module _ {V : Type 0} (f : V → List ℕ) (xs : List V) (i : ℕ) where
   )
 
 -- something was told behind a text
-pub tells_more : (a b c : Sent) (text : List ℕ) → Sends a b text → (why : Fault) → Adds (Err why) b c [] → Adds (Err why) a c text
+pub tells_more : (a b c : Sent) (text : List ℕ) → Sends a b text → (why : Fault) → AddsText (Err why) b c [] → AddsText (Err why) a c text
 tells_more a b c text first fault.Write then_ = (
   text ++ then_.0,
   ([], then_.0, append-nil (text ++ then_.0)),
@@ -314,7 +314,7 @@ tells_more a b c text first (fault.OutOfMemory witness) then_ =
 tells_more a b c text first _ then_ = absurd then_
 
 -- a text was told in part, or with more behind it: it begins as its first part does
-pub tells_front : (a c : Sent) (text more : List ℕ) (why : Fault) → Adds (Err why) a c (text ++ more) → Adds (Err why) a c text
+pub tells_front : (a c : Sent) (text more : List ℕ) (why : Fault) → AddsText (Err why) a c (text ++ more) → AddsText (Err why) a c text
 tells_front a c text more fault.Write is = (is.0, (is.1.0, more ++ is.1.1, is.1.2 ∙ append_assoc text more is.1.1), is.2)
 tells_front a c text more (fault.OutOfMemory witness) is =
     (is.0, (is.1.0, more ++ is.1.1, is.1.2 ∙ append_assoc text more is.1.1), is.2)

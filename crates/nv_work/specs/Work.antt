@@ -16,7 +16,8 @@ use Rattle.nv_script.specs.Play.{EndsAfter, EndsBy, IsFaultBy, LineFails, PlaysA
 use Rattle.nv_script.specs.Words.{words_of}
 use Rattle.nv_work.specs.Threads.{AreThreadTexts, calls_in, forked_of, shares_of}
 
--- the first word of a line is `fork`
+-- the first word of a line is `fork`.
+-- The lines before `fork` are played as above, and their text is written.
 abbrev pub is_fork : List ℕ → Bool
 is_fork line = not (is_skipped line) && bytes_eq (word_at (words_of line) 0) (codes "fork")
 
@@ -29,10 +30,13 @@ fork_fault true line = if nat_lt 1 (length (words_of line)) then Some kind.Count
 abbrev pub FrontFails : Bool → List ℕ → ScriptFaultKind → Type 0
 FrontFails made line why = MatchBool (is_fork line) (fork_fault made line ≡ Some why) (LineFails made line why)
 
+-- a line behind `fork` has this fault
 abbrev pub ForkedFails : List ℕ → ScriptFaultKind → Type 0
 ForkedFails line why = (is_skipped line ≡ false) × (forked_of (words_of line) ≡ Err why)
 
--- a line behind `fork` without a fault
+-- a line behind `fork` without a fault.
+-- Each line behind it is skipped or a `do`. Example: a format, `fork` and `tree` write `formatted`, and the fault
+-- is `word` at line 3. It ends well once all lines were read, where no actor has a call at `fork`.
 abbrev pub IsForked : List ℕ → Type 0
 IsForked line = IsLine line × ((is_skipped line ≡ true) ⊎ IsOk (forked_of (words_of line)))
 
@@ -45,6 +49,7 @@ pub record Fork : Type 0 where
   pub line : List ℕ
   pub behind : List (List ℕ)
 
+-- the lines of a script with a `fork`
 abbrev pub lines_in : Fork → List (List ℕ)
 lines_in f = f.front ++ f.line ∷ f.behind
 
@@ -66,12 +71,16 @@ pub record Forks (input : Option (List ℕ)) (f : Fork) (rest : List ℕ) : Type
 abbrev pub EndsForked : (input : Option (List ℕ)) → (List ℕ → Type 0) → (Fork → List ℕ → Type 0) → Type 0
 EndsForked input Writes Also = (f : Fork) × (rest : List ℕ) × Forks input f rest × Also f rest × Writes f.text
 
--- no actor has a call at `fork`, and each call behind it has its answer, thread by thread
+-- no actor has a call at `fork`, and each call behind it has its answer, thread by thread.
+-- Then the texts of all threads stand in the order of their numbers, and behind them the reports on the world after
+-- threads.
 abbrev pub AreAnswersTo : (threads : ℕ) → Fork → List (List ℕ) → Type 0
 AreAnswersTo threads f texts =
     (¬ IsBusy f.world) × AreThreadTexts f.world.numbers.actors (shares_of threads (calls_in f.behind)) texts
 
--- two texts are alike as far as both go
+-- two texts are alike as far as both go.
+-- What is written then begins as the answers do. Example: of the answers `0: done 4` and `1: done 4` the first
+-- alone.
 abbrev pub BeginAlike : List ℕ → List ℕ → Type 0
 BeginAlike one other = (rest more : List ℕ) × (one ++ rest ≡ other ++ more)
 
@@ -85,7 +94,9 @@ abbrev pub Reported : World → List ℕ → Type 0
 Reported m reports = (n : Option World)
     × PlaysAll machine_player (Some m) (codes "tree" ∷ codes "snaps" ∷ codes "audit" ∷ []) reports n
 
--- THE WORLD AFTER THREADS: events lead to it, its numbers are those of the world at `fork`, and no commit is lost
+-- THE WORLD AFTER THREADS: events lead to it, its numbers are those of the world at `fork`, and no commit is lost.
+-- Events lead to that world from a start, its numbers are those of the world at `fork`, and its last commit is not
+-- below that world's.
 pub record FollowsFork (fork m : World) : Type 0 where
   pub run : HasRun m
   pub numbers : m.numbers ≡ fork.numbers
@@ -125,6 +136,7 @@ EndsAmong threads fault.Write input Writes = EndsThreads threads input Writes
 EndsAmong threads (fault.OutOfMemory witness) input Writes = EndsThreads threads input Writes
 EndsAmong threads _ input Writes = ⊥
 
+-- how `work` ends by a fault, and what it has written
 abbrev pub WorksBy : (threads : ℕ) → Fault → (input left : Option (List ℕ)) → (List ℕ → Type 0) → Type 0
 WorksBy threads why input left Writes = EndsBefore why input left Writes ⊎ EndsAmong threads why input Writes
 
@@ -134,6 +146,7 @@ abbrev pub Works : (threads : ℕ) → Result (Unit {0}) Fault → (input left :
 Works threads (Ok done) input left Writes = EndsReported threads input Writes × IsAtEnd left
 Works threads (Err why) input left Writes = WorksBy threads why input left Writes
 
--- the same, where the writer has this at first and is left with that
+-- the same, where the writer has this at first and is left with that.
+-- How a script ends that threads play.
 abbrev pub WorksScript : (threads : ℕ) → Result (Unit {0}) Fault → (input left old new : Option (List ℕ)) → Type 0
 WorksScript threads result input left old new = Works threads result input left (λ text. Appends old new text)

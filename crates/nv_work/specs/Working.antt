@@ -86,20 +86,20 @@ pub record ClosesAfter (opened closed : WorldState) : Type 0 where
   pub commit : opened.shared.book.state.commit ≤ closed.shared.book.state.commit
 
 -- a text was sent; or something that begins alike, and then a write of it failed, or memory was refused
-abbrev pub Adds : Result (Unit {0}) Fault → Sent → Sent → List ℕ → Type 0
-Adds (Ok done) old new text = Sends old new text
-Adds (Err fault.Write) old new text = (told : List ℕ) × BeginAlike told text × Fails old new told
-Adds (Err (fault.OutOfMemory witness)) old new text = (told : List ℕ) × BeginAlike told text × Sends old new told
-Adds (Err _) old new text = ⊥
+abbrev pub AddsText : Result (Unit {0}) Fault → Sent → Sent → List ℕ → Type 0
+AddsText (Ok done) old new text = Sends old new text
+AddsText (Err fault.Write) old new text = (told : List ℕ) × BeginAlike told text × Fails old new told
+AddsText (Err (fault.OutOfMemory witness)) old new text = (told : List ℕ) × BeginAlike told text × Sends old new told
+AddsText (Err _) old new text = ⊥
 
 -- a report on the world was sent, or not
 abbrev pub ReportIs : Result (Unit {0}) Fault → List ℕ → machine.World → Sent → Sent → Option WorldState → Type 0
 ReportIs (Ok done) line m old new world = (n : machine.World) × (text : List ℕ) × Plays machine_player (Some m) line text (Some n)
     × ShowsAny world (Some n) × HasRun n × Sends old new text
-ReportIs (Err why) line m old new world = Adds (Err why) old new []
+ReportIs (Err why) line m old new world = AddsText (Err why) old new []
 
 -- the answers of threads and the reports on the world that is shown were sent, or not all of them
 abbrev pub TellsAll : Result (Unit {0}) Fault → List (List ℕ) → Option WorldState → Sent → Sent → Type 0
 TellsAll (Ok done) texts world old new = (reports : List ℕ) × (m : machine.World) × ShowsAny world (Some m) × HasRun m
     × Reported m reports × Sends old new (concat texts ++ reports)
-TellsAll (Err why) texts world old new = Adds (Err why) old new (concat texts)
+TellsAll (Err why) texts world old new = AddsText (Err why) old new (concat texts)

@@ -108,6 +108,7 @@ fn play<C: Commits, B: Blocks, G: Gate, R: Wait>(
     gate: &G,
     job: Job<C, B>,
 ) -> PlayedJob<C, B>
+    // A thread has one answer for each call, in their order, or no room for one.
     ensures text { IfOk result.text
         (λ text. IsThreadText service.now.geometry.numbers.actors (job.thread, job.calls.items) text.items) }
     ensures seat { result.session.number ≡ job.session.number }
@@ -171,6 +172,7 @@ fn push_answer(
     thread: u64,
     told: Result<Answer, Fault>,
 ) -> Result<(), AllocError>
+    // An answer stands behind the number of its thread.
     ensures { OnOk result (out.new.items ≡ out.old.items ++ answer_line thread told) }
 {
     push_number(out, thread)?;

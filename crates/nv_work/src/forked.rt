@@ -24,6 +24,7 @@ pub(crate) struct ForkedCall {
 #[derive(Drop)]
 pub(crate) struct ForkedLines {
     pub(crate) threads: Vec<Vec<ForkedCall>>,
+    // There is at least one thread.
     ghost some: { 1 ≤ vec_len threads },
 }
 
@@ -46,6 +47,7 @@ impl ForkedLines {
     /// Adds the call of a line to those of its thread, if it has one.
     pub(crate) fn read(&mut self, alloc: Global, line: &[u8]) -> Result<(), LineFault>
         ensures line { ReadsForkedLine result line.now }
+        // The call of a line stands at the end of its thread's.
         ensures lists { OnOk result
             (lists_of self.new ≡ with_calls (lists_of self.old) (calls_on line.now)) }
         ensures same { OnErr result (lists_of self.new ≡ lists_of self.old) }
@@ -61,6 +63,7 @@ impl ForkedLines {
 
     /// Adds a call at the end of those of its thread.
     fn add(&mut self, call: ForkedCall) -> Result<(), AllocError>
+        // A call stands at the end of those of its thread.
         ensures lists { OnOk result (lists_of self.new ≡ with_call (lists_of self.old) call) }
         ensures same { OnErr result (lists_of self.new ≡ lists_of self.old) }
         ensures count { vec_len self.new.threads ≡ vec_len self.old.threads }
@@ -80,6 +83,7 @@ impl ForkedLines {
 /// The thread of an actor's calls, of so many threads.
 fn thread_of(actor: u64, threads: u64) -> u64
     requires { 0 < threads }
+    // An actor's calls are those of the thread that is its number modulo the threads.
     ensures { result ≡ actor % threads }
 {
     actor % threads
@@ -87,6 +91,7 @@ fn thread_of(actor: u64, threads: u64) -> u64
 
 /// Whether a line is `fork`: of kind `Order` where no world is made, and of kind `Count` where it has more words.
 pub(crate) fn is_fork(alloc: Global, line: &[u8], made: bool) -> Result<bool, LineFault>
+    // A line is `fork` without other words, where a world is made.
     ensures { ReadsFork result made line.now }
 {
     if is_skipped(line) {
@@ -107,6 +112,7 @@ pub(crate) fn is_fork(alloc: Global, line: &[u8], made: bool) -> Result<bool, Li
 
 /// The call of a line behind `fork`. `Word` where it is no `do`.
 fn read_forked(alloc: Global, line: &[u8]) -> Result<ForkedCall, LineFault>
+    // A line behind `fork` is a `do`, whose call is read.
     ensures { ReadsCall result (forked_of (words_of line.now)) }
 {
     let words = words(alloc, line)?;

@@ -36,6 +36,12 @@ use std::thread::Threads;
 ///
 /// Where no thread can be made, the calls of its lines are made by the caller's thread, and a cleaner makes none. It may
 /// wait for ever where the gate does.
+/// Only tested: no service fails to close.
+/// Only tested: what a thread's calls are answered is what its session answered.
+/// Only tested: cleaners clean while threads run.
+/// Only tested: threads make their calls beside each other.
+/// Only tested: eight threads and four cleaners on a full device lose no call.
+/// Only tested: each growth may be refused in turn.
 pub fn work<R: Read, W: Write, G: Gate + Sync, T: Threads + Wait + Sync>(
     rt: &T,
     alloc: Global,
@@ -47,6 +53,19 @@ pub fn work<R: Read, W: Write, G: Gate + Sync, T: Threads + Wait + Sync>(
 ) -> Result<(), Fault>
     requires threads { (1 ≤ threads) × (threads ≤ 32) }
     requires cleaners { cleaners ≤ 32 }
+    // The lines before `fork` are played as by `play`, and their text is written.
+    // Behind all answers of threads stand the reports on one world.
+    // Events lead to that world; it has the numbers of that at `fork`, and no fewer commits.
+    // A fault behind `fork` comes once the lines before are answered.
+    // A fault has the number of its line; without `fork` that of the last one.
+    // `SeatsOut` never comes.
+    // `Mismatch` comes only once all lines were read, where no actor has a call at `fork`.
+    // `ActorBusy` comes only where an actor has a call at `fork` and all lines were read.
+    // It ends well, or among its answers, only where no actor has a call at `fork`.
+    // A failed read takes no more of the reader than a piece of the next line.
+    // A failed write leaves what was written before it, and of the answers a beginning.
+    // The answers are those of all threads, by number.
+    // An actor that is not there is answered in its place.
     ensures script { WorksScript threads result (R.remaining reader.old) (R.remaining reader.new)
         (W.contents writer.old) (W.contents writer.new) }
 {
@@ -69,6 +88,7 @@ pub fn work_counted<R: CountedRead, W: CountedWrite, G: Gate + Sync, T: Threads 
 ) -> Result<(), Fault>
     requires threads { (1 ≤ threads) × (threads ≤ 32) }
     requires cleaners { cleaners ≤ 32 }
+    // E28 and E29 come exactly where one more read or write failed, with every other ending none.
     requires reads { R.failed reader.old < 2 ^ 64 - 1 }
     requires writes { W.failed writer.old < 2 ^ 64 - 1 }
     ensures script { WorksScript threads result (R.remaining reader.old) (R.remaining reader.new)

@@ -1,6 +1,6 @@
 //! The lines of a script that threads play.
 
-ghost use Rattle.std.specs.Prelude.{◌≡◌, ◌+◌, ◌-◌, ◌^◌, ◌<◌, ◌≤◌, ℕ, [], List, None, Option, Some, false, map, vec_len, IfOk, IsOk, IsSome};
+ghost use Rattle.std.specs.Prelude.{◌≡◌, ◌≢◌, ◌+◌, ◌-◌, ◌^◌, ◌<◌, ◌≤◌, ℕ, [], List, None, Ok, Option, Some, false, map, vec_len, IfOk, IsOk, IsSome};
 ghost use Rattle.std.specs.Io.KnownBytes.{prepend_known};
 ghost use Rattle.std.specs.List.{concat};
 ghost use Rattle.nv_core.specs.Worlds.{HasRun, ShowsAny};
@@ -9,9 +9,10 @@ ghost use Rattle.nv_script.specs.Grammar.{command_of, is_skipped};
 ghost use Rattle.nv_script.specs.Lines.{WritesFront};
 ghost use Rattle.nv_script.specs.Play.{failed_reads, failed_writes};
 ghost use Rattle.nv_script.specs.Results.{HoldsNone};
+ghost use Rattle.nv_script.specs.declared.command.Command.TheVariants.{Stop};
 ghost use Rattle.nv_work.specs.Taken.{ReadsForked};
 ghost use Rattle.nv_work.specs.Work.{Fork, Works};
-ghost use Rattle.nv_work.specs.Working.{Adds, AtFork, FrontIs, FrontLineIs, ReportIs, TellsAll, failed_in_front};
+ghost use Rattle.nv_work.specs.Working.{AddsText, AtFork, FrontIs, FrontLineIs, ReportIs, TellsAll, failed_in_front};
 ghost use Rattle.nv_script.specs.Words.{words_of};
 
 use crate::forked::{ForkedLines, is_fork};
@@ -194,7 +195,7 @@ fn add_texts<W: CountedWrite>(
     writer: &mut W,
 ) -> Result<(), Fault>
     requires writes { W.failed writer.old < 2 ^ 64 - 1 }
-    ensures told { Adds result
+    ensures told { AddsText result
         (record { written = W.contents writer.old; gathered = player.old.outbox })
         (record { written = W.contents writer.new; gathered = player.new.outbox })
         (concat (map (λ text. text.items) texts.items)) }
@@ -218,6 +219,7 @@ fn report<W: CountedWrite>(
     writer: &mut W,
 ) -> Result<(), Fault>
     requires line { (is_skipped line.now ≡ false) × IsOk (command_of (words_of line.now)) }
+    requires goes_on { command_of (words_of line.now) ≢ Ok Stop }
     requires writes { W.failed writer.old < 2 ^ 64 - 1 }
     ensures told { (m : machine.World) → ShowsAny player.old.world (Some m) → HasRun m
         → ReportIs result line.now m

@@ -46,7 +46,7 @@ pub(crate) fn play_in_threads<G: Gate + Sync, R: Threads + Wait + Sync>(
     serve::<Brand, Brand, G, R>(rt, alloc, world, names, lines, cleaners, gate)
 }
 
-/// The same under names of their own for both ledgers of the service.
+/// Plays lines in threads, as [`play_in_threads`] does, under names of their own for both ledgers of the service.
 fn serve<
     C: Commits + Send + Sync,
     B: Blocks + Send + Sync,
@@ -102,6 +102,7 @@ fn seated<C: Commits, B: Blocks>(
     ensures shares { IfOk result (λ crew.
         map (λ job. (job.thread, job.calls.items)) crew.jobs.items
         ≡ enumerate_from 0 (lists_of lines)) }
+    // Each thread has a seat, and as many cleaners as were asked for.
     ensures cleaners { IfOk result (λ crew. vec_len crew.cleaners ≡ cleaners) }
     ensures numbers { IfOk result (λ crew. map (λ job. job.session.number) crew.jobs.items
         ++ map (λ s. s.number) crew.cleaners.items

@@ -7,8 +7,10 @@ use Rattle.nv_calls.specs.declared.answer.Answer.{Answer}
 use Rattle.nv_calls.specs.declared.answer.Answer.TheVariants as answer
 use Rattle.nv_calls.specs.Refusals.{Check, kind_of, passes, want_directory}
 
+-- what a `list` is refused for
 abbrev pub list_refusal : (Handle → Option NodeCopy) → Handle → Check
 list_refusal nodes dir = want_directory (kind_of (nodes dir)) passes
 
+-- what a `list` is answered: the names in order
 abbrev pub list_answer : Option NodeCopy → Answer
 list_answer node = answer.Names (names_of_node node)

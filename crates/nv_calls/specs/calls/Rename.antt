@@ -18,6 +18,7 @@ use Rattle.nv_calls.specs.declared.looked.LookupResult.{LookupResult}
 abbrev pub own_place : Handle → List ℕ → Handle → List ℕ → Bool
 own_place from old to new = same_handle from to && same_name old new
 
+-- a check that passes in this case, and else goes on
 abbrev pub pass_if : Bool → Check → Check
 pass_if true next = passes
 pass_if false next = next
@@ -47,6 +48,7 @@ rename_late nodes from old to new looked =
 
 -- ---- what becomes of the directories and of a replaced file
 
+-- the node that a moved name takes the place of goes
 abbrev pub replaced_effect : Option Handle → List Change
 replaced_effect None = []
 replaced_effect (Some other) = change other goes ∷ []
@@ -56,28 +58,34 @@ abbrev pub move_effect : Bool → Handle → List ℕ → Handle → List ℕ �
 move_effect true from old to new moved rest = change from (with_names (λ names. with_last new moved (without old names))) ∷ rest
 move_effect false from old to new moved rest = change from (with_names (without old)) ∷ change to (with_names (with_last new moved)) ∷ rest
 
+-- what a `rename` changes where the old name is bound
 abbrev pub bound_effect : Handle → List ℕ → Handle → List ℕ → Option Handle → Option Handle → List Change
 bound_effect from old to new None other = []
 bound_effect from old to new (Some moved) other = move_effect (same_handle from to) from old to new moved (replaced_effect other)
 
+-- what a `rename` changes: nothing where it goes to its own place
 abbrev pub rename_effect : Handle → List ℕ → Handle → List ℕ → LookupResult → List Change
 rename_effect from old to new looked =
     if own_place from old to new then [] else bound_effect from old to new looked.first looked.second
 
 -- ---- its plan
 
+-- the item of the node that a moved name takes the place of
 abbrev pub replaced_plan : Option Handle → List InodePlan
 replaced_plan None = []
 replaced_plan (Some other) = planned other (Gone ∷ []) ∷ []
 
+-- the items of a name that moves, within one directory or to another
 abbrev pub move_plan : Bool → Handle → List ℕ → Handle → List ℕ → Handle → List InodePlan → List InodePlan
 move_plan true from old to new moved rest = planned from (Unbind old ∷ Bind new moved ∷ []) ∷ rest
 move_plan false from old to new moved rest = planned from (Unbind old ∷ []) ∷ planned to (Bind new moved ∷ []) ∷ rest
 
+-- what a `rename` appends where the old name is bound
 abbrev pub bound_plan : Handle → List ℕ → Handle → List ℕ → Option Handle → Option Handle → List InodePlan
 bound_plan from old to new None other = []
 bound_plan from old to new (Some moved) other = move_plan (same_handle from to) from old to new moved (replaced_plan other)
 
+-- what a `rename` appends: nothing where it goes to its own place
 abbrev pub rename_plan : Handle → List ℕ → Handle → List ℕ → LookupResult → List InodePlan
 rename_plan from old to new looked =
     if own_place from old to new then [] else bound_plan from old to new looked.first looked.second

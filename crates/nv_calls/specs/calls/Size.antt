@@ -14,6 +14,7 @@ use Rattle.nv_calls.specs.declared.plan.InodePlan.{InodePlan}
 use Rattle.nv_calls.specs.Plan.{planned}
 use Rattle.nv_calls.specs.Refusals.{Check, bytes_of, kind_of, passes, refuse_if, want_file}
 
+-- what a `size` is refused for
 abbrev pub size_refusal : ℕ → (Handle → Option NodeCopy) → Handle → ℕ → Check
 size_refusal block nodes file size =
     want_file (kind_of (nodes file)) (refuse_if (nat_lt (FILE_PAGES * block) size) fault.FileTooBig passes)
@@ -22,9 +23,11 @@ size_refusal block nodes file size =
 abbrev pub resized : ℕ → List ℕ → List ℕ
 resized size bytes = take size (bytes ++ replicate (size - length bytes) 0)
 
+-- a node cut or made longer with zeros
 abbrev pub resized_node : ℕ → NodeCopy → NodeCopy
 resized_node size node = record node { size = size; bytes = resized size node.bytes }
 
+-- what a `size` changes
 abbrev pub size_effect : Handle → ℕ → List Change
 size_effect file size = change file (option_map (resized_node size)) ∷ []
 
@@ -36,6 +39,7 @@ cuts_page block size present bytes = nat_lt size (length bytes) && not (size % b
 abbrev pub size_blocks : ℕ → (Handle → Option NodeCopy) → Handle → ℕ → Bool → ℕ
 size_blocks block nodes file size present = if cuts_page block size present (bytes_of (nodes file)) then 1 else 0
 
+-- what a `size` appends: the last page with zeros past the size, and the size
 abbrev pub size_plan : ℕ → Handle → ℕ → List BlockRun → List InodePlan
 size_plan block file size runs = planned file (write_items (size / block) runs size ++ SetSize size ∷ []) ∷ []
 

@@ -18,6 +18,7 @@ abbrev pub leave_effect : Handle → List ℕ → Option Handle → List Change
 leave_effect dir name None = []
 leave_effect dir name (Some to) = change dir (with_names (without name)) ∷ change to goes ∷ []
 
+-- the items of a node that goes, and of its name
 abbrev pub leave_plan : Handle → List ℕ → Option Handle → List InodePlan
 leave_plan dir name None = []
 leave_plan dir name (Some to) = planned dir (Unbind name ∷ []) ∷ planned to (Gone ∷ []) ∷ []

@@ -18,13 +18,16 @@ count_refusal block offset count =
     refuse_if (nat_lt WRITE_PAGES (pages_touched block offset count)) fault.WriteTooBig
     (refuse_if (nat_lt (FILE_PAGES * block) (offset + count)) fault.FileTooBig passes)
 
+-- what a text is refused for by its length
 abbrev pub text_refusal : ℕ → ℕ → List ℕ → Check
 text_refusal block offset [] = passes
 text_refusal block offset (byte ∷ rest) = count_refusal block offset (length (byte ∷ rest))
 
+-- what a `write` is refused for
 abbrev pub write_refusal : ℕ → (Handle → Option NodeCopy) → Handle → ℕ → List ℕ → Check
 write_refusal block nodes file offset text = want_file (kind_of (nodes file)) (text_refusal block offset text)
 
+-- what a `write` changes: nothing where there is no byte
 abbrev pub write_effect : Handle → ℕ → List ℕ → List Change
 write_effect file offset [] = []
 write_effect file offset (byte ∷ rest) = change file (option_map (rewritten offset (byte ∷ rest))) ∷ []

@@ -16,6 +16,7 @@ use std::alloc::Global;
 
 /// Why a create is refused.
 pub fn check<N: Nodes>(nodes: &N, dir: &Handle, name: &[u8]) -> Result<(), Fault>
+    // `create` is refused by its first test that fails.
     ensures { result ≡ create_refusal (N.nodes_of nodes.now) dir.now name.now }
 {
     want_directory(nodes.kind(dir))?;
@@ -32,6 +33,7 @@ pub fn plan(
     made: Handle,
 ) -> Result<InodePlans, Fault>
     requires { IsTrue (is_lawful_name name.now) }
+    // `create` has exactly the items of its plan.
     ensures ok { IfOk result (λ plan. plan ≡ create_plan dir name.now mode made) }
     ensures err { FailsOnly out_of_memory result }
 {

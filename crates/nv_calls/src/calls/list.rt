@@ -9,6 +9,7 @@ use nv_base::{Fault, Handle};
 
 /// Why a list is refused.
 pub fn check<N: Nodes>(nodes: &N, dir: &Handle) -> Result<(), Fault>
+    // `list` is refused by its first test that fails.
     ensures { result ≡ list_refusal (N.nodes_of nodes.now) dir.now }
 {
     want_directory(nodes.kind(dir))

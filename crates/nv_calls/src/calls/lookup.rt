@@ -9,6 +9,7 @@ use nv_base::{Fault, Handle};
 
 /// Why a lookup is refused.
 pub fn check<N: Nodes>(nodes: &N, dir: &Handle, name: &[u8]) -> Result<(), Fault>
+    // `lookup` is refused by its first test that fails.
     ensures { result ≡ lookup_refusal (N.nodes_of nodes.now) dir.now name.now }
 {
     want_directory(nodes.kind(dir))?;

@@ -13,6 +13,7 @@ use std::alloc::Global;
 
 /// Why a mkdir is refused: as a create.
 pub fn check<N: Nodes>(nodes: &N, dir: &Handle, name: &[u8]) -> Result<(), Fault>
+    // `mkdir` is refused by its first test that fails.
     ensures { result ≡ mkdir_refusal (N.nodes_of nodes.now) dir.now name.now }
 {
     create::check(nodes, dir, name)
@@ -27,6 +28,7 @@ pub fn plan(
     made: Handle,
 ) -> Result<InodePlans, Fault>
     requires { IsTrue (is_lawful_name name.now) }
+    // `mkdir` has exactly the items of its plan.
     ensures ok { IfOk result (λ plan. plan ≡ mkdir_plan dir name.now mode made) }
     ensures err { FailsOnly out_of_memory result }
 {

@@ -24,6 +24,7 @@ pub fn check_early<N: Nodes>(
     to: &Handle,
     new: &[u8],
 ) -> Result<(), Fault>
+    // All tests of the first name come before any of the second.
     ensures { result ≡ rename_early (N.nodes_of nodes.now) from.now old.now to.now new.now }
 {
     lookup::check(nodes, from, old)?;
@@ -40,6 +41,8 @@ pub fn check_late<N: Nodes>(
     new: &[u8],
     looked: &LookupResult,
 ) -> Result<(), Fault>
+    // `rename` is refused by its first test that fails.
+    // A rename is refused where the node that it moves is gone.
     ensures { result
         ≡ rename_late (N.nodes_of nodes.now) from.now old.now to.now new.now looked.now }
 {
@@ -98,6 +101,7 @@ pub fn plan(
 ) -> Result<InodePlans, Fault>
     requires old_lawful { IsTrue (is_lawful_name old.now) }
     requires new_lawful { IsTrue (is_lawful_name new.now) }
+    // `rename` has exactly the items of its plan, inode by inode.
     ensures ok { IfOk result (λ plan. plan ≡ rename_plan from old.now to new.now looked.now) }
     ensures err { FailsOnly out_of_memory result }
 {
@@ -146,6 +150,7 @@ fn plan_of_names(
 
 /// Whether both names are one, in one directory.
 pub fn is_own_place(from: &Handle, old: &[u8], to: &Handle, new: &[u8]) -> bool
+    // A rename onto its own place is told, and passes its check.
     ensures { result ≡ own_place from.now old.now to.now new.now }
 {
     is_same(from, to) && is_same_name(old, new)

@@ -9,6 +9,7 @@ use nv_base::{Fault, Handle};
 
 /// Why an rmdir is refused, by what the name leads to.
 pub fn check_late<N: Nodes>(nodes: &N, bound: Option<Handle>) -> Result<(), Fault>
+    // `rmdir` is refused by its first test that fails.
     ensures { result ≡ rmdir_late (N.nodes_of nodes.now) bound }
 {
     let to = want_bound(bound)?;

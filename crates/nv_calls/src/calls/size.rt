@@ -18,8 +18,12 @@ use std::alloc::{AllocError, Global};
 pub fn check<N: Nodes>(block: u64, nodes: &N, file: &Handle, size: u64) -> Result<u64, Fault>
     requires some_bytes { 0 < block }
     requires few_bytes { block ≤ BLOCK_BYTES }
+    // `size` is refused by its first test that fails.
     ensures tests { result_err result
         ≡ result_err (size_refusal block (N.nodes_of nodes.now) file.now size) }
+    // A size takes a block where it cuts a page that is present.
+    // A size takes a block only where it cuts a page.
+    // A page past the last of a file is not present.
     ensures wanted { IfOk result (λ n. n ≡ size_blocks block (N.nodes_of nodes.now) file.now size
         (nat_lt (size / block) FILE_PAGES && N.has_page nodes.now file.now (size / block))) }
 {
@@ -49,6 +53,7 @@ pub fn plan(
 ) -> Result<InodePlans, AllocError>
     requires some_bytes { 0 < block }
     requires fits { size / block + length (blocks_of runs.now) ≤ FILE_PAGES }
+    // `size` has exactly the items of its plan.
     ensures { IfOk result (λ plan. plan ≡ size_plan block file size runs.now) }
 {
     let first = (size / block) as u32;

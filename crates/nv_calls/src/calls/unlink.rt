@@ -16,6 +16,7 @@ use std::alloc::Global;
 
 /// Why an unlink is refused, by what the name leads to.
 pub fn check_late<N: Nodes>(nodes: &N, bound: Option<Handle>) -> Result<(), Fault>
+    // `unlink` is refused by its first test that fails.
     ensures { result ≡ unlink_late (N.nodes_of nodes.now) bound }
 {
     let to = want_bound(bound)?;
@@ -30,6 +31,7 @@ pub fn plan(
     bound: Option<Handle>,
 ) -> Result<InodePlans, Fault>
     requires { IsTrue (is_lawful_name name.now) }
+    // `unlink` and `rmdir` have exactly the items of their plan.
     ensures ok { IfOk result (λ plan. plan ≡ leave_plan dir name.now bound) }
     ensures err { FailsOnly out_of_memory result }
 {

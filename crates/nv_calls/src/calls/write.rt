@@ -25,8 +25,10 @@ pub fn check<N: Nodes>(
 ) -> Result<u64, Fault>
     requires some_bytes { 0 < block }
     requires few_bytes { block ≤ BLOCK_BYTES }
+    // `write` is refused by its first test that fails.
     ensures tests { let text = replicate count 0 in result_err result
         ≡ result_err (write_refusal block (N.nodes_of nodes.now) file.now offset text) }
+    // A write takes a block for each page that it touches.
     ensures wanted { IfOk result (λ n. n ≡ write_blocks block offset (replicate count 0)) }
 {
     want_file(nodes.kind(file))?;
@@ -36,7 +38,7 @@ pub fn check<N: Nodes>(
     check_count(block, offset, count)
 }
 
-/// The same of a write of at least one byte to a file.
+/// Why a write of at least one byte to a file is refused, or how many blocks it takes.
 fn check_count(block: u64, offset: u64, count: u64) -> Result<u64, Fault>
     requires some_bytes { 0 < block }
     requires few_bytes { block ≤ BLOCK_BYTES }
@@ -75,6 +77,7 @@ pub fn plan<N: Nodes>(
     requires some_bytes { 0 < block }
     requires end { offset + count < 2 ^ 64 }
     requires fits { 0 < count → offset / block + length (blocks_of runs.now) ≤ FILE_PAGES }
+    // `write` has exactly the items of its plan.
     ensures { IfOk result (λ plan. plan
         ≡ write_plan block (N.nodes_of nodes.now) file offset (replicate count 0) runs.now) }
 {
@@ -101,6 +104,7 @@ pub fn size_after(size: u64, offset: u64, count: u64) -> u64
 pub fn pages_touched(block: u64, offset: u64, count: u64) -> u64
     requires some_bytes { 0 < block }
     requires some_text { 0 < count }
+    // How many pages a write touches is told.
     ensures { result ≡ pages_touched block offset count }
 {
     let last = u128::from(offset % block) + u128::from(count - 1);

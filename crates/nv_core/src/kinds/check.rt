@@ -18,9 +18,9 @@ ghost use Rattle.nv_machine.specs.Step.{ending_at, made_in, with_made};
 ghost use Rattle.nv_core.specs.Nodes.{ends_over, wanted_over};
 ghost use Rattle.nv_core.specs.Parts.{AreHome, AreSlots, HaveSlots, IsOfDevice};
 ghost use Rattle.nv_core.specs.Rooms.{FitsCall, HasRoomFor, HasRoomsAfter, IsHandOf, WantsBlocks, pages_to_take};
-ghost use Rattle.nv_core.specs.Shown.{GhostCall, ending_of, hand_of, shared_of, shown, slots_in, turn_of};
+ghost use Rattle.nv_core.specs.Shown.{ShownCall, ending_of, hand_of, shared_of, shown, slots_in, turn_of};
 ghost use Rattle.nv_core.specs.Steps.{CanBeChecked};
-ghost use Rattle.nv_core.specs.GhostCalls.{IsChangeWith, IsEither, IsGhostCallOf, KeepsRequest, is_change};
+ghost use Rattle.nv_core.specs.GhostCalls.{IsChangeWith, IsEither, IsShownCallOf, KeepsRequest, is_change};
 
 use crate::ending::{end, refuse};
 use crate::kinds::take::want_pages;
@@ -46,7 +46,7 @@ pub(crate) fn check(shared: &mut Shared, hand: &mut Hand, running: &mut Running)
     requires sized { IsHandOf shared.old.geometry.numbers hand.old }
     requires call { FitsCall running.old }
     requires can { CanBeChecked shared.old hand.old running.old }
-    ensures turn { (told : GhostCall) → IsGhostCallOf running.old told
+    ensures turn { (told : ShownCall) → IsShownCallOf running.old told
         → let block = shared.old.geometry.numbers.block in let s = shared_of shared.old in
         let h = hand_of hand.old in let r = shown told running.old in
         IsEither (λ granted. check_turn (ending_at block s h r) granted
@@ -108,7 +108,7 @@ fn test(shared: &mut Shared, running: &Running, has_number: bool) -> Result<u64,
     )
 }
 
-/// The same over the cells of the call's slots.
+/// How many data blocks the call takes, or how the check ends it, over the cells of the call's slots.
 fn test_in(
     block: u64,
     cells: &mut [InodeCell],
@@ -132,7 +132,7 @@ fn test_in(
     test_over(block, &HeldNodes::new(&lent), before, update, has_number)
 }
 
-/// The same over nodes.
+/// How many data blocks the call takes, or how the check ends it, over nodes.
 fn test_over<N: Nodes>(
     block: u64,
     nodes: &N,
@@ -150,7 +150,7 @@ fn test_over<N: Nodes>(
     match ends_at_check(block, nodes, before, update, has_number) {
         Ok(wanted) => Ok(wanted),
         Err(CheckEnd::Refuses(fault)) => Err(Ending::Refuses(fault)),
-        Err(CheckEnd::Overtaken) => Err(Ending::Overtaken),
+        Err(CheckEnd::BoundAnew) => Err(Ending::BoundAnew),
         Err(CheckEnd::Answers) => Err(Ending::Answers),
     }
 }
@@ -192,7 +192,7 @@ fn want_blocks(shared: &mut Shared, hand: &Hand, running: &mut Running, wanted: 
     requires empty { blocks_of hand.now ≡ [] }
     requires room { HasRoomFor wanted shared.old hand.now running.old }
     requires can { WantsBlocks wanted shared.old hand.now running.old }
-    ensures turn { (told : GhostCall) → IsGhostCallOf running.old told
+    ensures turn { (told : ShownCall) → IsShownCallOf running.old told
         → let s = shared_of shared.old in let h = hand_of hand.now in
         wants_blocks wanted shared.old.geometry.numbers.block s h (shown told running.old)
         ≡ turn_of result s h (shown told running.new) }

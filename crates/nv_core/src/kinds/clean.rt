@@ -7,7 +7,7 @@ ghost use Rattle.nv_machine.specs.Step.{kind_turn};
 ghost use Rattle.nv_machine.specs.World.{HandState, owner_at};
 ghost use Rattle.nv_core.specs.Frames.{LeavesRest};
 ghost use Rattle.nv_core.specs.Rooms.{HasRooms, HasRoomsAfter, IsCleaning};
-ghost use Rattle.nv_core.specs.Shown.{GhostCall, hand_of, manner_of, next_of, shared_of, shown, slots_in, turn_of};
+ghost use Rattle.nv_core.specs.Shown.{ShownCall, hand_of, manner_of, next_of, shared_of, shown, slots_in, turn_of};
 ghost use Rattle.nv_core.specs.Steps.{CanStep};
 ghost use Rattle.nv_core.specs.GhostCalls.{KeepsRequest};
 
@@ -31,7 +31,9 @@ pub(crate) fn lock_cleaned(
 ) -> Turn
     requires next { running.old.next ≡ Next.Maintenance (MaintenanceStep.LockCleaned log) }
     requires there { log.ino < length shared.old.owners.items }
-    ensures turn { (told : GhostCall) (h : HandState) → let s = shared_of shared.old in
+    // A cleaner locks the slot of its number.
+    // Where it waits for that lock it changes nothing.
+    ensures turn { (told : ShownCall) (h : HandState) → let s = shared_of shared.old in
         lock_cleaned_turn (owner_at s log.ino) actor (manner_of log.manner) log.ino s h
         (shown told running.old)
         ≡ turn_of result (shared_of shared.new) h (shown told running.new) }
@@ -54,10 +56,11 @@ pub(crate) fn clean(shared: &mut Shared, hand: &mut Hand, running: &mut Running,
     requires step { IsCleaning running.old.next }
     requires can { CanStep shared.old (Reservation.Hand hand.old) running.old actor }
     requires rooms { HasRooms shared.old (Reservation.Hand hand.old) running.old }
-    ensures turn { (told : GhostCall) (granted : Bool) → kind_turn (next_of running.old.next)
+    ensures turn { (told : ShownCall) (granted : Bool) → kind_turn (next_of running.old.next)
         shared.old.geometry.numbers.block actor granted (shared_of shared.old) (hand_of hand.old)
         (shown told running.old)
         ≡ turn_of result (shared_of shared.new) (hand_of hand.new) (shown told running.new) }
+    // No step of a cleaner waits behind its lock.
     ensures goes { result ≢ Turn.Waits }
     ensures request { KeepsRequest running.old running.new }
     ensures rooms { HasRoomsAfter result shared.new (Reservation.Hand hand.new) running.new }

@@ -6,7 +6,7 @@ ghost use Rattle.nv_core.specs.Cleaning.{CanClean, CanCompact, IsMaintaining};
 ghost use Rattle.nv_core.specs.Frames.{LeavesRest};
 ghost use Rattle.nv_core.specs.Parts.{AreHome};
 ghost use Rattle.nv_core.specs.Rooms.{HasRoomsAfter, IsHandOf};
-ghost use Rattle.nv_core.specs.Shown.{GhostCall, hand_of, shared_of, shown, turn_of};
+ghost use Rattle.nv_core.specs.Shown.{ShownCall, hand_of, shared_of, shown, turn_of};
 ghost use Rattle.nv_core.specs.GhostCalls.{KeepsRequest};
 ghost use Rattle.nv_machine.specs.Hands.{HasPagesAlone};
 
@@ -33,7 +33,10 @@ pub(crate) fn compact(
     requires can { CanClean shared.old plan.ino }
     requires alone { HasPagesAlone (hand_of hand.old) }
     requires plan { CanCompact shared.old hand.old plan }
-    ensures turn { (told : GhostCall) → compact_turn plan.ino (shared_of shared.old) (hand_of hand.old)
+    // What stays moves to the hand's log pages; the old pages go into it.
+    // A thorough cleaner is told how many entries and log pages its log lost.
+    // No old log page goes home at this step.
+    ensures turn { (told : ShownCall) → compact_turn plan.ino (shared_of shared.old) (hand_of hand.old)
         (shown told running.old)
         ≡ turn_of result (shared_of shared.new) (hand_of hand.new) (shown told running.new) }
     ensures request { KeepsRequest running.old running.new }

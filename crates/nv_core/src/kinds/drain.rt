@@ -4,7 +4,7 @@ ghost use Rattle.std.specs.Prelude.{◌≡◌, ◌≢◌, ◌<◌, [], length};
 ghost use Rattle.nv_machine.specs.Maintenance.{lock_picked_turn, pick_turn};
 ghost use Rattle.nv_machine.specs.World.{HandState, empty_hand, owner_at};
 ghost use Rattle.nv_core.specs.Rooms.{HasRooms, HasRoomsAfter};
-ghost use Rattle.nv_core.specs.Shown.{GhostCall, draining_of, hand_of, shared_of, shown, slots_in, turn_of};
+ghost use Rattle.nv_core.specs.Shown.{ShownCall, draining_of, hand_of, shared_of, shown, slots_in, turn_of};
 ghost use Rattle.nv_core.specs.GhostCalls.{IsEither, KeepsRequest};
 
 use crate::next::{Draining, MaintenanceStep, Next};
@@ -28,7 +28,9 @@ pub(crate) fn pick(
     requires slots { slots_in running.old.slots ≡ [] }
     requires empty { hand_of hand.old ≡ empty_hand }
     requires rooms { HasRooms shared.old (Reservation.Hand hand.old) running.old }
-    ensures turn { (told : GhostCall) → let s = shared_of shared.old in
+    // A drain makes room at its first pick, before it changes anything.
+    // A drain picks the first deferred record, and ends with its releases counted where there is none.
+    ensures turn { (told : ShownCall) → let s = shared_of shared.old in
         IsEither (λ granted. pick_turn (draining_of draining) granted s empty_hand
         (shown told running.old))
         (turn_of result (shared_of shared.new) empty_hand (shown told running.new)) }
@@ -61,7 +63,8 @@ pub(crate) fn lock_picked(
 ) -> Turn
     requires next { running.old.next ≡ Next.Maintenance (MaintenanceStep.LockPicked draining picked) }
     requires there { picked.ino < length shared.old.owners.items }
-    ensures turn { (told : GhostCall) (h : HandState) → let s = shared_of shared.old in
+    // A drain locks the inode of the record that it picked.
+    ensures turn { (told : ShownCall) (h : HandState) → let s = shared_of shared.old in
         lock_picked_turn (owner_at s picked.ino) actor (draining_of draining) picked s h
         (shown told running.old)
         ≡ turn_of result (shared_of shared.new) h (shown told running.new) }

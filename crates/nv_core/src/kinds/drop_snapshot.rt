@@ -14,6 +14,8 @@ use nv_calls::Answer;
 
 /// Drops a snapshot that has no pin, which is the call's only step.
 pub(crate) fn drop_snapshot(shared: &mut Shared, snapshot: u64) -> Turn
+    // A drop is one step, and changes the book alone.
+    // A drop defers what no living snapshot holds, and nothing else.
     ensures turn { (r : machine.Running) → r.slots ≡ [] → let s = shared_of shared.old in
         drop_turn snapshot (drop_tests (pins_of s.book.snaps snapshot)) s empty_hand r
         ≡ turn_of result (shared_of shared.new) empty_hand r }

@@ -6,9 +6,9 @@ ghost use Rattle.nv_machine.specs.Kinds.{enter_turn};
 ghost use Rattle.nv_core.specs.Appends.{IsPlacedBy};
 ghost use Rattle.nv_core.specs.Parts.{AreHome, IsOfDevice};
 ghost use Rattle.nv_core.specs.Rooms.{HasRooms, HasRoomsAfter, hand_held};
-ghost use Rattle.nv_core.specs.Shown.{GhostCall, held_by, shared_of, shown_by, slots_in, turn_of};
+ghost use Rattle.nv_core.specs.Shown.{ShownCall, held_by, shared_of, shown_by, slots_in, turn_of};
 ghost use Rattle.nv_core.specs.Steps.{GivenBy};
-ghost use Rattle.nv_core.specs.GhostCalls.{IsEither, IsReservationOf, KeepsRequest, told_by};
+ghost use Rattle.nv_core.specs.GhostCalls.{IsEither, IsReservationOf, KeepsRequest, shown_in};
 
 use crate::ending::refuse;
 use crate::reservation::Reservation;
@@ -31,22 +31,24 @@ pub(crate) fn enter(
     requires device { IsOfDevice shared.old.geometry.numbers (hand_held reserved.old) }
     requires rooms { HasRooms shared.old reserved.old running.old }
     requires given { GivenBy shared.old reserved.old running.old actor }
-    ensures turn { (told : GhostCall)
+    // The actor holds the commit lock behind it.
+    ensures turn { (told : ShownCall)
         → IsReservationOf (slots_in running.old.slots) reserved.old told
-        → let s = shared_of shared.old in let after = told_by reserved.new s.book told in
+        → let s = shared_of shared.old in let after = shown_in reserved.new s.book told in
         IsEither (λ granted. enter_turn s.holder (nat_le NUMBER s.book.commit) granted actor s
         (held_by reserved.old) (shown_by reserved.old told running.old))
         (turn_of result (shared_of shared.new) (held_by reserved.new)
         (shown_by reserved.new after running.new)) }
-    ensures told { (told : GhostCall)
+    ensures told { (told : ShownCall)
         → IsReservationOf (slots_in running.old.slots) reserved.old told
         → IsReservationOf (slots_in running.old.slots) reserved.new
-        (told_by reserved.new shared.old.book.state told) }
-    ensures placed { (told : GhostCall)
+        (shown_in reserved.new shared.old.book.state told) }
+    ensures placed { (told : ShownCall)
         → IsReservationOf (slots_in running.old.slots) reserved.old told
         → IsPlacedBy (slots_in running.old.slots) reserved.old told
         → IsPlacedBy (slots_in running.old.slots) reserved.new
-        (told_by reserved.new shared.old.book.state told) }
+        (shown_in reserved.new shared.old.book.state told) }
+    // It wants no memory where the book has room for what the call can kill.
     ensures enough { (ready : Ready) → reserved.old ≡ Reservation.Ready ready
         → shared.old.holder ≡ None → shared.old.book.state.commit < NUMBER
         → ready.need ≤ shared.old.book.room → shared.new.holder ≡ Some actor }

@@ -7,7 +7,7 @@ ghost use Rattle.nv_machine.specs.Kinds.{asked_list};
 ghost use Rattle.nv_core.specs.Cleaning.{IsMaintaining, TakesFresh};
 ghost use Rattle.nv_core.specs.Parts.{AreHome, IsOfDevice};
 ghost use Rattle.nv_core.specs.Rooms.{HasRoomsAfter, IsHandOf};
-ghost use Rattle.nv_core.specs.Shown.{GhostCall, hand_of, shared_of, shown, turn_of};
+ghost use Rattle.nv_core.specs.Shown.{ShownCall, hand_of, shared_of, shown, turn_of};
 ghost use Rattle.nv_core.specs.GhostCalls.{KeepsRequest};
 
 use crate::ending::refuse;
@@ -35,7 +35,8 @@ pub(crate) fn take_fresh(
     requires call { IsMaintaining running.old }
     requires takes { TakesFresh shared.old hand.old fresh }
     requires small { actor + fresh.asked < 2 ^ 64 - 1 }
-    ensures turn { (told : GhostCall) → let s = shared_of shared.old in
+    // A thorough cleaner takes its log pages from one list a step, its lowest blocks.
+    ensures turn { (told : ShownCall) → let s = shared_of shared.old in
         take_fresh_turn (asked_list (length s.lists) actor fresh.asked) fresh.plan.ino fresh.asked
         fresh.left s (hand_of hand.old) (shown told running.old)
         ≡ turn_of result (shared_of shared.new) (hand_of hand.new) (shown told running.new) }
@@ -58,7 +59,9 @@ fn ask_on(shared: &Shared, hand: &Hand, running: &mut Running, fresh: FreshPages
     requires call { IsMaintaining running.old }
     requires takes { TakesFresh shared.now hand.now fresh }
     requires small { fresh.asked < 2 ^ 64 - 1 }
-    ensures turn { (told : GhostCall) → let s = shared_of shared.now in let h = hand_of hand.now in
+    // No pages left to take is `NoSpace`, and tells of no cleaning.
+    // `NoSpace` comes only after the last list.
+    ensures turn { (told : ShownCall) → let s = shared_of shared.now in let h = hand_of hand.now in
         fresh_turn fresh.left (nat_lt (fresh.asked + 1) (length s.lists)) fresh.plan.ino fresh.asked
         s h (shown told running.old)
         ≡ turn_of result s h (shown told running.new) }

@@ -9,7 +9,7 @@ ghost use Rattle.nv_machine.specs.Kinds.{blocks_in, give_turn};
 ghost use Rattle.nv_machine.specs.World.{list_at};
 ghost use Rattle.nv_core.specs.Parts.{AreHome, IsOfDevice};
 ghost use Rattle.nv_core.specs.Rooms.{CanDrain, HasRooms, HasRoomsAfter, IsNoVisit};
-ghost use Rattle.nv_core.specs.Shown.{GhostCall, hand_of, shared_of, shown, turn_of};
+ghost use Rattle.nv_core.specs.Shown.{ShownCall, hand_of, shared_of, shown, turn_of};
 ghost use Rattle.nv_core.specs.GhostCalls.{KeepsRequest, OwesAt};
 
 use crate::ending::give_back;
@@ -31,7 +31,7 @@ pub(crate) fn give(shared: &mut Shared, hand: &mut Hand, running: &mut Running, 
     requires sized { AreSized shared.old.geometry.numbers.block (blocks_of hand.old) }
     requires once { (n : ℕ) → times n (numbers_of (blocks_of hand.old))
         + times n (numbers_of (list_at (shared_of shared.old) cpu).blocks) ≤ 1 }
-    ensures turn { (told : GhostCall) → OwesAt running.old.ending running.old told
+    ensures turn { (told : ShownCall) → OwesAt running.old.ending running.old told
         → give_turn cpu (shared_of shared.old) (hand_of hand.old) (shown told running.old)
         ≡ turn_of result (shared_of shared.new) (hand_of hand.new) (shown told running.new) }
     ensures request { KeepsRequest running.old running.new }

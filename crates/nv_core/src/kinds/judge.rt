@@ -12,7 +12,7 @@ ghost use Rattle.nv_machine.specs.World.{cell_at};
 ghost use Rattle.nv_core.specs.Cleaning.{HasRoomFor, IsFoundIn, IsMaintaining, IsNoSmaller, compacts};
 ghost use Rattle.nv_core.specs.Parts.{AreHome, IsOfDevice};
 ghost use Rattle.nv_core.specs.Rooms.{HasRoomsAfter, IsHandOf};
-ghost use Rattle.nv_core.specs.Shown.{GhostCall, hand_of, manner_of, shared_of, shown, turn_of};
+ghost use Rattle.nv_core.specs.Shown.{ShownCall, hand_of, manner_of, shared_of, shown, turn_of};
 ghost use Rattle.nv_core.specs.GhostCalls.{IsEither, KeepsRequest};
 
 use crate::ending::{end, refuse};
@@ -51,7 +51,8 @@ pub(crate) fn judge(
     requires sized { IsHandOf shared.now.geometry.numbers hand.old }
     requires none { length hand.old.pages.blocks ≡ 0 }
     requires call { IsMaintaining running.old }
-    ensures turn { (told : GhostCall) → let s = shared_of shared.now in
+    // A number without a slot is `Stale`, and so is exactly a slot without an inode.
+    ensures turn { (told : ShownCall) → let s = shared_of shared.now in
         IsEither (λ granted. judge_turn (manner_of manner) slot granted s (hand_of hand.old)
         (shown told running.old))
         (turn_of result s (hand_of hand.new) (shown told running.new)) }
@@ -65,7 +66,7 @@ pub(crate) fn judge(
     }
 }
 
-/// The same of a slot that is there.
+/// Walks the log of a slot that is there, and chooses what its cleaning does.
 fn judge_slot(
     alloc: Global,
     shared: &Shared,
@@ -81,7 +82,9 @@ fn judge_slot(
     requires sized { IsHandOf shared.now.geometry.numbers hand.old }
     requires none { length hand.old.pages.blocks ≡ 0 }
     requires call { IsMaintaining running.old }
-    ensures turn { (told : GhostCall) → let s = shared_of shared.now in
+    // `Stale` comes before want of memory.
+    // The log is that of the slot that is to be cleaned.
+    ensures turn { (told : ShownCall) → let s = shared_of shared.now in
         IsEither (λ granted. inode_turn (has_inode (cell_at s ino)) (manner_of manner) ino granted
         s (hand_of hand.old) (shown told running.old))
         (turn_of result s (hand_of hand.new) (shown told running.new)) }
@@ -115,7 +118,9 @@ fn choose(
     manner: Manner,
     pages: &mut BlockQueue,
 ) -> Result<Choice, Fault>
+    // The plan is what a walk of the locked log finds, under its lock.
     ensures found { IfOk result (λ choice. IsFoundIn cell.now.state choice) }
+    // An auto is thorough exactly where less than half of the entries stay.
     ensures manner { IfOk result (λ choice. compacts choice
         ≡ is_thorough (manner_of manner) cell.now.state) }
     ensures room { IfOk result (λ choice. HasRoomFor pages.new choice) }
@@ -172,7 +177,8 @@ fn follow(shared: &Shared, hand: &Hand, running: &mut Running, ino: Ino, choice:
     requires none { length hand.now.pages.blocks ≡ 0 }
     requires found { IsFoundIn (cell_at (shared_of shared.now) ino) choice }
     requires room { HasRoomFor hand.now.pages choice }
-    ensures turn { (told : GhostCall) → let s = shared_of shared.now in let h = hand_of hand.now in
+    // A fast cleaner makes its step also where no log page goes.
+    ensures turn { (told : ShownCall) → let s = shared_of shared.now in let h = hand_of hand.now in
         chosen_turn (compacts choice) ino s h (shown told running.old)
         ≡ turn_of result s h (shown told running.new) }
     ensures request { KeepsRequest running.old running.new }
@@ -199,7 +205,9 @@ fn want_fresh(shared: &Shared, hand: &Hand, running: &mut Running, ino: Ino, wal
     requires walk { walk ≡ wanted_of (cell_at (shared_of shared.now) ino) }
     requires room { HasRoomFor hand.now.pages (Choice.Compacts walk) }
     requires none { length hand.now.pages.blocks ≡ 0 }
-    ensures turn { (told : GhostCall) → let s = shared_of shared.now in let h = hand_of hand.now in
+    // Where all stay no log page is taken, and 0 and 0 is told.
+    // Where some go, log pages are taken before an entry moves.
+    ensures turn { (told : ShownCall) → let s = shared_of shared.now in let h = hand_of hand.now in
         thorough_turn walk.dropped walk.pages ino s h (shown told running.old)
         ≡ turn_of result s h (shown told running.new) }
     ensures request { KeepsRequest running.old running.new }

@@ -6,7 +6,7 @@ ghost use Rattle.nv_machine.specs.Kinds.{leave_turn};
 ghost use Rattle.nv_machine.specs.World as machine;
 ghost use Rattle.nv_core.specs.Parts.{AreHome, IsOfDevice};
 ghost use Rattle.nv_core.specs.Rooms.{HasRooms, HasRoomsAfter, IsNoDrain, hand_held};
-ghost use Rattle.nv_core.specs.Shown.{GhostCall, hand_of, held_by, shared_of, shown, shown_at, turn_of};
+ghost use Rattle.nv_core.specs.Shown.{ShownCall, hand_of, held_by, shared_of, shown, shown_at, turn_of};
 ghost use Rattle.nv_core.specs.GhostCalls.{KeepsRequest, OwesAt};
 
 use crate::ending::end;
@@ -24,7 +24,8 @@ pub(crate) fn leave(shared: &mut Shared, reserved: &mut Reservation, running: &m
     requires home { AreHome shared.old }
     requires device { IsOfDevice shared.old.geometry.numbers (hand_held reserved.old) }
     requires rooms { HasRooms shared.old reserved.old running.old }
-    ensures turn { (told : GhostCall) → OwesAt running.old.ending running.old told
+    // The commit lock is free behind it.
+    ensures turn { (told : ShownCall) → OwesAt running.old.ending running.old told
         → leave_turn (shared_of shared.old) (held_by reserved.old)
         (shown_at machine.Leave told running.old)
         ≡ turn_of result (shared_of shared.new) (hand_of (hand_held reserved.old))

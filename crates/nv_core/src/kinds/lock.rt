@@ -5,7 +5,7 @@ ghost use Rattle.nv_machine.specs.Kinds.{lock_turn};
 ghost use Rattle.nv_machine.specs.Reads.{slot_at};
 ghost use Rattle.nv_machine.specs.World.{HandState, owner_at};
 ghost use Rattle.nv_core.specs.Rooms.{HasRooms, HasRoomsAfter};
-ghost use Rattle.nv_core.specs.Shown.{GhostCall, shared_of, shown, slots_in, turn_of};
+ghost use Rattle.nv_core.specs.Shown.{ShownCall, shared_of, shown, slots_in, turn_of};
 ghost use Rattle.nv_core.specs.GhostCalls.{KeepsRequest, is_change};
 
 use crate::reservation::Reservation;
@@ -19,7 +19,9 @@ pub(crate) fn lock(shared: &mut Shared, running: &mut Running, actor: u64, place
     requires change { is_change running.old.request ≡ true }
     requires place { place < length (slots_in running.old.slots) }
     requires there { slot_at (slots_in running.old.slots) place < length shared.old.owners.items }
-    ensures turn { (told : GhostCall) (h : HandState) → let s = shared_of shared.old in
+    // A step that waits for a lock takes none.
+    // After the last lock comes the check, in each round.
+    ensures turn { (told : ShownCall) (h : HandState) → let s = shared_of shared.old in
         lock_turn (owner_at s (slot_at (slots_in running.old.slots) place)) actor place s h
         (shown told running.old)
         ≡ turn_of result (shared_of shared.new) h (shown told running.new) }

@@ -9,8 +9,8 @@ ghost use Rattle.nv_machine.specs.Step.{handle_at};
 ghost use Rattle.nv_machine.specs.World.{owner_at};
 ghost use Rattle.nv_core.specs.Parts.{AreHome, IsOfDevice};
 ghost use Rattle.nv_core.specs.Rooms.{HasRooms, HasRoomsAfter};
-ghost use Rattle.nv_core.specs.Shown.{GhostCall, hand_of, shared_of, shown, turn_of};
-ghost use Rattle.nv_core.specs.GhostCalls.{IsLookAt, IsGhostCallOf, KeepsRequest};
+ghost use Rattle.nv_core.specs.Shown.{ShownCall, hand_of, shared_of, shown, turn_of};
+ghost use Rattle.nv_core.specs.GhostCalls.{IsLookAt, IsShownCallOf, KeepsRequest};
 
 use crate::ending::give_back;
 use crate::next::Ending;
@@ -28,7 +28,7 @@ pub(crate) fn look(shared: &Shared, hand: &Hand, running: &mut Running, place: u
     requires place { IsLookAt place running.old.request }
     requires home { AreHome shared.now }
     requires device { IsOfDevice shared.now.geometry.numbers hand.now }
-    ensures turn { (told : GhostCall) → IsGhostCallOf running.old told → let s = shared_of shared.now in
+    ensures turn { (told : ShownCall) → IsShownCallOf running.old told → let s = shared_of shared.now in
         let h = hand_of hand.now in let c = told.call in
         look_turn (owner_at s (handle_at (directories c) place).ino)
         (look_tests place (look_refusal (copies s) c))

@@ -4,7 +4,7 @@ ghost use Rattle.std.specs.Prelude.{◌≡◌, []};
 ghost use Rattle.nv_machine.specs.Step.{kind_turn};
 ghost use Rattle.nv_core.specs.Frames.{LeavesRest};
 ghost use Rattle.nv_core.specs.Rooms.{HasRooms, HasRoomsAfter, IsOnBook, IsMaintenanceStep};
-ghost use Rattle.nv_core.specs.Shown.{GhostCall, hand_of, next_of, shared_of, shown, slots_in, turn_of};
+ghost use Rattle.nv_core.specs.Shown.{ShownCall, hand_of, next_of, shared_of, shown, slots_in, turn_of};
 ghost use Rattle.nv_core.specs.Steps.{CanStep};
 ghost use Rattle.nv_core.specs.GhostCalls.{IsEither, KeepsRequest};
 ghost use Rattle.nv_machine.specs.Locks.{held_at};
@@ -35,7 +35,7 @@ pub(crate) fn maintain(
     requires step { IsMaintenanceStep running.old.next }
     requires can { CanStep shared.old (Reservation.Hand hand.old) running.old actor }
     requires rooms { HasRooms shared.old (Reservation.Hand hand.old) running.old }
-    ensures turn { (told : GhostCall) → IsEither (λ granted. kind_turn (next_of running.old.next)
+    ensures turn { (told : ShownCall) → IsEither (λ granted. kind_turn (next_of running.old.next)
         shared.old.geometry.numbers.block actor granted (shared_of shared.old) (hand_of hand.old)
         (shown told running.old))
         (turn_of result (shared_of shared.new) (hand_of hand.new) (shown told running.new)) }
@@ -79,7 +79,8 @@ fn on_book(
     requires step { IsOnBook running.old.next }
     requires can { CanStep shared.old (Reservation.Hand hand.old) running.old actor }
     requires rooms { HasRooms shared.old (Reservation.Hand hand.old) running.old }
-    ensures turn { (told : GhostCall) → IsEither (λ granted. kind_turn (next_of running.old.next)
+    // A step of a call on snapshots that is lent the book waits while a commit is under way.
+    ensures turn { (told : ShownCall) → IsEither (λ granted. kind_turn (next_of running.old.next)
         shared.old.geometry.numbers.block actor granted (shared_of shared.old) (hand_of hand.old)
         (shown told running.old))
         (turn_of result (shared_of shared.new) (hand_of hand.new) (shown told running.new)) }

@@ -12,6 +12,8 @@ use nv_calls::Answer;
 
 /// Makes a snapshot of the current epoch, which is the call's only step.
 pub(crate) fn make_snapshot(shared: &mut Shared) -> Turn
+    // A making is one step, which is answered or refused as the turn says.
+    // A making changes the book alone.
     ensures turn { (r : machine.Running) → r.slots ≡ [] → let s = shared_of shared.old in
         make_turn (make_tests s.book.snaps) s empty_hand r
         ≡ turn_of result (shared_of shared.new) empty_hand r }

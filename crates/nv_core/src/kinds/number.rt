@@ -1,12 +1,12 @@
 //! The number of a new inode is taken.
 
 ghost use Rattle.std.specs.Prelude.{◌≡◌, ◌≢◌, None, false, length, true};
-ghost use Rattle.nv_machine.specs.Kinds.{go_on, number_turn};
+ghost use Rattle.nv_machine.specs.Kinds.{moves_past, number_turn};
 ghost use Rattle.nv_machine.specs.Reads.{slots_of};
 ghost use Rattle.nv_machine.specs.World as machine;
 ghost use Rattle.nv_core.specs.Rooms.{FitsCall, HasNextRoom, HasRooms, HasRoomsAfter, takes};
-ghost use Rattle.nv_core.specs.Shown.{GhostCall, hand_of, shared_of, shown, turn_of};
-ghost use Rattle.nv_core.specs.GhostCalls.{IsGhostCallOf, KeepsRequest, makes_inode};
+ghost use Rattle.nv_core.specs.Shown.{ShownCall, hand_of, shared_of, shown, turn_of};
+ghost use Rattle.nv_core.specs.GhostCalls.{IsShownCallOf, KeepsRequest, makes_inode};
 ghost use Rattle.nv_core.specs.declared.request.Request.{Request};
 ghost use Rattle.nv_core.specs.declared.next.Ending.{Ending};
 
@@ -23,7 +23,7 @@ pub(crate) fn number(shared: &mut Shared, hand: &mut Hand, running: &mut Running
     requires rooms { HasRooms shared.old (Reservation.Hand hand.old) running.old }
     requires makes { makes_inode running.old.request ≡ true }
     requires none { hand.old.ino ≡ None }
-    ensures turn { (told : GhostCall) → IsGhostCallOf running.old told → let s = shared_of shared.old in
+    ensures turn { (told : ShownCall) → IsShownCallOf running.old told → let s = shared_of shared.old in
         number_turn s.pool.numbers s (hand_of hand.old) (shown told running.old)
         ≡ turn_of result (shared_of shared.new) (hand_of hand.new) (shown told running.new) }
     ensures request { KeepsRequest running.old running.new }
@@ -44,9 +44,9 @@ pub(crate) fn number(shared: &mut Shared, hand: &mut Hand, running: &mut Running
 fn go_on(inodes: u64, running: &mut Running, number: Option<Ino>) -> Turn
     requires call { FitsCall running.old }
     requires makes { makes_inode running.old.request ≡ true }
-    ensures turn { (told : GhostCall) (s : machine.Shared) (h : machine.HandState)
-        → IsGhostCallOf running.old told → length s.cells ≡ inodes → let r = shown told running.old in
-        go_on machine.Number s h (record r { slots = slots_of s number r.looked r.call })
+    ensures turn { (told : ShownCall) (s : machine.Shared) (h : machine.HandState)
+        → IsShownCallOf running.old told → length s.cells ≡ inodes → let r = shown told running.old in
+        moves_past machine.Number s h (record r { slots = slots_of s number r.looked r.call })
         ≡ turn_of result s h (shown told running.new) }
     ensures request { KeepsRequest running.old running.new }
     ensures fits { FitsCall running.new }

@@ -5,7 +5,7 @@ ghost use Rattle.nv_machine.specs.Kinds.{open_turn};
 ghost use Rattle.nv_machine.specs.World.{Moves};
 ghost use Rattle.nv_core.specs.CommitSteps.{HasStepped, IsAtStep};
 ghost use Rattle.nv_core.specs.Rooms.{committing_cpu};
-ghost use Rattle.nv_core.specs.Shown.{GhostCall, hand_in, shared_of, shown_commit, slots_in};
+ghost use Rattle.nv_core.specs.Shown.{ShownCall, hand_in, shared_of, shown_commit, slots_in};
 ghost use Rattle.nv_core.specs.GhostCalls.{IsCommitOf, IsPlaceOf};
 
 use crate::lent::open_in;
@@ -17,13 +17,13 @@ use nv_calls::{Commit, CommitStep};
 pub(crate) fn open(shared: &mut Shared, running: &Running, commit: &mut Commit, cpu: u64)
     requires at { IsAtStep CommitStep.Open shared.old running.now commit.old }
     requires cpu { cpu ≡ committing_cpu shared.old }
-    ensures turn { (told : GhostCall) → IsCommitOf (slots_in running.now.slots) commit.old told
+    ensures turn { (told : ShownCall) → IsCommitOf (slots_in running.now.slots) commit.old told
         → open_turn cpu (shared_of shared.old) (hand_in commit.old)
         (shown_commit commit.old told running.now)
         ≡ Moves (shared_of shared.new) (hand_in commit.new)
         (shown_commit commit.new told running.now) }
     ensures step { HasStepped running.now shared.old shared.new commit.old commit.new }
-    ensures placed { (told : GhostCall) → IsPlaceOf (slots_in running.now.slots) commit.new told }
+    ensures placed { (told : ShownCall) → IsPlaceOf (slots_in running.now.slots) commit.new told }
 {
     open_in(
         &mut shared.book,

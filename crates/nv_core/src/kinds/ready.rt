@@ -8,9 +8,9 @@ ghost use Rattle.nv_core.specs.Frames.{LeavesCells};
 ghost use Rattle.nv_core.specs.Parts.{AreHome, IsOfDevice};
 ghost use Rattle.nv_core.specs.Readied.{planned_by};
 ghost use Rattle.nv_core.specs.Rooms.{HasRooms, HasRoomsAfter, hand_held};
-ghost use Rattle.nv_core.specs.Shown.{GhostCall, held_by, shared_of, shown, shown_by, slots_in, turn_of};
+ghost use Rattle.nv_core.specs.Shown.{ShownCall, held_by, shared_of, shown, shown_by, slots_in, turn_of};
 ghost use Rattle.nv_core.specs.Steps.{CanGetReady};
-ghost use Rattle.nv_core.specs.GhostCalls.{IsEither, IsReservationOf, IsGhostCallOf};
+ghost use Rattle.nv_core.specs.GhostCalls.{IsEither, IsReservationOf, IsShownCallOf};
 
 use crate::ending::refuse;
 use crate::lent::ready_in;
@@ -41,17 +41,17 @@ pub(crate) fn ready(
     requires next { running.old.next ≡ Next.Ready }
     requires rooms { HasRooms shared.old reserved.old running.old }
     requires can { CanGetReady shared.old running.old }
-    ensures turn { (told : GhostCall) → IsGhostCallOf running.old told
+    ensures turn { (told : ShownCall) → IsShownCallOf running.old told
         → IsEither (λ granted. ready_turn granted shared.old.geometry.numbers.block
         (shared_of shared.old) (held_by reserved.old) (shown told running.old))
         (turn_of result (shared_of shared.new) (held_by reserved.new) (shown_by reserved.new
         (planned_by reserved.new shared.old (hand_held reserved.old) running.old told)
         running.new)) }
-    ensures told { (told : GhostCall) → IsGhostCallOf running.old told → IsGhostCallOf running.new told }
-    ensures plans { (told : GhostCall) → IsGhostCallOf running.old told
+    ensures told { (told : ShownCall) → IsShownCallOf running.old told → IsShownCallOf running.new told }
+    ensures plans { (told : ShownCall) → IsShownCallOf running.old told
         → IsReservationOf (slots_in running.old.slots) reserved.new
         (planned_by reserved.new shared.old (hand_held reserved.old) running.old told) }
-    ensures placed { (told : GhostCall) → IsGhostCallOf running.old told
+    ensures placed { (told : ShownCall) → IsShownCallOf running.old told
         → IsPlacedBy (slots_in running.old.slots) reserved.new
         (planned_by reserved.new shared.old (hand_held reserved.old) running.old told) }
     ensures slots { running.new.slots ≡ running.old.slots }

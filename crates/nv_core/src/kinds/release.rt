@@ -7,7 +7,7 @@ ghost use Rattle.nv_machine.specs.Locks.{held_at};
 ghost use Rattle.nv_core.specs.Frames.{LeavesRest};
 ghost use Rattle.nv_core.specs.Parts.{AreHome};
 ghost use Rattle.nv_core.specs.Rooms.{HasRooms, HasRoomsAfter};
-ghost use Rattle.nv_core.specs.Shown.{GhostCall, draining_of, hand_of, next_of, shared_of, shown, slots_in, turn_of};
+ghost use Rattle.nv_core.specs.Shown.{ShownCall, draining_of, hand_of, next_of, shared_of, shown, slots_in, turn_of};
 ghost use Rattle.nv_core.specs.Steps.{CanRelease};
 ghost use Rattle.nv_core.specs.GhostCalls.{KeepsRequest};
 
@@ -35,7 +35,11 @@ pub(crate) fn release(
     requires can { CanRelease shared.old picked }
     requires empty { hand_of hand.old ≡ empty_hand }
     requires rooms { HasRooms shared.old (Reservation.Hand hand.old) running.old }
-    ensures turn { (told : GhostCall) → release_turn (draining_of draining) picked (shared_of shared.old)
+    // A released part goes out, and its block goes into the hand.
+    // A released part without a block goes out.
+    // An inode that is gone and keeps nothing more is erased.
+    // A release is counted.
+    ensures turn { (told : ShownCall) → release_turn (draining_of draining) picked (shared_of shared.old)
         empty_hand (shown told running.old)
         ≡ turn_of result (shared_of shared.new) (hand_of hand.new) (shown told running.new) }
     ensures request { KeepsRequest running.old running.new }

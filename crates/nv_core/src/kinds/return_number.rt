@@ -5,7 +5,7 @@ ghost use Rattle.std.specs.Option.{ForSome};
 ghost use Rattle.nv_alloc.specs.Numbers.{has};
 ghost use Rattle.nv_machine.specs.Kinds.{return_number_turn};
 ghost use Rattle.nv_core.specs.Rooms.{CanDrain, CanEnd, HasRooms, HasRoomsAfter};
-ghost use Rattle.nv_core.specs.Shown.{GhostCall, hand_of, shared_of, shown, turn_of};
+ghost use Rattle.nv_core.specs.Shown.{ShownCall, hand_of, shared_of, shown, turn_of};
 ghost use Rattle.nv_core.specs.GhostCalls.{KeepsRequest, OwesAt};
 
 use crate::ending::last;
@@ -22,7 +22,8 @@ pub(crate) fn return_number(shared: &mut Shared, hand: &mut Hand, running: &mut 
     requires drains { CanDrain running.old.ending running.old.request hand.old }
     requires inode { ForSome hand.old.ino (λ ino. ino < shared.old.pool.inodes) }
     requires absent { ForSome hand.old.ino (λ ino. has shared.old.pool.numbers ino ≡ false) }
-    ensures turn { (told : GhostCall) → OwesAt running.old.ending running.old told
+    // The number in a hand goes back once.
+    ensures turn { (told : ShownCall) → OwesAt running.old.ending running.old told
         → let h = hand_of hand.old in
         return_number_turn h.ino (shared_of shared.old) h (shown told running.old)
         ≡ turn_of result (shared_of shared.new) (hand_of hand.new) (shown told running.new) }

@@ -11,7 +11,7 @@ ghost use Rattle.nv_machine.specs.World as machine;
 ghost use Rattle.nv_machine.specs.World.{HandState, empty_hand, owner_at};
 ghost use Rattle.nv_reader.specs.Showing.{is_over};
 ghost use Rattle.nv_core.specs.Rooms.{HasRooms, HasRoomsAfter, HasStepRoom, IsShow, IsUnpin};
-ghost use Rattle.nv_core.specs.Shown.{GhostCall, seen_in, shared_of, showing_in, shown, slots_in, snapshot_in, step_on, turn_of};
+ghost use Rattle.nv_core.specs.Shown.{ShownCall, seen_in, shared_of, showing_in, shown, slots_in, snapshot_in, step_on, turn_of};
 ghost use Rattle.nv_core.specs.Steps.{CanShow};
 ghost use Rattle.nv_core.specs.GhostCalls.{IsEither, KeepsRequest};
 
@@ -33,7 +33,8 @@ pub(crate) fn pin(alloc: Global, shared: &mut Shared, running: &mut Running, sna
     requires next { running.old.next ≡ Next.Maintenance (MaintenanceStep.Pin snapshot) }
     requires slots { slots_in running.old.slots ≡ [] }
     requires pins { ForSome (pins_of shared.old.book.state.snaps snapshot) (λ pins. pins < PINS) }
-    ensures turn { (told : GhostCall) → let s = shared_of shared.old in
+    // A show pins its snapshot first.
+    ensures turn { (told : ShownCall) → let s = shared_of shared.old in
         pin_turn snapshot (pins_of s.book.snaps snapshot) s empty_hand (shown told running.old)
         ≡ turn_of result (shared_of shared.new) empty_hand (shown told running.new) }
     ensures request { KeepsRequest running.old running.new }
@@ -66,11 +67,15 @@ pub(crate) fn show(alloc: Global, shared: &Shared, running: &mut Running) -> Tur
     requires next { IsShow running.old.next }
     requires can { CanShow shared.now (snapshot_in running.old.next) }
     requires more { is_over (showing_in running.old.next) ≡ false }
-    ensures turn { (told : GhostCall) (h : HandState) → let s = shared_of shared.now in
+    // A show reads one inode a step at the snapshot's epoch.
+    // A show goes on in the order of the walk, to its end.
+    // A show whose memory was refused says so in its last step.
+    ensures turn { (told : ShownCall) (h : HandState) → let s = shared_of shared.now in
         let snapshot = snapshot_in running.old.next in let to = showing_in running.old.next in
         IsEither (λ granted. show_turn (owner_at s (visited to.visits).ino) granted
         (copies_at s snapshot (visited to.visits)) snapshot to s h (shown told running.old))
         (turn_of result s h (shown told running.new)) }
+    // A show waits where the inode that it visits is locked.
     ensures waits { result ≡ Turn.Waits → running.new ≡ running.old }
     ensures request { KeepsRequest running.old running.new }
     ensures rooms { (hand : Hand) → HasRooms shared.now (Reservation.Hand hand) running.old
@@ -115,7 +120,9 @@ pub(crate) fn unpin(shared: &mut Shared, running: &mut Running) -> Turn
     requires next { IsUnpin running.old.next }
     requires pins { IsSomeAnd (pins_of shared.old.book.state.snaps (snapshot_in running.old.next))
         (λ pins. 0 < pins) }
-    ensures turn { (told : GhostCall) (h : HandState) → unpin_turn (snapshot_in running.old.next)
+    // A show takes its pin off in its last step, also where memory was refused.
+    // A show is answered the nodes that it has seen.
+    ensures turn { (told : ShownCall) (h : HandState) → unpin_turn (snapshot_in running.old.next)
         (seen_in running.old.next) (shared_of shared.old) h (shown told running.old)
         ≡ turn_of result (shared_of shared.new) h (shown told running.new) }
     ensures ends { (result ≢ Turn.Moves) × (result ≢ Turn.Waits) }

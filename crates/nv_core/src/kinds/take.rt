@@ -8,10 +8,10 @@ ghost use Rattle.nv_base.specs.Limits.{IsWithinLimits};
 ghost use Rattle.nv_calls.specs.declared.log_pages.TheConstants.{MORE_PAGES};
 ghost use Rattle.nv_core.specs.Parts.{AreHome, IsOfDevice};
 ghost use Rattle.nv_core.specs.Rooms.{CanCountPages, CanEnd, CanWantPages, FitsCall, HasRooms, HasRoomsAfter, IsHandOf, pages_to_take};
-ghost use Rattle.nv_core.specs.Shown.{GhostCall, hand_of, shared_of, shown, slots_in, turn_of};
+ghost use Rattle.nv_core.specs.Shown.{ShownCall, hand_of, shared_of, shown, slots_in, turn_of};
 ghost use Rattle.nv_machine.specs.World.{list_at};
 ghost use Rattle.nv_core.specs.Takings.{IsTaken};
-ghost use Rattle.nv_core.specs.GhostCalls.{IsChangeWith, IsGhostCallOf, KeepsRequest};
+ghost use Rattle.nv_core.specs.GhostCalls.{IsChangeWith, IsShownCallOf, KeepsRequest};
 
 use crate::ending::refuse;
 use crate::lent::pages_in;
@@ -32,7 +32,7 @@ pub(crate) fn want_pages(shared: &mut Shared, hand: &Hand, running: &mut Running
     requires call { FitsCall running.old }
     requires can { CanWantPages shared.old hand.now running.old }
     ensures shared { shared.new ≡ shared.old }
-    ensures turn { (told : GhostCall) → IsGhostCallOf running.old told → let s = shared_of shared.old in
+    ensures turn { (told : ShownCall) → IsShownCallOf running.old told → let s = shared_of shared.old in
         let h = hand_of hand.now in let r = shown told running.old in
         wants_pages (pages_wanted s r.slots (plan_by shared.old.geometry.numbers.block s h r)) s h r
         ≡ turn_of result s h (shown told running.new) }
@@ -77,7 +77,8 @@ pub(crate) fn take_blocks(
     requires rooms { HasRooms shared.old (Reservation.Hand hand.old) running.old }
     requires next { running.old.next ≡ Next.TakeBlocks asked }
     requires small { actor + asked < 2 ^ 64 - 1 }
-    ensures turn { (told : GhostCall) → IsGhostCallOf running.old told → let s = shared_of shared.old in
+    // A taking refuses its call only after the last list.
+    ensures turn { (told : ShownCall) → IsShownCallOf running.old told → let s = shared_of shared.old in
         take_blocks_turn (asked_list (length s.lists) actor asked) asked
         shared.old.geometry.numbers.block s (hand_of hand.old) (shown told running.old)
         ≡ turn_of result (shared_of shared.new) (hand_of hand.new) (shown told running.new) }
@@ -115,7 +116,7 @@ pub(crate) fn take_log_pages(
     requires rooms { HasRooms shared.old (Reservation.Hand hand.old) running.old }
     requires next { running.old.next ≡ Next.TakeLogPages asked }
     requires small { actor + asked < 2 ^ 64 - 1 }
-    ensures turn { (told : GhostCall) → let s = shared_of shared.old in
+    ensures turn { (told : ShownCall) → let s = shared_of shared.old in
         take_log_pages_turn (asked_list (length s.lists) actor asked) asked s (hand_of hand.old)
         (shown told running.old)
         ≡ turn_of result (shared_of shared.new) (hand_of hand.new) (shown told running.new) }
@@ -178,7 +179,7 @@ fn ask_on(
     requires sized { IsHandOf shared.now.geometry.numbers hand.now }
     ensures more { asked + 1 < length shared.now.lists.items → (result ≡ Turn.Moves)
         × (running.new ≡ record running.old { wanted = left; next = next }) }
-    ensures none { (told : GhostCall) → length shared.now.lists.items ≤ asked + 1
+    ensures none { (told : ShownCall) → length shared.now.lists.items ≤ asked + 1
         → let s = shared_of shared.now in let h = hand_of hand.now in
         refuse NoSpace s h (shown told running.old) ≡ turn_of result s h (shown told running.new) }
     ensures request { KeepsRequest running.old running.new }

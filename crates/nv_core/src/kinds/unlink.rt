@@ -7,7 +7,7 @@ ghost use Rattle.nv_core.specs.Cleaning.{CanClean, CanUnlink, IsMaintaining};
 ghost use Rattle.nv_core.specs.Frames.{LeavesRest};
 ghost use Rattle.nv_core.specs.Parts.{AreHome};
 ghost use Rattle.nv_core.specs.Rooms.{HasRoomsAfter, IsHandOf};
-ghost use Rattle.nv_core.specs.Shown.{GhostCall, hand_of, shared_of, shown, turn_of};
+ghost use Rattle.nv_core.specs.Shown.{ShownCall, hand_of, shared_of, shown, turn_of};
 ghost use Rattle.nv_core.specs.GhostCalls.{KeepsRequest};
 
 use crate::ending::end;
@@ -32,7 +32,9 @@ pub(crate) fn unlink(
     requires can { CanClean shared.old plan.ino }
     requires empty { hand_of hand.old ≡ empty_hand }
     requires plan { CanUnlink shared.old hand.old plan }
-    ensures turn { (told : GhostCall) → unlink_turn plan.ino (shared_of shared.old) (hand_of hand.old)
+    // The log pages that the judge found leave the log, and go into the hand.
+    // A fast cleaner is told that its cleaning was fast.
+    ensures turn { (told : ShownCall) → unlink_turn plan.ino (shared_of shared.old) (hand_of hand.old)
         (shown told running.old)
         ≡ turn_of result (shared_of shared.new) (hand_of hand.new) (shown told running.new) }
     ensures request { KeepsRequest running.old running.new }

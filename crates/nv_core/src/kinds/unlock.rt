@@ -5,7 +5,7 @@ ghost use Rattle.nv_machine.specs.Kinds.{unlock_turn};
 ghost use Rattle.nv_machine.specs.Reads.{slot_at};
 ghost use Rattle.nv_core.specs.Parts.{AreHome, IsOfDevice};
 ghost use Rattle.nv_core.specs.Rooms.{CanDrain, HasRooms, HasRoomsAfter, IsNoVisit};
-ghost use Rattle.nv_core.specs.Shown.{GhostCall, hand_of, shared_of, shown, slots_in, turn_of};
+ghost use Rattle.nv_core.specs.Shown.{ShownCall, hand_of, shared_of, shown, slots_in, turn_of};
 ghost use Rattle.nv_core.specs.GhostCalls.{KeepsRequest, OwesAt};
 
 use crate::ending::end_unlocked;
@@ -25,7 +25,8 @@ pub(crate) fn unlock(shared: &mut Shared, hand: &Hand, running: &mut Running, pl
     requires there { slot_at (slots_in running.old.slots) place < length shared.old.owners.items }
     requires home { AreHome shared.old }
     requires device { IsOfDevice shared.old.geometry.numbers hand.now }
-    ensures turn { (told : GhostCall) → OwesAt running.old.ending running.old told
+    // A call gives up each of its locks, and waits for none of its own.
+    ensures turn { (told : ShownCall) → OwesAt running.old.ending running.old told
         → let h = hand_of hand.now in
         unlock_turn place (shared_of shared.old) h (shown told running.old)
         ≡ turn_of result (shared_of shared.new) h (shown told running.new) }

@@ -11,9 +11,9 @@ ghost use Rattle.nv_machine.specs.Sequence.{nothing_looked};
 ghost use Rattle.nv_machine.specs.Step.{handle_at, visit_grows};
 ghost use Rattle.nv_machine.specs.World.{empty_hand, owner_at};
 ghost use Rattle.nv_core.specs.Rooms.{HasRooms, HasRoomsAfter};
-ghost use Rattle.nv_core.specs.Shown.{GhostCall, shared_of, shown, slots_in, turn_of};
+ghost use Rattle.nv_core.specs.Shown.{ShownCall, shared_of, shown, slots_in, turn_of};
 ghost use Rattle.nv_core.specs.Visits.{HasOwnBytes, IsFoundBy};
-ghost use Rattle.nv_core.specs.GhostCalls.{IsEither, IsGhostCallOf, IsVisit, IsVisitOf};
+ghost use Rattle.nv_core.specs.GhostCalls.{IsEither, IsShownCallOf, IsVisit, IsVisitOf};
 
 use crate::request::{Request, visited};
 use crate::reservation::Reservation;
@@ -31,7 +31,7 @@ pub(crate) fn visit(shared: &Shared, running: &mut Running) -> Turn
     requires visit { IsVisitOf running.old.request }
     requires slots { slots_in running.old.slots ≡ [] }
     requires own { (ino : ℕ) → HasOwnBytes (shared_of shared.now) ino }
-    ensures turn { (told : GhostCall) → IsGhostCallOf running.old told
+    ensures turn { (told : ShownCall) → IsShownCallOf running.old told
         → let block = shared.now.geometry.numbers.block in let s = shared_of shared.now in
         let c = told.call in let r = shown told running.old in
         IsEither (λ granted. visit_turn (owner_at s (handle_at (handles nothing_looked c) 0).ino)

@@ -20,6 +20,7 @@ impl Chain {
         ensures value { IfOk result (λ counts. counts.items ≡ map length (log_pages self.now.state)) }
         ensures total { IfOk result (λ counts. sum counts.items ≡ length (log self.now.state)) }
         ensures each { IfOk result (λ counts. length counts.items ≡ length self.now.state.ends) }
+        // The counts that fast cleaning's walk is given cut the log into its log pages.
         ensures pages { IfOk result (λ counts. pages_by counts.items (log self.now.state)
             ≡ log_pages self.now.state) }
     {
@@ -34,6 +35,7 @@ impl Chain {
     /// and on their pages, and those of them that count still do. The time is linear in the entries and pages.
     pub fn unlink_page(&mut self, k: usize) -> Block
         requires { k < length self.old.state.blocks }
+        // A log page leaves with its entries, and its block is handed out.
         ensures block { slice_get self.old.state.blocks k ≡ Some result }
         ensures state { self.new.state ≡ with_pages_left (all_but k) self.old.state }
         ensures pages { KeepsPages (all_but k) self.old.state self.new.state }
@@ -47,15 +49,19 @@ impl Chain {
     /// The other pages go with their entries, and their blocks are put into the queue, in order. All entries
     /// of the pages that stay do so too, in their order and on their pages, and those of them that count still
     /// do. The time is linear in the entries and pages, and no memory is taken.
+    /// Unlinking takes no memory.
     pub fn unlink_pages(&mut self, stays: &[bool], queue: &mut BlockQueue)
         requires flags { length stays.now ≡ length self.old.state.ends }
         requires room { count_by not stays.now ≤ queue.old.room }
         requires sized { AreSized queue.old.size (gone_of stays.now self.old.state.blocks) }
+        // The tail stands behind the log's entries that are left.
         ensures state { self.new.state ≡ with_pages_left stays.now self.old.state }
+        // Log pages that flags mark as staying keep their entries, in order, and the log keeps what they had of it.
         ensures pages { pages_of self.new.state ≡ select stays.now (pages_of self.old.state) }
         ensures log { log self.new.state ≡ joined (select stays.now (log_pages self.old.state)) }
         ensures spare { self.new.spare
             ≡ self.old.spare + length (gone_of stays.now self.old.state.blocks) }
+        // The blocks of the other log pages go to the end of a queue, in order.
         ensures queue { queue.new ≡ record queue.old {
           blocks = queue.old.blocks ++ gone_of stays.now self.old.state.blocks;
           room = queue.old.room - length (gone_of stays.now self.old.state.blocks);
@@ -80,6 +86,7 @@ impl Chain {
     /// is linear in the flags.
     pub fn staying(&self, stays: &[bool]) -> usize
         requires { length stays.now ≡ self.now.state.tail }
+        // How many entries stay is told before.
         ensures { result ≡ length (left_of stays.now self.now.state.entries) }
     {
         removal::staying(&self.entries, stays)
@@ -93,8 +100,12 @@ impl Chain {
         requires flags { length stays.now ≡ self.old.state.tail }
         requires pages { vec_len pages
             ≡ div_ceil (length (left_of stays.now self.old.state.entries)) self.old.state.page }
+        // All old blocks are handed out; compacting takes no memory.
         ensures blocks { result.items ≡ self.old.state.blocks }
+        // Entries past the tail stay behind the log.
+        // Entries that stay fill fresh log pages in order, ceil(staying / page) of them.
         ensures state { self.new.state ≡ compacted stays.now pages.items self.old.state }
+        // Entries of the log that flags mark as staying stay in order, as the log.
         ensures log { log self.new.state ≡ select stays.now (log self.old.state) }
         ensures spare { self.new.spare ≡ 0 }
     {

@@ -22,8 +22,11 @@ impl<C: Commits, B: Blocks> Session<C, B> {
         service: &Service<C, B>,
         call: Call,
     ) -> Result<Seen, Fault>
+        // A call as a value leaves what the method of its name leaves.
+        // A call on snapshots or of a cleaner is answered by its kind.
         ensures ok { IfOk result (IsMadeAs C.commit C.opened self.old self.new call) }
         ensures same { KeepsOnErr result self.old self.new }
+        // It is refused as that method is.
         ensures err { IfErr result (MayRefuse call) }
     {
         match call {
@@ -51,7 +54,8 @@ impl<C: Commits, B: Blocks> Session<C, B> {
         }
     }
 
-    /// The same for a call on snapshots, or a cleaner.
+    /// Makes a call on snapshots, or a cleaner, that is given as a value, with the answer and the errors of the
+    /// method of its name.
     fn maintain<R: Wait>(
         &mut self,
         rt: &R,

@@ -25,6 +25,7 @@ impl<C: Commits, B: Blocks> Session<C, B> {
         name: Bytes,
         mode: Mode,
     ) -> Result<Seen, Fault>
+        // An answer is a commit.
         ensures ok { IfOk result (IsCommittedBy C.commit self.old self.new
             (Update.Create dir name mode)) }
         ensures same { KeepsOnErr result self.old self.new }
@@ -55,6 +56,8 @@ impl<C: Commits, B: Blocks> Session<C, B> {
     /// `OutOfMemory`, `Read` where the source failed, `CommitLimit`.
     ///
     /// The source is asked under the lock of this file alone.
+    /// Only tested: a source that fails at its k-th part refuses the write and changes no file.
+    /// Only tested: its source is asked under that file's lock alone.
     pub fn write<S: Source, R: Wait>(
         &mut self,
         rt: &R,
@@ -65,10 +68,14 @@ impl<C: Commits, B: Blocks> Session<C, B> {
         source: &mut S,
     ) -> Result<Seen, Fault>
         requires failures { S.failed source.old < 2 ^ 64 - 1 }
+        // A write of a byte or more and a rename between two places likewise.
+        // Other ones are answered, and leave what the session has.
         ensures ok { IfOk result (IsChangedBy C.commit self.old self.new
             (Update.Write file offset count)) }
         ensures same { KeepsOnErr result self.old self.new }
         ensures err { IfErr result (MayRefuseChange (Update.Write file offset count)) }
+        // On Ok no read of the source failed.
+        // It is refused by `Read` only where one read failed.
         ensures reads { S.failed source.new ≡ S.failed source.old + failed_in result }
     {
         let update = Update::Write {

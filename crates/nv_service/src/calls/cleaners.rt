@@ -26,6 +26,7 @@ impl<C: Commits, B: Blocks> Session<C, B> {
         service: &Service<C, B>,
         ino: Ino,
     ) -> Result<Seen, Fault>
+        // Cleaners are answered by their kind, and leave what the session has seen.
         ensures answer { IfOk result (λ seen. (thorough : Bool) × (entries pages : ℕ)
             × (seen ≡ Seen.Other (Answer.Cleaned thorough entries pages))) }
         ensures err { IfErr result (MayRefuseMaintenance (MaintenanceCall.Fast ino)) }
@@ -113,6 +114,7 @@ impl<C: Commits, B: Blocks> Session<C, B> {
         service: &Service<C, B>,
         number: u64,
     ) -> Result<Seen, Fault>
+        // It releases no more than it may.
         ensures answer { IfOk result (λ seen. (n : ℕ) × (n ≤ max 1 (min number DRAIN))
             × (seen ≡ Seen.Other (Answer.Count n))) }
         ensures err { IfErr result (MayRefuseMaintenance (MaintenanceCall.Drain number)) }

@@ -19,8 +19,11 @@ impl<C: Commits, B: Blocks> Session<C, B> {
     /// Makes a snapshot of all nodes as they are, and answers its number. It counts in the session. `EpochLimit`,
     /// `TooManySnapshots`.
     pub fn snap<R: Wait>(&mut self, rt: &R, service: &Service<C, B>) -> Result<Seen, Fault>
+        // Snapshots are answered by their kind, and leave what the session has seen and committed.
         ensures answer { IfOk result (λ seen. (s : ℕ) × (seen ≡ Seen.Other (Answer.Snapshot s))) }
+        // Each refusal is one of the call's list, or a part that does not fit.
         ensures err { IfErr result (MayRefuseMaintenance MaintenanceCall.Snap) }
+        // Each counts in the session, where it is not refused.
         ensures counted { OnOk result (self.new ≡ once_snapped self.old) }
         ensures same { KeepsOnErr result self.old self.new }
     {
@@ -48,6 +51,7 @@ impl<C: Commits, B: Blocks> Session<C, B> {
 
     /// Asks for the tree as it was when a snapshot was made, which is pinned as long as the call reads. `NoSnapshot`;
     /// `OutOfMemory` where room was refused.
+    /// Only tested: the tree is that of the making, while others write.
     pub fn show<R: Wait>(
         &mut self,
         rt: &R,

@@ -25,9 +25,12 @@ impl<C: Commits, B: Blocks> Session<C, B> {
         offset: u64,
         count: u64,
     ) -> Result<Seen, Fault>
+        // The view is of that call, and of no older version than was seen.
+        // Its version is seen from then on; of all other inodes what was seen stays.
         ensures ok { IfOk result (IsViewedBy C.opened self.old self.new file.ino
             (Call.Read file offset count)) }
         ensures same { KeepsOnErr result self.old self.new }
+        // Each refusal is one of the call's list, or a part that does not fit.
         ensures err { IfErr result (MayRefuseView (Call.Read file offset count)) }
     {
         let mut cell = hold(rt, service, file.ino)?;

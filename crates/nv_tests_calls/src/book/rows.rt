@@ -1,4 +1,8 @@
 //! Rows worked by hand, and limits.
+
+ghost use Rattle.std.specs.Prelude.{◌≤◌, ◌↔◌, IsTrue};
+ghost use Rattle.std.specs.List.{AllByRecursion};
+
 use crate::book::{
     device, drops, enter, enters, has_records, is_at, makes, new_book, picks, record, retires,
 };
@@ -357,4 +361,50 @@ fn goes_through_a_thread(rt: HostRuntime) -> Result<(), Fail> {
     let child = thread::spawn(&rt, move || book.stored())?;
     same(&rt, child.join(&rt), 2);
     Ok(())
+}
+
+/// A book in epoch 4 after commit 9, with the living snapshots 1 and 3 and room for three records.
+fn book_anew(rt: &impl Abort, alloc: Global) -> Book {
+    let device = device(4).expect(rt, "a geometry");
+    assert!(rt; 2 <= device.numbers.snaps);
+    let living = [Epoch::new(1), Epoch::new(3)];
+    let (epoch, commit) = (Epoch::new(4), CommitNo::new(9));
+    match Book::rebuild(alloc, &device, &living, epoch, commit, 3) {
+        Ok(book) => book,
+        Err(fault) => {
+            refused_memory(rt, fault);
+            let book = Book::rebuild(alloc, &device, &living, epoch, commit, 3);
+            book.expect(rt, "memory for a book")
+        }
+    }
+}
+
+fn are_dead(records: &[Record], epoch: Epoch) -> bool
+    ensures { IsTrue result ↔ AllByRecursion (λ r. r.death ≤ epoch) records.now }
+{
+    records.iter().all(|record| record.death <= epoch)
+}
+
+#[test]
+fn begins_anew(rt: HostRuntime) {
+    let mut book = book_anew(&rt, rt.alloc());
+    is_at(&rt, &book, 4, 9);
+    same(
+        &rt,
+        (book.room(), book.stored(), book.history().len()),
+        (3, 0, 0),
+    );
+    let records = [
+        record(2, Part::Size, 1, 2),
+        record(2, Part::Page(0), 1, 4),
+        record(5, Part::Page(1), 2, 4),
+    ];
+    assert!(rt; are_dead(&records, book.epoch()));
+    assert!(rt; records.len() as u64 <= book.room());
+    book.retire_all(&records);
+    has_records(&rt, &book, 1, 1, 0);
+    has_records(&rt, &book, 3, 2, 1);
+    makes(&rt, &mut book, Ok(Epoch::new(4)));
+    drops(&rt, &mut book, 3, Ok(()));
+    picks(&rt, &mut book, Some(record(5, Part::Page(1), 2, 4)));
 }

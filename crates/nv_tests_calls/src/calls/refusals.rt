@@ -169,7 +169,7 @@ pub fn in_parts<N: Nodes>(block: u64, nodes: &N, call: &Update) -> Result<u64, F
 fn refused(nodes: &Known, call: &Update) -> Option<Fault> {
     match ends_at_check(BLOCK, nodes, &look_all(nodes, call), call, true) {
         Err(CheckEnd::Refuses(fault)) => Some(fault),
-        Err(CheckEnd::Overtaken) => Some(Fault::Contended),
+        Err(CheckEnd::BoundAnew) => Some(Fault::Contended),
         Err(CheckEnd::Answers) | Ok(_) => None,
     }
 }

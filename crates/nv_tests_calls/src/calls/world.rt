@@ -105,7 +105,7 @@ impl World {
             Ok(_) => Ok(Outcome::Commits),
             Err(CheckEnd::Answers) => Ok(Outcome::Nothing),
             Err(CheckEnd::Refuses(fault)) => Ok(Outcome::Refused(fault)),
-            Err(CheckEnd::Overtaken) => Err("names that were not bound anew")?,
+            Err(CheckEnd::BoundAnew) => Err("names that were not bound anew")?,
         }
     }
 

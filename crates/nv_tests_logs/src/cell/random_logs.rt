@@ -39,7 +39,7 @@ fn directory_says(seed: &mut u64) -> Says {
 }
 
 /// A random log whose epochs rise, with the parts that are kept.
-fn grow(rt: &impl Abort, alloc: Global, scene: &mut Scene, seed: &mut u64) -> Vec<PartId> {
+pub fn grow(rt: &impl Abort, alloc: Global, scene: &mut Scene, seed: &mut u64) -> Vec<PartId> {
     let mut kept = Vec::new(alloc);
     let is_file = below(seed, 2) == 0;
     let first = if is_file { Says::File } else { Says::Directory };

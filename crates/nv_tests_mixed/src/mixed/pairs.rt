@@ -120,6 +120,7 @@ fn going_after(going: u64, reply: &Reply) -> u64 {
         Reply::Started => going.saturating_add(1),
         Reply::Moved | Reply::Waits | Reply::Refused(Fault::ActorIdle) => going,
         Reply::Done(_) | Reply::Refused(_) => going.saturating_sub(1),
+        Reply::Stopped => 0,
     }
 }
 

@@ -68,7 +68,7 @@ const UNLINKS: [Removal; 6] = [
     },
 ];
 
-fn are_sized(blocks: &[Block], size: usize) -> bool
+pub(super) fn are_sized(blocks: &[Block], size: usize) -> bool
     ensures { IsTrue result ↔ AreSized size blocks.now }
 {
     blocks.iter().all(|block| block.bytes().len() == size)

@@ -3,7 +3,7 @@
 ghost use Rattle.std.specs.Prelude.{◌≡◌, ◌<◌, ℕ, false, true, List, [], ◌∷◌, ◌++◌};
 ghost use Rattle.std.specs.List.{AllByRecursion};
 ghost use Rattle.nv_entry.specs.ByFlags.{kept_flags, pages_stay_by, stays_by};
-ghost use Rattle.nv_entry.specs.Clean.{IsDroppable, entries_of, is_droppable, kept_of, pages_left};
+ghost use Rattle.nv_entry.specs.Clean.{IsDroppable, entries_of, is_droppable, thorough_leaves, pages_left};
 ghost use Rattle.nv_entry.specs.Held.{Retention};
 ghost use Rattle.nv_entry.specs.Index.{names_of};
 ghost use Rattle.nv_entry.specs.Keys.{Key, ModeKey, parts_of, sets};
@@ -55,9 +55,9 @@ fn the_node_stays_without_a_droppable_entry()
 
 fn a_thoroughly_cleaned_node_is_the_same()
     ensures now { (bytes : ℕ → List ℕ) (r : Retention) (log : List Entry) → IsLog log
-        → node_now bytes r.block (kept_of r log) ≡ node_now bytes r.block log }
+        → node_now bytes r.block (thorough_leaves r log) ≡ node_now bytes r.block log }
     ensures snapshots { (r : Retention) (log : List Entry) → IsLog log
-        → AllByRecursion (λ snapshot. ReadsSameAt r.block snapshot log (kept_of r log))
+        → AllByRecursion (λ snapshot. ReadsSameAt r.block snapshot log (thorough_leaves r log))
         r.snapshots }
 {
     thorough_takes_what_is_droppable();
@@ -72,7 +72,7 @@ fn names_keep_their_order_in_fast_cleaning()
 
 fn retentions_with_the_same_flags_clean_alike()
     ensures { (r s : Retention) (log : List Entry) → r.block ≡ s.block
-        → kept_flags r log ≡ kept_flags s log → kept_of r log ≡ kept_of s log }
+        → kept_flags r log ≡ kept_flags s log → thorough_leaves r log ≡ thorough_leaves s log }
 {
     walks_go_by_flags();
 }

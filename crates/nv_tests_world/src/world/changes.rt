@@ -12,6 +12,7 @@ use nv_base::limits::NUMBER;
 use nv_base::{BlockNo, Epoch, Ino, Items};
 use nv_book::{Book, Record, Retired};
 use nv_calls::LastCell;
+use nv_cell::InodeCell;
 use nv_core::Parts;
 use nv_entry::{Entry, Item, Part};
 use nv_journal::{OldTail, are_distinct};
@@ -47,6 +48,8 @@ pub(super) enum Change {
     Append(Line),
     /// The cell of a slot is an empty one of a device.
     Cell(usize, Device),
+    /// The cell of a slot is an empty one of this generation.
+    Empty(usize, u64),
     /// There is no cell of the last slot.
     FewerCells,
     /// The lists of the first two CPUs change places.
@@ -80,7 +83,11 @@ pub(super) fn with_change(
 /// Parts with a change that is no entry.
 fn with_other(rt: &impl Abort, alloc: Global, parts: Parts, change: &Change) -> Parts {
     match *change {
-        Change::Cell(slot, device) => with_cell(rt, alloc, parts, slot, device),
+        Change::Cell(slot, device) => with_cell(rt, parts, slot, cell_of(rt, alloc, device, 1)),
+        Change::Empty(slot, generation) => {
+            let cell = cell_of(rt, alloc, Device::Usual, generation);
+            with_cell(rt, parts, slot, cell)
+        }
         Change::FewerCells => with_fewer_cells(parts),
         Change::Pool(device, in_use) => {
             let mut parts = parts;
@@ -196,9 +203,8 @@ fn publish(rt: &impl Abort, lent: &mut LastCell<'_>)
 
 // ---- cells
 
-/// With an empty cell of a device.
-fn with_cell(rt: &impl Abort, alloc: Global, parts: Parts, slot: usize, device: Device) -> Parts {
-    let cell = cell_of(rt, alloc, device);
+/// With this cell in a slot.
+fn with_cell(rt: &impl Abort, parts: Parts, slot: usize, cell: InodeCell) -> Parts {
     let (geometry, cells, lists, pool, book) = parts.into_fields();
     let mut cells = cells.into_vec();
     assert!(rt; slot < cells.len());

@@ -46,12 +46,17 @@ pub(super) fn parts_of(rt: &impl Abort, world: World) -> Parts {
     }
 }
 
-/// An empty cell of a device.
-pub(super) fn cell_of(rt: &impl Abort, alloc: Global, device: Device) -> InodeCell {
+/// An empty cell of a device, of this generation.
+pub(super) fn cell_of(
+    rt: &impl Abort,
+    alloc: Global,
+    device: Device,
+    generation: u64,
+) -> InodeCell {
     let numbers = geometry_of(rt, device).numbers;
     let page = numbers.page as usize;
     assert!(rt; 2 <= page && page <= 63 && 0 < numbers.block);
-    InodeCell::new(alloc, numbers.block, page, Gen::new(1), 0)
+    InodeCell::new(alloc, numbers.block, page, Gen::new(generation), 0)
 }
 
 /// The list of a CPU of a device, with all its blocks.

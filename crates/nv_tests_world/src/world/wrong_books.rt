@@ -2,12 +2,13 @@
 //! faults, of which the first is answered.
 
 use super::changes::Change::{
-    self, Append, Cell, Double, Enter, Entry, FewerCells, FewerLists, Journal, List, Lose, Pick,
-    Pin, Pool, Record, Swap,
+    self, Append, Cell, Double, Empty, Enter, Entry, FewerCells, FewerLists, Journal, List, Lose,
+    Pick, Pin, Pool, Record, Swap,
 };
 use super::devices::Device::{BlockBytes, Cpus, Inodes, PageEntries, Snapshots, Usual};
 use super::judging::{COUNTS, INDEX, LISTS, NAMES, RECORDS, Row, are_judged};
 use super::{ONE, ROOT};
+use nv_base::limits::NUMBER;
 use nv_entry::Part::{Mode, Page, Size};
 use nv_scenes::logs::Says;
 use nv_scenes_calls::words::Words::{self, Create, Mkdir, Snap, Write};
@@ -119,6 +120,8 @@ const AHEAD_NAME: Change = Entry((2, 3, 1, 2, Says::Bind("b", 3)));
 
 const ONE_MORE: Change = Pool(Usual, &[0, 1, 2, 3]);
 
+const LAST_SLOT: Change = Pool(Usual, &[0, 1, 2, 7]);
+
 #[test]
 fn records_are_judged(rt: HostRuntime) -> Result<(), Fail> {
     are_judged(&rt, rt.alloc(), BOOKS)
@@ -140,6 +143,12 @@ const DEVICES: &[Row] = &[
     (NODES, &[Cell(7, Usual)], None),
     (NODES, &[Cell(7, BlockBytes)], LISTS),
     (NODES, &[Cell(7, PageEntries)], LISTS),
+    // empty cells of any generation from 1 to the last, whose number is no longer free
+    (NODES, &[Empty(7, 2)], None),
+    (NODES, &[Empty(7, 0)], LISTS),
+    (NODES, &[Empty(7, NUMBER), LAST_SLOT], None),
+    (NODES, &[Empty(7, NUMBER)], LISTS),
+    (NODES, &[Empty(7, NUMBER + 1), LAST_SLOT], LISTS),
     (NODES, &[FewerCells], LISTS),
     // a pool of other slots, one without a free number, and one with a number in use
     (NODES, &[Pool(Usual, &[0, 1, 2])], None),

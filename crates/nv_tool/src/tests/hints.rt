@@ -52,7 +52,7 @@ const FAULTY: [(&[u8], ScriptFaultKind, &str); 25] = [
         b"frobnicate",
         ScriptFaultKind::Word,
         "'frobnicate': 'frobnicate' is no command; there are \
-         format do start go run tree stree snaps space lists log audit",
+         format do start go run stop tree stree snaps space lists log audit",
     ),
     (
         b"fork",

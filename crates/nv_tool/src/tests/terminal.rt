@@ -137,7 +137,7 @@ fn help_shows_all_commands_and_calls(rt: HostRuntime) -> Result<(), AllocError> 
     let (_told, text, _written) = typed(rt.alloc(), b"help\n", false);
     let text = text.expect(&rt, "a text");
     let names =
-        "format do start go run tree stree snaps space lists log audit create mkdir write read size mode stat list \
+        "format do start go run stop tree stree snaps space lists log audit create mkdir write read size mode stat list \
                  lookup unlink rmdir rename snap drop show drain fast thorough auto";
     for name in names.split(' ') {
         let row = format!(in rt.alloc(); "\n  {name} ")?;

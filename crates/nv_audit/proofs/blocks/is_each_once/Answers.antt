@@ -1,42 +1,21 @@
-use Rattle.std.proofs.Common.{◌≡◌, ℕ, ◌+◌, Bool, true, List, length, set, arith, subst, sym, ◌∙◌}
+use Rattle.std.proofs.Common.{subst, sym}
 use Rattle.std.proofs.lemmas.Bool.{false≢true}
-use Rattle.nv_audit.specs.Blocks.{AreAllSet, IsUnmarked}
-use Rattle.nv_audit.proofs.EachOnce.{AreMarkedOnce, each_if_set, mark_next, next_unmarked, set_if_each}
+use Rattle.nv_audit.specs.Blocks.{AreAllSet, AreMarksOnce}
+use Rattle.nv_audit.proofs.EachOnce.{each_if_set, each_once_below, set_if_each}
 use Rattle.nv_audit.proofs.blocks.is_each_once.Goals as goal
 
-pub returns-then-not-is_unmarked : goal.returns-then-not-is_unmarked
-returns-then-not-is_unmarked c =
-    let marks = c.loop-number.marks.items in
-    let n = c.number-item.result in (
-      λ fails. absurd (false≢true fails),
-      λ each. absurd (false≢true (sym c.if-not-is_unmarked.true ∙ c.is_unmarked.ensures.1
-          (subst (IsUnmarked c.deref.result.now) (sym c.number-place.ensures)
-          (subst (λ (ms : List Bool). IsUnmarked ms n) (sym c.deref.ensures.value)
-          (next_unmarked c.args.blocks c.args.numbers.now c.loop-number.number-index marks n c.loop-number-test.true c.number-item.is
-          c.loop-number.invariant each))))),
-    )
-
-pub loop-number-preserved : goal.loop-number-preserved
-loop-number-preserved c =
+pub returns-in-Some : goal.returns-in-Some
+returns-in-Some c =
     let blocks = c.args.blocks in
     let numbers = c.args.numbers.now in
-    let i = c.loop-number.number-index in
-    let marks = c.loop-number.marks.items in
-    let n = c.number-item.result in
-    let new = subst (λ (ms : List Bool). IsUnmarked ms n) c.deref.ensures.value
-    (subst (IsUnmarked c.deref.result.now) c.number-place.ensures (c.is_unmarked.ensures.0 c.if-not-is_unmarked.false)) in
-    subst (λ (k : ℕ). AreMarkedOnce blocks numbers (i + 1) (set marks k true)) (sym c.number-place.ensures)
-    (mark_next blocks numbers i marks n c.loop-number-test.true c.number-item.is c.loop-number.invariant new)
-
-pub returns : goal.returns
-returns c =
-    let blocks = c.args.blocks in
-    let numbers = c.args.numbers.now in
-    let i = c.loop-number.number-index in
-    let marks = c.loop-number.marks.items in
-    let end : i ≡ length numbers = omega (arith, c.loop-number-test.false, c.loop-number.auto.number-index-end) in (
-      λ t. each_if_set blocks numbers i marks end c.loop-number.invariant
-          (subst AreAllSet c.deref-2.ensures.value (c.are_all_set.ensures.0 t)),
-      λ each. c.are_all_set.ensures.1 (subst AreAllSet (sym c.deref-2.ensures.value)
-          (set_if_each blocks numbers i marks end c.loop-number.invariant each)),
+    let marks = c.in-Some.marks.items in
+    let are : AreMarksOnce blocks numbers marks = rw c.in-Some.is at c.in_ok-once.ensures in (
+      λ t. each_if_set blocks numbers marks are (subst AreAllSet c.deref.ensures.value (c.are_all_set.ensures.0 t)),
+      λ each. c.are_all_set.ensures.1 (subst AreAllSet (sym c.deref.ensures.value) (set_if_each blocks numbers marks are each)),
     )
+
+pub returns-in-None : goal.returns-in-None
+returns-in-None c = (
+  λ no. absurd (false≢true no),
+  λ each. absurd ((rw c.in-None.is at c.in_ok-once.ensures) (each_once_below c.args.blocks c.args.numbers.now each)),
+)

@@ -1,6 +1,6 @@
 use Rattle.std.proofs.Common.{◌≡◌, ◌++◌, ℕ, List, ap, rules, subst, sym, ◌∙◌}
 use Rattle.nv_alloc.specs.Block.{numbers_of}
-use Rattle.nv_alloc.specs.Runs.{HaveGaps, numbers_in, runs_of}
+use Rattle.nv_alloc.specs.Runs.{HaveGaps, numbers_in, free_runs_of}
 use Rattle.nv_alloc.specs.declared.runs.FreeRun.{FreeRun}
 use Rattle.nv_alloc.proofs.RunLemmas.{cut}
 use Rattle.nv_audit.proofs.blocks.push_free.Goals as goal
@@ -10,7 +10,7 @@ loop-run-init c =
     let old = c.args.numbers.now.items in
     let free = numbers_of c.args.list.now.blocks in
     let cuts = cut free c.len-count.ensures.lawful.rising in
-    let is : c.into_iter-run-iterator.result ≡ runs_of free = c.into_iter-run-iterator.ensures.into_iter_gives ∙ c.runs-run-items.ensures in
+    let is : c.into_iter-run-iterator.result ≡ free_runs_of free = c.into_iter-run-iterator.ensures.into_iter_gives ∙ c.runs-run-items.ensures in
     record {
       can = search rules;
       finite = search rules;

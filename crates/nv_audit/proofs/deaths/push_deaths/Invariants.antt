@@ -7,5 +7,5 @@ use Rattle.nv_audit.proofs.deaths.push_deaths.Given as goal
 abbrev pub invariant-loop-place : goal.invariant-loop-place
 invariant-loop-place l =
     l.deaths.items
-    ++ reverse (map (λ (part : Part). cover_in l.cell.state l.covers (key_of l.entry.item part)) (take l.place (parts_of l.entry.item)))
-    ≡ l.initial.deaths.items ++ reverse (covers_of l.cell.state l.covers l.entry)
+    ++ reverse (map (λ (part : Part). cover_in l.logged.log l.covers (key_of l.entry.item part)) (take l.place (parts_of l.entry.item)))
+    ≡ l.initial.deaths.items ++ reverse (covers_of l.logged.log l.covers l.entry)

@@ -1,11 +1,11 @@
 use Rattle.std.proofs.Common.{◌≡◌, ◌+◌, ◌<◌, List, None, Some, arith, ap, sym, ◌∙◌, length, slice_index_or}
 use Rattle.std.specs.Option.{option_map}
 use Rattle.std.proofs.lemmas.Option.{get_or_from_slice_get}
-use Rattle.nv_cell.specs.Named.{place_of}
+use Rattle.nv_cell.specs.Named.{place_of_part}
 use Rattle.nv_cell.specs.Numbers.{part_base}
 use Rattle.nv_cell.proofs.Naming.{named_nowhere, named_past, place_low}
 use Rattle.nv_entry.specs.declared.item.Entry.{Entry}
-use Rattle.nv_log.specs.Chain.{ChainState, log, place_of as chain_place_of}
+use Rattle.nv_log.specs.Chain.{ChainState, log, place_of_id as chain_place_of}
 use Rattle.nv_audit.proofs.NumberedPairs.{number_here, unpublished}
 use Rattle.nv_audit.proofs.kept_parts.find_part.Goals as goal
 
@@ -44,7 +44,7 @@ returns-in-Some-clause-number c =
     c.index-log-entry.is ∙ ap (λ (l : List Entry). slice_index_or l entry e) all in
     let named = number_here chain.entries chain.tail entry e c.args.id at lt is in
     ap (option_map (λ n. part_base (log chain) entry + n))
-    (c.in-Some.ensures ∙ ap (λ (x : Entry). place_of x.item c.args.id.part) (sym c.index-log-entry.is)) ∙ sym named
+    (c.in-Some.ensures ∙ ap (λ (x : Entry). place_of_part x.item c.args.id.part) (sym c.index-log-entry.is)) ∙ sym named
 
 pub returns-in-None-clause-number : goal.returns-in-None-clause-number
 returns-in-None-clause-number c =
@@ -60,7 +60,7 @@ returns-in-None-clause-number c =
     c.index-log-entry.is ∙ ap (λ (l : List Entry). slice_index_or l entry e) all in
     let named = number_here chain.entries chain.tail entry e c.args.id at lt is in
     ap (option_map (λ n. part_base (log chain) entry + n))
-    (c.in-None.ensures ∙ ap (λ (x : Entry). place_of x.item c.args.id.part) (sym c.index-log-entry.is)) ∙ sym named
+    (c.in-None.ensures ∙ ap (λ (x : Entry). place_of_part x.item c.args.id.part) (sym c.index-log-entry.is)) ∙ sym named
 
 pub returns-in-Some-clause-place : goal.returns-in-Some-clause-place
 returns-in-Some-clause-place c = λ e got.
@@ -70,7 +70,7 @@ returns-in-Some-clause-place c = λ e got.
     let all : c.log-log.result.now ≡ log chain = c.log-log.ensures.value ∙ ap log c.log-2.ensures.state in
     let own : slice_index_or (log chain) entry x ≡ e = get_or_from_slice_get (log chain) entry e x got in
     let is : x ≡ e = c.index-log-entry.is ∙ ap (λ (l : List Entry). slice_index_or l entry x) all ∙ own in
-    let placed : place_of e.item c.args.id.part ≡ Some c.in-Some.place =
-    ap (λ (y : Entry). place_of y.item c.args.id.part) (sym is)
-    ∙ sym (c.in-Some.ensures ∙ ap (λ (y : Entry). place_of y.item c.args.id.part) (sym c.index-log-entry.is)) in
+    let placed : place_of_part e.item c.args.id.part ≡ Some c.in-Some.place =
+    ap (λ (y : Entry). place_of_part y.item c.args.id.part) (sym is)
+    ∙ sym (c.in-Some.ensures ∙ ap (λ (y : Entry). place_of_part y.item c.args.id.part) (sym c.index-log-entry.is)) in
     place_low e.item c.args.id.part c.in-Some.place placed

@@ -1,7 +1,7 @@
 use Rattle.std.proofs.Common.{◌≡◌, ◌<◌, ◌++◌, List, length, map, arith, ap, ◌∙◌}
 use Rattle.nv_cell.specs.Cell.{log_of}
 use Rattle.nv_cell.specs.declared.mark.Mark.{Mark}
-use Rattle.nv_audit.specs.KeptParts.{is_kept}
+use Rattle.nv_audit.specs.KeptParts.{is_marked_as_kept}
 use Rattle.nv_audit.specs.declared.kept_parts.KeptParts.{KeptParts}
 use Rattle.nv_audit.proofs.GatheredParts.{gathered_all, gathered_more, gathered_none, log_length}
 use Rattle.nv_audit.proofs.kept_parts.kept_parts.Goals as goal
@@ -19,7 +19,7 @@ loop-entry-preserved c =
     let lt : i < length (log_of cell) = omega (arith, c.loop-entry-test.true, c.tail-entry-end.ensures, len) in
     let size : c.len.result ≡ length parts.left.items = omega (arith, c.len.ensures) in
     gathered_more cell c.use_invariant.ensures i c.len.result parts new lt c.loop-entry.invariant size c.in_ok-push.ensures.items
-    (c.in_ok-push_kept.ensures ∙ ap (λ (l : List Mark). parts.left.items ++ map is_kept l) c.marks_of.ensures)
+    (c.in_ok-push_kept.ensures ∙ ap (λ (l : List Mark). parts.left.items ++ map is_marked_as_kept l) c.marks_of.ensures)
 
 pub returns-clause-parts : goal.returns-clause-parts
 returns-clause-parts c =

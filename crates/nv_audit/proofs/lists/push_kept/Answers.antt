@@ -1,6 +1,6 @@
 use Rattle.std.proofs.Common.{refl}
 use Rattle.nv_entry.specs.Held.{keeps, retention_of}
-use Rattle.nv_audit.specs.Lists.{blocks_kept, kept_of}
+use Rattle.nv_audit.specs.Lists.{blocks_kept, blocks_kept_of}
 use Rattle.nv_audit.proofs.DividedPairs.{divided, enough}
 use Rattle.nv_audit.proofs.Pushing.{step}
 use Rattle.nv_audit.proofs.lists.push_kept.Goals as goal
@@ -22,7 +22,7 @@ loop-entry-preserved c =
     c.split_at.ensures.front c.split_at.ensures.back in
     record {
       left = parts.others;
-      used = step (blocks_kept (retention_of r)) (kept_of (retention_of r)) (λ x xs. refl) log i e c.loop-entry-test.true
+      used = step (blocks_kept (retention_of r)) (blocks_kept_of (retention_of r)) (λ x xs. refl) log i e c.loop-entry-test.true
           c.entry-item.is c.loop-entry.used.items c.push_kept_of.new.used.items _ (c.in_ok-push_kept_of.ensures _ parts.first)
           c.loop-entry.invariant.used;
     }

@@ -1,17 +1,12 @@
-use Rattle.std.proofs.Common.{List, subst, sym, take, ◌≡◌}
+use Rattle.std.proofs.Common.{List, subst, ◌∙◌}
 use Rattle.std.specs.Prelude.{IfOk, IsTrue, ◌↔◌}
-use Rattle.std.proofs.lemmas.List.{take-map}
-use Rattle.nv_cell.specs.Cell.{CellState, CellValue}
-use Rattle.nv_audit.specs.Nodes.{AreTrees}
+use Rattle.nv_audit.specs.Logged.{AreLoggedTrees, LoggedValue}
 use Rattle.nv_audit.specs.Records.{states_of}
-use Rattle.nv_audit.proofs.UsedSlots.{told_of_all}
+use Rattle.nv_audit.proofs.LoggedCells.{told_of_cells}
 use Rattle.nv_audit.proofs.nodes.form_trees.Goals as goal
 
 pub returns-clause-ok : goal.returns-clause-ok
 returns-clause-ok c =
-    let cells = c.args.cells.now in
-    let used = c.slots_in_use-used.result in
-    let front : take used (states_of cells) ≡ states_of (take used cells) = take-map (λ (x : CellValue). x.state) used cells in
-    told_of_all (states_of cells) used c.args.snapshots.now c.form_trees_of_used.result c.slots_in_use-used.ensures.unused
-    (subst (λ (cs : List CellState). IfOk c.form_trees_of_used.result (λ form. IsTrue form ↔ AreTrees c.args.snapshots.now cs))
-    (sym front) c.form_trees_of_used.ensures.ok)
+    told_of_cells (states_of c.args.cells.now) c.args.snapshots.now c.form_trees_of.result
+    (subst (λ (ls : List LoggedValue). IfOk c.form_trees_of.result (λ form. IsTrue form ↔ AreLoggedTrees c.args.snapshots.now ls))
+    (c.deref.ensures.value ∙ c.in_ok-logs.ensures) c.form_trees_of.ensures.ok)

@@ -1,10 +1,8 @@
 use Rattle.std.proofs.Common.{ℕ, ◌<◌, get_or}
 use Rattle.nv_entry.specs.declared.value.When.TheVariants.{At}
-use Rattle.nv_audit.specs.Nodes.{slots_when}
-use Rattle.nv_audit.specs.Records.{states_of}
+use Rattle.nv_audit.specs.Logged.{slots_of}
 use Rattle.nv_audit.specs.Tree.{IsTree}
 use Rattle.nv_audit.proofs.nodes.form_trees_of_used.Given as goal
 
 abbrev pub invariant-loop-snapshot : goal.invariant-loop-snapshot
-invariant-loop-snapshot l =
-    (k : ℕ) (d : ℕ) → k < l.snapshot-index → IsTree (slots_when (At (get_or l.snapshots k d)) (states_of l.cells))
+invariant-loop-snapshot l = (k : ℕ) (d : ℕ) → k < l.snapshot-index → IsTree (slots_of (At (get_or l.snapshots k d)) l.logs)

@@ -1,5 +1,5 @@
 use Rattle.std.proofs.Common.{◌≡◌, ◌<◌, [], arith, length, subst, sym, ◌∙◌}
-use Rattle.std.proofs.lemmas.List.{get_or_read}
+use Rattle.std.proofs.lemmas.List.{get_or_read, length-map}
 use Rattle.nv_audit.specs.Pending.{pending_of}
 use Rattle.nv_audit.specs.Pool.{no_cell}
 use Rattle.nv_audit.specs.Records.{states_of}
@@ -46,3 +46,8 @@ loop-place-preserved c book with =
     (agrees_if_none (IsInodeAtRest book i cell.state) (λ p. IsFirstOfInode p book i cell.state)
     c.in_ok-differs.differs (sym c.is_some.ensures ∙ c.if-is_some.false) (c.in_ok-differs.ensures.ok book i with.living own))
     (c.loop-place.invariant book with)
+
+pub returns-clause-ok : goal.returns-clause-ok
+returns-clause-ok c book with ino d lt =
+    let count : length (states_of c.args.cells.now) ≡ length c.args.cells.now = length-map c.args.cells.now (λ cell. cell.state) in
+    c.loop-place.invariant book with ino d (omega (arith, count, lt, c.loop-place-test.false))

@@ -3,7 +3,7 @@ use Rattle.nv_alloc.specs.Queue.{QueueValue}
 use Rattle.nv_log.specs.Chain.{IsChain}
 use Rattle.nv_cell.specs.Cell.{CellValue}
 use Rattle.nv_calls.specs.Cells.{value_at, with_value}
-use Rattle.nv_calls.specs.Steps.{with_pages}
+use Rattle.nv_calls.specs.Steps.{with_new_pages}
 use Rattle.nv_calls.proofs.Appends.{first_sized, no_pages, none_front, one_front, page_added}
 use Rattle.nv_calls.proofs.CellLists.{only_again, value_given, with_same}
 use Rattle.nv_calls.proofs.append.add_pages.Given as given
@@ -24,7 +24,7 @@ loop-added-init g c =
 
 -- the cell has the front pages
 now_is : (g : given.Over) (c : goal.After-add_page-arg-1 g) → value_at (g.C.Cells.cells c.loop-added.cells) c.args.k
-    ≡ with_pages (take c.loop-added._added c.args.pages.now.blocks) (value_at (g.C.Cells.cells c.args.cells.now) c.args.k)
+    ≡ with_new_pages (take c.loop-added._added c.args.pages.now.blocks) (value_at (g.C.Cells.cells c.args.cells.now) c.args.k)
 now_is g c = value_given _ _ _ _ c.requires.within c.loop-added.invariant.cells
 
 pub loop-added-preserved : goal.loop-added-preserved
@@ -44,8 +44,8 @@ loop-added-preserved g c =
     let chain : IsChain now.state.chain = subst (λ (v : CellValue). IsChain v.state.chain) c.cell.ensures c.use_invariant.ensures.chain in
     let p = page_added n v0 now new bs c.in-Some.block here chain is c.add_page.ensures.state c.add_page.ensures.room in
     record {
-      cells = only_again cells (g.C.Cells.cells l.cells) (g.C.Cells.cells c.add_page.new.self) k (with_pages (take n bs) v0)
-          (with_pages (take (n + 1) bs) v0) i.cells c.add_page.ensures.cells p.value;
+      cells = only_again cells (g.C.Cells.cells l.cells) (g.C.Cells.cells c.add_page.new.self) k (with_new_pages (take n bs) v0)
+          (with_new_pages (take (n + 1) bs) v0) i.cells c.add_page.ensures.cells p.value;
       ready = λ items h. p.ready items (i.ready items h);
       room = let page = ap (λ (v : CellValue). v.state.chain.page) (now_is g (goal.at.loop-added-preserved g c).After-add_page-arg-1) in
           omega (arith, p.more, i.room, page);

@@ -6,7 +6,7 @@ use Rattle.nv_cell.specs.Cell.{CellValue}
 use Rattle.nv_calls.specs.Cells.{value_at, with_value}
 use Rattle.nv_calls.specs.Commit.{CommitValue, to_append}
 use Rattle.nv_calls.specs.Ready.{plan_at}
-use Rattle.nv_calls.specs.Steps.{stamped_entries, with_entries, with_pages, with_plan}
+use Rattle.nv_calls.specs.Steps.{stamped_entries, with_entries, with_new_pages, with_plan}
 use Rattle.nv_calls.specs.declared.stamp.Stamp.{Stamp}
 use Rattle.nv_calls.proofs.CellLists.{value_given, with_twice}
 use Rattle.nv_calls.proofs.steps.append_on.Goals as goal
@@ -14,14 +14,14 @@ use Rattle.nv_calls.proofs.steps.append_on.Goals as goal
 -- the pages and then the entries
 both : (cells mid new : List (ℕ × CellValue)) (k n : ℕ) (stamp : Stamp) (place : ℕ) (items : List Item) (hand : Hand)
     → k < length cells → n ≡ pages_for (value_at cells k).state.chain (length items)
-    → mid ≡ with_value cells k (with_pages (take n hand.pages.blocks) (value_at cells k))
+    → mid ≡ with_value cells k (with_new_pages (take n hand.pages.blocks) (value_at cells k))
     → new ≡ with_value mid k (with_entries (stamped_entries stamp place items) hand.data.blocks (value_at mid k))
     → new ≡ with_value cells k (with_plan stamp place items hand (value_at cells k))
 both cells mid new k n stamp place items hand within count pages entries =
     let v0 = value_at cells k in
-    let paged : CellValue = with_pages (take (pages_for v0.state.chain (length items)) hand.pages.blocks) v0 in
+    let paged : CellValue = with_new_pages (take (pages_for v0.state.chain (length items)) hand.pages.blocks) v0 in
     let mid_is : mid ≡ with_value cells k paged =
-    pages ∙ ap (λ (m : ℕ). with_value cells k (with_pages (take m hand.pages.blocks) v0)) count in
+    pages ∙ ap (λ (m : ℕ). with_value cells k (with_new_pages (take m hand.pages.blocks) v0)) count in
     let added : CellValue → CellValue = with_entries (stamped_entries stamp place items) hand.data.blocks in
     entries
     ∙ ap₂ (λ (cs : List (ℕ × CellValue)) (v : CellValue). with_value cs k (added v)) mid_is

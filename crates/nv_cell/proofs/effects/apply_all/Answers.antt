@@ -3,7 +3,7 @@ use Rattle.std.proofs.lemmas.List.Sums.{sum_by-cons}
 use Rattle.nv_entry.specs.declared.item.Entry.{Entry}
 use Rattle.nv_entry.specs.Refs.{ref_after, scan_ref}
 use Rattle.nv_cell.specs.Effects.{items_of}
-use Rattle.nv_cell.specs.Weights.{runs_of}
+use Rattle.nv_cell.specs.Weights.{page_runs_needed}
 use Rattle.nv_cell.proofs.EntryRead.{entry_read}
 use Rattle.nv_cell.proofs.Readied.{ready_after, reserved_after}
 use Rattle.nv_cell.proofs.Bound.{bound_push}
@@ -44,11 +44,11 @@ loop-t-preserved c =
     record {
       room =
           let room = rw (drop_next es t e p.within p.is) at c.loop-t.invariant.room in
-          omega (arith, c.put.ensures.room, room, sum_by-cons runs_of e.item (items_of (drop (t + 1) es)));
+          omega (arith, c.put.ensures.room, room, sum_by-cons page_runs_needed e.item (items_of (drop (t + 1) es)));
       reserved = λ none.
           let h = rw (drop_next es t e p.within p.is) at (c.loop-t.invariant.reserved none) in
           (h.0.1, reserved_after e.id e.item c.loop-t.index.names c.put.new.self.names c.put.ensures.names h.0.0 ∙ h.1);
-      pages = omega (arith, c.put.ensures.room, pages, sum_by-cons runs_of e.item (items_of (drop (t + 1) es)));
+      pages = omega (arith, c.put.ensures.room, pages, sum_by-cons page_runs_needed e.item (items_of (drop (t + 1) es)));
       names = ready_after e.id e.item (items_of (drop (t + 1) es)) c.loop-t.index.names c.put.new.self.names c.put.ensures.names ready;
       bound = rw (take_next es t e p.within p.is)
           (bound_push (take t es) e c.loop-t.index.names c.put.new.self.names c.put.ensures.names c.loop-t.invariant.bound);
@@ -78,4 +78,4 @@ put-requires-clause-room c =
     let e = c.entry_at-entry.result.now in
     let p = entry_read es t e c.entry_at-entry.ensures in
     let pages = rw (drop_next es t e p.within p.is) at c.loop-t.invariant.pages in
-    omega (arith, pages, sum_by-cons runs_of e.item (items_of (drop (t + 1) es)))
+    omega (arith, pages, sum_by-cons page_runs_needed e.item (items_of (drop (t + 1) es)))

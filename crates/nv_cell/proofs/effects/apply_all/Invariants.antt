@@ -8,15 +8,15 @@ use Rattle.nv_nindex.specs.NameIndex.{HaveSameBindings}
 use Rattle.nv_cell.specs.Effects.{BindNone, NamesReady, items_of}
 use Rattle.nv_cell.specs.Index.{bindings_of, ref_of}
 use Rattle.nv_cell.specs.Numbers.{numbers_in, times}
-use Rattle.nv_cell.specs.Weights.{runs_of, weights_in}
+use Rattle.nv_cell.specs.Weights.{page_runs_needed, weights_in}
 use Rattle.nv_cell.proofs.effects.apply_all.Given as goal
 
 abbrev pub invariant-loop-t : goal.invariant-loop-t
 invariant-loop-t l = record {
-  pages : sum_by runs_of (items_of (drop l.t l.chain.state.entries)) ≤ l.index.pages.room;
+  pages : sum_by page_runs_needed (items_of (drop l.t l.chain.state.entries)) ≤ l.index.pages.room;
   names : NamesReady (items_of (drop l.t l.chain.state.entries)) l.index.names;
-  room : l.fn.index.pages.room + sum_by runs_of (items_of (drop l.t l.chain.state.entries))
-      ≤ l.index.pages.room + sum_by runs_of (items_of (drop l.tail l.chain.state.entries));
+  room : l.fn.index.pages.room + sum_by page_runs_needed (items_of (drop l.t l.chain.state.entries))
+      ≤ l.index.pages.room + sum_by page_runs_needed (items_of (drop l.tail l.chain.state.entries));
   reserved : BindNone (items_of (drop l.tail l.chain.state.entries))
       → BindNone (items_of (drop l.t l.chain.state.entries)) × (l.index.names.reserved ≡ l.fn.index.names.reserved);
   scan : (key : Key) → ref_of l.index key ≡ scan_ref l.block (take l.t l.chain.state.entries) key;

@@ -1,6 +1,6 @@
 use Rattle.std.proofs.Common.{◌≡◌, ◌+◌, ◌<◌, None, arith, ap, sym, ◌∙◌}
 use Rattle.std.specs.Option.{option_map}
-use Rattle.nv_log.specs.Chain.{place_of as chain_place_of}
+use Rattle.nv_log.specs.Chain.{place_of_id as chain_place_of}
 use Rattle.nv_cell.specs.Numbers.{part_base}
 use Rattle.nv_cell.proofs.EntryRead.{entry_read, parts_below}
 use Rattle.nv_cell.proofs.Naming.{named_here, named_nowhere, named_past, place_low}

@@ -1,6 +1,6 @@
 use Rattle.std.proofs.Common.{◌≡◌, ◌∙◌, ◌-◌, ◌<◌, ◌++◌, ◌∷◌, [], List, Some, ap, append_assoc, arith, drop, length, slice_get, subst, sym, take}
 use Rattle.nv_cell.specs.Cell.{log_of}
-use Rattle.nv_clean.specs.Cover.{Adds, Covers}
+use Rattle.nv_clean.specs.Cover.{AddsItem, Covers}
 use Rattle.nv_clean.proofs.Covering.{adds}
 use Rattle.nv_clean.proofs.Walking.{log_len, read_in, stretch_more}
 use Rattle.nv_entry.specs.declared.item.Entry.{Entry}
@@ -27,7 +27,7 @@ loop-place-preserved c = λ before covers.
     (append_assoc before (take (i - from) (drop from log)) (e ∷ [])
     ∙ ap (λ (l : List Entry). before ++ l) (sym (stretch_more log from i e c.loop-place.auto.place short is)))
     (adds cell.block (before ++ take (i - from) (drop from log)) e c.loop-place.cover c.add.new.self (c.loop-place.invariant before covers)
-    (subst (λ (block : _). Adds block e.item c.loop-place.cover c.add.new.self) c.block_bytes-block.ensures.value c.in_ok-add.ensures))
+    (subst (λ (block : _). AddsItem block e.item c.loop-place.cover c.add.new.self) c.block_bytes-block.ensures.value c.in_ok-add.ensures))
 
 pub returns : goal.returns
 returns c = λ before covers.

@@ -1,7 +1,7 @@
 use Rattle.std.proofs.Common.{◌≡◌, subst, sym}
 use Rattle.nv_cell.specs.Cell.{CellState}
 use Rattle.nv_cell.specs.Marks.{bit, mark_at}
-use Rattle.nv_machine.specs.Recorded.{is_kept, is_record_of, recorded_in}
+use Rattle.nv_machine.specs.Recorded.{is_marked_kept, is_record_of, recorded_in}
 use Rattle.nv_machine.proofs.FiledLists.{count}
 use Rattle.nv_restart.proofs.Records.{anew_filed, once, paired}
 use Rattle.nv_restart.proofs.Slots.{cell_there}
@@ -14,7 +14,7 @@ returns-clause-filed c = anew_filed
 pub returns-clause-once : goal.returns-clause-once
 returns-clause-once c = λ image rising logs ino n lt.
     subst (λ (x : CellState). count (is_record_of x ino n) (recorded_in (mounted image))
-    ≡ bit (is_kept (mark_at x.marks n)))
+    ≡ bit (is_marked_kept (mark_at x.marks n)))
     (sym (cell_there image ino lt)) (once image rising logs ino n lt)
 
 pub returns-clause-paired : goal.returns-clause-paired

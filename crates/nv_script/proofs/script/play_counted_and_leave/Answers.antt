@@ -3,7 +3,6 @@ use Rattle.std.proofs.lemmas.Result.{err_from_is_err_and}
 use Rattle.nv_base.specs.Memory.{out_of_memory}
 use Rattle.nv_script.specs.Play.{no_head}
 use Rattle.nv_script.proofs.Endings.{no_room}
-use Rattle.nv_serial.proofs.LawCalls.{calls_serial}
 use Rattle.nv_script.proofs.SerialAlike.{plays_alone}
 use Rattle.nv_script.proofs.script.play_counted_and_leave.Goals as goal
 
@@ -18,9 +17,9 @@ returns-in_err-player-clause-serial g c =
     let p = err_from_is_err_and c.from_residual.result c.from_residual.ensures.1 in
     let input = g.R.CountedRead.remaining c.args.reader.now in
     let written = g.W.CountedWrite.contents c.args.writer.now in
-    rw (p.1, p.2) (plays_alone calls_serial (Err out_of_memory) input input written written (no_room no_head input input written))
+    rw (p.1, p.2) (plays_alone (Err out_of_memory) input input written written (no_room no_head input input written))
 
 pub returns-clause-serial : goal.returns-clause-serial
 returns-clause-serial g c =
-    plays_alone calls_serial c.play-outcome.result (g.R.CountedRead.remaining c.args.reader.now) (g.R.CountedRead.remaining c.play-outcome.new.reader)
+    plays_alone c.play-outcome.result (g.R.CountedRead.remaining c.args.reader.now) (g.R.CountedRead.remaining c.play-outcome.new.reader)
     (g.W.CountedWrite.contents c.args.writer.now) (g.W.CountedWrite.contents c.play-outcome.new.writer) c.play-outcome.ensures.script

@@ -10,9 +10,9 @@ returns-in-Err-Answers-clause-overtaken g c =
     answers_nothing c.args.service.now.geometry.numbers.block (g.L.Cells.cells c.args.lent.now)
     c.args.change.looked.now c.args.change.update c.args.change.hand ends
 
-pub returns-in-Err-Overtaken-clause-overtaken : goal.returns-in-Err-Overtaken-clause-overtaken
-returns-in-Err-Overtaken-clause-overtaken g c =
-    let ends = rw c.in-Err-Overtaken.field-0-is at c.in-Err-Overtaken.ensures.err in (
+pub returns-in-Err-BoundAnew-clause-overtaken : goal.returns-in-Err-BoundAnew-clause-overtaken
+returns-in-Err-BoundAnew-clause-overtaken g c =
+    let ends = rw c.in-Err-BoundAnew.field-0-is at c.in-Err-BoundAnew.ensures.err in (
       refl,
       overtaken_looks c.args.service.now.geometry.numbers.block (g.L.Cells.cells c.args.lent.now)
           c.args.change.looked.now c.args.change.update c.args.change.hand c.args.change.looks ends,

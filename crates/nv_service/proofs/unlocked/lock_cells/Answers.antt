@@ -1,7 +1,7 @@
 use Rattle.std.proofs.Common.{◌≡◌, ◌∙◌, ℕ, List, ap, arith, length, rules, sym, vec_len}
 use Rattle.std.specs.List.{range_with_len}
 use Rattle.std.proofs.lemmas.List.{length-map}
-use Rattle.nv_service.specs.Rests.{CellRestValue, Told, told_by, told_of}
+use Rattle.nv_service.specs.Rests.{CellRestValue, Told, rest_told, cell_told}
 use Rattle.nv_service.proofs.Slots.{falling, fallen, left}
 use Rattle.nv_service.proofs.Turning.{split_last, turned}
 use Rattle.nv_service.proofs.unlocked.lock_cells.Goals as goal
@@ -17,14 +17,14 @@ loop-cell-init g c =
       parts = omega (
         arith,
         ap (λ (ts : List Told). length ts) c.requires.fit,
-        length-map rests.items told_by,
-        length-map c.args.cells.items told_of,
+        length-map rests.items rest_told,
+        length-map c.args.cells.items cell_told,
         rests.ok,
         c.args.cells.ok,
         turn.len,
         c.reverse.ensures.len,
       );
-      fit = turned told_by told_of rests.items c.reverse-2.new.self.items c.args.cells.items c.reverse.new.self.items
+      fit = turned rest_told cell_told rests.items c.reverse-2.new.self.items c.args.cells.items c.reverse.new.self.items
           c.requires.fit turn.items c.reverse.ensures.items;
       slots = fallen rests.items c.reverse-2.new.self.items (vec_len rests)
           (c.requires.slots ∙ ap (λ (n : ℕ). range_with_len 0 n) many) turn.items
@@ -45,7 +45,7 @@ pub invariant_of-locked : goal.invariant_of-locked
 invariant_of-locked g c =
     let l = c.loop-cell in
     let is = c.rest.view_is in
-    let fit = (split_last told_by told_of l.rests.items c.pop-in-Some.new.self.items c.in-Some-pop.rest l.cells.items
+    let fit = (split_last rest_told cell_told l.rests.items c.pop-in-Some.new.self.items c.in-Some-pop.rest l.cells.items
     c.pop.new.self.items c.in-Some.cell l.invariant.fit c.in-Some-pop.ensures.items c.in-Some.ensures.items).1 in (
       c.rest.invariant.0,
       ap (λ (r : CellRestValue). r.blocks) is ∙ ap (λ (t : Told). t.blocks) fit,
@@ -63,7 +63,7 @@ loop-cell-preserved g c =
       locks = c.put_back.ensures.room ∙ i.locks;
       count = omega (arith, i.count, c.in-Some-pop.ensures.len, count);
       parts = omega (arith, i.parts, c.in-Some-pop.ensures.len, c.in-Some.ensures.len);
-      fit = (split_last told_by told_of l.rests.items c.pop-in-Some.new.self.items c.in-Some-pop.rest l.cells.items
+      fit = (split_last rest_told cell_told l.rests.items c.pop-in-Some.new.self.items c.in-Some-pop.rest l.cells.items
           c.pop.new.self.items c.in-Some.cell i.fit c.in-Some-pop.ensures.items c.in-Some.ensures.items).0;
       slots = (left l.rests.items c.pop-in-Some.new.self.items c.in-Some-pop.rest (vec_len l.locks.locks)
           (vec_len c.pop-in-Some.new.self) before c.in-Some-pop.ensures.items).0

@@ -1,6 +1,6 @@
 use Rattle.std.proofs.Common.{◌≡◌, ◌∙◌, ℕ, ap, arith, sym, vec_len}
 use Rattle.std.specs.List.{range_with_len}
-use Rattle.nv_service.specs.Rests.{Told, told_by, told_of}
+use Rattle.nv_service.specs.Rests.{Told, rest_told, cell_told}
 use Rattle.nv_service.proofs.Slots.{falling, joined, risen}
 use Rattle.nv_service.proofs.Turning.{joined_last, turned}
 use Rattle.nv_service.proofs.unlocked.unlock_cells.Goals as goal
@@ -22,7 +22,7 @@ loop-slot-preserved g c =
       locks = taken.room ∙ i.locks;
       count = omega (arith, i.count, taken.taken, rest.len);
       parts = omega (arith, i.parts, cell.len, rest.len);
-      fit = joined_last told_by told_of c.loop-slot.rests.items c.push_reserved-in-Some.new.self.items _ c.loop-slot.cells.items
+      fit = joined_last rest_told cell_told c.loop-slot.rests.items c.push_reserved-in-Some.new.self.items _ c.loop-slot.cells.items
           c.push_reserved.new.self.items c.locked.inside.cell i.fit rest.items cell.items
           (same_told _ _ _ _ c.locked.invariant.1 c.locked.invariant.3);
       slots = joined c.loop-slot.rests.items c.push_reserved-in-Some.new.self.items _ low (vec_len c.loop-slot.rests)
@@ -35,7 +35,7 @@ loop-slot-preserved g c =
 pub returns-clause-fit : goal.returns-clause-fit
 returns-clause-fit g c =
     let l = c.loop-slot in
-    turned told_by told_of l.rests.items c.reverse-2.new.self.items l.cells.items c.reverse.new.self.items
+    turned rest_told cell_told l.rests.items c.reverse-2.new.self.items l.cells.items c.reverse.new.self.items
     l.invariant.fit c.reverse-2.ensures.items c.reverse.ensures.items
 
 pub returns-clause-slots : goal.returns-clause-slots

@@ -1,5 +1,5 @@
 use Rattle.std.proofs.Common.{◌≡◌, ◌+◌, ◌≤◌, map, vec_len, vec_capacity}
-use Rattle.nv_service.specs.Rests.{slot_of, told_by, told_of}
+use Rattle.nv_service.specs.Rests.{slot_of, rest_told, cell_told}
 use Rattle.nv_service.proofs.Slots.{falling}
 use Rattle.nv_service.proofs.unlocked.unlock_cells.Given as goal
 
@@ -11,7 +11,7 @@ invariant-loop-slot g l = record {
   locks : vec_capacity l.locks.locks ≡ vec_capacity l.initial.locks.locks;
   count : vec_len l.locks.locks + vec_len l.rests ≡ vec_len l.initial.locks.locks;
   parts : vec_len l.cells ≡ vec_len l.rests;
-  fit : map told_by l.rests.items ≡ map told_of l.cells.items;
+  fit : map rest_told l.rests.items ≡ map cell_told l.cells.items;
   slots : map slot_of l.rests.items ≡ falling (vec_len l.locks.locks) (vec_len l.rests);
   part_room : vec_len l.locks.locks + vec_len l.cells ≤ vec_capacity l.cells;
   rest_room : vec_len l.locks.locks + vec_len l.rests ≤ vec_capacity l.rests;

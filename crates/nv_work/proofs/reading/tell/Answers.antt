@@ -1,8 +1,25 @@
-use Rattle.std.proofs.Common.{sym}
+use Rattle.std.proofs.Common.{Bool, true, false, Ok, ap, sym}
+use Rattle.std.specs.Prelude.{◌≢◌, codes}
+use Rattle.std.proofs.lemmas.Bool.{false≢true}
 use Rattle.std.proofs.lemmas.Result.{err_from_is_err_and}
+use Rattle.nv_script.specs.Grammar.{Parsed, command_of}
+use Rattle.nv_script.specs.Words.{words_of}
+use Rattle.nv_script.specs.declared.command.Command.{Command}
+use Rattle.nv_script.specs.declared.command.Command.TheVariants as command
 use Rattle.nv_work.proofs.Reported.{shown_run}
 use Rattle.nv_work.proofs.Told.{sends_both, tells_all, tells_front, tells_more}
 use Rattle.nv_work.proofs.reading.tell.Goals as goal
+
+-- a line stops the machine
+abbrev is_stop : Parsed Command → Bool
+is_stop (Ok command.Stop) = true
+is_stop _ = false
+
+tree_goes_on : command_of (words_of (codes "tree")) ≢ Ok command.Stop
+tree_goes_on e = false≢true (ap is_stop e)
+
+pub report-requires-clause-goes_on : goal.report-requires-clause-goes_on
+report-requires-clause-goes_on g c = tree_goes_on
 
 pub returns-in_err-report-clause-told : goal.returns-in_err-report-clause-told
 returns-in_err-report-clause-told g c =

@@ -1,6 +1,6 @@
 use Rattle.std.proofs.Common.{◌≡◌, ◌++◌, sym, ap, ◌∙◌}
 use Rattle.nv_alloc.specs.FreeList.{FreeBlocks}
-use Rattle.nv_alloc.specs.Giving.{after_giving, kept_of}
+use Rattle.nv_alloc.specs.Giving.{after_giving, not_taken}
 use Rattle.nv_alloc.proofs.GivingLemmas.{after_giving-append}
 use Rattle.nv_alloc.proofs.hand.Hand.give_blocks.Goals as goal
 use Rattle.nv_alloc.proofs.hand.Hand.give_blocks.Goals.{After-give_blocks-2}
@@ -15,7 +15,7 @@ both c =
 pub returns-clause-chain : goal.returns-clause-chain
 returns-clause-chain c =
     c.give_blocks-3.ensures.kept
-    ∙ ap (λ (list : FreeBlocks). kept_of list c.args.self.now.chain) (both (goal.at.returns-clause-chain c).After-give_blocks-2)
+    ∙ ap (λ (list : FreeBlocks). not_taken list c.args.self.now.chain) (both (goal.at.returns-clause-chain c).After-give_blocks-2)
 
 pub returns-clause-given : goal.returns-clause-given
 returns-clause-given c =

@@ -9,9 +9,9 @@ use Rattle.nv_audit.proofs.Covers.{no_page}
 use Rattle.nv_audit.proofs.first_covers.FirstCovers.new.Goals as goal
 
 pub returns : goal.returns
-returns c cell KindKey = refl
-returns c cell ModeKey = refl
-returns c cell SizeKey = refl
-returns c cell (NameKey name) = ap (λ (es : List (Bor (List ℕ) × ℕ)). option_or (name_in es name) None) c.new.ensures.empty
-returns c cell (PageKey page) =
-    ap (λ (index : PageMap). option_and_then (epoch_of cell) (page_cover index page)) c.new-2.ensures ∙ no_page cell page
+returns c log KindKey = refl
+returns c log ModeKey = refl
+returns c log SizeKey = refl
+returns c log (NameKey name) = ap (λ (es : List (Bor (List ℕ) × ℕ)). option_or (name_in es name) None) c.new.ensures.empty
+returns c log (PageKey page) =
+    ap (λ (index : PageMap). option_and_then (epoch_of log) (page_cover index page)) c.new-2.ensures ∙ no_page log page

@@ -1,5 +1,5 @@
 use Rattle.std.proofs.Common.{◌≡◌, ◌+◌, length, arith, ap, ◌∙◌}
-use Rattle.nv_book.specs.Manifests.{record_count, runs_of}
+use Rattle.nv_book.specs.Manifests.{record_count, run_total}
 use Rattle.nv_book.specs.Records.{run_count_of}
 use Rattle.nv_book.proofs.Counts.{total-made}
 use Rattle.nv_book.proofs.record_store.RecordStore.make.Goals as goal
@@ -9,8 +9,8 @@ invariant_of-self c =
     let held = c.self.invariant in
     let n : record_count c.push_reserved.new.self.items ≡ record_count c.self.inside.manifests.items + length c.new.result =
     ap record_count c.push_reserved.ensures.items ∙ total-made length c.self.inside.manifests.items _ in
-    let r : runs_of c.push_reserved.new.self.items ≡ runs_of c.self.inside.manifests.items + run_count_of c.new.result =
-    ap runs_of c.push_reserved.ensures.items ∙ total-made run_count_of c.self.inside.manifests.items _ in
+    let r : run_total c.push_reserved.new.self.items ≡ run_total c.self.inside.manifests.items + run_count_of c.new.result =
+    ap run_total c.push_reserved.ensures.items ∙ total-made run_count_of c.self.inside.manifests.items _ in
     let n0 : length c.new.result ≡ 0 = ap length c.new.ensures in
     let r0 : run_count_of c.new.result ≡ 0 = ap run_count_of c.new.ensures in
     record {

@@ -6,7 +6,7 @@ use Rattle.nv_core.proofs.CheckTurns.{drains, no_chain, owes, turn_ends, turn_go
 use Rattle.nv_core.proofs.Nodes.{lent_are}
 use Rattle.nv_core.specs.Rooms.{HasRoomFor, pages_to_take}
 use Rattle.nv_core.specs.Shown.{hand_of, shared_of, shown, slots_in, turn_of}
-use Rattle.nv_core.specs.GhostCalls.{IsChangeWith, IsGhostCallOf}
+use Rattle.nv_core.specs.GhostCalls.{IsChangeWith, IsShownCallOf}
 use Rattle.nv_core.specs.declared.running.Running.{Running}
 use Rattle.nv_core.specs.declared.shared.Shared.{Shared}
 use Rattle.nv_core.proofs.kinds.check.check.Goals as goal
@@ -77,6 +77,6 @@ returns-clause-turn c told is =
     c.note_made.ensures (c.is_some.ensures ∙ ap is_some c.ino.ensures) c.requires.change c.requires.can c.in-Ok.ensures.ends told is
     c.make_room.new.shared (hand_of c.make_room.new.hand) c.in-Ok.wanted _
     (c.make_room.ensures.same ∙ c.test.ensures.same) (ap hand_of c.make_room.ensures.hand) refl c.in-Ok.ensures.wanted
-    (c.want_blocks.ensures.turn told (subst (λ (x : Running). IsGhostCallOf x told) (sym c.note_made.ensures) is))
+    (c.want_blocks.ensures.turn told (subst (λ (x : Running). IsShownCallOf x told) (sym c.note_made.ensures) is))
     ∙ ap (λ (x : Shared). turn_of c.want_blocks.result (shared_of x) (hand_of c.make_room.new.hand) (shown told c.want_blocks.new.running))
     (sym c.want_blocks.ensures.same))

@@ -2,7 +2,7 @@ use Rattle.std.proofs.Common.{◌≡◌, ◌∙◌, ◌<◌, ◌++◌, List, ap,
 use Rattle.std.specs.List.{AllByRecursion}
 use Rattle.nv_alloc.specs.Block.{BlockValue}
 use Rattle.nv_alloc.specs.FreeList.{FreeBlocks}
-use Rattle.nv_alloc.specs.Giving.{after_giving, kept_of}
+use Rattle.nv_alloc.specs.Giving.{after_giving, not_taken}
 use Rattle.nv_alloc.specs.Hand.{blocks_of}
 use Rattle.nv_alloc.specs.Queue.{after_home}
 use Rattle.nv_machine.specs.Kinds.{blocks_in, given}
@@ -25,7 +25,7 @@ hand_was c =
     handed c.args.cpu (shared_of c.args.shared.now) old c.give_blocks.new.self
     (c.give_blocks.ensures.data ∙ ap (λ (l : FreeBlocks). after_home l old.data) was)
     (c.give_blocks.ensures.pages ∙ ap (λ (l : FreeBlocks). after_home (after_giving l old.data.blocks) old.pages) was)
-    (c.give_blocks.ensures.chain ∙ ap (λ (l : FreeBlocks). kept_of (after_giving l (old.data.blocks ++ old.pages.blocks)) old.chain) was)
+    (c.give_blocks.ensures.chain ∙ ap (λ (l : FreeBlocks). not_taken (after_giving l (old.data.blocks ++ old.pages.blocks)) old.chain) was)
     c.give_blocks.ensures.ino
 
 took : (c : goal.After-give_back-arg-1)

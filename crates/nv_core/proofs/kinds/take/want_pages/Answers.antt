@@ -3,14 +3,14 @@ use Rattle.nv_alloc.specs.declared.hand.Hand.{Hand}
 use Rattle.nv_calls.specs.declared.update.Update.{Update}
 use Rattle.nv_machine.specs.Reads.{pages_wanted, plan_by}
 use Rattle.nv_core.specs.Rooms.{CanWantPages, HasItsBlocks, HasMade, IsChecked, blocks_to_take, pages_to_take}
-use Rattle.nv_core.specs.Shown.{GhostCall, hand_of, shared_of, shown, slots_in}
-use Rattle.nv_core.specs.GhostCalls.{IsChangeWith, IsGhostCallOf}
+use Rattle.nv_core.specs.Shown.{ShownCall, hand_of, shared_of, shown, slots_in}
+use Rattle.nv_core.specs.GhostCalls.{IsChangeWith, IsShownCallOf}
 use Rattle.nv_core.specs.declared.running.Running.{Running}
 use Rattle.nv_core.specs.declared.shared.Shared.{Shared}
 use Rattle.nv_core.proofs.Takes.{none_wanted, over_all, rooms_next, rooms_none, some_wanted, wanted_same}
 use Rattle.nv_core.proofs.kinds.take.want_pages.Goals as goal
 
-same : (shared : Shared) (hand : Hand) (running : Running) (pages : ℕ) (told : GhostCall) → IsGhostCallOf running told
+same : (shared : Shared) (hand : Hand) (running : Running) (pages : ℕ) (told : ShownCall) → IsShownCallOf running told
     → CanWantPages shared hand running
     → IsChangeWith (λ (u : Update). pages ≡ pages_to_take shared (slots_in running.slots) hand u) running.request
     → let s = shared_of shared in let r = shown told running in

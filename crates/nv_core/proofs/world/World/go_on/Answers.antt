@@ -22,17 +22,17 @@ loop-reply-preserved c =
       few = omega (arith, few);
       moved = subst (λ (n : ℕ). Leads (HasMoved n c.args.actor) c.args.self.now c.go.new.self) more
           (moved_more c.args.self.now c.loop-reply.self c.go.new.self (c.args.more - c.loop-reply.left) c.args.actor c.go.result
-          c.in-Moved.is c.loop-reply.invariant.moved c.go.ensures);
+          c.in-Moved.is c.loop-reply.invariant.moved c.go.ensures.step);
     }
 
-pub returns-in_default : goal.returns-in_default
-returns-in_default c =
+pub returns-in_default-clause-goes : goal.returns-in_default-clause-goes
+returns-in_default-clause-goes c =
     goes c.args.self.now c.loop-reply.self c.go.new.self (c.args.more - c.loop-reply.left) c.args.more c.args.actor c.go.result
-    (omega arith) (λ moved. absurd (c.in_default.not-Moved (moved_only c.go.result moved))) c.loop-reply.invariant.moved c.go.ensures
+    (omega arith) (λ moved. absurd (c.in_default.not-Moved (moved_only c.go.result moved))) c.loop-reply.invariant.moved c.go.ensures.step
 
-pub returns-then-left-eq0 : goal.returns-then-left-eq0
-returns-then-left-eq0 c =
+pub returns-then-left-eq0-clause-goes : goal.returns-then-left-eq0-clause-goes
+returns-then-left-eq0-clause-goes c =
     subst (λ (r : Reply). Leads (λ m n. GoesOn (c.args.more + 1) m c.args.actor (reply_of r) n) c.args.self.now c.go.new.self)
     c.in-Moved.is
     (goes c.args.self.now c.loop-reply.self c.go.new.self (c.args.more - c.loop-reply.left) c.args.more c.args.actor c.go.result
-    (omega arith) (λ moved. omega (arith, c.if-left-eq0.true)) c.loop-reply.invariant.moved c.go.ensures)
+    (omega arith) (λ moved. omega (arith, c.if-left-eq0.true)) c.loop-reply.invariant.moved c.go.ensures.step)

@@ -23,7 +23,7 @@ returns-clause-rest c m shows =
     ap (list_any has_call) (sym c.deref.ensures.value) ∙ sym c.if-has_call.ensures in
     let parts : parts_of w.shared ≡ c.into_parts-parts.result =
     ap (λ (v : WorldState). parts_of v.shared) c.self.view_is ∙ sym (c.into_parts-parts.ensures ∙ ap parts_of c.into_shared.ensures) in
-    rests w c.self.invariant none m (subst (λ (v : WorldState). Shows v m) (sym c.self.view_is) shows)
+    rests w c.self.invariant.0 none m (subst (λ (v : WorldState). Shows v m) (sym c.self.view_is) shows)
     ∙ ap at_rest parts
 
 pub returns-clause-judged : goal.returns-clause-judged
@@ -33,7 +33,7 @@ returns-clause-judged c =
     ap (list_any has_call) (sym c.deref.ensures.value) ∙ sym c.if-has_call.ensures in
     let parts : parts_of w.shared ≡ c.into_parts-parts.result =
     ap (λ (v : WorldState). parts_of v.shared) c.self.view_is ∙ sym (c.into_parts-parts.ensures ∙ ap parts_of c.into_shared.ensures) in
-    let is = c.self.invariant.2 in
+    let is = c.self.invariant.0.2 in
     subst (λ (p : Parts). AreJudged p) parts
-    (rested (parts_of w.shared) c.self.invariant.1 (subst (λ (p : Parts). IsOneBook p.book.state) (sym parts) c.use_book.ensures)
-    is.is_start (sym (rests w c.self.invariant none c.self.invariant.0 is.shows) ∙ is.reached))
+    (rested (parts_of w.shared) c.self.invariant.0.1 (subst (λ (p : Parts). IsOneBook p.book.state) (sym parts) c.use_book.ensures)
+    is.is_start is.may (sym (rests w c.self.invariant.0 none c.self.invariant.0.0 is.shows) ∙ is.reached))

@@ -11,7 +11,7 @@ pub returns-clause-judged : goal.returns-clause-judged
 returns-clause-judged c = λ m shows.
     let w : WorldState = record { shared = c.self.inside.shared; actors = c.self.inside.actors.items } in
     let hands : InHands = record { blocks = c.in_ok-blocks.blocks; parts = c.in_ok-parts.parts } in
-    judged w c.self.invariant _ _ hands c.deref-3.ensures.value c.deref-4.ensures.value
+    judged w c.self.invariant.0 _ _ hands c.deref-3.ensures.value c.deref-4.ensures.value
     (c.in_ok-parts.ensures ∙ ap (λ (xs : List Actor). flat_map parts_by xs) c.deref-2.ensures.value)
     (c.in_ok-blocks.ensures ∙ ap (λ (xs : List Actor). flat_map blocks_by xs) c.deref.ensures.value)
     c.audit.result c.audit.ensures.ok m (subst (λ (v : WorldState). Shows v m) (sym c.self.view_is) shows)
@@ -20,7 +20,7 @@ pub returns-clause-answer : goal.returns-clause-answer
 returns-clause-answer c =
     let w : WorldState = record { shared = c.self.inside.shared; actors = c.self.inside.actors.items } in
     let hands : InHands = record { blocks = c.in_ok-blocks.blocks; parts = c.in_ok-parts.parts } in
-    told w c.self.invariant _ _ hands c.deref-3.ensures.value c.deref-4.ensures.value
+    told w c.self.invariant.0 _ _ hands c.deref-3.ensures.value c.deref-4.ensures.value
     (c.in_ok-parts.ensures ∙ ap (λ (xs : List Actor). flat_map parts_by xs) c.deref-2.ensures.value)
     (c.in_ok-blocks.ensures ∙ ap (λ (xs : List Actor). flat_map blocks_by xs) c.deref.ensures.value)
     c.audit.result c.audit.ensures.err

@@ -10,14 +10,14 @@ use Rattle.nv_core.proofs.world.World.snap_tree_to.Goals as goal
 pub tree_at_to-requires-clause-can : goal.tree_at_to-requires-clause-can
 tree_at_to-requires-clause-can g c =
     let w : WorldState = record { shared = c.self.inside.shared; actors = c.self.inside.actors.items } in
-    can_show w c.self.invariant c.args.snapshot
+    can_show w c.self.invariant.0 c.args.snapshot
     (subst (λ (s : Snapshots). Contains (ids s) c.args.snapshot) c.snaps.ensures.snaps
     (c.has.ensures.lives.0 c.if-not-has.false))
 
 pub tree_at_to-requires-clause-settled : goal.tree_at_to-requires-clause-settled
 tree_at_to-requires-clause-settled g c =
     let w : WorldState = record { shared = c.self.inside.shared; actors = c.self.inside.actors.items } in
-    settled_then w c.self.invariant c.args.snapshot
+    settled_then w c.self.invariant.0 c.args.snapshot
     (subst (λ (s : Snapshots). Contains (ids s) c.args.snapshot) c.snaps.ensures.snaps
     (c.has.ensures.lives.0 c.if-not-has.false))
 

@@ -11,12 +11,12 @@ use Rattle.nv_core.proofs.world.World.space.Goals as goal
 pub picked_blocks-picked-requires : goal.picked_blocks-picked-requires
 picked_blocks-picked-requires c =
     let w : WorldState = record { shared = c.self.inside.shared; actors = c.self.inside.actors.items } in
-    omega (arith, ap (λ (l : List Actor). length l) c.deref.ensures.value, few_actors w c.self.invariant)
+    omega (arith, ap (λ (l : List Actor). length l) c.deref.ensures.value, few_actors w c.self.invariant.0)
 
 pub space-requires-clause-blocks : goal.space-requires-clause-blocks
 space-requires-clause-blocks c =
     let w : WorldState = record { shared = c.self.inside.shared; actors = c.self.inside.actors.items } in
-    world_adds_up w c.self.invariant
+    world_adds_up w c.self.invariant.0
 
 pub space-requires-clause-few : goal.space-requires-clause-few
 space-requires-clause-few c =
@@ -24,14 +24,14 @@ space-requires-clause-few c =
     omega (
       arith,
       ap (λ (l : List Actor). length l) c.deref.ensures.value,
-      few_actors w c.self.invariant,
+      few_actors w c.self.invariant.0,
       c.picked_blocks-picked.ensures.few,
     )
 
 pub space-requires-clause-pending : goal.space-requires-clause-pending
 space-requires-clause-pending c =
     let w : WorldState = record { shared = c.self.inside.shared; actors = c.self.inside.actors.items } in
-    pending_fits w c.picked_blocks-picked.result c.self.invariant
+    pending_fits w c.picked_blocks-picked.result c.self.invariant.0
     (c.picked_blocks-picked.ensures.value ∙ ap (sum_by picked_of) c.deref.ensures.value)
 
 pub returns-clause-places : goal.returns-clause-places
@@ -47,6 +47,6 @@ returns-clause-all c =
     let picked = c.picked_blocks-picked.ensures.value ∙ ap (sum_by picked_of) c.deref.ensures.value in
     rw c.space.ensures (
     all_spaced w.shared.geometry.numbers.blocks (block_count w.shared.book.state.deferred + c.picked_blocks-picked.result)
-    (shared_of w.shared) (world_adds_up w c.self.invariant) (pending_fits w c.picked_blocks-picked.result c.self.invariant picked)
+    (shared_of w.shared) (world_adds_up w c.self.invariant.0) (pending_fits w c.picked_blocks-picked.result c.self.invariant.0 picked)
     ∙ ap (λ (v : WorldState). v.shared.geometry.numbers.blocks) c.self.view_is
     )

@@ -10,9 +10,11 @@ invariant_of-self-2 c =
     let own = c.in-Some.state.now in
     let w : WorldState = record { shared = c.self.inside.shared; actors = c.self.inside.actors.items } in
     let has : HasStarted w own c.args.call c.begin.result c.begin.new.state =
-    record { busy = c.begin.ensures.busy; starts = c.begin.ensures.starts; rooms = c.begin.ensures.rooms } in
-    start_keeps w c.args.actor own c.args.call c.begin.new.state c.begin.result at.3.0 c.self.invariant
-    (subst (λ (a : Actor). HasStarted w a c.args.call c.begin.result c.begin.new.state) (at.3.1 own) has)
+    record { busy = c.begin.ensures.busy; starts = c.begin.ensures.starts; rooms = c.begin.ensures.rooms } in (
+      start_keeps w c.args.actor own c.args.call c.begin.new.state c.begin.result at.3.0 c.self.invariant.0
+          (subst (λ (a : Actor). HasStarted w a c.args.call c.begin.result c.begin.new.state) (at.3.1 own) has),
+      c.self.invariant.1,
+    )
 
 pub returns : goal.returns
 returns c m shows =
@@ -24,4 +26,4 @@ returns c m shows =
     let one = start_steps w m c.args.actor own c.args.call c.begin.new.state c.begin.result
     (subst (λ (v : WorldState). Shows v m) (sym c.self.view_is) shows) at.3.0
     (subst (λ (a : Actor). HasStarted w a c.args.call c.begin.result c.begin.new.state) (at.3.1 own) has) in
-    record { granted = true; reply_is = one.0; shows = one.1 }
+    record { granted = true; told_is = one.0; shows = one.1 }

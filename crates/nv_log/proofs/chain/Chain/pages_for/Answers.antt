@@ -1,4 +1,4 @@
-use Rattle.std.proofs.Common.{◌≡◌, ℕ, ◌+◌, ◌*◌, ◌≤◌, length, vec_len, arith, ap, sym, ◌∙◌, refl}
+use Rattle.std.proofs.Common.{◌≡◌, ℕ, ◌+◌, ◌*◌, ◌≤◌, length, arith, ap, ◌∙◌}
 use Rattle.nv_log.specs.Chain.{growth, room_of}
 use Rattle.nv_log.specs.Fields.{state_in}
 use Rattle.nv_log.proofs.Growth.{most_pages, none_more, taken_more}

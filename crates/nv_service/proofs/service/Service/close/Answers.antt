@@ -3,7 +3,7 @@ use Rattle.std.proofs.lemmas.List.{length-map}
 use Rattle.nv_base.specs.declared.geometry.Geometry.{Geometry}
 use Rattle.nv_core.specs.declared.parts.Parts.{Parts}
 use Rattle.nv_service.specs.Opening.{blocks_in}
-use Rattle.nv_service.specs.Rests.{AreInPlace, told_of}
+use Rattle.nv_service.specs.Rests.{AreInPlace, cell_told}
 use Rattle.nv_service.specs.Seats.{AreSeats}
 use Rattle.nv_service.specs.Sessions.{SessionValue}
 use Rattle.nv_service.specs.Snapped.{AreSnapped}
@@ -40,7 +40,7 @@ pub returns-in-Ok-world_of-clause-versions : goal.returns-in-Ok-world_of-clause-
 returns-in-Ok-world_of-clause-versions g c =
     let made = c.in-Ok-world_of.ensures in
     not_older g.C.Commits.opened [] c.apart-parts.result.1.cells.items c.in-Ok-world_of.world.shared.cells.items
-    (c.apart-parts.ensures.cells ∙ ap (λ (p : Parts). map told_of p.cells) (sym made.parts)) (subst AreInPlace c.deref-2.ensures.value made.placed)
+    (c.apart-parts.ensures.cells ∙ ap (λ (p : Parts). map cell_told p.cells) (sym made.parts)) (subst AreInPlace c.deref-2.ensures.value made.placed)
     c.join.ensures.versions
 
 pub returns-in-Ok-world_of-clause-seen : goal.returns-in-Ok-world_of-clause-seen
@@ -48,7 +48,7 @@ returns-in-Ok-world_of-clause-seen g c =
     let made = c.in-Ok-world_of.ensures in
     none_older g.C.Commits.opened c.args.sessions.items c.apart-parts.result.1.cells.items
     c.in-Ok-world_of.world.shared.cells.items
-    (c.apart-parts.ensures.cells ∙ ap (λ (p : Parts). map told_of p.cells) (sym made.parts)) (subst AreInPlace c.deref-2.ensures.value made.placed)
+    (c.apart-parts.ensures.cells ∙ ap (λ (p : Parts). map cell_told p.cells) (sym made.parts)) (subst AreInPlace c.deref-2.ensures.value made.placed)
     c.join.ensures.seen
 
 pub returns-in-Ok-world_of-clause-blocks : goal.returns-in-Ok-world_of-clause-blocks

@@ -1,0 +1,16 @@
+pub mod GoingHome
+pub mod Marked
+pub mod Free
+pub mod OpenedSlots
+pub mod OpenedImages
+pub mod Seen
+pub mod Anew
+pub mod Pushed
+pub mod Wanted
+pub mod Cutting
+pub mod NextCell
+pub mod Staying
+pub mod Handed
+pub mod CellNumbers
+pub mod ListsAnew
+pub mod Puts

@@ -1,0 +1,138 @@
+//! Images that are made of plain values, and let go with their blocks.
+
+use nv_alloc::{Block, BlockQueue, FreeList};
+use nv_audit::{DataBlocks, Image, SlotImage};
+use nv_base::{Gen, Ino};
+use nv_journal::{Journal, OldTail, are_distinct};
+use nv_log::ChainImage;
+use nv_scenes::geometry;
+use smallvec::SmallVec;
+use std::alloc::Global;
+use std::process::Abort;
+
+/// Numbers of blocks that can be made are below this.
+pub const NUMBERS: u64 = 32;
+
+/// A block of a number with these bytes.
+pub fn block(rt: &impl Abort, alloc: Global, number: u64, bytes: &[u8]) -> Block {
+    let mut queue = all_blocks(rt, alloc, bytes.len());
+    for _ in 0..number {
+        let other = queue.take_next().expect(rt, "a block");
+        let _bytes = other.into_bytes();
+    }
+    let mut found = queue.take_next().expect(rt, "a block");
+    queue.dismantle();
+    assert!(rt; found.bytes().len() == bytes.len());
+    found.write(bytes);
+    found
+}
+
+/// All blocks of so many bytes, by rising numbers.
+fn all_blocks(rt: &impl Abort, alloc: Global, size: usize) -> BlockQueue {
+    let device = geometry([NUMBERS, 1, size as u64, 2, 1, 1, 1]).expect(rt, "a geometry");
+    assert!(rt; 0 < device.numbers.cpus);
+    let mut list = FreeList::new(alloc, &device, 0).expect(rt, "memory for a list");
+    let mut queue = BlockQueue::new(alloc, size);
+    queue.reserve(NUMBERS).expect(rt, "memory for blocks");
+    assert!(rt; list.block_bytes() == queue.block_bytes());
+    let _taken = list.take(NUMBERS, &mut queue);
+    list.dismantle();
+    queue
+}
+
+/// A slot without anything, of generation 1.
+pub fn empty_slot(alloc: Global) -> SlotImage {
+    SlotImage {
+        generation: Gen::new(1),
+        chain: ChainImage {
+            pages: Vec::new(alloc),
+            ends: Vec::new(alloc),
+            entries: Vec::new(alloc),
+            tail: 0,
+        },
+        blocks: DataBlocks {
+            places: Vec::new(alloc),
+        },
+    }
+}
+
+/// A journal that has noted the tails of two inodes; a closed one where they are one.
+pub fn journal(rt: &impl Abort, alloc: Global, one: (u64, u64), other: (u64, u64)) -> Journal {
+    let noted = [old_tail(one), old_tail(other)];
+    let tails: SmallVec<OldTail, 4> = SmallVec::from_slice(alloc, noted.as_slice()).expect(
+        rt,
+        "memory for notes",
+    );
+    let mut journal = Journal::new();
+    if tails.len() == 2 && are_distinct(tails.as_slice()) {
+        journal.open(&tails);
+    }
+    journal
+}
+
+fn old_tail((ino, tail): (u64, u64)) -> OldTail {
+    OldTail {
+        ino: Ino::new(ino),
+        tail,
+    }
+}
+
+/// Lets an image go, with its blocks.
+pub fn dismantle(image: Image) {
+    let Image {
+        geometry: _,
+        slots,
+        journals: _,
+        snapshots: _,
+        epoch: _,
+        commit: _,
+    } = image;
+    dismantle_slots(slots);
+}
+
+fn dismantle_slots(mut slots: Vec<SlotImage>) {
+    while let Some(slot) = slots.pop() {
+        dismantle_slot(slot);
+    }
+    slots.destroy_empty();
+}
+
+pub fn dismantle_slot(slot: SlotImage) {
+    let SlotImage {
+        generation: _,
+        chain,
+        blocks,
+    } = slot;
+    dismantle_chain(chain);
+    dismantle_data(blocks);
+}
+
+fn dismantle_chain(chain: ChainImage) {
+    let ChainImage {
+        mut pages,
+        ends: _,
+        entries: _,
+        tail: _,
+    } = chain;
+    while let Some(page) = pages.pop() {
+        let _bytes = page.into_bytes();
+    }
+    pages.destroy_empty();
+}
+
+fn dismantle_data(blocks: DataBlocks) {
+    let DataBlocks { mut places } = blocks;
+    while let Some(place) = places.pop() {
+        dismantle_place(place);
+    }
+    places.destroy_empty();
+}
+
+pub fn dismantle_place(place: Option<Block>) {
+    match place {
+        Some(block) => {
+            let _bytes = block.into_bytes();
+        }
+        None => {}
+    }
+}
