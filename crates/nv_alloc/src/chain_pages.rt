@@ -47,7 +47,7 @@ impl ChainPages {
     }
 
     /// What holds of all pages: they fit in memory. Costs nothing.
-    pub(crate) fn use_invariant(&self)
+    pub(crate) fn fits_in_memory(&self)
         ensures { length self.now < 2 ^ 62 }
     {
         fit_in_memory(&self.blocks);

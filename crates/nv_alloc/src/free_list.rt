@@ -117,6 +117,14 @@ impl FreeList {
         self.count
     }
 
+    /// What holds of each list: its free blocks rise, and each is at home. Costs nothing.
+    pub fn rises(&self)
+        // What holds of each free list is told.
+        ensures { IsFreeList self.now }
+    {
+        let _count = self.len();
+    }
+
     /// Whether no block is free.
     pub fn is_empty(&self) -> bool
         // Whether a list is empty, is home of a number, or has it, is told.
@@ -141,8 +149,7 @@ impl FreeList {
         // Whether a list has a CPU's home range and a device's blocks is told.
         ensures { IsTrue result ↔ IsHomeList geometry.now.numbers cpu self.now }
     {
-        // It tells that the free blocks rise, and that each is at home.
-        let _count = self.len();
+        self.rises();
         let end = self.start + self.slots.len() as u64;
         self.start == geometry.home_start(cpu)
             && end == geometry.home_start(cpu + 1)
@@ -250,12 +257,11 @@ impl FreeList {
         ensures lawful { IsFreeList self.new }
     {
         if !self.has(number) {
-            // It tells that the free blocks rise, and that each is at home.
-            let _count = self.len();
+            self.rises();
             return None;
         }
         let block = self.take_block(number);
-        let _left = self.len();
+        self.rises();
         Some(block)
     }
 
@@ -281,8 +287,7 @@ impl FreeList {
         ensures lawful { IsFreeList self.new }
     {
         self.give(block);
-        // It tells that the free blocks rise, and that each is at home.
-        let _count = self.len();
+        self.rises();
     }
 
     /// Takes the list apart with all its blocks: for the owner of a whole device that is let go.

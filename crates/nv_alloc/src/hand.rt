@@ -56,9 +56,9 @@ impl Hand {
         ensures { result ≡ length (blocks_of self.now) }
     {
         // Blocks take memory, so that their number is far below that of a u64.
-        self.data.use_invariant();
-        self.pages.use_invariant();
-        self.chain.use_invariant();
+        self.data.fits_in_memory();
+        self.pages.fits_in_memory();
+        self.chain.fits_in_memory();
         self.data.len() + self.pages.len() + self.chain.len()
     }
 

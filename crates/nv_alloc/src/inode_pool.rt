@@ -93,6 +93,14 @@ impl InodePool {
         self.count
     }
 
+    /// What holds of each pool: its free numbers rise. Costs nothing.
+    pub fn rises(&self)
+        // What holds of each pool is told.
+        ensures { IsPool self.now }
+    {
+        let _free = self.len();
+    }
+
     /// Whether no inode number is free.
     pub fn is_empty(&self) -> bool
         // Whether a pool is empty, knows a number, or has it free, is told.

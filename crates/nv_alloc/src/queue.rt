@@ -84,6 +84,14 @@ impl BlockQueue {
         self.size
     }
 
+    /// What holds of each queue: its blocks have as many bytes as it tells. Costs nothing.
+    pub fn keeps_its_size(&self)
+        // All blocks of a queue have as many bytes as it tells.
+        ensures { AreSized self.now.size self.now.blocks }
+    {
+        let _size = self.block_bytes();
+    }
+
     /// How many blocks are held.
     pub fn len(&self) -> u64
         ensures { result ≡ length self.now.blocks }
@@ -92,7 +100,7 @@ impl BlockQueue {
     }
 
     /// What holds of each queue: its blocks fit in memory. Costs nothing.
-    pub(crate) fn use_invariant(&self)
+    pub(crate) fn fits_in_memory(&self)
         ensures { length self.now.blocks < 2 ^ 62 }
     {
         fit_in_memory(&self.blocks);

@@ -53,8 +53,7 @@ fn push_free(numbers: &mut Vec<BlockNo>, list: &FreeList) -> Result<(), AllocErr
     ensures { OnOk result (numbers.new.items
         ≡ numbers.old.items ++ numbers_of list.now.blocks) }
 {
-    // It tells that the blocks rise, so that they are those of the runs.
-    let _count = list.len();
+    list.rises();
     for run in list.runs() {
         push_run(numbers, run)?;
     }

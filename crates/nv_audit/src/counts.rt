@@ -34,7 +34,7 @@ pub fn are_counted(
     ensures err { FailsOnly out_of_memory result }
 {
     // The marks of a cell tell at all times which parts are current, so that no live entry is counted once more.
-    cell.use_invariant();
+    cell.holds_together();
     let parts = retained_parts(alloc, retention, cell)?;
     let entries = marked_entries(alloc, cell.log().log(), &parts)?;
     Ok(are_valid_as(cell, &entries))
@@ -60,7 +60,7 @@ fn marked_on(cell: &InodeCell, entries: &[bool], page: usize) -> usize
     ensures { result ≡ marked_on cell.now.state entries.now page }
 {
     // A cell's log is a chain.
-    cell.use_invariant();
+    cell.holds_together();
     let chain = cell.log();
     let start = chain.page_start(page).min(entries.len());
     let count = chain.page_end(page).min(entries.len()) - start;

@@ -94,7 +94,7 @@ fn is_record_of(
     ensures { IsTrue result ↔ IsRecordOf (ids snaps.now) cell.now.state record.now }
 {
     // The log is one, so that each part has a name of its own.
-    cell.use_invariant();
+    cell.holds_together();
     match pair_named(cell, parts, deaths, part_of(record)) {
         Some(pair) => tells_of(snaps, record, &pair),
         None => false,
@@ -115,8 +115,7 @@ fn part_of(record: &Record) -> PartId
 fn tells_of(snaps: &SnapList, record: &Record, pair: &Pair) -> bool
     ensures { IsTrue result ↔ TellsOf (ids snaps.now) record.now pair.now }
 {
-    // It tells that the numbers of the living snapshots rise.
-    let _epoch = snaps.epoch();
+    snaps.rises();
     match pair.death {
         Some(death) => {
             record.birth == pair.birth
@@ -246,7 +245,7 @@ fn number_at(cell: &InodeCell, parts: &KeptParts, found: FoundPart) -> usize
     ensures within { result < length cell.now.state.marks }
 {
     // Each part has a mark, and so many there are.
-    cell.use_invariant();
+    cell.holds_together();
     let _count = parts.left.len();
     parts.firsts[found.entry] + found.place as usize
 }
@@ -272,7 +271,7 @@ pub(crate) fn kept_parts(alloc: Global, cell: &InodeCell) -> Result<KeptParts, A
     ensures left { IfOk result (λ parts. parts.left.items ≡ map is_marked_as_kept cell.now.state.marks) }
 {
     // The chain is one, so that its tail is no further than its entries; and each part has a mark.
-    cell.use_invariant();
+    cell.holds_together();
     let mut parts = KeptParts {
         firsts: Vec::new(alloc),
         left: Vec::new(alloc),

@@ -139,8 +139,7 @@ fn is_of_directory(block: u64, item: &Item) -> bool
     let _block = block;
     match item {
         Item::Bind { name, .. } | Item::Unbind { name } => {
-            // The bytes of a name are lawful.
-            let _bytes = name.bytes();
+            name.has_lawful_bytes();
             true
         }
         Item::SetMode { .. } | Item::Gone => true,

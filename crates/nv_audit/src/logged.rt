@@ -54,7 +54,7 @@ impl<'a> Logged<'a> {
     pub fn of(cell: &'a InodeCell) -> Logged<'a>
         ensures { result ≡ logged cell.now.state }
     {
-        cell.use_invariant();
+        cell.holds_together();
         Logged::new(cell.block_bytes(), cell.generation(), cell.log().log())
     }
 

@@ -19,8 +19,7 @@ pub fn is_pool_of(geometry: &Geometry, cells: &[InodeCell], pool: &InodePool) ->
     // The number of a withheld slot is in no pool that passes.
     ensures { IsTrue result ↔ IsPoolOf geometry.now.numbers (states_of cells.now) pool.now }
 {
-    // It tells that the numbers rise.
-    let _free = pool.len();
+    pool.rises();
     pool.made_for(geometry) && are_unused(geometry.numbers.inodes, cells, pool)
 }
 

@@ -179,7 +179,7 @@ fn has_index(alloc: Global, cell: &InodeCell) -> Result<bool, Fault>
     ensures err { FailsOnly out_of_memory result }
 {
     // The cell is one.
-    cell.use_invariant();
+    cell.holds_together();
     if !ends_at_tail(cell) {
         return Ok(false);
     }
@@ -202,7 +202,7 @@ fn have_records(
         ↔ HaveRecords (states_of cells.now) book.now.state) }
     ensures err { FailsOnly out_of_memory result }
 {
-    use_book(book);
+    book_holds_together(book);
     if !is_at_rest(book) {
         return Ok(false);
     }
@@ -218,12 +218,11 @@ fn have_records(
 }
 
 /// What holds of each book.
-fn use_book(book: &Book)
+fn book_holds_together(book: &Book)
     ensures { IsOneBook book.now.state }
 {
-    // The snapshots tell that their numbers rise and that records are filed, the last commit that it fits.
-    let _epoch = book.snaps().epoch();
-    let _commit = book.commit();
+    book.snaps().rises();
+    book.keeps_its_limit();
 }
 
 /// Whether no cell has a part that is marked killed, or anything later than the book.

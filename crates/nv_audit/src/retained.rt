@@ -32,7 +32,7 @@ pub(crate) fn retained_parts(
     ensures err { FailsOnly out_of_memory result }
 {
     // The log is one, so that each part has a name of its own.
-    cell.use_invariant();
+    cell.holds_together();
     let logged = Logged::of(cell);
     let deaths = deaths_in(alloc, &logged)?;
     let mut parts = needed_parts(alloc, retention.snapshots, &logged, &deaths)?;

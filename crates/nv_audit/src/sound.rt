@@ -93,7 +93,7 @@ fn are_zeros_past(cell: &InodeCell) -> bool
     ensures { IsTrue result ↔ AreZerosPast cell.now.state }
 {
     // Each page that the log gives is there, with all its bytes.
-    cell.use_invariant();
+    cell.holds_together();
     let block = cell.block_bytes();
     let size = cell.size();
     let last = size / block;

@@ -88,6 +88,16 @@ impl Geometry {
         cpu * self.numbers.blocks / self.numbers.cpus
     }
 
+    /// What holds of each home range: it ends within the device. Costs nothing.
+    pub fn home_ends_within(&self, cpu: u64)
+        requires { cpu < self.now.numbers.cpus }
+        // A CPU's home range ends within the device.
+        ensures { home_start self.now.numbers.blocks self.now.numbers.cpus (cpu + 1)
+            ≤ self.now.numbers.blocks }
+    {
+        let _end = self.home_start(cpu + 1);
+    }
+
     /// The CPU whose home range has this block: the list that the block always goes back to.
     pub fn home_of(&self, block: BlockNo) -> u64
         requires { block < self.now.numbers.blocks }

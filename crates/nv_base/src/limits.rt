@@ -1,6 +1,6 @@
 //! The limits that hold for every geometry, call and name.
 
-ghost use Rattle.std.specs.Prelude.{◌≡◌, ◌≤◌, ◌↔◌, ◌^◌, IsTrue, max, min};
+ghost use Rattle.std.specs.Prelude.{◌≡◌, ◌^◌, max, min};
 ghost use Rattle.nv_base.specs.declared.limits.TheConstants.{ACTORS, BLOCKS, BLOCK_BYTES, CPUS, DRAIN, FILE_PAGES, INODES, LEAST_BLOCKS, LEAST_PAGE_ENTRIES, LOCK_ROUNDS, MODE, NAME_BYTES, NUMBER, PAGE_ENTRIES, PINS, SNAPS, WRITE_PAGES};
 
 /// The most bytes of a block.
@@ -76,14 +76,6 @@ pub fn limits_have_their_values()
     ensures drain { DRAIN ≡ 2 ^ 20 }
     ensures number { NUMBER ≡ 2 ^ 62 }
 {}
-
-/// Whether a call with so many failed rounds is contended.
-pub fn is_contended(failed_rounds: u64) -> bool
-    // A call is contended after `LOCK_ROUNDS` failed rounds.
-    ensures { IsTrue result ↔ (LOCK_ROUNDS ≤ failed_rounds) }
-{
-    failed_rounds >= LOCK_ROUNDS
-}
 
 /// How many records a drain of this number releases at most: a number outside 1 to [`DRAIN`] counts as the
 /// nearest of these.

@@ -78,6 +78,14 @@ impl Name {
     {
         &self.bytes
     }
+
+    /// What holds of each name: its bytes are lawful. Costs nothing.
+    pub fn has_lawful_bytes(&self)
+        // The bytes of each name are lawful.
+        ensures { IsTrue (is_lawful_name self.now) }
+    {
+        let _bytes = self.bytes();
+    }
 }
 
 /// A copy of the bytes on the heap.

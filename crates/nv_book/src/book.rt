@@ -213,8 +213,7 @@ impl Book {
     {
         laws::holders_are_told_by_the_list();
         laws::pins_stay_with_their_snapshot();
-        // It tells that the numbers of the living snapshots rise.
-        let _epoch = self.snaps.epoch();
+        self.snaps.rises();
         let Some(s) = self.snaps.youngest_in(killed.birth, killed.death) else {
             return Retired::Free;
         };
@@ -300,8 +299,7 @@ impl Book {
     {
         laws::pins_stay_with_their_snapshot();
         crate::laws::dropping_files();
-        // It tells that the numbers of the living snapshots rise.
-        let _epoch = self.snaps.epoch();
+        self.snaps.rises();
         let older = self.snaps.older(s);
         let place = self.snaps.place(s);
         self.snaps.remove(s)?;
@@ -417,8 +415,7 @@ impl Book {
             ≡ map (λ s. held_of s now.manifests) (ids now.snaps)) }
         ensures err { FailsOnly out_of_memory result }
     {
-        // It tells that the numbers of the living snapshots rise.
-        let _epoch = self.snaps.epoch();
+        self.snaps.rises();
         self.store.held_by_each(alloc)
     }
 
@@ -429,8 +426,7 @@ impl Book {
             gain_of s (next_older (ids self.now.state.snaps) s) self.now.state.manifests }
     {
         laws::pins_stay_with_their_snapshot();
-        // It tells that the numbers of the living snapshots rise.
-        let _epoch = self.snaps.epoch();
+        self.snaps.rises();
         let older = self.snaps.older(s);
         let Some(place) = self.snaps.place(s) else {
             return 0;
@@ -531,6 +527,14 @@ impl Book {
         ensures fits { result ≤ NUMBER }
     {
         self.commit
+    }
+
+    /// What holds of each book: the number of its last commit is none above the limit. Costs nothing.
+    pub fn keeps_its_limit(&self)
+        // The number of the last commit is none above the limit.
+        ensures { self.now.state.commit ≤ NUMBER }
+    {
+        let _commit = self.commit();
     }
 
     /// How many records may be retired without memory.

@@ -169,7 +169,7 @@ module _ (block : ℕ) (nodes : Handle → Option NodeCopy) (taken : Allocation)
   all_apart (call.Stat handle) h r = few_none
   all_apart (call.List dir) h r = few_none
   all_apart (call.Lookup dir name) h r = few_none
-  all_apart (call.Maintenance c) h r = few_none
+  all_apart (call.SnapshotOrCleaner c) h r = few_none
   all_apart (call.Unlink dir name) h r =
       let both = both_passed (lookup_refusal nodes dir name) _ h in
       unlink_apart dir name (found nodes dir name) (look_passed nodes dir name both.0).0 both.1
@@ -200,7 +200,7 @@ few_apart bytes block slots taken c h r =
     is_new (call.Stat handle) r = tt
     is_new (call.List dir) r = tt
     is_new (call.Lookup dir name) r = tt
-    is_new (call.Maintenance c) r = tt
+    is_new (call.SnapshotOrCleaner c) r = tt
     is_new (call.Unlink dir name) r = tt
     is_new (call.Rmdir dir name) r = tt
     is_new (call.Rename from old to new) r = tt

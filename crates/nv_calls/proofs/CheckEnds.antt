@@ -1,16 +1,14 @@
 -- How the tests of a check end a call.
-use Rattle.std.proofs.Common.{◌≡◌, ℕ, ◌&&◌, ◌||◌, ◌==◌, ◌∙◌, Bool, true, false, not, List, [], ◌∷◌, length, Option, Some, None, refl, ap, ap₂, sym}
+use Rattle.std.proofs.Common.{◌≡◌, ℕ, ◌&&◌, ◌||◌, ◌==◌, ◌∙◌, Bool, true, false, not, [], Option, Some, None, refl, ap, ap₂, sym}
 use Rattle.std.specs.Prelude.{is_some, Ok, Err}
 use Rattle.std.specs.Result.{result_err}
 use Rattle.std.proofs.lemmas.Bool.{and_parts, eqb-true, eq-eqb}
-use Rattle.nv_base.specs.Refusals.{IsRefusedBy}
 use Rattle.nv_base.specs.declared.fault.Fault.{Fault}
 use Rattle.nv_base.specs.declared.fault.Fault.TheVariants as fault
 use Rattle.nv_base.specs.declared.numbers.Handle.{Handle}
-use Rattle.nv_cell.specs.Cell.{CellValue}
 use Rattle.nv_entry.specs.declared.node.NodeCopy.{NodeCopy}
 use Rattle.nv_calls.specs.AllCalls.{early, is_nothing, late, looked, refusal}
-use Rattle.nv_calls.specs.Checked.{check_ends, check_refusal, ends_over, overtaken_refusal, refusal_by, same_found, same_looked}
+use Rattle.nv_calls.specs.Checked.{check_ends, check_refusal, ends_over, refusal_by, same_found, same_looked}
 use Rattle.nv_calls.specs.Nodes.{nodes_in}
 use Rattle.nv_calls.specs.Plain.{same_handle}
 use Rattle.nv_calls.specs.Prepared.{makes}
@@ -51,13 +49,6 @@ looked_is a b h =
     ap₂ (λ (first second : Option Handle). let made : LookupResult = record { first = first; second = second } in made)
     (found_is a.first b.first parts.0) (found_is a.second b.second parts.1)
 
--- names that lead elsewhere are not those of the looks
-anew : (now before : LookupResult) → (now ≡ before → ⊥) → same_looked now before ≡ false
-anew now before other = go (same_looked now before) refl where
-  go : (t : Bool) → same_looked now before ≡ t → t ≡ false
-  go false q = refl
-  go true q = absurd (other (looked_is now before q))
-
 -- ---- by the tests alone
 
 -- one of all refuses, where the names are as they were
@@ -68,18 +59,6 @@ refuses (Ok passed) (Err f) numbered nothing = refl
 refuses (Ok passed) (Ok all) false nothing = refl
 refuses (Ok passed) (Ok all) true true = refl
 refuses (Ok passed) (Ok all) true false = refl
-
--- or one of the early ones, where a name was bound anew
-refuses_anew : (e l : Check) (numbered nothing : Bool) → refusal_by (check_ends e false l numbered nothing)
-    ≡ and_then e (Err fault.Contended)
-refuses_anew (Err f) l numbered nothing = refl
-refuses_anew (Ok passed) l numbered nothing = refl
-
--- where none does, the names are as they were
-passed_by : (e l : Check) (same numbered nothing : Bool) → refusal_by (check_ends e same l numbered nothing) ≡ passes → same ≡ true
-passed_by (Err f) l same numbered nothing h = cc
-passed_by (Ok passed) l false numbered nothing h = cc
-passed_by (Ok passed) l true numbered nothing h = refl
 
 -- ---- over nodes
 
@@ -107,16 +86,6 @@ module _ (block : ℕ) (n : Handle → Option NodeCopy) (before : LookupResult) 
       ∙ ap₂ (λ (l : LookupResult) (lacks : Bool). and_then (and_then (early n c) (late block n l c)) (refuse_if lacks fault.NoInode passes))
       (sym same) (numbered_by (is_some number) (makes u))
 
-  pub overtaken : (looked n c ≡ before → ⊥) → refused ≡ overtaken_refusal n u
-  overtaken other =
-      ap (λ (b : Bool). refusal_by (check_ends (early n c) b (late block n before c) numbered (is_nothing c))) (anew (looked n c) before other)
-      ∙ refuses_anew (early n c) (late block n before c) numbered (is_nothing c)
-
-  -- names of a call that passes lead to what its looks found
-  pub passes_all : refused ≡ passes → looked n c ≡ before
-  passes_all h = looked_is (looked n c) before
-      (passed_by (early n c) (late block n before c) (same_looked (looked n c) before) numbered (is_nothing c) h)
-
 -- with no cells a handle leads nowhere
 pub stale_none : (block : ℕ) (u : Update) → refusal block (nodes_in []) (blank_call u) ≡ Err fault.Stale
 stale_none block (update.Create dir name mode) = refl
@@ -128,12 +97,6 @@ stale_none block (update.Unlink dir name) = refl
 stale_none block (update.Rmdir dir name) = refl
 stale_none block (update.Rename from old to new) = refl
 
-pub stale_by : (block : ℕ) (cells : List (ℕ × CellValue)) (number : Option ℕ) (u : Update) → length cells ≡ 0
-    → check_refusal block (nodes_in cells) number u ≡ Err fault.Stale
-stale_by block (cell ∷ cells) number u none = cc
-stale_by block [] number u none =
-    ap (λ (tests : Check). and_then tests (refuse_if (makes u && not (is_some number)) fault.NoInode passes)) (stale_none block u)
-
 -- a test that passes with others passes alone
 pub passes_first : (test next : Check) → and_then test next ≡ passes → test ≡ passes
 passes_first (Ok passed) next h = refl
@@ -144,7 +107,3 @@ pub passes_both : (test next : Check) → test ≡ passes → result_err next �
 passes_both (Ok passed) (Ok all) h none = refl
 passes_both (Ok passed) (Err f) h none = cc
 passes_both (Err f) next h none = cc
-
--- two refusals by one fault, whatever an answer would be
-pub refused_so : {T : Type 0} {f g : Fault} → (let check : Check = Err f in check) ≡ Err g → IsRefusedBy {T = T} (Err f) g
-refused_so same = cc

@@ -155,7 +155,7 @@ module _ (bytes : ℕ → List ℕ) (block : ℕ) (slots : ℕ → InodeSlot) (n
   is_ready (call.Stat handle) free f = tt
   is_ready (call.List dir) free f = tt
   is_ready (call.Lookup dir name) free f = tt
-  is_ready (call.Maintenance c) free f = tt
+  is_ready (call.SnapshotOrCleaner c) free f = tt
   is_ready (call.Unlink dir name) free f = tt
   is_ready (call.Rmdir dir name) free f = tt
   is_ready (call.Rename from old to new) free f = tt

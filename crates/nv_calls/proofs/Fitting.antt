@@ -71,7 +71,7 @@ few_wanted block nodes present (call.Mode handle mode) h = omega arith
 few_wanted block nodes present (call.Stat handle) h = omega arith
 few_wanted block nodes present (call.List dir) h = omega arith
 few_wanted block nodes present (call.Lookup dir name) h = omega arith
-few_wanted block nodes present (call.Maintenance c) h = omega arith
+few_wanted block nodes present (call.SnapshotOrCleaner c) h = omega arith
 few_wanted block nodes present (call.Unlink dir name) h = omega arith
 few_wanted block nodes present (call.Rmdir dir name) h = omega arith
 few_wanted block nodes present (call.Rename from old to new) h = omega arith
@@ -170,7 +170,7 @@ module _ (block : ℕ) (nodes : Handle → Option NodeCopy) (taken : Allocation)
   plan_fits present (call.Stat handle) h count = tt
   plan_fits present (call.List dir) h count = tt
   plan_fits present (call.Lookup dir name) h count = tt
-  plan_fits present (call.Maintenance c) h count = tt
+  plan_fits present (call.SnapshotOrCleaner c) h count = tt
   plan_fits present (call.Unlink dir name) h count = leave_fits dir name (found nodes dir name)
   plan_fits present (call.Rmdir dir name) h count = leave_fits dir name (found nodes dir name)
   plan_fits present (call.Rename from old to new) h count =

@@ -139,7 +139,7 @@ module _ (block : ℕ) (nodes : Handle → Option NodeCopy) (taken : Allocation)
   keeps_to_its (call.Stat handle) = nothing (call.Stat handle)
   keeps_to_its (call.List dir) = nothing (call.List dir)
   keeps_to_its (call.Lookup dir name) = nothing (call.Lookup dir name)
-  keeps_to_its (call.Maintenance c) = nothing (call.Maintenance c)
+  keeps_to_its (call.SnapshotOrCleaner c) = nothing (call.SnapshotOrCleaner c)
   keeps_to_its (call.Unlink dir name) =
       let bound : Option Handle = found nodes dir name in
       no_blocks (call.Unlink dir name) _ (leave_among dir name bound) (leave_none dir name bound)

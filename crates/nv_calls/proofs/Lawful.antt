@@ -279,7 +279,7 @@ module _ (bytes : ℕ → List ℕ) (block : ℕ) (slots : ℕ → InodeSlot) (s
   plan_good (call.Stat handle) h r = tt
   plan_good (call.List dir) h r = tt
   plan_good (call.Lookup dir name) h r = tt
-  plan_good (call.Maintenance c) h r = tt
+  plan_good (call.SnapshotOrCleaner c) h r = tt
   plan_good (call.Unlink dir name) h r =
       let both = both_passed (lookup_refusal nodes dir name) _ h in
       let d = look_passed nodes dir name both.0 in

@@ -63,7 +63,7 @@ module _ (block : ℕ) (nodes : Handle → Option NodeCopy) (taken : Allocation)
   told_nothing (call.Stat handle) h = nothing (call.Stat handle) refl refl refl
   told_nothing (call.List dir) h = nothing (call.List dir) refl refl refl
   told_nothing (call.Lookup dir name) h = nothing (call.Lookup dir name) refl refl refl
-  told_nothing (call.Maintenance c) h = nothing (call.Maintenance c) refl refl refl
+  told_nothing (call.SnapshotOrCleaner c) h = nothing (call.SnapshotOrCleaner c) refl refl refl
   told_nothing (call.Unlink dir name) h =
       let both = both_passed (lookup_refusal nodes dir name) _ h in
       let some = leaves dir name (found nodes dir name) _ both.1 in

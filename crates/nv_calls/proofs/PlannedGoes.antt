@@ -88,7 +88,7 @@ one_goes block nodes taken (call.Mode handle mode) = record { ino = 0; only = (Î
 one_goes block nodes taken (call.Stat handle) = none_go
 one_goes block nodes taken (call.List dir) = none_go
 one_goes block nodes taken (call.Lookup dir name) = none_go
-one_goes block nodes taken (call.Maintenance c) = none_go
+one_goes block nodes taken (call.SnapshotOrCleaner c) = none_go
 one_goes block nodes taken (call.Unlink dir name) = leave_goes dir name (found nodes dir name)
 one_goes block nodes taken (call.Rmdir dir name) = leave_goes dir name (found nodes dir name)
 one_goes block nodes taken (call.Rename from old to new) =

@@ -160,7 +160,7 @@ module _ (block : ℕ) (nodes : Handle → Option NodeCopy) (taken : Allocation)
   all_held (call.Stat handle) h made = tt
   all_held (call.List dir) h made = tt
   all_held (call.Lookup dir name) h made = tt
-  all_held (call.Maintenance c) h made = tt
+  all_held (call.SnapshotOrCleaner c) h made = tt
   all_held (call.Unlink dir name) h made =
       let both = both_passed (lookup_refusal nodes dir name) _ h in
       leave_all dir name (found nodes dir name) _ (directory dir (look_passed nodes dir name both.0).0)

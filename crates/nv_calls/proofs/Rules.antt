@@ -183,7 +183,7 @@ module _ (block : ℕ) (nodes : Handle → Option NodeCopy) where
   by_rules (call.Unlink dir name) = unlink_first dir name (kind_of (nodes dir)) _ _ refl refl refl
   by_rules (call.Rmdir dir name) = rmdir_first dir name (kind_of (nodes dir)) _ _ refl refl refl
   by_rules (call.Rename from old to new) = rename_first from old to new (kind_of (nodes from)) _ _ refl refl refl
-  by_rules (call.Maintenance c) = refl
+  by_rules (call.SnapshotOrCleaner c) = refl
 
 -- ---- the tests of names
 

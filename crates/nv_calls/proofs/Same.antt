@@ -124,7 +124,7 @@ module _ (block : ℕ) (plain others : Handle → Option PlainNode) (taken : All
         handles = refl;
         wanted = λ present. refl;
       }
-  call_same (call.Maintenance c) h = record {
+  call_same (call.SnapshotOrCleaner c) h = record {
     found = refl;
     early = refl;
     refusal = refl;

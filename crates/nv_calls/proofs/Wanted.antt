@@ -44,7 +44,7 @@ blocks_used bytes block slots nodes taken (call.Mode handle mode) ready = refl
 blocks_used bytes block slots nodes taken (call.Stat handle) ready = refl
 blocks_used bytes block slots nodes taken (call.List dir) ready = refl
 blocks_used bytes block slots nodes taken (call.Lookup dir name) ready = refl
-blocks_used bytes block slots nodes taken (call.Maintenance c) ready = refl
+blocks_used bytes block slots nodes taken (call.SnapshotOrCleaner c) ready = refl
 blocks_used bytes block slots nodes taken (call.Unlink dir name) ready =
     ap length (leave_none block nodes taken dir name (found nodes dir name))
 blocks_used bytes block slots nodes taken (call.Rmdir dir name) ready =

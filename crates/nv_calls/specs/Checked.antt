@@ -57,8 +57,3 @@ refusal_by (Some ends.Answers) = passes
 abbrev pub check_refusal : ℕ → (Handle → Option NodeCopy) → Option ℕ → Update → Check
 check_refusal block nodes number u =
     and_then (refusal block nodes (blank_call u)) (refuse_if (makes u && not (is_some number)) fault.NoInode passes)
-
--- and where one of them leads elsewhere.
--- Else it ends by `overtaken_refusal`: the tests of `look`, then `Contended`.
-abbrev pub overtaken_refusal : (Handle → Option NodeCopy) → Update → Check
-overtaken_refusal nodes u = and_then (early nodes (blank_call u)) (Err fault.Contended)

@@ -46,7 +46,7 @@ handle_of (call.Lookup dir name) = Some dir
 handle_of (call.Unlink dir name) = Some dir
 handle_of (call.Rmdir dir name) = Some dir
 handle_of (call.Rename from old to new) = Some from
-handle_of (call.Maintenance c) = None
+handle_of (call.SnapshotOrCleaner c) = None
 
 -- the handle, where it is to be a file's
 abbrev pub file_of : Call → Option Handle

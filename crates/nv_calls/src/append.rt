@@ -31,12 +31,12 @@ pub(crate) fn add_pages<C: Cells>(cells: &mut C, k: usize, count: usize, pages: 
 {
     for _added in 0..count {
         // Each block of the queue has its size.
-        let _size = pages.block_bytes();
+        pages.keeps_its_size();
         let Some(block) = pages.take_next() else {
             unreachable!()
         };
         // The log is one, so that a page gives as much room as it holds.
-        cells.cell(k).use_invariant();
+        cells.cell(k).holds_together();
         cells.add_page(k, block);
     }
 }
@@ -73,7 +73,7 @@ pub(crate) fn append_to_pages<C: Cells>(
             unreachable!()
         };
         // The log is one, so that the entry comes next in it.
-        cells.cell(k).use_invariant();
+        cells.cell(k).holds_together();
         cells.append(k, entry_of(stamp, next, item), blocks);
         next += 1;
     }

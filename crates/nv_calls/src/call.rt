@@ -1,6 +1,6 @@
 //! The calls.
 
-use crate::MaintenanceCall;
+use crate::SnapshotOrCleanerCall;
 use nv_base::{Bytes, Handle, Mode};
 
 /// A call, on files and directories or on snapshots. Names and texts are plain bytes: a name may be unlawful, and is
@@ -72,5 +72,5 @@ pub enum Call {
         to: Handle,
         new: Bytes,
     },
-    Maintenance(MaintenanceCall),
+    SnapshotOrCleaner(SnapshotOrCleanerCall),
 }

@@ -91,7 +91,7 @@ impl<C: Cells> Nodes for HeldNodes<'_, C> {
             return 0;
         };
         // Each block that the cell has is of the size that it says.
-        cell.use_invariant();
+        cell.holds_together();
         if has_node(cell, file) { cell.size() } else { 0 }
     }
 

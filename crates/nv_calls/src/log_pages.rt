@@ -14,7 +14,7 @@ ghost use Rattle.nv_calls.specs.calls.Rename.{bound_plan};
 
 use crate::calls::rename;
 use crate::looked::{found, look_all};
-use crate::{Cells, HeldNodes, LookupResult, Nodes, Plan, Update};
+use crate::{Cells, HeldNodes, LookupResult, Nodes, Update};
 use nv_alloc::{BlockQueue, Hand};
 use nv_base::{Handle, Ino};
 
@@ -111,22 +111,22 @@ fn begins_run(next: Option<u64>, number: u64) -> bool
     }
 }
 
-/// How many log pages the items of a plan need, with the data blocks and the number of a new inode in the hand, beyond
+/// How many log pages the items of a call need, with the data blocks and the number of a new inode in the hand, beyond
 /// those that the logs of its cells have room in. Takes no memory. Costs the data blocks in the hand, and the look-ups
-/// of the plan.
+/// of its plan.
 /// Only tested: counting the log pages takes no memory.
-pub fn pages_wanted<C: Cells>(cells: &C, plan: &Plan, hand: &Hand) -> u64
-    requires can { CanReady (C.cells cells.now) hand.now plan.now.update }
+pub fn pages_wanted<C: Cells>(cells: &C, update: &Update, hand: &Hand) -> u64
+    requires can { CanReady (C.cells cells.now) hand.now update.now }
     // How many log pages a call takes, with the data blocks and the number in its hand, is told.
     ensures wanted { result ≡ pages_wanted (C.cells cells.now)
-        (planned_by (C.cells cells.now) hand.now plan.now.update) }
+        (planned_by (C.cells cells.now) hand.now update.now) }
     // A call takes at most `MORE_PAGES` log pages more than data blocks.
     ensures few { result ≤ length hand.now.data.blocks + MORE_PAGES }
 {
     let nodes = HeldNodes::new(cells);
     let made = hand.ino().unwrap_or(Ino::new(0));
     let runs = run_count(&hand.data);
-    let entries = entries_of(&nodes, made, runs, &plan.update);
+    let entries = entries_of(&nodes, made, runs, update);
     let mut wanted = 0;
     for (ino, count) in &entries {
         if let Some(cell) = nodes.cell_of(*ino) {

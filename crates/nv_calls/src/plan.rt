@@ -1,31 +1,11 @@
-//! Plans: a call that passed its check, and the items that it appends to the logs of its inodes.
+//! The items that a call appends to the logs of its inodes.
 
 ghost use Rattle.std.specs.Prelude.{◌≡◌, ◌∷◌, [], IfOk};
-ghost use Rattle.nv_calls.specs.AllCalls.{is_nothing};
 ghost use Rattle.nv_calls.specs.Plan.{planned};
-ghost use Rattle.nv_calls.specs.Updates.{blank_call};
 
-use crate::Update;
-use crate::planning::is_nothing;
 use nv_base::{Handle, Items};
 use nv_entry::Item;
 use std::alloc::{AllocError, Global};
-
-/// A call that passed its check.
-#[derive(Debug, Drop)]
-pub struct Plan {
-    pub update: Update,
-}
-
-impl Plan {
-    /// Whether the call appends nothing, so that it is answered at its check.
-    pub fn nothing(&self) -> bool
-        // A plan of a call that commits nothing is told.
-        ensures { result ≡ is_nothing (blank_call self.now.update) }
-    {
-        is_nothing(&self.update)
-    }
-}
 
 /// What a call appends to the log of one inode.
 #[derive(Debug, Drop)]

@@ -16,10 +16,9 @@ ghost use Rattle.nv_calls.specs.Ready.{ArePlaced, need_of};
 ghost use Rattle.nv_calls.specs.Slots.{items_for};
 ghost use Rattle.nv_calls.specs.Steps.{HaveBlocks};
 
-use crate::checked::block_in;
 use crate::planning::plan_items;
 use crate::runs::runs_in;
-use crate::{Allocation, CellCommit, Cells, HeldNodes, InodePlan, Plan, Ready, Update};
+use crate::{Allocation, CellCommit, Cells, HeldNodes, InodePlan, Ready, Update};
 use nv_alloc::Hand;
 use nv_base::{Fault, Gen, Handle, Ino, Items, NoMemory};
 use nv_entry::Item;
@@ -36,6 +35,26 @@ fn made_by<C: Cells>(cells: &C, number: Option<Ino>, update: &Update) -> Option<
         }
         _ => None,
     }
+}
+
+/// The bytes of a block, which are the same for all cells.
+fn block_in<C: Cells>(cells: &C) -> u64
+    requires { length (C.cells cells.now) ≤ 4 }
+    ensures value { result ≡ block_in (C.cells cells.now) }
+    ensures some { 0 < result }
+{
+    if cells.count() == 0 {
+        return 1;
+    }
+    cells.cell(0).block_bytes()
+}
+
+/// What holds of the cells of a call: a block has a byte. Costs nothing.
+fn blocks_have_bytes<C: Cells>(cells: &C)
+    requires { length (C.cells cells.now) ≤ 4 }
+    ensures { 0 < block_in (C.cells cells.now) }
+{
+    let _block = block_in(cells);
 }
 
 /// The items of a call, inode by inode, with the blocks of its hand.
@@ -176,8 +195,7 @@ fn prepare<C: Cells>(
     ensures err { FailsOnly out_of_memory result }
     ensures frame { C.frame cells.new ≡ C.frame cells.old }
 {
-    // A block has a byte.
-    let _block = block_in(cells);
+    blocks_have_bytes(cells);
     let planned = planned_by(alloc, cells, update, made, hand)?;
     let plans = cell_plans(alloc, cells, planned)?;
     ready_cells(cells, &plans)?;
@@ -196,11 +214,11 @@ fn prepare<C: Cells>(
 pub fn ready_on<C: Cells>(
     alloc: Global,
     cells: &mut C,
-    plan: Plan,
+    update: Update,
     hand: Hand,
 ) -> Result<Ready, (Fault, Hand)>
-    requires can { CanReady (C.cells cells.old) hand plan.update }
-    requires pages { HasLogPages (C.cells cells.old) hand plan.update }
+    requires can { CanReady (C.cells cells.old) hand update }
+    requires pages { HasLogPages (C.cells cells.old) hand update }
     // A call is made ready over its cells: its plan's items, cell by cell in rising order.
     // Each cell gets its own items of the plan.
     // The blocks of the hand are maximal block runs in it.
@@ -208,7 +226,7 @@ pub fn ready_on<C: Cells>(
     // The hand has room for the blocks that may be set free.
     // The need is that of all cells together.
     // The handle of a new inode has the generation of its inode slot.
-    ensures ok { IfOk result (λ ready. IsReadyBy (C.cells cells.old) hand plan.update
+    ensures ok { IfOk result (λ ready. IsReadyBy (C.cells cells.old) hand update
         (C.cells cells.new) ready) }
     ensures hand { IfOk result (λ ready. HasNoLessRoom hand ready.hand) }
     // Where a growth is refused, the hand comes back, and nothing has changed except room.
@@ -218,7 +236,6 @@ pub fn ready_on<C: Cells>(
     ensures cells { HaveNoLessRoom (C.cells cells.old) (C.cells cells.new) }
     ensures frame { C.frame cells.new ≡ C.frame cells.old }
 {
-    let Plan { update } = plan;
     let made = made_by(cells, hand.ino(), &update);
     let mut hand = hand;
     let prepared = prepare(alloc, cells, &update, &made, &mut hand);

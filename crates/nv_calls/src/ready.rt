@@ -135,15 +135,6 @@ impl Ready {
         self.plans[j].at
     }
 
-    /// How many entries such a cell gets.
-    pub fn entries_for(&self, j: usize) -> usize
-        requires { j < length self.now.plans }
-        // How many entries a ready call appends to a cell is told.
-        ensures { result ≡ length (plan_at self.now.plans j).items }
-    {
-        self.plans[j].items.len()
-    }
-
     /// For how many records the commit needs room in the book, as [`nv_book::Book::enter`] is told: one for each part
     /// that it may kill.
     pub fn need(&self) -> u64

@@ -8,7 +8,7 @@ ghost use Rattle.nv_calls.specs.FillPages.{asks_by, filled, filled_by, fresh_pag
 ghost use Rattle.nv_calls.specs.Nodes.{HaveBytes, nodes_in, slots_by};
 ghost use Rattle.nv_calls.specs.Prepared.{CanReady, HasLogPages, HasNoLessRoom, HaveNoLessRoom, HoldsTheSame, IsReadyBy};
 
-use crate::{Cells, Plan, Ready, Source, fill, ready_on};
+use crate::{Cells, Ready, Source, Update, fill, ready_on};
 use nv_alloc::Hand;
 use nv_base::Fault;
 use std::alloc::Global;
@@ -23,26 +23,26 @@ use std::alloc::Global;
 pub fn ready_filled<C: Cells, S: Source>(
     alloc: Global,
     cells: &mut C,
-    plan: Plan,
+    update: Update,
     hand: Hand,
     source: &mut S,
 ) -> Result<Ready, (Fault, Hand)>
-    requires can { CanReady (C.cells cells.old) hand plan.update }
-    requires pages { HasLogPages (C.cells cells.old) hand plan.update }
+    requires can { CanReady (C.cells cells.old) hand update }
+    requires pages { HasLogPages (C.cells cells.old) hand update }
     requires failures { S.failed source.old < 2 ^ 64 - 1 }
     // A call is made ready and filled in one, over any source.
-    ensures ok { IfOk result (λ ready. IsReadyBy (C.cells cells.old) hand plan.update
+    ensures ok { IfOk result (λ ready. IsReadyBy (C.cells cells.old) hand update
         (C.cells cells.new) ready) }
     // Its blocks have the bytes of its cells' pages before, with the source's in their places.
     ensures filled { IfOk result (λ ready. ready.hand.data.blocks
-        ≡ filled_by (C.cells cells.old) (S.byte_at source.old) plan.update hand.data) }
+        ≡ filled_by (C.cells cells.old) (S.byte_at source.old) update hand.data) }
     // Where the logs of the cells are sound, these are the pages of the file after the call.
     ensures fresh { (bytes : ℕ → List ℕ)
         → HaveBytes bytes hand.data.size (C.cells cells.old)
         → ((ino : ℕ) → IsSound bytes hand.data.size (slots_by (C.cells cells.old) ino).log)
         → IfOk result (λ ready. ready.hand.data.blocks
         ≡ filled (fresh_pages hand.data.size (nodes_in (C.cells cells.old))
-        (sourced (S.byte_at source.old) plan.update)) hand.data.blocks) }
+        (sourced (S.byte_at source.old) update)) hand.data.blocks) }
     // Where a growth is refused, nothing has changed except room, and the source was not asked.
     // Where the source fails the call is not ready, and the error is `Read`.
     // After such a failure the hand holds what it held, with other bytes in its data blocks.
@@ -54,15 +54,15 @@ pub fn ready_filled<C: Cells, S: Source>(
     ensures text { S.byte_at source.new ≡ S.byte_at source.old }
     // The source is asked for each page once, and for none after a failure.
     ensures asked { OnOk result (S.state source.new ≡ fold S.asked (S.state source.old)
-        (asks_by hand.data.size plan.update (length hand.data.blocks))) }
+        (asks_by hand.data.size update (length hand.data.blocks))) }
     ensures asked_err { OnErr result ((pages : ℕ) × (pages ≤ length hand.data.blocks)
         × (S.state source.new ≡ fold S.asked (S.state source.old)
-        (asks_by hand.data.size plan.update pages))) }
+        (asks_by hand.data.size update pages))) }
     // Of the cells nothing changes except room.
     ensures cells { HaveNoLessRoom (C.cells cells.old) (C.cells cells.new) }
     ensures frame { C.frame cells.new ≡ C.frame cells.old }
 {
-    let mut ready = ready_on(alloc, cells, plan, hand)?;
+    let mut ready = ready_on(alloc, cells, update, hand)?;
     match fill(&mut ready, cells, source) {
         Ok(()) => Ok(ready),
         Err(fault) => Err((fault, ready.into_hand())),

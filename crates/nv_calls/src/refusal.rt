@@ -3,26 +3,12 @@
 ghost use Rattle.std.specs.Prelude.{◌≡◌, ◌<◌, ◌≤◌, IfOk};
 ghost use Rattle.std.specs.Result.{result_err};
 ghost use Rattle.nv_base.specs.declared.limits.TheConstants.{BLOCK_BYTES};
-ghost use Rattle.nv_calls.specs.AllCalls.{early, late, look_refusal};
+ghost use Rattle.nv_calls.specs.AllCalls.{early, late};
 ghost use Rattle.nv_calls.specs.Updates.{blank_call, blocks_taken};
 
 use crate::calls::{create, lookup, mkdir, mode, rename, rmdir, size, unlink, write};
 use crate::{LookupResult, Nodes, Update};
 use nv_base::Fault;
-
-/// Why a call is refused at a look, before it locks: the tests of its first name.
-pub fn check_look<N: Nodes>(nodes: &N, call: &Update) -> Result<(), Fault>
-    // What a look refuses is told.
-    ensures { result ≡ look_refusal (N.nodes_of nodes.now) (blank_call call.now) }
-{
-    match call {
-        Update::Unlink { dir, name } | Update::Rmdir { dir, name } => {
-            lookup::check(nodes, dir, name.as_slice())
-        }
-        Update::Rename { from, old, .. } => lookup::check(nodes, from, old.as_slice()),
-        _ => Ok(()),
-    }
-}
 
 /// Why a call is refused at its check before its names are compared with what the looks found.
 pub fn check_early<N: Nodes>(nodes: &N, call: &Update) -> Result<(), Fault>

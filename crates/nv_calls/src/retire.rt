@@ -65,7 +65,7 @@ fn retire_part<C: Cells>(
         Retired::Kept => cells.retire(k, part),
         Retired::Free => {
             // Each block that the cell has is of the size that it says.
-            cells.cell(k).use_invariant();
+            cells.cell(k).holds_together();
             if let Some(block) = cells.release(k, part) {
                 free.put(block);
             }

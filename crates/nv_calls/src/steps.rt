@@ -55,7 +55,7 @@ pub fn append_on<C: Cells>(cells: &mut C, commit: &mut Commit)
     let pages = cells.cell(k).pages_for(count);
     add_pages(cells, k, pages, &mut commit.hand.pages);
     // The log is one, so that its pages take the entries.
-    cells.cell(k).use_invariant();
+    cells.cell(k).holds_together();
     let mut left = VecDeque::from_vec(items);
     let blocks = &mut commit.hand.data;
     append_to_pages(cells, k, &commit.stamp, commit.place, &mut left, blocks);

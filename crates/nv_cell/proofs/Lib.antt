@@ -65,4 +65,3 @@ pub mod GivenBlocks
 pub mod Holding
 pub mod Scanning
 pub mod PartBlocks
-pub mod EarlierNames

@@ -33,8 +33,7 @@ impl InodeCell {
         ensures ready { (items : List ItemValue) → IsReadyFor items self.old
             → IsReadyFor items self.new }
     {
-        // The chain is one, so that a page gives as much room as it holds.
-        let _ends = self.chain.ends();
+        self.chain.holds_together();
         self.chain.add_page(block);
     }
 
@@ -80,8 +79,8 @@ impl InodeCell {
         } }
     {
         // The chain's pages end where its entries say, and each block in the queue has the queue's size.
-        let _ends = self.chain.ends();
-        let _size = queue.block_bytes();
+        self.chain.holds_together();
+        queue.keeps_its_size();
         let parts = entry.item.part_count() as usize;
         push_slots(&mut self.blocks, &entry.item, queue);
         self.held += pages_added(&entry.item);

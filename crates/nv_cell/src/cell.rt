@@ -110,11 +110,11 @@ impl InodeCell {
     }
 
     /// What holds of each cell: its log is one, and its marks and blocks are those of its parts. Costs nothing.
-    pub fn use_invariant(&self)
+    pub fn holds_together(&self)
         // What holds of each cell is told.
         ensures { IsCell self.now.state }
     {
-        let _ends = self.chain.ends();
+        self.chain.holds_together();
     }
 
     /// The generation of the inode, or in an empty slot that of the next one.
@@ -157,7 +157,7 @@ impl InodeCell {
             → self.new.room.name ≡ self.old.room.name }
     {
         // Ids rise along all entries, so that each part has a name of its own.
-        let _ends = self.chain.ends();
+        self.chain.holds_together();
         let tail = self.chain.tail();
         self.ahead = take_effect(
             &mut self.index,

@@ -106,8 +106,7 @@ pub fn close_parts(
 {
     let mut mark_queue = queue_of(marks);
     let mut slot_queue = queue_of(slots);
-    // The chain is one, so that its tail is no further than its entries.
-    let _ends = chain.ends();
+    chain.holds_together();
     // What the log's slots leave: those past the tail.
     let mut fresh = slot_queue.len();
     for i in 0..chain.tail() {

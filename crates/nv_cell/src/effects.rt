@@ -54,8 +54,7 @@ pub fn apply_all(
 {
     for t in tail..chain.len() {
         let entry = chain.entry_at(t);
-        // No name stands twice in the index, so that it has as many as the log.
-        let _names = index.name_count();
+        index.tells_names_apart();
         push_covered(killed, chain, marks, index, block, &entry.item);
         index.put(block, entry);
     }

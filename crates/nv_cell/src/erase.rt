@@ -38,7 +38,7 @@ impl InodeCell {
         self.entries = 0;
         self.parts = 0;
         // A chain has pages of a lawful size.
-        let _ends = self.chain.ends();
+        self.chain.holds_together();
         let page = self.chain.entries_per_page();
         mem::replace(&mut self.chain, Chain::new(self.alloc, page))
     }

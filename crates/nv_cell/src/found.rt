@@ -36,7 +36,7 @@ impl InodeCell {
         if let Err(fault) = self.ready(&[Item::Init { kind, mode }]) {
             return Err((fault, page));
         }
-        self.use_invariant();
+        self.holds_together();
         self.add_page(page);
         let mut none = BlockQueue::new(self.alloc, self.block as usize);
         self.append(first_entry(kind, mode, epoch), &mut none);

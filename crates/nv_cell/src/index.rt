@@ -134,6 +134,13 @@ impl CellIndex {
         self.names.len()
     }
 
+    /// What holds of each index: no name stands in it twice. Costs nothing.
+    pub fn tells_names_apart(&self)
+        ensures { AreDistinct self.now.names.names }
+    {
+        let _count = self.name_count();
+    }
+
     /// The part of the name at a place, in the order that names have in the index.
     pub fn name_part_at(&self, place: usize) -> Option<PartRef>
         ensures { result ≡ option_map (λ b. name_part b.1) (slice_get self.now.names.names place) }

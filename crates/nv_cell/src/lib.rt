@@ -6,7 +6,6 @@ mod bare;
 mod cell;
 pub mod clean_laws;
 mod closing;
-mod earlier;
 mod effects;
 mod erase;
 mod filling;

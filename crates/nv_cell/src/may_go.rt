@@ -56,7 +56,7 @@ fn hides_left(block: u64, item: &Item, chain: &Chain, stays: Stays<'_>, place: u
     ensures { result ≡ list_any (λ (earlier : Entry). hides block item.now earlier.item)
         (select (take place (flags_of stays.entry chain.now.state)) (log chain.now.state)) }
 {
-    let _ends = chain.ends();
+    chain.holds_together();
     for i in 0..place {
         let earlier = &chain.entry_at(i).item;
         if stays.at(chain, i) && hides(block, item, earlier) {
@@ -72,7 +72,7 @@ fn leaves_last(chain: &Chain, stays: Stays<'_>) -> bool
     ensures { result ≡ slice_index_or (flags_of stays.entry chain.now.state)
         (length (log chain.now.state) - 1) true }
 {
-    let _ends = chain.ends();
+    chain.holds_together();
     let tail = chain.tail();
     tail == 0 || stays.at(chain, tail - 1)
 }
@@ -83,7 +83,7 @@ fn may_go(cell: &InodeCell, stays: Stays<'_>) -> bool
     ensures { IsTrue result ↔ MayGo (flags_of stays.entry cell.now.state.chain) cell.now.state }
 {
     let chain = &cell.chain;
-    let _ends = chain.ends();
+    chain.holds_together();
     for i in 0..chain.tail() {
         let goes = !stays.at(chain, i);
         let item = &chain.entry_at(i).item;

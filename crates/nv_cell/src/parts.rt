@@ -20,8 +20,7 @@ impl InodeCell {
         ensures { result.now ≡ slice_index_or
             (marks_by_entry (log_of self.now.state) self.now.state.marks) entry [] }
     {
-        // The chain is one, so that its tail is no further than its entries.
-        let _ends = self.chain.ends();
+        self.chain.holds_together();
         let first = self.marks.first(entry);
         let end = self.marks.ends.end(entry);
         &self.marks.marks[first..end]
@@ -34,8 +33,7 @@ impl InodeCell {
         // Whether anything keeps a part of an entry is told.
         ensures { result ≡ slice_index_or (there_flags self.now.state) entry false }
     {
-        // The chain is one, so that its tail is no further than its entries.
-        let _ends = self.chain.ends();
+        self.chain.holds_together();
         self.marks.tallies[entry].there > 0
     }
 

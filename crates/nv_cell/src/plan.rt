@@ -173,8 +173,7 @@ impl InodeCell {
           killed = 0;
         } }
     {
-        // It tells that ids rise along all entries.
-        let _ends = chain.ends();
+        chain.holds_together();
         let CellPlan {
             index,
             mut marks,

@@ -62,7 +62,7 @@ impl InodeCell {
         ensures err { IfErr result (λ fault. fault ≡ out_of_memory) }
     {
         // Ids rise along all entries, so that the one of an id stands in the log.
-        let _ends = self.chain.ends();
+        self.chain.holds_together();
         let size = size_of(self.block, &self.chain, &self.index);
         let end = size.min(at.saturating_add(len));
         let start = at.min(end);
@@ -92,7 +92,7 @@ impl InodeCell {
             (λ b. length b.bytes ≡ self.now.state.block) }
     {
         // Ids rise along all entries, so that the one of an id stands in the log.
-        let _ends = self.chain.ends();
+        self.chain.holds_together();
         let page = u64::from(page);
         let mut place = 0;
         let stretch = stretch_from(
@@ -269,7 +269,7 @@ fn stretch_from(
     ensures { IsStretch (page_slot chain.now.state.entries index.now) page result }
 {
     // Ids rise along all entries, so that the one of an id stands in the log.
-    let _ends = chain.ends();
+    chain.holds_together();
     // No page of a file is present from the greatest file's end on.
     let from = page.min(u64::from(FILE_PAGES)) as u32;
     match index.pages.run_near(from, place) {

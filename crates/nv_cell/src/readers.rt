@@ -49,7 +49,7 @@ impl InodeCell {
         ensures most { result ≤ PAGE_ENTRIES }
     {
         // A chain has pages of a lawful size.
-        let _ends = self.chain.ends();
+        self.chain.holds_together();
         self.chain.entries_per_page()
     }
 
@@ -114,21 +114,6 @@ impl InodeCell {
         ensures { result ≡ length self.now.state.chain.entries }
     {
         self.chain.len()
-    }
-
-    /// For how many more entries there is room without memory, on pages that are there or to be added.
-    pub fn entries_room(&self) -> usize
-        // What room is reserved is told.
-        ensures { result ≡ self.now.room.entries }
-    {
-        self.entries
-    }
-
-    /// For how many more parts of entries there is room without memory.
-    pub fn parts_room(&self) -> usize
-        ensures { result ≡ self.now.room.parts }
-    {
-        self.parts
     }
 
     /// How many more pages may be added without memory.

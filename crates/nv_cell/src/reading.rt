@@ -73,8 +73,7 @@ impl InodeCell {
         ensures err { IfErr result (λ fault. fault ≡ out_of_memory) }
     {
         let bindings = self.index.names.list()?;
-        // Ids rise along the log, so that the order of the list is that of the log.
-        let _ends = self.chain.ends();
+        self.chain.holds_together();
         copied(self.alloc, &bindings)
     }
 }
@@ -132,7 +131,7 @@ fn value_by(block: u64, chain: &Chain, part: Option<PartRef>, key: Key<'_>) -> O
     ensures { result ≡ value_now block (log chain.now.state) (key_named key.entry) }
 {
     // Ids rise along all entries, so that the one of this id stands in the log.
-    let _ends = chain.ends();
+    chain.holds_together();
     let entry = chain.entry(part?.entry)?;
     entry.item.setting(block, key).value()
 }

@@ -46,8 +46,7 @@ impl InodeCell {
         ensures last { KeepsTheLast self.old.state self.new.state }
         ensures room { self.new.room ≡ record self.old.room { pages = 0 } }
     {
-        // The chain is one, so that fresh pages are no more than the old ones.
-        let _ends = self.chain.ends();
+        self.chain.holds_together();
         close_parts(
             &mut self.marks.marks,
             &mut self.blocks,
@@ -89,8 +88,7 @@ impl InodeCell {
           room = queue.old.room - length (gone_of stays.now self.old.state.chain.blocks);
         } }
     {
-        // The chain is one, so that each page has an end.
-        let _ends = self.chain.ends();
+        self.chain.holds_together();
         close_parts(
             &mut self.marks.marks,
             &mut self.blocks,

@@ -139,8 +139,7 @@ impl Scan {
         ensures ok { OnOk result (IsScanned block living.now chain.now tail (t + 1) self.new) }
         ensures err { FailsOnly out_of_memory result }
     {
-        // It tells that ids rise along all entries.
-        let _ends = chain.ends();
+        chain.holds_together();
         let entry = chain.entry_at(t);
         // No name stands twice in the index, so that it has as many as the log.
         let names = self.index.name_count();

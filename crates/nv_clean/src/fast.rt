@@ -63,7 +63,7 @@ fn entries_going(cell: &InodeCell, stays: &[bool]) -> usize
     ensures { result ≡ length (entries_of (gone_of stays.now (log_pages cell.now.state.chain))) }
 {
     // The chain is one, so that its pages part its entries.
-    cell.use_invariant();
+    cell.holds_together();
     let chain = cell.log();
     let mut entries = 0;
     for (k, stay) in stays.iter().enumerate() {
@@ -116,7 +116,7 @@ pub fn fast_on(cell: &mut InodeCell, unlinkable: Unlinkable, hand: &mut Hand) ->
     let entries = cell.len();
     let pages = cell.log().blocks().len();
     // What may go is told by the marks of the parts.
-    cell.use_invariant();
+    cell.holds_together();
     cell.remove_pages(&unlinkable.stays, &mut hand.pages);
     Cleaned::since(false, entries, pages, cell)
 }

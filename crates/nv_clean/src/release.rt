@@ -38,7 +38,7 @@ pub fn release_on(cell: &mut InodeCell, picked: Record, hand: &mut Hand)
         part: picked.part,
     };
     // Each block that the cell has is of the size that it says.
-    cell.use_invariant();
+    cell.holds_together();
     if let Some(block) = cell.release(part) {
         hand.data.put(block);
     }

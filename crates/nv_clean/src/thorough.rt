@@ -34,7 +34,7 @@ pub fn wanted(alloc: Global, cell: &InodeCell) -> Result<Wanted, Fault>
     ensures err { FailsOnly out_of_memory result }
 {
     // The chain is one, so that each flag is of an entry that counts.
-    cell.use_invariant();
+    cell.holds_together();
     let stays = entries_staying(alloc, cell)?;
     let entries = cell.log().staying(&stays);
     Ok(Wanted {
@@ -90,7 +90,7 @@ pub fn thorough_on(cell: &mut InodeCell, wanted: Wanted, hand: &mut Hand) -> Cle
     let entries = cell.len();
     let pages = cell.log().blocks().len();
     // The marks are those of the parts, so that what the walk found is what goes.
-    cell.use_invariant();
+    cell.holds_together();
     leave(cell, &wanted, hand);
     Cleaned::since(true, entries, pages, cell)
 }
@@ -110,8 +110,8 @@ fn leave(cell: &mut InodeCell, wanted: &Wanted, hand: &mut Hand)
     ensures hand { hand.new ≡ with_chain wanted.now cell.old.state hand.old }
 {
     // What may go is told by the marks of the parts, and each page has the size that the queue says.
-    cell.use_invariant();
-    let _size = hand.pages.block_bytes();
+    cell.holds_together();
+    hand.pages.keeps_its_size();
     if wanted.is_all() {
         return;
     }

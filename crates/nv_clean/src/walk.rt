@@ -20,7 +20,7 @@ pub(crate) fn entries_staying(alloc: Global, cell: &InodeCell) -> Result<Vec<boo
     ensures { IfOk result (λ stays. stays.items ≡ entries_staying cell.now.state) }
 {
     // The chain is one, so that as many entries count as there are in the log.
-    cell.use_invariant();
+    cell.holds_together();
     let mut stays = Vec::with_capacity(alloc, cell.tail())?;
     let mut cover = Cover::new(alloc);
     for place in 0..cell.tail() {
@@ -38,7 +38,7 @@ pub(crate) fn pages_staying(alloc: Global, cell: &InodeCell) -> Result<Vec<bool>
     ensures { IfOk result (λ stays. stays.items ≡ pages_staying cell.now.state) }
 {
     // The chain is one, so that its pages part its entries.
-    cell.use_invariant();
+    cell.holds_together();
     let chain = cell.log();
     let mut stays = Vec::with_capacity(alloc, chain.ends().len())?;
     let mut cover = Cover::new(alloc);
@@ -63,7 +63,7 @@ fn page_goes(cell: &InodeCell, k: usize, from: usize, to: usize, cover: &Cover<'
         (take (to - from) (drop from (log_of cell.now.state))) (drop to (log_of cell.now.state)) }
 {
     // The chain is one, so that its pages part its entries.
-    cell.use_invariant();
+    cell.holds_together();
     cell.counts(k).valid == 0 && entries_go(cell, from, to, cover)
 }
 
@@ -76,7 +76,7 @@ fn entries_go(cell: &InodeCell, from: usize, to: usize, cover: &Cover<'_>) -> bo
         (take (to - from) (drop from (log_of cell.now.state))) (drop to (log_of cell.now.state)) }
 {
     // The chain is one, so that each entry of the log is one of all.
-    cell.use_invariant();
+    cell.holds_together();
     for place in from..to {
         if !may_go(cell, place, cover) {
             return false;
@@ -96,7 +96,7 @@ fn may_go(cell: &InodeCell, place: usize, cover: &Cover<'_>) -> bool
         (drop (place + 1) (log_of cell.now.state)) }
 {
     // The chain is one, so that each entry of the log is one of all.
-    cell.use_invariant();
+    cell.holds_together();
     let entry = cell.log().entry_at(place);
     is_free(cell, place, &entry.item, cover)
 }
@@ -148,7 +148,7 @@ fn note_all<'a>(
         (before ++ take (to - from) (drop from (log_of cell.now.state))) cover.new) }
 {
     // The chain is one, so that each entry of the log is one of all.
-    cell.use_invariant();
+    cell.holds_together();
     let block = cell.block_bytes();
     for place in from..to {
         cover.add(block, &cell.log().entry_at(place).item)?;

@@ -35,7 +35,7 @@ use Rattle.nv_core.specs.declared.reservation.Reservation.{Reservation}
 use Rattle.nv_core.specs.declared.reservation.Reservation.TheVariants as reserved
 use Rattle.nv_core.specs.declared.next.Next.{Next}
 use Rattle.nv_core.specs.declared.next.Next.TheVariants as next
-use Rattle.nv_core.specs.declared.next.MaintenanceStep.TheVariants as on
+use Rattle.nv_core.specs.declared.next.SnapshotOrCleanerStep.TheVariants as on
 use Rattle.nv_core.specs.declared.running.Running.{Running}
 use Rattle.nv_core.specs.declared.shared.Shared.{Shared}
 use Rattle.nv_core.specs.declared.world.Actor.{Actor}
@@ -171,8 +171,8 @@ no_slot_parts [] = refl
 no_slot_parts (slot ∷ slots) = refl
 
 picks : (k : Next) → picked_by k ≡ map inode_part (picked_at (next_of k))
-picks (next.Maintenance (on.LockPicked draining picked)) = refl
-picks (next.Maintenance (on.Release draining picked)) = refl
+picks (next.SnapshotOrCleaner (on.LockPicked draining picked)) = refl
+picks (next.SnapshotOrCleaner (on.Release draining picked)) = refl
 picks other = refl
 
 append_none : (xs ys : List InodePart) → ys ≡ [] → xs ++ ys ≡ xs

@@ -61,13 +61,13 @@ pub ending_told : (shared : Shared) (slots : List ℕ) (before : LookupResult) (
 ending_told shared slots before number made (request.Change plan text) owed c found change is can ends =
     ap (λ (x : Call). check_ending (early n x) (same_looked (looked n x) before) (refusal shared.geometry.numbers.block n x)
     (is_numbered (beginning x) number) (effect n made x)) is.0
-    ∙ ends_same shared slots plan.update text before (record { made = made; runs = [] }) number can is.1
+    ∙ ends_same shared slots plan text before (record { made = made; runs = [] }) number can is.1
     ∙ sym ends where
       n : Handle → Option NodeCopy
       n = copies (shared_of shared)
 ending_told shared slots before number made (request.Visit visit) owed c found change is can ends = cc
-ending_told shared slots before number made (request.Maintenance on) owed c found change is can ends = cc
-ending_told shared slots before number made request.Given owed c found change is can ends = cc
+ending_told shared slots before number made (request.SnapshotOrCleaner on) owed c found change is can ends = cc
+ending_told shared slots before number made request.Taken owed c found change is can ends = cc
 
 -- and so many blocks are wanted
 pub wanted_by_job : (shared : Shared) (slots : List ℕ) (before : LookupResult) (number : Option ℕ) (wanted : ℕ) (j : Request) (owed : PendingAnswer) (c : Call)
@@ -78,26 +78,26 @@ pub wanted_by_job : (shared : Shared) (slots : List ℕ) (before : LookupResult)
     (has_last_page shared.geometry.numbers.block (shared_of shared) c) c ≡ wanted
 wanted_by_job shared slots before number wanted (request.Change plan text) owed c change is can ends over =
     let block = shared.geometry.numbers.block in
-    let passed = passes_over block (nodes_in (lent_cells slots shared.cells.items)) before (is_some number) plan.update (sym ends) in
+    let passed = passes_over block (nodes_in (lent_cells slots shared.cells.items)) before (is_some number) plan (sym ends) in
     ap (λ (x : Call). blocks_wanted block (copies (shared_of shared)) (has_last_page block (shared_of shared) x) x) is.0
-    ∙ wanted_same shared slots plan.update text before can is.1 passed.same passed.passed
+    ∙ wanted_same shared slots plan text before can is.1 passed.same passed.passed
     ∙ sym over
 wanted_by_job shared slots before number wanted (request.Visit visit) owed c change is can ends over = cc
-wanted_by_job shared slots before number wanted (request.Maintenance on) owed c change is can ends over = cc
-wanted_by_job shared slots before number wanted request.Given owed c change is can ends over = cc
+wanted_by_job shared slots before number wanted (request.SnapshotOrCleaner on) owed c change is can ends over = cc
+wanted_by_job shared slots before number wanted request.Taken owed c change is can ends over = cc
 
 -- whose answer is owed
 pub owed_by : (j : Request) (owed : PendingAnswer) (c : Call) → is_change j ≡ true → IsRequestOf j owed c → IsOwed owed c
 owed_by (request.Change plan text) owed c change is = is.2
 owed_by (request.Visit visit) owed c change is = cc
-owed_by (request.Maintenance on) owed c change is = cc
-owed_by request.Given owed c change is = cc
+owed_by (request.SnapshotOrCleaner on) owed c change is = cc
+owed_by request.Taken owed c change is = cc
 
 pub no_visit : (j : Request) → is_change j ≡ true → IsNoVisit j
 no_visit (request.Change plan text) change = tt
 no_visit (request.Visit visit) change = cc
-no_visit (request.Maintenance on) change = cc
-no_visit request.Given change = tt
+no_visit (request.SnapshotOrCleaner on) change = cc
+no_visit request.Taken change = tt
 
 -- ---- a call that has passed
 
@@ -159,7 +159,7 @@ wants_by_job shared hand new running wanted cells can change number chain ends o
           → IsChangeWith (λ u. HasMade shared slots new made u × IsChecked shared slots new running.looked u
           × (wanted ≡ blocks_to_take shared slots u)) j
       go (request.Change plan text) read has change ends over =
-          let u = plan.update in
+          let u = plan in
           let passed = passes_over shared.geometry.numbers.block (nodes_in lent) running.looked (is_some hand.ino) u (sym ends) in
           let own : HasNumberFor lent (makes u) hand.ino = has_number lent hand.ino u passed.number has in (
             subst (λ (n : Option ℕ). makes u ≡ true → made ≡ unwrap_or (handle_made_by lent n u) no_handle) (sym number)
@@ -182,8 +182,8 @@ wants_by_job shared hand new running wanted cells can change number chain ends o
             over,
           )
       go (request.Visit visit) read has change ends over = cc
-      go (request.Maintenance on) read has change ends over = cc
-      go request.Given read has change ends over = cc
+      go (request.SnapshotOrCleaner on) read has change ends over = cc
+      go request.Taken read has change ends over = cc
 
 -- a check makes no drain go on
 plain_end : (early : Check) (same : Bool) (tests : Check) (numbered nothing : Bool) (how : Ended) (j : Request) (hand : Hand)
@@ -204,5 +204,5 @@ pub drains_by_job : (shared : Shared) (slots : List ℕ) (before : LookupResult)
 drains_by_job shared slots before numbered (request.Change plan text) any how hand change ends =
     plain_end _ _ _ _ _ how any hand (sym ends)
 drains_by_job shared slots before numbered (request.Visit visit) any how hand change ends = cc
-drains_by_job shared slots before numbered (request.Maintenance on) any how hand change ends = cc
-drains_by_job shared slots before numbered request.Given any how hand change ends = cc
+drains_by_job shared slots before numbered (request.SnapshotOrCleaner on) any how hand change ends = cc
+drains_by_job shared slots before numbered request.Taken any how hand change ends = cc

@@ -86,10 +86,10 @@ has_its_blocks shared hand running wanted nil empty room has =
 -- a number that is told of a request
 counted : (f : Update → ℕ) (j : Request) → IsChangeWith (λ u. 0 < f u) j
     → (n : ℕ) × (0 < n) × IsChangeWith (λ u. n ≡ f u) j
-counted f (asked.Change plan text) some = (f plan.update, some, refl)
+counted f (asked.Change plan text) some = (f plan, some, refl)
 counted f (asked.Visit visit) some = elim some [ ]
-counted f (asked.Maintenance on) some = elim some [ ]
-counted f asked.Given some = elim some [ ]
+counted f (asked.SnapshotOrCleaner on) some = elim some [ ]
+counted f asked.Taken some = elim some [ ]
 
 -- one that takes some has room for them
 pub takes_blocks : (shared : Shared) (hand : Hand) (running : Running) (wanted : ℕ) → IsWithinLimits shared.geometry.numbers

@@ -92,7 +92,7 @@ named_read shared slots before (call.Mode handle mode) can = can
 named_read shared slots before (call.Stat handle) can = can
 named_read shared slots before (call.List dir) can = can
 named_read shared slots before (call.Lookup dir name) can = can
-named_read shared slots before (call.Maintenance on) can = can
+named_read shared slots before (call.SnapshotOrCleaner on) can = can
 named_read shared slots before (call.Unlink dir name) can = record { there = can.there; own = can.own; held = (can.held.0, tt) }
 named_read shared slots before (call.Rmdir dir name) can = record { there = can.there; own = can.own; held = (can.held.0, tt) }
 named_read shared slots before (call.Rename from old to new) can =

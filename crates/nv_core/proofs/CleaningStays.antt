@@ -20,8 +20,8 @@ use Rattle.nv_core.specs.declared.next.CompactPlan.{CompactPlan}
 use Rattle.nv_core.specs.declared.next.Ending.{Ending}
 use Rattle.nv_core.specs.declared.next.Next.{Next}
 use Rattle.nv_core.specs.declared.next.Next.TheVariants as next
-use Rattle.nv_core.specs.declared.next.MaintenanceStep.{MaintenanceStep}
-use Rattle.nv_core.specs.declared.next.MaintenanceStep.TheVariants as on
+use Rattle.nv_core.specs.declared.next.SnapshotOrCleanerStep.{SnapshotOrCleanerStep}
+use Rattle.nv_core.specs.declared.next.SnapshotOrCleanerStep.TheVariants as on
 use Rattle.nv_core.specs.declared.shared.Shared.{Shared}
 use Rattle.nv_core.proofs.Nodes.{cell_is}
 
@@ -49,8 +49,8 @@ module _ (old new : Shared) (many : length new.cells.items ≡ length old.cells.
   abbrev Stay : List ℕ → Type 0
   Stay slots = (ino : ℕ) → has slots ino ≡ true → cell_in new.cells.items ino ≡ cell_in old.cells.items ino
 
-  step_room_stays : (step : MaintenanceStep) (hand : Hand)
-      → Stay (held_at (machine.Maintenance (step_on step)) (slots_on (step_on step))) → HasStepRoom step old hand
+  step_room_stays : (step : SnapshotOrCleanerStep) (hand : Hand)
+      → Stay (held_at (machine.SnapshotOrCleaner (step_on step)) (slots_on (step_on step))) → HasStepRoom step old hand
       → HasStepRoom step new hand
   step_room_stays (on.Fresh fresh) hand same room = record {
     move = move_stays fresh.plan (same fresh.plan.ino (has-first fresh.plan.ino [])) room.move;
@@ -75,14 +75,14 @@ module _ (old new : Shared) (many : length new.cells.items ≡ length old.cells.
   step_room_stays (on.LockPicked draining picked) hand same room = room
   step_room_stays (on.Release draining picked) hand same room = room
   step_room_stays (on.LockCleaned log) hand same room = tt
-  step_room_stays (on.Judge manner slot) hand same room = tt
+  step_room_stays (on.PlanCleaning manner slot) hand same room = tt
 
   -- before any step, where a call with steps of its own has locked the slots of its step
   pub next_room_stays : (n : Next) (slots : List ℕ) (how : Ending) (j : Request) (hand : Hand)
-      → ((step : MaintenanceStep) → n ≡ next.Maintenance step → slots ≡ slots_on (step_on step)) → Stay (held_at (next_of n) slots)
+      → ((step : SnapshotOrCleanerStep) → n ≡ next.SnapshotOrCleaner step → slots ≡ slots_on (step_on step)) → Stay (held_at (next_of n) slots)
       → HasNextRoom n how j old hand → HasNextRoom n how j new hand
-  next_room_stays (next.Maintenance step) slots how j hand own same room =
-      step_room_stays step hand (subst (λ (l : List ℕ). Stay (held_at (machine.Maintenance (step_on step)) l)) (own step refl) same) room
+  next_room_stays (next.SnapshotOrCleaner step) slots how j hand own same room =
+      step_room_stays step hand (subst (λ (l : List ℕ). Stay (held_at (machine.SnapshotOrCleaner (step_on step)) l)) (own step refl) same) room
   next_room_stays (next.Unlock place) slots how j hand own same room = room
   next_room_stays (next.Give cpu) slots how j hand own same room = room
   next_room_stays next.ReturnNumber slots how j hand own same room = room

@@ -18,7 +18,7 @@ use Rattle.nv_machine.specs.Sequence.{slots_on}
 use Rattle.nv_core.specs.Frames.{LeavesRest}
 use Rattle.nv_core.specs.Shown.{hand_of, next_of, shared_of, slots_in, step_on}
 use Rattle.nv_core.specs.Steps.{Given}
-use Rattle.nv_core.specs.declared.next.MaintenanceStep.{MaintenanceStep}
+use Rattle.nv_core.specs.declared.next.SnapshotOrCleanerStep.{SnapshotOrCleanerStep}
 use Rattle.nv_core.specs.declared.next.Next.{Next}
 use Rattle.nv_core.specs.declared.next.Next.TheVariants as next
 use Rattle.nv_core.specs.declared.running.Running.{Running}
@@ -101,9 +101,9 @@ unlinked_below blocks hand after walk cell is empty chain =
 -- ---- what a step leaves to the other actors
 
 -- a cleaner holds the slot of its step
-pub rest_held : (shared new : Shared) (hand : Hand) (running : Running) (actor : ℕ) (step : MaintenanceStep)
-    → running.next ≡ next.Maintenance step → Given running.next shared hand running
-    → ((slots : List ℕ) → held_at (machine.Maintenance (step_on step)) slots ≡ slots) → LeavesRest actor (slots_on (step_on step)) shared new
+pub rest_held : (shared new : Shared) (hand : Hand) (running : Running) (actor : ℕ) (step : SnapshotOrCleanerStep)
+    → running.next ≡ next.SnapshotOrCleaner step → Given running.next shared hand running
+    → ((slots : List ℕ) → held_at (machine.SnapshotOrCleaner (step_on step)) slots ≡ slots) → LeavesRest actor (slots_on (step_on step)) shared new
     → LeavesRest actor (held_at (next_of running.next) (slots_in running.slots)) shared new
 rest_held shared new hand running actor step e given held rest =
     let slots : slots_in running.slots ≡ slots_on (step_on step) = (subst (λ (n : Next). Given n shared hand running) e given).0 in

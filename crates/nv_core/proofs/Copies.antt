@@ -5,7 +5,7 @@ use Rattle.std.specs.Option.{ForSome}
 use Rattle.nv_base.specs.declared.numbers.Handle.{Handle}
 use Rattle.nv_cell.specs.Cell.{CellState, CellValue}
 use Rattle.nv_entry.specs.declared.node.NodeCopy.{NodeCopy}
-use Rattle.nv_machine.specs.Maintenance.{copies_at}
+use Rattle.nv_machine.specs.SnapshotOrCleaner.{copies_at}
 use Rattle.nv_machine.specs.Reads.{bytes_among}
 use Rattle.nv_machine.specs.World.{Shared, cell_at, no_cell}
 use Rattle.nv_reader.specs.Nodes.{IsWhole, copy_in}

@@ -136,7 +136,7 @@ refuses shared hand running actor book given told fault turn free same held refu
 -- ---- what holds of the call beside
 
 -- a call whose request its commit has can end
-pub given_ends : (running : Running) (how : Ending) → running.request ≡ request.Given → (how ≡ ending.BoundAnew → ⊥) → CanEnd running how
+pub given_ends : (running : Running) (how : Ending) → running.request ≡ request.Taken → (how ≡ ending.BoundAnew → ⊥) → CanEnd running how
 given_ends running how given other = record {
   request = subst IsNoVisit (sym given) tt;
   looks = subst (λ (j : Request). LooksAsTold j running.looked) (sym given) tt;

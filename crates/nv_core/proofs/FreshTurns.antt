@@ -14,7 +14,7 @@ use Rattle.nv_core.specs.Cleaning.{TakesFresh}
 use Rattle.nv_core.specs.Shown.{ShownCall, hand_of, next_of, shared_of, shown}
 use Rattle.nv_core.specs.Takings.{IsTaken}
 use Rattle.nv_core.specs.declared.next.FreshPages.{FreshPages}
-use Rattle.nv_core.specs.declared.next.MaintenanceStep.TheVariants as on
+use Rattle.nv_core.specs.declared.next.SnapshotOrCleanerStep.TheVariants as on
 use Rattle.nv_core.specs.declared.next.Next.{Next}
 use Rattle.nv_core.specs.declared.next.Next.TheVariants as next
 use Rattle.nv_core.specs.declared.running.Running.{Running}
@@ -74,7 +74,7 @@ fresh_anywhere (suc n) true ino asked s h r next = refl
 fresh_anywhere (suc n) false ino asked s h r next = end_anywhere r.slots (machine.Refuses NoSpace) s h r next
 
 pub fresh_shown : (told : ShownCall) (running : Running) (meanwhile : Next) (fresh : FreshPages) (block actor : ℕ) (granted : Bool)
-    (s : machine.Shared) (h : machine.HandState) (turn : machine.Turn) → running.next ≡ next.Maintenance (on.Fresh fresh)
+    (s : machine.Shared) (h : machine.HandState) (turn : machine.Turn) → running.next ≡ next.SnapshotOrCleaner (on.Fresh fresh)
     → take_fresh_turn (asked_list (length s.lists) actor fresh.asked) fresh.plan.ino fresh.asked fresh.left s h
     (shown told (record running { next = meanwhile })) ≡ turn
     → kind_turn (next_of running.next) block actor granted s h (shown told running) ≡ turn

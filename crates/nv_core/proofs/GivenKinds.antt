@@ -30,8 +30,8 @@ use Rattle.nv_core.specs.declared.next.Ending.{Ending}
 use Rattle.nv_core.specs.declared.next.Ending.TheVariants as ending
 use Rattle.nv_core.specs.declared.next.Next.{Next}
 use Rattle.nv_core.specs.declared.next.Next.TheVariants as next
-use Rattle.nv_core.specs.declared.next.MaintenanceStep.{MaintenanceStep}
-use Rattle.nv_core.specs.declared.next.MaintenanceStep.TheVariants as on
+use Rattle.nv_core.specs.declared.next.SnapshotOrCleanerStep.{SnapshotOrCleanerStep}
+use Rattle.nv_core.specs.declared.next.SnapshotOrCleanerStep.TheVariants as on
 use Rattle.nv_core.specs.declared.running.Running.{Running}
 use Rattle.nv_core.specs.declared.shared.Shared.{Shared}
 use Rattle.nv_core.proofs.GivenCells.{all_lent, given_bytes, given_empty, given_own, given_still, many_cells}
@@ -51,10 +51,10 @@ answers_only (ending.Cleans cleaned) e = cc
 -- what holds of the updates of a call holds of the update of its request
 by_job : (P : Update → Type 0) (j : Request) (owed : PendingAnswer) (c : Call) → is_change j ≡ true → IsRequestOf j owed c
     → ((u : Update) (text : List ℕ) → c ≡ call_of u text → P u) → IsChangeWith P j
-by_job P (request.Change plan text) owed c e is from = from plan.update text is.0
+by_job P (request.Change plan text) owed c e is from = from plan text is.0
 by_job P (request.Visit visit) owed c e is from = cc
-by_job P (request.Maintenance on) owed c e is from = cc
-by_job P request.Given owed c e is from = cc
+by_job P (request.SnapshotOrCleaner on) owed c e is from = cc
+by_job P request.Taken owed c e is from = cc
 
 -- a call with any text makes an inode or not
 makes_same : (u : Update) (text : List ℕ) → makes_inode (beginning (call_of u text)) ≡ makes u
@@ -136,7 +136,7 @@ module _ (shared : Shared) (actor : ℕ) (told : ShownCall) (hand : Hand) (runni
       let inside = (subst (λ (xs : List ℕ). AllByRecursion (λ n. n < length (shared_of shared).cells) xs) is given.slots.inside).0 in
       omega (arith, inside, many_cells shared)
 
-  maintain : (step : MaintenanceStep) → running.next ≡ next.Maintenance step → GivenOn step shared
+  maintain : (step : SnapshotOrCleanerStep) → running.next ≡ next.SnapshotOrCleaner step → GivenOn step shared
   maintain on.Make e = tt
   maintain (on.Drop snapshot) e = tt
   maintain (on.Pin snapshot) e = given.snapshots (machine.Pin snapshot) (ap next_of e)
@@ -145,12 +145,12 @@ module _ (shared : Shared) (actor : ℕ) (told : ShownCall) (hand : Hand) (runni
   maintain (on.Unpin snapshot seen) e = given.snapshots (machine.Unpin snapshot seen) (ap next_of e)
   maintain (on.Pick draining) e = tt
   maintain (on.LockPicked draining picked) e =
-      let slot = own_slot picked.ino (inside (next.Maintenance (on.LockPicked draining picked)) e) in
+      let slot = own_slot picked.ino (inside (next.SnapshotOrCleaner (on.LockPicked draining picked)) e) in
       omega (arith, slot, given.wide, many_cells shared)
   maintain (on.Release draining picked) e =
       let has_it = given.snapshots (machine.Release (draining_of draining) picked) (ap next_of e) in
       record {
-        slot = own_slot picked.ino (inside (next.Maintenance (on.Release draining picked)) e);
+        slot = own_slot picked.ino (inside (next.SnapshotOrCleaner (on.Release draining picked)) e);
         kept = has_it.kept;
         still = has_it.still;
         chain = has_it.chain;
@@ -158,17 +158,17 @@ module _ (shared : Shared) (actor : ℕ) (told : ShownCall) (hand : Hand) (runni
         generation = has_it.generation;
       }
   maintain (on.LockCleaned log) e =
-      let slot = own_slot log.ino (inside (next.Maintenance (on.LockCleaned log)) e) in
+      let slot = own_slot log.ino (inside (next.SnapshotOrCleaner (on.LockCleaned log)) e) in
       omega (arith, slot, given.wide, many_cells shared)
-  maintain (on.Judge manner None) e = λ ino is. cc
-  maintain (on.Judge manner (Some n)) e = λ ino is.
-      let slot = own_slot n (inside (next.Maintenance (on.Judge manner (Some n))) e) in
+  maintain (on.PlanCleaning manner None) e = λ ino is. cc
+  maintain (on.PlanCleaning manner (Some n)) e = λ ino is.
+      let slot = own_slot n (inside (next.SnapshotOrCleaner (on.PlanCleaning manner (Some n))) e) in
       let same : n ≡ ino = cc in omega (arith, slot, same)
   maintain (on.Fresh fresh) e = tt
   maintain (on.Unlink plan) e =
       let has_it = given.snapshots (machine.Unlink plan.ino) (ap next_of e) in
       record {
-        slot = own_slot plan.ino (inside (next.Maintenance (on.Unlink plan)) e);
+        slot = own_slot plan.ino (inside (next.SnapshotOrCleaner (on.Unlink plan)) e);
         still = has_it.still;
         retired = has_it.retired;
         chain = has_it.chain;
@@ -176,7 +176,7 @@ module _ (shared : Shared) (actor : ℕ) (told : ShownCall) (hand : Hand) (runni
   maintain (on.Compact plan) e =
       let has_it = given.snapshots (machine.Compact plan.ino) (ap next_of e) in
       record {
-        slot = own_slot plan.ino (inside (next.Maintenance (on.Compact plan)) e);
+        slot = own_slot plan.ino (inside (next.SnapshotOrCleaner (on.Compact plan)) e);
         still = has_it.still;
         retired = has_it.retired;
         chain = has_it.chain;
@@ -203,4 +203,4 @@ module _ (shared : Shared) (actor : ℕ) (told : ShownCall) (hand : Hand) (runni
     absent = λ ino has_it. (given.numbers ino has_it).1;
   }
   given_kind next.Visit e fits = (inside next.Visit e, given_bytes shared given.apart, hand_at next.Visit e)
-  given_kind (next.Maintenance step) e fits = (inside (next.Maintenance step) e, hand_at (next.Maintenance step) e, maintain step e)
+  given_kind (next.SnapshotOrCleaner step) e fits = (inside (next.SnapshotOrCleaner step) e, hand_at (next.SnapshotOrCleaner step) e, maintain step e)

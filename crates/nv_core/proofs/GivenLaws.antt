@@ -23,7 +23,7 @@ use Rattle.nv_machine.specs.Reached.{IsReached}
 use Rattle.nv_machine.specs.Reads.{slot_at, written_slots}
 use Rattle.nv_machine.specs.Starts.{IsStart}
 use Rattle.nv_machine.specs.Step.{after}
-use Rattle.nv_machine.specs.World.{Answers, Check, Enter, Event, HandState, Next, Ready, Running, Shared, MaintenanceStep, Maintenance, World, actor_at, cell_at, list_at}
+use Rattle.nv_machine.specs.World.{Answers, Check, Enter, Event, HandState, Next, Ready, Running, Shared, SnapshotOrCleanerStep, SnapshotOrCleaner, World, actor_at, cell_at, list_at}
 use Rattle.nv_machine.proofs.DecidedReads.{logs_held}
 use Rattle.nv_machine.proofs.FitsEvents.{AreFit}
 use Rattle.nv_machine.proofs.LocksHeld.{owner_is, slot_owned}
@@ -52,7 +52,7 @@ pub record LawsOf (g : GeometryNumbers) (m : World) : Type 0 where
       → place < length (written_slots r) → (cell_at m.shared (slot_at (written_slots r) place)).generation < NUMBER
   pub checks : (actor : ℕ) (r : Running) → (actor_at m actor).running ≡ Some r → r.next ≡ Check
       → HoldsForCheck m.shared (actor_at m actor).hand r
-  pub snapshots : (actor : ℕ) (r : Running) (step : MaintenanceStep) → (actor_at m actor).running ≡ Some r → r.next ≡ Maintenance step
+  pub snapshots : (actor : ℕ) (r : Running) (step : SnapshotOrCleanerStep) → (actor_at m actor).running ≡ Some r → r.next ≡ SnapshotOrCleaner step
       → HasOn g m.shared step
 
 -- ---- one actor
@@ -82,7 +82,7 @@ pub record IsGiven (g : GeometryNumbers) (s : Shared) (actor : ℕ) (h : HandSta
       → (cell_at s (slot_at (written_slots r) place)).generation < NUMBER
   pub going : is_going r.next ≡ true → r.ending ≡ Answers
   pub sound : r.next ≡ Ready → (ino : ℕ) → has r.slots ino ≡ true → IsSoundIn (cell_at s ino) (log_of (cell_at s ino))
-  pub snapshots : (step : MaintenanceStep) → r.next ≡ Maintenance step → HasOn g s step
+  pub snapshots : (step : SnapshotOrCleanerStep) → r.next ≡ SnapshotOrCleaner step → HasOn g s step
 
 -- a slot of a list of slots is one of all
 pub slot_there : (many : ℕ) (slots : List ℕ) (ino : ℕ) → AllByRecursion (λ n. n < many) slots → has slots ino ≡ true → ino < many

@@ -14,7 +14,7 @@ use Rattle.nv_cell.specs.Readers.{has_killed, is_gone}
 use Rattle.nv_cell.specs.declared.mark.Mark.TheVariants.{Kept}
 use Rattle.nv_entry.specs.Log.{up_to}
 use Rattle.nv_epoch.specs.SnapList.{pins_of}
-use Rattle.nv_machine.specs.World.{Compact, Pin, Release, Shared, Show, MaintenanceStep, Unlink, Unpin, cell_at}
+use Rattle.nv_machine.specs.World.{Compact, Pin, Release, Shared, Show, SnapshotOrCleanerStep, Unlink, Unpin, cell_at}
 use Rattle.nv_reader.specs.Cells.{NoneOut}
 
 -- the part of a picked record is kept in its cell, which stands still; its blocks are the device's; and one that is
@@ -34,7 +34,7 @@ pub record HasCleanable (g : GeometryNumbers) (s : Shared) (ino : ℕ) : Type 0 
 
 -- a snapshot that is to be pinned has fewer pins than it may have; one that is shown has all its pages; one that is to
 -- be unpinned has a pin
-abbrev pub HasOn : GeometryNumbers → Shared → MaintenanceStep → Type 0
+abbrev pub HasOn : GeometryNumbers → Shared → SnapshotOrCleanerStep → Type 0
 HasOn g s (Pin snapshot) = ForSome (pins_of s.book.snaps snapshot) (λ pins. pins < PINS)
 HasOn g s (Show snapshot showing) = (ino : ℕ) → NoneOut (cell_at s ino) (up_to snapshot (log_of (cell_at s ino)))
 HasOn g s (Unpin snapshot seen) = IsSomeAnd (pins_of s.book.snaps snapshot) (λ pins. 0 < pins)

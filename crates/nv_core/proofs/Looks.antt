@@ -14,7 +14,6 @@ use Rattle.nv_calls.specs.Updates.{call_of}
 use Rattle.nv_calls.specs.declared.call.Call.{Call}
 use Rattle.nv_calls.specs.declared.call.Call.TheVariants as call
 use Rattle.nv_calls.specs.declared.looked.LookupResult.{LookupResult}
-use Rattle.nv_calls.specs.declared.plan.Plan.{Plan}
 use Rattle.nv_calls.specs.declared.update.Update.{Update}
 use Rattle.nv_calls.specs.declared.update.Update.TheVariants as update
 use Rattle.nv_cell.specs.Cell.{CellValue}
@@ -92,21 +91,21 @@ look_alone s u text place before dir value cell result few is there look =
     (subst (λ (h : Handle). n h ≡ copies s h) is (node_alone s dir value cell there)))
     (look (bytes_in (option_map value cell)))
 
-pub place_of : (j : Request) (plan : Plan) (place : ℕ) → IsChangeBy j plan → IsLookAt place j → HasPlace place plan.update
-place_of (request.Change p text) plan place by at = subst (λ (x : Plan). HasPlace place x.update) by at
+pub place_of : (j : Request) (plan : Update) (place : ℕ) → IsChangeBy j plan → IsLookAt place j → HasPlace place plan
+place_of (request.Change p text) plan place by at = subst (λ (x : Update). HasPlace place x) by at
 place_of (request.Visit visit) plan place by at = elim by [ ]
-place_of (request.Maintenance on) plan place by at = elim by [ ]
-place_of request.Given plan place by at = elim by [ ]
+place_of (request.SnapshotOrCleaner on) plan place by at = elim by [ ]
+place_of request.Taken plan place by at = elim by [ ]
 
 -- ---- the machine's turn of a look
 
 -- the call of a request that changes nodes is that of its update, with some text
-pub call_by : (j : Request) (owed : PendingAnswer) (c : Call) (plan : Plan) → IsChangeBy j plan → IsRequestOf j owed c
-    → (text : List ℕ) × (c ≡ call_of plan.update text)
-call_by (request.Change p text) owed c plan by is = (text, is.0 ∙ ap (λ (x : Plan). call_of x.update text) by)
+pub call_by : (j : Request) (owed : PendingAnswer) (c : Call) (plan : Update) → IsChangeBy j plan → IsRequestOf j owed c
+    → (text : List ℕ) × (c ≡ call_of plan text)
+call_by (request.Change p text) owed c plan by is = (text, is.0 ∙ ap (λ (x : Update). call_of x text) by)
 call_by (request.Visit visit) owed c plan by is = elim by [ ]
-call_by (request.Maintenance on) owed c plan by is = elim by [ ]
-call_by request.Given owed c plan by is = elim by [ ]
+call_by (request.SnapshotOrCleaner on) owed c plan by is = elim by [ ]
+call_by request.Taken owed c plan by is = elim by [ ]
 
 pub nobody : (owner : Option ℕ) (b : Bool) → b ≡ is_some owner → b ≡ false → owner ≡ None
 nobody None b same not = refl

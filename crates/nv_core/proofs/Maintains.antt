@@ -33,7 +33,7 @@ use Rattle.nv_machine.specs.Reading.{ArePins, pins_at, pins_by_call, shows_of}
 use Rattle.nv_machine.specs.Recorded.{IsOfPair, is_marked_kept, is_record_of}
 use Rattle.nv_machine.specs.Starts.{IsStart}
 use Rattle.nv_machine.specs.Step.{after}
-use Rattle.nv_machine.specs.World.{Actor, Compact, Draining, Drop, Event, Fresh, HandState, Judge, LockCleaned, LockPicked, Make, Next, Pick, Pin, Release, Running, Show, MaintenanceStep, Maintenance, Unlink, Unpin, World, actor_at, cell_at, idle, owner_at}
+use Rattle.nv_machine.specs.World.{Actor, Compact, Draining, Drop, Event, Fresh, HandState, PlanCleaning, LockCleaned, LockPicked, Make, Next, Pick, Pin, Release, Running, Show, SnapshotOrCleanerStep, SnapshotOrCleaner, Unlink, Unpin, World, actor_at, cell_at, idle, owner_at}
 use Rattle.nv_machine.proofs.EachElement.{all_back}
 use Rattle.nv_machine.proofs.OverEvents.{runs_inside}
 use Rattle.nv_machine.proofs.FiledLists.{count, count_append}
@@ -146,12 +146,12 @@ module _ (g : GeometryNumbers) (start : World) (records : List Record) (events :
 
   -- ---- the cell that a step is lent
 
-  module _ (actor : ℕ) (q : Running) (is : (actor_at w actor).running ≡ Some q) (step : MaintenanceStep)
-      (e : q.next ≡ Maintenance step) (ino : ℕ) (its : (lent_on step (length w.shared.lists) actor).cell ≡ Some ino) where
+  module _ (actor : ℕ) (q : Running) (is : (actor_at w actor).running ≡ Some q) (step : SnapshotOrCleanerStep)
+      (e : q.next ≡ SnapshotOrCleaner step) (ino : ℕ) (its : (lent_on step (length w.shared.lists) actor).cell ≡ Some ino) where
     abbrev h : HandState
     h = (actor_at w actor).hand
 
-    stands : Standing g (Maintenance step) actor w.shared h q
+    stands : Standing g (SnapshotOrCleaner step) actor w.shared h q
     stands =
         let known = reached g start records events is_start in
         subst (λ (k : Next). Standing g k actor w.shared h q) e
@@ -159,10 +159,10 @@ module _ (g : GeometryNumbers) (start : World) (records : List Record) (events :
         (all_pooled g start records events is_start) is)
 
     low : ino < length w.shared.cells
-    low = lent_inside (Maintenance step) actor w.shared q stands.before ino its
+    low = lent_inside (SnapshotOrCleaner step) actor w.shared q stands.before ino its
 
     owned : owner_at w.shared ino ≡ Some actor
-    owned = lent_cell (Maintenance step) (length w.shared.lists) actor w.shared q stands.before ino its
+    owned = lent_cell (SnapshotOrCleaner step) (length w.shared.lists) actor w.shared q stands.before ino its
 
     still : IsStill g.block (cell ino)
     still = record {
@@ -193,7 +193,7 @@ module _ (g : GeometryNumbers) (start : World) (records : List Record) (events :
   -- ---- a picked record
 
   module _ (actor : ℕ) (q : Running) (is : (actor_at w actor).running ≡ Some q) (draining : Draining) (picked : Record)
-      (e : q.next ≡ Maintenance (Release draining picked)) where
+      (e : q.next ≡ SnapshotOrCleaner (Release draining picked)) where
     has_it : picked_by_actor (actor_at w actor) ≡ picked ∷ []
     has_it = ap picked_by_call is ∙ ap picked_at e
 
@@ -242,7 +242,7 @@ module _ (g : GeometryNumbers) (start : World) (records : List Record) (events :
 
   -- ---- every kind
 
-  pub maintain : (actor : ℕ) (q : Running) → (actor_at w actor).running ≡ Some q → (step : MaintenanceStep) → q.next ≡ Maintenance step
+  pub maintain : (actor : ℕ) (q : Running) → (actor_at w actor).running ≡ Some q → (step : SnapshotOrCleanerStep) → q.next ≡ SnapshotOrCleaner step
       → HasOn g w.shared step
   maintain actor q is Make e = tt
   maintain actor q is (Drop snapshot) e = tt
@@ -253,7 +253,7 @@ module _ (g : GeometryNumbers) (start : World) (records : List Record) (events :
   maintain actor q is (Pick draining) e = tt
   maintain actor q is (LockPicked draining picked) e = tt
   maintain actor q is (LockCleaned manner ino) e = tt
-  maintain actor q is (Judge manner slot) e = tt
+  maintain actor q is (PlanCleaning manner slot) e = tt
   maintain actor q is (Fresh ino asked wanted) e = tt
   maintain actor q is (Release draining picked) e = has_picked actor q is draining picked e
   maintain actor q is (Unlink ino) e = has_cleanable actor q is (Unlink ino) e ino refl

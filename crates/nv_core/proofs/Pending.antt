@@ -18,7 +18,7 @@ use Rattle.nv_core.specs.declared.reservation.Reservation.{Reservation}
 use Rattle.nv_core.specs.declared.reservation.Reservation.TheVariants as reserved
 use Rattle.nv_core.specs.declared.next.Next.{Next}
 use Rattle.nv_core.specs.declared.next.Next.TheVariants as next
-use Rattle.nv_core.specs.declared.next.MaintenanceStep.TheVariants as on
+use Rattle.nv_core.specs.declared.next.SnapshotOrCleanerStep.TheVariants as on
 use Rattle.nv_core.specs.declared.running.Running.{Running}
 use Rattle.nv_core.specs.declared.world.Actor.{Actor}
 
@@ -33,19 +33,19 @@ one_block d = go (is_page d.part) refl where
 
 -- before a step of a call whose hand is alone
 at_next : (n : Next) → picked_at n ≡ block_count (held.picked_at (next_of n))
-at_next (next.Maintenance on.Make) = refl
-at_next (next.Maintenance (on.Drop snapshot)) = refl
-at_next (next.Maintenance (on.Pin snapshot)) = refl
-at_next (next.Maintenance (on.Show snapshot showing)) = refl
-at_next (next.Maintenance (on.Unpin snapshot seen)) = refl
-at_next (next.Maintenance (on.Pick draining)) = refl
-at_next (next.Maintenance (on.LockPicked draining picked)) = one_block picked
-at_next (next.Maintenance (on.Release draining picked)) = one_block picked
-at_next (next.Maintenance (on.LockCleaned log)) = refl
-at_next (next.Maintenance (on.Judge manner slot)) = refl
-at_next (next.Maintenance (on.Fresh fresh)) = refl
-at_next (next.Maintenance (on.Unlink plan)) = refl
-at_next (next.Maintenance (on.Compact plan)) = refl
+at_next (next.SnapshotOrCleaner on.Make) = refl
+at_next (next.SnapshotOrCleaner (on.Drop snapshot)) = refl
+at_next (next.SnapshotOrCleaner (on.Pin snapshot)) = refl
+at_next (next.SnapshotOrCleaner (on.Show snapshot showing)) = refl
+at_next (next.SnapshotOrCleaner (on.Unpin snapshot seen)) = refl
+at_next (next.SnapshotOrCleaner (on.Pick draining)) = refl
+at_next (next.SnapshotOrCleaner (on.LockPicked draining picked)) = one_block picked
+at_next (next.SnapshotOrCleaner (on.Release draining picked)) = one_block picked
+at_next (next.SnapshotOrCleaner (on.LockCleaned log)) = refl
+at_next (next.SnapshotOrCleaner (on.PlanCleaning manner slot)) = refl
+at_next (next.SnapshotOrCleaner (on.Fresh fresh)) = refl
+at_next (next.SnapshotOrCleaner (on.Unlink plan)) = refl
+at_next (next.SnapshotOrCleaner (on.Compact plan)) = refl
 at_next next.Number = refl
 at_next (next.Look place) = refl
 at_next (next.Lock place) = refl

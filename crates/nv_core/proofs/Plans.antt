@@ -59,7 +59,7 @@ looks_same one other (call.Mode handle mode) h = record { found = refl; early = 
 looks_same one other (call.Stat handle) h = record { found = refl; early = refl }
 looks_same one other (call.List dir) h = record { found = refl; early = refl }
 looks_same one other (call.Lookup dir name) h = record { found = refl; early = refl }
-looks_same one other (call.Maintenance on) h = record { found = refl; early = refl }
+looks_same one other (call.SnapshotOrCleaner on) h = record { found = refl; early = refl }
 
 -- ---- log pages
 

@@ -11,7 +11,6 @@ use Rattle.nv_calls.specs.Cells.{ino_at, no_cell}
 use Rattle.nv_calls.specs.Committed.{cell_place_of}
 use Rattle.nv_calls.specs.Slots.{items_for}
 use Rattle.nv_calls.specs.SlotCells.{cell_in, lent_cells, other_cells}
-use Rattle.nv_calls.specs.declared.plan.Plan.{Plan}
 use Rattle.nv_calls.specs.declared.plan.InodePlan.{InodePlan}
 use Rattle.nv_entry.specs.declared.item.Item.{Item}
 use Rattle.nv_calls.specs.AllCalls.{plan}
@@ -120,10 +119,10 @@ shared_same shared slots new many more rest =
 -- ---- the call
 
 -- a call that takes nothing more, by its request
-pub at_ready : (shared : Shared) (hand : Hand) (running : Running) (plan : Plan) (text : List ℕ) → running.next ≡ next.Ready
+pub at_ready : (shared : Shared) (hand : Hand) (running : Running) (plan : Update) (text : List ℕ) → running.next ≡ next.Ready
     → running.request ≡ request.Change plan text → HasRooms shared (reserved.Hand hand) running → let slots = slots_in running.slots in
-    HasMade shared slots hand running.made plan.update
-    × (IsChecked shared slots hand running.looked plan.update × HasTaken shared slots hand plan.update)
+    HasMade shared slots hand running.made plan
+    × (IsChecked shared slots hand running.looked plan × HasTaken shared slots hand plan)
 at_ready shared hand running plan text at is has =
     let slots = slots_in running.slots in
     subst (λ (j : Request). IsChangeWith (λ (u : Update). HasMade shared slots hand running.made u
@@ -135,7 +134,7 @@ pub rooms_ready : (old new : Shared) (hand : Hand) (running : Running) (u : Upda
     → let slots = slots_in running.slots in let lent = lent_cells slots old.cells.items in let now = lent_cells slots new.cells.items in
     CanReady lent hand u → HaveNoLessRoom lent now → IsReadyBy lent hand u now ready → IsHandOf old.geometry.numbers hand
     → new.geometry ≡ old.geometry → running.ending ≡ ending.Answers
-    → HasRooms new (reserved.Ready ready) (record running { request = request.Given })
+    → HasRooms new (reserved.Ready ready) (record running { request = request.Taken })
 rooms_ready old new hand running u ready can more is sizes same answers = (
   refl,
   answers,
@@ -206,17 +205,17 @@ placed_ready slots all hand u plan can same =
 
 -- ---- the machine's plan
 
-pub plan_ready : (shared : Shared) (hand : Hand) (running : Running) (told : ShownCall) (by : Plan) (text : List ℕ)
+pub plan_ready : (shared : Shared) (hand : Hand) (running : Running) (told : ShownCall) (by : Update) (text : List ℕ)
     → running.request ≡ request.Change by text → IsShownCallOf running told → let slots = slots_in running.slots in
-    HasMade shared slots hand running.made by.update → IsChecked shared slots hand running.looked by.update
+    HasMade shared slots hand running.made by → IsChecked shared slots hand running.looked by
     → plan_by shared.geometry.numbers.block (shared_of shared) (hand_of hand) (shown told running)
-    ≡ planned_by (lent_cells slots shared.cells.items) hand by.update
+    ≡ planned_by (lent_cells slots shared.cells.items) hand by
 plan_ready shared hand running told by text at is made checked =
     let block = shared.geometry.numbers.block in
     let s = shared_of shared in
     let of = subst (λ (j : Request). IsRequestOf j running.owed told.call) at is in
     ap (λ (c : Call). plan block (copies s) (record { made = running.made; runs = block_runs_of (numbers_of hand.«data».blocks) }) c) of.0
-    ∙ plan_same shared (slots_in running.slots) hand running.looked by.update text running.made checked made of.1
+    ∙ plan_same shared (slots_in running.slots) hand running.looked by text running.made checked made of.1
 
 -- ---- the bytes of its pages
 

@@ -9,7 +9,7 @@ use Rattle.nv_calls.specs.Retiring as calls
 use Rattle.nv_cell.specs.Cell.{CellState, CellValue, number_in}
 use Rattle.nv_cell.specs.Readers.{is_erased}
 use Rattle.nv_machine.specs.Kinds.{blocks_in, end_turn, with_erased}
-use Rattle.nv_machine.specs.Maintenance.{one_more, release_turn}
+use Rattle.nv_machine.specs.SnapshotOrCleaner.{one_more, release_turn}
 use Rattle.nv_machine.specs.World as machine
 use Rattle.nv_machine.specs.World.{HandState, cell_at, empty_hand, with_cell}
 use Rattle.nv_core.specs.Shown.{hand_of, shared_of}

@@ -10,7 +10,6 @@ use Rattle.nv_calls.specs.HandRoom.{pages_at_most, with_rooms}
 use Rattle.nv_calls.specs.Prepared.{HasNoLessRoom}
 use Rattle.nv_calls.specs.SlotCells.{lent_cells}
 use Rattle.nv_calls.specs.declared.log_pages.TheConstants.{MORE_PAGES}
-use Rattle.nv_calls.specs.declared.plan.Plan.{Plan}
 use Rattle.nv_calls.specs.declared.update.Update.{Update}
 use Rattle.nv_cell.specs.Cell.{CellValue}
 use Rattle.nv_core.proofs.Takes.{by_with}
@@ -36,7 +35,7 @@ rooms_alone wanted pages old new (Err fault) is kept =
       pages = record old.pages { room = n };
     }) (sym (ap (λ (h : Hand). h.pages.room) kept.same))
 
-module _ (shared : Shared) (old : Hand) (running : Running) (by : Plan) (is : IsChangeBy running.request by) where
+module _ (shared : Shared) (old : Hand) (running : Running) (by : Update) (is : IsChangeBy running.request by) where
   abbrev slots : List ℕ
   slots = slots_in running.slots
 
@@ -44,7 +43,7 @@ module _ (shared : Shared) (old : Hand) (running : Running) (by : Plan) (is : Is
   lent = lent_cells slots shared.cells.items
 
   abbrev u : Update
-  u = by.update
+  u = by
 
   none_counted : (wanted : ℕ) → wanted ≡ 0 → pages_at_most wanted lent old u ≡ pages_to_take shared slots old u
   none_counted wanted nil = subst (λ (n : ℕ). pages_at_most n lent old u ≡ pages_to_take shared slots old u) (sym nil) refl

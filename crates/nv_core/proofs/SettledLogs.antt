@@ -6,7 +6,7 @@ use Rattle.nv_machine.specs.Locks.{HoldsIts, commits_at, commits_by, is_owner}
 use Rattle.nv_machine.specs.Reached.{IsReached}
 use Rattle.nv_machine.specs.Reads.{written_slots}
 use Rattle.nv_machine.specs.World as machine
-use Rattle.nv_machine.specs.World.{Append, ReturnNumber, Check, Close, Enter, Give, HandState, Leave, Lock, Look, Next, Number, Open, Publish, Ready, Retire, Running, Shared, Maintenance, TakeBlocks, TakeLogPages, Unlock, Visit, actor_at, cell_at}
+use Rattle.nv_machine.specs.World.{Append, ReturnNumber, Check, Close, Enter, Give, HandState, Leave, Lock, Look, Next, Number, Open, Publish, Ready, Retire, Running, Shared, SnapshotOrCleaner, TakeBlocks, TakeLogPages, Unlock, Visit, actor_at, cell_at}
 use Rattle.nv_machine.proofs.SlotsBeforeCheck.{own_bytes}
 use Rattle.nv_machine.proofs.EveryWorld.{reached}
 use Rattle.nv_machine.proofs.Journals.{closed_tail}
@@ -47,7 +47,7 @@ commit_within (Unlock place) block cpu ino s h r commits knows = absurd (false�
 commit_within (Give home) block cpu ino s h r commits knows = absurd (false≢true commits)
 commit_within ReturnNumber block cpu ino s h r commits knows = absurd (false≢true commits)
 commit_within Visit block cpu ino s h r commits knows = absurd (false≢true commits)
-commit_within (Maintenance step) block cpu ino s h r commits knows = absurd (false≢true commits)
+commit_within (SnapshotOrCleaner step) block cpu ino s h r commits knows = absurd (false≢true commits)
 
 call_within : (running : Option Running) (block cpu ino : ℕ) (s : Shared) (h : HandState) → commits_by running ≡ true
     → KnowsOf running block s cpu h → IsTailWithin s ino

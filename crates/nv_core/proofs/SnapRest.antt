@@ -9,7 +9,7 @@ use Rattle.nv_core.specs.Rooms.{IsOnBook}
 use Rattle.nv_core.specs.Shown.{next_of}
 use Rattle.nv_core.specs.declared.next.Next.{Next}
 use Rattle.nv_core.specs.declared.next.Next.TheVariants as next
-use Rattle.nv_core.specs.declared.next.MaintenanceStep.TheVariants as on
+use Rattle.nv_core.specs.declared.next.SnapshotOrCleanerStep.TheVariants as on
 use Rattle.nv_core.specs.declared.shared.Shared.{Shared}
 
 pub rest_same : (actor : ℕ) (held : List ℕ) (old new : Shared) → new ≡ old → LeavesRest actor held old new
@@ -61,19 +61,19 @@ rest_lists actor held old new is count = record {
 
 -- a step that is lent the book holds no slot
 pub none_held : (step : Next) (slots : List ℕ) → IsOnBook step → held_at (next_of step) slots ≡ []
-none_held (next.Maintenance on.Make) slots is = refl
-none_held (next.Maintenance (on.Drop snapshot)) slots is = refl
-none_held (next.Maintenance (on.Pin snapshot)) slots is = refl
-none_held (next.Maintenance (on.Show snapshot showing)) slots is = absurd is
-none_held (next.Maintenance (on.Unpin snapshot seen)) slots is = refl
-none_held (next.Maintenance (on.Pick draining)) slots is = refl
-none_held (next.Maintenance (on.LockPicked draining picked)) slots is = absurd is
-none_held (next.Maintenance (on.Release draining picked)) slots is = absurd is
-none_held (next.Maintenance (on.LockCleaned log)) slots is = absurd is
-none_held (next.Maintenance (on.Judge manner slot)) slots is = absurd is
-none_held (next.Maintenance (on.Fresh fresh)) slots is = absurd is
-none_held (next.Maintenance (on.Unlink plan)) slots is = absurd is
-none_held (next.Maintenance (on.Compact plan)) slots is = absurd is
+none_held (next.SnapshotOrCleaner on.Make) slots is = refl
+none_held (next.SnapshotOrCleaner (on.Drop snapshot)) slots is = refl
+none_held (next.SnapshotOrCleaner (on.Pin snapshot)) slots is = refl
+none_held (next.SnapshotOrCleaner (on.Show snapshot showing)) slots is = absurd is
+none_held (next.SnapshotOrCleaner (on.Unpin snapshot seen)) slots is = refl
+none_held (next.SnapshotOrCleaner (on.Pick draining)) slots is = refl
+none_held (next.SnapshotOrCleaner (on.LockPicked draining picked)) slots is = absurd is
+none_held (next.SnapshotOrCleaner (on.Release draining picked)) slots is = absurd is
+none_held (next.SnapshotOrCleaner (on.LockCleaned log)) slots is = absurd is
+none_held (next.SnapshotOrCleaner (on.PlanCleaning manner slot)) slots is = absurd is
+none_held (next.SnapshotOrCleaner (on.Fresh fresh)) slots is = absurd is
+none_held (next.SnapshotOrCleaner (on.Unlink plan)) slots is = absurd is
+none_held (next.SnapshotOrCleaner (on.Compact plan)) slots is = absurd is
 none_held next.Number slots is = absurd is
 none_held (next.Look place) slots is = absurd is
 none_held (next.Lock place) slots is = absurd is

@@ -13,7 +13,7 @@ use Rattle.nv_book.specs.Book.{after_drop_snapshot}
 use Rattle.nv_calls.specs.Refusals.{Check as Tests}
 use Rattle.nv_calls.specs.declared.answer.Answer.TheVariants.{Nothing}
 use Rattle.nv_epoch.specs.SnapList.{IsSound, Snapshots as Living, pins_of}
-use Rattle.nv_machine.specs.Maintenance.{drop_tests, drop_turn, make_tests, pick_turn, pin_turn}
+use Rattle.nv_machine.specs.SnapshotOrCleaner.{drop_tests, drop_turn, make_tests, pick_turn, pin_turn}
 use Rattle.nv_machine.specs.World.{Draining, Ends, HandState, Running, Shared, empty_hand, with_book}
 
 abbrev fails : Fault → Tests

@@ -56,10 +56,10 @@ same_lent (n ∷ slots) old new same =
 
 -- what holds of the update of a request, if it follows from the same of another
 by_update : (P Q : Update → Type 0) (j : Request) → ((u : Update) → P u → Q u) → IsChangeWith P j → IsChangeWith Q j
-by_update P Q (request.Change plan text) from p = from plan.update p
+by_update P Q (request.Change plan text) from p = from plan p
 by_update P Q (request.Visit visit) from p = p
-by_update P Q (request.Maintenance on) from p = p
-by_update P Q request.Given from p = p
+by_update P Q (request.SnapshotOrCleaner on) from p = p
+by_update P Q request.Taken from p = p
 
 -- a call that takes holds all its slots
 takes_hold : (n : Next) (slots : List ℕ) → takes n ≡ true → held_at (next_of n) slots ≡ slots
@@ -74,7 +74,7 @@ takes_hold (next.Unlock place) slots e = cc
 takes_hold (next.Give cpu) slots e = cc
 takes_hold next.ReturnNumber slots e = cc
 takes_hold next.Visit slots e = cc
-takes_hold (next.Maintenance step) slots e = cc
+takes_hold (next.SnapshotOrCleaner step) slots e = cc
 
 module _ (actor : ℕ) (held : List ℕ) (old new : Shared) (rest : LeavesRest actor held old new) where
   hand_stays : (hand : Hand) → IsHandOf old.geometry.numbers hand → IsHandOf new.geometry.numbers hand
@@ -160,7 +160,7 @@ module _ (actor : ℕ) (held : List ℕ) (old new : Shared) (rest : LeavesRest a
   takes_stay (next.Give cpu) slots out hand wanted looked u p = tt
   takes_stay next.ReturnNumber slots out hand wanted looked u p = tt
   takes_stay next.Visit slots out hand wanted looked u p = tt
-  takes_stay (next.Maintenance step) slots out hand wanted looked u p = tt
+  takes_stay (next.SnapshotOrCleaner step) slots out hand wanted looked u p = tt
 
   takes_if_stays : (b : Bool) (hand : Hand) (running : Running) → takes running.next ≡ b
       → IsOut (held_at (next_of running.next) (slots_in running.slots)) → TakesIf b old hand running → TakesIf b new hand running

@@ -20,7 +20,6 @@ use Rattle.nv_calls.specs.Updates.{blank_call, call_of, text_len}
 use Rattle.nv_calls.specs.declared.call.Call.{Call}
 use Rattle.nv_calls.specs.declared.call.Call.TheVariants as call
 use Rattle.nv_calls.specs.declared.looked.LookupResult.{LookupResult}
-use Rattle.nv_calls.specs.declared.plan.Plan.{Plan}
 use Rattle.nv_calls.specs.declared.allocation.Allocation.{Allocation}
 use Rattle.nv_calls.specs.declared.update.Update.{Update}
 use Rattle.nv_calls.proofs.TextLengths.{same_plan}
@@ -48,23 +47,23 @@ use Rattle.nv_core.specs.declared.shared.Shared.{Shared}
 -- ---- requests
 
 -- what holds of a request's call holds of its plan's
-pub with_by : (P : Update → Type 0) (j : Request) (by : Plan) → IsChangeWith P j → IsChangeBy j by → P by.update
-with_by P (request.Change plan text) by has is = subst (λ (p : Plan). P p.update) is has
+pub with_by : (P : Update → Type 0) (j : Request) (by : Update) → IsChangeWith P j → IsChangeBy j by → P by
+with_by P (request.Change plan text) by has is = subst (λ (p : Update). P p) is has
 with_by P (request.Visit visit) by has is = elim has [ ]
-with_by P (request.Maintenance on) by has is = elim has [ ]
-with_by P request.Given by has is = elim has [ ]
+with_by P (request.SnapshotOrCleaner on) by has is = elim has [ ]
+with_by P request.Taken by has is = elim has [ ]
 
 pub over_all : (P Q : Update → Type 0) (j : Request) → ((u : Update) → P u → Q u) → IsChangeWith P j → IsChangeWith Q j
-over_all P Q (request.Change plan text) more has = more plan.update has
+over_all P Q (request.Change plan text) more has = more plan has
 over_all P Q (request.Visit visit) more has = elim has [ ]
-over_all P Q (request.Maintenance on) more has = elim has [ ]
-over_all P Q request.Given more has = elim has [ ]
+over_all P Q (request.SnapshotOrCleaner on) more has = elim has [ ]
+over_all P Q request.Taken more has = elim has [ ]
 
-pub by_with : (P : Update → Type 0) (j : Request) (by : Plan) → P by.update → IsChangeBy j by → IsChangeWith P j
-by_with P (request.Change plan text) by has is = subst (λ (p : Plan). P p.update) (sym is) has
+pub by_with : (P : Update → Type 0) (j : Request) (by : Update) → P by → IsChangeBy j by → IsChangeWith P j
+by_with P (request.Change plan text) by has is = subst (λ (p : Update). P p) (sym is) has
 by_with P (request.Visit visit) by has is = elim is [ ]
-by_with P (request.Maintenance on) by has is = elim is [ ]
-by_with P request.Given by has is = elim is [ ]
+by_with P (request.SnapshotOrCleaner on) by has is = elim is [ ]
+by_with P request.Taken by has is = elim is [ ]
 
 -- ---- growths
 
@@ -121,7 +120,7 @@ named_of P looked (call.Size file size) all = all
 named_of P looked (call.Mode handle mode) all = all
 named_of P looked (call.Stat handle) all = all
 named_of P looked (call.List dir) all = all
-named_of P looked (call.Maintenance on) all = all
+named_of P looked (call.SnapshotOrCleaner on) all = all
 named_of P looked (call.Lookup dir name) all = all
 
 -- the names of a checked call lead in the machine to what its looks found
@@ -159,12 +158,12 @@ pub wanted_same : (shared : Shared) (slots : List ℕ) (hand : Hand) (looked : L
 wanted_same shared slots hand looked made (request.Change by text) owed c n is has wants =
     let taken : Allocation = record { made = made; runs = block_runs_of (numbers_of hand.«data».blocks) } in
     ap (λ (d : Call). pages_wanted (shared_of shared) slots (plan shared.geometry.numbers.block (copies (shared_of shared)) taken d)) is.0
-    ∙ ap (pages_wanted (shared_of shared) slots) (plan_same shared slots hand looked by.update text made has.1 has.0 is.1)
-    ∙ sym (pages_same shared slots (planned_by (lent_cells slots shared.cells.items) hand by.update) has.1.read.there)
+    ∙ ap (pages_wanted (shared_of shared) slots) (plan_same shared slots hand looked by text made has.1 has.0 is.1)
+    ∙ sym (pages_same shared slots (planned_by (lent_cells slots shared.cells.items) hand by) has.1.read.there)
     ∙ sym wants
 wanted_same shared slots hand looked made (request.Visit visit) owed c n is has wants = elim has [ ]
-wanted_same shared slots hand looked made (request.Maintenance on) owed c n is has wants = elim has [ ]
-wanted_same shared slots hand looked made request.Given owed c n is has wants = elim has [ ]
+wanted_same shared slots hand looked made (request.SnapshotOrCleaner on) owed c n is has wants = elim has [ ]
+wanted_same shared slots hand looked made request.Taken owed c n is has wants = elim has [ ]
 
 -- ---- the turn
 
@@ -182,14 +181,14 @@ some_wanted n (suc wanted) s h r same some = rw same refl
 pub with_both : (P Q : Update → Type 0) (j : Request) → IsChangeWith P j → IsChangeWith Q j → IsChangeWith (λ (u : Update). P u × Q u) j
 with_both P Q (request.Change plan text) one other = (one, other)
 with_both P Q (request.Visit visit) one other = elim one [ ]
-with_both P Q (request.Maintenance on) one other = elim one [ ]
-with_both P Q request.Given one other = elim one [ ]
+with_both P Q (request.SnapshotOrCleaner on) one other = elim one [ ]
+with_both P Q request.Taken one other = elim one [ ]
 
 pub is_changed : (P : Update → Type 0) (j : Request) → IsChangeWith P j → is_change j ≡ true
 is_changed P (request.Change plan text) has = refl
 is_changed P (request.Visit visit) has = elim has [ ]
-is_changed P (request.Maintenance on) has = elim has [ ]
-is_changed P request.Given has = elim has [ ]
+is_changed P (request.SnapshotOrCleaner on) has = elim has [ ]
+is_changed P request.Taken has = elim has [ ]
 
 -- the room that it has once it wants log pages
 module _ (shared : Shared) (slots : List ℕ) (hand : Hand) (looked : LookupResult) (made : Handle) (u : Update) where

@@ -81,20 +81,20 @@ turns_alone next actor shared hand running r result shared_after hand_after afte
 owed_by : (j : Request) (owed : PendingAnswer) (c : Call) → FitsNext next.ReturnNumber j → IsRequestOf j owed c → IsOwed owed c
 owed_by (request.Change plan text) owed c fits is = is.2
 owed_by (request.Visit visit) owed c fits is = absurd fits
-owed_by (request.Maintenance on) owed c fits is = is.1
-owed_by request.Given owed c fits is = is
+owed_by (request.SnapshotOrCleaner on) owed c fits is = is.1
+owed_by request.Taken owed c fits is = is
 
 last_unlock : (place : ℕ) (j : Request) → FitsNext (next.Unlock place) j → FitsNext next.ReturnNumber j
 last_unlock place (request.Change plan text) fits = tt
 last_unlock place (request.Visit visit) fits = fits
-last_unlock place (request.Maintenance on) fits = tt
-last_unlock place request.Given fits = tt
+last_unlock place (request.SnapshotOrCleaner on) fits = tt
+last_unlock place request.Taken fits = tt
 
 last_give : (cpu : ℕ) (j : Request) → FitsNext (next.Give cpu) j → FitsNext next.ReturnNumber j
 last_give cpu (request.Change plan text) fits = tt
 last_give cpu (request.Visit visit) fits = fits
-last_give cpu (request.Maintenance on) fits = tt
-last_give cpu request.Given fits = tt
+last_give cpu (request.SnapshotOrCleaner on) fits = tt
+last_give cpu request.Taken fits = tt
 
 pub owes_unlock : (place : ℕ) (running : Running) (told : ShownCall) → running.next ≡ next.Unlock place → FitsCall running
     → IsShownCallOf running told

@@ -18,8 +18,8 @@ use Rattle.nv_core.specs.declared.reservation.Reservation.{Reservation}
 use Rattle.nv_core.specs.declared.reservation.Reservation.TheVariants as reserved
 use Rattle.nv_core.specs.declared.next.Next.{Next}
 use Rattle.nv_core.specs.declared.next.Next.TheVariants as next
-use Rattle.nv_core.specs.declared.next.MaintenanceStep.{MaintenanceStep}
-use Rattle.nv_core.specs.declared.next.MaintenanceStep.TheVariants as on
+use Rattle.nv_core.specs.declared.next.SnapshotOrCleanerStep.{SnapshotOrCleanerStep}
+use Rattle.nv_core.specs.declared.next.SnapshotOrCleanerStep.TheVariants as on
 use Rattle.nv_core.specs.declared.running.Running.{Running}
 use Rattle.nv_core.specs.declared.world.Actor.{Actor}
 
@@ -67,14 +67,14 @@ abbrev pub blocks_by : Actor → List ℕ
 blocks_by actor = held_in (held_by actor.reserved)
 
 -- the part of a record that a drain has picked
-abbrev pub picked_on : MaintenanceStep → List InodePart
+abbrev pub picked_on : SnapshotOrCleanerStep → List InodePart
 picked_on (on.LockPicked draining picked) = inode_part picked ∷ []
 picked_on (on.Release draining picked) = inode_part picked ∷ []
 picked_on other = []
 
 -- the part of the record that a step has picked, if it has
 abbrev pub picked_by : Next → List InodePart
-picked_by (next.Maintenance step) = picked_on step
+picked_by (next.SnapshotOrCleaner step) = picked_on step
 picked_by other = []
 
 -- the killed parts of one plan, and of those that are published and not retired

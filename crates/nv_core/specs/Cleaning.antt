@@ -1,4 +1,4 @@
--- What of a cleaner the machine does not tell: its call, the walk that its judge made, and the room in its hand for the
+-- What of a cleaner the machine does not tell: its call, the walk that its planning made, and the room in its hand for the
 -- pages that move.
 use Rattle.std.specs.Prelude.{◌≡◌, ℕ, ◌+◌, ◌<◌, ◌≤◌, ◌==◌, Bool, true, false, length}
 use Rattle.std.specs.List.{AllByRecursion}
@@ -11,9 +11,9 @@ use Rattle.nv_cell.specs.Readers.{has_killed}
 use Rattle.nv_clean.specs.Plans.{unlinkable_of, wanted_of}
 use Rattle.nv_machine.specs.World.{cell_at}
 use Rattle.nv_core.specs.Shown.{shared_of}
-use Rattle.nv_core.specs.GhostCalls.{IsLookAt, IsMaintenance}
-use Rattle.nv_core.specs.declared.kinds.judge.Choice.{Choice}
-use Rattle.nv_core.specs.declared.kinds.judge.Choice.TheVariants as choice
+use Rattle.nv_core.specs.GhostCalls.{IsLookAt, IsSnapshotOrCleaner}
+use Rattle.nv_core.specs.declared.kinds.plan_cleaning.Choice.{Choice}
+use Rattle.nv_core.specs.declared.kinds.plan_cleaning.Choice.TheVariants as choice
 use Rattle.nv_core.specs.declared.next.Ending.TheVariants as ending
 use Rattle.nv_core.specs.declared.next.CompactPlan.{CompactPlan}
 use Rattle.nv_core.specs.declared.next.FreshPages.{FreshPages}
@@ -23,10 +23,10 @@ use Rattle.nv_core.specs.declared.shared.Shared.{Shared}
 
 -- a call that has steps of its own, whatever its next one is
 pub record IsMaintaining (running : Running) : Type 0 where
-  pub request : IsMaintenance running.request
+  pub request : IsSnapshotOrCleaner running.request
   pub overtaken : running.ending ≡ ending.BoundAnew → IsLookAt 0 running.request
 
--- ---- what the judge chose
+-- ---- what the planning chose
 
 -- whether entries are to move
 abbrev pub compacts : Choice → Bool

@@ -11,7 +11,6 @@ use Rattle.nv_calls.specs.Updates.{blank_call, call_of, text_len}
 use Rattle.nv_calls.specs.declared.call.Call.{Call}
 use Rattle.nv_calls.specs.declared.call.Call.TheVariants as call
 use Rattle.nv_calls.specs.Prepared.{makes}
-use Rattle.nv_calls.specs.declared.plan.Plan.{Plan}
 use Rattle.nv_calls.specs.declared.plan.InodePlan.{InodePlan}
 use Rattle.nv_calls.specs.declared.update.Update.{Update}
 use Rattle.nv_machine.specs.Reads.{is_written, plan_by, slot_at}
@@ -36,10 +35,10 @@ IsOwed owed c = (made : Handle) → answer (λ handle. None) made c ≡ answered
 
 -- the call of a request; of one that its commit has, what it is answered
 abbrev pub IsRequestOf : Request → PendingAnswer → Call → Type 0
-IsRequestOf (request.Change plan text) owed c = (c ≡ call_of plan.update text) × (text_len plan.update ≡ length text) × IsOwed owed c
+IsRequestOf (request.Change plan text) owed c = (c ≡ call_of plan text) × (text_len plan ≡ length text) × IsOwed owed c
 IsRequestOf (request.Visit visit) owed c = c ≡ visit
-IsRequestOf (request.Maintenance on) owed c = (c ≡ call.Maintenance on) × IsOwed owed c
-IsRequestOf request.Given owed c = IsOwed owed c
+IsRequestOf (request.SnapshotOrCleaner on) owed c = (c ≡ call.SnapshotOrCleaner on) × IsOwed owed c
+IsRequestOf request.Taken owed c = IsOwed owed c
 
 -- So three things tie them: what is owed to the call, the plans of what is ready or on its way, and the place of
 -- the next entry.
@@ -93,14 +92,14 @@ abbrev pub is_change : Request → Bool
 is_change (request.Change plan text) = true
 is_change other = false
 
--- a request that changes nodes, by that plan
-abbrev pub IsChangeBy : Request → Plan → Type 0
+-- a request that changes nodes, as that update says
+abbrev pub IsChangeBy : Request → Update → Type 0
 IsChangeBy (request.Change plan text) by = plan ≡ by
 IsChangeBy other by = ⊥
 
 -- the request makes a new inode
 abbrev pub makes_inode : Request → Bool
-makes_inode (request.Change plan text) = makes plan.update
+makes_inode (request.Change plan text) = makes plan
 makes_inode other = false
 
 -- where it is to be answered, it is told what is owed
@@ -147,7 +146,7 @@ IsReservationOf slots (reserved.Commit commit) told = IsCommitOf slots commit to
 
 -- a request that changes nodes, by a call of which this holds
 abbrev pub IsChangeWith : (Update → Type 0) → Request → Type 0
-IsChangeWith P (request.Change plan text) = P plan.update
+IsChangeWith P (request.Change plan text) = P plan
 IsChangeWith P other = ⊥
 
 -- a request that reads one node
@@ -156,16 +155,16 @@ IsVisitOf (request.Visit visit) = IsVisit visit
 IsVisitOf other = ⊥
 
 -- a request on snapshots
-abbrev pub IsMaintenance : Request → Type 0
-IsMaintenance (request.Maintenance on) = Unit {0}
-IsMaintenance other = ⊥
+abbrev pub IsSnapshotOrCleaner : Request → Type 0
+IsSnapshotOrCleaner (request.SnapshotOrCleaner on) = Unit {0}
+IsSnapshotOrCleaner other = ⊥
 
 -- a request as it is when its call starts
 abbrev pub IsAtStart : Request → Type 0
 IsAtStart (request.Change plan text) = Unit {0}
 IsAtStart (request.Visit visit) = IsVisit visit
-IsAtStart (request.Maintenance on) = Unit {0}
-IsAtStart request.Given = ⊥
+IsAtStart (request.SnapshotOrCleaner on) = Unit {0}
+IsAtStart request.Taken = ⊥
 
 -- a call that has a look at that place
 abbrev pub IsLookAt : ℕ → Request → Type 0

@@ -6,8 +6,8 @@ use Rattle.nv_core.specs.declared.reservation.Reservation.{Reservation}
 use Rattle.nv_core.specs.declared.reservation.Reservation.TheVariants as reserved
 use Rattle.nv_core.specs.declared.next.Next.{Next}
 use Rattle.nv_core.specs.declared.next.Next.TheVariants as next
-use Rattle.nv_core.specs.declared.next.MaintenanceStep.{MaintenanceStep}
-use Rattle.nv_core.specs.declared.next.MaintenanceStep.TheVariants as on
+use Rattle.nv_core.specs.declared.next.SnapshotOrCleanerStep.{SnapshotOrCleanerStep}
+use Rattle.nv_core.specs.declared.next.SnapshotOrCleanerStep.TheVariants as on
 use Rattle.nv_core.specs.declared.running.Running.{Running}
 use Rattle.nv_core.specs.declared.world.Actor.{Actor}
 
@@ -16,14 +16,14 @@ abbrev pub block_of : Record → ℕ
 block_of d = if is_page d.part then 1 else 0
 
 -- the blocks of the record that a step has picked
-abbrev pub picked_on : MaintenanceStep → ℕ
+abbrev pub picked_on : SnapshotOrCleanerStep → ℕ
 picked_on (on.LockPicked draining picked) = block_of picked
 picked_on (on.Release draining picked) = block_of picked
 picked_on other = 0
 
 -- the blocks of the record that such a next step has picked
 abbrev pub picked_at : Next → ℕ
-picked_at (next.Maintenance step) = picked_on step
+picked_at (next.SnapshotOrCleaner step) = picked_on step
 picked_at other = 0
 
 -- the blocks of the record that a call has picked

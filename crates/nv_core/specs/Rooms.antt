@@ -27,7 +27,7 @@ use Rattle.nv_core.specs.Cleaning.{CanCompact, CanUnlink, TakesFresh}
 use Rattle.nv_core.specs.Committing.{IsCommitting}
 use Rattle.nv_core.specs.Nodes.{CanRead, wanted_over}
 use Rattle.nv_core.specs.Shown.{slots_in}
-use Rattle.nv_core.specs.GhostCalls.{IsChangeWith, IsLookAt, IsMaintenance, IsVisitOf, is_change, makes_inode}
+use Rattle.nv_core.specs.GhostCalls.{IsChangeWith, IsLookAt, IsSnapshotOrCleaner, IsVisitOf, is_change, makes_inode}
 use Rattle.nv_core.specs.declared.reservation.Reservation.{Reservation}
 use Rattle.nv_core.specs.declared.reservation.Reservation.TheVariants as reserved
 use Rattle.nv_core.specs.declared.request.Request.{Request}
@@ -36,8 +36,8 @@ use Rattle.nv_core.specs.declared.next.Ending.{Ending}
 use Rattle.nv_core.specs.declared.next.Ending.TheVariants as ending
 use Rattle.nv_core.specs.declared.next.Next.{Next}
 use Rattle.nv_core.specs.declared.next.Next.TheVariants as next
-use Rattle.nv_core.specs.declared.next.MaintenanceStep.{MaintenanceStep}
-use Rattle.nv_core.specs.declared.next.MaintenanceStep.TheVariants as on
+use Rattle.nv_core.specs.declared.next.SnapshotOrCleanerStep.{SnapshotOrCleanerStep}
+use Rattle.nv_core.specs.declared.next.SnapshotOrCleanerStep.TheVariants as on
 use Rattle.nv_core.specs.declared.running.Running.{Running}
 use Rattle.nv_core.specs.declared.shared.Shared.{Shared}
 use Rattle.nv_core.specs.declared.turn.Turn.{Turn}
@@ -55,7 +55,7 @@ abbrev pub FitsNext : Next → Request → Type 0
 FitsNext next.Number j = makes_inode j ≡ true
 FitsNext (next.Look place) j = IsLookAt place j
 FitsNext next.Visit j = IsVisitOf j
-FitsNext (next.Maintenance step) j = IsMaintenance j
+FitsNext (next.SnapshotOrCleaner step) j = IsSnapshotOrCleaner j
 FitsNext (next.Unlock place) j = IsNoVisit j
 FitsNext (next.Give cpu) j = IsNoVisit j
 FitsNext next.ReturnNumber j = IsNoVisit j
@@ -63,42 +63,42 @@ FitsNext before j = is_change j ≡ true
 
 -- a call that looks nothing up has found nothing
 abbrev pub LooksAsTold : Request → LookupResult → Type 0
-LooksAsTold (request.Change plan text) looked = directories (blank_call plan.update) ≡ [] → looked ≡ nothing_looked
+LooksAsTold (request.Change plan text) looked = directories (blank_call plan) ≡ [] → looked ≡ nothing_looked
 LooksAsTold other looked = Unit {0}
 
 -- the next step is one of a call on snapshots: of any, a visit of a show, or the end of one
-abbrev pub IsMaintenanceStep : Next → Type 0
-IsMaintenanceStep (next.Maintenance step) = Unit {0}
-IsMaintenanceStep other = ⊥
+abbrev pub IsSnapshotOrCleanerStep : Next → Type 0
+IsSnapshotOrCleanerStep (next.SnapshotOrCleaner step) = Unit {0}
+IsSnapshotOrCleanerStep other = ⊥
 
 -- one that is lent the book
 abbrev pub IsOnBook : Next → Type 0
-IsOnBook (next.Maintenance (on.Show snapshot showing)) = ⊥
-IsOnBook (next.Maintenance (on.LockPicked draining picked)) = ⊥
-IsOnBook (next.Maintenance (on.Release draining picked)) = ⊥
-IsOnBook (next.Maintenance (on.LockCleaned log)) = ⊥
-IsOnBook (next.Maintenance (on.Judge manner slot)) = ⊥
-IsOnBook (next.Maintenance (on.Fresh fresh)) = ⊥
-IsOnBook (next.Maintenance (on.Unlink plan)) = ⊥
-IsOnBook (next.Maintenance (on.Compact plan)) = ⊥
-IsOnBook (next.Maintenance step) = Unit {0}
+IsOnBook (next.SnapshotOrCleaner (on.Show snapshot showing)) = ⊥
+IsOnBook (next.SnapshotOrCleaner (on.LockPicked draining picked)) = ⊥
+IsOnBook (next.SnapshotOrCleaner (on.Release draining picked)) = ⊥
+IsOnBook (next.SnapshotOrCleaner (on.LockCleaned log)) = ⊥
+IsOnBook (next.SnapshotOrCleaner (on.PlanCleaning manner slot)) = ⊥
+IsOnBook (next.SnapshotOrCleaner (on.Fresh fresh)) = ⊥
+IsOnBook (next.SnapshotOrCleaner (on.Unlink plan)) = ⊥
+IsOnBook (next.SnapshotOrCleaner (on.Compact plan)) = ⊥
+IsOnBook (next.SnapshotOrCleaner step) = Unit {0}
 IsOnBook other = ⊥
 
--- one of a cleaner behind its judge
+-- one of a cleaner behind its planning
 abbrev pub IsCleaning : Next → Type 0
-IsCleaning (next.Maintenance (on.Fresh fresh)) = Unit {0}
-IsCleaning (next.Maintenance (on.Unlink plan)) = Unit {0}
-IsCleaning (next.Maintenance (on.Compact plan)) = Unit {0}
+IsCleaning (next.SnapshotOrCleaner (on.Fresh fresh)) = Unit {0}
+IsCleaning (next.SnapshotOrCleaner (on.Unlink plan)) = Unit {0}
+IsCleaning (next.SnapshotOrCleaner (on.Compact plan)) = Unit {0}
 IsCleaning other = ⊥
 
 -- the step reads a node of a show
 abbrev pub IsShow : Next → Type 0
-IsShow (next.Maintenance (on.Show snapshot showing)) = Unit {0}
+IsShow (next.SnapshotOrCleaner (on.Show snapshot showing)) = Unit {0}
 IsShow other = ⊥
 
 -- the step takes a pin off
 abbrev pub IsUnpin : Next → Type 0
-IsUnpin (next.Maintenance (on.Unpin snapshot seen)) = Unit {0}
+IsUnpin (next.SnapshotOrCleaner (on.Unpin snapshot seen)) = Unit {0}
 IsUnpin other = ⊥
 
 -- a call whose names were bound anew looks them up
@@ -238,7 +238,7 @@ HoldsOne hand = 0 < hand.«data».room + length hand.«data».blocks
 
 -- a show has another visit to make; a drain releases no more than it may, and behind its first pick it has room for
 -- the block of a record; a cleaner has the walk of the cell that it holds, and room for the pages that move
-abbrev pub HasStepRoom : MaintenanceStep → Shared → Hand → Type 0
+abbrev pub HasStepRoom : SnapshotOrCleanerStep → Shared → Hand → Type 0
 HasStepRoom (on.Show snapshot showing) shared hand = is_over showing ≡ false
 HasStepRoom (on.Pick draining) shared hand =
     (draining.released + draining.left < DRAIN) × (0 < draining.released → HoldsOne hand)
@@ -251,12 +251,12 @@ HasStepRoom other shared hand = Unit {0}
 
 -- so has one that goes on to its next record, and it is a call on snapshots
 abbrev pub CanDrain : Ending → Request → Hand → Type 0
-CanDrain (ending.Drains draining) j hand = IsMaintenance j × (draining.released + draining.left ≤ DRAIN) × HoldsOne hand
+CanDrain (ending.Drains draining) j hand = IsSnapshotOrCleaner j × (draining.released + draining.left ≤ DRAIN) × HoldsOne hand
 CanDrain other j hand = Unit {0}
 
 -- what the next step of a call asks of its hand and of its request
 abbrev pub HasNextRoom : Next → Ending → Request → Shared → Hand → Type 0
-HasNextRoom (next.Maintenance step) how j shared hand = HasStepRoom step shared hand
+HasNextRoom (next.SnapshotOrCleaner step) how j shared hand = HasStepRoom step shared hand
 HasNextRoom (next.Unlock place) how j shared hand = CanDrain how j hand
 HasNextRoom (next.Give cpu) how j shared hand = CanDrain how j hand
 HasNextRoom next.ReturnNumber how j shared hand = CanDrain how j hand
@@ -291,10 +291,10 @@ HasRooms shared (reserved.Hand hand) running =
     FitsCall running × IsHandOf shared.geometry.numbers hand × TakesIf (takes running.next) shared hand running
     × HasNextRoom running.next running.ending running.request shared hand
 HasRooms shared (reserved.Ready ready) running =
-    (running.request ≡ request.Given) × (running.ending ≡ ending.Answers) × IsHandOf shared.geometry.numbers ready.hand
+    (running.request ≡ request.Taken) × (running.ending ≡ ending.Answers) × IsHandOf shared.geometry.numbers ready.hand
     × IsReadyOver (lent_cells (slots_in running.slots) shared.cells.items) ready
 HasRooms shared (reserved.Commit commit) running =
-    (running.request ≡ request.Given) × (running.ending ≡ ending.Answers) × IsHandOf shared.geometry.numbers commit.hand
+    (running.request ≡ request.Taken) × (running.ending ≡ ending.Answers) × IsHandOf shared.geometry.numbers commit.hand
     × IsCommitting (committing_cpu shared) (lent_cells (slots_in running.slots) shared.cells.items) shared.book commit
 
 -- an actor without a call has its hand alone

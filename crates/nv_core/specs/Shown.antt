@@ -27,8 +27,8 @@ use Rattle.nv_core.specs.declared.next.Next.{Next}
 use Rattle.nv_core.specs.declared.next.Next.TheVariants as next
 use Rattle.nv_core.specs.declared.next.Manner.{Manner}
 use Rattle.nv_core.specs.declared.next.Manner.TheVariants as manner
-use Rattle.nv_core.specs.declared.next.MaintenanceStep.{MaintenanceStep}
-use Rattle.nv_core.specs.declared.next.MaintenanceStep.TheVariants as on
+use Rattle.nv_core.specs.declared.next.SnapshotOrCleanerStep.{SnapshotOrCleanerStep}
+use Rattle.nv_core.specs.declared.next.SnapshotOrCleanerStep.TheVariants as on
 use Rattle.nv_core.specs.declared.running.Running.{Running}
 use Rattle.nv_core.specs.declared.shared.Shared.{Shared}
 use Rattle.nv_core.specs.declared.turn.Turn.{Turn}
@@ -91,7 +91,7 @@ manner_of manner.Thorough = machine.Thorough
 manner_of manner.Auto = machine.Auto
 
 -- a step on snapshots, or of a cleaner, in the machine's words
-abbrev pub step_on : MaintenanceStep → machine.MaintenanceStep
+abbrev pub step_on : SnapshotOrCleanerStep → machine.SnapshotOrCleanerStep
 step_on on.Make = machine.Make
 step_on (on.Drop snapshot) = machine.Drop snapshot
 step_on (on.Pin snapshot) = machine.Pin snapshot
@@ -101,7 +101,7 @@ step_on (on.Pick draining) = machine.Pick (draining_of draining)
 step_on (on.LockPicked draining picked) = machine.LockPicked (draining_of draining) picked
 step_on (on.Release draining picked) = machine.Release (draining_of draining) picked
 step_on (on.LockCleaned log) = machine.LockCleaned (manner_of log.manner) log.ino
-step_on (on.Judge manner slot) = machine.Judge (manner_of manner) slot
+step_on (on.PlanCleaning manner slot) = machine.PlanCleaning (manner_of manner) slot
 step_on (on.Fresh fresh) = machine.Fresh fresh.plan.ino fresh.asked fresh.left
 step_on (on.Unlink plan) = machine.Unlink plan.ino
 step_on (on.Compact plan) = machine.Compact plan.ino
@@ -119,22 +119,22 @@ next_of (next.Unlock place) = machine.Unlock place
 next_of (next.Give cpu) = machine.Give cpu
 next_of next.ReturnNumber = machine.ReturnNumber
 next_of next.Visit = machine.Visit
-next_of (next.Maintenance step) = machine.Maintenance (step_on step)
+next_of (next.SnapshotOrCleaner step) = machine.SnapshotOrCleaner (step_on step)
 
 -- the snapshot of a show that visits or ends, its state before a visit, and what it has seen at its end
 abbrev pub snapshot_in : Next → ℕ
-snapshot_in (next.Maintenance (on.Show snapshot showing)) = snapshot
-snapshot_in (next.Maintenance (on.Unpin snapshot seen)) = snapshot
+snapshot_in (next.SnapshotOrCleaner (on.Show snapshot showing)) = snapshot
+snapshot_in (next.SnapshotOrCleaner (on.Unpin snapshot seen)) = snapshot
 snapshot_in other = 0
 
 -- the walk of a show, if the next step has one
 abbrev pub showing_in : Next → Showing
-showing_in (next.Maintenance (on.Show snapshot showing)) = showing
+showing_in (next.SnapshotOrCleaner (on.Show snapshot showing)) = showing
 showing_in other = record { left = 0; visits = []; seen = [] }
 
 -- what a show has seen, if the next step takes its pin off
 abbrev pub seen_in : Next → List TreeNode
-seen_in (next.Maintenance (on.Unpin snapshot seen)) = seen
+seen_in (next.SnapshotOrCleaner (on.Unpin snapshot seen)) = seen
 seen_in other = []
 
 -- how a call is to end, in the machine's words

@@ -43,8 +43,8 @@ use Rattle.nv_core.specs.declared.reservation.Reservation.TheVariants as reserve
 use Rattle.nv_core.specs.declared.next.Ending.TheVariants as ending
 use Rattle.nv_core.specs.declared.next.Next.{Next}
 use Rattle.nv_core.specs.declared.next.Next.TheVariants as next
-use Rattle.nv_core.specs.declared.next.MaintenanceStep.{MaintenanceStep}
-use Rattle.nv_core.specs.declared.next.MaintenanceStep.TheVariants as on
+use Rattle.nv_core.specs.declared.next.SnapshotOrCleanerStep.{SnapshotOrCleanerStep}
+use Rattle.nv_core.specs.declared.next.SnapshotOrCleanerStep.TheVariants as on
 use Rattle.nv_core.specs.declared.running.Running.{Running}
 use Rattle.nv_core.specs.declared.shared.Shared.{Shared}
 
@@ -101,14 +101,14 @@ pub record CanRelease (shared : Shared) (picked : Record) : Type 0 where
       → (cell_at (shared_of shared) picked.ino).generation < NUMBER
 
 -- what a step of a call on snapshots or of a cleaner is given
-abbrev pub GivenOn : MaintenanceStep → Shared → Type 0
+abbrev pub GivenOn : SnapshotOrCleanerStep → Shared → Type 0
 GivenOn (on.Pin snapshot) shared = ForSome (pins_of shared.book.state.snaps snapshot) (λ pins. pins < PINS)
 GivenOn (on.Show snapshot showing) shared = CanShow shared snapshot
 GivenOn (on.Unpin snapshot seen) shared = IsSomeAnd (pins_of shared.book.state.snaps snapshot) (λ pins. 0 < pins)
 GivenOn (on.LockPicked draining picked) shared = picked.ino < length shared.owners.items
 GivenOn (on.Release draining picked) shared = CanRelease shared picked
 GivenOn (on.LockCleaned log) shared = log.ino < length shared.owners.items
-GivenOn (on.Judge manner slot) shared = ForSome slot (λ ino. ino < length shared.cells.items)
+GivenOn (on.PlanCleaning manner slot) shared = ForSome slot (λ ino. ino < length shared.cells.items)
 GivenOn (on.Unlink plan) shared = CanClean shared plan.ino
 GivenOn (on.Compact plan) shared = CanClean shared plan.ino
 GivenOn other shared = Unit {0}
@@ -124,7 +124,7 @@ Given (next.Give cpu) shared hand running = CanGive shared hand cpu
 Given next.ReturnNumber shared hand running = CanPutBack shared hand
 Given next.Visit shared hand running =
     (slots_in running.slots ≡ []) × ((ino : ℕ) → HasOwnBytes (shared_of shared) ino) × (hand_of hand ≡ empty_hand)
-Given (next.Maintenance step) shared hand running =
+Given (next.SnapshotOrCleaner step) shared hand running =
     (slots_in running.slots ≡ slots_on (step_on step)) × HandOn (step_on step) (hand_of hand) × GivenOn step shared
 Given other shared hand running = Unit {0}
 

@@ -17,7 +17,7 @@ ghost use Rattle.nv_core.specs.Shown.{hand_of, slots_in};
 ghost use Rattle.nv_core.specs.Worlds.{Shows};
 
 use crate::World;
-use crate::next::{MaintenanceStep, Next};
+use crate::next::{Next, SnapshotOrCleanerStep};
 use crate::reservation::Reservation;
 use crate::world::Actor;
 use nv_alloc::{Block, Hand};
@@ -155,8 +155,9 @@ fn push_picked(parts: &mut Vec<InodePart>, next: &Next) -> Result<(), AllocError
     ensures { OnOk result (parts.new.items ≡ parts.old.items ++ picked_by next.now) }
 {
     match next {
-        Next::Maintenance(
-            MaintenanceStep::LockPicked(_, picked) | MaintenanceStep::Release(_, picked),
+        Next::SnapshotOrCleaner(
+            SnapshotOrCleanerStep::LockPicked(_, picked)
+            | SnapshotOrCleanerStep::Release(_, picked),
         ) => {
             parts.push(part_of(picked))?;
             Ok(())

@@ -9,7 +9,7 @@ ghost use Rattle.nv_core.specs.Rooms.{CanDrain, CanEnd, HasRoomsAfter, IsHandOf,
 ghost use Rattle.nv_core.specs.Shown.{ShownCall, ending_of, hand_of, shared_of, shown, slots_in, turn_of};
 ghost use Rattle.nv_core.specs.GhostCalls.{KeepsRequest, OwesAt};
 
-use crate::next::{Draining, Ending, MaintenanceStep, Next};
+use crate::next::{Draining, Ending, Next, SnapshotOrCleanerStep};
 use crate::reservation::Reservation;
 use crate::running::Running;
 use crate::shared::Shared;
@@ -135,7 +135,7 @@ fn drained(draining: Draining, running: &mut Running) -> Turn
     };
     running.ending = Ending::Answers;
     running.slots = LockedSlots::none();
-    running.next = Next::Maintenance(MaintenanceStep::Pick(next));
+    running.next = Next::SnapshotOrCleaner(SnapshotOrCleanerStep::Pick(next));
     Turn::Moves
 }
 

@@ -33,7 +33,7 @@ use nv_alloc::Hand;
 use nv_base::Fault;
 use nv_book::Book;
 use nv_calls::{
-    Commit, LockedSlots, Plan, Ready, SlotCells, append_on, make_room, open_on, pages_wanted,
+    Commit, LockedSlots, Ready, SlotCells, Update, append_on, make_room, open_on, pages_wanted,
     publish_on, ready_filled, retire_on,
 };
 use nv_cell::InodeCell;
@@ -43,45 +43,45 @@ use std::alloc::Global;
 pub(crate) fn pages_in(
     cells: &mut [InodeCell],
     slots: &LockedSlots,
-    plan: &Plan,
+    update: &Update,
     hand: &Hand,
 ) -> u64
     requires slots { HaveSlots cells.old (slots_in slots.now) }
-    requires can { CanReady (lent_cells (slots_in slots.now) cells.old) hand.now plan.now.update }
+    requires can { CanReady (lent_cells (slots_in slots.now) cells.old) hand.now update.now }
     ensures same { cells.new ≡ cells.old }
     ensures wanted { let lent = lent_cells (slots_in slots.now) cells.old in
-        result ≡ pages_wanted lent (planned_by lent hand.now plan.now.update) }
+        result ≡ pages_wanted lent (planned_by lent hand.now update.now) }
     ensures few { result ≤ length hand.now.data.blocks + MORE_PAGES }
 {
     let slots = slots.as_slice();
     let lent = SlotCells { cells, slots };
-    pages_wanted(&lent, plan, hand)
+    pages_wanted(&lent, update, hand)
 }
 
 /// Makes room in the hand for so many data blocks, and for the log pages that the call takes after them.
 pub(crate) fn room_in(
     cells: &mut [InodeCell],
     slots: &LockedSlots,
-    plan: &Plan,
+    update: &Update,
     hand: &mut Hand,
     wanted: u64,
 ) -> Result<(), Fault>
     requires slots { HaveSlots cells.old (slots_in slots.now) }
     requires none { wanted ≡ 0
-        → CanReady (lent_cells (slots_in slots.now) cells.old) hand.old plan.now.update }
+        → CanReady (lent_cells (slots_in slots.now) cells.old) hand.old update.now }
     requires few { wanted < 2 ^ 32 }
     ensures same { cells.new ≡ cells.old }
     ensures ok { let lent = lent_cells (slots_in slots.now) cells.old in
         OnOk result (hand.new ≡ with_rooms wanted
-        (pages_at_most wanted lent hand.old plan.now.update) hand.old) }
+        (pages_at_most wanted lent hand.old update.now) hand.old) }
     ensures err { let lent = lent_cells (slots_in slots.now) cells.old in
         FailsOnlyWhere out_of_memory ((hand.old.data.room < wanted)
-        ⊎ (hand.old.pages.room < pages_at_most wanted lent hand.old plan.now.update)) result }
+        ⊎ (hand.old.pages.room < pages_at_most wanted lent hand.old update.now)) result }
     ensures kept { OnErr result (HasNoLessRoom hand.old hand.new) }
 {
     let slots = slots.as_slice();
     let lent = SlotCells { cells, slots };
-    make_room(&lent, plan, hand, wanted)
+    make_room(&lent, update, hand, wanted)
 }
 
 /// Makes all growths of a call, and fills its fresh blocks with the bytes of its pages. A text in memory doesn't fail.
@@ -89,17 +89,17 @@ pub(crate) fn ready_in(
     alloc: Global,
     cells: &mut [InodeCell],
     slots: &LockedSlots,
-    plan: Plan,
+    update: Update,
     hand: Hand,
     text: &[u8],
 ) -> Result<Ready, (Fault, Hand)>
     requires slots { HaveSlots cells.old (slots_in slots.now) }
-    requires can { CanReady (lent_cells (slots_in slots.now) cells.old) hand plan.update }
-    requires pages { HasLogPages (lent_cells (slots_in slots.now) cells.old) hand plan.update }
+    requires can { CanReady (lent_cells (slots_in slots.now) cells.old) hand update }
+    requires pages { HasLogPages (lent_cells (slots_in slots.now) cells.old) hand update }
     ensures ok { IfOk result (λ ready. IsReadyBy (lent_cells (slots_in slots.now) cells.old) hand
-        plan.update (lent_cells (slots_in slots.now) cells.new) ready) }
+        update (lent_cells (slots_in slots.now) cells.new) ready) }
     ensures filled { IfOk result (λ ready. hand_of ready.hand
-        ≡ filled_hand (lent_cells (slots_in slots.now) cells.old) text.now plan.update hand) }
+        ≡ filled_hand (lent_cells (slots_in slots.now) cells.old) text.now update hand) }
     ensures err { IfErr result (λ refused. (refused.0 ≡ out_of_memory)
         × HasNoLessRoom hand refused.1) }
     ensures cells { HaveNoLessRoom (lent_cells (slots_in slots.now) cells.old)
@@ -111,7 +111,7 @@ pub(crate) fn ready_in(
     let slots = slots.as_slice();
     let mut lent = SlotCells { cells, slots };
     let mut source = Text { bytes: text };
-    ready_filled(alloc, &mut lent, plan, hand, &mut source)
+    ready_filled(alloc, &mut lent, update, hand, &mut source)
 }
 
 /// Appends the entries of the next inode.

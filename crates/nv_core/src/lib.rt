@@ -45,7 +45,7 @@ pub use nv_base::{
     Bytes, CommitNo, Epoch, Fault, Gen, Geometry, GeometryField, GeometryNumbers, Handle, Ino,
     Kind, Mode, Name,
 };
-pub use nv_calls::{Answer, Call, MaintenanceCall};
+pub use nv_calls::{Answer, Call, SnapshotOrCleanerCall};
 pub use nv_entry::{NodeCopy, Path, Tree, TreeNode};
 pub use nv_log::ChainImage;
 pub use nv_reader::root;

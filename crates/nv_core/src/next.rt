@@ -23,7 +23,7 @@ pub(crate) enum Next {
     Give(u64),
     ReturnNumber,
     Visit,
-    Maintenance(MaintenanceStep),
+    SnapshotOrCleaner(SnapshotOrCleanerStep),
 }
 
 /// A drain that goes on: how many records it has released, and how many more it may release behind the next one.
@@ -74,10 +74,10 @@ pub(crate) struct FreshPages {
 /// by inode, and unpins it, with what it has seen; or it picks a deferred record, locks its inode and releases it. A
 /// snapshot is given by its number.
 ///
-/// A cleaner locks the slot of its inode and judges what may go of its log, by a walk that the later steps keep. It unlinks
-/// pages, or takes fresh ones and moves to them the entries that stay. A number without a slot is judged too.
+/// A cleaner locks the slot of its inode and plans what goes of its log, by a walk that the later steps keep. It unlinks
+/// pages, or takes fresh ones and moves to them the entries that stay. A number without a slot is planned too.
 #[derive(Drop)]
-pub(crate) enum MaintenanceStep {
+pub(crate) enum SnapshotOrCleanerStep {
     Make,
     Drop(u64),
     Pin(u64),
@@ -87,7 +87,7 @@ pub(crate) enum MaintenanceStep {
     LockPicked(Draining, Record),
     Release(Draining, Record),
     LockCleaned(ToClean),
-    Judge(Manner, Option<Ino>),
+    PlanCleaning(Manner, Option<Ino>),
     Fresh(FreshPages),
     Unlink(UnlinkPlan),
     Compact(CompactPlan),

@@ -87,7 +87,7 @@ impl World {
             return Err((Fault::ActorBusy, self));
         }
         let parts = self.into_shared().into_parts();
-        use_book(&parts.book);
+        book_holds_together(&parts.book);
         Ok(parts)
     }
 }
@@ -216,12 +216,11 @@ fn judge(alloc: Global, parts: &Parts) -> Result<(), Fault>
 }
 
 /// What holds of each book.
-fn use_book(book: &Book)
+fn book_holds_together(book: &Book)
     ensures { IsOneBook book.now.state }
 {
-    // The snapshots tell that their numbers rise and that records are filed, the last commit that it fits.
-    let _epoch = book.snaps().epoch();
-    let _commit = book.commit();
+    book.snaps().rises();
+    book.keeps_its_limit();
 }
 
 /// Whether one of these actors has a call.

@@ -20,7 +20,7 @@ ghost use Rattle.nv_alloc.specs.Numbers.{IsEachOnce};
 ghost use Rattle.nv_core.specs.Worlds.{Shows};
 
 use crate::World;
-use crate::next::{MaintenanceStep, Next};
+use crate::next::{Next, SnapshotOrCleanerStep};
 use crate::reservation::Reservation;
 use crate::shared::Shared;
 use crate::world::Actor;
@@ -195,8 +195,9 @@ fn picked_at(next: &Next) -> u64
     ensures few { result ≤ 1 }
 {
     match next {
-        Next::Maintenance(
-            MaintenanceStep::LockPicked(_, picked) | MaintenanceStep::Release(_, picked),
+        Next::SnapshotOrCleaner(
+            SnapshotOrCleanerStep::LockPicked(_, picked)
+            | SnapshotOrCleanerStep::Release(_, picked),
         ) if picked.is_page() => 1,
         _ => 0,
     }
@@ -256,7 +257,7 @@ fn kept_of(cell: &InodeCell, book: &Book, place: usize, entry: &Entry) -> u64
     requires { slice_get (log_of cell.now.state) place ≡ Some entry.now }
     ensures { result ≡ kept_at book.now.state cell.now.state place entry.now }
 {
-    cell.use_invariant();
+    cell.holds_together();
     let marks = cell.marks_of(place);
     let mut count = 0;
     for k in 0..entry.item.part_count() {
@@ -295,7 +296,7 @@ fn has_block(cell: &InodeCell, entry: &Entry, k: u32) -> bool
         → is_there (mark_of cell.now.state place k) ≡ true
         → result ≡ is_some (block_at cell.now.state place k) }
 {
-    cell.use_invariant();
+    cell.holds_together();
     match entry.item.part_at(k) {
         Some(part) => is_page(part),
         None => false,

@@ -8,20 +8,20 @@ ghost use Rattle.nv_core.specs.Shown.{answered};
 ghost use Rattle.nv_core.specs.GhostCalls.{IsAtStart, IsRequestOf, IsVisit, is_change};
 
 use nv_base::{Bytes, Handle};
-use nv_calls::{Answer, Call, MaintenanceCall, Plan, Update};
+use nv_calls::{Answer, Call, SnapshotOrCleanerCall, Update};
 use std::alloc::Global;
 
 /// What a call is to do.
 #[derive(Debug, Drop)]
 pub(crate) enum Request {
     /// It changes nodes. The text is that of a write.
-    Change(Plan, Bytes),
+    Change(Update, Bytes),
     /// It reads one node.
     Visit(Call),
     /// It is on snapshots.
-    Maintenance(MaintenanceCall),
+    SnapshotOrCleaner(SnapshotOrCleanerCall),
     /// Its commit has it.
-    Given,
+    Taken,
 }
 
 /// What a call that changes nodes is answered, apart from the handle of the inode that it makes.
@@ -67,11 +67,13 @@ pub(crate) fn request_of(alloc: Global, call: Call) -> (Request, PendingAnswer)
                 PendingAnswer::Nothing,
             )
         }
-        Call::Maintenance(call) => return (Request::Maintenance(call), PendingAnswer::Nothing),
+        Call::SnapshotOrCleaner(call) => return (
+            Request::SnapshotOrCleaner(call),
+            PendingAnswer::Nothing,
+        ),
         visit => return (Request::Visit(visit), PendingAnswer::Nothing),
     };
-    let plan = Plan { update };
-    (Request::Change(plan, Bytes::empty(alloc)), owed)
+    (Request::Change(update, Bytes::empty(alloc)), owed)
 }
 
 fn request_of_write(file: Handle, offset: u64, text: Bytes) -> (Request, PendingAnswer)
@@ -84,8 +86,7 @@ fn request_of_write(file: Handle, offset: u64, text: Bytes) -> (Request, Pending
         offset,
         count,
     };
-    let plan = Plan { update };
-    (Request::Change(plan, text), PendingAnswer::Count(count))
+    (Request::Change(update, text), PendingAnswer::Count(count))
 }
 
 /// The handle of the node that a visit reads.

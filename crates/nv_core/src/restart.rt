@@ -214,7 +214,7 @@ fn left_of(geometry: &Geometry, cell: InodeCell, lists: &mut Vec<FreeList>) -> B
         → slot_in view ino ≡ shown_cell cell
         → HasLeft image view ino owed result lists.new.items }
 {
-    cell.use_invariant();
+    cell.holds_together();
     let published = cell.published_slots();
     let mut bare = cell.into_bare();
     give_past(geometry, lists, &mut bare.blocks, published);

@@ -9,7 +9,7 @@ ghost use Rattle.nv_core.specs.Shown.{ShownCall, draining_of, manner_of, next_of
 ghost use Rattle.nv_calls.specs.Updates.{call_of};
 ghost use Rattle.nv_core.specs.GhostCalls.{IsAtStart, IsChangeBy, IsRequestOf, IsShownCallOf, is_change, looking_at, starting};
 
-use crate::next::{Draining, Ending, MaintenanceStep, Manner, Next, ToClean};
+use crate::next::{Draining, Ending, Manner, Next, SnapshotOrCleanerStep, ToClean};
 use crate::request::{PendingAnswer, Request, request_of};
 use crate::reservation::Reservation;
 use crate::shared::Shared;
@@ -17,7 +17,7 @@ use crate::turn::Turn;
 use nv_alloc::Hand;
 use nv_base::{Gen, Handle, Ino, limits};
 use nv_calls::{
-    Call, LockedSlots, LookupResult, MaintenanceCall, Plan, Update, look_count, slots_of,
+    Call, LockedSlots, LookupResult, SnapshotOrCleanerCall, Update, look_count, slots_of,
 };
 use std::alloc::Global;
 
@@ -62,7 +62,7 @@ pub(crate) fn locking(place: usize, slots: &LockedSlots) -> Next
 pub(crate) fn looking(place: usize, update: &Update, slots: &LockedSlots) -> Next
     ensures next { (text : List ℕ) → next_of result
         ≡ looking_at place (slots_in slots.now) (call_of update.now text) }
-    ensures before { (request : Request) (plan : Plan) → IsChangeBy request plan → plan.update ≡ update.now
+    ensures before { (request : Request) (u : Update) → IsChangeBy request u → u ≡ update.now
         → FitsNext result request }
     ensures none { takes result ≡ false }
     ensures room { (how : Ending) (request : Request) (shared : Shared) (hand : Hand)
@@ -88,44 +88,53 @@ fn first_step(inodes: u64, request: &Request, looked: &LookupResult) -> (Next, L
 {
     let none = LockedSlots::none();
     match request {
-        Request::Change(Plan { update }, _) => first_of_change(inodes, update, looked),
-        Request::Maintenance(call) => {
-            let (step, slots) = first_of_maintenance(inodes, call);
-            (Next::Maintenance(step), slots)
+        Request::Change(update, _) => first_of_change(inodes, update, looked),
+        Request::SnapshotOrCleaner(call) => {
+            let (step, slots) = first_of_snapshot_or_cleaner(inodes, call);
+            (Next::SnapshotOrCleaner(step), slots)
         }
-        Request::Visit(_) | Request::Given => (Next::Visit, none),
+        Request::Visit(_) | Request::Taken => (Next::Visit, none),
     }
 }
 
 /// The first step of a call on snapshots or of a cleaner, and the slot that it locks, if any.
-fn first_of_maintenance(inodes: u64, call: &MaintenanceCall) -> (MaintenanceStep, LockedSlots)
+fn first_of_snapshot_or_cleaner(
+    inodes: u64,
+    call: &SnapshotOrCleanerCall,
+) -> (SnapshotOrCleanerStep, LockedSlots)
     ensures step { step_on result.0 ≡ first_step inodes call.now }
     ensures slots { slots_in result.1 ≡ slots_on (first_step inodes call.now) }
     ensures room { (shared : Shared) (hand : Hand) → HasStepRoom result.0 shared hand }
 {
     let step = match call {
-        MaintenanceCall::Snap => MaintenanceStep::Make,
-        MaintenanceCall::Drop(snapshot) => MaintenanceStep::Drop(snapshot.number()),
-        MaintenanceCall::Show(snapshot) => MaintenanceStep::Pin(snapshot.number()),
-        MaintenanceCall::Drain(number) => MaintenanceStep::Pick(new_draining(*number)),
-        MaintenanceCall::Fast(ino) => return first_clean(inodes, Manner::Fast, *ino),
-        MaintenanceCall::Thorough(ino) => return first_clean(inodes, Manner::Thorough, *ino),
-        MaintenanceCall::Auto(ino) => return first_clean(inodes, Manner::Auto, *ino),
+        SnapshotOrCleanerCall::Snap => SnapshotOrCleanerStep::Make,
+        SnapshotOrCleanerCall::Drop(snapshot) => SnapshotOrCleanerStep::Drop(snapshot.number()),
+        SnapshotOrCleanerCall::Show(snapshot) => SnapshotOrCleanerStep::Pin(snapshot.number()),
+        SnapshotOrCleanerCall::Drain(number) => SnapshotOrCleanerStep::Pick(new_draining(*number)),
+        SnapshotOrCleanerCall::Fast(ino) => return first_clean(inodes, Manner::Fast, *ino),
+        SnapshotOrCleanerCall::Thorough(ino) => return first_clean(inodes, Manner::Thorough, *ino),
+        SnapshotOrCleanerCall::Auto(ino) => return first_clean(inodes, Manner::Auto, *ino),
     };
     (step, LockedSlots::none())
 }
 
 /// A cleaner locks the slot of its number, if there are that many. A number without a slot is judged at once.
-fn first_clean(inodes: u64, manner: Manner, ino: Ino) -> (MaintenanceStep, LockedSlots)
+fn first_clean(inodes: u64, manner: Manner, ino: Ino) -> (SnapshotOrCleanerStep, LockedSlots)
     ensures step { step_on result.0 ≡ first_clean inodes (manner_of manner) ino }
     ensures slots { slots_in result.1 ≡ slots_on (first_clean inodes (manner_of manner) ino) }
     ensures room { (shared : Shared) (hand : Hand) → HasStepRoom result.0 shared hand }
 {
     if ino.number() < inodes {
         let log = ToClean { manner, ino };
-        return (MaintenanceStep::LockCleaned(log), LockedSlots::one(ino));
+        return (
+            SnapshotOrCleanerStep::LockCleaned(log),
+            LockedSlots::one(ino),
+        );
     }
-    (MaintenanceStep::Judge(manner, None), LockedSlots::none())
+    (
+        SnapshotOrCleanerStep::PlanCleaning(manner, None),
+        LockedSlots::none(),
+    )
 }
 
 /// A drain that may release so many records. A number outside 1 to [`limits::DRAIN`] counts as the nearest of these.
@@ -146,7 +155,7 @@ fn first_of_change(inodes: u64, update: &Update, looked: &LookupResult) -> (Next
     ensures first { (s : machine.Shared) (text : List ℕ) → length s.cells ≡ inodes
         → let c = call_of update.now text in let first = begun (beginning c) s c in
         (next_of result.0 ≡ first.next) × (slots_in result.1 ≡ first.slots) }
-    ensures before { (request : Request) (plan : Plan) → IsChangeBy request plan → plan.update ≡ update.now
+    ensures before { (request : Request) (u : Update) → IsChangeBy request u → u ≡ update.now
         → FitsNext result.0 request }
     ensures none { takes result.0 ≡ false }
     ensures room { (how : Ending) (request : Request) (shared : Shared) (hand : Hand)
@@ -200,13 +209,13 @@ impl Running {
     }
 
     /// The call that changes nodes, with how many blocks it takes.
-    pub(crate) fn plan(&self) -> &Plan
+    pub(crate) fn update(&self) -> &Update
         requires { is_change self.now.request ≡ true }
         ensures { IsChangeBy self.now.request result.now }
     {
         match &self.request {
-            Request::Change(plan, _) => plan,
-            Request::Visit(_) | Request::Maintenance(_) | Request::Given => unreachable!(),
+            Request::Change(update, _) => update,
+            Request::Visit(_) | Request::SnapshotOrCleaner(_) | Request::Taken => unreachable!(),
         }
     }
 }

@@ -22,13 +22,13 @@ use crate::kinds::give::give;
 use crate::kinds::leave::leave;
 use crate::kinds::lock::lock;
 use crate::kinds::look::look;
-use crate::kinds::maintenance::maintain;
 use crate::kinds::number::number;
 use crate::kinds::open::open;
 use crate::kinds::publish::publish;
 use crate::kinds::ready::ready;
 use crate::kinds::retire::retire;
 use crate::kinds::return_number::return_number;
+use crate::kinds::snapshot_or_cleaner::maintain;
 use crate::kinds::take::{take_blocks, take_log_pages};
 use crate::kinds::unlock::unlock;
 use crate::kinds::visit::visit;
@@ -118,7 +118,7 @@ impl World {
         ensures replied { told_by result ≡ Replied (reply_of result) }
     {
         match self.actors.get_mut(actor as usize) {
-            Some(state) => go_on(self.alloc, &mut self.shared, state, actor),
+            Some(state) => make_step(self.alloc, &mut self.shared, state, actor),
             None => Reply::Refused(Fault::NoActor),
         }
     }
@@ -150,7 +150,7 @@ fn begin(alloc: Global, shared: &Shared, state: &mut Actor, call: Call) -> Reply
 }
 
 /// The call of an actor goes on by one step.
-fn go_on(alloc: Global, shared: &mut Shared, state: &mut Actor, actor: u64) -> Reply
+fn make_step(alloc: Global, shared: &mut Shared, state: &mut Actor, actor: u64) -> Reply
     requires can { CanGo shared.old state.old.reserved state.old.running actor }
     requires rooms { HasActorRooms shared.old state.old.reserved state.old.running }
     ensures idle { state.old.running ≡ None → (result ≡ Reply.Refused ActorIdle)
@@ -254,7 +254,7 @@ fn hand_step(
         Next::Give(cpu) => give(shared, hand, running, cpu),
         Next::ReturnNumber => return_number(shared, hand, running),
         Next::Visit => visit(shared, running),
-        Next::Maintenance(_) => maintain(alloc, shared, hand, running, actor),
+        Next::SnapshotOrCleaner(_) => maintain(alloc, shared, hand, running, actor),
     }
 }
 

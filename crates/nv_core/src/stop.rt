@@ -102,7 +102,7 @@ fn put_slots(cells: Vec<InodeCell>, slots: &mut Vec<SlotImage>)
 fn slot_of(cell: InodeCell) -> SlotImage
     ensures { result ≡ slot_image cell.state }
 {
-    cell.use_invariant();
+    cell.holds_together();
     let published = cell.published_slots();
     let mut bare = cell.into_bare();
     cut_places(&mut bare.blocks, published);

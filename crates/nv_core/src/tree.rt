@@ -6,7 +6,7 @@ ghost use Rattle.nv_base.specs.declared.fault.Fault.TheVariants.{NoSnapshot};
 ghost use Rattle.nv_base.specs.Memory.{out_of_memory};
 ghost use Rattle.nv_calls.specs.Plain.{node_in};
 ghost use Rattle.nv_epoch.specs.SnapList.{pins_of};
-ghost use Rattle.nv_machine.specs.Maintenance.{copies_at};
+ghost use Rattle.nv_machine.specs.SnapshotOrCleaner.{copies_at};
 ghost use Rattle.nv_machine.specs.World as machine;
 ghost use Rattle.nv_core.specs.Settled.{AreSettled, AreSettledAt, noted_or, settled_copies, settled_nodes, settled_tail, snapshot_tree, tree_at, tree_in, tree_of};
 ghost use Rattle.nv_core.specs.Shown.{shared_of};

@@ -9,11 +9,9 @@ use Rattle.nv_entry.specs.declared.value.When.{When}
 use Rattle.nv_entry.specs.declared.value.When.TheVariants.{Now, At}
 use Rattle.nv_entry.specs.Counts.{is_entry_kept, is_live, live_of, valid_of}
 use Rattle.nv_entry.specs.Held.{Retention, is_current, keeps}
-use Rattle.nv_entry.specs.Index.{page_source}
-use Rattle.nv_entry.specs.Keys.{Key, PageKey, sets}
-use Rattle.nv_entry.specs.Laws.{source_after}
+use Rattle.nv_entry.specs.Keys.{Key, sets}
 use Rattle.nv_entry.specs.Log.{later_of, last_setting, pairs_of, seen, sees}
-use Rattle.nv_entry.proofs.Values.{last_setting-push, page_source-push}
+use Rattle.nv_entry.proofs.Values.{last_setting-push}
 
 -- the front of a log with one more entry
 take_entry : (log : List Entry) (i : ℕ) (e : Entry) → i < length log → e ≡ get_or log i e → take (i + 1) log ≡ take i log ++ e ∷ []
@@ -46,23 +44,6 @@ pub last_setting-skips : (block : ℕ) (when : When) (log : List Entry) (i : ℕ
 last_setting-skips block when log i e key lt is h =
     ap (λ xs. last_setting block (seen when xs) key) (take_entry log i e lt is)
     ∙ ap (λ xs. last_setting block xs key) (seen-unseen when (take i log) e h)
-
--- the source of a page, with one more entry that is seen or not
-pub page_source-more : (block : ℕ) (when : When) (log : List Entry) (i : ℕ) (e : Entry) (page : ℕ) → i < length log → e ≡ get_or log i e
-    → sees when e.epoch ≡ true
-    → page_source block (seen when (take (i + 1) log)) page ≡ source_after e (sets block e.item (PageKey page))
-    (page_source block (seen when (take i log)) page)
-page_source-more block when log i e page lt is h =
-    ap (λ xs. page_source block (seen when xs) page) (take_entry log i e lt is)
-    ∙ ap (λ xs. page_source block xs page) (seen-push when (take i log) e h)
-    ∙ page_source-push block (seen when (take i log)) e page
-
-pub page_source-skips : (block : ℕ) (when : When) (log : List Entry) (i : ℕ) (e : Entry) (page : ℕ) → i < length log → e ≡ get_or log i e
-    → sees when e.epoch ≡ false
-    → page_source block (seen when (take (i + 1) log)) page ≡ page_source block (seen when (take i log)) page
-page_source-skips block when log i e page lt is h =
-    ap (λ xs. page_source block (seen when xs) page) (take_entry log i e lt is)
-    ∙ ap (λ xs. page_source block xs page) (seen-unseen when (take i log) e h)
 
 -- the count of a page's kept entries, from one of them on
 pub valid_of-drop : (r : Retention) (count : ℕ) (log : List Entry) (i : ℕ) (e : Entry) → i < count → count ≤ length log → e ≡ get_or log i e

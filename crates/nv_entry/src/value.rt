@@ -2,7 +2,7 @@
 
 ghost use Rattle.std.specs.Prelude.{◌≡◌, ◌<◌};
 ghost use Rattle.nv_entry.specs.Keys.{covers, key_named};
-ghost use Rattle.nv_entry.specs.Log.{first_cover, last_setting, later_of, seen, sees, value_at, value_now, value_of};
+ghost use Rattle.nv_entry.specs.Log.{first_cover, last_setting, later_of, seen, sees, value_now, value_of};
 
 use crate::{Datum, Entry, Item, Key, Setting};
 use nv_base::Epoch;
@@ -62,26 +62,6 @@ impl Item {
             Setting::Absent | Setting::Present(_) => true,
         }
     }
-}
-
-/// The value of a key now: what the last entry that covers it sets, if that is a value. Blocks have
-/// `block` bytes.
-pub fn value_now(block: u64, log: &[Entry], key: Key<'_>) -> Option<Datum>
-    requires { 0 < block }
-    // The value of a key now is what the last entry that covers it sets.
-    ensures { result ≡ value_now block log.now (key_named key.entry) }
-{
-    value_when(block, When::Now, log, key)
-}
-
-/// The value of a key at an epoch: what the last entry of that epoch or an earlier one sets that covers
-/// it, if that is a value.
-pub fn value_at(block: u64, epoch: Epoch, log: &[Entry], key: Key<'_>) -> Option<Datum>
-    requires { 0 < block }
-    // The value of a key at an epoch is what the last entry up to that epoch which covers it sets.
-    ensures { result ≡ value_at block epoch log.now (key_named key.entry) }
-{
-    value_when(block, When::At(epoch), log, key)
 }
 
 /// The value of a key now or at an epoch.

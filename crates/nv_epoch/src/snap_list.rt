@@ -272,6 +272,15 @@ impl SnapList {
         self.epoch
     }
 
+    /// What holds of each list: the numbers of the living snapshots rise, none is of the current epoch or a later one, and
+    /// no more live than may. Costs nothing.
+    pub fn rises(&self)
+        // What holds of each list of snapshots is told.
+        ensures { IsSound self.now }
+    {
+        let _epoch = self.epoch();
+    }
+
     /// How many snapshots live. Costs one read.
     pub fn len(&self) -> u64
         ensures value { result ≡ length self.now.living }

@@ -4,8 +4,8 @@
 
 use anyhow::{Result, bail};
 use nv_core::{
-    Answer, Bytes, Call, Fault, Geometry, GeometryNumbers, Handle, MaintenanceCall, Mode, Path,
-    Tree, World, root,
+    Answer, Bytes, Call, Fault, Geometry, GeometryNumbers, Handle, Mode, Path,
+    SnapshotOrCleanerCall, Tree, World, root,
 };
 use std::alloc::Global;
 
@@ -93,7 +93,7 @@ fn run<R: AllocGlobal + Print>(rt: &R) -> Result<()> {
     let file = make(&mut world, Call::Create { dir, name, mode })?;
     write(alloc, &mut world, file, "Dear reader, this is a draft.")?;
 
-    let snap = Call::Maintenance(MaintenanceCall::Snap);
+    let snap = Call::SnapshotOrCleaner(SnapshotOrCleanerCall::Snap);
     let Answer::Snapshot(draft) = world.call(ACTOR, snap)? else {
         bail!("no snapshot");
     };
@@ -102,9 +102,15 @@ fn run<R: AllocGlobal + Print>(rt: &R) -> Result<()> {
     print_tree(rt, "in the snapshot", &world.snap_tree(draft)?)?;
     print_space(rt, "blocks with the snapshot", &world)?;
 
-    world.call(ACTOR, Call::Maintenance(MaintenanceCall::Drop(draft)))?;
+    world.call(
+        ACTOR,
+        Call::SnapshotOrCleaner(SnapshotOrCleanerCall::Drop(draft)),
+    )?;
     print_space(rt, "blocks after its drop", &world)?;
-    world.call(ACTOR, Call::Maintenance(MaintenanceCall::Drain(100)))?;
+    world.call(
+        ACTOR,
+        Call::SnapshotOrCleaner(SnapshotOrCleanerCall::Drain(100)),
+    )?;
     print_space(rt, "blocks after a drain", &world)?;
     world.audit()?;
     Ok(())

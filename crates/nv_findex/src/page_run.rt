@@ -16,13 +16,6 @@ pub struct PageRun {
 }
 
 impl PageRun {
-    /// How many pages the run has.
-    pub fn page_count(&self) -> u32
-        ensures { result ≡ self.now.end - self.now.first }
-    {
-        self.end.saturating_sub(self.first)
-    }
-
     /// Where a page of the run lies.
     pub fn page_ref(&self, page: u32) -> PageRef
         requires run { IsRun self.now }

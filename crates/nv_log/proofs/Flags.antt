@@ -2,9 +2,9 @@
 use Rattle.std.proofs.Common.{◌≡◌, ℕ, zero, suc, ◌+◌, ◌-◌, ◌<◌, ◌≤◌, Bool, true, false, not, cond, List, [], ◌∷◌, ◌++◌, length, take, drop, get_or, replicate, length-drop, arith, refl, ap, sym, ◌∙◌, add-one}
 use Rattle.std.proofs.lemmas.List.{append-nil, length-take, nil_from_length, take_min}
 use Rattle.std.proofs.lemmas.List.Sums.{sum_by-cons}
-use Rattle.std.specs.List.{AllByRecursion, count_by, remove}
+use Rattle.std.specs.List.{AllByRecursion, count_by}
 use Rattle.nv_entry.specs.Clean.{select}
-use Rattle.nv_log.specs.Chain.{AreEnds, all_but, gone_of, joined, left_of, parts_from}
+use Rattle.nv_log.specs.Chain.{AreEnds, gone_of, joined, left_of, parts_from}
 use Rattle.nv_log.proofs.Parts.{from_le_len, joined-parts}
 
 pub left_of-none : (X : Type 0) (stays : List Bool) → left_of {X = X} stays [] ≡ []
@@ -114,12 +114,6 @@ length-left_of-le (b ∷ stays) [] ys le = omega arith
 length-left_of-le (b ∷ stays) (x ∷ xs) [] le = absurd (omega arith)
 length-left_of-le (true ∷ stays) (x ∷ xs) (y ∷ ys) le = omega (arith, length-left_of-le stays xs ys (omega arith))
 length-left_of-le (false ∷ stays) (x ∷ xs) (y ∷ ys) le = length-left_of-le stays xs ys (omega arith)
-
--- without one item alone
-pub left_of-all_but : {X : Type 0} (k : ℕ) (xs : List X) → k < length xs → left_of (all_but k) xs ≡ remove xs k
-left_of-all_but k [] lt = absurd (omega arith)
-left_of-all_but zero (x ∷ xs) lt = refl
-left_of-all_but (suc k) (x ∷ xs) lt = ap (λ ys. x ∷ ys) (left_of-all_but k xs (omega arith))
 
 -- where each item has a flag, those are left that the flags mark as staying
 pub left_of-select : {X : Type 0} (stays : List Bool) (xs : List X) → length stays ≡ length xs → left_of stays xs ≡ select stays xs

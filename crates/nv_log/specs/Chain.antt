@@ -1,5 +1,5 @@
 -- Chains: the pages of a log, its entries in append order, and how many of them count.
-use Rattle.std.specs.Prelude.{◌≡◌, ℕ, zero, suc, ◌==◌, nat_le, ◌+◌, ◌-◌, ◌*◌, ◌<◌, ◌≤◌, Bool, true, false, not, if◌then◌else◌, nat_lt, min, List, [], ◌∷◌, ◌++◌, length, take, drop, map, replicate, find, position, Option, Some, slice_get, slice_index_or}
+use Rattle.std.specs.Prelude.{◌≡◌, ℕ, zero, suc, ◌==◌, nat_le, ◌+◌, ◌-◌, ◌*◌, ◌<◌, ◌≤◌, Bool, true, not, if◌then◌else◌, nat_lt, min, List, [], ◌∷◌, ◌++◌, length, take, drop, map, replicate, find, position, Option, Some, slice_get, slice_index_or}
 use Rattle.std.specs.Int.{div_ceil}
 use Rattle.std.specs.List.{flat_map, range_with_len}
 use Rattle.std.specs.Option.{option_map}
@@ -147,13 +147,9 @@ left_of stays xs = select stays xs ++ drop (length stays) xs
 abbrev pub gone_of : {X : Type 0} → List Bool → List X → List X
 gone_of stays xs = select (map not stays) xs
 
--- flags from place `first` on, before which all stay; and those by which one place alone goes
+-- flags from place `first` on, before which all stay
 abbrev pub flags_from : ℕ → List Bool → List Bool
 flags_from first stays = replicate first true ++ stays
-
--- flags of which only that of page `k` is not set
-abbrev pub all_but : ℕ → List Bool
-all_but k = flags_from k (false ∷ [])
 
 -- lists one behind the other, and where each of them ends, from place `start` on
 abbrev pub joined : {X : Type 0} → List (List X) → List X

@@ -5,7 +5,7 @@ ghost use Rattle.std.specs.List.Sorted.{IsStrictlyIncreasing};
 ghost use Rattle.std.specs.Option.{ForSome, option_copied};
 ghost use Rattle.nv_base.specs.Ids.{IsIdBefore};
 ghost use Rattle.nv_base.specs.Refusals.{FailsOnlyWhere, KeepsOnErr};
-ghost use Rattle.nv_log.specs.Chain.{AppendsEntry, IsChain, appended, empty_chain, end_of, entry_of, joined, last_epoch, last_id, last_of, log, log_pages, page_entries, pages_for, place_of_id, room_of, start_of, with_page};
+ghost use Rattle.nv_log.specs.Chain.{AppendsEntry, IsChain, appended, empty_chain, end_of, entry_of, joined, last_epoch, last_id, last_of, log, log_pages, pages_for, place_of_id, room_of, start_of, with_page};
 ghost use Rattle.nv_base.specs.Memory.{out_of_memory};
 
 mod clean;
@@ -115,6 +115,14 @@ impl Chain {
         self.ends.as_slice()
     }
 
+    /// What holds of each chain: its entries stand on its pages in order, and their ids rise. Costs nothing.
+    pub fn holds_together(&self)
+        // What holds of each chain is told.
+        ensures { IsChain self.now.state }
+    {
+        let _ends = self.ends();
+    }
+
     /// How many entries there are, those past the tail too.
     pub fn len(&self) -> usize
         ensures { result ≡ length self.now.state.entries }
@@ -156,14 +164,6 @@ impl Chain {
         self.read(&self.entries[..self.tail])
     }
 
-    /// The entries of page `k`.
-    pub fn page_entries(&self, k: usize) -> &[Entry]
-        // A log page's entries are those between its start and its end.
-        ensures { result.now ≡ page_entries self.now.state k }
-    {
-        self.read(&self.entries[self.page_start(k)..self.page_end(k)])
-    }
-
     /// The place of the first entry of page `k`: of one that has none, where all entries end.
     pub fn page_start(&self, k: usize) -> usize
         // Where a log page starts and ends is told.
@@ -179,13 +179,6 @@ impl Chain {
         ensures within { result ≤ length self.now.state.entries }
     {
         pages::end_of(&self.ends, self.entries.len(), k)
-    }
-
-    /// How many entries page `k` has.
-    pub fn page_len(&self, k: usize) -> usize
-        ensures { result ≡ end_of self.now.state k - start_of self.now.state k }
-    {
-        self.page_end(k) - self.page_start(k)
     }
 
     /// The page in which the entry at a place stands. The time grows with the logarithm of the pages.
@@ -419,8 +412,8 @@ impl Chain {
     }
 
     /// How many entries were handed out to be read so far, up to the greatest number: each one of
-    /// [`Chain::entry`] and [`Chain::last_published`], and those of [`Chain::entries`], [`Chain::log`] and
-    /// [`Chain::page_entries`]. What goes by places, as changes do, by [`Chain::entry_at`], is not among them.
+    /// [`Chain::entry`] and [`Chain::last_published`], and those of [`Chain::entries`] and [`Chain::log`]. What goes by
+    /// places, as changes do, by [`Chain::entry_at`], is not among them.
     /// Only tested: how many entries were read is counted, up to the greatest number.
     pub fn reads(&self) -> u64 {
         self.reads.get()

@@ -7,14 +7,14 @@ use Rattle.nv_calls.specs.declared.answer.Answer.{Answer}
 use Rattle.nv_machine.specs.Causes.{EndsFor, RefusesFor}
 use Rattle.nv_machine.specs.Hands.{is_going}
 use Rattle.nv_machine.specs.Kinds.{result_by}
-use Rattle.nv_machine.specs.Maintenance.{shown_by}
+use Rattle.nv_machine.specs.SnapshotOrCleaner.{shown_by}
 use Rattle.nv_machine.specs.Step.{kind_turn, turned}
-use Rattle.nv_machine.specs.World.{Actor, Answers, ReturnNumber, Drains, Ending, Ends, Give, HandState, Moves, Next, BoundAnew, Refused, Refuses, Running, Shared, Maintenance, Turn, Unlock, Unpin, Waits, World, Cleans}
+use Rattle.nv_machine.specs.World.{Actor, Answers, ReturnNumber, Drains, Ending, Ends, Give, HandState, Moves, Next, BoundAnew, Refused, Refuses, Running, Shared, SnapshotOrCleaner, Turn, Unlock, Unpin, Waits, World, Cleans}
 use Rattle.nv_machine.proofs.OverEvents.{OwnAfter}
 use Rattle.nv_machine.proofs.AloneLooks.{IsLate}
 use Rattle.nv_machine.proofs.StepWays.{After, Closes, Going, Telling}
 use Rattle.nv_machine.proofs.StepWalk.{last_walk}
-use Rattle.nv_machine.proofs.MaintenanceWalk.{step_walk_by}
+use Rattle.nv_machine.proofs.SnapshotOrCleanerWalk.{step_walk_by}
 
 module _ (P : Fault → Type 0) where
   -- whatever fault it is to end with meets this; and so after a turn
@@ -60,7 +60,7 @@ module _ (P : Fault → Type 0) where
       last_walk FineGoes FineTold block actor s h r (Give cpu) granted refl (closes_fine r.ending (over tt) is)
   ends_fine ReturnNumber block actor granted s h r last over is =
       last_walk FineGoes FineTold block actor s h r ReturnNumber granted refl (closes_fine r.ending (over tt) is)
-  ends_fine (Maintenance (Unpin snapshot seen)) block actor granted s h r last over is =
+  ends_fine (SnapshotOrCleaner (Unpin snapshot seen)) block actor granted s h r last over is =
       step_walk_by (Unit {0}) FineGoes FineTold actor s h r (Unpin snapshot seen) granted (λ blocked. tt) (λ clear. go r.ending is) where
         go : (e : Ending) → Fine e → ResultFine (shown_by e seen)
         go (Refuses fault) f = f

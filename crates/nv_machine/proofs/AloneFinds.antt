@@ -11,7 +11,7 @@ use Rattle.nv_calls.specs.declared.call.Call.{Call}
 use Rattle.nv_calls.specs.declared.looked.LookupResult.{LookupResult}
 use Rattle.nv_entry.specs.declared.node.NodeCopy.{NodeCopy}
 use Rattle.nv_machine.specs.Answered.{answer_of}
-use Rattle.nv_machine.specs.EndsDecided.{decided, is_maintenance}
+use Rattle.nv_machine.specs.EndsDecided.{decided, is_snapshot_or_cleaner}
 use Rattle.nv_machine.specs.Hands.{is_going}
 use Rattle.nv_machine.specs.Kinds.{check_ending}
 use Rattle.nv_machine.specs.Reads.{copies, nodes}
@@ -19,7 +19,7 @@ use Rattle.nv_machine.specs.Sequence.{beginning, directories, locking, looking}
 use Rattle.nv_machine.specs.Settled.{settled_nodes}
 use Rattle.nv_machine.specs.Starts.{IsStart}
 use Rattle.nv_machine.specs.Step.{after, ending_at, handle_at, is_numbered, kind_turn, made_in, same_looked, turn}
-use Rattle.nv_machine.specs.World.{Actor, Answers, Check, Ending, Ends, Event, Go, HandState, Lock, Look, Moves, Next, Number, BoundAnew, Running, Shared, MaintenanceStep, Maintenance, Turn, Waits, World, actor_at, go_to, owner_at}
+use Rattle.nv_machine.specs.World.{Actor, Answers, Check, Ending, Ends, Event, Go, HandState, Lock, Look, Moves, Next, Number, BoundAnew, Running, Shared, SnapshotOrCleanerStep, SnapshotOrCleaner, Turn, Waits, World, actor_at, go_to, owner_at}
 use Rattle.nv_machine.proofs.EveryWorld.{all_known}
 use Rattle.nv_calls.proofs.CheckEnds.{looked_self}
 use Rattle.nv_machine.proofs.AloneLooks.{FoundBy, HasFound, IsLate, OnFound, call_sees, check_same, late_turn, locking_found, on_found, refused_found}
@@ -52,7 +52,7 @@ module _ (block actor : ℕ) (granted : Bool) (s : Shared) (h : HandState) (r : 
     ends : k ≡ Check → ending_at block s h r
         ≡ check_ending (early plain r.call) (same_looked (looked plain r.call) r.looked) (refusal block plain r.call)
         (is_numbered (beginning r.call) h.ino) (effect plain (made_in s h.ino r.made) r.call)
-    files : (kind : MaintenanceStep) → k ≡ Maintenance kind → ⊥
+    files : (kind : SnapshotOrCleanerStep) → k ≡ SnapshotOrCleaner kind → ⊥
 
   found_by : (all : LookupResult) (k : Next) → WaysOf (KnowsNext (FoundBy (directories r.call) all)) Untold k block actor granted s h r
       → is_on_files k ≡ true → OnFound (directories r.call) all (kind_turn k block actor granted s h r)
@@ -83,7 +83,7 @@ module _ (block actor : ℕ) (granted : Bool) (s : Shared) (h : HandState) (r : 
       (λ e. not_over (sym (given.going refl) ∙ e))) where
         not_over : Answers ≡ BoundAnew → ⊥
         not_over e = cc
-  kind_found all (Maintenance kind) given is had = absurd (given.files kind refl)
+  kind_found all (SnapshotOrCleaner kind) given is had = absurd (given.files kind refl)
   kind_found all other given is had =
       on_found (directories r.call) all (kind_turn other block actor granted s h r) (late_turn other block actor granted s h r refl (λ at e. cc) had)
 
@@ -110,7 +110,7 @@ module _ (c : Call) (nodes : Handle → Option PlainNode) where
 
 module _ (g : GeometryNumbers) (start : World) (records : List Record) (is_start : IsStart g start records) (actor : ℕ) (c : Call)
     (nodes : Handle → Option PlainNode)
-    (plainly : is_maintenance c ≡ false) (events : List Event) (granted : Bool)
+    (plainly : is_snapshot_or_cleaner c ≡ false) (events : List Event) (granted : Bool)
     (was : IsAlone g start records actor c nodes events) where
   abbrev w : World
   w = after start events
@@ -125,13 +125,13 @@ module _ (g : GeometryNumbers) (start : World) (records : List Record) (is_start
     staged_at : (k : Next) → r.next ≡ k → Stage k r.ending r.call
     staged_at k next =
         subst (λ (k : Next). Stage k r.ending r.call) next
-        (plainly_told g start records events actor is_start r is (ap is_maintenance same_call ∙ plainly)).stage
+        (plainly_told g start records events actor is_start r is (ap is_snapshot_or_cleaner same_call ∙ plainly)).stage
 
     -- up to its check the nodes are those of the nodes
     pub unchanged : (IsLate r.next → ⊥) → settled_nodes w.shared ≡ nodes
     unchanged front =
         let none : decided actor start events [] ≡ [] =
-        (plainly_told g start records events actor is_start r is (ap is_maintenance same_call ∙ plainly)).told
+        (plainly_told g start records events actor is_start r is (ap is_snapshot_or_cleaner same_call ∙ plainly)).told
         ∙ front_told r.next r.ending (answer_of r) front in
         fun_ext (λ (handle : Handle). was.nodes_are none handle)
 
@@ -144,7 +144,7 @@ module _ (g : GeometryNumbers) (start : World) (records : List Record) (is_start
           inside = λ place next. look_inside start events actor place r is_start.idle_all is next;
           going = rely.ending;
           ends = λ next. check_ends next;
-          files = λ kind next. staged_at (Maintenance kind) next;
+          files = λ kind next. staged_at (SnapshotOrCleaner kind) next;
         } where
           check_ends : r.next ≡ Check → ending_at w.numbers.block w.shared h r
               ≡ check_ending (early (node_in (settled_nodes w.shared)) r.call)

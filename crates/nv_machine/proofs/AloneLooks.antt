@@ -15,7 +15,7 @@ use Rattle.nv_machine.specs.Kinds.{check_ending, seen_at}
 use Rattle.nv_machine.specs.Reads.{written_slots}
 use Rattle.nv_machine.specs.Sequence.{directories, locking, sequel}
 use Rattle.nv_machine.specs.Step.{ending_at, handle_at, kind_turn}
-use Rattle.nv_machine.specs.World.{Append, Check, Close, Ending, Ends, Enter, HandState, Lock, Look, Moves, Next, Number, Open, BoundAnew, Publish, Ready, Refuses, Retire, Running, Shared, Maintenance, Turn, Waits}
+use Rattle.nv_machine.specs.World.{Append, Check, Close, Ending, Ends, Enter, HandState, Lock, Look, Moves, Next, Number, Open, BoundAnew, Publish, Ready, Refuses, Retire, Running, Shared, SnapshotOrCleaner, Turn, Waits}
 use Rattle.nv_calls.proofs.CheckEnds.{handle_is}
 use Rattle.nv_machine.proofs.NextSteps.{Known, KnowsNext, OnKnown, Untold}
 use Rattle.nv_machine.proofs.LoopSteps.{Commits, appending_any, goes_on, locking_any, publishing_any, retiring_any}
@@ -91,7 +91,7 @@ abbrev pub leads_late : Next → Bool
 leads_late Number = false
 leads_late (Look place) = false
 leads_late (Lock place) = false
-leads_late (Maintenance step) = false
+leads_late (SnapshotOrCleaner step) = false
 leads_late other = true
 
 sequel_late : (k : Next) (q : Running) → leads_late k ≡ true → goes_on k ≡ true → IsLate (sequel q k)
@@ -121,7 +121,7 @@ stops_late k block s h r e not by over = by
 pub late_turn : (k : Next) (block a : ℕ) (granted : Bool) (s : Shared) (h : HandState) (r : Running) → leads_late k ≡ true
     → (k ≡ Check → ending_at block s h r ≡ Some BoundAnew → ⊥) → (r.ending ≡ BoundAnew → ⊥)
     → OnLate (kind_turn k block a granted s h r)
-late_turn (Maintenance step) block a granted s h r is not over = absurd (false≢true is)
+late_turn (SnapshotOrCleaner step) block a granted s h r is not over = absurd (false≢true is)
 late_turn other block a granted s h r is not over = walk (KnowsNext LateBy) Untold block a s h r other granted (record {
   stops = λ e by. late_closes e (stops_late other block s h r e not by);
   goes = λ on clear. (sequel_late other (noted other block s h r) is on, λ e. over (sym (noted_ending other block s h r) ∙ e));

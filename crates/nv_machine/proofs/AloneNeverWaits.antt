@@ -4,7 +4,7 @@ use Rattle.std.proofs.lemmas.Bool.{false≢true, ltb-true}
 use Rattle.nv_alloc.specs.Numbers.{has}
 use Rattle.nv_machine.specs.Locks.{AreLocks, IsHeldByOther, WaitsFor, WaitsOn, commits_by, held_by, is_owner}
 use Rattle.nv_machine.specs.Step.{go_step, step}
-use Rattle.nv_machine.specs.World.{Drop, Enter, Go, Lock, LockPicked, Look, Make, Next, Pick, Pin, Running, Show, MaintenanceStep, Maintenance, Unpin, Visit, Waiting, World, actor_at, owner_at, LockCleaned}
+use Rattle.nv_machine.specs.World.{Drop, Enter, Go, Lock, LockPicked, Look, Make, Next, Pick, Pin, Running, Show, SnapshotOrCleanerStep, SnapshotOrCleaner, Unpin, Visit, Waiting, World, actor_at, owner_at, LockCleaned}
 use Rattle.nv_machine.proofs.Lists.{self}
 use Rattle.nv_machine.proofs.LocksOverEvents.{waits}
 
@@ -21,7 +21,7 @@ module _ (w : World) (actor : ℕ) (locks : AreLocks w) (idle : (other : ℕ) �
   no_commit : IsHeldByOther actor w.shared.holder → ⊥
   no_commit = not_other w.shared.holder (λ other apart. (locks.each other).holder ∙ ap commits_by (idle other apart))
 
-  none_on : (kind : MaintenanceStep) → WaitsOn w.shared actor kind → ⊥
+  none_on : (kind : SnapshotOrCleanerStep) → WaitsOn w.shared actor kind → ⊥
   none_on (Show snapshot showing) held = no_slot _ held
   none_on (LockPicked draining picked) held = no_slot _ held
   none_on (LockCleaned manner ino) held = no_slot _ held
@@ -37,7 +37,7 @@ module _ (w : World) (actor : ℕ) (locks : AreLocks w) (idle : (other : ℕ) �
   none_for r (Lock place) held = no_slot _ held
   none_for r Enter held = no_commit held
   none_for r Visit held = no_slot _ held
-  none_for r (Maintenance kind) held = none_on kind held
+  none_for r (SnapshotOrCleaner kind) held = none_on kind held
   none_for r other held = held
 
   pub never_waits : (granted : Bool) → (step w (Go actor granted)).reply ≢ Waiting

@@ -16,7 +16,7 @@ use Rattle.nv_entry.specs.declared.node.NodeCopy.{NodeCopy}
 use Rattle.nv_machine.specs.Alone.{IsRefusedOn, goes, is_want}
 use Rattle.nv_machine.specs.Answered.{answer_of}
 use Rattle.nv_machine.specs.Causes.{IsCause}
-use Rattle.nv_machine.specs.EndsDecided.{decided, is_maintenance}
+use Rattle.nv_machine.specs.EndsDecided.{decided, is_snapshot_or_cleaner}
 use Rattle.nv_machine.specs.FitsNow.{is_checked}
 use Rattle.nv_machine.specs.Hands.{HandOf, is_going}
 use Rattle.nv_machine.specs.Reads.{slots_of}
@@ -24,7 +24,7 @@ use Rattle.nv_machine.specs.Sequence.{Beginning, beginning, begun, directories, 
 use Rattle.nv_machine.specs.Settled.{settled_nodes}
 use Rattle.nv_machine.specs.Starts.{IsStart}
 use Rattle.nv_machine.specs.Step.{after, same_looked, step, turn}
-use Rattle.nv_machine.specs.World.{Actor, Answers, ReturnNumber, Check, Ending, Enter, Event, Give, Go, HandState, Leave, Lock, Look, Next, Number, BoundAnew, Ready, Refused, Retire, Running, Shared, Maintenance, Start, Started, TakeBlocks, TakeLogPages, Turn, Unlock, Visit, World, actor_at}
+use Rattle.nv_machine.specs.World.{Actor, Answers, ReturnNumber, Check, Ending, Enter, Event, Give, Go, HandState, Leave, Lock, Look, Next, Number, BoundAnew, Ready, Refused, Retire, Running, Shared, SnapshotOrCleaner, Start, Started, TakeBlocks, TakeLogPages, Turn, Unlock, Visit, World, actor_at}
 use Rattle.nv_machine.proofs.EveryWorld.{all_numbers}
 use Rattle.nv_machine.proofs.AloneEndings.{Fine, FineOf, OnFine, after_fine, caused_fine, ends_fine, reply_fine}
 use Rattle.nv_machine.proofs.AloneFinds.{FoundOf, found_more, unchanged}
@@ -78,7 +78,7 @@ module _ (block actor : ℕ) (granted : Bool) (nodes : Handle → Option PlainNo
   cause_told Enter stage still same (inr cause) = inr (still refl, ap is_want cause.0)
   cause_told Visit stage still same (inl cause) = inl cause
   cause_told Visit stage still same (inr cause) = inr (cause.2, ap is_want cause.0.0)
-  cause_told (Maintenance kind) stage still same cause = absurd stage
+  cause_told (SnapshotOrCleaner kind) stage still same cause = absurd stage
   cause_told other stage still same cause = absurd cause
 
   -- so far nothing was decided
@@ -102,7 +102,7 @@ nothing_to_look rest nodes other = refl
 
 module _ (g : GeometryNumbers) (start : World) (records : List Record) (is_start : IsStart g start records) (actor : ℕ) (c : Call)
     (nodes : Handle → Option PlainNode)
-    (plain : is_maintenance c ≡ false) where
+    (plain : is_snapshot_or_cleaner c ≡ false) where
   abbrev pub Told : Fault → Type 0
   Told = IsRefusedOn g.block nodes c
 
@@ -125,7 +125,7 @@ module _ (g : GeometryNumbers) (start : World) (records : List Record) (is_start
       told_now : r.ending ≡ Answers → (fault : Fault)
           → IsCause r.next w.numbers.block actor granted (node_in (settled_nodes w.shared)) w.shared h r fault → Told fault
       told_now going fault cause =
-          let had = plainly_told g start records events actor is_start r is (ap is_maintenance same_call ∙ plain) in
+          let had = plainly_told g start records events actor is_start r is (ap is_snapshot_or_cleaner same_call ∙ plain) in
           let none : decided actor start events [] ≡ [] =
           had.told ∙ ap (λ (e : Ending). told_at r.next e (answer_of r)) going
           ∙ cause_early w.numbers.block actor granted (settled_nodes w.shared) w.shared h r fault r.next (answer_of r) cause in
@@ -196,7 +196,7 @@ begun_ending : (b : Beginning) (s : Shared) (c : Call) → (begun b s c).ending 
 begun_ending sequence.Numbers s c = refl
 begun_ending other s c = refl
 
-begun_found : (b : Beginning) (s : Shared) (c : Call) (nodes : Handle → Option PlainNode) → beginning c ≡ b → is_maintenance c ≡ false
+begun_found : (b : Beginning) (s : Shared) (c : Call) (nodes : Handle → Option PlainNode) → beginning c ≡ b → is_snapshot_or_cleaner c ≡ false
     → HasFound (directories c) (looked (node_in nodes) c) (begun b s c).next (begun b s c)
 begun_found sequence.Numbers s c nodes e plain = nothing_to_look c nodes (λ looks. numbers_look looks) where
   numbers_look : beginning c ≡ sequence.Looks → ⊥
@@ -215,7 +215,7 @@ begun_found other s c nodes e plain = λ over. cc
 
 pub refused_for : (g : GeometryNumbers) (start : World) (records : List Record) (before : List Event) (actor : ℕ) (c : Call)
     (grants : List Bool) (granted : Bool) (r : Running)
-    (fault : Fault) → IsStart g start records → is_maintenance c ≡ false
+    (fault : Fault) → IsStart g start records → is_snapshot_or_cleaner c ≡ false
     → (step (after start before) (Start actor c)).reply ≡ Started
     → (actor_at (after start (before ++ Start actor c ∷ goes actor grants)) actor).running ≡ Some r
     → (step (after start (before ++ Start actor c ∷ goes actor grants)) (Go actor granted)).reply ≡ Refused fault

@@ -18,7 +18,7 @@ use Rattle.nv_entry.specs.declared.node.NodeCopy.{NodeCopy}
 use Rattle.nv_machine.proofs.EveryWorld.{all_numbers, reached}
 use Rattle.nv_machine.proofs.DecidedTurns.{nothing_is as no_change}
 use Rattle.nv_machine.specs.Alone.{IsAnsweredOn, goes}
-use Rattle.nv_machine.specs.EndsDecided.{decided, decides, decision_of, is_maintenance, is_pass, unless_started}
+use Rattle.nv_machine.specs.EndsDecided.{decided, decides, decision_of, is_snapshot_or_cleaner, is_pass, unless_started}
 use Rattle.nv_machine.specs.PlainRun.{Commits, PlainChange, Nothing, plain_change, plain_change_by, plain_change_of, keeps_nodes}
 use Rattle.nv_machine.specs.Reads.{written_slots}
 use Rattle.nv_machine.specs.Sequence as sequence
@@ -75,7 +75,7 @@ visit_effect nodes made (call.Read file offset count) e = refl
 visit_effect nodes made (call.Stat handle) e = refl
 visit_effect nodes made (call.List dir) e = refl
 visit_effect nodes made (call.Lookup dir name) e = refl
-visit_effect nodes made (call.Maintenance what) e = refl
+visit_effect nodes made (call.SnapshotOrCleaner what) e = refl
 visit_effect nodes made other e = cc
 
 decided_how : (k : Next) (block : ℕ) (s : Shared) (r : Running) (t : Turn) → (k ≡ Visit → beginning r.call ≡ sequence.Visits)
@@ -298,7 +298,7 @@ module _ (g : GeometryNumbers) (start : World) (records : List Record) (is_start
       subst (IsAlone g start records actor c nodes) (append_assoc before (Start actor c ∷ []) (goes actor grants))
       (all_goes grants (before ++ Start actor c ∷ []) begins)
 
-  pub told_alone : (grants : List Bool) (granted : Bool) (r : Running) (told : Answer) → is_maintenance c ≡ false
+  pub told_alone : (grants : List Bool) (granted : Bool) (r : Running) (told : Answer) → is_snapshot_or_cleaner c ≡ false
       → (actor_at (after start (ran grants)) actor).running ≡ Some r
       → (step (after start (ran grants)) (Go actor granted)).reply ≡ Done told
       → IsAnsweredOn g.block nodes (settled_nodes (step (after start (ran grants)) (Go actor granted)).world.shared) c told
@@ -307,7 +307,7 @@ module _ (g : GeometryNumbers) (start : World) (records : List Record) (is_start
       subst (λ (v : World). IsAnsweredOn g.block nodes (settled_nodes v.shared) c told)
       (sym (after_one (ran grants) start (Go actor granted)))
       ((more g start records is_start actor c nodes (ran grants) granted (alone grants)).told told
-      (is_decided g start records (ran grants) actor is_start granted r told is (ap is_maintenance same ∙ plain) reply))
+      (is_decided g start records (ran grants) actor is_start granted r told is (ap is_snapshot_or_cleaner same ∙ plain) reply))
 
   pub refused_alone : (grants : List Bool) (granted : Bool) (r : Running) (fault : Fault)
       → (actor_at (after start (ran grants)) actor).running ≡ Some r

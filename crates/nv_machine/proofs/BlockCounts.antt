@@ -22,9 +22,9 @@ use Rattle.nv_machine.specs.Numbers.{free_of, held_in}
 use Rattle.nv_calls.proofs.FillPages.{filled_numbers}
 use Rattle.nv_calls.specs.FillPages.{fresh_pages}
 use Rattle.nv_machine.specs.Reads.{copies, pages_needed, slot_at, written_slots}
-use Rattle.nv_machine.specs.World.{Append, ReturnNumber, Give, HandState, Next, Number, Publish, Ready, Retire, Running, Shared, Maintenance, TakeBlocks, TakeLogPages, cell_at, list_at, no_cell, no_list, Unlink, Compact, MaintenanceStep, with_cell}
+use Rattle.nv_machine.specs.World.{Append, ReturnNumber, Give, HandState, Next, Number, Publish, Ready, Retire, Running, Shared, SnapshotOrCleaner, TakeBlocks, TakeLogPages, cell_at, list_at, no_cell, no_list, Unlink, Compact, SnapshotOrCleanerStep, with_cell}
 use Rattle.nv_machine.proofs.Occurrences.{cut_times, set_times, three_times}
-use Rattle.nv_machine.proofs.StepWork.{append_work, by_back, by_number, work, maintenance_work}
+use Rattle.nv_machine.proofs.StepWork.{append_work, by_back, by_number, work, snapshot_or_cleaner_work}
 use Rattle.nv_machine.proofs.CellChanges.{IsRemoval, Removal, hand_freed, is_removal, is_removed, lent_removal, on_step, removal, removal_on, removed, stored_times, clean_cell, clean_slot, is_clean, is_clean_on, clean_slot_on, clean_cell_on, lent_clean}
 use Rattle.nv_machine.specs.Cleaning.{with_fresh, compacted_cell, unlinked, with_old_chain, with_unlinked}
 use Rattle.nv_clean.specs.Plans.{unlinkable_of}
@@ -240,10 +240,10 @@ moved_times n ino new s h after inside same moved =
     omega (arith, e, parts, stored_times n (cell_at s ino), stored_times n new, moved)
 
 -- a cleaning moves log pages between the chain and the hand, where the parts keep their blocks
-clean_times : (step : MaintenanceStep) (n actor : ℕ) (s : Shared) (h : HandState) → is_clean_on step ≡ true
+clean_times : (step : SnapshotOrCleanerStep) (n actor : ℕ) (s : Shared) (h : HandState) → is_clean_on step ≡ true
     → clean_slot_on step < length s.cells
     → flat_map of_part (clean_cell_on step s h).blocks ≡ flat_map of_part (cell_at s (clean_slot_on step)).blocks
-    → count n (maintenance_work step actor s h).shared (maintenance_work step actor s h).hand ≡ count n s h
+    → count n (snapshot_or_cleaner_work step actor s h).shared (snapshot_or_cleaner_work step actor s h).hand ≡ count n s h
 clean_times (Unlink ino) n actor s h is inside same =
     let cell = cell_at s ino in
     let stays = (unlinkable_of cell).stays in
@@ -289,8 +289,8 @@ work_times (Retire place) n block actor s h r can =
 work_times (Give cpu) n block actor s h r can = given_times n cpu s h
 work_times ReturnNumber n block actor s h r can =
     by_back (λ (t : Shared) (g : HandState). count n t g ≡ count n s h) s h (λ numbers ino. refl)
-work_times (Maintenance step) n block actor s h r can =
-    let k = Maintenance step in
+work_times (SnapshotOrCleaner step) n block actor s h r can =
+    let k = SnapshotOrCleaner step in
     on_step (λ (t : Shared) (g : HandState). count n t g ≡ count n s h) step actor s h
     (λ is. removal_times n (removal_on step s h) s h (is_removed k s h r is)
     (can.inside _ (lent_removal k (length s.lists) actor s h r is)) (can.none is))

@@ -15,7 +15,7 @@ use Rattle.nv_machine.specs.Locks.{AreLocks}
 use Rattle.nv_machine.specs.Reads.{slots_of, written_slots}
 use Rattle.nv_machine.specs.Sequence.{Beginning, Locks, Looks, Numbers, beginning, begun, nothing_looked, started, Maintains}
 use Rattle.nv_machine.specs.Step.{kind_turn, step, turned}
-use Rattle.nv_machine.specs.World.{Actor, Check, Ends, Event, HandState, Lock, Moves, Running, Shared, Turn, Waits, World, actor_at, cell_at, empty_hand, owner_at, MaintenanceStep}
+use Rattle.nv_machine.specs.World.{Actor, Check, Ends, Event, HandState, Lock, Moves, Running, Shared, Turn, Waits, World, actor_at, cell_at, empty_hand, owner_at, SnapshotOrCleanerStep}
 use Rattle.nv_machine.proofs.BlockCounts.{work_times}
 use Rattle.nv_machine.proofs.OverEvents.{begun_at, begun_in, event_by, turn_at}
 use Rattle.nv_machine.proofs.StepFrames.{framed}
@@ -131,7 +131,7 @@ begun_hand g Locks s c h is empty =
       go slots true = (taken_none h (started c (Lock 0) slots) empty (ap makes_inode is), λ e. refl)
       go slots false = (taken_none h (started c Check slots) empty (ap makes_inode is), λ e. refl)
 begun_hand g (Maintains what) s c h is empty = (
-  first_by (λ (step : MaintenanceStep). HandOn step h) (length s.cells) empty (λ snapshot. empty) (λ snapshot. empty)
+  first_by (λ (step : SnapshotOrCleanerStep). HandOn step h) (length s.cells) empty (λ snapshot. empty) (λ snapshot. empty)
       (λ count. empty) (λ manner ino inside. empty) (λ manner. empty) what,
   λ e. refl,
 )

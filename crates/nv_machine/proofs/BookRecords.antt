@@ -14,9 +14,9 @@ use Rattle.nv_machine.specs.Kinds.{first_killed}
 use Rattle.nv_machine.specs.Locks.{AllRecords}
 use Rattle.nv_machine.specs.Reads.{slot_at, written_slots}
 use Rattle.nv_machine.specs.Step.{kind_turn}
-use Rattle.nv_machine.specs.World.{ReturnNumber, Drop, HandState, Make, Next, Number, Pick, Retire, Running, Shared, MaintenanceStep, Maintenance, Turn}
+use Rattle.nv_machine.specs.World.{ReturnNumber, Drop, HandState, Make, Next, Number, Pick, Retire, Running, Shared, SnapshotOrCleanerStep, SnapshotOrCleaner, Turn}
 use Rattle.nv_machine.proofs.EachElement.{all_append, all_filter}
-use Rattle.nv_machine.proofs.StepWork.{work, maintenance_work, by_number, by_back}
+use Rattle.nv_machine.proofs.StepWork.{work, snapshot_or_cleaner_work, by_number, by_back}
 use Rattle.nv_machine.proofs.WorkKeeps.{AfterTurn, turn_keeps}
 
 -- ---- manifests
@@ -78,8 +78,8 @@ module _ (P : Record → Type 0) where
   rest_of [] h = tt
   rest_of (d ∷ deferred) h = h.1
 
-  snapshot_all : (step : MaintenanceStep) (actor : ℕ) (s : Shared) (h : HandState) → AllRecords P s.book
-      → AllRecords P (maintenance_work step actor s h).shared.book
+  snapshot_all : (step : SnapshotOrCleanerStep) (actor : ℕ) (s : Shared) (h : HandState) → AllRecords P s.book
+      → AllRecords P (snapshot_or_cleaner_work step actor s h).shared.book
   snapshot_all Make actor s h are = made_all s.book are
   snapshot_all (Drop snapshot) actor s h are = dropped_all snapshot s.book are
   snapshot_all (Pick draining) actor s h are = record { filed = are.filed; deferred = rest_of s.book.deferred are.deferred }
@@ -97,7 +97,7 @@ module _ (P : Record → Type 0) where
         (new place refl) are.filed;
     deferred = are.deferred;
   }
-  work_all (Maintenance step) block actor s h r new are = snapshot_all step actor s h are
+  work_all (SnapshotOrCleaner step) block actor s h r new are = snapshot_all step actor s h are
   work_all other block actor s h r new are = record { filed = are.filed; deferred = are.deferred }
 
   -- each record is as before a step, or one that a retire step makes

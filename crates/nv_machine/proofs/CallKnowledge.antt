@@ -18,14 +18,14 @@ use Rattle.nv_machine.specs.Kept.{HasNothing, IsInFile, IsPlanFor, Knows}
 use Rattle.nv_machine.specs.Kinds.{check_ending, with_bytes}
 use Rattle.nv_machine.specs.Reads.{copies, plan_by, taken_by}
 use Rattle.nv_machine.specs.Sequence.{locking}
-use Rattle.nv_machine.specs.Maintenance.{maintenance_turn}
-use Rattle.nv_machine.specs.World.{Answers, Ending, HandState, Next, BoundAnew, Refuses, Running, Shared, MaintenanceStep, Turn}
+use Rattle.nv_machine.specs.SnapshotOrCleaner.{snapshot_or_cleaner_turn}
+use Rattle.nv_machine.specs.World.{Answers, Ending, HandState, Next, BoundAnew, Refuses, Running, Shared, SnapshotOrCleanerStep, Turn}
 use Rattle.nv_machine.proofs.StepWork.{number_work}
 use Rattle.nv_machine.proofs.NextSteps.{Known, KnowsNext, OnKnown, Untold}
 use Rattle.nv_machine.proofs.PlansOfBlocks.{length_numbers, plan_fits, runs_are, small_numbers}
 use Rattle.nv_machine.proofs.LoopSteps.{locking_any}
 use Rattle.nv_machine.proofs.StepWays.{Closes, EndsBy, any_ends, by_last, is_last, is_overtaken}
-use Rattle.nv_machine.proofs.MaintenanceWalk.{maintenance_walk, ends_apart}
+use Rattle.nv_machine.proofs.SnapshotOrCleanerWalk.{snapshot_or_cleaner_walk, ends_apart}
 use Rattle.nv_calls.specs.declared.call.Call.TheVariants as call
 
 abbrev pub KnownBy : ℕ → ℕ → Known
@@ -55,9 +55,9 @@ module _ (block cpu : ℕ) where
       → EndsBy (KnowsNext (KnownBy block cpu)) Untold slots s h r (Refuses fault)
   denied_knows = any_ends (closes_knows _ _ _ _ (λ over. absurd (false≢true (ap is_overtaken over))))
 
-  pub snapshot_knows : (step : MaintenanceStep) (actor : ℕ) (granted : Bool) (s : Shared) (h : HandState) (r : Running)
-      → OnKnows block cpu (maintenance_turn step actor granted s h r)
-  snapshot_knows step actor granted s h r = maintenance_walk (KnowsNext (KnownBy block cpu)) Untold actor s h r step granted (record {
+  pub snapshot_knows : (step : SnapshotOrCleanerStep) (actor : ℕ) (granted : Bool) (s : Shared) (h : HandState) (r : Running)
+      → OnKnows block cpu (snapshot_or_cleaner_turn step actor granted s h r)
+  snapshot_knows step actor granted s h r = snapshot_or_cleaner_walk (KnowsNext (KnownBy block cpu)) Untold actor s h r step granted (record {
     stops = λ fault cause. any_ends (closes_knows _ _ _ _ (λ over. absurd (false≢true (ap is_overtaken over))));
     goes = λ on clear. tt;
     told = λ on clear. tt;

@@ -5,11 +5,11 @@ use Rattle.nv_base.specs.declared.fault.Fault.{Fault}
 use Rattle.nv_calls.specs.declared.answer.Answer.{Answer}
 use Rattle.nv_calls.specs.declared.call.Call.{Call}
 use Rattle.nv_machine.specs.Step.{kind_turn, step}
-use Rattle.nv_machine.specs.World.{Actor, Check, Ending, Go, HandState, Next, Number, Running, Shared, Maintenance, World, actor_at}
+use Rattle.nv_machine.specs.World.{Actor, Check, Ending, Go, HandState, Next, Number, Running, Shared, SnapshotOrCleaner, World, actor_at}
 use Rattle.nv_machine.proofs.OverEvents.{own_after, own_goes, turn_at}
 use Rattle.nv_machine.proofs.StepWays.{After, Closes, noted, stopped, any_ends}
 use Rattle.nv_machine.proofs.StepWalk.{walk}
-use Rattle.nv_machine.proofs.MaintenanceWalk.{maintenance_walk}
+use Rattle.nv_machine.proofs.SnapshotOrCleanerWalk.{snapshot_or_cleaner_walk}
 
 -- a running call is this one; and so after a turn
 abbrev pub IsCallOf : Call → Option Running → Type 0
@@ -36,7 +36,7 @@ module _ (c : Call) where
 
   pub kind_stays : (k : Next) (block a : ℕ) (granted : Bool) (s : Shared) (h : HandState) (r : Running) → r.call ≡ c
       → After P E (kind_turn k block a granted s h r)
-  kind_stays (Maintenance step) block a granted s h r is = maintenance_walk P E a s h r step granted (record {
+  kind_stays (SnapshotOrCleaner step) block a granted s h r is = snapshot_or_cleaner_walk P E a s h r step granted (record {
     stops = λ fault cause. any_ends (closes s h r _ is);
     goes = λ on clear. is;
     told = λ on clear. tt;

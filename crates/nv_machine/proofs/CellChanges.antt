@@ -19,9 +19,9 @@ use Rattle.nv_machine.specs.Frame.{lent}
 use Rattle.nv_machine.specs.Hands.{IsParted, unpublished_at}
 use Rattle.nv_machine.specs.Kinds.{entries_for, first_killed, retired_book, retired_cell, with_entries, with_erased, with_log_pages}
 use Rattle.nv_machine.specs.Reads.{pages_needed, slot_at, written_slots}
-use Rattle.nv_machine.specs.World.{Append, ReturnNumber, Close, Enter, HandState, Leave, Make, Next, Number, Open, Publish, Release, Retire, Running, Shared, MaintenanceStep, Maintenance, cell_at, no_cell, owner_at, with_book, with_cell, Compact, Fresh, Unlink}
+use Rattle.nv_machine.specs.World.{Append, ReturnNumber, Close, Enter, HandState, Leave, Make, Next, Number, Open, Publish, Release, Retire, Running, Shared, SnapshotOrCleanerStep, SnapshotOrCleaner, cell_at, no_cell, owner_at, with_book, with_cell, Compact, Fresh, Unlink}
 use Rattle.nv_machine.proofs.Occurrences.{set_times}
-use Rattle.nv_machine.proofs.StepWork.{Both, both, work, maintenance_work, by_number, by_back}
+use Rattle.nv_machine.proofs.StepWork.{Both, both, work, snapshot_or_cleaner_work, by_number, by_back}
 use Rattle.nv_machine.proofs.StepFrames.{work_framed}
 use Rattle.nv_machine.proofs.LocksHeld.{Before, lent_cell}
 use Rattle.nv_machine.proofs.LogsKept.{cell_set}
@@ -75,16 +75,16 @@ removed x s h =
     both (with_cell x.slot (erased x.cell) (with_book x.book s)) (with_erased x.slot x.cell (hand_freed x h))
 
 -- the kinds that remove parts: a commit retires them, and a drain releases one
-abbrev pub is_removal_on : MaintenanceStep → Bool
+abbrev pub is_removal_on : SnapshotOrCleanerStep → Bool
 is_removal_on (Release draining picked) = true
 is_removal_on other = false
 
 abbrev pub is_removal : Next → Bool
 is_removal (Retire place) = true
-is_removal (Maintenance step) = is_removal_on step
+is_removal (SnapshotOrCleaner step) = is_removal_on step
 is_removal other = false
 
-abbrev pub removal_on : MaintenanceStep → Shared → HandState → Removal
+abbrev pub removal_on : SnapshotOrCleanerStep → Shared → HandState → Removal
 removal_on (Release draining picked) s h = record {
   slot = picked.ino;
   cell = released picked (cell_at s picked.ino);
@@ -104,7 +104,7 @@ removal (Retire place) s h r =
       killed = drop 1 h.killed;
       book = retired_book ino killed s r;
     }
-removal (Maintenance step) s h r = removal_on step s h
+removal (SnapshotOrCleaner step) s h r = removal_on step s h
 removal other s h r = record { slot = 0; cell = no_cell; freed = []; killed = h.killed; book = s.book }
 
 -- WHAT A REMOVAL LEAVES: log, generation, version and size of the cell, blocks of one size, each number as often as it
@@ -118,7 +118,7 @@ pub record IsRemoval (s : Shared) (x : Removal) : Type 0 where
   pub snaps : x.book.snaps ≡ s.book.snaps
   pub commit : x.book.commit ≡ s.book.commit
 
-removed_on : (step : MaintenanceStep) (s : Shared) (h : HandState) → is_removal_on step ≡ true → IsRemoval s (removal_on step s h)
+removed_on : (step : SnapshotOrCleanerStep) (s : Shared) (h : HandState) → is_removal_on step ≡ true → IsRemoval s (removal_on step s h)
 removed_on (Release draining picked) s h is =
     let cell = cell_at s picked.ino in
     let k = number_in cell (name_of picked) in record {
@@ -145,11 +145,11 @@ is_removed (Retire place) s h r is =
       snaps = refl;
       commit = refl;
     }
-is_removed (Maintenance step) s h r is = removed_on step s h is
+is_removed (SnapshotOrCleaner step) s h r is = removed_on step s h is
 is_removed other s h r is = absurd (false≢true is)
 
-lent_removal_on : (step : MaintenanceStep) (cpus a : ℕ) (s : Shared) (h : HandState) (r : Running) → is_removal_on step ≡ true
-    → (lent (Maintenance step) cpus a r).cell ≡ Some (removal_on step s h).slot
+lent_removal_on : (step : SnapshotOrCleanerStep) (cpus a : ℕ) (s : Shared) (h : HandState) (r : Running) → is_removal_on step ≡ true
+    → (lent (SnapshotOrCleaner step) cpus a r).cell ≡ Some (removal_on step s h).slot
 lent_removal_on (Release draining picked) cpus a s h r is = refl
 lent_removal_on other cpus a s h r is = absurd (false≢true is)
 
@@ -157,7 +157,7 @@ lent_removal_on other cpus a s h r is = absurd (false≢true is)
 pub lent_removal : (k : Next) (cpus a : ℕ) (s : Shared) (h : HandState) (r : Running) → is_removal k ≡ true
     → (lent k cpus a r).cell ≡ Some (removal k s h r).slot
 lent_removal (Retire place) cpus a s h r is = refl
-lent_removal (Maintenance step) cpus a s h r is = lent_removal_on step cpus a s h r is
+lent_removal (SnapshotOrCleaner step) cpus a s h r is = lent_removal_on step cpus a s h r is
 lent_removal other cpus a s h r is = absurd (false≢true is)
 
 -- and all that was appended is published
@@ -170,31 +170,31 @@ removes_published other written is = refl
 -- ---- a cleaning
 
 -- the slot that a step cleans, and its cell behind it
-abbrev pub is_clean_on : MaintenanceStep → Bool
+abbrev pub is_clean_on : SnapshotOrCleanerStep → Bool
 is_clean_on (Unlink ino) = true
 is_clean_on (Compact ino) = true
 is_clean_on other = false
 
-abbrev pub clean_slot_on : MaintenanceStep → ℕ
+abbrev pub clean_slot_on : SnapshotOrCleanerStep → ℕ
 clean_slot_on (Unlink ino) = ino
 clean_slot_on (Compact ino) = ino
 clean_slot_on other = 0
 
-abbrev pub clean_cell_on : MaintenanceStep → Shared → HandState → CellState
+abbrev pub clean_cell_on : SnapshotOrCleanerStep → Shared → HandState → CellState
 clean_cell_on (Unlink ino) s h = unlinked (cell_at s ino)
 clean_cell_on (Compact ino) s h = compacted_cell h (cell_at s ino)
 clean_cell_on other s h = no_cell
 
 abbrev pub is_clean : Next → Bool
-is_clean (Maintenance step) = is_clean_on step
+is_clean (SnapshotOrCleaner step) = is_clean_on step
 is_clean other = false
 
 abbrev pub clean_slot : Next → ℕ
-clean_slot (Maintenance step) = clean_slot_on step
+clean_slot (SnapshotOrCleaner step) = clean_slot_on step
 clean_slot other = 0
 
 abbrev pub clean_cell : Next → Shared → HandState → CellState
-clean_cell (Maintenance step) s h = clean_cell_on step s h
+clean_cell (SnapshotOrCleaner step) s h = clean_cell_on step s h
 clean_cell other s h = no_cell
 
 -- A CLEANING leaves version and block size of its cell, and of its entries those of some flags. A log that ends at its tail
@@ -211,7 +211,7 @@ whole cell last = take_all cell.chain.tail cell.chain.entries (omega (arith, las
 
 pub is_cleaned : (k : Next) (s : Shared) (h : HandState) → is_clean k ≡ true
     → IsCleaning (cell_at s (clean_slot k)) (clean_cell k s h)
-is_cleaned (Maintenance (Unlink ino)) s h is =
+is_cleaned (SnapshotOrCleaner (Unlink ino)) s h is =
     let cell = cell_at s ino in
     let stays = (unlinkable_of cell).stays in
     let left = parts_left 0 stays cell.chain.ends cell.chain.entries in
@@ -223,7 +223,7 @@ is_cleaned (Maintenance (Unlink ino)) s h is =
       tail = λ last.
           ap (λ (l : List Entry). length (joined (left_of stays (parts_from 0 cell.chain.ends l)))) (whole cell last);
     }
-is_cleaned (Maintenance (Compact ino)) s h is =
+is_cleaned (SnapshotOrCleaner (Compact ino)) s h is =
     let cell = cell_at s ino in
     let stays = (wanted_of cell).stays in
     record {
@@ -237,30 +237,30 @@ is_cleaned other s h is = absurd (false≢true is)
 
 -- its cell is lent
 pub lent_clean : (k : Next) (cpus a : ℕ) (r : Running) → is_clean k ≡ true → (lent k cpus a r).cell ≡ Some (clean_slot k)
-lent_clean (Maintenance (Unlink ino)) cpus a r is = refl
-lent_clean (Maintenance (Compact ino)) cpus a r is = refl
+lent_clean (SnapshotOrCleaner (Unlink ino)) cpus a r is = refl
+lent_clean (SnapshotOrCleaner (Compact ino)) cpus a r is = refl
 lent_clean other cpus a r is = absurd (false≢true is)
 
 -- no commit, no removal
 pub cleans_alone : (k : Next) → is_clean k ≡ true → (commits_at k ≡ false) × (is_removal k ≡ false)
-cleans_alone (Maintenance (Unlink ino)) is = (refl, refl)
-cleans_alone (Maintenance (Compact ino)) is = (refl, refl)
+cleans_alone (SnapshotOrCleaner (Unlink ino)) is = (refl, refl)
+cleans_alone (SnapshotOrCleaner (Compact ino)) is = (refl, refl)
 cleans_alone other is = absurd (false≢true is)
 
 -- what a drain releases leaves the killed parts in the hand
-pub killed_on : (step : MaintenanceStep) (s : Shared) (h : HandState) → (removal_on step s h).killed ≡ h.killed
+pub killed_on : (step : SnapshotOrCleanerStep) (s : Shared) (h : HandState) → (removal_on step s h).killed ≡ h.killed
 killed_on Make s h = refl
 killed_on other s h = refl
 
 -- A STEP OF A CALL ON SNAPSHOTS OR OF A CLEANER removes parts, takes fresh pages, cleans a cell, or leaves all but the book and
 -- the locks of slots
-pub on_step : (P : Shared → HandState → Type 0) (step : MaintenanceStep) (a : ℕ) (s : Shared) (h : HandState)
+pub on_step : (P : Shared → HandState → Type 0) (step : SnapshotOrCleanerStep) (a : ℕ) (s : Shared) (h : HandState)
     → (is_removal_on step ≡ true → let d = removed (removal_on step s h) s h in P d.shared d.hand)
     → ((ino asked wanted : ℕ) → step ≡ Fresh ino asked wanted
-    → let d = maintenance_work (Fresh ino asked wanted) a s h in P d.shared d.hand)
-    → (is_clean_on step ≡ true → let d = maintenance_work step a s h in P d.shared d.hand)
+    → let d = snapshot_or_cleaner_work (Fresh ino asked wanted) a s h in P d.shared d.hand)
+    → (is_clean_on step ≡ true → let d = snapshot_or_cleaner_work step a s h in P d.shared d.hand)
     → ((book : BookState) (owners : List (Option ℕ)) → P (record s { book = book; owners = owners }) h)
-    → P (maintenance_work step a s h).shared (maintenance_work step a s h).hand
+    → P (snapshot_or_cleaner_work step a s h).shared (snapshot_or_cleaner_work step a s h).hand
 on_step P (Release draining picked) a s h removes takes cleans stays = removes refl
 on_step P (Fresh ino asked wanted) a s h removes takes cleans stays = takes ino asked wanted refl
 on_step P (Unlink ino) a s h removes takes cleans stays = cleans refl
@@ -323,17 +323,17 @@ module _ (P : ℕ → CellState → Type 0) (block a : ℕ) (s : Shared) (h : Ha
   low : (k : Next) → Before a s k r → (ino : ℕ) → (lent k (length s.lists) a r).cell ≡ Some ino → ino < length s.cells
   low k b ino is = (lent_inside_own k a s r b ino is).0
 
-  cells_on : (step : MaintenanceStep) → Before a s (Maintenance step) r → CellWays P (Maintenance step) s h r → (ino : ℕ)
-      → P ino (cell_at (work (Maintenance step) block a s h r).shared ino)
+  cells_on : (step : SnapshotOrCleanerStep) → Before a s (SnapshotOrCleaner step) r → CellWays P (SnapshotOrCleaner step) s h r → (ino : ℕ)
+      → P ino (cell_at (work (SnapshotOrCleaner step) block a s h r).shared ino)
   cells_on (Release draining picked) b w =
-      let k : Next = Maintenance (Release draining picked) in
+      let k : Next = SnapshotOrCleaner (Release draining picked) in
       let inside = low k b picked.ino refl in
       set_cell picked.ino _ inside (w.removes refl inside (is_removed k s h r refl))
   cells_on (Unlink ino) b w =
-      let inside = low (Maintenance (Unlink ino)) b ino refl in set_cell ino _ inside (w.cleans refl inside)
+      let inside = low (SnapshotOrCleaner (Unlink ino)) b ino refl in set_cell ino _ inside (w.cleans refl inside)
   cells_on (Compact ino) b w =
-      let inside = low (Maintenance (Compact ino)) b ino refl in set_cell ino _ inside (w.cleans refl inside)
-  cells_on other b w = stays (Maintenance other) refl
+      let inside = low (SnapshotOrCleaner (Compact ino)) b ino refl in set_cell ino _ inside (w.cleans refl inside)
+  cells_on other b w = stays (SnapshotOrCleaner other) refl
 
   -- WHAT HOLDS OF EACH CELL before a step holds of each behind its work, where it holds of the one that the step changes
   pub cells_after : (k : Next) → Before a s k r → CellWays P k s h r → (ino : ℕ) → P ino (cell_at (work k block a s h r).shared ino)
@@ -344,7 +344,7 @@ module _ (P : ℕ → CellState → Type 0) (block a : ℕ) (s : Shared) (h : Ha
   cells_after (Retire place) b w =
       let inside = low (Retire place) b _ refl in
       set_cell _ _ inside (w.removes refl inside (is_removed (Retire place) s h r refl))
-  cells_after (Maintenance step) b w = cells_on step b w
+  cells_after (SnapshotOrCleaner step) b w = cells_on step b w
   cells_after other b w = stays other refl
 
 pub slots_stay : (k : Next) (block a : ℕ) (s : Shared) (h : HandState) (r : Running)
@@ -359,8 +359,8 @@ notes Open = true
 notes Close = true
 notes other = false
 
-journals_on : (step : MaintenanceStep) (a : ℕ) (s : Shared) (h : HandState)
-    → (maintenance_work step a s h).shared.book.journals ≡ s.book.journals
+journals_on : (step : SnapshotOrCleanerStep) (a : ℕ) (s : Shared) (h : HandState)
+    → (snapshot_or_cleaner_work step a s h).shared.book.journals ≡ s.book.journals
 journals_on Make a s h = refl
 journals_on other a s h = refl
 
@@ -370,11 +370,11 @@ journals_stay Number block a s h r is = ap (λ (b : BookState). b.journals) (wor
 journals_stay Open block a s h r is = absurd (true≢false is)
 journals_stay Close block a s h r is = absurd (true≢false is)
 journals_stay ReturnNumber block a s h r is = ap (λ (b : BookState). b.journals) (work_framed ReturnNumber block a s h r).book
-journals_stay (Maintenance step) block a s h r is = journals_on step a s h
+journals_stay (SnapshotOrCleaner step) block a s h r is = journals_on step a s h
 journals_stay other block a s h r is = refl
 
-commit_on : (step : MaintenanceStep) (a : ℕ) (s : Shared) (h : HandState)
-    → (maintenance_work step a s h).shared.book.commit ≡ s.book.commit
+commit_on : (step : SnapshotOrCleanerStep) (a : ℕ) (s : Shared) (h : HandState)
+    → (snapshot_or_cleaner_work step a s h).shared.book.commit ≡ s.book.commit
 commit_on Make a s h = refl
 commit_on other a s h = refl
 
@@ -387,20 +387,20 @@ pub commit_stays : (k : Next) (block a : ℕ) (s : Shared) (h : HandState) (r : 
 commit_stays Number block a s h r is = ap (λ (b : BookState). b.commit) (work_framed Number block a s h r).book
 commit_stays Enter block a s h r is = absurd (true≢false is)
 commit_stays ReturnNumber block a s h r is = ap (λ (b : BookState). b.commit) (work_framed ReturnNumber block a s h r).book
-commit_stays (Maintenance step) block a s h r is = commit_on step a s h
+commit_stays (SnapshotOrCleaner step) block a s h r is = commit_on step a s h
 commit_stays other block a s h r is = refl
 
 -- the step that begins an epoch
-abbrev makes_on : MaintenanceStep → Bool
+abbrev makes_on : SnapshotOrCleanerStep → Bool
 makes_on Make = true
 makes_on other = false
 
 abbrev pub makes : Next → Bool
-makes (Maintenance step) = makes_on step
+makes (SnapshotOrCleaner step) = makes_on step
 makes other = false
 
-epoch_on : (step : MaintenanceStep) (a : ℕ) (s : Shared) (h : HandState) → makes_on step ≡ false
-    → (maintenance_work step a s h).shared.book.snaps.epoch ≡ s.book.snaps.epoch
+epoch_on : (step : SnapshotOrCleanerStep) (a : ℕ) (s : Shared) (h : HandState) → makes_on step ≡ false
+    → (snapshot_or_cleaner_work step a s h).shared.book.snaps.epoch ≡ s.book.snaps.epoch
 epoch_on Make a s h is = absurd (true≢false is)
 epoch_on other a s h is = refl
 
@@ -408,12 +408,12 @@ pub epoch_stays : (k : Next) (block a : ℕ) (s : Shared) (h : HandState) (r : R
     → (work k block a s h r).shared.book.snaps.epoch ≡ s.book.snaps.epoch
 epoch_stays Number block a s h r is = ap (λ (b : BookState). b.snaps.epoch) (work_framed Number block a s h r).book
 epoch_stays ReturnNumber block a s h r is = ap (λ (b : BookState). b.snaps.epoch) (work_framed ReturnNumber block a s h r).book
-epoch_stays (Maintenance step) block a s h r is = epoch_on step a s h is
+epoch_stays (SnapshotOrCleaner step) block a s h r is = epoch_on step a s h is
 epoch_stays other block a s h r is = refl
 
 -- ---- the commit lock
 
-lock_on : (step : MaintenanceStep) (a : ℕ) (s : Shared) (h : HandState) → (maintenance_work step a s h).shared.holder ≡ s.holder
+lock_on : (step : SnapshotOrCleanerStep) (a : ℕ) (s : Shared) (h : HandState) → (snapshot_or_cleaner_work step a s h).shared.holder ≡ s.holder
 lock_on Make a s h = refl
 lock_on other a s h = refl
 
@@ -429,7 +429,7 @@ holder_stays Number block a s h r is = (work_framed Number block a s h r).holder
 holder_stays Enter block a s h r is = absurd (true≢false is)
 holder_stays Leave block a s h r is = absurd (true≢false is)
 holder_stays ReturnNumber block a s h r is = (work_framed ReturnNumber block a s h r).holder
-holder_stays (Maintenance step) block a s h r is = lock_on step a s h
+holder_stays (SnapshotOrCleaner step) block a s h r is = lock_on step a s h
 holder_stays other block a s h r is = refl
 
 -- ---- the killed parts in the hand
@@ -438,7 +438,7 @@ holder_stays other block a s h r is = refl
 abbrev pub kills : Next → Bool
 kills (Publish place) = true
 kills (Retire place) = true
-kills (Maintenance step) = true
+kills (SnapshotOrCleaner step) = true
 kills other = false
 
 pub killed_stays : (k : Next) (block a : ℕ) (s : Shared) (h : HandState) (r : Running) → kills k ≡ false
@@ -447,5 +447,5 @@ killed_stays Number block a s h r is = by_number (λ (t : Shared) (g : HandState
 killed_stays ReturnNumber block a s h r is = by_back (λ (t : Shared) (g : HandState). g.killed ≡ h.killed) s h (λ numbers ino. refl)
 killed_stays (Publish place) block a s h r is = absurd (true≢false is)
 killed_stays (Retire place) block a s h r is = absurd (true≢false is)
-killed_stays (Maintenance step) block a s h r is = absurd (true≢false is)
+killed_stays (SnapshotOrCleaner step) block a s h r is = absurd (true≢false is)
 killed_stays other block a s h r is = refl

@@ -26,7 +26,7 @@ use Rattle.nv_machine.specs.Reads.{pages_needed, slot_at, written_slots}
 use Rattle.nv_machine.specs.Step.{step}
 use Rattle.nv_machine.specs.Pages.{AreOnPages}
 use Rattle.nv_machine.specs.Whole.{HasItsParts, HaveTheirParts}
-use Rattle.nv_machine.specs.World.{Append, Event, HandState, Next, Release, Retire, Running, Shared, Maintenance, World, actor_at, cell_at, idle}
+use Rattle.nv_machine.specs.World.{Append, Event, HandState, Next, Release, Retire, Running, Shared, SnapshotOrCleaner, World, actor_at, cell_at, idle}
 use Rattle.nv_machine.proofs.NewWorld.{new_cell}
 use Rattle.nv_machine.proofs.FiledCommits.{retire_mine}
 use Rattle.nv_machine.proofs.OverEvents.{event_shared}
@@ -119,7 +119,7 @@ module _ (g : GeometryNumbers) (w : World) (known : IsKnown g w) (all : HaveThei
       let mine = retire_mine w a rs r there known.reached.locks (lent_holder (Retire place) a s r b refl) running
       ((can_list g w a r (filed_known g w known) running).epoch (ap commits_at e)) m place e b.inside (hand_at (Retire place) e) in
       retired_parts g.block (ids s.book.snaps) ino r.epoch parts (rs ++ picked_in w) (cell_at s ino) (log_is ino) mine (all ino low)
-  removal_parts (Maintenance (Release draining d)) e is low = release_parts d (ap picked_at e) low
+  removal_parts (SnapshotOrCleaner (Release draining d)) e is low = release_parts d (ap picked_at e) low
   removal_parts other e is low = absurd (false≢true is)
 
   clean_parts : (k : Next) → r.next ≡ k → IsCleanable k block s h r → is_clean k ≡ true → clean_slot k < length s.cells

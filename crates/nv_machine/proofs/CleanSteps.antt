@@ -17,7 +17,7 @@ use Rattle.nv_log.specs.Chain.{IsChain, compacted, with_pages_left}
 use Rattle.nv_log.proofs.Chains.{IsChain-compacted, has_pages_left}
 use Rattle.nv_machine.specs.Cleaning.{compacted_cell, unlinked}
 use Rattle.nv_cell.specs.Shape.{IsLeftShaped}
-use Rattle.nv_machine.specs.World.{HandState, Compact, Maintenance, MaintenanceStep, Next, Running, Shared, Unlink, cell_at}
+use Rattle.nv_machine.specs.World.{HandState, Compact, SnapshotOrCleaner, SnapshotOrCleanerStep, Next, Running, Shared, Unlink, cell_at}
 use Rattle.nv_machine.proofs.CleanedCells.{Cleans, taken_cleans}
 use Rattle.nv_machine.proofs.LeftKinds.{left_shaped}
 use Rattle.nv_machine.proofs.Shapes.{kind_now, kinds_after}
@@ -93,22 +93,22 @@ cleaned_shape r flags old new c block is =
 -- ---- a step that cleans, told once for both
 
 -- a flag for each entry of the log, whether it stays
-abbrev stays_on : MaintenanceStep → Shared → List Bool
+abbrev stays_on : SnapshotOrCleanerStep → Shared → List Bool
 stays_on (Unlink ino) s = log_flags (pages_staying (cell_at s ino)) (cell_at s ino).chain
 stays_on (Compact ino) s = entries_staying (cell_at s ino)
 stays_on other s = []
 
 abbrev pub stays_at : Next → Shared → List Bool
-stays_at (Maintenance step) s = stays_on step s
+stays_at (SnapshotOrCleaner step) s = stays_on step s
 stays_at other s = []
 
 -- by any retention that its marks are of
 pub cleans_by : (k : Next) (block : ℕ) (s : Shared) (h : HandState) (r : Running) → is_clean k ≡ true
     → clean_slot k < length s.cells → IsTailLast (cell_at s (clean_slot k)) → IsCleanable k block s h r → (by : Retention)
     → AreMarksOf by (cell_at s (clean_slot k)) → Cleans by (stays_at k s) (cell_at s (clean_slot k)) (clean_cell k s h)
-cleans_by (Maintenance (Unlink ino)) block s h r is low last ready by marks =
+cleans_by (SnapshotOrCleaner (Unlink ino)) block s h r is low last ready by marks =
     unlink_cleans by (cell_at s ino) (ready.cells ino low) last marks
-cleans_by (Maintenance (Compact ino)) block s h r is low last ready by marks =
+cleans_by (SnapshotOrCleaner (Compact ino)) block s h r is low last ready by marks =
     compact_cleans by (cell_at s ino) (ready.cells ino low) last marks h ready.pages
 cleans_by other block s h r is low last ready by marks = absurd (false≢true is)
 
@@ -123,13 +123,13 @@ cleans_own k block s h r is low last ready =
 -- its log pages are of the chain or of the hand
 pub clean_sized : (k : Next) (size : ℕ) (s : Shared) (h : HandState) → is_clean k ≡ true
     → AreSized size (cell_at s (clean_slot k)).chain.blocks → AreSized size h.pages → AreSized size (clean_cell k s h).chain.blocks
-clean_sized (Maintenance (Unlink ino)) size s h is chain pages =
+clean_sized (SnapshotOrCleaner (Unlink ino)) size s h is chain pages =
     let cell = cell_at s ino in
     all_left (λ (b : BlockValue). length b.bytes ≡ size) (pages_staying cell) cell.chain.blocks chain
-clean_sized (Maintenance (Compact ino)) size s h is chain pages = pages
+clean_sized (SnapshotOrCleaner (Compact ino)) size s h is chain pages = pages
 clean_sized other size s h is chain pages = absurd (false≢true is)
 
 -- its call has nothing that is not published
 pub cleans_published : (k : Next) (written : List ℕ) → is_clean k ≡ true → unpublished_at k written ≡ []
-cleans_published (Maintenance step) written is = refl
+cleans_published (SnapshotOrCleaner step) written is = refl
 cleans_published other written is = absurd (false≢true is)

@@ -10,7 +10,7 @@ use Rattle.nv_cell.specs.declared.mark.Mark.{Mark}
 use Rattle.nv_entry.specs.Held.{Retention}
 use Rattle.nv_machine.specs.Grown.{HasGrown, is_behind}
 use Rattle.nv_machine.specs.Reads.{written_slots}
-use Rattle.nv_machine.specs.World.{HandState, Maintenance, Next, Running, Shared, cell_at, owner_at}
+use Rattle.nv_machine.specs.World.{HandState, SnapshotOrCleaner, Next, Running, Shared, cell_at, owner_at}
 use Rattle.nv_machine.proofs.CellChanges.{clean_cell, clean_slot, is_clean, lent_clean, lent_inside_own}
 use Rattle.nv_machine.proofs.Cleanable.{IsCleanable}
 use Rattle.nv_machine.proofs.CleanedCells.{Cleans, cleaned_gone, cleaned_like}
@@ -61,7 +61,7 @@ module _ (by : Retention) (flags : List Bool) (old new : CellState) (c : Cleans 
 
 -- it has appended nothing
 cleans_behind : (k : Next) (written : List ℕ) (ino : ℕ) → is_clean k ≡ true → is_behind k written ino ≡ false
-cleans_behind (Maintenance step) written ino is = refl
+cleans_behind (SnapshotOrCleaner step) written ino is = refl
 cleans_behind other written ino is = absurd (false≢true is)
 
 module _ (k : Next) (block a : ℕ) (s : Shared) (h : HandState) (r : Running) (is : is_clean k ≡ true) (b : Before a s k r)

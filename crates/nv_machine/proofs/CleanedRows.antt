@@ -6,7 +6,7 @@ use Rattle.nv_base.specs.declared.node.Kind.TheVariants as kind
 use Rattle.nv_book.specs.Listed.{all_records}
 use Rattle.nv_calls.specs.declared.answer.Answer.TheVariants as answer
 use Rattle.nv_calls.specs.declared.call.Call.TheVariants as call
-use Rattle.nv_calls.specs.declared.maintenance_call.MaintenanceCall.TheVariants as on
+use Rattle.nv_calls.specs.declared.snapshot_or_cleaner_call.SnapshotOrCleanerCall.TheVariants as on
 use Rattle.nv_cell.specs.Cell.{log_of}
 use Rattle.nv_cell.specs.Marks.{is_there}
 use Rattle.nv_book.specs.declared.record.Record.{Record}
@@ -25,10 +25,10 @@ told reply = []
 -- ---- a killer is cleaned away: the entry that made the first page's pair die goes, and a later one ends it now
 
 abbrev killed_twice : List Line
-killed_twice = made ++ snap ∷ write 98 ∷ snap ∷ DoCall 0 (call.Maintenance (on.Drop 2)) ∷ write 99 ∷ []
+killed_twice = made ++ snap ∷ write 98 ∷ snap ∷ DoCall 0 (call.SnapshotOrCleaner (on.Drop 2)) ∷ write 99 ∷ []
 
 abbrev thorough : Line
-thorough = DoCall 1 (call.Maintenance (on.Thorough 1))
+thorough = DoCall 1 (call.SnapshotOrCleaner (on.Thorough 1))
 
 abbrev behind : World
 behind = after_lines (killed_twice ++ thorough ∷ [])
@@ -57,7 +57,7 @@ death_scanned = refl
 parts_left : map is_there (cell_at behind.shared 1).marks ≡ true ∷ true ∷ false ∷ true ∷ true ∷ true ∷ true ∷ []
 parts_left = refl
 
-as_it_was : told (line behind (DoCall 0 (call.Maintenance (on.Show 1)))).reply
+as_it_was : told (line behind (DoCall 0 (call.SnapshotOrCleaner (on.Show 1)))).reply
     ≡ ([], (kind.Dir, (493, []))) ∷ ((97 ∷ []) ∷ [], (kind.File, (420, page 97))) ∷ []
 as_it_was = refl
 
@@ -77,11 +77,11 @@ abbrev nine : World
 nine = played (formatted small) (DoCall 0 (call.Create (handle 0 1) (97 ∷ []) 420) ∷ modes)
 
 abbrev fast : Line
-fast = DoCall 0 (call.Maintenance (on.Fast 1))
+fast = DoCall 0 (call.SnapshotOrCleaner (on.Fast 1))
 
 -- six entries go with three of eight pages; the three behind the last entry stay. Then none goes, by a fast cleaning and by
 -- the one that the log asks for
-pages_go : play nine (fast ∷ fast ∷ DoCall 0 (call.Maintenance (on.Auto 1)) ∷ [])
+pages_go : play nine (fast ∷ fast ∷ DoCall 0 (call.SnapshotOrCleaner (on.Auto 1)) ∷ [])
     ≡ Done (answer.Cleaned false 6 3) ∷ Done (answer.Cleaned false 0 0) ∷ Done (answer.Cleaned false 0 0) ∷ []
 pages_go = refl
 
@@ -89,14 +89,14 @@ pages_free : space nine ∷ space (played nine (fast ∷ [])) ∷ [] ≡ (7 ∷ 
 pages_free = refl
 
 -- a thorough cleaning takes seven of the nine entries, and of the eight pages all but one, those without an entry too
-pages_counted : play nine (DoCall 0 (call.Maintenance (on.Thorough 1)) ∷ []) ≡ Done (answer.Cleaned true 7 7) ∷ []
+pages_counted : play nine (DoCall 0 (call.SnapshotOrCleaner (on.Thorough 1)) ∷ []) ≡ Done (answer.Cleaned true 7 7) ∷ []
 pages_counted = refl
 
 -- ---- a deferred record: what it alone keeps stays, and goes once a drain has released it
 
 abbrev deferred : World
-deferred = after_lines (made ++ snap ∷ write 98 ∷ DoCall 0 (call.Maintenance (on.Drop 1)) ∷ [])
+deferred = after_lines (made ++ snap ∷ write 98 ∷ DoCall 0 (call.SnapshotOrCleaner (on.Drop 1)) ∷ [])
 
-kept_while_deferred : play deferred (thorough ∷ DoCall 0 (call.Maintenance (on.Drain 4)) ∷ thorough ∷ [])
+kept_while_deferred : play deferred (thorough ∷ DoCall 0 (call.SnapshotOrCleaner (on.Drain 4)) ∷ thorough ∷ [])
     ≡ Done (answer.Cleaned true 0 0) ∷ Done (answer.Count 2) ∷ Done (answer.Cleaned true 1 0) ∷ []
 kept_while_deferred = refl

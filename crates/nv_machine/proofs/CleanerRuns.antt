@@ -19,10 +19,10 @@ use Rattle.nv_machine.specs.Recorded.{after_deed, after_retire, records_in, reti
 use Rattle.nv_machine.specs.Sequence.{Beginning, Numbers, beginning, begun, first_clean, slots_on, started}
 use Rattle.nv_machine.specs.Starts.{IsStart}
 use Rattle.nv_machine.specs.Step.{after, step, turned}
-use Rattle.nv_machine.specs.World.{Auto, Done, Ending, Ends, Event, Fast, Fresh, Give, Go, HandState, Judge, LockCleaned, Maintenance, MaintenanceStep, Manner, Moves, Next, Refused, Reply, Running, Shared, Thorough, Turn, Unlink, Unlock, Compact, Waits, World, actor_at, cell_at}
+use Rattle.nv_machine.specs.World.{Auto, Done, Ending, Ends, Event, Fast, Fresh, Give, Go, HandState, PlanCleaning, LockCleaned, SnapshotOrCleaner, SnapshotOrCleanerStep, Manner, Moves, Next, Refused, Reply, Running, Shared, Thorough, Turn, Unlink, Unlock, Compact, Waits, World, actor_at, cell_at}
 use Rattle.nv_machine.proofs.CallsStay.{kind_stays}
 use Rattle.nv_machine.proofs.CleanerSteps.{IsBare, OnTurn, Stands, StandsBy, StandsOn, step_on}
-use Rattle.nv_machine.proofs.MaintenanceTurns.{done_is}
+use Rattle.nv_machine.proofs.SnapshotOrCleanerTurns.{done_is}
 use Rattle.nv_machine.proofs.OverEvents.{runs_inside, turn_at}
 use Rattle.nv_machine.proofs.SingleEvents.{goes}
 use Rattle.nv_machine.proofs.StepWays.{After}
@@ -47,13 +47,13 @@ module _ (manner : Manner) (ino cells lists : ℕ) (some : 0 < lists) (actor : �
   -- ---- where it begins
 
   first_stands : (m : Manner) → m ≡ manner → (h : HandState) → h.ino ≡ None → (c : Call)
-      → let k = first_clean cells m ino in Stands manner ino cells lists h (started c (Maintenance k) (slots_on k)) no_work
+      → let k = first_clean cells m ino in Stands manner ino cells lists h (started c (SnapshotOrCleaner k) (slots_on k)) no_work
   first_stands m same h number c = go (nat_lt ino cells) refl where
     bare : IsBare 0 no_work
-    bare = record { made = refl; judges = refl; asked = refl; cleans = refl; entries = refl; pages = refl }
+    bare = record { made = refl; plannings = refl; asked = refl; cleans = refl; entries = refl; pages = refl }
 
-    go : (b : Bool) → nat_lt ino cells ≡ b → let k = if b then LockCleaned m ino else Judge m None in
-        Stands manner ino cells lists h (started c (Maintenance k) (slots_on k)) no_work
+    go : (b : Bool) → nat_lt ino cells ≡ b → let k = if b then LockCleaned m ino else PlanCleaning m None in
+        Stands manner ino cells lists h (started c (SnapshotOrCleaner k) (slots_on k)) no_work
     go true inside = record { by = (same, refl, ltb-true ino cells inside, bare); slots = omega arith; number = number }
     go false past = record { by = (same, ltb-false ino cells past, bare); slots = omega arith; number = number }
 
@@ -205,17 +205,17 @@ module _ (g : GeometryNumbers) (start : World) (records : List Record) (events :
   nothing_done : LeavesPlain Nothing
   nothing_done = record { keeps = refl; plain = λ running p. refl; records = λ living rs. refl }
 
-  as_it_was : (k : MaintenanceStep) → ((p : Plain) → after_step k p ≡ p)
+  as_it_was : (k : SnapshotOrCleanerStep) → ((p : Plain) → after_step k p ≡ p)
       → ((living : List ℕ) (rs : List Record) → after_deed (Maintains k) living rs ≡ rs) → (x : Turn) → LeavesPlain (done_on k x)
   as_it_was k plain records x = elim (done_is k x) [
     | inl none ↦ subst LeavesPlain (sym none) nothing_done
     | inr its ↦ subst LeavesPlain (sym its) (record { keeps = refl; plain = λ running p. plain p; records = records })
   ]
 
-  one_by : (k : MaintenanceStep) (now : CleanerWork) → (lent_on k (length w.shared.lists) actor).book ≡ false
+  one_by : (k : SnapshotOrCleanerStep) (now : CleanerWork) → (lent_on k (length w.shared.lists) actor).book ≡ false
       → ((p : Plain) → after_step k p ≡ p) → ((living : List ℕ) (rs : List Record) → after_deed (Maintains k) living rs ≡ rs)
       → now.made ≤ 4 + 2 * g.cpus
-      → ((other : ℕ) → other ≢ ino → (lent_on k (length w.shared.lists) actor).cell ≢ Some other) → IsOneOf (Maintenance k) now
+      → ((other : ℕ) → other ≢ ino → (lent_on k (length w.shared.lists) actor).cell ≢ Some other) → IsOneOf (SnapshotOrCleaner k) now
   one_by k now book plain records few cells =
       record { few = few; book = book; cells = cells; deeds = as_it_was k plain records; retires = λ rs. refl }
 
@@ -225,10 +225,10 @@ module _ (g : GeometryNumbers) (start : World) (records : List Record) (events :
   own_lent : (slot : ℕ) → slot ≡ ino → (other : ℕ) → other ≢ ino → Some slot ≢ Some other
   own_lent slot is other ne same = ne (sym (same_Some slot other same) ∙ is)
 
-  one_on : (k : MaintenanceStep) (now : CleanerWork) → StandsOn manner ino g.inodes g.cpus k now → IsOneOf (Maintenance k) now
+  one_on : (k : SnapshotOrCleanerStep) (now : CleanerWork) → StandsOn manner ino g.inodes g.cpus k now → IsOneOf (SnapshotOrCleaner k) now
   one_on (LockCleaned m slot) now is = one_by _ now refl (λ p. refl) (λ living rs. refl) (omega (arith, is.3.made)) none_lent
-  one_on (Judge m None) now is = one_by _ now refl (λ p. refl) (λ living rs. refl) (omega (arith, is.2.made)) none_lent
-  one_on (Judge m (Some slot)) now is = one_by _ now refl (λ p. refl) (λ living rs. refl) (omega (arith, is.3.made)) none_lent
+  one_on (PlanCleaning m None) now is = one_by _ now refl (λ p. refl) (λ living rs. refl) (omega (arith, is.2.made)) none_lent
+  one_on (PlanCleaning m (Some slot)) now is = one_by _ now refl (λ p. refl) (λ living rs. refl) (omega (arith, is.3.made)) none_lent
   one_on (Fresh slot asked wanted) now is =
       one_by _ now refl (λ p. refl) (λ living rs. refl) (omega (arith, is.2, is.3, is.4.made)) none_lent
   one_on (Unlink slot) now is = one_by _ now refl (λ p. refl) (λ living rs. refl) (omega (arith, is.2, is.3.made)) (own_lent slot is.0)
@@ -236,7 +236,7 @@ module _ (g : GeometryNumbers) (start : World) (records : List Record) (events :
   one_on other now is = absurd is
 
   one_of : (k : Next) (e : Ending) (now : CleanerWork) → StandsBy manner ino g.inodes g.cpus k e now → IsOneOf k now
-  one_of (Maintenance k) e now is = one_on k now is
+  one_of (SnapshotOrCleaner k) e now is = one_on k now is
   one_of (Unlock place) e now is =
       record { few = omega (arith, is.1); book = refl; cells = none_lent; deeds = λ x. nothing_done; retires = λ rs. refl }
   one_of (Give cpu) e now is =

@@ -14,38 +14,38 @@ use Rattle.nv_calls.specs.declared.answer.Answer.TheVariants as answers
 use Rattle.nv_cell.specs.Cell.{CellState}
 use Rattle.nv_clean.specs.Cleaned.{answer_of}
 use Rattle.nv_clean.specs.Plans.{wanted_of}
-use Rattle.nv_machine.specs.CleanerAnswers.{IsCleanedBy, IsRefusedInOrder, CleanerWork, asks_at, by_entries, cleans_at, fault_by, goes_none, is_passed, judged_cell, judges_at, with_made}
+use Rattle.nv_machine.specs.CleanerAnswers.{IsCleanedBy, IsRefusedInOrder, CleanerWork, asks_at, by_entries, cleans_at, fault_by, goes_none, is_passed, walked_cell, plannings_at, with_made}
 use Rattle.nv_machine.specs.Cleaning.{compacted_cell, inode_turn, is_thorough, unlinked}
 use Rattle.nv_machine.specs.Kinds.{blocks_in, result_by, with_given}
 use Rattle.nv_machine.specs.OwnSteps.{OwnStep}
 use Rattle.nv_cell.specs.Readers.{has_inode}
 use Rattle.nv_machine.specs.Reads.{home_from, slot_at}
 use Rattle.nv_machine.specs.Step.{kind_turn}
-use Rattle.nv_machine.specs.World.{Cleans, Compact, Ending, Fresh, Give, HandState, Judge, LockCleaned, Maintenance, MaintenanceStep, Manner, Next, Refuses, Running, Shared, Thorough, Fast, Auto, Turn, Unlink, Unlock, actor_at, cell_at, no_cell, with_cell, with_owner}
-use Rattle.nv_machine.proofs.MaintenanceWalk.{Judged, step_walk_by}
+use Rattle.nv_machine.specs.World.{Cleans, Compact, Ending, Fresh, Give, HandState, PlanCleaning, LockCleaned, SnapshotOrCleaner, SnapshotOrCleanerStep, Manner, Next, Refuses, Running, Shared, Thorough, Fast, Auto, Turn, Unlink, Unlock, actor_at, cell_at, no_cell, with_cell, with_owner}
+use Rattle.nv_machine.proofs.SnapshotOrCleanerWalk.{Planned, step_walk_by}
 use Rattle.nv_machine.proofs.SlotBounds.{home_from-above}
 use Rattle.nv_machine.proofs.StepWalk.{refused_goes, walk_of}
 use Rattle.nv_machine.proofs.StepWays.{After, EndsBy, Going, Lasts, Overs, Rests, Telling}
-use Rattle.nv_machine.proofs.StepWork.{maintenance_work}
+use Rattle.nv_machine.proofs.StepWork.{snapshot_or_cleaner_work}
 
 -- ---- what has been done before each step
 
 -- nothing but so many steps
 pub record IsBare (n : ℕ) (work : CleanerWork) : Type 0 where
   pub made : work.made ≡ n
-  pub judges : work.judges ≡ []
+  pub plannings : work.plannings ≡ []
   pub asked : work.asked ≡ 0
   pub cleans : work.cleans ≡ []
   pub entries : work.entries ≡ 0
   pub pages : work.pages ≡ 0
 
--- a judge has passed it and found something to do, entry by entry or not; each step since has asked one list
+-- a planning has passed it and found something to do, entry by entry or not; each step since has asked one list
 pub record IsOn (manner : Manner) (ino : ℕ) (thorough : Bool) (work : CleanerWork) : Type 0 where
-  pub judge : OwnStep
-  pub judged : work.judges ≡ judge ∷ []
-  pub passed : is_passed ino judge ≡ true
-  pub goes_by : by_entries manner (judged_cell ino judge) ≡ thorough
-  pub some : goes_none manner (judged_cell ino judge) ≡ false
+  pub planning : OwnStep
+  pub planned : work.plannings ≡ planning ∷ []
+  pub passed : is_passed ino planning ≡ true
+  pub goes_by : by_entries manner (walked_cell ino planning) ≡ thorough
+  pub some : goes_none manner (walked_cell ino planning) ≡ false
   pub made : work.made ≡ 2 + work.asked
   pub cleans : work.cleans ≡ []
   pub entries : work.entries ≡ 0
@@ -53,7 +53,7 @@ pub record IsOn (manner : Manner) (ino : ℕ) (thorough : Bool) (work : CleanerW
 
 -- nothing but the number of steps is another
 pub record IsSame (before after : CleanerWork) : Type 0 where
-  pub judges : after.judges ≡ before.judges
+  pub plannings : after.plannings ≡ before.plannings
   pub asked : after.asked ≡ before.asked
   pub cleans : after.cleans ≡ before.cleans
   pub entries : after.entries ≡ before.entries
@@ -64,10 +64,10 @@ told_as e f g = cc
 
 -- where there are so many slots and lists
 module _ (manner : Manner) (ino cells lists : ℕ) where
-  abbrev pub StandsOn : MaintenanceStep → CleanerWork → Type 0
+  abbrev pub StandsOn : SnapshotOrCleanerStep → CleanerWork → Type 0
   StandsOn (LockCleaned m slot) work = (m ≡ manner) × (slot ≡ ino) × (ino < cells) × IsBare 0 work
-  StandsOn (Judge m None) work = (m ≡ manner) × (cells ≤ ino) × IsBare 0 work
-  StandsOn (Judge m (Some slot)) work = (m ≡ manner) × (slot ≡ ino) × (ino < cells) × IsBare 1 work
+  StandsOn (PlanCleaning m None) work = (m ≡ manner) × (cells ≤ ino) × IsBare 0 work
+  StandsOn (PlanCleaning m (Some slot)) work = (m ≡ manner) × (slot ≡ ino) × (ino < cells) × IsBare 1 work
   StandsOn (Fresh slot asked wanted) work =
       (slot ≡ ino) × (ino < cells) × (work.asked ≡ asked) × (asked < lists) × IsOn manner ino true work
   StandsOn (Unlink slot) work = (slot ≡ ino) × (ino < cells) × (work.asked ≡ 0) × IsOn manner ino false work
@@ -81,7 +81,7 @@ module _ (manner : Manner) (ino cells lists : ℕ) where
   IsEnd other work = ⊥
 
   abbrev pub StandsBy : Next → Ending → CleanerWork → Type 0
-  StandsBy (Maintenance step) e work = StandsOn step work
+  StandsBy (SnapshotOrCleaner step) e work = StandsOn step work
   StandsBy (Unlock place) e work = IsEnd e work × (work.made ≤ 3 + lists)
   StandsBy (Give cpu) e work = IsEnd e work × (cpu < lists) × (work.made ≤ 4 + lists + cpu)
   StandsBy other e work = ⊥
@@ -98,16 +98,16 @@ module _ (manner : Manner) (ino cells lists : ℕ) where
 
   same_end : (e : Ending) (a b : CleanerWork) → IsSame a b → IsEnd e a → IsEnd e b
   same_end (Refuses fault) a b same was = record {
-    judge = was.judge;
-    judged = same.judges ∙ was.judged;
+    planning = was.planning;
+    planned = same.plannings ∙ was.planned;
     is = was.is;
     asked = same.asked ∙ was.asked;
     cleans = same.cleans ∙ was.cleans;
     lost = (same.entries ∙ was.lost.0, same.pages ∙ was.lost.1);
   }
   same_end (Cleans c) a b same was = record {
-    judge = was.judge;
-    judged = same.judges ∙ was.judged;
+    planning = was.planning;
+    planned = same.plannings ∙ was.planned;
     passed = was.passed;
     cleans = same.cleans ∙ was.cleans;
     is = was.is ∙ told_as refl (sym same.entries) (sym same.pages);
@@ -138,13 +138,13 @@ module _ (manner : Manner) (ino cells lists : ℕ) where
     OnTurn k t = After (Goes k) (Tells k) t
 
     -- a step of another kind, that leaves the log, is one more
-    quiet : (k : Next) (t : Shared) → judges_at k x ≡ [] → asks_at k ≡ 0 → cleans_at k ≡ [] → cell_at t ino ≡ cell_at s ino
+    quiet : (k : Next) (t : Shared) → plannings_at k x ≡ [] → asks_at k ≡ 0 → cleans_at k ≡ [] → cell_at t ino ≡ cell_at s ino
         → IsSame work (with_made k ino x t work)
     quiet k t none asks cleans same =
         let entries = ap (λ (c : CellState). length c.chain.entries) same in
         let pages = ap (λ (c : CellState). length c.chain.blocks) same in
         record {
-          judges = ap (λ (l : List OwnStep). l ++ work.judges) none;
+          plannings = ap (λ (l : List OwnStep). l ++ work.plannings) none;
           asked = omega (arith, asks);
           cleans = ap (λ (l : List Bool). l ++ work.cleans) cleans;
           entries = omega (arith, entries);
@@ -191,14 +191,14 @@ module _ (manner : Manner) (ino cells lists : ℕ) where
     -- ---- a step on the slot
 
     module _ (is : Stands h r work) where
-      abbrev on_step : MaintenanceStep → Type 0
-      on_step step = OnTurn (Maintenance step) (kind_turn (Maintenance step) x.world.numbers.block x.actor x.granted s h r)
+      abbrev on_step : SnapshotOrCleanerStep → Type 0
+      on_step step = OnTurn (SnapshotOrCleaner step) (kind_turn (SnapshotOrCleaner step) x.world.numbers.block x.actor x.granted s h r)
 
-      more_bare : (k : Next) (n : ℕ) → judges_at k x ≡ [] → asks_at k ≡ 0 → cleans_at k ≡ [] → (t : Shared)
+      more_bare : (k : Next) (n : ℕ) → plannings_at k x ≡ [] → asks_at k ≡ 0 → cleans_at k ≡ [] → (t : Shared)
           → cell_at t ino ≡ cell_at s ino → IsBare n work → IsBare (n + 1) (with_made k ino x t work)
       more_bare k n none asks cleans t same bare = let still = quiet k t none asks cleans same in record {
         made = omega (arith, bare.made);
-        judges = still.judges ∙ bare.judges;
+        plannings = still.plannings ∙ bare.plannings;
         asked = still.asked ∙ bare.asked;
         cleans = still.cleans ∙ bare.cleans;
         entries = still.entries ∙ bare.entries;
@@ -206,11 +206,11 @@ module _ (manner : Manner) (ino cells lists : ℕ) where
       }
 
       abbrev locking : Next
-      locking = Maintenance (LockCleaned manner ino)
+      locking = SnapshotOrCleaner (LockCleaned manner ino)
 
       lock_on : ino < cells → IsBare 0 work → on_step (LockCleaned manner ino)
       lock_on inside bare =
-          let t = (maintenance_work (LockCleaned manner ino) x.actor s h).shared in
+          let t = (snapshot_or_cleaner_work (LockCleaned manner ino) x.actor s h).shared in
           step_walk_by (Unit {0}) (Goes locking) (Tells locking) x.actor s h r (LockCleaned manner ino) x.granted (λ blocked. tt)
           (λ free. record {
             by = (refl, refl, inside, more_bare locking 0 refl refl refl t refl bare);
@@ -218,25 +218,25 @@ module _ (manner : Manner) (ino cells lists : ℕ) where
             number = is.number;
           })
 
-      -- ---- its judge
+      -- ---- its planning
 
       module _ (slot : Option ℕ) (n : ℕ) (early : n ≤ 1) (bare : IsBare n work) where
-        abbrev judged : CleanerWork
-        judged = with_made (Maintenance (Judge manner slot)) ino x s work
+        abbrev planned : CleanerWork
+        planned = with_made (SnapshotOrCleaner (PlanCleaning manner slot)) ino x s work
 
         abbrev Denied : Fault → Type 0
         Denied fault =
-            EndsBy (Goes (Maintenance (Judge manner slot))) (Tells (Maintenance (Judge manner slot))) r.slots s h r (Refuses fault)
+            EndsBy (Goes (SnapshotOrCleaner (PlanCleaning manner slot))) (Tells (SnapshotOrCleaner (PlanCleaning manner slot))) r.slots s h r (Refuses fault)
 
-        judged_once : judged.judges ≡ x ∷ []
-        judged_once = ap (λ (l : List OwnStep). x ∷ l) bare.judges
+        planned_once : planned.plannings ≡ x ∷ []
+        planned_once = ap (λ (l : List OwnStep). x ∷ l) bare.plannings
 
-        judge_stops : (fault : Fault) → fault ≡ fault_by (has_inode (cell_at s ino)) x.granted → is_passed ino x ≡ false
+        plan_cleaning_stops : (fault : Fault) → fault ≡ fault_by (has_inode (cell_at s ino)) x.granted → is_passed ino x ≡ false
             → Denied fault
-        judge_stops fault cause stopped =
-            ends (Maintenance (Judge manner slot)) is.slots is.number (record {
-              judge = x;
-              judged = judged_once;
+        plan_cleaning_stops fault cause stopped =
+            ends (SnapshotOrCleaner (PlanCleaning manner slot)) is.slots is.number (record {
+              planning = x;
+              planned = planned_once;
               is = cause;
               asked = let none = bare.asked in rw stopped (omega (arith, none));
               cleans = bare.cleans;
@@ -245,20 +245,20 @@ module _ (manner : Manner) (ino cells lists : ℕ) where
 
         stale : has_inode (cell_at s ino) ≡ false → Denied Stale
         stale none =
-            judge_stops Stale (sym (ap (λ (b : Bool). fault_by b x.granted) none)) (ap (λ (b : Bool). b && x.granted) none)
+            plan_cleaning_stops Stale (sym (ap (λ (b : Bool). fault_by b x.granted) none)) (ap (λ (b : Bool). b && x.granted) none)
 
         denied : has_inode (cell_at s ino) ≡ true → x.granted ≡ false → Denied out_of_memory
         denied there lacks =
-            judge_stops out_of_memory (rw there (rw lacks refl)) (rw there (rw lacks refl))
+            plan_cleaning_stops out_of_memory (rw there (rw lacks refl)) (rw there (rw lacks refl))
 
         -- it has passed, and something goes
         found : (thorough : Bool) → has_inode (cell_at s ino) ≡ true → x.granted ≡ true → n ≡ 1
             → by_entries manner (cell_at s ino) ≡ thorough → goes_none manner (cell_at s ino) ≡ false
-            → IsOn manner ino thorough judged
+            → IsOn manner ino thorough planned
         found thorough there has one goes_by goes =
-            let still : (judged.made ≡ 2 + judged.asked) = omega (arith, bare.asked, bare.made, one) in record {
-              judge = x;
-              judged = judged_once;
+            let still : (planned.made ≡ 2 + planned.asked) = omega (arith, bare.asked, bare.made, one) in record {
+              planning = x;
+              planned = planned_once;
               passed = and_from _ _ there has;
               goes_by = goes_by;
               some = goes;
@@ -268,7 +268,7 @@ module _ (manner : Manner) (ino cells lists : ℕ) where
               pages = omega (arith, bare.pages);
             }
 
-      -- it counts the entries as the judge does
+      -- it counts the entries as the planning does
       same_choice : (m : Manner) (cell : CellState) → by_entries m cell ≡ is_thorough m cell
       same_choice Fast cell = refl
       same_choice Thorough cell = refl
@@ -276,35 +276,35 @@ module _ (manner : Manner) (ino cells lists : ℕ) where
         double : (n : ℕ) → n + n ≡ 2 * n
         double n = omega arith
 
-      judge_none : cells ≤ ino → IsBare 0 work → on_step (Judge manner None)
-      judge_none past bare =
-          refused_goes (Unit {0}) (Goes (Maintenance (Judge manner None))) (Tells (Maintenance (Judge manner None))) Stale s h r
+      plan_cleaning_none : cells ≤ ino → IsBare 0 work → on_step (PlanCleaning manner None)
+      plan_cleaning_none past bare =
+          refused_goes (Unit {0}) (Goes (SnapshotOrCleaner (PlanCleaning manner None))) (Tells (SnapshotOrCleaner (PlanCleaning manner None))) Stale s h r
           (stale None 0 (omega arith) bare
           (ap (λ (c : CellState). has_inode c) (get_or_past s.cells ino no_cell (omega (arith, past, many)))))
 
       module _ (inside : ino < cells) (bare : IsBare 1 work) where
         abbrev judging : Next
-        judging = Maintenance (Judge manner (Some ino))
+        judging = SnapshotOrCleaner (PlanCleaning manner (Some ino))
 
-        judge_slot : (granted : Bool) → x.granted ≡ granted
+        plan_cleaning_slot : (granted : Bool) → x.granted ≡ granted
             → OnTurn judging (kind_turn judging x.world.numbers.block x.actor granted s h r)
-        judge_slot false lacks = go (has_inode (cell_at s ino)) refl where
+        plan_cleaning_slot false lacks = go (has_inode (cell_at s ino)) refl where
           go : (there : Bool) → has_inode (cell_at s ino) ≡ there → OnTurn judging (inode_turn there manner ino false s h r)
           go false none =
               refused_goes (Unit {0}) (Goes judging) (Tells judging) Stale s h r (stale (Some ino) 1 (omega arith) bare none)
           go true there =
               refused_goes (Unit {0}) (Goes judging) (Tells judging) out_of_memory s h r
               (denied (Some ino) 1 (omega arith) bare there lacks)
-        judge_slot true has =
-            step_walk_by (Unit {0}) (Goes judging) (Tells judging) x.actor s h r (Judge manner (Some ino)) true (λ blocked. tt) (
+        plan_cleaning_slot true has =
+            step_walk_by (Unit {0}) (Goes judging) (Tells judging) x.actor s h r (PlanCleaning manner (Some ino)) true (λ blocked. tt) (
               λ none. stale (Some ino) 1 (omega arith) bare none,
               λ there lacks. absurd (false≢true (sym lacks)),
               λ slot same there.
                   let e : ino ≡ slot = ap (λ (o : Option ℕ). unwrap_or o 0) same in
-                  subst (λ (i : ℕ). Judged (Goes judging) (Tells judging) manner i s h r) e
+                  subst (λ (i : ℕ). Planned (Goes judging) (Tells judging) manner i s h r) e
                   (chosen (subst (λ (i : ℕ). has_inode (cell_at s i) ≡ true) (sym e) there)),
             ) where
-              chosen : has_inode (cell_at s ino) ≡ true → Judged (Goes judging) (Tells judging) manner ino s h r
+              chosen : has_inode (cell_at s ino) ≡ true → Planned (Goes judging) (Tells judging) manner ino s h r
               chosen there = record {
                 fast = λ plain.
                     let by = same_choice manner (cell_at s ino) ∙ plain in
@@ -339,8 +339,8 @@ module _ (manner : Manner) (ino cells lists : ℕ) where
                     let gone : (now.entries ≡ 0) = omega (arith, bare.entries) in
                     let short : (now.pages ≡ 0) = omega (arith, bare.pages) in
                     ends judging is.slots is.number (record {
-                      judge = x;
-                      judged = judged_once (Some ino) 1 (omega arith) bare;
+                      planning = x;
+                      planned = planned_once (Some ino) 1 (omega arith) bare;
                       passed = and_from _ _ there has;
                       cleans = rw by (rw less bare.cleans);
                       is = told_as (sym by) (sym gone) (sym short);
@@ -353,10 +353,10 @@ module _ (manner : Manner) (ino cells lists : ℕ) where
       module _ (asked wanted : ℕ) (inside : ino < cells) (so_many : work.asked ≡ asked) (more : asked < lists)
           (on : IsOn manner ino true work) where
         abbrev asking : Next
-        asking = Maintenance (Fresh ino asked wanted)
+        asking = SnapshotOrCleaner (Fresh ino asked wanted)
 
         abbrev left : Shared
-        left = (maintenance_work (Fresh ino asked wanted) x.actor s h).shared
+        left = (snapshot_or_cleaner_work (Fresh ino asked wanted) x.actor s h).shared
 
         left_lists : length left.lists ≡ lists
         left_lists = length-set s.lists _ _ ∙ cpus
@@ -365,8 +365,8 @@ module _ (manner : Manner) (ino cells lists : ℕ) where
         still_on =
             let still : (work.made + 1 ≡ 2 + (work.asked + 1)) = omega (arith, on.made) in
             record {
-              judge = on.judge;
-              judged = on.judged;
+              planning = on.planning;
+              planned = on.planned;
               passed = on.passed;
               goes_by = on.goes_by;
               some = on.some;
@@ -392,10 +392,10 @@ module _ (manner : Manner) (ino cells lists : ℕ) where
               };
               short = λ n yet last.
                   let past = ltb-false (asked + 1) (length s.lists) last in
-                  let both = and_parts (has_inode (judged_cell ino on.judge)) on.judge.granted on.passed in
+                  let both = and_parts (has_inode (walked_cell ino on.planning)) on.planning.granted on.passed in
                   ends asking is.slots is.number (record {
-                    judge = on.judge;
-                    judged = on.judged;
+                    planning = on.planning;
+                    planned = on.planned;
                     is = rw (both.0) (rw (both.1) refl);
                     asked = rw on.passed (omega (arith, so_many, past, more, cpus));
                     cleans = on.cleans;
@@ -406,7 +406,7 @@ module _ (manner : Manner) (ino cells lists : ℕ) where
       -- ---- a clean step
 
       module _ (k : Next) (thorough : Bool) (cell : CellState) (inside : ino < cells) (few : work.asked ≤ lists)
-          (on : IsOn manner ino thorough work) (asks : asks_at k ≡ 0) (cleans : cleans_at k ≡ thorough ∷ []) (judges : judges_at k x ≡ []) where
+          (on : IsOn manner ino thorough work) (asks : asks_at k ≡ 0) (cleans : cleans_at k ≡ thorough ∷ []) (plannings : plannings_at k x ≡ []) where
         abbrev cleaned : Shared
         cleaned = with_cell ino cell s
 
@@ -418,8 +418,8 @@ module _ (manner : Manner) (ino cells lists : ℕ) where
             let none = on.entries in
             let nothing = on.pages in
             record {
-              judge = on.judge;
-              judged = ap (λ (l : List OwnStep). l ++ work.judges) judges ∙ on.judged;
+              planning = on.planning;
+              planned = ap (λ (l : List OwnStep). l ++ work.plannings) plannings ∙ on.planned;
               passed = on.passed;
               cleans = rw on.some (ap (λ (l : List Bool). l ++ work.cleans) cleans ∙ ap (λ (l : List Bool). thorough ∷ l) on.cleans
                   ∙ ap (λ (b : Bool). b ∷ []) (sym on.goes_by));
@@ -433,13 +433,13 @@ module _ (manner : Manner) (ino cells lists : ℕ) where
 
       unlink_on : ino < cells → work.asked ≡ 0 → IsOn manner ino false work → on_step (Unlink ino)
       unlink_on inside none on =
-          let k = Maintenance (Unlink ino) in
+          let k = SnapshotOrCleaner (Unlink ino) in
           step_walk_by (Unit {0}) (Goes k) (Tells k) x.actor s h r (Unlink ino) x.granted (λ blocked. tt)
           (clean_ends k false (unlinked (cell_at s ino)) inside (omega (arith, none)) on refl refl refl is.number)
 
       compact_on : ino < cells → work.asked ≤ lists → IsOn manner ino true work → on_step (Compact ino)
       compact_on inside few on =
-          let k = Maintenance (Compact ino) in
+          let k = SnapshotOrCleaner (Compact ino) in
           step_walk_by (Unit {0}) (Goes k) (Tells k) x.actor s h r (Compact ino) x.granted (λ blocked. tt)
           (clean_ends k true (compacted_cell h (cell_at s ino)) inside few on refl refl refl is.number)
 
@@ -449,11 +449,11 @@ module _ (manner : Manner) (ino cells lists : ℕ) where
         at_slot : (P : Manner → ℕ → Type 0) → m ≡ manner → slot ≡ ino → P manner ino → P m slot
         at_slot P e f p = subst (λ (n : Manner). P n slot) (sym e) (subst (P manner) (sym f) p)
 
-      maintained : (step : MaintenanceStep) → StandsOn step work → on_step step
+      maintained : (step : SnapshotOrCleanerStep) → StandsOn step work → on_step step
       maintained (LockCleaned m slot) on = at_slot m slot (λ n i. on_step (LockCleaned n i)) on.0 on.1 (lock_on on.2 on.3)
-      maintained (Judge m None) on = subst (λ (n : Manner). on_step (Judge n None)) (sym on.0) (judge_none on.1 on.2)
-      maintained (Judge m (Some slot)) on =
-          at_slot m slot (λ n i. on_step (Judge n (Some i))) on.0 on.1 (judge_slot on.2 on.3 x.granted refl)
+      maintained (PlanCleaning m None) on = subst (λ (n : Manner). on_step (PlanCleaning n None)) (sym on.0) (plan_cleaning_none on.1 on.2)
+      maintained (PlanCleaning m (Some slot)) on =
+          at_slot m slot (λ n i. on_step (PlanCleaning n (Some i))) on.0 on.1 (plan_cleaning_slot on.2 on.3 x.granted refl)
       maintained (Fresh slot asked wanted) on =
           subst (λ (i : ℕ). on_step (Fresh i asked wanted)) (sym on.0) (fresh_on asked wanted on.1 on.2 on.3 on.4)
       maintained (Unlink slot) on = subst (λ (i : ℕ). on_step (Unlink i)) (sym on.0) (unlink_on on.1 on.2 on.3)
@@ -480,7 +480,7 @@ module _ (manner : Manner) (ino cells lists : ℕ) where
 
       kind_on : (k : Next) → StandsBy k r.ending work
           → OnTurn k (kind_turn k x.world.numbers.block x.actor x.granted s h r)
-      kind_on (Maintenance step) on = maintained step on
+      kind_on (SnapshotOrCleaner step) on = maintained step on
       kind_on (Unlock place) on = unlock_on place on
       kind_on (Give cpu) on = give_on cpu on
       kind_on other on = absurd on

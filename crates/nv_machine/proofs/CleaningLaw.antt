@@ -32,7 +32,7 @@ use Rattle.nv_machine.specs.Reads.{home_from, written_slots}
 use Rattle.nv_machine.specs.Starts.{IsStart}
 use Rattle.nv_machine.specs.Step.{Step, after, changed, kind_turn, step, turned}
 use Rattle.nv_machine.specs.WhatStays.{IsCompacted, IsUnlinked}
-use Rattle.nv_machine.specs.World.{ReturnNumber, Cleans, Compact, Event, Give, Go, HandState, Maintenance, Next, Running, Shared, Unlink, Unlock, World, actor_at, cell_at, go_to, no_cell, owner_at, with_cell}
+use Rattle.nv_machine.specs.World.{ReturnNumber, Cleans, Compact, Event, Give, Go, HandState, SnapshotOrCleaner, Next, Running, Shared, Unlink, Unlock, World, actor_at, cell_at, go_to, no_cell, owner_at, with_cell}
 use Rattle.nv_machine.proofs.CellChanges.{lent_inside_own}
 use Rattle.nv_machine.proofs.CleanSteps.{compact_cleans, unlink_cleans}
 use Rattle.nv_machine.proofs.Cleanable.{IsCleanable, cleanable}
@@ -185,9 +185,9 @@ module _ (g : GeometryNumbers) (w : World) (known : IsKnown g w) (actor ino : �
       ∙ ap (λ (parts : List KilledPart). keeper ino cell.block s.book (picked_in w) parts)
       (same_killed w actor ino t e.hand e.running (e.killed ino ∙ sym killed))
 
-  compacts : r.next ≡ Maintenance (Compact ino) → IsCompacted ino w (step w (Go actor granted)).world
+  compacts : r.next ≡ SnapshotOrCleaner (Compact ino) → IsCompacted ino w (step w (Go actor granted)).world
   compacts next =
-      let k = Maintenance (Compact ino) in
+      let k = SnapshotOrCleaner (Compact ino) in
       let low = (owned k next refl).0 in
       let is = (ready k next).cells ino low in
       let tail = last k next refl refl in
@@ -207,9 +207,9 @@ module _ (g : GeometryNumbers) (w : World) (known : IsKnown g w) (actor ino : �
             (subst (λ (c : CellState). NoneDroppable by [] (log_of c)) (sym now) (compacted_none cell is tail by marks h count));
       })
 
-  unlinks : r.next ≡ Maintenance (Unlink ino) → IsUnlinked ino w (step w (Go actor granted)).world
+  unlinks : r.next ≡ SnapshotOrCleaner (Unlink ino) → IsUnlinked ino w (step w (Go actor granted)).world
   unlinks next =
-      let k = Maintenance (Unlink ino) in
+      let k = SnapshotOrCleaner (Unlink ino) in
       let low = (owned k next refl).0 in
       let is = (ready k next).cells ino low in
       let new = unlinked cell in
@@ -227,14 +227,14 @@ module _ (g : GeometryNumbers) (w : World) (known : IsKnown g w) (actor ino : �
 
 pub compact_leaves : (g : GeometryNumbers) (start : World) (records : List Record) (events : List Event) (actor ino : ℕ)
     (granted : Bool) (r : Running) → IsStart g start records → (actor_at (after start events) actor).running ≡ Some r
-    → r.next ≡ Maintenance (Compact ino)
+    → r.next ≡ SnapshotOrCleaner (Compact ino)
     → IsCompacted ino (after start events) (step (after start events) (Go actor granted)).world
 compact_leaves g start records events actor ino granted r is_start runs =
     compacts g (after start events) (all_known g start records is_start events) actor ino granted r runs
 
 pub unlink_leaves : (g : GeometryNumbers) (start : World) (records : List Record) (events : List Event) (actor ino : ℕ)
     (granted : Bool) (r : Running) → IsStart g start records → (actor_at (after start events) actor).running ≡ Some r
-    → r.next ≡ Maintenance (Unlink ino)
+    → r.next ≡ SnapshotOrCleaner (Unlink ino)
     → IsUnlinked ino (after start events) (step (after start events) (Go actor granted)).world
 unlink_leaves g start records events actor ino granted r is_start runs =
     unlinks g (after start events) (all_known g start records is_start events) actor ino granted r runs

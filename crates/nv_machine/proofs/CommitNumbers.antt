@@ -10,12 +10,12 @@ use Rattle.nv_machine.specs.Locks.{commits_at}
 use Rattle.nv_machine.specs.PlainRun.{Commits, PlainChange, Nothing, Numbers, Maintains, Plain, plain_change, plain_change_of, done, done_on, entered, plain_after, plain_step}
 use Rattle.nv_machine.specs.Reads.{written_slots}
 use Rattle.nv_machine.specs.Sequence.{appending}
-use Rattle.nv_machine.specs.Maintenance.{maintenance_turn}
+use Rattle.nv_machine.specs.SnapshotOrCleaner.{snapshot_or_cleaner_turn}
 use Rattle.nv_machine.specs.Step.{after, kind_turn, step, turned}
-use Rattle.nv_machine.specs.World.{Append, Close, Ending, Ends, Enter, Event, HandState, Make, Moves, Next, Open, Publish, Retire, Running, Shared, MaintenanceStep, Maintenance, Turn, Unpin, Waits, World, actor_at}
+use Rattle.nv_machine.specs.World.{Append, Close, Ending, Ends, Enter, Event, HandState, Make, Moves, Next, Open, Publish, Retire, Running, Shared, SnapshotOrCleanerStep, SnapshotOrCleaner, Turn, Unpin, Waits, World, actor_at}
 use Rattle.nv_machine.proofs.OverEvents.{event_deed, turn_at}
 use Rattle.nv_machine.proofs.StepFrames.{framed}
-use Rattle.nv_machine.proofs.StepWork.{maintenance_work}
+use Rattle.nv_machine.proofs.StepWork.{snapshot_or_cleaner_work}
 use Rattle.nv_machine.proofs.WorkKeeps.{AfterTurn, snapshot_keeps}
 use Rattle.nv_machine.proofs.LoopSteps.{appending_any, goes_on}
 use Rattle.nv_machine.proofs.StepWays.{After, Closes, is_last, by_last}
@@ -94,7 +94,7 @@ publish_stays true n = refl
 publish_stays false n = refl
 
 -- a step of a call on snapshots leaves the number of the last commit
-deed_counted : (step : MaintenanceStep) (n : ℕ) (t : Turn) → counted (done_on step t) n ≡ n
+deed_counted : (step : SnapshotOrCleanerStep) (n : ℕ) (t : Turn) → counted (done_on step t) n ≡ n
 deed_counted step n (Moves s h r) = refl
 deed_counted step n Waits = refl
 deed_counted (Unpin snapshot seen) n (Ends result s h) = refl
@@ -107,13 +107,13 @@ after_counted d s (Moves u h r) e on = on ∙ sym e
 after_counted d s Waits e on = sym e
 after_counted d s (Ends result u h) e on = on ∙ sym e
 
-snapshot_counted : (step : MaintenanceStep) (a : ℕ) (granted : Bool) (s : Shared) (h : HandState) (r : Running)
-    → OnNumber (done_on step (maintenance_turn step a granted s h r)) s (maintenance_turn step a granted s h r)
+snapshot_counted : (step : SnapshotOrCleanerStep) (a : ℕ) (granted : Bool) (s : Shared) (h : HandState) (r : Running)
+    → OnNumber (done_on step (snapshot_or_cleaner_turn step a granted s h r)) s (snapshot_or_cleaner_turn step a granted s h r)
 snapshot_counted step a granted s h r =
-    after_counted (done_on step (maintenance_turn step a granted s h r)) s (maintenance_turn step a granted s h r)
-    (deed_counted step s.book.commit (maintenance_turn step a granted s h r))
+    after_counted (done_on step (snapshot_or_cleaner_turn step a granted s h r)) s (snapshot_or_cleaner_turn step a granted s h r)
+    (deed_counted step s.book.commit (snapshot_or_cleaner_turn step a granted s h r))
     (snapshot_keeps (λ u h. u.book.commit ≡ s.book.commit) step a granted s h r refl (same step)) where
-      same : (step : MaintenanceStep) → (maintenance_work step a s h).shared.book.commit ≡ s.book.commit
+      same : (step : SnapshotOrCleanerStep) → (snapshot_or_cleaner_work step a s h).shared.book.commit ≡ s.book.commit
       same Make = refl
       same other = refl
 
@@ -125,7 +125,7 @@ kind_counted Open block a granted s h r = refl
 kind_counted (Publish place) block a granted s h r = publish_stays (nat_lt 1 (length (written_slots r))) s.book.commit
 kind_counted Close block a granted s h r = refl
 kind_counted (Retire place) block a granted s h r = refl
-kind_counted (Maintenance step) block a granted s h r = snapshot_counted step a granted s h r
+kind_counted (SnapshotOrCleaner step) block a granted s h r = snapshot_counted step a granted s h r
 kind_counted other block a granted s h r = same_book _ Nothing s _ refl (λ n. refl) (framed other block a granted s h r)
 
 -- ---- events

@@ -20,13 +20,13 @@ use Rattle.nv_machine.specs.PlainRun.{Commits, PlainChange, Nothing, Numbers, Ma
 use Rattle.nv_machine.specs.Reads.{bytes_among, written_slots}
 use Rattle.nv_machine.specs.Settled.{node_by, settled, settled_copies, settled_nodes}
 use Rattle.nv_machine.specs.Step.{kind_turn, step}
-use Rattle.nv_machine.specs.World.{Ends, Enter, Event, HandState, Make, Moves, Next, Publish, Running, Shared, MaintenanceStep, Maintenance, Turn, Waits, World, actor_at, cell_at}
+use Rattle.nv_machine.specs.World.{Ends, Enter, Event, HandState, Make, Moves, Next, Publish, Running, Shared, SnapshotOrCleanerStep, SnapshotOrCleaner, Turn, Waits, World, actor_at, cell_at}
 use Rattle.nv_machine.proofs.OverEvents.{event_deed, turn_at, turned_shared}
 use Rattle.nv_machine.proofs.WorkKeeps.{AfterTurn, turn_keeps}
 
 -- ---- which step makes a snapshot
 
-abbrev pub is_make_step : MaintenanceStep → Bool
+abbrev pub is_make_step : SnapshotOrCleanerStep → Bool
 is_make_step Make = true
 is_make_step other = false
 
@@ -34,11 +34,11 @@ abbrev pub is_make : PlainChange → Bool
 is_make (Maintains step) = is_make_step step
 is_make other = false
 
-make_is : (step : MaintenanceStep) → is_make_step step ≡ true → step ≡ Make
+make_is : (step : SnapshotOrCleanerStep) → is_make_step step ≡ true → step ≡ Make
 make_is Make e = refl
 make_is other e = cc
 
-done_make : (step : MaintenanceStep) (t : Turn) → is_make (done_on step t) ≡ true → step ≡ Make
+done_make : (step : SnapshotOrCleanerStep) (t : Turn) → is_make (done_on step t) ≡ true → step ≡ Make
 done_make step (Moves s h r) e = make_is step e
 done_make step Waits e = cc
 done_make Make (Ends result s h) e = refl
@@ -57,10 +57,10 @@ published_none : (b : Bool) → is_make (if b then Nothing else Commits) ≡ tru
 published_none true e = cc
 published_none false e = cc
 
-kind_is : (k : Next) (written : List ℕ) (t : Turn) → is_make (deed_in k written t) ≡ true → k ≡ Maintenance Make
+kind_is : (k : Next) (written : List ℕ) (t : Turn) → is_make (deed_in k written t) ≡ true → k ≡ SnapshotOrCleaner Make
 kind_is Enter written t e = absurd (entered_none t e)
 kind_is (Publish place) written t e = absurd (published_none (nat_lt 1 (length written)) e)
-kind_is (Maintenance step) written t e = ap Maintenance (done_make step t e)
+kind_is (SnapshotOrCleaner step) written t e = ap SnapshotOrCleaner (done_make step t e)
 kind_is other written t e = cc
 
 -- ---- it leaves cells and journals
@@ -68,11 +68,11 @@ kind_is other written t e = cc
 abbrev pub Leaves : Shared → Shared → Type 0
 Leaves s t = (t.cells ≡ s.cells) × (t.book.journals ≡ s.book.journals)
 
-made_keeps : (k : Next) (block a : ℕ) (granted : Bool) (s : Shared) (h : HandState) (r : Running) → k ≡ Maintenance Make
+made_keeps : (k : Next) (block a : ℕ) (granted : Bool) (s : Shared) (h : HandState) (r : Running) → k ≡ SnapshotOrCleaner Make
     → AfterTurn (λ (t : Shared) (x : HandState). Leaves s t) (kind_turn k block a granted s h r)
 made_keeps k block a granted s h r e =
     subst (λ (n : Next). AfterTurn (λ (t : Shared) (x : HandState). Leaves s t) (kind_turn n block a granted s h r)) (sym e)
-    (turn_keeps (λ (t : Shared) (x : HandState). Leaves s t) (Maintenance Make) block a granted s h r (refl, refl) (refl, refl))
+    (turn_keeps (λ (t : Shared) (x : HandState). Leaves s t) (SnapshotOrCleaner Make) block a granted s h r (refl, refl) (refl, refl))
 
 pub event_leaves : (w : World) (e : Event) → is_make (plain_change_of w e) ≡ true → Leaves w.shared (step w e).world.shared
 event_leaves w e = event_deed (λ (d : PlainChange) (v : World). is_make d ≡ true → Leaves w.shared v.shared) w (λ make. cc) e

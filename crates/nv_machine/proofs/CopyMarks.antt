@@ -39,7 +39,7 @@ use Rattle.nv_machine.specs.Kinds.{first_killed}
 use Rattle.nv_machine.specs.Reads.{slot_at, written_slots}
 use Rattle.nv_machine.specs.Starts.{IsStart}
 use Rattle.nv_machine.specs.Step.{after}
-use Rattle.nv_machine.specs.World.{Actor, Draining, Event, Next, Release, Retire, Running, Maintenance, World, actor_at, cell_at, idle}
+use Rattle.nv_machine.specs.World.{Actor, Draining, Event, Next, Release, Retire, Running, SnapshotOrCleaner, World, actor_at, cell_at, idle}
 use Rattle.nv_machine.proofs.EveryWorld.{all_known}
 use Rattle.nv_machine.proofs.CopyRuns.{HaveMarks, earlier}
 use Rattle.nv_machine.proofs.CopySteps.{GoesOut}
@@ -222,8 +222,8 @@ module _ (g : GeometryNumbers) (w : World) (known : IsKnown g w) (are : AreBefor
     lt = earlier w epoch are lives
 
     released_part : (actor : ℕ) (r : Running) (draining : Draining) (d : Record) → (actor_at w actor).running ≡ Some r
-        → r.next ≡ Maintenance (Release draining d)
-        → GoesOut epoch (Maintenance (Release draining d)) w.shared (actor_at w actor).hand r
+        → r.next ≡ SnapshotOrCleaner (Release draining d)
+        → GoesOut epoch (SnapshotOrCleaner (Release draining d)) w.shared (actor_at w actor).hand r
     released_part actor r draining d is next =
         let cell = cell_at w.shared d.ino in
         let its : picked_by_actor (actor_at w actor) ≡ d ∷ [] = ap picked_by_call is ∙ ap picked_at next in
@@ -238,7 +238,7 @@ module _ (g : GeometryNumbers) (w : World) (known : IsKnown g w) (are : AreBefor
     goes_at : (actor : ℕ) (r : Running) → (actor_at w actor).running ≡ Some r → (k : Next) → r.next ≡ k
         → GoesOut epoch k w.shared (actor_at w actor).hand r
     goes_at actor r is (Retire place) next = retired_parts actor place r is next
-    goes_at actor r is (Maintenance (Release draining d)) next = released_part actor r draining d is next
+    goes_at actor r is (SnapshotOrCleaner (Release draining d)) next = released_part actor r draining d is next
     goes_at actor r is k next = tt
 
     held_at : (ino : ℕ) → IsHeldAt epoch (cell_at w.shared ino)

@@ -27,7 +27,7 @@ use Rattle.nv_machine.specs.Grown.{HasGrown, is_behind}
 use Rattle.nv_machine.specs.Kinds.{entries_for, first_killed, with_entries, with_log_pages}
 use Rattle.nv_machine.specs.Locks.{commits_at}
 use Rattle.nv_machine.specs.Reads.{pages_needed, slot_at, written_slots}
-use Rattle.nv_machine.specs.World.{Append, cell_at, HandState, Next, Open, Publish, Release, Retire, Running, Shared, Maintenance}
+use Rattle.nv_machine.specs.World.{Append, cell_at, HandState, Next, Open, Publish, Release, Retire, Running, Shared, SnapshotOrCleaner}
 use Rattle.nv_machine.proofs.CellSteps.{slot_set}
 use Rattle.nv_machine.proofs.AppendsToCome.{entries_more, pages_keep}
 use Rattle.nv_machine.proofs.EpochLogs.{HaveSameBlocks, IsHeldAt, copy_at, log_at, none_at, nothing_kept}
@@ -158,7 +158,7 @@ append_continues epoch entries bs pages cell later =
 -- epoch's log has and has not covered
 abbrev pub GoesOut : ℕ → Next → Shared → HandState → Running → Type 0
 GoesOut epoch (Retire place) s h r = AreParts (cell_at s (slot_at (written_slots r) place)) (first_killed h.killed)
-GoesOut epoch (Maintenance (Release draining picked)) s h r =
+GoesOut epoch (SnapshotOrCleaner (Release draining picked)) s h r =
     let cell : CellState = cell_at s picked.ino in
     number_in cell (name_of picked) < part_total (log_at epoch cell)
     → is_covered cell.block (log_at epoch cell) (number_in cell (name_of picked)) ≡ false → ⊥
@@ -200,7 +200,7 @@ module _ (epoch block a : ℕ) (s : Shared) (h : HandState) (r : Running) where
         retired_fewer living slot r.epoch parts (cell_at s slot),
         retired_held living epoch slot r.epoch parts (cell_at s slot) st.lives (st.later refl) (st.logs slot) st.goes (st.held slot),
       )
-  removal_held (Maintenance (Release draining picked)) st is =
+  removal_held (SnapshotOrCleaner (Release draining picked)) st is =
       let cell = cell_at s picked.ino in
       let k = number_in cell (name_of picked) in (one_fewer None k cell, out_held epoch k cell st.goes (st.held picked.ino))
   removal_held other st is = absurd (false≢true is)

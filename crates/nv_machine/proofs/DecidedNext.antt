@@ -8,10 +8,10 @@ use Rattle.nv_calls.specs.AllCalls.{is_nothing}
 use Rattle.nv_calls.specs.declared.answer.Answer.{Answer}
 use Rattle.nv_calls.specs.declared.call.Call.{Call}
 use Rattle.nv_machine.specs.Answered.{answer_of}
-use Rattle.nv_machine.specs.EndsDecided.{is_maintenance}
+use Rattle.nv_machine.specs.EndsDecided.{is_snapshot_or_cleaner}
 use Rattle.nv_machine.specs.Kinds.{result_by}
 use Rattle.nv_machine.specs.Sequence.{Visits, appending, beginning, closing, locking, looking, opening, publishing, retiring}
-use Rattle.nv_machine.specs.World.{Answers, Append, ReturnNumber, Check, Close, Drains, Ending, Give, HandState, Leave, Lock, Look, Next, Number, Open, BoundAnew, Publish, Refuses, Retire, Running, Shared, Maintenance, Turn, Unlock, Visit, go_to, Cleans}
+use Rattle.nv_machine.specs.World.{Answers, Append, ReturnNumber, Check, Close, Drains, Ending, Give, HandState, Leave, Lock, Look, Next, Number, Open, BoundAnew, Publish, Refuses, Retire, Running, Shared, SnapshotOrCleaner, Turn, Unlock, Visit, go_to, Cleans}
 use Rattle.nv_machine.proofs.LoopSteps.{by_test, either, locking_any, looking_any}
 use Rattle.nv_machine.proofs.StepWays.{AfterBy, EndsBy, Going, Lasts, Overs, Rests, Telling, by_taking, is_maintained, is_taking}
 use Rattle.nv_calls.specs.declared.call.Call.TheVariants as call
@@ -31,11 +31,11 @@ told_at ReturnNumber e a = told_by e a
 told_at other e a = []
 
 abbrev pub IsNoVisit : Call → Type 0
-IsNoVisit c = (beginning c ≡ Visits → ⊥) × (is_maintenance c ≡ false)
+IsNoVisit c = (beginning c ≡ Visits → ⊥) × (is_snapshot_or_cleaner c ≡ false)
 
 -- in the last steps, of a call on files and directories
 abbrev pub IsLastOf : Ending → Call → Type 0
-IsLastOf e c = (is_maintained e ≡ false) × (is_maintenance c ≡ false)
+IsLastOf e c = (is_maintained e ≡ false) × (is_snapshot_or_cleaner c ≡ false)
 
 -- from its check on a call has something to commit
 abbrev pub Stage : Next → Ending → Call → Type 0
@@ -47,7 +47,7 @@ Stage Visit e c = beginning c ≡ Visits
 Stage (Unlock place) e c = IsLastOf e c × (e ≡ BoundAnew → IsNoVisit c)
 Stage (Give cpu) e c = IsLastOf e c
 Stage ReturnNumber e c = IsLastOf e c
-Stage (Maintenance step) e c = ⊥
+Stage (SnapshotOrCleaner step) e c = ⊥
 Stage other e c = is_nothing c ≡ false
 
 pub record IsTold (k : Next) (r : Running) (d : List Answer) : Type 0 where
@@ -74,12 +74,12 @@ no_visit (call.Read file offset count) some = cc
 no_visit (call.Stat handle) some = cc
 no_visit (call.List dir) some = cc
 no_visit (call.Lookup dir name) some = cc
-no_visit (call.Maintenance what) some = cc
+no_visit (call.SnapshotOrCleaner what) some = cc
 no_visit other some = (λ e. cc, refl)
 
 -- nor is a visit on snapshots
-pub plain_visit : (c : Call) → beginning c ≡ Visits → is_maintenance c ≡ false
-plain_visit (call.Maintenance what) e = cc
+pub plain_visit : (c : Call) → beginning c ≡ Visits → is_snapshot_or_cleaner c ≡ false
+plain_visit (call.SnapshotOrCleaner what) e = cc
 plain_visit other e = refl
 
 -- ---- last steps
@@ -116,7 +116,7 @@ module _ {d : List Answer} {r : Running} {e : Ending} (last : IsLastOf e r.call)
     ends_told = record { unlock = λ some. record { told = is; stage = (last, none) }; overs = λ empty. overs_told }
 
 module _ {d : List Answer} (is : d ≡ []) where
-  pub denied_told : {slots : List ℕ} {s : Shared} {h : HandState} {r : Running} {fault : Fault} → is_maintenance r.call ≡ false
+  pub denied_told : {slots : List ℕ} {s : Shared} {h : HandState} {r : Running} {fault : Fault} → is_snapshot_or_cleaner r.call ≡ false
       → EndsBy (ToldGoes d) (ToldEnds d) slots s h r (Refuses fault)
   denied_told plain = ends_told (refl, plain) is (λ over. cc)
 

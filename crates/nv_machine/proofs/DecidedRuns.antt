@@ -9,7 +9,7 @@ use Rattle.nv_calls.specs.AllCalls.{answer, effect, is_nothing}
 use Rattle.nv_calls.specs.Plain.{node_in}
 use Rattle.nv_calls.specs.declared.answer.Answer.{Answer}
 use Rattle.nv_calls.specs.declared.call.Call.{Call}
-use Rattle.nv_machine.specs.EndsDecided.{decided, decided_in, decision_of, is_maintenance, unless_started}
+use Rattle.nv_machine.specs.EndsDecided.{decided, decided_in, decision_of, is_snapshot_or_cleaner, unless_started}
 use Rattle.nv_machine.specs.Hands.{HandOf}
 use Rattle.nv_machine.specs.Kept.{Knows, KnowsOf}
 use Rattle.nv_machine.specs.Locks.{commits_at}
@@ -19,7 +19,7 @@ use Rattle.nv_machine.specs.Sequence.{Beginning, Locks, Maintains, Visits, begin
 use Rattle.nv_machine.specs.Settled.{settled_nodes}
 use Rattle.nv_machine.specs.Starts.{IsStart}
 use Rattle.nv_machine.specs.Step.{Step, after, start_step, step, turn, turned}
-use Rattle.nv_machine.specs.World.{Actor, Append, ReturnNumber, Check, Close, Done, Ending, Ends, Event, Give, Go, HandState, Leave, Lock, Look, Moves, Next, Number, Open, Publish, Refused, Reply, Retire, Running, Shared, Maintenance, Start, Turn, Unlock, Visit, Waits, World, actor_at, idle}
+use Rattle.nv_machine.specs.World.{Actor, Append, ReturnNumber, Check, Close, Done, Ending, Ends, Event, Give, Go, HandState, Leave, Lock, Look, Moves, Next, Number, Open, Publish, Refused, Reply, Retire, Running, Shared, SnapshotOrCleaner, Start, Turn, Unlock, Visit, Waits, World, actor_at, idle}
 use Rattle.nv_calls.specs.declared.allocation.Allocation.{Allocation}
 use Rattle.nv_calls.proofs.Nothing.{told_nothing}
 use Rattle.nv_machine.proofs.EveryWorld.{all_fit, all_known}
@@ -37,9 +37,9 @@ use Rattle.nv_machine.proofs.LocksOverEvents.{before}
 use Rattle.nv_machine.proofs.VisitsRead.{visit_same}
 use Rattle.nv_machine.proofs.DecidedNext.{IsTold, OnTold, Stage, locking_told, no_visit, plain_visit}
 use Rattle.nv_machine.proofs.DecidedTurns.{Relied, kind_told}
-use Rattle.nv_machine.proofs.MaintenanceTurns.{is_quiet}
-use Rattle.nv_calls.specs.declared.maintenance_call.MaintenanceCall.{MaintenanceCall}
-use Rattle.nv_machine.proofs.DecidedMaintenance.{IsSilent, OnSilent, decides_none, quiet_kind, quiet_out, silent_turn}
+use Rattle.nv_machine.proofs.SnapshotOrCleanerTurns.{is_quiet}
+use Rattle.nv_calls.specs.declared.snapshot_or_cleaner_call.SnapshotOrCleanerCall.{SnapshotOrCleanerCall}
+use Rattle.nv_machine.proofs.DecidedSnapshotOrCleaner.{IsSilent, OnSilent, decides_none, quiet_kind, quiet_out, silent_turn}
 use Rattle.nv_calls.specs.declared.call.Call.TheVariants as call
 
 -- ---- a call that runs
@@ -50,7 +50,7 @@ ToldBy false r d = IsTold r.next r d
 
 abbrev pub HasTold : Option Running → List Answer → Type 0
 HasTold None d = Unit {0}
-HasTold (Some r) d = ToldBy (is_maintenance r.call) r d
+HasTold (Some r) d = ToldBy (is_snapshot_or_cleaner r.call) r d
 
 open_knows : (k : Next) (block : ℕ) (s : Shared) (cpu : ℕ) (h : HandState) (r : Running) → k ≡ Open → Knows k block s cpu h r
     → nat_lt 1 (length (written_slots r)) ≡ true
@@ -91,7 +91,7 @@ committing Leave e c at stage = stage
 committing other e c at stage = absurd (false≢true at)
 
 -- a stage is that of a call on files and directories
-staged : (k : Next) (e : Ending) (c : Call) → Stage k e c → is_maintenance c ≡ false
+staged : (k : Next) (e : Ending) (c : Call) → Stage k e c → is_snapshot_or_cleaner c ≡ false
 staged Number e c stage = stage.1
 staged (Look place) e c stage = stage.1
 staged (Lock place) e c stage = stage.1
@@ -100,7 +100,7 @@ staged Visit e c stage = plain_visit c stage
 staged (Unlock place) e c stage = stage.0.1
 staged (Give cpu) e c stage = stage.1
 staged ReturnNumber e c stage = stage.1
-staged (Maintenance step) e c stage = absurd stage
+staged (SnapshotOrCleaner step) e c stage = absurd stage
 staged other e c stage = (no_visit c stage).1
 
 told_running : (q : Running) (d : List Answer) → IsTold q.next q d → HasTold (Some q) d
@@ -108,12 +108,12 @@ told_running q d is = subst (λ (b : Bool). ToldBy b q d) (sym (staged q.next q.
 
 -- ---- one event
 
-begun_plain : (c : Call) → ((what : MaintenanceCall) → beginning c ≡ Maintains what → ⊥) → is_maintenance c ≡ false
-begun_plain (call.Maintenance what) other = absurd (other what refl)
+begun_plain : (c : Call) → ((what : SnapshotOrCleanerCall) → beginning c ≡ Maintains what → ⊥) → is_snapshot_or_cleaner c ≡ false
+begun_plain (call.SnapshotOrCleaner what) other = absurd (other what refl)
 begun_plain rest other = refl
 
-begun_on : (c : Call) (what : MaintenanceCall) → beginning c ≡ Maintains what → is_maintenance c ≡ true
-begun_on (call.Maintenance what) here e = refl
+begun_on : (c : Call) (what : SnapshotOrCleanerCall) → beginning c ≡ Maintains what → is_snapshot_or_cleaner c ≡ true
+begun_on (call.SnapshotOrCleaner what) here e = refl
 begun_on other here e = cc
 
 begun_told : (b : Beginning) (s : Shared) (c : Call) → beginning c ≡ b → HasTold (Some (begun b s c)) []
@@ -137,10 +137,10 @@ module _ (g : GeometryNumbers) (w : World) (known : IsKnown g w) (actor : ℕ) w
   after_told Waits d before on had = subst (HasTold (actor_at w actor).running) (sym on) had
   after_told (Ends result s h) d before on had = tt
 
-  after_silent : (t : Turn) (d before : List Answer) (r : Running) → (actor_at w actor).running ≡ Some r → is_maintenance r.call ≡ true
+  after_silent : (t : Turn) (d before : List Answer) (r : Running) → (actor_at w actor).running ≡ Some r → is_snapshot_or_cleaner r.call ≡ true
       → d ≡ before → IsSilent r before → OnSilent r.call d t → OwnAfter (actor_at w actor) (Then d) t
   after_silent (Moves s h q) d before r is snapshot same had on =
-      subst (λ (b : Bool). ToldBy b q d) (sym (ap is_maintenance on.1 ∙ snapshot)) on.0
+      subst (λ (b : Bool). ToldBy b q d) (sym (ap is_snapshot_or_cleaner on.1 ∙ snapshot)) on.0
   after_silent Waits d before r is snapshot same had on =
       subst (λ (o : Option Running). HasTold o d) (sym is) (subst (λ (b : Bool). ToldBy b r d) (sym snapshot)
       (subst (IsSilent r) (sym same) had))
@@ -166,10 +166,10 @@ module _ (g : GeometryNumbers) (w : World) (known : IsKnown g w) (actor : ℕ) w
   own_told granted before had =
       own_goes (Then (decision_of (actor_at w actor).running w actor granted ++ before)) w actor granted (λ none. rw none tt)
       (λ r there is. subst (λ (o : Option Running). OwnAfter (actor_at w actor) (Then (decision_of o w actor granted ++ before))
-      (turn_at w actor granted r)) (sym is) (go r is (is_maintenance r.call) refl
+      (turn_at w actor granted r)) (sym is) (go r is (is_snapshot_or_cleaner r.call) refl
       (subst (λ (o : Option Running). HasTold o before) is had)))
     where
-      go : (r : Running) → (actor_at w actor).running ≡ Some r → (b : Bool) → is_maintenance r.call ≡ b → ToldBy b r before
+      go : (r : Running) → (actor_at w actor).running ≡ Some r → (b : Bool) → is_snapshot_or_cleaner r.call ≡ b → ToldBy b r before
           → OwnAfter (actor_at w actor) (Then (decision_of (Some r) w actor granted ++ before)) (turn_at w actor granted r)
       go r is false plain told = after_told (turn_at w actor granted r) _ before (own_turn_told granted r before is told) had
       go r is true snapshot told =
@@ -255,20 +255,20 @@ module _ (g : GeometryNumbers) (start : World) (records : List Record) (events :
       (turn_replies (turn w.numbers.block actor granted w.shared (actor_at w actor).hand r) before_all _
       (own_turn_told g w (all_known g start records is_start events) actor granted r before_all is had))
 
-  told_of : (r : Running) → (actor_at w actor).running ≡ Some r → ToldBy (is_maintenance r.call) r before_all
+  told_of : (r : Running) → (actor_at w actor).running ≡ Some r → ToldBy (is_snapshot_or_cleaner r.call) r before_all
   told_of r is = subst (λ (o : Option Running). HasTold o before_all) is all_told
 
   -- a call at its visit begins with it
   pub visits_of : (r : Running) → (actor_at w actor).running ≡ Some r → r.next ≡ Visit → beginning r.call ≡ Visits
-  visits_of r is next = go (is_maintenance r.call) (told_of r is) where
+  visits_of r is next = go (is_snapshot_or_cleaner r.call) (told_of r is) where
     go : (b : Bool) → ToldBy b r before_all → beginning r.call ≡ Visits
     go true told = absurd (false≢true (ap is_quiet (sym next) ∙ told.quiet))
     go false told = subst (λ (k : Next). Stage k r.ending r.call) next told.stage
 
-  pub plainly_told : (r : Running) → (actor_at w actor).running ≡ Some r → is_maintenance r.call ≡ false → IsTold r.next r before_all
+  pub plainly_told : (r : Running) → (actor_at w actor).running ≡ Some r → is_snapshot_or_cleaner r.call ≡ false → IsTold r.next r before_all
   plainly_told r is plain = subst (λ (b : Bool). ToldBy b r before_all) plain (told_of r is)
 
-  all_replied : (granted : Bool) (r : Running) → (actor_at w actor).running ≡ Some r → is_maintenance r.call ≡ false
+  all_replied : (granted : Bool) (r : Running) → (actor_at w actor).running ≡ Some r → is_snapshot_or_cleaner r.call ≡ false
       → ReplyTold (step w (Go actor granted)).reply (decided actor start (events ++ Go actor granted ∷ []) [])
   all_replied granted r is plain =
       subst (ReplyTold (step w (Go actor granted)).reply)
@@ -281,8 +281,8 @@ module _ (g : GeometryNumbers) (start : World) (records : List Record) (events :
   -- a call that is refused was not decided
   pub is_undecided : (granted : Bool) (r : Running) (fault : Fault) → (actor_at w actor).running ≡ Some r
       → (step w (Go actor granted)).reply ≡ Refused fault → decided_then granted ≡ []
-  is_undecided granted r fault is e = go (is_maintenance r.call) refl where
-    go : (b : Bool) → is_maintenance r.call ≡ b → decided_then granted ≡ []
+  is_undecided granted r fault is e = go (is_snapshot_or_cleaner r.call) refl where
+    go : (b : Bool) → is_snapshot_or_cleaner r.call ≡ b → decided_then granted ≡ []
     go false plain = subst (λ (x : Reply). ReplyTold x (decided_then granted)) e (all_replied granted r is plain)
     go true snapshot =
         let silent : IsSilent r before_all = subst (λ (b : Bool). ToldBy b r before_all) snapshot (told_of r is) in
@@ -291,7 +291,7 @@ module _ (g : GeometryNumbers) (start : World) (records : List Record) (events :
         before_all silent.quiet ∙ silent.none
 
   -- and one on files and directories that is answered was, once
-  pub is_decided : (granted : Bool) (r : Running) (told : Answer) → (actor_at w actor).running ≡ Some r → is_maintenance r.call ≡ false
+  pub is_decided : (granted : Bool) (r : Running) (told : Answer) → (actor_at w actor).running ≡ Some r → is_snapshot_or_cleaner r.call ≡ false
       → (step w (Go actor granted)).reply ≡ Done told → decided_then granted ≡ told ∷ []
   is_decided granted r told is plain e = subst (λ (x : Reply). ReplyTold x (decided_then granted)) e (all_replied granted r is plain)
 
@@ -314,4 +314,4 @@ module _ (g : GeometryNumbers) (start : World) (records : List Record) (events :
       (lt-ltb actor (length w.actors) there) is) ∙ e) fits in
       (told_nothing block (node_in (settled_nodes w.shared)) taken r.call
       (has_passed g start records events actor granted r is_start there is e)).some_effect
-      (commits_plainly r (is_maintenance r.call) (told_of r is) point.0)
+      (commits_plainly r (is_snapshot_or_cleaner r.call) (told_of r is) point.0)

@@ -18,7 +18,7 @@ use Rattle.nv_calls.proofs.Passed.{both_passed}
 use Rattle.nv_cell.specs.Cell.{log_of}
 use Rattle.nv_machine.proofs.RefusedMemory.{refused_unanswered as refuses}
 use Rattle.nv_machine.specs.Answered.{answer_of}
-use Rattle.nv_machine.specs.EndsDecided.{decision, has_nothing_to_do, is_answered, is_no_change, is_maintenance, is_pass}
+use Rattle.nv_machine.specs.EndsDecided.{decision, has_nothing_to_do, is_answered, is_no_change, is_snapshot_or_cleaner, is_pass}
 use Rattle.nv_machine.specs.Hands.{is_going}
 use Rattle.nv_machine.specs.Kinds.{check_ending, visit_turn}
 use Rattle.nv_machine.specs.Locks.{IsInside, commits_at, held_at}
@@ -27,7 +27,7 @@ use Rattle.nv_machine.specs.Reads.{copies, nodes, written_slots}
 use Rattle.nv_machine.specs.Sequence.{Visits, appending, beginning, nothing_looked, publishing, retiring}
 use Rattle.nv_machine.specs.Settled.{settled, settled_nodes}
 use Rattle.nv_machine.specs.Step.{ending_at, handle_at, is_numbered, kind_turn, made_in, same_looked, visit_grows, with_made}
-use Rattle.nv_machine.specs.World.{Answers, Append, ReturnNumber, Check, Close, Draining, Drains, Ending, Ends, Enter, Give, HandState, Leave, Lock, Look, Moves, Next, Number, Open, BoundAnew, Publish, Ready, Refuses, Retire, Running, Shared, Maintenance, TakeBlocks, TakeLogPages, Turn, Unlock, Visit, Waits, cell_at, go_to, owner_at, Cleans}
+use Rattle.nv_machine.specs.World.{Answers, Append, ReturnNumber, Check, Close, Draining, Drains, Ending, Ends, Enter, Give, HandState, Leave, Lock, Look, Moves, Next, Number, Open, BoundAnew, Publish, Ready, Refuses, Retire, Running, Shared, SnapshotOrCleaner, TakeBlocks, TakeLogPages, Turn, Unlock, Visit, Waits, cell_at, go_to, owner_at, Cleans}
 use Rattle.nv_machine.proofs.EndingsStay.{no_node_tells}
 use Rattle.nv_machine.proofs.DecidedReads.{ending_settled, settled_ending}
 use Rattle.nv_machine.proofs.DecidedNext.{IsNoVisit, IsTold, OnTold, ToldEnds, ToldGoes, appending_before, before_told, behind_told, denied_told, ends_told, lasts_told, locking_told, looking_told, no_visit, overs_told, plain_visit, rests_told, retiring_behind, several_before, single_behind, taking_told, told_by}
@@ -80,7 +80,7 @@ same_told nodes made other (call.Read file offset count) changes none e = absurd
 same_told nodes made other (call.Stat handle) changes none e = absurd (none.0 refl)
 same_told nodes made other (call.List dir) changes none e = absurd (none.0 refl)
 same_told nodes made other (call.Lookup dir name) changes none e = absurd (none.0 refl)
-same_told nodes made other (call.Maintenance what) changes none e = absurd (true≢false none.1)
+same_told nodes made other (call.SnapshotOrCleaner what) changes none e = absurd (true≢false none.1)
 same_told nodes made other rest changes none e = refl
 
 pub nothing_is : (changes : List Change) → is_no_change changes ≡ true → changes ≡ []
@@ -151,7 +151,7 @@ decides_none Enter = false
 decides_none (Publish place) = false
 decides_none Close = false
 decides_none Visit = false
-decides_none (Maintenance step) = false
+decides_none (SnapshotOrCleaner step) = false
 decides_none other = true
 
 module _ (block a cpu : ℕ) (s : Shared) (h : HandState) (r : Running) where
@@ -237,7 +237,7 @@ module _ (block a cpu : ℕ) (s : Shared) (h : HandState) (r : Running) where
   none_then false q x before e none = none
 
   visit_told : (owner : Option ℕ) (all tests : Tests) (given : Bool) (x found : Answer) (before : List Answer)
-      → is_maintenance r.call ≡ false → before ≡ [] → (owner ≡ None → (all ≡ tests) × (x ≡ found))
+      → is_snapshot_or_cleaner r.call ≡ false → before ≡ [] → (owner ≡ None → (all ≡ tests) × (x ≡ found))
       → OnTold before (cond (is_pass all && is_answered (visit_turn owner tests given found s h r)) (x ∷ []) [] ++ before)
       (visit_turn owner tests given found s h r)
   visit_told (Some other) all tests given x found before on_files none same =
@@ -331,5 +331,5 @@ module _ (block a cpu : ℕ) (s : Shared) (h : HandState) (r : Running) where
       (refusal block (copies s) r.call) (granted || not (visit_grows r.call)) (answer (settled_nodes s) r.made r.call)
       (answer (nodes s) r.made r.call) before (plain_visit r.call d.stage) d.told
       (λ free. let c = st.visit d.stage free (record { made = r.made; runs = [] }) in (sym c.refusal, sym c.answer))
-  kind_told (Maintenance step) granted before st d = absurd d.stage
+  kind_told (SnapshotOrCleaner step) granted before st d = absurd d.stage
   kind_told other granted before st d = walked granted before other st d refl refl

@@ -13,17 +13,17 @@ use Rattle.nv_machine.specs.DrainNumbers.{FindsNothing, drain_number}
 use Rattle.nv_machine.specs.Kinds.{result_by}
 use Rattle.nv_machine.specs.PlainRun.{actor_of}
 use Rattle.nv_machine.specs.Reading.{releases, releases_at, releases_in, releases_of}
-use Rattle.nv_machine.specs.Maintenance.{maintenance_turn}
+use Rattle.nv_machine.specs.SnapshotOrCleaner.{snapshot_or_cleaner_turn}
 use Rattle.nv_machine.specs.Step.{after, go_step, kind_turn, reply_of, step, turn, turned}
-use Rattle.nv_machine.specs.World.{Actor, Answers, ReturnNumber, Done, Draining, Drains, Ending, Ends, Event, Give, Go, HandState, LockPicked, Moves, Next, BoundAnew, Pick, Refused, Refuses, Release, Running, Shared, MaintenanceStep, Maintenance, Start, Started, Turn, Unlock, Waits, World, actor_at, idle, Cleans}
+use Rattle.nv_machine.specs.World.{Actor, Answers, ReturnNumber, Done, Draining, Drains, Ending, Ends, Event, Give, Go, HandState, LockPicked, Moves, Next, BoundAnew, Pick, Refused, Refuses, Release, Running, Shared, SnapshotOrCleanerStep, SnapshotOrCleaner, Start, Started, Turn, Unlock, Waits, World, actor_at, idle, Cleans}
 use Rattle.nv_machine.proofs.StepWays.{After, AfterBy, EndsBy, Going, IsFull, Lasts, Overs, Rests, Telling, any_ends}
 use Rattle.nv_machine.proofs.StepWalk.{walk_by}
-use Rattle.nv_machine.proofs.MaintenanceWalk.{step_walk_by}
+use Rattle.nv_machine.proofs.SnapshotOrCleanerWalk.{step_walk_by}
 use Rattle.nv_machine.proofs.OverEvents.{OwnAfter, event_of, own_goes, started, turn_at}
 use Rattle.nv_machine.proofs.Lists.{self}
 use Rattle.nv_calls.specs.declared.answer.Answer.TheVariants as answers
 use Rattle.nv_calls.specs.declared.call.Call.TheVariants as call
-use Rattle.nv_calls.specs.declared.maintenance_call.MaintenanceCall.TheVariants as on
+use Rattle.nv_calls.specs.declared.snapshot_or_cleaner_call.SnapshotOrCleanerCall.TheVariants as on
 
 -- ---- a drain of so many records that has released so many; it is refused for want of memory alone, before its first
 
@@ -38,7 +38,7 @@ HasReleased all n (Cleans cleaned) = ⊥
 abbrev pub HasPicked : ℕ → ℕ → Draining → Type 0
 HasPicked all n draining = (draining.released ≡ n) × (draining.released + draining.left + 1 ≡ all)
 
-abbrev pub HasReleasedOn : ℕ → ℕ → MaintenanceStep → Type 0
+abbrev pub HasReleasedOn : ℕ → ℕ → SnapshotOrCleanerStep → Type 0
 HasReleasedOn all n (Pick draining) = HasPicked all n draining
 HasReleasedOn all n (LockPicked draining picked) = HasPicked all n draining
 HasReleasedOn all n (Release draining picked) = HasPicked all n draining
@@ -48,7 +48,7 @@ abbrev pub IsDrain : ℕ → ℕ → Next → Ending → Type 0
 IsDrain all n (Unlock place) e = HasReleased all n e
 IsDrain all n (Give cpu) e = HasReleased all n e
 IsDrain all n ReturnNumber e = HasReleased all n e
-IsDrain all n (Maintenance step) e = HasReleasedOn all n step
+IsDrain all n (SnapshotOrCleaner step) e = HasReleasedOn all n step
 IsDrain all n other e = ⊥
 
 abbrev pub IsDrainOf : ℕ → ℕ → Option Running → Type 0
@@ -58,7 +58,7 @@ IsDrainOf all n (Some r) = IsDrain all n r.next r.ending
 -- a step is a pick that finds nothing
 pub record IsLastPick (k : Next) (s : Shared) : Type 0 where
   pub draining : Draining
-  pub picks : k ≡ Maintenance (Pick draining)
+  pub picks : k ≡ SnapshotOrCleaner (Pick draining)
   pub nothing : s.book.deferred ≡ []
 
 abbrev count_told : ℕ → Result Answer Fault
@@ -146,11 +146,11 @@ more_none all n e is = subst (λ (m : ℕ). HasReleased all m e) (same_none n) i
 
 module _ (all n block actor : ℕ) (granted : Bool) (s : Shared) (h : HandState) (r : Running) where
   -- memory is asked for before the first record alone
-  snapshots_on : (step : MaintenanceStep) → HasReleasedOn all n step
-      → OnDrain (IsLastPick (Maintenance step) s) all n (n + releases_at (Maintenance step))
-      (maintenance_turn step actor granted s h r)
+  snapshots_on : (step : SnapshotOrCleanerStep) → HasReleasedOn all n step
+      → OnDrain (IsLastPick (SnapshotOrCleaner step) s) all n (n + releases_at (SnapshotOrCleaner step))
+      (snapshot_or_cleaner_turn step actor granted s h r)
   snapshots_on (Pick draining) is =
-      let none = IsLastPick (Maintenance (Pick draining)) s in
+      let none = IsLastPick (SnapshotOrCleaner (Pick draining)) s in
       step_walk_by (n ≡ n + 0) (DrainGoes all (n + 0)) (DrainTold none all (n + 0)) actor s h r (Pick draining) granted
       (λ blocked. same_none n) (
         λ lacks first. drain_ends none all (n + 0)
@@ -161,10 +161,10 @@ module _ (all n block actor : ℕ) (granted : Bool) (s : Shared) (h : HandState)
       )
   snapshots_on (LockPicked draining picked) is =
       step_walk_by (n ≡ n + 0) (DrainGoes all (n + 0))
-      (DrainTold (IsLastPick (Maintenance (LockPicked draining picked)) s) all (n + 0))
+      (DrainTold (IsLastPick (SnapshotOrCleaner (LockPicked draining picked)) s) all (n + 0))
       actor s h r (LockPicked draining picked) granted (λ blocked. same_none n) (λ free. (omega (arith, is.0), is.1))
   snapshots_on (Release draining picked) is =
-      let none = IsLastPick (Maintenance (Release draining picked)) s in
+      let none = IsLastPick (SnapshotOrCleaner (Release draining picked)) s in
       step_walk_by (n ≡ n + 1) (DrainGoes all (n + 1)) (DrainTold none all (n + 1)) actor s h r (Release draining picked) granted
       (λ blocked. absurd blocked) (drain_ends none all (n + 1) (omega (arith, is.0), omega (arith, is.1)))
   snapshots_on other is = absurd is
@@ -184,7 +184,7 @@ module _ (all n block actor : ℕ) (granted : Bool) (s : Shared) (h : HandState)
       let none = IsLastPick ReturnNumber s in
       walk_by (n ≡ n + 0) (DrainGoes all (n + 0)) (DrainTold none all (n + 0)) block actor s h r ReturnNumber granted
       (λ blocked. absurd blocked) (drain_lasts none all (n + 0) (more_none all n r.ending is)) refl
-  kind_on (Maintenance step) is = snapshots_on step is
+  kind_on (SnapshotOrCleaner step) is = snapshots_on step is
   kind_on other is = absurd is
 
 -- ---- events
@@ -203,9 +203,9 @@ few_at : (all n : ℕ) (k : Next) (e : Ending) → IsDrain all n k e → n ≤ a
 few_at all n (Unlock place) e is = few_released all n e is
 few_at all n (Give cpu) e is = few_released all n e is
 few_at all n ReturnNumber e is = few_released all n e is
-few_at all n (Maintenance (Pick draining)) e is = omega (arith, is.0, is.1)
-few_at all n (Maintenance (LockPicked draining picked)) e is = omega (arith, is.0, is.1)
-few_at all n (Maintenance (Release draining picked)) e is = omega (arith, is.0, is.1)
+few_at all n (SnapshotOrCleaner (Pick draining)) e is = omega (arith, is.0, is.1)
+few_at all n (SnapshotOrCleaner (LockPicked draining picked)) e is = omega (arith, is.0, is.1)
+few_at all n (SnapshotOrCleaner (Release draining picked)) e is = omega (arith, is.0, is.1)
 few_at all n other e is = absurd is
 
 few_of : (all n : ℕ) (running : Option Running) → IsDrainOf all n running → n ≤ all
@@ -362,16 +362,16 @@ nearest count = go (nat_lt count 1) (nat_lt DRAIN count) refl refl where
   go false true low high = let some = ltb-false count 1 low in let lt = ltb-true DRAIN count high in omega (arith, some, lt)
   go false false low high = let some = ltb-false count 1 low in let le = ltb-false DRAIN count high in omega (arith, some, le)
 
-module _ (actor count : ℕ) (w : World) (is : (step w (Start actor (call.Maintenance (on.Drain count)))).reply ≡ Started) where
+module _ (actor count : ℕ) (w : World) (is : (step w (Start actor (call.SnapshotOrCleaner (on.Drain count)))).reply ≡ Started) where
   abbrev v : World
-  v = (step w (Start actor (call.Maintenance (on.Drain count)))).world
+  v = (step w (Start actor (call.SnapshotOrCleaner (on.Drain count)))).world
 
   abbrev all : ℕ
   all = drain_number count
 
   begun_drains : IsDrainAt all 0 actor v
   begun_drains =
-      subst (λ (x : Actor). IsDrainOf all 0 x.running) (sym (started w actor (call.Maintenance (on.Drain count)) is))
+      subst (λ (x : Actor). IsDrainOf all 0 x.running) (sym (started w actor (call.SnapshotOrCleaner (on.Drain count)) is))
       (refl, nearest count)
 
   -- behind none that were released before
@@ -406,7 +406,7 @@ abbrev PickFinds : Shared → Telling
 PickFinds s x t h = (told : ℕ) → x ≡ count_told told → s.book.deferred ≡ []
 
 pub pick_nothing : (draining : Draining) (actor told : ℕ) (granted : Bool) (s t : Shared) (h hand : HandState) (r : Running)
-    → maintenance_turn (Pick draining) actor granted s h r ≡ Ends (Ok (answers.Count told)) t hand → s.book.deferred ≡ []
+    → snapshot_or_cleaner_turn (Pick draining) actor granted s h r ≡ Ends (Ok (answers.Count told)) t hand → s.book.deferred ≡ []
 pick_nothing draining actor told granted s t h hand r e =
     subst (After Goes (PickFinds s)) e
     (step_walk_by (Unit {0}) Goes (PickFinds s) actor s h r (Pick draining) granted (λ blocked. tt) (

@@ -9,11 +9,11 @@ use Rattle.nv_base.specs.declared.fault.Fault.TheVariants.{NoActor}
 use Rattle.nv_book.specs.declared.record.Record.{Record}
 use Rattle.nv_calls.specs.declared.call.Call.{Call}
 use Rattle.nv_calls.specs.declared.call.Call.TheVariants as call
-use Rattle.nv_calls.specs.declared.maintenance_call.MaintenanceCall.TheVariants as on
+use Rattle.nv_calls.specs.declared.snapshot_or_cleaner_call.SnapshotOrCleanerCall.TheVariants as on
 use Rattle.nv_machine.specs.Needed.{AreNoDrops, IsAtRest, IsNoDrop, count_in, drained, is_drop, told_in, told_to, told_to_call}
 use Rattle.nv_machine.specs.Sequence.{beginning, begun, first_clean, locking, slots_on, started}
 use Rattle.nv_machine.specs.Step.{after, go_step, start_step, step, turn, turned}
-use Rattle.nv_machine.specs.World.{Actor, Answers, Auto, Ends, Event, Fast, Go, Maintenance, MaintenanceStep, Manner, Moves, Refused, Running, Start, Thorough, Turn, Waits, World, actor_at, idle, Shared}
+use Rattle.nv_machine.specs.World.{Actor, Answers, Auto, Ends, Event, Fast, Go, SnapshotOrCleaner, SnapshotOrCleanerStep, Manner, Moves, Refused, Running, Start, Thorough, Turn, Waits, World, actor_at, idle, Shared}
 use Rattle.nv_machine.proofs.FirstSteps.{clean_by}
 use Rattle.nv_machine.proofs.DrainSteps.{OnDeferred, drops_at, kind_owed, owed_at, owed_same, told_few}
 use Rattle.nv_machine.proofs.OverEvents.{begun_at, set_begun, set_one, with_call}
@@ -102,18 +102,18 @@ locks_first : (slots : List ℕ) → (owed_at (locking 0 slots) Answers ≡ 0) �
 locks_first slots = owed_same (locking 0 slots) Answers (locking_on 0 slots)
 
 clean_first : (w : World) (c : Call) (manner : Manner) (ino : ℕ) → let step = first_clean (length w.shared.cells) manner ino in
-    IsFirst (started c (Maintenance step) (slots_on step))
-clean_first w c = clean_by (λ (step : MaintenanceStep). IsFirst (started c (Maintenance step) (slots_on step)))
+    IsFirst (started c (SnapshotOrCleaner step) (slots_on step))
+clean_first w c = clean_by (λ (step : SnapshotOrCleanerStep). IsFirst (started c (SnapshotOrCleaner step) (slots_on step)))
     (length w.shared.cells) (λ manner ino inside. record { owed = refl; none = refl }) (λ manner. record { owed = refl; none = refl })
 
 begun_first : (w : World) (c : Call) → is_drop c ≡ false → IsFirst (begun (beginning c) w.shared c)
 begun_first w (call.Write file offset text) apart = let first = locks_first _ in record { owed = first.0; none = first.1 }
 begun_first w (call.Size file size) apart = let first = locks_first _ in record { owed = first.0; none = first.1 }
 begun_first w (call.Mode handle mode) apart = let first = locks_first _ in record { owed = first.0; none = first.1 }
-begun_first w (call.Maintenance (on.Drop snapshot)) apart = absurd (true≢false apart)
-begun_first w (call.Maintenance (on.Fast ino)) apart = clean_first w (call.Maintenance (on.Fast ino)) Fast ino
-begun_first w (call.Maintenance (on.Thorough ino)) apart = clean_first w (call.Maintenance (on.Thorough ino)) Thorough ino
-begun_first w (call.Maintenance (on.Auto ino)) apart = clean_first w (call.Maintenance (on.Auto ino)) Auto ino
+begun_first w (call.SnapshotOrCleaner (on.Drop snapshot)) apart = absurd (true≢false apart)
+begun_first w (call.SnapshotOrCleaner (on.Fast ino)) apart = clean_first w (call.SnapshotOrCleaner (on.Fast ino)) Fast ino
+begun_first w (call.SnapshotOrCleaner (on.Thorough ino)) apart = clean_first w (call.SnapshotOrCleaner (on.Thorough ino)) Thorough ino
+begun_first w (call.SnapshotOrCleaner (on.Auto ino)) apart = clean_first w (call.SnapshotOrCleaner (on.Auto ino)) Auto ino
 begun_first w other apart = record { owed = refl; none = refl }
 
 start_less : (b : Bool) (running : Option Running) (w : World) (actor : ℕ) (c : Call) → nat_lt actor (length w.actors) ≡ b

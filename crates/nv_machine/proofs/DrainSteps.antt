@@ -11,22 +11,22 @@ use Rattle.nv_calls.specs.Refusals.{Check as Tests}
 use Rattle.nv_calls.specs.declared.answer.Answer.{Answer}
 use Rattle.nv_calls.specs.declared.call.Call.{Call}
 use Rattle.nv_calls.specs.declared.call.Call.TheVariants as call
-use Rattle.nv_calls.specs.declared.maintenance_call.MaintenanceCall.TheVariants as on
+use Rattle.nv_calls.specs.declared.snapshot_or_cleaner_call.SnapshotOrCleanerCall.TheVariants as on
 use Rattle.nv_reader.specs.Walk as walks
 use Rattle.nv_machine.specs.Kinds.{check_ending, result_by}
 use Rattle.nv_machine.specs.Needed.{count_in, told_to}
 use Rattle.nv_machine.specs.Reads.{nodes}
 use Rattle.nv_machine.specs.Sequence.{sequel}
-use Rattle.nv_machine.specs.Maintenance.{copies_at, first_showing, seen_on, show_or_unpin, shown_by, maintenance_turn, visited}
+use Rattle.nv_machine.specs.SnapshotOrCleaner.{copies_at, first_showing, seen_on, show_or_unpin, shown_by, snapshot_or_cleaner_turn, visited}
 use Rattle.nv_machine.specs.Step.{kind_turn, reply_of}
-use Rattle.nv_machine.specs.World.{Answers, Check, Done, Draining, Drains, Drop, Ending, HandState, LockPicked, Make, Next, Pick, Pin, Refuses, Release, Running, Shared, Show, Showing, MaintenanceStep, Maintenance, Turn, Unpin, Compact, Fresh, Judge, LockCleaned, Unlink}
+use Rattle.nv_machine.specs.World.{Answers, Check, Done, Draining, Drains, Drop, Ending, HandState, LockPicked, Make, Next, Pick, Pin, Refuses, Release, Running, Shared, Show, Showing, SnapshotOrCleanerStep, SnapshotOrCleaner, Turn, Unpin, Compact, Fresh, PlanCleaning, LockCleaned, Unlink}
 use Rattle.nv_machine.proofs.UnlentSteps.{files_leave}
-use Rattle.nv_machine.proofs.StepWork.{work, maintenance_work}
+use Rattle.nv_machine.proofs.StepWork.{work, snapshot_or_cleaner_work}
 use Rattle.nv_machine.proofs.NextSteps.{last_on, taking_on}
 use Rattle.nv_machine.proofs.LoopSteps.{is_on_files, sequel_on}
 use Rattle.nv_machine.proofs.StepWays.{After, Closes, IsClearOn, StopsBy, any_ends, noted}
 use Rattle.nv_machine.proofs.StepWalk.{walk}
-use Rattle.nv_machine.proofs.MaintenanceWalk.{goes_next, next_on, picked_next, maintenance_walk, tells, told_on, EndsWith, LeadsTo, is_cleaning}
+use Rattle.nv_machine.proofs.SnapshotOrCleanerWalk.{goes_next, next_on, picked_next, snapshot_or_cleaner_walk, tells, told_on, EndsWith, LeadsTo, is_cleaning}
 
 -- ---- how many records a call has picked that it is yet to be answered
 
@@ -34,23 +34,23 @@ abbrev pub owed_by : Ending → ℕ
 owed_by (Drains draining) = draining.released
 owed_by other = 0
 
-abbrev pub owed_on : MaintenanceStep → ℕ
+abbrev pub owed_on : SnapshotOrCleanerStep → ℕ
 owed_on (Pick draining) = draining.released
 owed_on (LockPicked draining picked) = draining.released + 1
 owed_on (Release draining picked) = draining.released + 1
 owed_on other = 0
 
 abbrev pub owed_at : Next → Ending → ℕ
-owed_at (Maintenance step) e = owed_on step
+owed_at (SnapshotOrCleaner step) e = owed_on step
 owed_at other e = owed_by e
 
 -- the call is to drop a snapshot
-abbrev pub drops_on : MaintenanceStep → Bool
+abbrev pub drops_on : SnapshotOrCleanerStep → Bool
 drops_on (Drop snapshot) = true
 drops_on other = false
 
 abbrev pub drops_at : Next → Bool
-drops_at (Maintenance step) = drops_on step
+drops_at (SnapshotOrCleaner step) = drops_on step
 drops_at other = false
 
 -- a step of a call, where so many records were deferred or owed to it before the step: no more are,
@@ -67,18 +67,18 @@ OnDeferred most c turn = After (Owes most) (Told most c) turn
 -- ---- answers
 
 pub told_few : (c : Call) (n : ℕ) → told_to c n ≤ n
-told_few (call.Maintenance (on.Drain count)) n = omega arith
+told_few (call.SnapshotOrCleaner (on.Drain count)) n = omega arith
 told_few other n = omega arith
 
 -- what nodes answer counts nothing to a drain
 no_count : (found : Handle → Option PlainNode) (made : Handle) (c : Call) → told_to c (count_in (Done (answer found made c))) ≡ 0
-no_count found made (call.Maintenance (on.Drain count)) = refl
+no_count found made (call.SnapshotOrCleaner (on.Drain count)) = refl
 no_count found made other = refl
 
 -- ---- what comes next
 
 pub owed_same : (k : Next) (e : Ending) → is_on_files k ≡ true → (owed_at k e ≡ owed_by e) × (drops_at k ≡ false)
-owed_same (Maintenance step) e is = absurd (false≢true is)
+owed_same (SnapshotOrCleaner step) e is = absurd (false≢true is)
 owed_same other e is = (refl, refl)
 
 module _ (most : ℕ) where
@@ -135,9 +135,9 @@ module _ (most : ℕ) where
   picked_owes [] draining few some = absurd (omega (arith, some))
   picked_owes (picked ∷ deferred) draining few some = (omega (arith, few), refl)
 
-  goes_owe : (step : MaintenanceStep) (a : ℕ) (s : Shared) (h : HandState) → length s.book.deferred + owed_on step ≤ most
+  goes_owe : (step : SnapshotOrCleanerStep) (a : ℕ) (s : Shared) (h : HandState) → length s.book.deferred + owed_on step ≤ most
       → goes_next step ≡ true → IsClearOn step s
-      → (length (maintenance_work step a s h).shared.book.deferred + owed_on (next_on step s) ≤ most)
+      → (length (snapshot_or_cleaner_work step a s h).shared.book.deferred + owed_on (next_on step s) ≤ most)
       × (drops_on (next_on step s) ≡ false)
   goes_owe (Pin snapshot) a s h few on clear =
       showing_owes (length s.book.deferred) (first_showing s).left (first_showing s).visits snapshot (first_showing s) few
@@ -149,9 +149,9 @@ module _ (most : ℕ) where
   goes_owe (LockCleaned manner ino) a s h few on clear = (few, refl)
   goes_owe other a s h few on clear = absurd (false≢true on)
 
-  tells_owe : (step : MaintenanceStep) (a : ℕ) (s : Shared) (h : HandState) (r : Running) → drops_on step ≡ false
+  tells_owe : (step : SnapshotOrCleanerStep) (a : ℕ) (s : Shared) (h : HandState) (r : Running) → drops_on step ≡ false
       → length s.book.deferred + owed_on step ≤ most → tells step ≡ true
-      → Told most r.call (told_on step s r) (maintenance_work step a s h).shared (maintenance_work step a s h).hand
+      → Told most r.call (told_on step s r) (snapshot_or_cleaner_work step a s h).shared (snapshot_or_cleaner_work step a s h).hand
   tells_owe Make a s h r apart few on = omega (arith, few, told_few r.call 0)
   tells_owe (Drop snapshot) a s h r apart few on = absurd (true≢false apart)
   tells_owe (Unpin snapshot seen) a s h r apart few on =
@@ -161,33 +161,33 @@ module _ (most : ℕ) where
         none other = refl
   tells_owe other a s h r apart few on = absurd (false≢true on)
 
-  ends_owe : (step : MaintenanceStep) (a : ℕ) (s : Shared) (h : HandState) (e : Ending) → length s.book.deferred + owed_on step ≤ most
-      → EndsWith step a s h e → length (maintenance_work step a s h).shared.book.deferred + owed_by e ≤ most
+  ends_owe : (step : SnapshotOrCleanerStep) (a : ℕ) (s : Shared) (h : HandState) (e : Ending) → length s.book.deferred + owed_on step ≤ most
+      → EndsWith step a s h e → length (snapshot_or_cleaner_work step a s h).shared.book.deferred + owed_by e ≤ most
   ends_owe (Release draining picked) a s h e few is = let owed = ap owed_by is in omega (arith, few, owed)
-  ends_owe (Judge manner slot) a s h e few is = let owed = ap owed_by is.0 in omega (arith, few, owed)
+  ends_owe (PlanCleaning manner slot) a s h e few is = let owed = ap owed_by is.0 in omega (arith, few, owed)
   ends_owe (Fresh ino asked wanted) a s h e few is = let owed = ap owed_by is.0 in omega (arith, few, owed)
   ends_owe (Unlink ino) a s h e few is = let owed = ap owed_by is in omega (arith, few, owed)
   ends_owe (Compact ino) a s h e few is = let owed = ap owed_by is in omega (arith, few, owed)
   ends_owe other a s h e few is = absurd is
 
-  cleaning_owes : (next : MaintenanceStep) → is_cleaning next ≡ true → (owed_on next ≡ 0) × (drops_on next ≡ false)
+  cleaning_owes : (next : SnapshotOrCleanerStep) → is_cleaning next ≡ true → (owed_on next ≡ 0) × (drops_on next ≡ false)
   cleaning_owes (Fresh ino asked wanted) is = (refl, refl)
   cleaning_owes (Unlink ino) is = (refl, refl)
   cleaning_owes (Compact ino) is = (refl, refl)
   cleaning_owes other is = absurd (false≢true is)
 
-  leads_owe : (step : MaintenanceStep) (a : ℕ) (s : Shared) (h : HandState) → length s.book.deferred + owed_on step ≤ most
-      → (next : MaintenanceStep) → LeadsTo step next
-      → (length (maintenance_work step a s h).shared.book.deferred + owed_on next ≤ most) × (drops_on next ≡ false)
-  leads_owe (Judge manner slot) a s h few next leads =
+  leads_owe : (step : SnapshotOrCleanerStep) (a : ℕ) (s : Shared) (h : HandState) → length s.book.deferred + owed_on step ≤ most
+      → (next : SnapshotOrCleanerStep) → LeadsTo step next
+      → (length (snapshot_or_cleaner_work step a s h).shared.book.deferred + owed_on next ≤ most) × (drops_on next ≡ false)
+  leads_owe (PlanCleaning manner slot) a s h few next leads =
       let none = cleaning_owes next leads.to in let owed = none.0 in (omega (arith, few, owed), none.1)
   leads_owe (Fresh ino asked wanted) a s h few next leads =
       let none = cleaning_owes next leads.to in let owed = none.0 in (omega (arith, few, owed), none.1)
   leads_owe other a s h few next leads = absurd (false≢true leads.from)
 
-  on_owes : (step : MaintenanceStep) (actor : ℕ) (granted : Bool) (s : Shared) (h : HandState) (r : Running) → drops_on step ≡ false
-      → length s.book.deferred + owed_on step ≤ most → OnDeferred most r.call (maintenance_turn step actor granted s h r)
-  on_owes step actor granted s h r apart few = maintenance_walk (Owes most) (Told most r.call) actor s h r step granted (record {
+  on_owes : (step : SnapshotOrCleanerStep) (actor : ℕ) (granted : Bool) (s : Shared) (h : HandState) (r : Running) → drops_on step ≡ false
+      → length s.book.deferred + owed_on step ≤ most → OnDeferred most r.call (snapshot_or_cleaner_turn step actor granted s h r)
+  on_owes step actor granted s h r apart few = snapshot_or_cleaner_walk (Owes most) (Told most r.call) actor s h r step granted (record {
     stops = λ fault cause. any_ends (closes s h r _ (omega (arith, few)));
     goes = goes_owe step actor s h few;
     told = λ on clear. tells_owe step actor s h r apart few on;
@@ -199,7 +199,7 @@ module _ (most : ℕ) where
 
   kind_owes : (k : Next) (block actor : ℕ) (granted : Bool) (s : Shared) (h : HandState) (r : Running) → drops_at k ≡ false
       → length s.book.deferred + owed_at k r.ending ≤ most → OnDeferred most r.call (kind_turn k block actor granted s h r)
-  kind_owes (Maintenance step) block actor granted s h r apart few = on_owes step actor granted s h r apart few
+  kind_owes (SnapshotOrCleaner step) block actor granted s h r apart few = on_owes step actor granted s h r apart few
   kind_owes other block actor granted s h r apart few =
       let d = work other block actor s h r in
       let stay : length d.shared.book.deferred ≡ length s.book.deferred =

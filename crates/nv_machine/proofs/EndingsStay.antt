@@ -14,10 +14,10 @@ use Rattle.nv_machine.specs.PlainRun.{Commits, Nothing, Numbers, plain_change, p
 use Rattle.nv_machine.specs.Reads.{written_slots}
 use Rattle.nv_machine.specs.Sequence.{Visits, beginning}
 use Rattle.nv_machine.specs.Step.{kind_turn, reply_of, step, turn, turned}
-use Rattle.nv_machine.specs.World.{Actor, Answers, Append, ReturnNumber, Close, Ending, Ends, Enter, Give, Go, HandState, Leave, Moves, Next, Open, Publish, Retire, Running, Shared, MaintenanceStep, Maintenance, Turn, Unlock, Waits, World, actor_at, idle}
+use Rattle.nv_machine.specs.World.{Actor, Answers, Append, ReturnNumber, Close, Ending, Ends, Enter, Give, Go, HandState, Leave, Moves, Next, Open, Publish, Retire, Running, Shared, SnapshotOrCleanerStep, SnapshotOrCleaner, Turn, Unlock, Waits, World, actor_at, idle}
 use Rattle.nv_machine.proofs.SingleEvents.{go_is_turn}
 use Rattle.nv_machine.proofs.LoopSteps.{Commits as Committing, appending_any, is_on_files, publishing_any, retiring_any}
-use Rattle.nv_machine.proofs.MaintenanceTurns.{done_is}
+use Rattle.nv_machine.proofs.SnapshotOrCleanerTurns.{done_is}
 use Rattle.nv_machine.proofs.StepWays.{AfterBy, Closes, Going, IsBlocked, Telling, any_ends, any_lasts, any_rests, by_last, is_last}
 use Rattle.nv_machine.proofs.StepWalk.{WaysOf, last_ways, walk_by}
 use Rattle.nv_calls.specs.declared.call.Call.TheVariants as call
@@ -84,7 +84,7 @@ entered_none (Moves s h r) e = go (commits_at r.next) e where
 entered_none Waits e = no_commit e
 entered_none (Ends result s h) e = no_commit e
 
-pub no_commit_on : (step : MaintenanceStep) (t : Turn) → done_on step t ≡ Commits → ⊥
+pub no_commit_on : (step : SnapshotOrCleanerStep) (t : Turn) → done_on step t ≡ Commits → ⊥
 no_commit_on step t e = elim (done_is step t) [
   | inl none ↦ no_commit (sym none ∙ e)
   | inr some ↦ true≢false (ap keeps_nodes (sym some ∙ e))
@@ -95,7 +95,7 @@ commit_answer : (k : Next) (block a cpu : ℕ) (granted : Bool) (s : Shared) (h 
 commit_answer Close block a cpu granted s h r knows e = kind_end Answers Close block a granted s h r tt knows.1 tt
 commit_answer (Publish place) block a cpu granted s h r knows e = kind_end Answers (Publish place) block a granted s h r tt knows.1 tt
 commit_answer Enter block a cpu granted s h r knows e = absurd (entered_none _ e)
-commit_answer (Maintenance step) block a cpu granted s h r knows e = absurd (no_commit_on step _ e)
+commit_answer (SnapshotOrCleaner step) block a cpu granted s h r knows e = absurd (no_commit_on step _ e)
 commit_answer other block a cpu granted s h r knows e = absurd (no_commit e)
 
 -- ---- events

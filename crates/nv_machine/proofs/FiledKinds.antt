@@ -11,8 +11,8 @@ use Rattle.nv_machine.proofs.MarksInUse.{slot_marks}
 use Rattle.nv_cell.specs.Cell.{log_of}
 use Rattle.nv_cell.proofs.ValuesNow.{IsLog-take}
 use Rattle.nv_entry.specs.Log.{IsLog}
-use Rattle.nv_machine.proofs.MaintenanceWalk.{goes_next, is_denied, next_on, picked_next, picked_slots, slots_next, tells, told_on, LeadsTo, EndsWith}
-use Rattle.nv_machine.proofs.MaintenanceAlone.{alone_walk}
+use Rattle.nv_machine.proofs.SnapshotOrCleanerWalk.{goes_next, is_denied, next_on, picked_next, picked_slots, slots_next, tells, told_on, LeadsTo, EndsWith}
+use Rattle.nv_machine.proofs.SnapshotOrCleanerAlone.{alone_walk}
 use Rattle.std.proofs.lemmas.Option.{none-some}
 use Rattle.nv_machine.specs.Frame.{lent}
 use Rattle.nv_machine.proofs.StepFrames.{work_framed}
@@ -34,7 +34,7 @@ use Rattle.nv_machine.specs.PlainRun as plain
 use Rattle.nv_machine.specs.Reads.{is_written, pages_needed, slot_at, written_slots}
 use Rattle.nv_machine.specs.Recorded.{after_deed}
 use Rattle.nv_machine.specs.Step.{kind_turn, turned, changed}
-use Rattle.nv_machine.specs.World.{Append, Close, Draining, Drop, Ends, Enter, HandState, Leave, LockPicked, Make, Moves, Next, Open, Pick, Pin, Publish, Release, Retire, Running, Shared, Show, MaintenanceStep, Maintenance, Turn, Unpin, Waits, World, actor_at, cell_at, owner_at, with_cell, Refuses, Unlock, with_book, Judge, LockCleaned, Fresh, Unlink, Compact, Ending, go_to}
+use Rattle.nv_machine.specs.World.{Append, Close, Draining, Drop, Ends, Enter, HandState, Leave, LockPicked, Make, Moves, Next, Open, Pick, Pin, Publish, Release, Retire, Running, Shared, Show, SnapshotOrCleanerStep, SnapshotOrCleaner, Turn, Unpin, Waits, World, actor_at, cell_at, owner_at, with_cell, Refuses, Unlock, with_book, PlanCleaning, LockCleaned, Fresh, Unlink, Compact, Ending, go_to}
 use Rattle.nv_machine.proofs.FiledBooks.{ids_pinned}
 use Rattle.nv_machine.proofs.FiledCommits.{append_marked, publish_marked, retire_marked}
 use Rattle.nv_machine.proofs.FiledLists.{none_first}
@@ -43,7 +43,7 @@ use Rattle.nv_machine.proofs.FiledRuns.{IsListable, can_list}
 use Rattle.nv_machine.proofs.FiledSnaps.{drop_marked, make_marked, pick_marked, release_marked}
 use Rattle.nv_machine.proofs.FiledTurns.{CanList, Listed, entered_same, list_after, published_same}
 use Rattle.nv_machine.proofs.FiledWorlds.{AreMarked, IsQuiet, KeepsShares, quiet_marked, same_quiet, turned_quiet}
-use Rattle.nv_machine.proofs.StepWork.{work, maintenance_work}
+use Rattle.nv_machine.proofs.StepWork.{work, snapshot_or_cleaner_work}
 use Rattle.nv_machine.proofs.WorkKeeps.{AfterTurn, turn_keeps}
 use Rattle.nv_machine.proofs.Lists.{rising_filter}
 use Rattle.nv_machine.proofs.LocksHeld.{Before, lent_holder}
@@ -135,10 +135,10 @@ module _ (g : GeometryNumbers) (w : World) (known : IsListable g w) (rs : List R
 
   -- ---- calls on snapshots
 
-  abbrev AfterStep : MaintenanceStep → Turn → Type 0
+  abbrev AfterStep : SnapshotOrCleanerStep → Turn → Type 0
   AfterStep step t = AreMarked (turned t a w).world (after_deed (plain.done_on step t) living rs)
 
-  module _ (step : MaintenanceStep) (next : r.next ≡ Maintenance step) where
+  module _ (step : SnapshotOrCleanerStep) (next : r.next ≡ SnapshotOrCleaner step) where
     nothing : h.killed ≡ []
     nothing = none_in step h (can.alone step next).0
 
@@ -146,12 +146,12 @@ module _ (g : GeometryNumbers) (w : World) (known : IsListable g w) (rs : List R
     own_none : (ino : ℕ) → [] ≡ killed_by_actor ino (actor_at w a)
     own_none ino = sym (own_killed nothing ino)
 
-    own_picked : picked_by_actor (actor_at w a) ≡ picked_at (Maintenance step)
-    own_picked = own_picks (Maintenance step) next
+    own_picked : picked_by_actor (actor_at w a) ≡ picked_at (SnapshotOrCleaner step)
+    own_picked = own_picks (SnapshotOrCleaner step) next
 
     -- cells and snapshots stay, and what is picked, with any hand
     kept : (u : Shared) (x : HandState) (running : Option Running) → IsQuiet s u → ((ino : ℕ) → killed_by_call running x ino ≡ [])
-        → picked_by_call running ≡ picked_at (Maintenance step) → AreMarked (changed u x running a w) rs
+        → picked_by_call running ≡ picked_at (SnapshotOrCleaner step) → AreMarked (changed u x running a w) rs
     kept u x running left none same =
         quiet_marked w a rs u x running left (λ ino. none ino ∙ own_none ino) (same ∙ sym own_picked) m
 
@@ -160,19 +160,19 @@ module _ (g : GeometryNumbers) (w : World) (known : IsListable g w) (rs : List R
         known.numbers.tails ino (λ b. none_unpublished (actor_at w b).running ino
         (sym (known.locks.each b).holder ∙ ap (is_owner b) free))
 
-  refused_marked : (step : MaintenanceStep) → r.next ≡ Maintenance step → (fault : Fault) → is_denied step ≡ true
+  refused_marked : (step : SnapshotOrCleanerStep) → r.next ≡ SnapshotOrCleaner step → (fault : Fault) → is_denied step ≡ true
       → AfterStep step (Ends (Err fault) s h)
   refused_marked Make next fault on = kept Make next s h None (same_quiet s) (λ ino. refl) refl
   refused_marked (Drop snapshot) next fault on = kept (Drop snapshot) next s h None (same_quiet s) (λ ino. refl) refl
   refused_marked (Pin snapshot) next fault on = kept (Pin snapshot) next s h None (same_quiet s) (λ ino. refl) refl
   refused_marked (Pick draining) next fault on = kept (Pick draining) next s h None (same_quiet s) (λ ino. refl) refl
-  refused_marked (Judge manner slot) next fault on = kept (Judge manner slot) next s h None (same_quiet s) (λ ino. refl) refl
+  refused_marked (PlanCleaning manner slot) next fault on = kept (PlanCleaning manner slot) next s h None (same_quiet s) (λ ino. refl) refl
   refused_marked other next fault on = absurd (false≢true on)
 
   -- behind its work, where another step of these comes next
-  goes_marked : (step : MaintenanceStep) → r.next ≡ Maintenance step → goes_next step ≡ true → IsClearOn step s
-      → AfterStep step (Moves (maintenance_work step a s h).shared (maintenance_work step a s h).hand
-      (record r { slots = slots_next step s r; next = Maintenance (next_on step s) }))
+  goes_marked : (step : SnapshotOrCleanerStep) → r.next ≡ SnapshotOrCleaner step → goes_next step ≡ true → IsClearOn step s
+      → AfterStep step (Moves (snapshot_or_cleaner_work step a s h).shared (snapshot_or_cleaner_work step a s h).hand
+      (record r { slots = slots_next step s r; next = SnapshotOrCleaner (next_on step s) }))
   goes_marked (Pin snapshot) next on clear =
       kept (Pin snapshot) next _ h _
       (record { cells = λ i. refl; living = ids_pinned s.book.snaps.living snapshot (λ pins. pins + 1); epoch = refl })
@@ -182,7 +182,7 @@ module _ (g : GeometryNumbers) (w : World) (known : IsListable g w) (rs : List R
   goes_marked (Pick draining) next on clear = go s.book.deferred refl clear.1 where
     go : (deferred : List Record) → s.book.deferred ≡ deferred → 0 < length deferred
         → AfterStep (Pick draining) (Moves (with_book (after_pick s.book) s) h
-        (record r { slots = picked_slots deferred; next = Maintenance (picked_next deferred draining) }))
+        (record r { slots = picked_slots deferred; next = SnapshotOrCleaner (picked_next deferred draining) }))
     go [] e some = absurd (omega (arith, some))
     go (d ∷ ds) e some =
         pick_marked w a rs known.locks clear.0 known.order.logs l m h _ (own_none (Pick draining) next) d ds e there
@@ -193,30 +193,30 @@ module _ (g : GeometryNumbers) (w : World) (known : IsListable g w) (rs : List R
       kept (LockCleaned manner ino) next _ h _ (record { cells = λ i. refl; living = refl; epoch = refl }) (λ i. refl) refl
   goes_marked other next on clear = absurd (false≢true on)
 
-  -- a judge and a taking leave cells and book
-  leads_marked : (step : MaintenanceStep) → r.next ≡ Maintenance step → (after : MaintenanceStep) → LeadsTo step after
-      → AfterStep step (Moves (maintenance_work step a s h).shared (maintenance_work step a s h).hand (go_to (Maintenance after) r))
-  leads_marked (Judge manner slot) next after leads =
-      kept (Judge manner slot) next s h (Some (go_to (Maintenance after) r)) (same_quiet s) (λ ino. refl)
-      (none_leads (Judge manner slot) after leads)
+  -- a planning and a taking leave cells and book
+  leads_marked : (step : SnapshotOrCleanerStep) → r.next ≡ SnapshotOrCleaner step → (after : SnapshotOrCleanerStep) → LeadsTo step after
+      → AfterStep step (Moves (snapshot_or_cleaner_work step a s h).shared (snapshot_or_cleaner_work step a s h).hand (go_to (SnapshotOrCleaner after) r))
+  leads_marked (PlanCleaning manner slot) next after leads =
+      kept (PlanCleaning manner slot) next s h (Some (go_to (SnapshotOrCleaner after) r)) (same_quiet s) (λ ino. refl)
+      (none_leads (PlanCleaning manner slot) after leads)
   leads_marked (Fresh ino asked wanted) next after leads =
-      kept (Fresh ino asked wanted) next _ _ (Some (go_to (Maintenance after) r))
+      kept (Fresh ino asked wanted) next _ _ (Some (go_to (SnapshotOrCleaner after) r))
       (record { cells = λ i. refl; living = refl; epoch = refl }) (λ i. refl)
       (none_leads (Fresh ino asked wanted) after leads)
   leads_marked other next after leads = absurd (false≢true leads.from)
 
-  -- where a judge refuses its call, with a slot locked
-  unlocks_marked : (step : MaintenanceStep) → r.next ≡ Maintenance step → (fault : Fault) → is_denied step ≡ true
+  -- where a planning refuses its call, with a slot locked
+  unlocks_marked : (step : SnapshotOrCleanerStep) → r.next ≡ SnapshotOrCleaner step → (fault : Fault) → is_denied step ≡ true
       → 0 < length (slots_on step) → AfterStep step (Moves s h (record r { ending = Refuses fault; next = Unlock 0 }))
-  unlocks_marked (Judge manner slot) next fault on some = kept (Judge manner slot) next s h _ (same_quiet s) (λ ino. refl) refl
+  unlocks_marked (PlanCleaning manner slot) next fault on some = kept (PlanCleaning manner slot) next s h _ (same_quiet s) (λ ino. refl) refl
   unlocks_marked Make next fault on some = absurd (omega (arith, some))
   unlocks_marked (Drop snapshot) next fault on some = absurd (omega (arith, some))
   unlocks_marked (Pin snapshot) next fault on some = absurd (omega (arith, some))
   unlocks_marked (Pick draining) next fault on some = absurd (omega (arith, some))
   unlocks_marked other next fault on some = absurd (false≢true on)
 
-  told_marked : (step : MaintenanceStep) → r.next ≡ Maintenance step → tells step ≡ true → IsClearOn step s
-      → AfterStep step (Ends (told_on step s r) (maintenance_work step a s h).shared (maintenance_work step a s h).hand)
+  told_marked : (step : SnapshotOrCleanerStep) → r.next ≡ SnapshotOrCleaner step → tells step ≡ true → IsClearOn step s
+      → AfterStep step (Ends (told_on step s r) (snapshot_or_cleaner_work step a s h).shared (snapshot_or_cleaner_work step a s h).hand)
   told_marked Make next on clear =
       make_marked w a rs known.locks clear.0 known.order.logs l m h None (own_none Make next) (sym (own_picked Make next))
       (tails Make next clear.0)
@@ -230,54 +230,54 @@ module _ (g : GeometryNumbers) (w : World) (known : IsListable g w) (rs : List R
   told_marked other next on clear = absurd (false≢true on)
 
   -- a cleaning keeps the records of its slot, and no part of it is killed
-  module _ (step : MaintenanceStep) (ready : IsCleanable (Maintenance step) block s h r) (next : r.next ≡ Maintenance step)
+  module _ (step : SnapshotOrCleanerStep) (ready : IsCleanable (SnapshotOrCleaner step) block s h r) (next : r.next ≡ SnapshotOrCleaner step)
       (cleans : is_clean_on step ≡ true) where
     abbrev slot : ℕ
     slot = clean_slot_on step
 
     own : (slot < length s.cells) × (owner_at s slot ≡ Some a)
     own =
-        lent_inside_own (Maintenance step) a s r (before_it (Maintenance step) next) slot
-        (lent_clean (Maintenance step) (length s.lists) a r cleans)
+        lent_inside_own (SnapshotOrCleaner step) a s r (before_it (SnapshotOrCleaner step) next) slot
+        (lent_clean (SnapshotOrCleaner step) (length s.lists) a r cleans)
 
     log_is : IsLog (log_of (cell_at s slot))
     log_is = IsLog-take (cell_at s slot).chain.tail (cell_at s slot).chain.entries (known.order.logs slot).ordered
 
-    by_records : Cleans (retention_at w slot) (stays_at (Maintenance step) s) (cell_at s slot) (clean_cell_on step s h)
+    by_records : Cleans (retention_at w slot) (stays_at (SnapshotOrCleaner step) s) (cell_at s slot) (clean_cell_on step s h)
     by_records =
-        cleans_by (Maintenance step) block s h r cleans own.0
-        (clean_settled w a r (Maintenance step) block next known.locks known.numbers.tails is (before_it (Maintenance step) next)
+        cleans_by (SnapshotOrCleaner step) block s h r cleans own.0
+        (clean_settled w a r (SnapshotOrCleaner step) block next known.locks known.numbers.tails is (before_it (SnapshotOrCleaner step) next)
         cleans)
         ready (retention_at w slot) (slot_marks w rs l m slot log_is)
 
     cleaned : (x : HandState) (q : Running) → ((ino : ℕ) → killed_by_call (Some q) x ino ≡ [])
-        → picked_at q.next ≡ picked_at (Maintenance step)
+        → picked_at q.next ≡ picked_at (SnapshotOrCleaner step)
         → AreMarked (changed (with_cell slot (clean_cell_on step s h) s) x (Some q) a w) rs
     cleaned x q none picked =
-        clean_marked w a slot rs x (Some q) (stays_at (Maintenance step) s) (clean_cell_on step s h) by_records own.0 log_is
+        clean_marked w a slot rs x (Some q) (stays_at (SnapshotOrCleaner step) s) (clean_cell_on step s h) by_records own.0 log_is
         (none_locked w a slot known.locks own.1 (own_killed (nothing step next) slot)) (λ ino. none ino ∙ own_none step next ino)
         (picked ∙ sym (own_picked step next)) m
 
-  over_marked : (step : MaintenanceStep) → IsCleanable (Maintenance step) block s h r → r.next ≡ Maintenance step → (e : Ending)
+  over_marked : (step : SnapshotOrCleanerStep) → IsCleanable (SnapshotOrCleaner step) block s h r → r.next ≡ SnapshotOrCleaner step → (e : Ending)
       → EndsWith step a s h e
-      → AfterStep step (Moves (maintenance_work step a s h).shared (maintenance_work step a s h).hand
+      → AfterStep step (Moves (snapshot_or_cleaner_work step a s h).shared (snapshot_or_cleaner_work step a s h).hand
       (record r { ending = e; next = Unlock 0 }))
   over_marked (Release d picked) ready next e is =
       let step = Release d picked in
-      let low = lent_inside (Maintenance step) a s r (before_it (Maintenance step) next) picked.ino refl in
+      let low = lent_inside (SnapshotOrCleaner step) a s r (before_it (SnapshotOrCleaner step) next) picked.ino refl in
       release_marked w a rs picked _ _ there (own_none step next) (own_picked step next) refl low (known.order.logs picked.ino).ordered m
-  over_marked (Judge manner slot) ready next e is = kept (Judge manner slot) next s h _ (same_quiet s) (λ ino. refl) refl
+  over_marked (PlanCleaning manner slot) ready next e is = kept (PlanCleaning manner slot) next s h _ (same_quiet s) (λ ino. refl) refl
   over_marked (Fresh ino asked wanted) ready next e is =
       kept (Fresh ino asked wanted) next _ _ _ (record { cells = λ i. refl; living = refl; epoch = refl }) (λ i. refl) refl
   over_marked (Unlink ino) ready next e is =
-      cleaned (Unlink ino) ready next refl (maintenance_work (Unlink ino) a s h).hand (record r { ending = e; next = Unlock 0 })
+      cleaned (Unlink ino) ready next refl (snapshot_or_cleaner_work (Unlink ino) a s h).hand (record r { ending = e; next = Unlock 0 })
       (λ i. refl) refl
   over_marked (Compact ino) ready next e is =
-      cleaned (Compact ino) ready next refl (maintenance_work (Compact ino) a s h).hand (record r { ending = e; next = Unlock 0 })
+      cleaned (Compact ino) ready next refl (snapshot_or_cleaner_work (Compact ino) a s h).hand (record r { ending = e; next = Unlock 0 })
       (λ i. refl) refl
   over_marked other ready next e is = absurd is
 
-  none_marked : (step : MaintenanceStep) → r.next ≡ Maintenance step → (draining : Draining) → step ≡ Pick draining
+  none_marked : (step : SnapshotOrCleanerStep) → r.next ≡ SnapshotOrCleaner step → (draining : Draining) → step ≡ Pick draining
       → s.book.deferred ≡ []
       → AfterStep step (Ends (Ok (answers.Count draining.released)) s h)
   none_marked (Pick d) next draining on empty =
@@ -286,8 +286,8 @@ module _ (g : GeometryNumbers) (w : World) (known : IsListable g w) (rs : List R
       (kept (Pick d) next s h None (same_quiet s) (λ ino. refl) refl)
   none_marked other next draining on empty = cc
 
-  snapshot_marked : (step : MaintenanceStep) → r.next ≡ Maintenance step → IsCleanable (Maintenance step) block s h r
-      → AfterStep step (KindTurn (Maintenance step))
+  snapshot_marked : (step : SnapshotOrCleanerStep) → r.next ≡ SnapshotOrCleaner step → IsCleanable (SnapshotOrCleaner step) block s h r
+      → AfterStep step (KindTurn (SnapshotOrCleaner step))
   snapshot_marked step next ready =
       alone_walk (AfterStep step) step a granted s h r (can.alone step next).0 (can.alone step next).1 (record {
         waits = m;
@@ -295,11 +295,11 @@ module _ (g : GeometryNumbers) (w : World) (known : IsListable g w) (rs : List R
         goes = goes_marked step next;
         told = told_marked step next;
         denied = λ snapshot showing on.
-            let q : Running = record r { ending = Refuses out_of_memory; next = Maintenance (Unpin snapshot []) } in
-            subst (λ (x : MaintenanceStep). AreMarked (turned (Moves s h q) a w).world (after_deed (plain.Maintains x) living rs))
+            let q : Running = record r { ending = Refuses out_of_memory; next = SnapshotOrCleaner (Unpin snapshot []) } in
+            subst (λ (x : SnapshotOrCleanerStep). AreMarked (turned (Moves s h q) a w).world (after_deed (plain.Maintains x) living rs))
             (sym on)
             (kept step next s h (Some q) (same_quiet s) (λ ino. refl)
-            (sym (ap (λ (x : MaintenanceStep). picked_at (Maintenance x)) on)));
+            (sym (ap (λ (x : SnapshotOrCleanerStep). picked_at (SnapshotOrCleaner x)) on)));
         unlocks = unlocks_marked step next;
         leads_on = leads_marked step next;
         over = over_marked step ready next;
@@ -348,7 +348,7 @@ module _ (g : GeometryNumbers) (w : World) (known : IsListable g w) (rs : List R
       b.inside (rising (Retire place) e) (lent_inside (Retire place) a s r b slot refl) (known.order.logs slot).ordered
       (hand_at (Retire place) e) (none_on _ (retiring_on (place + 1) (written_slots r)))
   kind_marked Leave e ready = let none = hand_at Leave e in quiet Leave e refl refl none none (quiet_work Leave refl refl)
-  kind_marked (Maintenance step) e ready = snapshot_marked step e ready
+  kind_marked (SnapshotOrCleaner step) e ready = snapshot_marked step e ready
   kind_marked other e ready =
       let none = none_now other e refl in
       quiet other e refl refl none (killed_stays other block a s h r refl ∙ none) (quiet_work other refl refl)

@@ -17,7 +17,7 @@ use Rattle.nv_machine.specs.Held.{picked_by_actor, picked_by_call}
 use Rattle.nv_machine.specs.Kept.{IsReleaseCovered, IsReleaseCoveredBy}
 use Rattle.nv_machine.specs.Order.{IsInOrder}
 use Rattle.nv_machine.specs.Recorded.{is_marked_kept}
-use Rattle.nv_machine.specs.World.{Next, Release, Running, Maintenance, World, actor_at, cell_at}
+use Rattle.nv_machine.specs.World.{Next, Release, Running, SnapshotOrCleaner, World, actor_at, cell_at}
 use Rattle.nv_machine.proofs.OverEvents.{runs_inside}
 use Rattle.nv_machine.proofs.EachElement.{all_back}
 use Rattle.nv_machine.proofs.FiledLists.{count, count_append, count_cons, one}
@@ -54,7 +54,7 @@ pub releases_covered : (w : World) (rs : List Record) (actor : ℕ) → IsInOrde
     → IsReleaseCoveredBy w.shared (actor_at w actor).running
 releases_covered w rs actor order marked = go (actor_at w actor).running refl where
   at : (k : Next) (r : Running) → (actor_at w actor).running ≡ Some r → r.next ≡ k → IsReleaseCovered w.shared k
-  at (Maintenance (Release draining d)) r is e =
+  at (SnapshotOrCleaner (Release draining d)) r is e =
       let cell : CellState = cell_at w.shared d.ino in
       let m = marked.cells d.ino in
       let T : Record → Type 0 = IsTold (ids w.shared.book.snaps) d.ino cell.block (log_of cell) in

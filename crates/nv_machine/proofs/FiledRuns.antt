@@ -12,7 +12,7 @@ use Rattle.nv_machine.specs.Order.{CommitsIn, IsInOrder}
 use Rattle.nv_machine.specs.PlainRun as plain
 use Rattle.nv_machine.specs.Recorded.{after_deed, records_in, retired_in}
 use Rattle.nv_machine.specs.Step.{go_step, start_step, step, turn, turned}
-use Rattle.nv_machine.specs.World.{Ends, Event, Go, HandState, Moves, Next, Running, MaintenanceStep, Maintenance, Start, Turn, Waits, World, actor_at}
+use Rattle.nv_machine.specs.World.{Ends, Event, Go, HandState, Moves, Next, Running, SnapshotOrCleanerStep, SnapshotOrCleaner, Start, Turn, Waits, World, actor_at}
 use Rattle.nv_machine.proofs.OverEvents.{runs_inside}
 use Rattle.nv_machine.proofs.FiledTurns.{CanList, Listed, OnListed, list_after, turn_listed, waits_listed}
 use Rattle.nv_machine.specs.Sequence.{slots_on}
@@ -36,16 +36,16 @@ can_list g w actor r known is = record {
   own : CommitsIn w.shared (Some r)
   own = subst (λ (running : Option Running). CommitsIn w.shared running) is (known.order.each actor)
 
-  at : (step : MaintenanceStep) → r.next ≡ Maintenance step → HandOn step h
+  at : (step : SnapshotOrCleanerStep) → r.next ≡ SnapshotOrCleaner step → HandOn step h
   at step e =
       let hand : HandOf g h (Some r) = subst (λ (o : Option Running). HandOf g h o) is (known.numbers.hands actor) in
-      let here : HandAt g (Maintenance step) h r = subst (λ (k : Next). HandAt g k h r) e hand.0 in here
+      let here : HandAt g (SnapshotOrCleaner step) h r = subst (λ (k : Next). HandAt g k h r) e hand.0 in here
 
-  slots : (step : MaintenanceStep) → r.next ≡ Maintenance step → r.slots ≡ slots_on step
+  slots : (step : SnapshotOrCleanerStep) → r.next ≡ SnapshotOrCleaner step → r.slots ≡ slots_on step
   slots step e =
       let has : HasSlots (length w.shared.owners) (Some r) =
       subst (λ (o : Option Running). HasSlots (length w.shared.owners) o) is (known.locks.each actor).slots in
-      let inside : IsInside (Maintenance step) r = subst (λ (k : Next). IsInside k r) e has.1 in inside
+      let inside : IsInside (SnapshotOrCleaner step) r = subst (λ (k : Next). IsInside k r) e has.1 in inside
 
 -- ---- events
 

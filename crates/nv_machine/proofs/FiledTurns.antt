@@ -1,8 +1,8 @@
 -- What is filed is told by the record list after every step.
 use Rattle.nv_calls.specs.declared.answer.Answer.TheVariants as answers
 use Rattle.nv_machine.proofs.StepWays.{IsClearOn}
-use Rattle.nv_machine.proofs.MaintenanceWalk.{is_denied, tells, told_on, ends_clear, leads_clear}
-use Rattle.nv_machine.proofs.MaintenanceAlone.{alone_walk, none_home}
+use Rattle.nv_machine.proofs.SnapshotOrCleanerWalk.{is_denied, tells, told_on, ends_clear, leads_clear}
+use Rattle.nv_machine.proofs.SnapshotOrCleanerAlone.{alone_walk, none_home}
 use Rattle.std.proofs.Common.{◌≡◌, ℕ, zero, suc, ◌==◌, Bool, true, false, cond, List, [], ◌∷◌, Option, Some, None, ap, arith, drop, if◌then◌else◌, length, nat_lt, refl, subst, sym, ◌<◌}
 use Rattle.std.specs.Prelude.{Ok, Err}
 use Rattle.std.specs.List.{Contains}
@@ -18,11 +18,11 @@ use Rattle.nv_machine.specs.Sequence.{slots_on}
 use Rattle.nv_machine.specs.PlainRun as plain
 use Rattle.nv_machine.specs.Reads.{slot_at, written_slots}
 use Rattle.nv_machine.specs.Recorded.{after_deed, after_retire}
-use Rattle.nv_machine.specs.Maintenance.{drop_tests, maintenance_turn}
+use Rattle.nv_machine.specs.SnapshotOrCleaner.{drop_tests, snapshot_or_cleaner_turn}
 use Rattle.nv_machine.specs.Step.{kind_turn}
-use Rattle.nv_machine.specs.World.{ReturnNumber, Close, Draining, Drop, Ends, Enter, HandState, Make, Moves, Next, Number, Open, Pick, Pin, Publish, Refuses, Retire, Running, Shared, MaintenanceStep, Maintenance, Turn, Unpin, Waits, empty_hand, Judge}
+use Rattle.nv_machine.specs.World.{ReturnNumber, Close, Draining, Drop, Ends, Enter, HandState, Make, Moves, Next, Number, Open, Pick, Pin, Publish, Refuses, Retire, Running, Shared, SnapshotOrCleanerStep, SnapshotOrCleaner, Turn, Unpin, Waits, empty_hand, PlanCleaning}
 use Rattle.nv_machine.proofs.FiledBooks.{IsListed, dropped_listed, made_listed, picked_listed, pinned_listed, retired_listed, unpinned_listed}
-use Rattle.nv_machine.proofs.StepWork.{work, maintenance_work, by_number, by_back}
+use Rattle.nv_machine.proofs.StepWork.{work, snapshot_or_cleaner_work, by_number, by_back}
 use Rattle.nv_machine.proofs.WorkKeeps.{AfterTurn, turn_keeps}
 
 -- the book's lists are told by this one
@@ -62,13 +62,13 @@ published_same false living rs = refl
 -- ---- steps of calls on snapshots
 
 -- the steps that move records, or take one out
-abbrev pub moves : MaintenanceStep → Bool
+abbrev pub moves : SnapshotOrCleanerStep → Bool
 moves (Drop snapshot) = true
 moves (Pick draining) = true
 moves other = false
 
 -- what is left of the list by a step of these, where the turn is this
-abbrev After : MaintenanceStep → List Record → Shared → Turn → Type 0
+abbrev After : SnapshotOrCleanerStep → List Record → Shared → Turn → Type 0
 After step rs s t = OnListed (after_deed (plain.done_on step t) (ids s.book.snaps) rs) t
 
 module _ (rs : List Record) (s : Shared) (h : HandState) (r : Running) (is : Listed rs s) where
@@ -80,14 +80,14 @@ module _ (rs : List Record) (s : Shared) (h : HandState) (r : Running) (is : Lis
     go true q f later = (zero, omega arith, eqb-true t.number snapshot q)
     go false q f later = let k = later f in (suc k.0, omega (arith, k.1), k.2)
 
-  refused_listed : (step : MaintenanceStep) (fault : Fault) → is_denied step ≡ true → After step rs s (Ends (Err fault) s h)
+  refused_listed : (step : SnapshotOrCleanerStep) (fault : Fault) → is_denied step ≡ true → After step rs s (Ends (Err fault) s h)
   refused_listed (Unpin snapshot seen) fault on = absurd (false≢true on)
   refused_listed other fault on = is
 
   -- a step that is refused and unlocks leaves the list
-  denied_listed : (step : MaintenanceStep) → 0 < length (slots_on step) → is_denied step ≡ true
+  denied_listed : (step : SnapshotOrCleanerStep) → 0 < length (slots_on step) → is_denied step ≡ true
       → Listed (after_deed (plain.Maintains step) (ids s.book.snaps) rs) s
-  denied_listed (Judge manner slot) some on = is
+  denied_listed (PlanCleaning manner slot) some on = is
   denied_listed Make some on = absurd (omega (arith, some))
   denied_listed (Drop snapshot) some on = absurd (omega (arith, some))
   denied_listed (Pin snapshot) some on = absurd (omega (arith, some))
@@ -95,14 +95,14 @@ module _ (rs : List Record) (s : Shared) (h : HandState) (r : Running) (is : Lis
   denied_listed other some on = absurd (false≢true on)
 
   -- behind its work
-  abbrev LeftBy : MaintenanceStep → Shared → Type 0
+  abbrev LeftBy : SnapshotOrCleanerStep → Shared → Type 0
   LeftBy step t = Listed (after_deed (plain.Maintains step) (ids s.book.snaps) rs) t
 
-  work_listed : (step : MaintenanceStep) (actor : ℕ) → IsClearOn step s → LeftBy step (maintenance_work step actor s h).shared
+  work_listed : (step : SnapshotOrCleanerStep) (actor : ℕ) → IsClearOn step s → LeftBy step (snapshot_or_cleaner_work step actor s h).shared
   work_listed Make actor clear = made_listed s.book.snaps s.book.manifests s.book.deferred rs is
   work_listed (Drop snapshot) actor clear = go (pins_of s.book.snaps snapshot) refl clear.1 where
     go : (pins : Option ℕ) → pins_of s.book.snaps snapshot ≡ pins → drop_tests pins ≡ Ok tt
-        → LeftBy (Drop snapshot) (maintenance_work (Drop snapshot) actor s h).shared
+        → LeftBy (Drop snapshot) (snapshot_or_cleaner_work (Drop snapshot) actor s h).shared
     go None e passed = cc
     go (Some (suc pins)) e passed = cc
     go (Some zero) e passed =
@@ -112,7 +112,7 @@ module _ (rs : List Record) (s : Shared) (h : HandState) (r : Running) (is : Lis
   work_listed (Pick draining) actor clear = picked_listed s.book.snaps s.book.manifests s.book.deferred rs is
   work_listed other actor clear = is
 
-  told_listed : (step : MaintenanceStep) (t : Shared) (g : HandState) → tells step ≡ true → LeftBy step t
+  told_listed : (step : SnapshotOrCleanerStep) (t : Shared) (g : HandState) → tells step ≡ true → LeftBy step t
       → After step rs s (Ends (told_on step s r) t g)
   told_listed Make t g on left = left
   told_listed (Drop snapshot) t g on left = left
@@ -126,19 +126,19 @@ module _ (rs : List Record) (s : Shared) (h : HandState) (r : Running) (is : Lis
       (after_deed (plain.Maintains (Pick draining)) (ids s.book.snaps) rs))
       none (picked_listed s.book.snaps s.book.manifests s.book.deferred rs is)
 
-  snapshot_listed : (step : MaintenanceStep) (actor : ℕ) (granted : Bool) → HandOn step h → r.slots ≡ slots_on step
-      → After step rs s (maintenance_turn step actor granted s h r)
+  snapshot_listed : (step : SnapshotOrCleanerStep) (actor : ℕ) (granted : Bool) → HandOn step h → r.slots ≡ slots_on step
+      → After step rs s (snapshot_or_cleaner_turn step actor granted s h r)
   snapshot_listed step actor granted empty slots = alone_walk (After step rs s) step actor granted s h r empty slots (record {
     waits = tt;
     refused = refused_listed step;
     goes = λ on clear. work_listed step actor clear;
-    told = λ on clear. told_listed step _ (maintenance_work step actor s h).hand on (work_listed step actor clear);
-    denied = λ snapshot showing on. subst (λ (x : MaintenanceStep). LeftBy x s) (sym on) is;
+    told = λ on clear. told_listed step _ (snapshot_or_cleaner_work step actor s h).hand on (work_listed step actor clear);
+    denied = λ snapshot showing on. subst (λ (x : SnapshotOrCleanerStep). LeftBy x s) (sym on) is;
     unlocks = λ fault on some. denied_listed step some on;
     leads_on = λ next leads. work_listed step actor (leads_clear step s leads);
     over = λ e ends. work_listed step actor (ends_clear step actor s h e ends);
     none = λ draining on nothing.
-        subst (λ (x : MaintenanceStep). After x rs s (Ends (Ok (answers.Count draining.released)) s h)) (sym on)
+        subst (λ (x : SnapshotOrCleanerStep). After x rs s (Ends (Ok (answers.Count draining.released)) s h)) (sym on)
         (none_listed nothing draining);
   })
 
@@ -148,7 +148,7 @@ module _ (rs : List Record) (s : Shared) (h : HandState) (r : Running) (is : Lis
 -- what it releases or cleans
 pub record CanList (k : Next) (s : Shared) (h : HandState) (r : Running) : Type 0 where
   pub epoch : commits_at k ≡ true → r.epoch ≡ s.book.snaps.epoch
-  pub alone : (step : MaintenanceStep) → k ≡ Maintenance step → HandOn step h × (r.slots ≡ slots_on step)
+  pub alone : (step : SnapshotOrCleanerStep) → k ≡ SnapshotOrCleaner step → HandOn step h × (r.slots ≡ slots_on step)
 
 -- the list after a step of this kind, where the turn is this
 abbrev pub list_after : Next → Shared → HandState → Running → Turn → List Record → List Record
@@ -177,7 +177,7 @@ module _ (block a : ℕ) (granted : Bool) (rs : List Record) (s : Shared) (h : H
       retired_listed (slot_at (written_slots r) place) r.epoch (first_killed h.killed) s.book.snaps s.book.manifests s.book.deferred rs
       (let e = can.epoch refl in omega (arith, e)) is
   turn_listed ReturnNumber can = same ReturnNumber (by_back (λ (t : Shared) (g : HandState). Listed rs t) s h (λ numbers ino. is))
-  turn_listed (Maintenance step) can = let own = can.alone step refl in snapshot_listed rs s h r is step a granted own.0 own.1
+  turn_listed (SnapshotOrCleaner step) can = let own = can.alone step refl in snapshot_listed rs s h r is step a granted own.0 own.1
   turn_listed other can = same other is
 
   -- a step that waits leaves the list

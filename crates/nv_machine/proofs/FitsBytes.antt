@@ -41,7 +41,7 @@ use Rattle.nv_machine.specs.Sequence.{beginning}
 use Rattle.nv_machine.specs.Settled.{settled, settled_nodes}
 use Rattle.nv_entry.specs.Shape.{IsGoneLast}
 use Rattle.nv_machine.specs.Step.{kind_turn}
-use Rattle.nv_machine.specs.World.{Close, Enter, HandState, Next, Publish, Running, Shared, World, cell_at, no_cell, Maintenance}
+use Rattle.nv_machine.specs.World.{Close, Enter, HandState, Next, Publish, Running, Shared, World, cell_at, no_cell, SnapshotOrCleaner}
 use Rattle.nv_machine.proofs.EndingsStay.{entered_none, no_commit, no_commit_on}
 use Rattle.nv_machine.proofs.CellPages.{among_at, sound_read}
 use Rattle.nv_machine.proofs.CommitEffects.{IsRead, outside, read_nodes, read_page}
@@ -249,5 +249,5 @@ pub point_fits : (k : Next) (block a : ℕ) (granted : Bool) (s : Shared) (h : H
 point_fits Close block a granted s h r e f = (refl, f.0, f.1)
 point_fits (Publish place) block a granted s h r e f = (refl, f.0, f.1)
 point_fits Enter block a granted s h r e f = absurd (entered_none _ e)
-point_fits (Maintenance step) block a granted s h r e f = absurd (no_commit_on step _ e)
+point_fits (SnapshotOrCleaner step) block a granted s h r e f = absurd (no_commit_on step _ e)
 point_fits other block a granted s h r e f = absurd (no_commit e)

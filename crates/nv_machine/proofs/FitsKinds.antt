@@ -19,7 +19,7 @@ use Rattle.nv_machine.specs.Reads.{if_number, is_written, pages_needed, slot_at,
 use Rattle.nv_machine.specs.Sequence.{appending, locking, publishing}
 use Rattle.nv_machine.specs.Settled.{settled}
 use Rattle.nv_machine.specs.Step.{kind_turn}
-use Rattle.nv_machine.specs.World.{Append, Check, Close, Enter, HandState, Lock, Look, Next, Number, Open, Publish, Ready, Retire, Running, Shared, TakeBlocks, TakeLogPages, cell_at, go_to, list_at, owner_at, with_book, with_cell, Maintenance, Judge, Fresh}
+use Rattle.nv_machine.specs.World.{Append, Check, Close, Enter, HandState, Lock, Look, Next, Number, Open, Publish, Ready, Retire, Running, Shared, TakeBlocks, TakeLogPages, cell_at, go_to, list_at, owner_at, with_book, with_cell, SnapshotOrCleaner, PlanCleaning, Fresh}
 use Rattle.nv_machine.proofs.FitsCells.{append_logs, append_wider, publish_logs, same_wider, wider_cells}
 use Rattle.nv_machine.proofs.FitsOwn.{IsNumberFree, all_in, all_stored, passed_check, ready_drawn, same_stored, wanted_check}
 use Rattle.nv_machine.proofs.FitsStages.{Drawn, FitsAt, IsDrawn, IsStored, Passed, SameStored, drawn_on, fits_still, passed_on, stored_on, view, wanted_in}
@@ -207,8 +207,8 @@ module _ (g : GeometryNumbers) (a : ℕ) (s : Shared) (h : HandState) (r : Runni
   ways (Publish place) st = publish_own place st (nat_lt 1 (length (written_slots r))) refl
   ways Close st = retiring_fits g.block 0 (written_slots r) _ _ _
   ways (Retire place) st = retiring_fits g.block (place + 1) (written_slots r) _ _ _
-  ways (Maintenance (Judge manner held)) st = λ ino. (tt, tt)
-  ways (Maintenance (Fresh ino asked wanted)) st = (λ q. tt, λ n q. tt)
+  ways (SnapshotOrCleaner (PlanCleaning manner held)) st = λ ino. (tt, tt)
+  ways (SnapshotOrCleaner (Fresh ino asked wanted)) st = (λ q. tt, λ n q. tt)
   ways other st = tt
 
   pub own_turn : (k : Next) (granted : Bool) → Own g k a s h r → OnFits g.block (kind_turn k g.block a granted s h r)

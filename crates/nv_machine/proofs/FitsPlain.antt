@@ -13,7 +13,7 @@ use Rattle.nv_machine.specs.PlainRun.{Commits, PlainChange, Plain, actor_of, pla
 use Rattle.nv_machine.specs.Settled.{settled_nodes}
 use Rattle.nv_machine.specs.Starts.{IsStart}
 use Rattle.nv_machine.specs.Step.{after, step}
-use Rattle.nv_machine.specs.World.{Event, Go, Make, Running, MaintenanceStep, World, actor_at}
+use Rattle.nv_machine.specs.World.{Event, Go, Make, Running, SnapshotOrCleanerStep, World, actor_at}
 use Rattle.nv_machine.proofs.EveryWorld.{all_fit, all_known}
 use Rattle.nv_machine.proofs.CommitNumbers.{events_counted}
 use Rattle.nv_machine.proofs.CommitEffects.{point_effect}
@@ -24,7 +24,7 @@ use Rattle.nv_machine.proofs.LogsKeptRuns.{nodes_stay}
 same_done : (d : PlainChange) (running : Option Running) (p : Plain) → keeps_nodes d ≡ true → (done d running p).nodes ≡ p.nodes
 same_done Commits running p e = absurd (true≢false (sym e))
 same_done (Maintains what) running p e = step_nodes what p where
-  step_nodes : (what : MaintenanceStep) (p : Plain) → (after_step what p).nodes ≡ p.nodes
+  step_nodes : (what : SnapshotOrCleanerStep) (p : Plain) → (after_step what p).nodes ≡ p.nodes
   step_nodes Make p = refl
   step_nodes other p = refl
 same_done other running p e = refl

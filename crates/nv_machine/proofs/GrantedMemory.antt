@@ -23,9 +23,9 @@ use Rattle.nv_machine.specs.Causes.{EndsFor, IsCause, IsDenied, IsShort, MayBeOv
 use Rattle.nv_machine.specs.Memory.{IsOther}
 use Rattle.nv_machine.specs.Reads.{copies}
 use Rattle.nv_machine.specs.Step.{kind_turn}
-use Rattle.nv_machine.specs.World.{Answers, Check, Drop, Ending, Ends, Enter, HandState, Look, Make, Moves, Next, Pick, Pin, Ready, Refuses, Running, Shared, Show, Maintenance, TakeBlocks, TakeLogPages, Turn, Visit, Waits, Fresh, Judge}
+use Rattle.nv_machine.specs.World.{Answers, Check, Drop, Ending, Ends, Enter, HandState, Look, Make, Moves, Next, Pick, Pin, Ready, Refuses, Running, Shared, Show, SnapshotOrCleaner, TakeBlocks, TakeLogPages, Turn, Visit, Waits, Fresh, PlanCleaning}
 use Rattle.nv_machine.proofs.RefusalCauses.{caused}
-use Rattle.nv_machine.specs.Maintenance.{drop_tests, make_tests}
+use Rattle.nv_machine.specs.SnapshotOrCleaner.{drop_tests, make_tests}
 use Rattle.nv_epoch.specs.SnapList.{Snapshots as Living, pins_of}
 use Rattle.nv_calls.specs.declared.call.Call.TheVariants as call
 
@@ -126,7 +126,7 @@ module _ (block : ℕ) (nodes : Handle → Option NodeCopy) where
   late_else found (call.Stat handle) = node_else (kind_of (nodes handle)) passes tt
   late_else found (call.List dir) = directory_else (kind_of (nodes dir)) passes tt
   late_else found (call.Lookup dir name) = lookup_else dir name
-  late_else found (call.Maintenance what) = tt
+  late_else found (call.SnapshotOrCleaner what) = tt
   late_else found (call.Unlink dir name) = bound_else found.first _ (λ to. file_else (kind_of (nodes to)) passes tt)
   late_else found (call.Rmdir dir name) =
       bound_else found.first _ (λ to. directory_else (kind_of (nodes to)) _
@@ -186,16 +186,16 @@ cause_other Enter block actor s h r fault (inr lack) = granted_other fault lack
 cause_other Visit block actor s h r fault (inl told) =
     tests_other (refusal block (copies s) r.call) fault (refusal_else block (copies s) r.call) told
 cause_other Visit block actor s h r fault (inr lack) = granted_other fault lack.0
-cause_other (Maintenance Make) block actor s h r fault told =
+cause_other (SnapshotOrCleaner Make) block actor s h r fault told =
     tests_other (make_tests s.book.snaps) fault (make_else s.book.snaps) told
-cause_other (Maintenance (Drop snapshot)) block actor s h r fault told =
+cause_other (SnapshotOrCleaner (Drop snapshot)) block actor s h r fault told =
     tests_other (drop_tests (pins_of s.book.snaps snapshot)) fault (drop_else (pins_of s.book.snaps snapshot)) told
-cause_other (Maintenance (Pin snapshot)) block actor s h r fault told = is_other fault NoSnapshot tt told.0
-cause_other (Maintenance (Show snapshot showing)) block actor s h r fault lack = granted_other fault lack
-cause_other (Maintenance (Pick draining)) block actor s h r fault lack = granted_other fault lack.0
-cause_other (Maintenance (Judge manner slot)) block actor s h r fault (inl none) = is_other fault Stale tt none.0
-cause_other (Maintenance (Judge manner slot)) block actor s h r fault (inr lack) = granted_other fault lack.0
-cause_other (Maintenance (Fresh ino asked wanted)) block actor s h r fault short = short_other s _ asked wanted fault short
+cause_other (SnapshotOrCleaner (Pin snapshot)) block actor s h r fault told = is_other fault NoSnapshot tt told.0
+cause_other (SnapshotOrCleaner (Show snapshot showing)) block actor s h r fault lack = granted_other fault lack
+cause_other (SnapshotOrCleaner (Pick draining)) block actor s h r fault lack = granted_other fault lack.0
+cause_other (SnapshotOrCleaner (PlanCleaning manner slot)) block actor s h r fault (inl none) = is_other fault Stale tt none.0
+cause_other (SnapshotOrCleaner (PlanCleaning manner slot)) block actor s h r fault (inr lack) = granted_other fault lack.0
+cause_other (SnapshotOrCleaner (Fresh ino asked wanted)) block actor s h r fault short = short_other s _ asked wanted fault short
 cause_other other block actor s h r fault none = absurd none
 
 module _ (P R : Fault → Type 0) (Q : Type 0) (more : (fault : Fault) → P fault → R fault) where

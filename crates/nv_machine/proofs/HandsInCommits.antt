@@ -18,11 +18,11 @@ use Rattle.nv_machine.specs.Hands.{AreGiven, FitsFile, HandAt, HandOf, HasPlanne
 use Rattle.nv_machine.specs.Kinds.{asked_list, blocks_in, blocks_left, entries_for, first_killed, given, retired_cell, with_erased, with_freed, with_given}
 use Rattle.nv_machine.specs.Reads.{slot_at, written_slots}
 use Rattle.nv_machine.specs.Sequence.{appending, closing, opening, publishing, retiring}
-use Rattle.nv_machine.specs.Maintenance.{maintenance_turn}
+use Rattle.nv_machine.specs.SnapshotOrCleaner.{snapshot_or_cleaner_turn}
 use Rattle.nv_machine.specs.Step.{kind_turn}
-use Rattle.nv_machine.specs.World.{Answers, Append, ReturnNumber, Check, Close, Drop, Ending, Enter, Give, HandState, Leave, Lock, LockPicked, Look, Make, Next, Number, Open, Pick, Pin, Publish, Ready, Retire, Running, Shared, Show, MaintenanceStep, Maintenance, TakeBlocks, TakeLogPages, Unlock, Unpin, Visit, empty_hand, go_to, list_at, LockCleaned, Fresh, Unlink, Compact, Judge}
+use Rattle.nv_machine.specs.World.{Answers, Append, ReturnNumber, Check, Close, Drop, Ending, Enter, Give, HandState, Leave, Lock, LockPicked, Look, Make, Next, Number, Open, Pick, Pin, Publish, Ready, Retire, Running, Shared, Show, SnapshotOrCleanerStep, SnapshotOrCleaner, TakeBlocks, TakeLogPages, Unlock, Unpin, Visit, empty_hand, go_to, list_at, LockCleaned, Fresh, Unlink, Compact, PlanCleaning}
 use Rattle.nv_machine.proofs.BlockCounts.{given_all}
-use Rattle.nv_machine.proofs.StepWork.{return_number_work, work, maintenance_work}
+use Rattle.nv_machine.proofs.StepWork.{return_number_work, work, snapshot_or_cleaner_work}
 use Rattle.nv_machine.proofs.HandsAfterSteps.{GoesHome, HandGoes, HandTold, OnHand, denied_hand, ends_hand, is_empty, lasts_hand, locking_hand, looking_hand, number_hand, overs_hand, rests_hand}
 use Rattle.nv_machine.proofs.HandsInTakings.{check_fits, check_overtaken, first_below, ready_planned}
 use Rattle.nv_machine.proofs.Homes.{all_given}
@@ -31,8 +31,8 @@ use Rattle.nv_machine.proofs.PartPlaces.{entry_blocks}
 use Rattle.nv_machine.proofs.LoopSteps.{by_test, either}
 use Rattle.nv_machine.proofs.StepWays.{is_overtaken, noted, take_sum}
 use Rattle.nv_machine.proofs.StepWalk.{WaysOf, counted, walk_of}
-use Rattle.nv_machine.proofs.MaintenanceWalk.{goes_next, next_on, slots_next, maintenance_walk, tells, ends_apart, step_walk_by, LeadsTo, goes_plain, is_cleaning}
-use Rattle.nv_machine.proofs.MaintenanceAlone.{denied_empty}
+use Rattle.nv_machine.proofs.SnapshotOrCleanerWalk.{goes_next, next_on, slots_next, snapshot_or_cleaner_walk, tells, ends_apart, step_walk_by, LeadsTo, goes_plain, is_cleaning}
+use Rattle.nv_machine.proofs.SnapshotOrCleanerAlone.{denied_empty}
 use Rattle.nv_cell.specs.Readers.{is_erased}
 use Rattle.nv_machine.specs.Lenders.{takes_fresh}
 
@@ -173,7 +173,7 @@ CanGive g other s h = Unit {0}
 
 -- ---- calls on snapshots
 
-not_cleaning : (step : MaintenanceStep) (h : HandState) → h ≡ empty_hand → is_cleaning step ≡ false → HandOn step h
+not_cleaning : (step : SnapshotOrCleanerStep) (h : HandState) → h ≡ empty_hand → is_cleaning step ≡ false → HandOn step h
 not_cleaning (Fresh ino asked wanted) h empty plain = absurd (true≢false plain)
 not_cleaning (Compact ino) h empty plain = absurd (true≢false plain)
 not_cleaning other h empty plain = empty
@@ -183,42 +183,42 @@ pages_empty : (h : HandState) → h ≡ empty_hand → HasPagesAlone h
 pages_empty h empty = empty ∙ sym (ap (λ (x : HandState). record empty_hand { pages = x.pages }) empty)
 
 -- before such a step a hand has no more, so that no part of it is killed; a cleaning kills none
-pub alone_on : (step : MaintenanceStep) (h : HandState) → HandOn step h → HasPagesAlone h
+pub alone_on : (step : SnapshotOrCleanerStep) (h : HandState) → HandOn step h → HasPagesAlone h
 alone_on (Fresh ino asked wanted) h at = at
 alone_on (Compact ino) h at = at
 alone_on other h at = pages_empty h at
 
-pub none_in : (step : MaintenanceStep) (h : HandState) → HandOn step h → h.killed ≡ []
+pub none_in : (step : SnapshotOrCleanerStep) (h : HandState) → HandOn step h → h.killed ≡ []
 none_in step h at = ap (λ (x : HandState). x.killed) (alone_on step h at)
 
-clean_killed : (step : MaintenanceStep) (a : ℕ) (s : Shared) (h : HandState) → is_clean_on step ≡ true
-    → (maintenance_work step a s h).hand.killed ≡ h.killed
+clean_killed : (step : SnapshotOrCleanerStep) (a : ℕ) (s : Shared) (h : HandState) → is_clean_on step ≡ true
+    → (snapshot_or_cleaner_work step a s h).hand.killed ≡ h.killed
 clean_killed (Unlink ino) a s h is = refl
 clean_killed (Compact ino) a s h is = refl
 clean_killed other a s h is = absurd (false≢true is)
 
 -- before a step that goes on with a taking or a clean step
 fresh_alone : (ino asked wanted a : ℕ) (s : Shared) (h : HandState) → HasPagesAlone h
-    → HasPagesAlone (maintenance_work (Fresh ino asked wanted) a s h).hand
+    → HasPagesAlone (snapshot_or_cleaner_work (Fresh ino asked wanted) a s h).hand
 fresh_alone ino asked wanted a s h alone =
     ap (λ (x : HandState). record x { pages = h.pages ++ take wanted (list_at s (asked_list (length s.lists) a asked)).blocks }) alone
 
 -- every step but a taking
-other_hand : (g : GeometryNumbers) (step : MaintenanceStep) (a : ℕ) (granted : Bool) (s : Shared) (h : HandState) (r : Running)
-    → takes_fresh step ≡ false → AllGoHome g (Maintenance step) s h r g.block a → HandOn step h
-    → (is_going (Maintenance step) ≡ true → r.ending ≡ Answers) → OnHand g (maintenance_turn step a granted s h r)
-other_hand g step a granted s h r apart goes hand going = maintenance_walk (HandGoes g) HandTold a s h r step granted (record {
+other_hand : (g : GeometryNumbers) (step : SnapshotOrCleanerStep) (a : ℕ) (granted : Bool) (s : Shared) (h : HandState) (r : Running)
+    → takes_fresh step ≡ false → AllGoHome g (SnapshotOrCleaner step) s h r g.block a → HandOn step h
+    → (is_going (SnapshotOrCleaner step) ≡ true → r.ending ≡ Answers) → OnHand g (snapshot_or_cleaner_turn step a granted s h r)
+other_hand g step a granted s h r apart goes hand going = snapshot_or_cleaner_walk (HandGoes g) HandTold a s h r step granted (record {
   stops = λ fault cause. denied_hand g s h goes.0 (ap (λ (x : HandState). x.killed) (denied_empty step h cause.0 hand));
   goes = λ on clear. moves step on hand going;
   told = λ on clear. told_empty step on hand;
-  denied = λ snapshot showing on. (subst (λ (x : MaintenanceStep). HandOn x h) on.0 hand, λ e. absurd (false≢true e));
+  denied = λ snapshot showing on. (subst (λ (x : SnapshotOrCleanerStep). HandOn x h) on.0 hand, λ e. absurd (false≢true e));
   leads_on = λ next leads. (leads_hand step next apart leads hand, λ e. going (leads_going step leads));
   over = λ e ends. ends_hand g _ _ goes.1 (none_killed step) (λ over. absurd (ends_apart step a s h e ends over));
-  none = λ draining on nothing. subst (λ (x : MaintenanceStep). HandOn x h) on hand;
+  none = λ draining on nothing. subst (λ (x : SnapshotOrCleanerStep). HandOn x h) on hand;
 }) where
-  moves : (k : MaintenanceStep) → goes_next k ≡ true → HandOn k h → (is_going (Maintenance k) ≡ true → r.ending ≡ Answers)
-      → HandGoes g (maintenance_work k a s h).shared (maintenance_work k a s h).hand
-      (record r { slots = slots_next k s r; next = Maintenance (next_on k s) })
+  moves : (k : SnapshotOrCleanerStep) → goes_next k ≡ true → HandOn k h → (is_going (SnapshotOrCleaner k) ≡ true → r.ending ≡ Answers)
+      → HandGoes g (snapshot_or_cleaner_work k a s h).shared (snapshot_or_cleaner_work k a s h).hand
+      (record r { slots = slots_next k s r; next = SnapshotOrCleaner (next_on k s) })
   moves (Pin snapshot) on empty going = (not_cleaning _ h empty (goes_plain (Pin snapshot) s on), λ e. going refl)
   moves (Show snapshot showing) on empty going = (not_cleaning _ h empty (goes_plain (Show snapshot showing) s on), λ e. going refl)
   moves (Pick draining) on empty going = (not_cleaning _ h empty (goes_plain (Pick draining) s on), λ e. going refl)
@@ -226,28 +226,28 @@ other_hand g step a granted s h r apart goes hand going = maintenance_walk (Hand
   moves (LockCleaned manner ino) on empty going = (empty, λ e. going refl)
   moves other on empty going = absurd (false≢true on)
 
-  -- a judge leads to a clean step or to its taking
-  leads_hand : (k next : MaintenanceStep) → takes_fresh k ≡ false → LeadsTo k next → HandOn k h
-      → HandOn next (maintenance_work k a s h).hand
-  leads_hand (Judge manner slot) (Fresh ino asked wanted) apart leads empty = pages_empty h empty
-  leads_hand (Judge manner slot) (Unlink ino) apart leads empty = empty
-  leads_hand (Judge manner slot) (Compact ino) apart leads empty = pages_empty h empty
-  leads_hand (Judge manner slot) other apart leads empty = absurd (false≢true leads.to)
+  -- a planning leads to a clean step or to its taking
+  leads_hand : (k next : SnapshotOrCleanerStep) → takes_fresh k ≡ false → LeadsTo k next → HandOn k h
+      → HandOn next (snapshot_or_cleaner_work k a s h).hand
+  leads_hand (PlanCleaning manner slot) (Fresh ino asked wanted) apart leads empty = pages_empty h empty
+  leads_hand (PlanCleaning manner slot) (Unlink ino) apart leads empty = empty
+  leads_hand (PlanCleaning manner slot) (Compact ino) apart leads empty = pages_empty h empty
+  leads_hand (PlanCleaning manner slot) other apart leads empty = absurd (false≢true leads.to)
   leads_hand (Fresh ino asked wanted) next apart leads empty = absurd (true≢false apart)
   leads_hand other next apart leads empty = absurd (false≢true leads.from)
 
-  leads_going : {next : MaintenanceStep} (k : MaintenanceStep) → LeadsTo k next → is_going (Maintenance k) ≡ true
-  leads_going (Judge manner slot) leads = refl
+  leads_going : {next : SnapshotOrCleanerStep} (k : SnapshotOrCleanerStep) → LeadsTo k next → is_going (SnapshotOrCleaner k) ≡ true
+  leads_going (PlanCleaning manner slot) leads = refl
   leads_going (Fresh ino asked wanted) leads = refl
   leads_going other leads = absurd (false≢true leads.from)
 
-  told_empty : (k : MaintenanceStep) → tells k ≡ true → HandOn k h → (maintenance_work k a s h).hand ≡ empty_hand
+  told_empty : (k : SnapshotOrCleanerStep) → tells k ≡ true → HandOn k h → (snapshot_or_cleaner_work k a s h).hand ≡ empty_hand
   told_empty Make on empty = empty
   told_empty (Drop snapshot) on empty = empty
   told_empty (Unpin snapshot seen) on empty = empty
   told_empty other on empty = absurd (false≢true on)
 
-  none_killed : (k : MaintenanceStep) → (maintenance_work k a s h).hand.killed ≡ []
+  none_killed : (k : SnapshotOrCleanerStep) → (snapshot_or_cleaner_work k a s h).hand.killed ≡ []
   none_killed k =
       let none = none_in step h hand in
       let x = removal_on k s h in
@@ -255,9 +255,9 @@ other_hand g step a granted s h r apart goes hand going = maintenance_walk (Hand
       (λ is. erased_killed x.slot x.cell (hand_freed x h) ∙ killed_on k s h ∙ none) (λ ino asked wanted is. none)
       (λ is. clean_killed k a s h is ∙ none) (λ book owners. none)
 
-snapshot_hand : (g : GeometryNumbers) (step : MaintenanceStep) (a : ℕ) (granted : Bool) (s : Shared) (h : HandState) (r : Running)
-    → AllGoHome g (Maintenance step) s h r g.block a → HandOn step h → (is_going (Maintenance step) ≡ true → r.ending ≡ Answers)
-    → OnHand g (maintenance_turn step a granted s h r)
+snapshot_hand : (g : GeometryNumbers) (step : SnapshotOrCleanerStep) (a : ℕ) (granted : Bool) (s : Shared) (h : HandState) (r : Running)
+    → AllGoHome g (SnapshotOrCleaner step) s h r g.block a → HandOn step h → (is_going (SnapshotOrCleaner step) ≡ true → r.ending ≡ Answers)
+    → OnHand g (snapshot_or_cleaner_turn step a granted s h r)
 snapshot_hand g (Fresh ino asked wanted) a granted s h r goes hand going =
     let left = fresh_alone ino asked wanted a s h hand in
     step_walk_by (Unit {0}) (HandGoes g) HandTold a s h r (Fresh ino asked wanted) granted (λ blocked. tt) (record {
@@ -349,12 +349,12 @@ module _ (g : GeometryNumbers) (a : ℕ) (granted : Bool) (s : Shared) (h : Hand
     λ free passed lacks. denied_hand g s h goes.0 (ap (λ (x : HandState). x.killed) at),
     λ free passed. at,
   )
-  ways (Maintenance step) b goes give at going = tt
+  ways (SnapshotOrCleaner step) b goes give at going = tt
 
 pub hand_kept : (g : GeometryNumbers) (k : Next) (a : ℕ) (granted : Bool) (s : Shared) (h : HandState) (r : Running) → 0 < g.block
     → g.blocks < 2 ^ 64 → Before a s k r → AllGoHome g k s h r g.block a → CanGive g k s h → HandAt g k h r → (is_going k ≡ true
     → r.ending ≡ Answers)
     → OnHand g (kind_turn k g.block a granted s h r)
-hand_kept g (Maintenance step) a granted s h r some small b goes give at going = snapshot_hand g step a granted s h r goes at going
+hand_kept g (SnapshotOrCleaner step) a granted s h r some small b goes give at going = snapshot_hand g step a granted s h r goes at going
 hand_kept g other a granted s h r some small b goes give at going =
     walk_of (HandGoes g) HandTold g.block a s h r other granted (ways g a granted s h r some small other b goes give at going) refl

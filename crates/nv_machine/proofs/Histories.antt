@@ -15,20 +15,20 @@ use Rattle.nv_machine.specs.Locks.{commits_at}
 use Rattle.nv_machine.specs.PlainRun.{Commits, PlainChange, Nothing, Numbers, Maintains, actor_of, plain_change, plain_change_of, done_on, entered}
 use Rattle.nv_machine.specs.Reads.{written_slots}
 use Rattle.nv_machine.specs.Sequence.{appending, slots_on}
-use Rattle.nv_machine.specs.Maintenance.{maintenance_turn}
+use Rattle.nv_machine.specs.SnapshotOrCleaner.{snapshot_or_cleaner_turn}
 use Rattle.nv_machine.specs.Starts.{IsStart}
 use Rattle.nv_machine.specs.Step.{after, kind_turn, step, turned}
-use Rattle.nv_machine.specs.World.{ReturnNumber, Drop, Ending, Ends, Enter, Event, Go, HandState, Make, Moves, Next, Number, Publish, Running, Shared, MaintenanceStep, Maintenance, Start, Turn, Unpin, Waits, World, actor_at, Judge, Pin, Pick}
+use Rattle.nv_machine.specs.World.{ReturnNumber, Drop, Ending, Ends, Enter, Event, Go, HandState, Make, Moves, Next, Number, Publish, Running, Shared, SnapshotOrCleanerStep, SnapshotOrCleaner, Start, Turn, Unpin, Waits, World, actor_at, PlanCleaning, Pin, Pick}
 use Rattle.nv_machine.proofs.CommitNumbers.{enters_appending}
 use Rattle.nv_machine.proofs.LoopSteps.{goes_on}
 use Rattle.nv_machine.proofs.OverEvents.{go_deed, start_deed, turn_at}
 use Rattle.nv_machine.proofs.SnapRuns.{all_bare}
 use Rattle.nv_machine.proofs.SnapSteps.{AreBare, IsBare}
-use Rattle.nv_machine.proofs.MaintenanceWalk.{is_denied, tells, told_on}
-use Rattle.nv_machine.proofs.MaintenanceAlone.{alone_walk}
+use Rattle.nv_machine.proofs.SnapshotOrCleanerWalk.{is_denied, tells, told_on}
+use Rattle.nv_machine.proofs.SnapshotOrCleanerAlone.{alone_walk}
 use Rattle.nv_machine.proofs.StepWays.{After, Closes, by_last, is_last}
 use Rattle.nv_machine.proofs.StepWalk.{walk}
-use Rattle.nv_machine.proofs.StepWork.{by_back, by_number, maintenance_work, work}
+use Rattle.nv_machine.proofs.StepWork.{by_back, by_number, snapshot_or_cleaner_work, work}
 use Rattle.nv_machine.proofs.WorkKeeps.{AfterTurn, turn_keeps}
 use Rattle.nv_machine.specs.Hands.{HandOn}
 
@@ -59,48 +59,48 @@ same_history d a s t none on = go t on where
 
 -- ---- the steps of calls on snapshots
 
-abbrev OnStep : MaintenanceStep → ℕ → Shared → Turn → Type 0
+abbrev OnStep : SnapshotOrCleanerStep → ℕ → Shared → Turn → Type 0
 OnStep step a s t = OnHistory (done_on step t) a s t
 
 module _ (a : ℕ) (granted : Bool) (s : Shared) (h : HandState) (r : Running) where
-  work_told : (step : MaintenanceStep) → Tells (Maintains step) a s (maintenance_work step a s h).shared
+  work_told : (step : SnapshotOrCleanerStep) → Tells (Maintains step) a s (snapshot_or_cleaner_work step a s h).shared
   work_told Make = refl
   work_told (Drop snapshot) = refl
   work_told other = refl
 
-  refused_told : (step : MaintenanceStep) (fault : Fault) → is_denied step ≡ true → OnStep step a s (Ends (Err fault) s h)
+  refused_told : (step : SnapshotOrCleanerStep) (fault : Fault) → is_denied step ≡ true → OnStep step a s (Ends (Err fault) s h)
   refused_told (Unpin snapshot seen) fault is = absurd (false≢true is)
   refused_told other fault is = refl
 
-  answered_told : (step : MaintenanceStep) → tells step ≡ true
-      → OnStep step a s (Ends (told_on step s r) (maintenance_work step a s h).shared (maintenance_work step a s h).hand)
+  answered_told : (step : SnapshotOrCleanerStep) → tells step ≡ true
+      → OnStep step a s (Ends (told_on step s r) (snapshot_or_cleaner_work step a s h).shared (snapshot_or_cleaner_work step a s h).hand)
   answered_told Make is = refl
   answered_told (Drop snapshot) is = refl
   answered_told (Unpin snapshot seen) is = refl
   answered_told other is = absurd (false≢true is)
 
   -- a step that is refused and unlocks leaves it
-  denied_told : (step : MaintenanceStep) → 0 < length (slots_on step) → is_denied step ≡ true → Tells (Maintains step) a s s
-  denied_told (Judge manner slot) some on = refl
+  denied_told : (step : SnapshotOrCleanerStep) → 0 < length (slots_on step) → is_denied step ≡ true → Tells (Maintains step) a s s
+  denied_told (PlanCleaning manner slot) some on = refl
   denied_told Make some on = absurd (omega (arith, some))
   denied_told (Drop snapshot) some on = absurd (omega (arith, some))
   denied_told (Pin snapshot) some on = absurd (omega (arith, some))
   denied_told (Pick draining) some on = absurd (omega (arith, some))
   denied_told other some on = absurd (false≢true on)
 
-  step_told : (step : MaintenanceStep) → HandOn step h → r.slots ≡ slots_on step
-      → OnStep step a s (maintenance_turn step a granted s h r)
+  step_told : (step : SnapshotOrCleanerStep) → HandOn step h → r.slots ≡ slots_on step
+      → OnStep step a s (snapshot_or_cleaner_turn step a granted s h r)
   step_told step empty slots = alone_walk (OnStep step a s) step a granted s h r empty slots (record {
     waits = refl;
     refused = refused_told step;
     goes = λ on clear. work_told step;
     told = λ on clear. answered_told step on;
-    denied = λ snapshot showing on. subst (λ (x : MaintenanceStep). Tells (Maintains x) a s s) (sym on) refl;
+    denied = λ snapshot showing on. subst (λ (x : SnapshotOrCleanerStep). Tells (Maintains x) a s s) (sym on) refl;
     unlocks = λ fault on some. denied_told step some on;
     leads_on = λ next leads. work_told step;
     over = λ e ends. work_told step;
     none = λ draining on nothing.
-        subst (λ (x : MaintenanceStep). OnStep x a s (Ends (Ok (answers.Count draining.released)) s h)) (sym on) refl;
+        subst (λ (x : SnapshotOrCleanerStep). OnStep x a s (Ends (Ok (answers.Count draining.released)) s h)) (sym on) refl;
   })
 
 -- ---- enter
@@ -168,7 +168,7 @@ module _ (block a : ℕ) (granted : Bool) (s : Shared) (h : HandState) (r : Runn
   kind_told (Publish place) bare = file_told (Publish place) refl (publish_none (nat_lt 1 (length (written_slots r))) a s)
   kind_told ReturnNumber bare = file_told ReturnNumber
       (by_back (λ (u : Shared) (x : HandState). u.book.history ≡ s.book.history) s h (λ numbers ino. refl)) refl
-  kind_told (Maintenance step) bare = step_told a granted s h r step bare.0 bare.1
+  kind_told (SnapshotOrCleaner step) bare = step_told a granted s h r step bare.0 bare.1
   kind_told other bare = file_told other refl refl
 
 -- ---- events

@@ -13,8 +13,8 @@ pub mod Lists
 pub mod LocksAlongCalls
 pub mod LocksHeld
 pub mod StepFrames
-pub mod MaintenanceCalls
-pub mod MaintenanceTurns
+pub mod SnapshotOrCleanerCalls
+pub mod SnapshotOrCleanerTurns
 pub mod BookRecords
 pub mod SlotBounds
 pub mod FileStepBounds
@@ -32,7 +32,7 @@ pub mod Occurrences
 pub mod StepWork
 pub mod StepWays
 pub mod StepWalk
-pub mod MaintenanceWalk
+pub mod SnapshotOrCleanerWalk
 pub mod OverEvents
 pub mod WorkKeeps
 pub mod UnlentSteps
@@ -55,7 +55,7 @@ pub mod CellPages
 pub mod PagesLeft
 pub mod CellChanges
 pub mod CellSteps
-pub mod MaintenanceAlone
+pub mod SnapshotOrCleanerAlone
 pub mod Journals
 pub mod OpenJournals
 pub mod LogsKept
@@ -117,7 +117,7 @@ pub mod DecidedWrites
 pub mod DecidedNext
 pub mod DecidedTurns
 pub mod DecidedRuns
-pub mod DecidedMaintenance
+pub mod DecidedSnapshotOrCleaner
 pub mod HeldLaw
 pub mod ErasedCells
 pub mod GoneTurns

@@ -19,7 +19,7 @@ use Rattle.nv_machine.specs.Sequence.{Beginning, Locks, beginning, begun, nothin
 use Rattle.nv_machine.specs.Starts.{IsStart}
 use Rattle.nv_machine.specs.Step.{after, kind_turn, start_step, step, turn}
 use Rattle.nv_machine.specs.Takings.{AreEmptied, Asked, IsEmptied, IsShortInAll, Taking, and_asked, asked_in, asking, asks_list, beginning_with, no_taking, taking_after, taking_by, taking_in, taking_of}
-use Rattle.nv_machine.specs.World.{Actor, Answers, Check, Ends, Event, Go, HandState, Lock, Moves, Next, Ready, Refuses, Running, Shared, Start, TakeBlocks, TakeLogPages, Turn, Waits, World, actor_at, idle, list_at, no_list, Maintenance, Fresh, Compact, MaintenanceStep}
+use Rattle.nv_machine.specs.World.{Actor, Answers, Check, Ends, Event, Go, HandState, Lock, Moves, Next, Ready, Refuses, Running, Shared, Start, TakeBlocks, TakeLogPages, Turn, Waits, World, actor_at, idle, list_at, no_list, SnapshotOrCleaner, Fresh, Compact, SnapshotOrCleanerStep}
 use Rattle.nv_machine.proofs.EveryWorld.{all_numbers}
 use Rattle.nv_machine.proofs.OverEvents.{OwnAfter, event_of, own_goes, turn_at}
 use Rattle.nv_machine.proofs.RefusalCauses.{unrefused}
@@ -39,7 +39,7 @@ record IsAsking (cpus actor asked : ℕ) (taking : Taking) (wanted : ℕ) : Type
 abbrev Asks : Next → ℕ → ℕ → Taking → ℕ → Type 0
 Asks (TakeBlocks asked) cpus actor taking wanted = IsAsking cpus actor asked taking wanted
 Asks (TakeLogPages asked) cpus actor taking wanted = IsAsking cpus actor asked taking wanted
-Asks (Maintenance (Fresh ino asked some)) cpus actor taking wanted = IsAsking cpus actor asked taking some
+Asks (SnapshotOrCleaner (Fresh ino asked some)) cpus actor taking wanted = IsAsking cpus actor asked taking some
 Asks other cpus actor taking wanted = Unit {0}
 
 abbrev AsksOf : Option Running → ℕ → ℕ → Taking → Type 0
@@ -64,7 +64,7 @@ first_asks : (next : Next) (cpus actor wanted : ℕ) (taking : Taking) → IsFir
     → Asks next cpus actor (beginning_with next wanted taking) wanted
 first_asks (TakeBlocks asked) cpus actor wanted taking is some = new_taking cpus actor asked wanted taking (asked == 0) refl is some
 first_asks (TakeLogPages asked) cpus actor wanted taking is some = new_taking cpus actor asked wanted taking (asked == 0) refl is some
-first_asks (Maintenance (Fresh ino asked fresh)) cpus actor wanted taking is some =
+first_asks (SnapshotOrCleaner (Fresh ino asked fresh)) cpus actor wanted taking is some =
     new_taking cpus actor asked fresh taking (asked == 0) refl is some
 first_asks other cpus actor wanted taking is some = tt
 
@@ -237,20 +237,20 @@ module _ (cpus actor asked wanted block : ℕ) (s : Shared) (h : HandState) (r :
 
   fresh_asks : (ino left : ℕ) (more : Bool) → wanted - length (list_at s asked_cpu).blocks ≡ left
       → nat_lt (asked + 1) (length s.lists) ≡ more
-      → OnAsks (Maintenance (Fresh ino asked wanted)) cpus actor s h taking (fresh_turn left more ino asked t with_log_pages r)
+      → OnAsks (SnapshotOrCleaner (Fresh ino asked wanted)) cpus actor s h taking (fresh_turn left more ino asked t with_log_pages r)
   fresh_asks ino zero more is lt = tt
   fresh_asks ino (suc n) true is lt =
       asks_next cpus actor asked s h with_log_pages wanted taking many asks (more_pages h _) (suc n) is (omega arith)
       (let below = ltb-true (asked + 1) (length s.lists) lt in omega (arith, below, many))
-  fresh_asks ino (suc n) false is lt = first_turn (Maintenance (Fresh ino asked wanted)) cpus actor s h taking _ some_cpus
+  fresh_asks ino (suc n) false is lt = first_turn (SnapshotOrCleaner (Fresh ino asked wanted)) cpus actor s h taking _ some_cpus
       (on_first _ (on_apart _ (end_plain r.slots (Refuses NoSpace) t with_log_pages r)))
 
   fresh_short : (answers : r.ending ≡ Answers) (ino left : ℕ) (more : Bool) → wanted - length (list_at s asked_cpu).blocks ≡ left
       → nat_lt (asked + 1) (length s.lists) ≡ more
-      → Shorts (Maintenance (Fresh ino asked wanted)) (fresh_turn left more ino asked t with_log_pages r)
-  fresh_short answers ino zero more is lt = unrefused _ ⊥ (Maintenance (Compact ino)) r.ending answers
-  fresh_short answers ino (suc n) true is lt = unrefused _ ⊥ (Maintenance (Fresh ino (asked + 1) (suc n))) r.ending answers
-  fresh_short answers ino (suc n) false is lt = end_short (Maintenance (Fresh ino asked wanted)) r.slots with_log_pages
+      → Shorts (SnapshotOrCleaner (Fresh ino asked wanted)) (fresh_turn left more ino asked t with_log_pages r)
+  fresh_short answers ino zero more is lt = unrefused _ ⊥ (SnapshotOrCleaner (Compact ino)) r.ending answers
+  fresh_short answers ino (suc n) true is lt = unrefused _ ⊥ (SnapshotOrCleaner (Fresh ino (asked + 1) (suc n))) r.ending answers
+  fresh_short answers ino (suc n) false is lt = end_short (SnapshotOrCleaner (Fresh ino asked wanted)) r.slots with_log_pages
       (is_short cpus actor asked s h with_log_pages wanted taking many asks (more_pages h _) (suc n) is (omega arith)
       (let past = ltb-false (asked + 1) (length s.lists) lt in omega (arith, past, many)))
 
@@ -263,7 +263,7 @@ kind_asks (TakeBlocks asked) cpus block actor granted s h r taking many some ask
     blocks_asks cpus actor asked r.wanted block s h r taking many asks _ _ refl refl
 kind_asks (TakeLogPages asked) cpus block actor granted s h r taking many some asks =
     pages_asks cpus actor asked r.wanted block s h r taking many asks _ _ refl refl
-kind_asks (Maintenance (Fresh ino asked wanted)) cpus block actor granted s h r taking many some asks =
+kind_asks (SnapshotOrCleaner (Fresh ino asked wanted)) cpus block actor granted s h r taking many some asks =
     fresh_asks cpus actor asked wanted block s h r taking many asks ino _ _ refl refl
 kind_asks other cpus block actor granted s h r taking many some asks =
     first_turn other cpus actor s h taking (kind_turn other block actor granted s h r) some (first other block actor granted s h r refl)
@@ -276,7 +276,7 @@ kind_short (TakeBlocks asked) cpus block actor granted s h r taking e many answe
     blocks_short cpus actor asked r.wanted block s h r taking many asks answers _ _ refl refl
 kind_short (TakeLogPages asked) cpus block actor granted s h r taking e many answers asks =
     pages_short cpus actor asked r.wanted block s h r taking many asks answers _ _ refl refl
-kind_short (Maintenance (Fresh ino asked wanted)) cpus block actor granted s h r taking e many answers asks =
+kind_short (SnapshotOrCleaner (Fresh ino asked wanted)) cpus block actor granted s h r taking e many answers asks =
     fresh_short cpus actor asked wanted block s h r taking many asks answers ino _ _ refl refl
 kind_short other cpus block actor granted s h r taking e many answers asks = absurd (false≢true e)
 
@@ -312,7 +312,7 @@ module _ (cpus actor : ℕ) (some : 0 < cpus) where
   begun_asks : (b : Beginning) (s : Shared) (c : Call) (taking : Taking) → AsksOf (Some (begun b s c)) cpus actor taking
   begun_asks Locks s c taking = locking_asks (nat_lt 0 (length (slots_of s None nothing_looked c))) 0 taking
   begun_asks (Maintains what) s c taking =
-      first_by (λ (step : MaintenanceStep). Asks (Maintenance step) cpus actor taking 0)
+      first_by (λ (step : SnapshotOrCleanerStep). Asks (SnapshotOrCleaner step) cpus actor taking 0)
       (length s.cells) tt (λ snapshot. tt) (λ snapshot. tt)
       (λ count. tt) (λ manner ino inside. tt) (λ manner. tt) what
   begun_asks other s c taking = tt
@@ -367,5 +367,5 @@ lists_asked g start records events actor granted r is_start is takes =
       goes_on : (k : Next) → asks_list k ≡ true → (is_going k ≡ true → r.ending ≡ Answers) → r.ending ≡ Answers
       goes_on (TakeBlocks asked) e f = f refl
       goes_on (TakeLogPages asked) e f = f refl
-      goes_on (Maintenance (Fresh ino asked wanted)) e f = f refl
+      goes_on (SnapshotOrCleaner (Fresh ino asked wanted)) e f = f refl
       goes_on other e f = absurd (false≢true e)

@@ -11,15 +11,15 @@ use Rattle.nv_machine.specs.Locks.{AreSlots, HoldsIts, IsHeldByOther, IsInside, 
 use Rattle.nv_calls.specs.declared.looked.LookupResult.{LookupResult}
 use Rattle.nv_machine.specs.Reads.{is_written, slot_at, slots_of, written_slots}
 use Rattle.nv_machine.specs.Sequence.{locking, slots_on}
-use Rattle.nv_machine.specs.Maintenance.{copies_at, first_showing, seen_on, show_or_unpin, visited}
+use Rattle.nv_machine.specs.SnapshotOrCleaner.{copies_at, first_showing, seen_on, show_or_unpin, visited}
 use Rattle.nv_machine.specs.Step.{kind_turn, with_made}
-use Rattle.nv_machine.specs.World.{Append, ReturnNumber, Check, Close, Drop, Enter, Give, HandState, Leave, Lock, LockPicked, Look, Make, Next, Number, Open, Pick, Pin, Publish, Ready, Refuses, Release, Retire, Running, Shared, Show, Showing, MaintenanceStep, Maintenance, TakeBlocks, TakeLogPages, Unlock, Unpin, Visit, go_to, owner_at, with_numbers, with_owner, Compact, Fresh, Judge, LockCleaned, Unlink, cell_at}
-use Rattle.nv_machine.proofs.StepWork.{return_number_work, work, number_work, maintenance_work}
+use Rattle.nv_machine.specs.World.{Append, ReturnNumber, Check, Close, Drop, Enter, Give, HandState, Leave, Lock, LockPicked, Look, Make, Next, Number, Open, Pick, Pin, Publish, Ready, Refuses, Release, Retire, Running, Shared, Show, Showing, SnapshotOrCleanerStep, SnapshotOrCleaner, TakeBlocks, TakeLogPages, Unlock, Unpin, Visit, go_to, owner_at, with_numbers, with_owner, Compact, Fresh, PlanCleaning, LockCleaned, Unlink, cell_at}
+use Rattle.nv_machine.proofs.StepWork.{return_number_work, work, number_work, snapshot_or_cleaner_work}
 use Rattle.nv_machine.proofs.Lists.{drop_all, has_at, has_drop, has_filter, self, slot_inside, slots_are, take_apart}
 use Rattle.nv_machine.proofs.LocksAlongCalls.{Holds, LocksGo, LocksLeft, LocksTold, OnLocks, apart, appending_holds, ends_locks, holds_as, idle_as, lasts_locks, locked_holds, locked_left, locking_holds, looking_holds, others_not, overs_locks, publishing_holds, rests_locks, retiring_holds, same_locks, unlocked_holds, unlocked_left}
 use Rattle.nv_machine.proofs.StepWays.{EndsBy, Going, IsBlocked, IsBlockedOn, Telling, by_taking, is_taking, noted, numbered_slots}
 use Rattle.nv_machine.proofs.StepWalk.{WaysOf, any_takes, walk_by}
-use Rattle.nv_machine.proofs.MaintenanceWalk.{StepWaysOf, step_walk_by}
+use Rattle.nv_machine.proofs.SnapshotOrCleanerWalk.{StepWaysOf, step_walk_by}
 use Rattle.nv_reader.specs.Walk as walk
 use Rattle.nv_clean.specs.Plans.{wanted_of}
 
@@ -61,13 +61,13 @@ as_before a s t e f = record {
 
 -- ---- what it waits for
 
-waits_on : (a : ℕ) (s : Shared) (r : Running) (step : MaintenanceStep) → Before a s (Maintenance step) r → IsBlockedOn step s
+waits_on : (a : ℕ) (s : Shared) (r : Running) (step : SnapshotOrCleanerStep) → Before a s (SnapshotOrCleaner step) r → IsBlockedOn step s
     → WaitsOn s a step
 waits_on a s r (Show snapshot showing) b held = not_mine a _ held.0 held.1 (b.mine.owners (visited showing.visits).ino)
 waits_on a s r (LockPicked draining picked) b held = not_mine a _ held.0 held.1 (b.mine.owners picked.ino)
 waits_on a s r (Release draining picked) b held = held
 waits_on a s r (LockCleaned manner ino) b held = not_mine a _ held.0 held.1 (b.mine.owners ino)
-waits_on a s r (Judge manner slot) b held = held
+waits_on a s r (PlanCleaning manner slot) b held = held
 waits_on a s r (Fresh ino asked wanted) b held = held
 waits_on a s r (Unlink ino) b held = held
 waits_on a s r (Compact ino) b held = held
@@ -79,7 +79,7 @@ waits_for a s r (Lock place) b held =
     not_mine a _ held.0 held.1 (b.mine.owners (slot_at r.slots place) ∙ take_apart place r.slots b.are.rising b.inside)
 waits_for a s r Enter b held = not_mine a s.holder held.0 held.1 b.mine.holder
 waits_for a s r Visit b held = not_mine a _ held.0 held.1 (b.mine.owners _)
-waits_for a s r (Maintenance step) b held = waits_on a s r step b held
+waits_for a s r (SnapshotOrCleaner step) b held = waits_on a s r step b held
 waits_for a s r other b held = held
 
 -- ---- every kind
@@ -118,7 +118,7 @@ module _ (a : ℕ) (granted : Bool) (s : Shared) (h : HandState) (r : Running) w
   -- the next step of a show holds nothing
   showing_locks : (t : Shared) (snapshot left : ℕ) (visits : List walk.Visit) (showing : Showing) → LocksLeft a s t → r.slots ≡ []
       → Holds t a [] false → AreSlots (length t.owners) r.slots
-      → Goes t h (go_to (Maintenance (show_or_unpin left visits snapshot showing)) r)
+      → Goes t h (go_to (SnapshotOrCleaner (show_or_unpin left visits snapshot showing)) r)
   showing_locks t snapshot zero visits showing left none mine are = (left, holds_as t a _ [] false mine refl refl are none)
   showing_locks t snapshot (suc n) [] showing left none mine are = (left, holds_as t a _ [] false mine refl refl are none)
   showing_locks t snapshot (suc n) (visit ∷ visits) showing left none mine are = (left, holds_as t a _ [] false mine refl refl are none)
@@ -129,9 +129,9 @@ module _ (a : ℕ) (granted : Bool) (s : Shared) (h : HandState) (r : Running) w
   none_held none mine are = ends_locks (same_locks a s) (subst (λ (l : List ℕ). Holds s a l false) (sym none) mine) are
 
   -- the lock of a slot that the call has and no other
-  locked_one : (ino : ℕ) (next : MaintenanceStep) → r.slots ≡ ino ∷ [] → AreSlots (length s.owners) r.slots → Holds s a [] false
+  locked_one : (ino : ℕ) (next : SnapshotOrCleanerStep) → r.slots ≡ ino ∷ [] → AreSlots (length s.owners) r.slots → Holds s a [] false
       → owner_at s ino ≡ None → held_on next r.slots ≡ r.slots → slots_on next ≡ ino ∷ []
-      → Goes (with_owner ino (Some a) s) h (go_to (Maintenance next) r)
+      → Goes (with_owner ino (Some a) s) h (go_to (SnapshotOrCleaner next) r)
   locked_one ino next one are mine free held same =
       let in-range = (subst (λ (l : List ℕ). AreSlots (length s.owners) l) one are).inside.0 in
       let left = locked_left a s ino in-range free in
@@ -142,12 +142,12 @@ module _ (a : ℕ) (granted : Bool) (s : Shared) (h : HandState) (r : Running) w
       )
 
   -- the slot of a cleaner stays locked
-  leads_locks : (next : MaintenanceStep) (t : Shared) (g : HandState) → LocksLeft a s t → Holds t a r.slots false
+  leads_locks : (next : SnapshotOrCleanerStep) (t : Shared) (g : HandState) → LocksLeft a s t → Holds t a r.slots false
       → AreSlots (length t.owners) r.slots → held_on next r.slots ≡ r.slots → r.slots ≡ slots_on next
-      → Goes t g (go_to (Maintenance next) r)
+      → Goes t g (go_to (SnapshotOrCleaner next) r)
   leads_locks next t g left mine are held inside = (left, holds_as t a _ r.slots false mine held refl are inside)
 
-  step_ways : (step : MaintenanceStep) → Before a s (Maintenance step) r → StepWaysOf Goes Tells step a granted s h r
+  step_ways : (step : SnapshotOrCleanerStep) → Before a s (SnapshotOrCleaner step) r → StepWaysOf Goes Tells step a granted s h r
   step_ways Make b = (
     λ fault by. none_held b.inside b.mine b.are,
     λ clear. (as_before a s _ refl refl, idle_as _ a (record { owners = b.mine.owners; holder = b.mine.holder })),
@@ -184,8 +184,8 @@ module _ (a : ℕ) (granted : Bool) (s : Shared) (h : HandState) (r : Running) w
   step_ways (Release draining picked) b =
       ends_locks (as_before a s _ refl refl) (record { owners = b.mine.owners; holder = b.mine.holder }) b.are
   step_ways (LockCleaned manner ino) b =
-      λ free. locked_one ino (Judge manner (Some ino)) b.inside b.are b.mine free refl refl
-  step_ways (Judge manner slot) b = (
+      λ free. locked_one ino (PlanCleaning manner (Some ino)) b.inside b.are b.mine free refl refl
+  step_ways (PlanCleaning manner slot) b = (
     λ none. ends_locks (same_locks a s) b.mine b.are,
     λ some lacks. ends_locks (same_locks a s) b.mine b.are,
     λ ino is some. (let one = b.inside ∙ ap (λ (o : Option ℕ). option_to_list o) is in record {
@@ -195,12 +195,12 @@ module _ (a : ℕ) (granted : Bool) (s : Shared) (h : HandState) (r : Running) w
     }),
   )
   step_ways (Fresh ino asked wanted) b =
-      let left = as_before a s (maintenance_work (Fresh ino asked wanted) a s h).shared refl refl in
-      let mine : Holds (maintenance_work (Fresh ino asked wanted) a s h).shared a r.slots false =
+      let left = as_before a s (snapshot_or_cleaner_work (Fresh ino asked wanted) a s h).shared refl refl in
+      let mine : Holds (snapshot_or_cleaner_work (Fresh ino asked wanted) a s h).shared a r.slots false =
       record { owners = b.mine.owners; holder = b.mine.holder } in
       record {
-        ready = λ q. leads_locks (Compact ino) _ (maintenance_work (Fresh ino asked wanted) a s h).hand left mine b.are refl b.inside;
-        more = λ n q m. leads_locks (Fresh ino (asked + 1) (suc n)) _ (maintenance_work (Fresh ino asked wanted) a s h).hand left
+        ready = λ q. leads_locks (Compact ino) _ (snapshot_or_cleaner_work (Fresh ino asked wanted) a s h).hand left mine b.are refl b.inside;
+        more = λ n q m. leads_locks (Fresh ino (asked + 1) (suc n)) _ (snapshot_or_cleaner_work (Fresh ino asked wanted) a s h).hand left
             mine b.are refl b.inside;
         short = λ n q m. ends_locks left mine b.are;
       }
@@ -288,11 +288,11 @@ module _ (a : ℕ) (granted : Bool) (s : Shared) (h : HandState) (r : Running) w
     λ free passed lacks. none_held b.inside b.mine b.are,
     λ free passed. (same_locks a s, idle_as s a b.mine),
   )
-  ways (Maintenance step) block b = tt
+  ways (SnapshotOrCleaner step) block b = tt
 
 pub locks_kept : (k : Next) (block a : ℕ) (granted : Bool) (s : Shared) (h : HandState) (r : Running) → Before a s k r
     → OnLocks a s (WaitsFor s a r k) (kind_turn k block a granted s h r)
-locks_kept (Maintenance step) block a granted s h r b =
+locks_kept (SnapshotOrCleaner step) block a granted s h r b =
     step_walk_by (WaitsOn s a step) (LocksGo a s) (LocksTold a s) a s h r step granted (waits_on a s r step b)
     (step_ways a granted s h r step b)
 locks_kept other block a granted s h r b =
@@ -327,7 +327,7 @@ one_owned : (slot a : ℕ) (s : Shared) (r : Running) → Holds s a r.slots fals
 one_owned slot a s r mine one =
     owner_is a (owner_at s slot) (mine.owners slot ∙ ap (λ (l : List ℕ). has l slot) one ∙ self_or slot)
 
-lent_on_cell : (step : MaintenanceStep) (cpus a : ℕ) (s : Shared) (r : Running) → Before a s (Maintenance step) r → (ino : ℕ)
+lent_on_cell : (step : SnapshotOrCleanerStep) (cpus a : ℕ) (s : Shared) (r : Running) → Before a s (SnapshotOrCleaner step) r → (ino : ℕ)
     → (lent_on step cpus a).cell ≡ Some ino → owner_at s ino ≡ Some a
 lent_on_cell (Release draining picked) cpus a s r b ino e =
     some_cell a picked.ino ino s (one_owned picked.ino a s r b.mine b.inside) e
@@ -343,7 +343,7 @@ lent_cell (Publish place) cpus a s r b ino e = some_cell a (slot_at (written_slo
     (written_owned a place s r b.mine b.inside) e
 lent_cell (Retire place) cpus a s r b ino e = some_cell a (slot_at (written_slots r) place) ino s
     (written_owned a place s r b.mine b.inside) e
-lent_cell (Maintenance step) cpus a s r b ino e = lent_on_cell step cpus a s r b ino e
+lent_cell (SnapshotOrCleaner step) cpus a s r b ino e = lent_on_cell step cpus a s r b ino e
 lent_cell other cpus a s r b ino e = absurd (none-some ino e)
 
 pub lent_holder : (k : Next) (a : ℕ) (s : Shared) (r : Running) → Before a s k r → commits_at k ≡ true → s.holder ≡ Some a

@@ -9,7 +9,7 @@ use Rattle.nv_machine.specs.Locks.{AllRecords, AreLocks, AreSlots, HasLent, HasS
 use Rattle.nv_machine.specs.Sequence.{Beginning, Locks, Looks, Numbers, Maintains, Visits, beginning, begun, nothing_looked, started, first_step, slots_on}
 use Rattle.nv_machine.specs.Step.{Step, after, go_step, step, turn, turned}
 use Rattle.nv_machine.specs.Reads.{slots_of, written_slots}
-use Rattle.nv_machine.specs.World.{Actor, Check, Ends, Event, Go, Moves, Next, Reply, Retire, Running, Shared, MaintenanceStep, Maintenance, Turn, Waiting, Waits, World, actor_at}
+use Rattle.nv_machine.specs.World.{Actor, Check, Ends, Event, Go, Moves, Next, Reply, Retire, Running, Shared, SnapshotOrCleanerStep, SnapshotOrCleaner, Turn, Waiting, Waits, World, actor_at}
 use Rattle.nv_machine.proofs.BookRecords.{OnRecords, records_all}
 use Rattle.nv_machine.proofs.OverEvents.{begun_in, event_by, events_by, set_begun, set_one, turn_at, with_call}
 use Rattle.nv_machine.proofs.SingleEvents.{go_is_turn, turned_frame}
@@ -96,10 +96,10 @@ go_locks w locks actor granted r there is =
 no_slots : (n : ℕ) → AreSlots n []
 no_slots n = record { rising = tt; inside = tt }
 
-first_holds : (step : MaintenanceStep) (s : Shared) (actor : ℕ) (c : Call) → Holds s actor [] false
+first_holds : (step : SnapshotOrCleanerStep) (s : Shared) (actor : ℕ) (c : Call) → Holds s actor [] false
     → held_on step (slots_on step) ≡ [] → AreSlots (length s.owners) (slots_on step)
-    → HoldsIts s actor (Some (started c (Maintenance step) (slots_on step)))
-first_holds step s actor c h e are = holds_as s actor (started c (Maintenance step) (slots_on step)) [] false h e refl are refl
+    → HoldsIts s actor (Some (started c (SnapshotOrCleaner step) (slots_on step)))
+first_holds step s actor c h e are = holds_as s actor (started c (SnapshotOrCleaner step) (slots_on step)) [] false h e refl are refl
 
 begun_locks : (b : Beginning) (w : World) (actor : ℕ) (c : Call) → AreLocks w → Holds w.shared actor [] false
     → HoldsIts w.shared actor (Some (begun b w.shared c))
@@ -114,9 +114,9 @@ begun_locks Visits w actor c locks h = holds_as w.shared actor (begun Visits w.s
     (no_slots (length w.shared.owners)) refl
 begun_locks (Maintains what) w actor c locks h =
     first_holds (first_step (length w.shared.cells) what) w.shared actor c h
-    (first_by (λ (step : MaintenanceStep). held_on step (slots_on step) ≡ []) (length w.shared.cells) refl
+    (first_by (λ (step : SnapshotOrCleanerStep). held_on step (slots_on step) ≡ []) (length w.shared.cells) refl
     (λ snapshot. refl) (λ snapshot. refl) (λ count. refl) (λ manner ino inside. refl) (λ manner. refl) what)
-    (first_by (λ (step : MaintenanceStep). AreSlots (length w.shared.owners) (slots_on step)) (length w.shared.cells) (no_slots _)
+    (first_by (λ (step : SnapshotOrCleanerStep). AreSlots (length w.shared.owners) (slots_on step)) (length w.shared.cells) (no_slots _)
     (λ snapshot. no_slots _) (λ snapshot. no_slots _) (λ count. no_slots _)
     (λ manner ino inside. record { rising = (tt, tt); inside = (omega (arith, inside, locks.wide), tt) }) (λ manner. no_slots _) what)
 

@@ -21,7 +21,7 @@ use Rattle.nv_machine.specs.Locks.{HoldsIts, held_at, is_owner}
 use Rattle.nv_machine.specs.Reads.{is_written, slot_at, written_slots}
 use Rattle.nv_machine.specs.Sequence.{appending, closing, opening, publishing}
 use Rattle.nv_machine.specs.Step.{kind_turn}
-use Rattle.nv_machine.specs.World.{Append, Ends, HandState, Moves, Next, Open, Publish, Retire, Running, Shared, Maintenance, Turn, Waits, cell_at, no_cell, owner_at}
+use Rattle.nv_machine.specs.World.{Append, Ends, HandState, Moves, Next, Open, Publish, Retire, Running, Shared, SnapshotOrCleaner, Turn, Waits, cell_at, no_cell, owner_at}
 use Rattle.nv_machine.proofs.Lists.{drop_all, has_drop, has_filter, has_later, has_take, self}
 use Rattle.nv_machine.proofs.LocksHeld.{Before}
 use Rattle.nv_machine.proofs.CellChanges.{cells_after, removal, clean_slot, adds, is_cleaned}
@@ -192,8 +192,8 @@ lent_tail (Publish place) block a granted s h r b ino is inside was =
     inr (subst (λ (n : ℕ). IsTailLast (slice_index_or (set s.cells slot (published (cell_at s slot))) n no_cell)) same
     (set_tail slot (published (cell_at s slot)) s (omega (arith, same, inside)) refl))
 lent_tail (Retire place) block a granted s h r b ino is inside was = kept_tail (Retire place) block a granted s h r b ino refl refl was
-lent_tail (Maintenance step) block a granted s h r b ino is inside was =
-    kept_tail (Maintenance step) block a granted s h r b ino refl refl was
+lent_tail (SnapshotOrCleaner step) block a granted s h r b ino is inside was =
+    kept_tail (SnapshotOrCleaner step) block a granted s h r b ino refl refl was
 lent_tail other block a granted s h r b ino is inside was = none_lent ino is
 
 -- ---- an erased cell has no block in a part

@@ -20,7 +20,7 @@ use Rattle.nv_machine.specs.PlainRun.{Commits, Nothing, plain_change, keeps_node
 use Rattle.nv_machine.specs.Reads.{copies, has_last_page, slot_at, written_slots}
 use Rattle.nv_machine.specs.Sequence.{beginning, locking, looking}
 use Rattle.nv_machine.specs.Step.{ending_at, is_numbered, kind_turn, made_in, same_looked}
-use Rattle.nv_machine.specs.World.{Append, ReturnNumber, Check, Close, Ending, Ends, Enter, Give, HandState, Leave, Lock, LockPicked, Look, Moves, Next, Number, Open, BoundAnew, Publish, Ready, Refuses, Release, Retire, Running, Shared, Show, MaintenanceStep, Maintenance, TakeBlocks, TakeLogPages, Turn, Unlock, Visit, Waits, cell_at, go_to, no_cell, owner_at, with_book, LockCleaned, Judge, Fresh, Unlink, Compact, with_cell}
+use Rattle.nv_machine.specs.World.{Append, ReturnNumber, Check, Close, Ending, Ends, Enter, Give, HandState, Leave, Lock, LockPicked, Look, Moves, Next, Number, Open, BoundAnew, Publish, Ready, Refuses, Release, Retire, Running, Shared, Show, SnapshotOrCleanerStep, SnapshotOrCleaner, TakeBlocks, TakeLogPages, Turn, Unlock, Visit, Waits, cell_at, go_to, no_cell, owner_at, with_book, LockCleaned, PlanCleaning, Fresh, Unlink, Compact, with_cell}
 use Rattle.nv_machine.proofs.LogsKeptByCommits.{OnKept, append_kept, close_kept, knows_appending, open_kept, publish_kept, retire_kept}
 use Rattle.nv_machine.proofs.UnlentSteps.{IsBeside, aside, is_aside}
 use Rattle.nv_machine.proofs.CallKnowledge.{KnownBy, OnKnows, closes_knows, denied_knows, locking_knows, not_overtaken, number_nothing, passed_check, ready_knows, snapshot_knows, wanted_in_file}
@@ -31,13 +31,13 @@ use Rattle.nv_machine.proofs.StepWalk.{counted, last_walk, walk_of}
 use Rattle.nv_machine.proofs.LocksHeld.{Before, lent_holder}
 use Rattle.nv_machine.proofs.LogsKept.{KeptLeft, SameLogs, Still, still_left, still_nodes}
 use Rattle.nv_machine.proofs.AppendsToCome.{OnShared, end_shared}
-use Rattle.nv_machine.specs.Maintenance.{maintenance_turn}
-use Rattle.nv_machine.proofs.StepWork.{maintenance_work}
+use Rattle.nv_machine.specs.SnapshotOrCleaner.{snapshot_or_cleaner_turn}
+use Rattle.nv_machine.proofs.StepWork.{snapshot_or_cleaner_work}
 use Rattle.nv_machine.proofs.WorkKeeps.{AfterTurn, snapshot_keeps}
 use Rattle.nv_machine.proofs.LogsKeptByReleases.{release_retires, released_left, released_logs}
 use Rattle.nv_calls.specs.Retiring.{released}
 use Rattle.nv_book.specs.Book.{BookState}
-use Rattle.nv_machine.proofs.MaintenanceTurns.{done_keeps}
+use Rattle.nv_machine.proofs.SnapshotOrCleanerTurns.{done_keeps}
 use Rattle.nv_machine.proofs.CellChanges.{clean_cell_on, clean_slot_on, is_clean_on, lent_clean, lent_inside_own}
 use Rattle.nv_machine.proofs.LogsKeptByCleanings.{cleaned_left, cleaned_logs}
 use Rattle.nv_machine.proofs.CleanSteps.{cleans_own}
@@ -145,59 +145,59 @@ slots_of_cells : (k : Next) (block a : ℕ) (s : Shared) (h : HandState) (r : Ru
     → AreSlots (length s.cells) r.slots
 slots_of_cells k block a s h r st = subst (λ (n : ℕ). AreSlots n r.slots) st.before.wide st.before.are
 
-book_step : (block a : ℕ) (granted : Bool) (step : MaintenanceStep) (s : Shared) (h : HandState) (r : Running) → AreLogsKept s
-    → (maintenance_work step a s h).shared.book.journals ≡ s.book.journals
-    → ((maintenance_work step a s h).shared ≡ with_book (maintenance_work step a s h).shared.book s)
-    → OnKnows block (a % length s.lists) (maintenance_turn step a granted s h r)
-    → OnKept true block a s (maintenance_turn step a granted s h r)
+book_step : (block a : ℕ) (granted : Bool) (step : SnapshotOrCleanerStep) (s : Shared) (h : HandState) (r : Running) → AreLogsKept s
+    → (snapshot_or_cleaner_work step a s h).shared.book.journals ≡ s.book.journals
+    → ((snapshot_or_cleaner_work step a s h).shared ≡ with_book (snapshot_or_cleaner_work step a s h).shared.book s)
+    → OnKnows block (a % length s.lists) (snapshot_or_cleaner_turn step a granted s h r)
+    → OnKept true block a s (snapshot_or_cleaner_turn step a granted s h r)
 book_step block a granted step s h r kept same is on =
-    kept_after block a s (maintenance_turn step a granted s h r)
+    kept_after block a s (snapshot_or_cleaner_turn step a granted s h r)
     (snapshot_keeps (IsLeft a s) step a granted s h r
     (still_left a s s kept (same_still s) kept.closed, still_nodes s s (same_still s))
-    (subst (λ (t : Shared). IsLeft a s t (maintenance_work step a s h).hand) (sym is)
-    (booked block a s (maintenance_work step a s h).shared.book h kept same))) on
+    (subst (λ (t : Shared). IsLeft a s t (snapshot_or_cleaner_work step a s h).hand) (sym is)
+    (booked block a s (snapshot_or_cleaner_work step a s h).shared.book h kept same))) on
 
 -- a cleaning
-cleaned_kept : (step : MaintenanceStep) (block a : ℕ) (granted : Bool) (s : Shared) (h : HandState) (r : Running)
-    → is_clean_on step ≡ true → Standing (Maintenance step) block a s h r
-    → with_cell (clean_slot_on step) (clean_cell_on step s h) s ≡ (maintenance_work step a s h).shared
-    → OnKnows block (a % length s.lists) (maintenance_turn step a granted s h r)
-    → OnKept true block a s (maintenance_turn step a granted s h r)
+cleaned_kept : (step : SnapshotOrCleanerStep) (block a : ℕ) (granted : Bool) (s : Shared) (h : HandState) (r : Running)
+    → is_clean_on step ≡ true → Standing (SnapshotOrCleaner step) block a s h r
+    → with_cell (clean_slot_on step) (clean_cell_on step s h) s ≡ (snapshot_or_cleaner_work step a s h).shared
+    → OnKnows block (a % length s.lists) (snapshot_or_cleaner_turn step a granted s h r)
+    → OnKept true block a s (snapshot_or_cleaner_turn step a granted s h r)
 cleaned_kept step block a granted s h r is st made on =
-    let k = Maintenance step in
+    let k = SnapshotOrCleaner step in
     let ino = clean_slot_on step in
     let here = lent_inside_own k a s r st.before ino (lent_clean k (length s.lists) a r is) in
     let tails = st.tails ino here.1 st.before.mine.holder in
     let cleans = cleans_own k block s h r is here.0 (st.published ino here.1 refl) st.ready in
-    kept_after block a s (maintenance_turn step a granted s h r)
+    kept_after block a s (snapshot_or_cleaner_turn step a granted s h r)
     (snapshot_keeps (IsLeft a s) step a granted s h r
     (still_left a s s st.kept (same_still s) st.kept.closed, still_nodes s s (same_still s))
-    (subst (λ (t : Shared). IsLeft a s t (maintenance_work step a s h).hand) made (
+    (subst (λ (t : Shared). IsLeft a s t (snapshot_or_cleaner_work step a s h).hand) made (
       cleaned_left a s st.kept ino _ here.0 here.1 tails _ _ cleans,
       cleaned_logs a s st.kept ino _ here.0 here.1 tails _ _ cleans,
     ))) on
 
-snapshot_kept : (step : MaintenanceStep) (block a : ℕ) (granted : Bool) (s : Shared) (h : HandState) (r : Running)
-    → Standing (Maintenance step) block a s h r → OnKnows block (a % length s.lists) (maintenance_turn step a granted s h r)
-    → OnKept true block a s (maintenance_turn step a granted s h r)
+snapshot_kept : (step : SnapshotOrCleanerStep) (block a : ℕ) (granted : Bool) (s : Shared) (h : HandState) (r : Running)
+    → Standing (SnapshotOrCleaner step) block a s h r → OnKnows block (a % length s.lists) (snapshot_or_cleaner_turn step a granted s h r)
+    → OnKept true block a s (snapshot_or_cleaner_turn step a granted s h r)
 snapshot_kept (Show snapshot showing) block a granted s h r st on =
-    aside_kept (Maintenance (Show snapshot showing)) block a granted s h r refl true st.kept on
+    aside_kept (SnapshotOrCleaner (Show snapshot showing)) block a granted s h r refl true st.kept on
 snapshot_kept (LockPicked draining picked) block a granted s h r st on =
-    aside_kept (Maintenance (LockPicked draining picked)) block a granted s h r refl true st.kept on
+    aside_kept (SnapshotOrCleaner (LockPicked draining picked)) block a granted s h r refl true st.kept on
 snapshot_kept (LockCleaned manner ino) block a granted s h r st on =
-    aside_kept (Maintenance (LockCleaned manner ino)) block a granted s h r refl true st.kept on
-snapshot_kept (Judge manner slot) block a granted s h r st on =
-    aside_kept (Maintenance (Judge manner slot)) block a granted s h r refl true st.kept on
+    aside_kept (SnapshotOrCleaner (LockCleaned manner ino)) block a granted s h r refl true st.kept on
+snapshot_kept (PlanCleaning manner slot) block a granted s h r st on =
+    aside_kept (SnapshotOrCleaner (PlanCleaning manner slot)) block a granted s h r refl true st.kept on
 snapshot_kept (Fresh ino asked wanted) block a granted s h r st on =
-    aside_kept (Maintenance (Fresh ino asked wanted)) block a granted s h r refl true st.kept on
+    aside_kept (SnapshotOrCleaner (Fresh ino asked wanted)) block a granted s h r refl true st.kept on
 snapshot_kept (Unlink ino) block a granted s h r st on = cleaned_kept (Unlink ino) block a granted s h r refl st refl on
 snapshot_kept (Compact ino) block a granted s h r st on = cleaned_kept (Compact ino) block a granted s h r refl st refl on
 snapshot_kept (Release draining picked) block a granted s h r st on =
-    let here = lent_inside_own (Maintenance (Release draining picked)) a s r st.before picked.ino refl in
+    let here = lent_inside_own (SnapshotOrCleaner (Release draining picked)) a s r st.before picked.ino refl in
     let new = released picked (cell_at s picked.ino) in
     let is = release_retires picked (cell_at s picked.ino) st.releases in
     let tails = st.tails picked.ino here.1 st.before.mine.holder in
-    kept_after block a s (maintenance_turn (Release draining picked) a granted s h r)
+    kept_after block a s (snapshot_or_cleaner_turn (Release draining picked) a granted s h r)
     (snapshot_keeps (IsLeft a s) (Release draining picked) a granted s h r
     (still_left a s s st.kept (same_still s) st.kept.closed, still_nodes s s (same_still s)) (
       released_left a s st.kept picked.ino new here.0 here.1 is tails (st.apart picked.ino),
@@ -276,7 +276,7 @@ module _ (block a : ℕ) (granted : Bool) (s : Shared) (h : HandState) (r : Runn
       walk_of Knows_ Untold block a s h r ReturnNumber granted (record { told = λ full. tt; picks = λ d left drains some. tt }) refl
   knows_turn Visit st is = walk_of Knows_ Untold block a s h r Visit granted
       (λ fault free by. denied, λ free passed lacks. denied, λ free passed. tt) refl
-  knows_turn (Maintenance step) st is = snapshot_knows block _ step a granted s h r
+  knows_turn (SnapshotOrCleaner step) st is = snapshot_knows block _ step a granted s h r
   knows_turn other st is = absurd (false≢true is)
 
 pub kept_turn : (k : Next) (block a : ℕ) (granted : Bool) (s : Shared) (h : HandState) (r : Running) → Standing k block a s h r
@@ -306,9 +306,9 @@ kept_turn Leave block a granted s h r st =
     (still_left a s (record s { holder = None }) st.kept (record { cells = λ ino. refl; journals = refl; cpus = refl }) (λ e. st.knows.1))
     (still_nodes s (record s { holder = None }) (record { cells = λ ino. refl; journals = refl; cpus = refl })) (end_shared r.slots _ _ h r)
     (knows_turn block a granted s h r Leave st refl)
-kept_turn (Maintenance step) block a granted s h r st =
-    subst (λ (same : Bool). OnKept same block a s (maintenance_turn step a granted s h r))
-    (sym (done_keeps step (maintenance_turn step a granted s h r)))
+kept_turn (SnapshotOrCleaner step) block a granted s h r st =
+    subst (λ (same : Bool). OnKept same block a s (snapshot_or_cleaner_turn step a granted s h r))
+    (sym (done_keeps step (snapshot_or_cleaner_turn step a granted s h r)))
     (snapshot_kept step block a granted s h r st (snapshot_knows block _ step a granted s h r))
 kept_turn other block a granted s h r st =
     aside_kept other block a granted s h r refl true st.kept (knows_turn block a granted s h r other st refl)

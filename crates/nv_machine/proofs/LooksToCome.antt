@@ -14,13 +14,13 @@ use Rattle.nv_machine.specs.Reads.{copies, written_slots}
 use Rattle.nv_machine.specs.Sequence.{Beginning, Locks, Looks, beginning, begun, directories, locking, looking, nothing_looked, sequel}
 use Rattle.nv_machine.specs.Starts.{AreIdle}
 use Rattle.nv_machine.specs.Step.{after, ending_at, is_numbered, kind_turn, made_in, same_looked}
-use Rattle.nv_machine.specs.World.{Actor, Append, Check, Close, Ending, Enter, Event, HandState, Lock, Look, Next, Number, Open, BoundAnew, Publish, Ready, Refuses, Retire, Running, Shared, Maintenance, TakeBlocks, TakeLogPages, World, actor_at, go_to}
+use Rattle.nv_machine.specs.World.{Actor, Append, Check, Close, Ending, Enter, Event, HandState, Lock, Look, Next, Number, Open, BoundAnew, Publish, Ready, Refuses, Retire, Running, Shared, SnapshotOrCleaner, TakeBlocks, TakeLogPages, World, actor_at, go_to}
 use Rattle.nv_machine.proofs.RefusalCauses.{CheckCause, check_told}
 use Rattle.nv_machine.proofs.OverEvents.{Keeps, each, steady}
 use Rattle.nv_machine.proofs.LoopSteps.{Commits, appending_any, locking_any, publishing_any, retiring_any}
 use Rattle.nv_machine.proofs.StepWays.{After, Closes, StopsBy, any_ends, is_last, is_taker, is_taking, noted, stopped}
 use Rattle.nv_machine.proofs.StepWalk.{walk}
-use Rattle.nv_machine.proofs.MaintenanceWalk.{maintenance_walk, ends_apart}
+use Rattle.nv_machine.proofs.SnapshotOrCleanerWalk.{snapshot_or_cleaner_walk, ends_apart}
 use Rattle.nv_calls.specs.declared.call.Call.TheVariants as call
 
 -- a look to come is in one of its directories
@@ -177,7 +177,7 @@ takes k block s h r has taker n next is = go k taker where
 
 kind_looks : (k : Next) (block a : ℕ) (granted : Bool) (s : Shared) (h : HandState) (r : Running) → HasLooks r → r.next ≡ k
     → After P E (kind_turn k block a granted s h r)
-kind_looks (Maintenance step) block a granted s h r has is = maintenance_walk P E a s h r step granted (record {
+kind_looks (SnapshotOrCleaner step) block a granted s h r has is = snapshot_or_cleaner_walk P E a s h r step granted (record {
   stops = λ fault cause. any_ends (closes s h r _ has (λ e. cc));
   goes = λ on clear. record { place = λ p q. cc; nothing = has.nothing; names = has.names };
   told = λ on clear. tt;

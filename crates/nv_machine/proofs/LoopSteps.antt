@@ -3,7 +3,7 @@ use Rattle.std.proofs.Common.{Bool, List, false, if◌then◌else◌, length, na
 use Rattle.std.proofs.lemmas.Bool.{false≢true}
 use Rattle.nv_machine.specs.Reads.{written_slots}
 use Rattle.nv_machine.specs.Sequence.{appending, closing, directories, locking, looking, opening, publishing, retiring, sequel}
-use Rattle.nv_machine.specs.World.{Append, ReturnNumber, Check, Close, Enter, Give, Leave, Lock, Look, Next, Number, Open, Publish, Ready, Retire, Running, Maintenance, TakeBlocks, TakeLogPages, Unlock, Visit}
+use Rattle.nv_machine.specs.World.{Append, ReturnNumber, Check, Close, Enter, Give, Leave, Lock, Look, Next, Number, Open, Publish, Ready, Retire, Running, SnapshotOrCleaner, TakeBlocks, TakeLogPages, Unlock, Visit}
 
 -- what holds of each step of a commit
 pub record Commits (P : Next → Type 0) : Type 0 where
@@ -58,7 +58,7 @@ goes_on Check = false
 goes_on (TakeBlocks asked) = false
 goes_on (TakeLogPages asked) = false
 goes_on Visit = false
-goes_on (Maintenance step) = false
+goes_on (SnapshotOrCleaner step) = false
 goes_on Leave = false
 goes_on (Unlock place) = false
 goes_on (Give cpu) = false
@@ -89,7 +89,7 @@ sequel_any P all other q on = absurd (false≢true on)
 -- ---- none is a step of a call on snapshots
 
 abbrev pub is_on_files : Next → Bool
-is_on_files (Maintenance step) = false
+is_on_files (SnapshotOrCleaner step) = false
 is_on_files other = true
 
 abbrev IsOnFiles : Next → Type 0

@@ -8,7 +8,7 @@ use Rattle.nv_machine.specs.Cleaning.{fresh_turn, with_fresh}
 use Rattle.nv_machine.specs.Exact.{HasFirst, HasGiven, Leaves, TakesData, TakesLogPages}
 use Rattle.nv_machine.specs.Kinds.{asked_list, less_list, refuse}
 use Rattle.nv_machine.specs.Step.{kind_turn}
-use Rattle.nv_machine.specs.World.{Ends, Fresh, HandState, Maintenance, Moves, Number, Refuses, Running, Shared, TakeBlocks, TakeLogPages, Turn, Waits, list_at, no_list}
+use Rattle.nv_machine.specs.World.{Ends, Fresh, HandState, SnapshotOrCleaner, Moves, Number, Refuses, Running, Shared, TakeBlocks, TakeLogPages, Turn, Waits, list_at, no_list}
 use Rattle.nv_machine.proofs.WorkKeeps.{AfterTurn, end_keeps, work_keeps}
 use Rattle.nv_machine.proofs.StepWork.{number_work}
 
@@ -65,7 +65,7 @@ fresh_leaves P (suc n) false ino asked s h r p =
 
 pub fresh_taken : (ino asked wanted block actor : ℕ) (granted : Bool) (s : Shared) (h : HandState) (r : Running)
     → 0 < length s.lists → Leaves (TakesLogPages s (asked_list (length s.lists) actor asked) h wanted)
-    (kind_turn (Maintenance (Fresh ino asked wanted)) block actor granted s h r)
+    (kind_turn (SnapshotOrCleaner (Fresh ino asked wanted)) block actor granted s h r)
 fresh_taken ino asked wanted block actor granted s h r some =
     let list = cpu asked actor s some in
     fresh_leaves (TakesLogPages s list h wanted) (wanted - length (list_at s list).blocks)

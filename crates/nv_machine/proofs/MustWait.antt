@@ -2,14 +2,14 @@
 use Rattle.std.proofs.Common.{Bool, Some, ap, length, nat_lt, refl, ℕ, ◌<◌, ◌∙◌, ◌≡◌, ◌↔◌}
 use Rattle.std.proofs.lemmas.Bool.{lt-ltb}
 use Rattle.nv_machine.specs.Locks.{AreLocks, WaitsFor, WaitsOn}
-use Rattle.nv_machine.specs.Maintenance.{maintenance_turn}
+use Rattle.nv_machine.specs.SnapshotOrCleaner.{snapshot_or_cleaner_turn}
 use Rattle.nv_machine.specs.Step.{Step, kind_turn, step, turned}
-use Rattle.nv_machine.specs.World.{Drop, Enter, Go, HandState, Lock, LockPicked, Look, Make, Next, Pick, Pin, Release, Running, Shared, Show, MaintenanceStep, Maintenance, Turn, Unpin, Visit, Waiting, Waits, World, actor_at, Compact, Fresh, Judge, LockCleaned, Unlink}
+use Rattle.nv_machine.specs.World.{Drop, Enter, Go, HandState, Lock, LockPicked, Look, Make, Next, Pick, Pin, Release, Running, Shared, Show, SnapshotOrCleanerStep, SnapshotOrCleaner, Turn, Unpin, Visit, Waiting, Waits, World, actor_at, Compact, Fresh, PlanCleaning, LockCleaned, Unlink}
 use Rattle.nv_machine.proofs.LocksOverEvents.{waits}
 use Rattle.nv_machine.proofs.SingleEvents.{go_is_turn}
 
 module _ (block a : ℕ) (granted : Bool) (s : Shared) (h : HandState) (r : Running) where
-  held_on : (step : MaintenanceStep) → WaitsOn s a step → maintenance_turn step a granted s h r ≡ Waits
+  held_on : (step : SnapshotOrCleanerStep) → WaitsOn s a step → snapshot_or_cleaner_turn step a granted s h r ≡ Waits
   held_on Make held = rw held.1 refl
   held_on (Drop snapshot) held = rw held.1 refl
   held_on (Pin snapshot) held = rw held.1 refl
@@ -19,7 +19,7 @@ module _ (block a : ℕ) (granted : Bool) (s : Shared) (h : HandState) (r : Runn
   held_on (LockPicked draining picked) held = rw held.1 refl
   held_on (Release draining picked) held = absurd held
   held_on (LockCleaned manner ino) held = rw held.1 refl
-  held_on (Judge manner slot) held = absurd held
+  held_on (PlanCleaning manner slot) held = absurd held
   held_on (Fresh ino asked wanted) held = absurd held
   held_on (Unlink ino) held = absurd held
   held_on (Compact ino) held = absurd held
@@ -30,7 +30,7 @@ module _ (block a : ℕ) (granted : Bool) (s : Shared) (h : HandState) (r : Runn
   must_wait (Lock place) held = rw held.1 refl
   must_wait Enter held = rw held.1 refl
   must_wait Visit held = rw held.1 refl
-  must_wait (Maintenance step) held = held_on step held
+  must_wait (SnapshotOrCleaner step) held = held_on step held
   must_wait other held = absurd held
 
 module _ (w : World) (actor : ℕ) (granted : Bool) (r : Running) (there : actor < length w.actors)

@@ -5,15 +5,15 @@ use Rattle.nv_base.specs.declared.fault.Fault.{Fault}
 use Rattle.nv_calls.specs.declared.answer.Answer.{Answer}
 use Rattle.nv_machine.specs.Kinds.{end_turn}
 use Rattle.nv_machine.specs.Sequence.{sequel}
-use Rattle.nv_machine.specs.Maintenance.{maintenance_turn}
+use Rattle.nv_machine.specs.SnapshotOrCleaner.{snapshot_or_cleaner_turn}
 use Rattle.nv_machine.specs.Step.{ending_at, kind_turn}
-use Rattle.nv_machine.specs.World.{ReturnNumber, Check, Draining, Ending, Enter, Give, HandState, Leave, Lock, Look, Next, Pick, Ready, Running, Shared, Show, Showing, MaintenanceStep, Maintenance, TakeBlocks, TakeLogPages, Turn, Unlock, Unpin, Visit, Judge, Fresh, Unlink, Compact, cell_at, go_to}
+use Rattle.nv_machine.specs.World.{ReturnNumber, Check, Draining, Ending, Enter, Give, HandState, Leave, Lock, Look, Next, Pick, Ready, Running, Shared, Show, Showing, SnapshotOrCleanerStep, SnapshotOrCleaner, TakeBlocks, TakeLogPages, Turn, Unlock, Unpin, Visit, PlanCleaning, Fresh, Unlink, Compact, cell_at, go_to}
 use Rattle.nv_machine.proofs.LoopSteps.{goes_on, is_on_files, sequel_on}
 use Rattle.nv_machine.proofs.StepWays.{After, Closes, EndsBy, Going, IsClear, IsClearOn, Takes, Telling, any_ends, end_goes, is_last, is_taker, is_taking, noted, by_last, by_taking}
 use Rattle.nv_machine.proofs.StepWalk.{WaysOf, Works, last_walk, walk, walk_of}
-use Rattle.nv_machine.proofs.MaintenanceWalk.{goes_next, next_on, maintenance_walk, LeadsTo, is_cleaning, leads, fresh_yet, step_walk_by, goes_plain}
+use Rattle.nv_machine.proofs.SnapshotOrCleanerWalk.{goes_next, next_on, snapshot_or_cleaner_walk, LeadsTo, is_cleaning, leads, fresh_yet, step_walk_by, goes_plain}
 use Rattle.nv_clean.specs.Plans.{wanted_of}
-use Rattle.nv_machine.proofs.StepWork.{maintenance_work}
+use Rattle.nv_machine.proofs.StepWork.{snapshot_or_cleaner_work}
 use Rattle.std.proofs.lemmas.Bool.{true≢false}
 
 pub last_on : (k : Next) → is_last k ≡ true → is_on_files k ≡ true
@@ -27,7 +27,7 @@ abbrev pub IsNext : (Next → Type 0) → Turn → Type 0
 IsNext P t = After (λ (s : Shared) (h : HandState) (q : Running). P q.next) (λ (x : Result Answer Fault) (s : Shared) (h : HandState). Unit {0}) t
 
 module _ (P : Next → Type 0) (last : (k : Next) → is_last k ≡ true → P k) (look : P (Look 0))
-    (picks : (draining : Draining) → P (Maintenance (Pick draining))) where
+    (picks : (draining : Draining) → P (SnapshotOrCleaner (Pick draining))) where
   closes_next : (s : Shared) (h : HandState) (r : Running) (e : Ending)
       → Closes (λ (s : Shared) (h : HandState) (q : Running). P q.next) (λ (x : Result Answer Fault) (s : Shared) (h : HandState). Unit {0}) s h r e
   closes_next s h r e = record { last = last; told = tt; again = λ n over some. look; picks = λ d left drains some. picks _ }
@@ -49,12 +49,12 @@ module _ (P : Next → Type 0) (last : (k : Next) → is_last k ≡ true → P k
   }) is
 
   -- and one of a call on snapshots
-  pub step_next : (step : MaintenanceStep) (a : ℕ) (granted : Bool) (s : Shared) (h : HandState) (r : Running)
-      → (goes_next step ≡ true → IsClearOn step s → P (Maintenance (next_on step s)))
-      → ((snapshot : ℕ) (showing : Showing) → step ≡ Show snapshot showing → P (Maintenance (Unpin snapshot [])))
-      → ((next : MaintenanceStep) → LeadsTo step next → P (Maintenance next))
-      → IsNext P (maintenance_turn step a granted s h r)
-  step_next step a granted s h r goes denied leads = maintenance_walk _ _ a s h r step granted (record {
+  pub step_next : (step : SnapshotOrCleanerStep) (a : ℕ) (granted : Bool) (s : Shared) (h : HandState) (r : Running)
+      → (goes_next step ≡ true → IsClearOn step s → P (SnapshotOrCleaner (next_on step s)))
+      → ((snapshot : ℕ) (showing : Showing) → step ≡ Show snapshot showing → P (SnapshotOrCleaner (Unpin snapshot [])))
+      → ((next : SnapshotOrCleanerStep) → LeadsTo step next → P (SnapshotOrCleaner next))
+      → IsNext P (snapshot_or_cleaner_turn step a granted s h r)
+  step_next step a granted s h r goes denied leads = snapshot_or_cleaner_walk _ _ a s h r step granted (record {
     stops = λ fault cause. any_ends (closes_next s h r _);
     goes = goes;
     told = λ on clear. tt;
@@ -65,7 +65,7 @@ module _ (P : Next → Type 0) (last : (k : Next) → is_last k ≡ true → P k
   })
 
 module _ (P : Next → Type 0) (files : (k : Next) → is_on_files k ≡ true → P k)
-    (picks : (draining : Draining) → P (Maintenance (Pick draining))) where
+    (picks : (draining : Draining) → P (SnapshotOrCleaner (Pick draining))) where
   pub files_next : (k : Next) (block a : ℕ) (granted : Bool) (s : Shared) (h : HandState) (r : Running) → is_on_files k ≡ true
       → IsNext P (kind_turn k block a granted s h r)
   files_next k block a granted s h r is =
@@ -73,16 +73,16 @@ module _ (P : Next → Type 0) (files : (k : Next) → is_on_files k ≡ true �
       (λ on. let q = noted k block s h r in files (sequel q k) (sequel_on k q on))
       (λ on next taking. files next (taking_on next taking)) is
 
-  pub snapshots_next : (step : MaintenanceStep) (a : ℕ) (granted : Bool) (s : Shared) (h : HandState) (r : Running)
-      → (goes_next step ≡ true → IsClearOn step s → P (Maintenance (next_on step s)))
-      → ((snapshot : ℕ) (showing : Showing) → step ≡ Show snapshot showing → P (Maintenance (Unpin snapshot [])))
-      → ((next : MaintenanceStep) → LeadsTo step next → P (Maintenance next))
-      → IsNext P (maintenance_turn step a granted s h r)
+  pub snapshots_next : (step : SnapshotOrCleanerStep) (a : ℕ) (granted : Bool) (s : Shared) (h : HandState) (r : Running)
+      → (goes_next step ≡ true → IsClearOn step s → P (SnapshotOrCleaner (next_on step s)))
+      → ((snapshot : ℕ) (showing : Showing) → step ≡ Show snapshot showing → P (SnapshotOrCleaner (Unpin snapshot [])))
+      → ((next : SnapshotOrCleanerStep) → LeadsTo step next → P (SnapshotOrCleaner next))
+      → IsNext P (snapshot_or_cleaner_turn step a granted s h r)
   snapshots_next step a granted s h r goes denied leads =
       step_next P (λ next last. files next (last_on next last)) (files (Look 0) refl) picks step a granted s h r goes denied leads
 
 -- ---- what a call knows before its next step, where of a look anew, of the last steps and of calls on snapshots that is
--- nothing: of a cleaner behind its judge it may be something
+-- nothing: of a cleaner behind its planning it may be something
 
 abbrev pub Known : Type 1
 Known = Next → Shared → HandState → Running → Type 0
@@ -101,8 +101,8 @@ pub record IsQuiet (X : Known) : Type 0 where
   pub give : (cpu : ℕ) (s : Shared) (h : HandState) (r : Running) → X (Give cpu) s h r
   pub back : (s : Shared) (h : HandState) (r : Running) → X ReturnNumber s h r
   pub look : (s : Shared) (h : HandState) (r : Running) → X (Look 0) s h r
-  pub steps : (step : MaintenanceStep) → is_cleaning step ≡ false
-      → (s : Shared) (h : HandState) (r : Running) → X (Maintenance step) s h r
+  pub steps : (step : SnapshotOrCleanerStep) → is_cleaning step ≡ false
+      → (s : Shared) (h : HandState) (r : Running) → X (SnapshotOrCleaner step) s h r
 
 -- what is left to say of each kind
 abbrev pub QuietWays : Known → Next → ℕ → ℕ → Shared → HandState → Running → Type 0
@@ -115,16 +115,16 @@ QuietWays X (Unlock place) block a s h r = Unit {0}
 QuietWays X (Give cpu) block a s h r = Unit {0}
 QuietWays X ReturnNumber block a s h r = Unit {0}
 QuietWays X Visit block a s h r = Unit {0}
-QuietWays X (Maintenance (Judge manner slot)) block a s h r =
-    (ino : ℕ) → X (Maintenance (Unlink ino)) s h (go_to (Maintenance (Unlink ino)) r)
-    × X (Maintenance (Fresh ino 0 (wanted_of (cell_at s ino)).pages)) s h
-    (go_to (Maintenance (Fresh ino 0 (wanted_of (cell_at s ino)).pages)) r)
-QuietWays X (Maintenance (Fresh ino asked wanted)) block a s h r =
-    let d = maintenance_work (Fresh ino asked wanted) a s h in
-    (fresh_yet asked wanted a s ≡ 0 → X (Maintenance (Compact ino)) d.shared d.hand (go_to (Maintenance (Compact ino)) r))
+QuietWays X (SnapshotOrCleaner (PlanCleaning manner slot)) block a s h r =
+    (ino : ℕ) → X (SnapshotOrCleaner (Unlink ino)) s h (go_to (SnapshotOrCleaner (Unlink ino)) r)
+    × X (SnapshotOrCleaner (Fresh ino 0 (wanted_of (cell_at s ino)).pages)) s h
+    (go_to (SnapshotOrCleaner (Fresh ino 0 (wanted_of (cell_at s ino)).pages)) r)
+QuietWays X (SnapshotOrCleaner (Fresh ino asked wanted)) block a s h r =
+    let d = snapshot_or_cleaner_work (Fresh ino asked wanted) a s h in
+    (fresh_yet asked wanted a s ≡ 0 → X (SnapshotOrCleaner (Compact ino)) d.shared d.hand (go_to (SnapshotOrCleaner (Compact ino)) r))
     × ((n : ℕ) → fresh_yet asked wanted a s ≡ suc n
-    → X (Maintenance (Fresh ino (asked + 1) (suc n))) d.shared d.hand (go_to (Maintenance (Fresh ino (asked + 1) (suc n))) r))
-QuietWays X (Maintenance step) block a s h r = Unit {0}
+    → X (SnapshotOrCleaner (Fresh ino (asked + 1) (suc n))) d.shared d.hand (go_to (SnapshotOrCleaner (Fresh ino (asked + 1) (suc n))) r))
+QuietWays X (SnapshotOrCleaner step) block a s h r = Unit {0}
 QuietWays X other block a s h r = Works (KnowsNext X) other block a s h r
 
 module _ (X : Known) (quiet : IsQuiet X) where
@@ -141,9 +141,9 @@ module _ (X : Known) (quiet : IsQuiet X) where
   quiet_ends = any_ends quiet_closes
 
   -- every step of a call on snapshots
-  other_step : (step : MaintenanceStep) (a : ℕ) (granted : Bool) (s : Shared) (h : HandState) (r : Running) → leads step ≡ false
-      → OnKnown X (maintenance_turn step a granted s h r)
-  other_step step a granted s h r apart = maintenance_walk (KnowsNext X) Untold a s h r step granted (record {
+  other_step : (step : SnapshotOrCleanerStep) (a : ℕ) (granted : Bool) (s : Shared) (h : HandState) (r : Running) → leads step ≡ false
+      → OnKnown X (snapshot_or_cleaner_turn step a granted s h r)
+  other_step step a granted s h r apart = snapshot_or_cleaner_walk (KnowsNext X) Untold a s h r step granted (record {
     stops = λ fault cause. any_ends (quiet_closes);
     goes = λ on clear. quiet.steps _ (goes_plain step s on) _ _ _;
     told = λ on clear. tt;
@@ -153,10 +153,10 @@ module _ (X : Known) (quiet : IsQuiet X) where
     none = λ draining on empty. tt;
   })
 
-  pub quiet_step : (step : MaintenanceStep) (block a : ℕ) (granted : Bool) (s : Shared) (h : HandState) (r : Running)
-      → QuietWays X (Maintenance step) block a s h r → OnKnown X (maintenance_turn step a granted s h r)
-  quiet_step (Judge manner slot) block a granted s h r w =
-      step_walk_by (Unit {0}) (KnowsNext X) Untold a s h r (Judge manner slot) granted (λ blocked. tt) (
+  pub quiet_step : (step : SnapshotOrCleanerStep) (block a : ℕ) (granted : Bool) (s : Shared) (h : HandState) (r : Running)
+      → QuietWays X (SnapshotOrCleaner step) block a s h r → OnKnown X (snapshot_or_cleaner_turn step a granted s h r)
+  quiet_step (PlanCleaning manner slot) block a granted s h r w =
+      step_walk_by (Unit {0}) (KnowsNext X) Untold a s h r (PlanCleaning manner slot) granted (λ blocked. tt) (
         λ none. quiet_ends,
         λ some lacks. quiet_ends,
         λ ino is some. record { fast = λ plain. (w ino).0; some = λ n plain more. (w ino).1; none = λ plain less. quiet_ends },
@@ -186,5 +186,5 @@ module _ (X : Known) (quiet : IsQuiet X) where
     go (Give cpu) w = last_walk (KnowsNext X) Untold block a s h r (Give cpu) granted refl quiet_closes
     go ReturnNumber w = last_walk (KnowsNext X) Untold block a s h r ReturnNumber granted refl quiet_closes
     go Visit w = walks Visit (λ fault free by. quiet_ends, λ free passed lacks. quiet_ends, λ free passed. tt) refl
-    go (Maintenance step) w = quiet_step step block a granted s h r w
+    go (SnapshotOrCleaner step) w = quiet_step step block a granted s h r w
     go other w = walks other w refl

@@ -8,7 +8,7 @@ use Rattle.nv_base.specs.declared.geometry.GeometryNumbers.{GeometryNumbers}
 use Rattle.nv_calls.specs.AllCalls.{looked}
 use Rattle.nv_calls.specs.declared.call.Call.{Call}
 use Rattle.nv_machine.specs.Bound.{AreNoStarts, IsNoStart}
-use Rattle.nv_machine.specs.EndsDecided.{is_maintenance}
+use Rattle.nv_machine.specs.EndsDecided.{is_snapshot_or_cleaner}
 use Rattle.nv_machine.specs.Hands.{makes_inode}
 use Rattle.nv_machine.specs.Numberless.{denied_of, finds_none, is_denied, met_none}
 use Rattle.nv_machine.specs.PlainRun.{actor_of}
@@ -16,7 +16,7 @@ use Rattle.nv_machine.specs.Reads.{copies, nodes}
 use Rattle.nv_machine.specs.Sequence.{Beginning, beginning, begun, directories, locking, nothing_looked}
 use Rattle.nv_machine.specs.Starts.{IsStart}
 use Rattle.nv_machine.specs.Step.{after, is_numbered, kind_turn, same_looked, step}
-use Rattle.nv_machine.specs.World.{Actor, Check, Ends, Event, Go, HandState, Lock, Look, Moves, Next, Number, BoundAnew, Running, Shared, MaintenanceStep, Maintenance, Start, Started, Turn, Waits, World, actor_at}
+use Rattle.nv_machine.specs.World.{Actor, Check, Ends, Event, Go, HandState, Lock, Look, Moves, Next, Number, BoundAnew, Running, Shared, SnapshotOrCleanerStep, SnapshotOrCleaner, Start, Started, Turn, Waits, World, actor_at}
 use Rattle.nv_machine.proofs.AloneRefusals.{nothing_to_look}
 use Rattle.nv_calls.proofs.CheckEnds.{looked_self}
 use Rattle.nv_machine.proofs.AloneLooks.{IsLate, OnLate, check_same, late_turn}
@@ -102,7 +102,7 @@ module _ (block actor : ℕ) (granted : Bool) (s : Shared) (h : HandState) (r : 
     denied : k ≡ Number → s.pool.numbers ≡ [] → b ≡ true
     nothing : r.looked ≡ nothing_looked
     over : r.ending ≡ BoundAnew → ⊥
-    files : (kind : MaintenanceStep) → k ≡ Maintenance kind → ⊥
+    files : (kind : SnapshotOrCleanerStep) → k ≡ SnapshotOrCleaner kind → ⊥
 
   no_looks : makes_inode (beginning r.call) ≡ true → beginning r.call ≡ sequence.Looks → ⊥
   no_looks makes looks = false≢true (sym (ap makes_inode looks) ∙ makes)
@@ -117,7 +117,7 @@ module _ (block actor : ℕ) (granted : Bool) (s : Shared) (h : HandState) (r : 
       let same = ap (same_looked (looked (copies s) r.call)) (given.nothing ∙ nothing_to_look r.call (nodes s) (no_looks given.makes))
       ∙ looked_self (looked (copies s) r.call) in
       on_met (met || b) _ (late_turn Check block actor granted s h r refl (λ at e. check_same _ _ _ _ _ same e) given.over)
-  kind_met (Maintenance kind) given had = absurd (given.files kind refl)
+  kind_met (SnapshotOrCleaner kind) given had = absurd (given.files kind refl)
   kind_met other given had = on_met (met || b) (kind_turn other block actor granted s h r) (late_turn other block actor granted s h r refl (λ at e. cc) given.over)
 
 -- ---- from event to event
@@ -139,8 +139,8 @@ module _ (g : GeometryNumbers) (start : World) (records : List Record) (is_start
   abbrev h : HandState
   h = (actor_at w actor).hand
 
-  plainly : (c : Call) → makes_inode (beginning c) ≡ true → is_maintenance c ≡ false
-  plainly (call.Maintenance what) makes = absurd (false≢true makes)
+  plainly : (c : Call) → makes_inode (beginning c) ≡ true → is_snapshot_or_cleaner c ≡ false
+  plainly (call.SnapshotOrCleaner what) makes = absurd (false≢true makes)
   plainly other makes = refl
 
   given_now : (r : Running) (granted b : Bool) → (actor_at w actor).running ≡ Some r → makes_inode (beginning r.call) ≡ true

@@ -15,9 +15,9 @@ use Rattle.nv_machine.specs.Order.{AreLogsOrdered, CommitsIn, entries_at, to_app
 use Rattle.nv_machine.specs.Reads.{is_written, pages_needed, slot_at, written_slots}
 use Rattle.nv_machine.specs.Sequence.{publishing, retiring}
 use Rattle.nv_machine.specs.Step.{kind_turn}
-use Rattle.nv_machine.specs.World.{Append, Close, Ends, Enter, HandState, Leave, Make, Moves, Next, Open, Publish, Retire, Running, Shared, MaintenanceStep, Maintenance, Turn, Waits, cell_at, go_to, no_cell, with_book, with_cell}
+use Rattle.nv_machine.specs.World.{Append, Close, Ends, Enter, HandState, Leave, Make, Moves, Next, Open, Publish, Retire, Running, Shared, SnapshotOrCleanerStep, SnapshotOrCleaner, Turn, Waits, cell_at, go_to, no_cell, with_book, with_cell}
 use Rattle.nv_machine.proofs.CellChanges.{cells_after, commit_stays, enters, epoch_stays, holder_stays, makes, removal, clean_cell, clean_slot, is_clean, is_cleaned}
-use Rattle.nv_machine.proofs.StepWork.{work, maintenance_work}
+use Rattle.nv_machine.proofs.StepWork.{work, snapshot_or_cleaner_work}
 use Rattle.nv_machine.proofs.WorkKeeps.{AfterTurn, snapshot_works, turn_keeps}
 use Rattle.nv_machine.proofs.Lists.{drop_apart, has_drop, rising_filter, self}
 use Rattle.nv_machine.proofs.StepWays.{IsClearOn}
@@ -174,12 +174,12 @@ from_left a s w (Moves t h q) out left on = (left.0, not_committing t a q on.1 l
 from_left a s w Waits out left on = tt
 from_left a s w (Ends result t h) out left on = left.0
 
-snapshot_order : (step : MaintenanceStep) (block a : ℕ) (s : Shared) (h : HandState) (r : Running) → Before a s (Maintenance step) r
+snapshot_order : (step : SnapshotOrCleanerStep) (block a : ℕ) (s : Shared) (h : HandState) (r : Running) → Before a s (SnapshotOrCleaner step) r
     → AreLogsOrdered s → IsClearOn step s
-    → let t = (maintenance_work step a s h).shared in OrderLeft a s t × (is_owner a t.holder ≡ false)
+    → let t = (snapshot_or_cleaner_work step a s h).shared in OrderLeft a s t × (is_owner a t.holder ≡ false)
 snapshot_order Make block a s h r b logs clear = (make_order a s _ clear.0 logs refl refl, b.mine.holder)
 snapshot_order other block a s h r b logs clear =
-    (kept_order (Maintenance other) block a s h r refl refl b (λ c. absurd (false≢true c)) logs, b.mine.holder)
+    (kept_order (SnapshotOrCleaner other) block a s h r refl refl b (λ c. absurd (false≢true c)) logs, b.mine.holder)
 
 -- ---- every kind
 
@@ -222,11 +222,11 @@ order_kept (Retire place) block a granted s h r b own logs = (
 order_kept Leave block a granted s h r b own logs =
     left_order a s (record s { holder = None }) _ _ (kept_order Leave block a s h r refl refl b own logs) refl
     (end_shared r.slots _ _ h r) (locks_kept Leave block a granted s h r b)
-order_kept (Maintenance step) block a granted s h r b own logs =
+order_kept (SnapshotOrCleaner step) block a granted s h r b own logs =
     from_left a s _ _ b.mine.holder
     (snapshot_works (λ t h. OrderLeft a s t × (is_owner a t.holder ≡ false)) step a granted s h r
     (stays_order a s logs, b.mine.holder) (snapshot_order step block a s h r b logs))
-    (locks_kept (Maintenance step) block a granted s h r b)
+    (locks_kept (SnapshotOrCleaner step) block a granted s h r b)
 order_kept other block a granted s h r b own logs =
     from_left a s _ _ b.mine.holder
     (turn_keeps (λ t h. OrderLeft a s t × (is_owner a t.holder ≡ false)) other block a granted s h r

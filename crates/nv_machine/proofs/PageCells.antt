@@ -19,7 +19,7 @@ use Rattle.nv_calls.proofs.Next.{Keeps}
 use Rattle.nv_machine.specs.Kinds.{with_entries, with_log_pages}
 use Rattle.nv_machine.specs.Cleaning.{unlinked, compacted_cell}
 use Rattle.nv_machine.specs.Pages.{AreOnPages, HasLogPages}
-use Rattle.nv_machine.specs.World.{Compact, HandState, Maintenance, Next, Running, Shared, Unlink, cell_at}
+use Rattle.nv_machine.specs.World.{Compact, HandState, SnapshotOrCleaner, Next, Running, Shared, Unlink, cell_at}
 use Rattle.nv_machine.proofs.CellChanges.{clean_cell, clean_slot, is_clean}
 use Rattle.nv_cell.specs.Readers.{is_erased}
 use Rattle.nv_machine.proofs.CleanSteps.{compact_chain, unlink_chain}
@@ -157,8 +157,8 @@ chain_on page chain same is = record {
 pub clean_on : (page : ℕ) (k : Next) (block : ℕ) (s : Shared) (h : HandState) (r : Running) → is_clean k ≡ true
     → AreOnPages page (cell_at s (clean_slot k)).chain → HasLogPages k block s h r → IsCell (cell_at s (clean_slot k))
     → AreOnPages page (clean_cell k s h).chain
-clean_on page (Maintenance (Unlink ino)) block s h r is on has_them cell =
+clean_on page (SnapshotOrCleaner (Unlink ino)) block s h r is on has_them cell =
     chain_on page (unlinked (cell_at s ino)).chain on.size (unlink_chain (cell_at s ino) cell)
-clean_on page (Maintenance (Compact ino)) block s h r is on has_them cell =
+clean_on page (SnapshotOrCleaner (Compact ino)) block s h r is on has_them cell =
     chain_on page (compacted_cell h (cell_at s ino)).chain on.size (compact_chain (cell_at s ino) cell h has_them)
 clean_on page other block s h r is on has_them cell = absurd (false≢true is)

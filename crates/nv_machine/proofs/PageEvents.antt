@@ -18,7 +18,7 @@ use Rattle.nv_machine.specs.Reads.{slots_of, written_slots}
 use Rattle.nv_machine.specs.Sequence.{Beginning, Locks, beginning, begun, nothing_looked, Maintains}
 use Rattle.nv_machine.specs.Starts.{IsStart}
 use Rattle.nv_machine.specs.Step.{step, turn, turned}
-use Rattle.nv_machine.specs.World.{Actor, Check, Ends, Event, HandState, Lock, Moves, Running, Shared, Turn, Waits, World, actor_at, owner_at, MaintenanceStep}
+use Rattle.nv_machine.specs.World.{Actor, Check, Ends, Event, HandState, Lock, Moves, Running, Shared, Turn, Waits, World, actor_at, owner_at, SnapshotOrCleanerStep}
 use Rattle.nv_machine.proofs.NewWorld.{new_cell}
 use Rattle.nv_machine.proofs.AppendsToCome.{appended_log}
 use Rattle.nv_machine.proofs.OverEvents.{event_by, event_numbers, set_begun, set_one, turn_at, with_call}
@@ -109,7 +109,7 @@ module _ (g : GeometryNumbers) (limits : IsWithinLimits g) (w : World) (known : 
     go true = tt
     go false = tt
   begun_pages (Maintains what) c h =
-      first_by (λ (step : MaintenanceStep). HasPagesOn step w.shared h) (length w.shared.cells) tt (λ snapshot. tt) (λ snapshot. tt)
+      first_by (λ (step : SnapshotOrCleanerStep). HasPagesOn step w.shared h) (length w.shared.cells) tt (λ snapshot. tt) (λ snapshot. tt)
       (λ count. tt) (λ manner ino inside. tt) (λ manner. tt) what
   begun_pages other c h = tt
 

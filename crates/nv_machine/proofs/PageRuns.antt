@@ -25,7 +25,7 @@ use Rattle.nv_machine.specs.Reads.{is_written, node_of, pages_needed, pages_want
 use Rattle.nv_machine.specs.Sequence.{appending, locking, looking}
 use Rattle.nv_machine.specs.Step.{kind_turn}
 use Rattle.nv_machine.specs.Wanted.{log_pages_wanted}
-use Rattle.nv_machine.specs.World.{Append, Check, Close, Enter, HandState, Lock, Look, Next, Number, Open, Publish, Ready, Retire, Running, Shared, TakeBlocks, TakeLogPages, cell_at, go_to, list_at, no_cell, owner_at, with_cell, Maintenance, Fresh, Compact, Judge}
+use Rattle.nv_machine.specs.World.{Append, Check, Close, Enter, HandState, Lock, Look, Next, Number, Open, Publish, Ready, Retire, Running, Shared, TakeBlocks, TakeLogPages, cell_at, go_to, list_at, no_cell, owner_at, with_cell, SnapshotOrCleaner, Fresh, Compact, PlanCleaning}
 use Rattle.nv_machine.proofs.FitsKinds.{logs_of}
 use Rattle.nv_machine.proofs.FitsOwn.{now, same_then}
 use Rattle.nv_machine.proofs.FitsStages.{FitsAt, IsLocked, IsPassed, Passed, SameFor, passed_still, plan_still, view}
@@ -141,11 +141,11 @@ module _ (g : GeometryNumbers) (a : ℕ) (granted : Bool) (s : Shared) (h : Hand
       looking_any (λ (k : Next). Pages g.block k s h (go_to (looking (place + 1) q) q)) (λ place. tt) (λ place. tt) tt (place + 1) q
   ways (Lock place) at b has_them =
       locking_any (λ (k : Next). Pages g.block k (work (Lock place) g.block a s h r).shared h (go_to (locking (place + 1) r.slots) r)) (λ place. tt) tt (place + 1) r.slots
-  ways (Maintenance (Judge manner slot)) at b has_them = λ ino. (
+  ways (SnapshotOrCleaner (PlanCleaning manner slot)) at b has_them = λ ino. (
     tt,
     (let none = ap (λ (x : HandState). length x.pages) at in omega (arith, none)),
   )
-  ways (Maintenance (Fresh ino asked wanted)) at b has_them =
+  ways (SnapshotOrCleaner (Fresh ino asked wanted)) at b has_them =
       let here = (list_at s (asked_list (length s.lists) a asked)).blocks in (
         λ q. omega (arith, has_them, q, length-append h.pages (take wanted here), length-take wanted here),
         λ n q. omega (arith, has_them, q, length-append h.pages (take wanted here), length-take wanted here),
@@ -240,8 +240,8 @@ their_pages Enter block b s t h r many own mine inside grown fits has_them = has
 their_pages (Append place) block b s t h r many own mine inside grown fits has_them =
     has_them ∙ sym (same_want s t r.plan (drop place (written_slots r)) (λ ino there.
     own refl ino (has_filter (is_written r.plan) r.slots ino (has_later place (written_slots r) ino there))))
-their_pages (Maintenance (Fresh ino asked wanted)) block b s t h r many own mine inside grown fits has_them =
+their_pages (SnapshotOrCleaner (Fresh ino asked wanted)) block b s t h r many own mine inside grown fits has_them =
     has_them ∙ ap (λ (c : CellState). (wanted_of c).pages) (sym (own refl ino (one_slot ino r.slots inside)))
-their_pages (Maintenance (Compact ino)) block b s t h r many own mine inside grown fits has_them =
+their_pages (SnapshotOrCleaner (Compact ino)) block b s t h r many own mine inside grown fits has_them =
     has_them ∙ ap (λ (c : CellState). (wanted_of c).pages) (sym (own refl ino (one_slot ino r.slots inside)))
 their_pages other block b s t h r many own mine inside grown fits has_them = has_them

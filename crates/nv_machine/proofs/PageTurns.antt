@@ -10,11 +10,11 @@ use Rattle.nv_log.specs.Chain.{pages_for}
 use Rattle.nv_machine.specs.Pages.{HasLogPages}
 use Rattle.nv_machine.specs.Reads.{is_written, pages_needed, pages_wanted, slot_at, written_slots}
 use Rattle.nv_machine.specs.Sequence.{appending, closing, opening, publishing, retiring}
-use Rattle.nv_machine.specs.World.{Append, Close, HandState, Leave, Next, Open, Publish, Retire, Running, Shared, Turn, cell_at, Fresh, Compact, Maintenance, MaintenanceStep}
+use Rattle.nv_machine.specs.World.{Append, Close, HandState, Leave, Next, Open, Publish, Retire, Running, Shared, Turn, cell_at, Fresh, Compact, SnapshotOrCleaner, SnapshotOrCleanerStep}
 use Rattle.nv_machine.proofs.Lists.{or_left, or_right, self}
 use Rattle.nv_machine.proofs.NextSteps.{IsQuiet, Known, OnKnown}
 use Rattle.nv_machine.proofs.LoopSteps.{by_test, either}
-use Rattle.nv_machine.proofs.MaintenanceWalk.{is_cleaning}
+use Rattle.nv_machine.proofs.SnapshotOrCleanerWalk.{is_cleaning}
 
 -- ---- how many pages are wanted
 
@@ -69,8 +69,8 @@ Pages block k s h r = HasLogPages k block s h r
 abbrev pub OnPages : ℕ → Turn → Type 0
 OnPages block t = OnKnown (Pages block) t
 
-none_wanted : (block : ℕ) (step : MaintenanceStep) → is_cleaning step ≡ false → (s : Shared) (h : HandState) (r : Running)
-    → Pages block (Maintenance step) s h r
+none_wanted : (block : ℕ) (step : SnapshotOrCleanerStep) → is_cleaning step ≡ false → (s : Shared) (h : HandState) (r : Running)
+    → Pages block (SnapshotOrCleaner step) s h r
 none_wanted block (Fresh ino asked wanted) plain s h r = absurd (true≢false plain)
 none_wanted block (Compact ino) plain s h r = absurd (true≢false plain)
 none_wanted block other plain s h r = tt

@@ -11,15 +11,15 @@ use Rattle.nv_reader.specs.Walk as walks
 use Rattle.nv_book.specs.declared.record.Record.{Record}
 use Rattle.nv_machine.specs.Reading.{ArePins, pins_at, pins_on}
 use Rattle.nv_machine.specs.Sequence.{sequel}
-use Rattle.nv_machine.specs.Maintenance.{copies_at, drop_tests, first_showing, seen_on, show_or_unpin, maintenance_turn, visited}
+use Rattle.nv_machine.specs.SnapshotOrCleaner.{copies_at, drop_tests, first_showing, seen_on, show_or_unpin, snapshot_or_cleaner_turn, visited}
 use Rattle.nv_machine.specs.Step.{kind_turn}
-use Rattle.nv_machine.specs.World.{Drop, Ending, HandState, LockPicked, Make, Next, Pick, Pin, Refuses, Running, Shared, Show, Showing, MaintenanceStep, Maintenance, Turn, Unpin, Compact, Fresh, Judge, LockCleaned, Release, Unlink}
+use Rattle.nv_machine.specs.World.{Drop, Ending, HandState, LockPicked, Make, Next, Pick, Pin, Refuses, Running, Shared, Show, Showing, SnapshotOrCleanerStep, SnapshotOrCleaner, Turn, Unpin, Compact, Fresh, PlanCleaning, LockCleaned, Release, Unlink}
 use Rattle.nv_machine.proofs.UnlentSteps.{files_leave}
-use Rattle.nv_machine.proofs.StepWork.{maintenance_work}
+use Rattle.nv_machine.proofs.StepWork.{snapshot_or_cleaner_work}
 use Rattle.nv_machine.proofs.LoopSteps.{is_on_files, sequel_on}
 use Rattle.nv_machine.proofs.StepWays.{After, Closes, IsClearOn, any_ends, is_last, is_taking, noted, by_last, by_taking}
 use Rattle.nv_machine.proofs.StepWalk.{walk}
-use Rattle.nv_machine.proofs.MaintenanceWalk.{goes_next, is_denied, next_on, picked_next, maintenance_walk, tells, EndsWith, LeadsTo, is_cleaning}
+use Rattle.nv_machine.proofs.SnapshotOrCleanerWalk.{goes_next, is_denied, next_on, picked_next, snapshot_or_cleaner_walk, tells, EndsWith, LeadsTo, is_cleaning}
 
 -- ---- pins and shows
 
@@ -52,7 +52,7 @@ plain_fits snapshot now living e = subst (λ (b : Bool). Fits snapshot false b l
 -- ---- a step of a call on files and directories is no show
 
 pub no_pin : (snapshot : ℕ) (k : Next) → is_on_files k ≡ true → pins_at snapshot k ≡ false
-no_pin snapshot (Maintenance step) is = absurd (false≢true is)
+no_pin snapshot (SnapshotOrCleaner step) is = absurd (false≢true is)
 no_pin snapshot other is = refl
 
 -- ---- the steps of calls on snapshots
@@ -169,9 +169,9 @@ module _ (snapshot : ℕ) where
   pinned_some living other (Some pins) now is some shown = pinned_fits living other pins now is shown
   pinned_some living other None now is some shown = cc
 
-  goes_on_pins : (step : MaintenanceStep) (a : ℕ) (s : Shared) (h : HandState) → goes_next step ≡ true → IsClearOn step s
+  goes_on_pins : (step : SnapshotOrCleanerStep) (a : ℕ) (s : Shared) (h : HandState) → goes_next step ≡ true → IsClearOn step s
       → Fits snapshot (pins_on snapshot step) (pins_on snapshot (next_on step s)) s.book.snaps
-      (maintenance_work step a s h).shared.book.snaps
+      (snapshot_or_cleaner_work step a s h).shared.book.snaps
   goes_on_pins (Pin other) a s h on clear =
       let first = first_showing s in
       pinned_some s.book.snaps other (pins_of s.book.snaps other) _ refl clear.1 (showing_pins other first.left first.visits first)
@@ -186,62 +186,62 @@ module _ (snapshot : ℕ) where
   goes_on_pins (LockCleaned manner ino) a s h on clear = same_fits snapshot false s.book.snaps
   goes_on_pins other a s h on clear = absurd (false≢true on)
 
-  told_pins : (step : MaintenanceStep) (a : ℕ) (s : Shared) (h : HandState) → tells step ≡ true → IsClearOn step s
-      → Fits snapshot (pins_on snapshot step) false s.book.snaps (maintenance_work step a s h).shared.book.snaps
+  told_pins : (step : SnapshotOrCleanerStep) (a : ℕ) (s : Shared) (h : HandState) → tells step ≡ true → IsClearOn step s
+      → Fits snapshot (pins_on snapshot step) false s.book.snaps (snapshot_or_cleaner_work step a s h).shared.book.snaps
   told_pins Make a s h on clear = made_fits s.book.snaps
   told_pins (Drop other) a s h on clear = dropped_fits s.book.snaps other clear.1
   told_pins (Unpin other seen) a s h on clear = unpinned_fits s.book.snaps other
   told_pins other a s h on clear = absurd (false≢true on)
 
-  stops_pins : (step : MaintenanceStep) (s : Shared) (h : HandState) (r : Running) (fault : Fault) → is_denied step ≡ true
+  stops_pins : (step : SnapshotOrCleanerStep) (s : Shared) (h : HandState) (r : Running) (fault : Fault) → is_denied step ≡ true
       → let b = pins_on snapshot step in Closes (P b s.book.snaps) (E b s.book.snaps) s h r (Refuses fault)
   stops_pins Make s h r fault on = closes s.book.snaps s h r _ refl
   stops_pins (Drop other) s h r fault on = closes s.book.snaps s h r _ refl
   stops_pins (Pin other) s h r fault on = closes s.book.snaps s h r _ refl
   stops_pins (Pick draining) s h r fault on = closes s.book.snaps s h r _ refl
-  stops_pins (Judge manner slot) s h r fault on = closes s.book.snaps s h r _ refl
+  stops_pins (PlanCleaning manner slot) s h r fault on = closes s.book.snaps s h r _ refl
   stops_pins other s h r fault on = absurd (false≢true on)
 
-  ends_pins : (step : MaintenanceStep) (a : ℕ) (s : Shared) (h : HandState) (r : Running) (e : Ending) → EndsWith step a s h e
-      → let b = pins_on snapshot step in let d = maintenance_work step a s h in
+  ends_pins : (step : SnapshotOrCleanerStep) (a : ℕ) (s : Shared) (h : HandState) (r : Running) (e : Ending) → EndsWith step a s h e
+      → let b = pins_on snapshot step in let d = snapshot_or_cleaner_work step a s h in
       Closes (P b s.book.snaps) (E b s.book.snaps) d.shared d.hand r e
   ends_pins (Release draining picked) a s h r e is = closes s.book.snaps _ _ r _ refl
-  ends_pins (Judge manner slot) a s h r e is = closes s.book.snaps _ _ r _ refl
+  ends_pins (PlanCleaning manner slot) a s h r e is = closes s.book.snaps _ _ r _ refl
   ends_pins (Fresh ino asked wanted) a s h r e is = closes s.book.snaps _ _ r _ refl
   ends_pins (Unlink ino) a s h r e is = closes s.book.snaps _ _ r _ refl
   ends_pins (Compact ino) a s h r e is = closes s.book.snaps _ _ r _ refl
   ends_pins other a s h r e is = absurd is
 
-  cleaning_pins : (next : MaintenanceStep) → is_cleaning next ≡ true → pins_on snapshot next ≡ false
+  cleaning_pins : (next : SnapshotOrCleanerStep) → is_cleaning next ≡ true → pins_on snapshot next ≡ false
   cleaning_pins (Fresh ino asked wanted) is = refl
   cleaning_pins (Unlink ino) is = refl
   cleaning_pins (Compact ino) is = refl
   cleaning_pins other is = absurd (false≢true is)
 
-  leads_pins : (step : MaintenanceStep) (a : ℕ) (s : Shared) (h : HandState) (next : MaintenanceStep) → LeadsTo step next
-      → Fits snapshot (pins_on snapshot step) (pins_on snapshot next) s.book.snaps (maintenance_work step a s h).shared.book.snaps
-  leads_pins (Judge manner slot) a s h next leads = plain_fits snapshot _ s.book.snaps (cleaning_pins next leads.to)
+  leads_pins : (step : SnapshotOrCleanerStep) (a : ℕ) (s : Shared) (h : HandState) (next : SnapshotOrCleanerStep) → LeadsTo step next
+      → Fits snapshot (pins_on snapshot step) (pins_on snapshot next) s.book.snaps (snapshot_or_cleaner_work step a s h).shared.book.snaps
+  leads_pins (PlanCleaning manner slot) a s h next leads = plain_fits snapshot _ s.book.snaps (cleaning_pins next leads.to)
   leads_pins (Fresh ino asked wanted) a s h next leads = plain_fits snapshot _ s.book.snaps (cleaning_pins next leads.to)
   leads_pins other a s h next leads = absurd (false≢true leads.from)
 
-  on_pins : (step : MaintenanceStep) (a : ℕ) (granted : Bool) (s : Shared) (h : HandState) (r : Running)
-      → let b = pins_on snapshot step in After (P b s.book.snaps) (E b s.book.snaps) (maintenance_turn step a granted s h r)
-  on_pins step a granted s h r = maintenance_walk _ _ a s h r step granted (record {
+  on_pins : (step : SnapshotOrCleanerStep) (a : ℕ) (granted : Bool) (s : Shared) (h : HandState) (r : Running)
+      → let b = pins_on snapshot step in After (P b s.book.snaps) (E b s.book.snaps) (snapshot_or_cleaner_turn step a granted s h r)
+  on_pins step a granted s h r = snapshot_or_cleaner_walk _ _ a s h r step granted (record {
     stops = λ fault cause. any_ends (stops_pins step s h r fault cause.0);
     goes = goes_on_pins step a s h;
     told = told_pins step a s h;
     denied = λ other showing on.
-        subst (λ (x : MaintenanceStep). Fits snapshot (pins_on snapshot x) (other == snapshot) s.book.snaps s.book.snaps)
+        subst (λ (x : SnapshotOrCleanerStep). Fits snapshot (pins_on snapshot x) (other == snapshot) s.book.snaps s.book.snaps)
         (sym on.0) (same_fits snapshot (other == snapshot) s.book.snaps);
     leads_on = leads_pins step a s h;
     over = λ e ends. any_ends (ends_pins step a s h r e ends);
-    none = λ draining on empty. subst (λ (x : MaintenanceStep). Fits snapshot (pins_on snapshot x) false s.book.snaps s.book.snaps)
+    none = λ draining on empty. subst (λ (x : SnapshotOrCleanerStep). Fits snapshot (pins_on snapshot x) false s.book.snaps s.book.snaps)
         (sym on) (same_fits snapshot false s.book.snaps);
   })
 
   pub kind_pins : (k : Next) (block a : ℕ) (granted : Bool) (s : Shared) (h : HandState) (r : Running)
       → OnPins snapshot (pins_at snapshot k) s.book.snaps (kind_turn k block a granted s h r)
-  kind_pins (Maintenance step) block a granted s h r = on_pins step a granted s h r
+  kind_pins (SnapshotOrCleaner step) block a granted s h r = on_pins step a granted s h r
   kind_pins other block a granted s h r =
       let stays = (files_leave other block a s h r refl).snaps in
       walk _ _ block a s h r other granted (record {

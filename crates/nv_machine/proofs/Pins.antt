@@ -5,14 +5,14 @@ use Rattle.std.proofs.lemmas.List.Sums.{sum_by-cons, sum_by-set}
 use Rattle.std.specs.Prelude.{count_by, slice_index_or}
 use Rattle.nv_base.specs.declared.geometry.GeometryNumbers.{GeometryNumbers}
 use Rattle.nv_calls.specs.declared.call.Call.{Call}
-use Rattle.nv_calls.specs.declared.maintenance_call.MaintenanceCall.{MaintenanceCall}
+use Rattle.nv_calls.specs.declared.snapshot_or_cleaner_call.SnapshotOrCleanerCall.{SnapshotOrCleanerCall}
 use Rattle.nv_calls.specs.declared.call.Call.TheVariants as call
 use Rattle.nv_epoch.specs.SnapList.{pins_of}
 use Rattle.nv_machine.specs.Reading.{ArePins, pins_at, pins_by_call, pins_on, shows_of}
 use Rattle.nv_machine.specs.Sequence.{beginning, begun, first_step}
 use Rattle.nv_machine.specs.Starts.{IsStart}
 use Rattle.nv_machine.specs.Step.{after, step, turned}
-use Rattle.nv_machine.specs.World.{Actor, Ends, Event, Moves, Running, Shared, Turn, Waits, World, actor_at, idle, MaintenanceStep}
+use Rattle.nv_machine.specs.World.{Actor, Ends, Event, Moves, Running, Shared, Turn, Waits, World, actor_at, idle, SnapshotOrCleanerStep}
 use Rattle.nv_machine.proofs.OverEvents.{begun_at, begun_in, event_by, events_by, turn_at, with_call}
 use Rattle.nv_machine.proofs.PinSteps.{OnPins, kind_pins, no_pin, one_if, same_fits}
 use Rattle.nv_machine.proofs.LoopSteps.{locking_on}
@@ -49,15 +49,15 @@ module _ (snapshot : ℕ) where
       ∙ shows_change w actor (with_call h None) s there) are
 
   -- a call that starts is no show yet
-  first_none : (slots : ℕ) (c : MaintenanceCall) → pins_on snapshot (first_step slots c) ≡ false
-  first_none slots = first_by (λ (step : MaintenanceStep). pins_on snapshot step ≡ false) slots refl (λ other. refl) (λ other. refl)
+  first_none : (slots : ℕ) (c : SnapshotOrCleanerCall) → pins_on snapshot (first_step slots c) ≡ false
+  first_none slots = first_by (λ (step : SnapshotOrCleanerStep). pins_on snapshot step ≡ false) slots refl (λ other. refl) (λ other. refl)
       (λ count. refl) (λ manner ino inside. refl) (λ manner. refl)
 
   pub begun_none : (c : Call) (s : Shared) → pins_at snapshot (begun (beginning c) s c).next ≡ false
   begun_none (call.Write file offset text) s = no_pin snapshot _ (locking_on 0 _)
   begun_none (call.Size file size) s = no_pin snapshot _ (locking_on 0 _)
   begun_none (call.Mode handle mode) s = no_pin snapshot _ (locking_on 0 _)
-  begun_none (call.Maintenance c) s = first_none (length s.cells) c
+  begun_none (call.SnapshotOrCleaner c) s = first_none (length s.cells) c
   begun_none other s = refl
 
   event_pinned : (w : World) (e : Event) → Pinned w → Pinned (step w e).world

@@ -17,7 +17,7 @@ use Rattle.nv_machine.specs.Locks.{AreLocks, HoldsIts, held_at}
 use Rattle.nv_machine.specs.Reads.{if_number, is_written, slots_in, slots_of, written_slots}
 use Rattle.nv_machine.specs.Sequence.{Beginning, Looks, Locks, Numbers, Visits, beginning, begun, nothing_looked, started, Maintains}
 use Rattle.nv_machine.specs.Step.{kind_turn, step, turned}
-use Rattle.nv_machine.specs.World.{Actor, Append, ReturnNumber, Check, Close, Ends, Enter, Event, HandState, Lock, Moves, Next, Number, Open, Publish, Ready, Retire, Running, Shared, TakeBlocks, TakeLogPages, Turn, Waits, World, actor_at, cell_at, idle, owner_at, Make, Maintenance}
+use Rattle.nv_machine.specs.World.{Actor, Append, ReturnNumber, Check, Close, Ends, Enter, Event, HandState, Lock, Moves, Next, Number, Open, Publish, Ready, Retire, Running, Shared, TakeBlocks, TakeLogPages, Turn, Waits, World, actor_at, cell_at, idle, owner_at, Make, SnapshotOrCleaner}
 use Rattle.nv_machine.proofs.Occurrences.{set_times}
 use Rattle.nv_machine.proofs.OverEvents.{begun_at, begun_in, event_by, set_one, turn_at}
 use Rattle.nv_machine.proofs.StepFrames.{framed}
@@ -164,7 +164,7 @@ back_rising (Some ino) s h none rising = rising_put ino s.pool.numbers (none ino
 work_rising : (g : GeometryNumbers) (k : Next) (block a : ℕ) (s : Shared) (h : HandState) (r : Running) → Standing g k a s h r
     → IsRising s.pool.numbers → IsRising (work k block a s h r).shared.pool.numbers
 work_rising g Number block a s h r st rising = number_rising s.pool.numbers s h refl rising
-work_rising g (Maintenance Make) block a s h r st rising = rising
+work_rising g (SnapshotOrCleaner Make) block a s h r st rising = rising
 work_rising g ReturnNumber block a s h r st rising = back_rising h.ino s h (λ n is.
     let few = subst (λ (o : Option ℕ). tally n s (loose ReturnNumber (written_slots r) o) ≤ 1) is (st.few n) in
     let one = times-yes n n [] (self n) in

@@ -9,7 +9,7 @@ use Rattle.nv_base.specs.declared.geometry.GeometryNumbers.{GeometryNumbers}
 use Rattle.nv_cell.specs.Cell.{published}
 use Rattle.nv_machine.specs.Reads.{if_number, is_written, slot_at, written_slots}
 use Rattle.nv_machine.specs.Step.{kind_turn}
-use Rattle.nv_machine.specs.World.{Append, Check, Close, Ends, Enter, HandState, Lock, Look, Moves, Next, Number, Open, Publish, Ready, Retire, Running, Shared, TakeBlocks, TakeLogPages, Turn, Waits, cell_at, with_cell, MaintenanceStep, Maintenance, Fresh, Judge}
+use Rattle.nv_machine.specs.World.{Append, Check, Close, Ends, Enter, HandState, Lock, Look, Moves, Next, Number, Open, Publish, Ready, Retire, Running, Shared, TakeBlocks, TakeLogPages, Turn, Waits, cell_at, with_cell, SnapshotOrCleanerStep, SnapshotOrCleaner, Fresh, PlanCleaning}
 use Rattle.nv_machine.proofs.StepWork.{work}
 use Rattle.nv_machine.proofs.WorkKeeps.{AfterTurn, turn_keeps}
 use Rattle.nv_machine.proofs.Lists.{has_filter, has_take, rising_filter, self, take_apart}
@@ -54,8 +54,8 @@ module _ (g : GeometryNumbers) (block a : ℕ) (granted : Bool) (s : Shared) (h 
   ways (Publish place) st =
       publishing_seen _ (work (Publish place) block a s h r).hand r (place + 1) (publish_plan g block a s h r place st)
       (λ past single. publish_retiring g block a s h r place st single) (omega arith)
-  ways (Maintenance (Judge manner slot)) st = λ ino. ((tt, λ n. refl), (tt, λ n. refl))
-  ways (Maintenance (Fresh ino asked wanted)) st = (λ q. (tt, λ n. refl), λ n q. (tt, λ n. refl))
+  ways (SnapshotOrCleaner (PlanCleaning manner slot)) st = λ ino. ((tt, λ n. refl), (tt, λ n. refl))
+  ways (SnapshotOrCleaner (Fresh ino asked wanted)) st = (λ q. (tt, λ n. refl), λ n q. (tt, λ n. refl))
   ways other st = tt
 
   pub turn_seen : (k : Next) → Standing g k a s h r → OnSeen (begun_by k (written_slots r)) (kind_turn k block a granted s h r)
@@ -218,16 +218,16 @@ close_tally g block a s h r st n = ap (tally n s) (go h.ino refl) where
 
 -- ---- every kind
 
-can_tally : (g : GeometryNumbers) (step : MaintenanceStep) (a : ℕ) (s : Shared) (h : HandState) (r : Running)
-    → Standing g (Maintenance step) a s h r
+can_tally : (g : GeometryNumbers) (step : SnapshotOrCleanerStep) (a : ℕ) (s : Shared) (h : HandState) (r : Running)
+    → Standing g (SnapshotOrCleaner step) a s h r
     → (is_clean_on step ≡ true → IsLike (cell_at s (clean_slot_on step)) (clean_cell_on step s h))
-    → CanTally (Maintenance step) s h r
+    → CanTally (SnapshotOrCleaner step) s h r
 can_tally g step a s h r st like = (
   λ is. (inside (removal_on step s h).slot (lent_removal k (length s.lists) a s h r is), λ q. ap (λ (x : HandState). x.ino) (alone_on step h st.hand)),
   λ is. (inside (clean_slot_on step) (lent_clean k (length s.lists) a r is), like is),
 ) where
   k : Next
-  k = Maintenance step
+  k = SnapshotOrCleaner step
 
   inside : (ino : ℕ) → (lent k (length s.lists) a r).cell ≡ Some ino → ino < length s.cells
   inside ino is = (lent_inside_own k a s r st.before ino is).0
@@ -247,7 +247,7 @@ turn_tally g Close n block a granted s h r st like = close_tally g block a s h r
 turn_tally g (Retire place) n block a granted s h r st like = quiet_tally g (Retire place) n block a granted s h r
     (retire_inside g block a s h r place st, erased_number g block a s h r place st) (λ m. refl)
     (turn_seen g block a granted s h r (Retire place) st)
-turn_tally g (Maintenance step) n block a granted s h r st like = quiet_tally g (Maintenance step) n block a granted s h r
-    (can_tally g step a s h r st like) (λ m. refl) (turn_seen g block a granted s h r (Maintenance step) st)
+turn_tally g (SnapshotOrCleaner step) n block a granted s h r st like = quiet_tally g (SnapshotOrCleaner step) n block a granted s h r
+    (can_tally g step a s h r st like) (λ m. refl) (turn_seen g block a granted s h r (SnapshotOrCleaner step) st)
 turn_tally g other n block a granted s h r st like = quiet_tally g other n block a granted s h r tt (λ m. refl)
     (turn_seen g block a granted s h r other st)

@@ -11,8 +11,8 @@ use Rattle.nv_cell.specs.Cell.{CellState, empty_cell}
 use Rattle.nv_machine.specs.Kinds.{entries_for, with_erased}
 use Rattle.nv_machine.specs.Cleaning.{compacted_cell, unlinked}
 use Rattle.nv_machine.specs.Reads.{if_number, pages_needed, slot_at, written_slots}
-use Rattle.nv_machine.specs.World.{Actor, Append, ReturnNumber, Close, HandState, Next, Number, Publish, Retire, Running, Shared, cell_at, with_cell, Maintenance, MaintenanceStep, Compact, Unlink}
-use Rattle.nv_machine.proofs.StepWork.{return_number_work, maintenance_work, work, number_work}
+use Rattle.nv_machine.specs.World.{Actor, Append, ReturnNumber, Close, HandState, Next, Number, Publish, Retire, Running, Shared, cell_at, with_cell, SnapshotOrCleaner, SnapshotOrCleanerStep, Compact, Unlink}
+use Rattle.nv_machine.proofs.StepWork.{return_number_work, snapshot_or_cleaner_work, work, number_work}
 use Rattle.nv_machine.proofs.Lists.{self}
 use Rattle.nv_machine.proofs.LogsKept.{cell_set}
 use Rattle.nv_machine.proofs.PoolCells.{IsLike, appended_like, erased_gone, gone_inode, like_taken, one_if, keeps_like, taken_once, with_inode}
@@ -159,15 +159,15 @@ CanTally (Append place) s h r = (slot_at (written_slots r) place < length s.cell
 CanTally (Publish place) s h r = ⊥
 CanTally Close s h r = ⊥
 CanTally (Retire place) s h r = CanErase (removal (Retire place) s h r) s h
-CanTally (Maintenance step) s h r =
+CanTally (SnapshotOrCleaner step) s h r =
     (is_removal_on step ≡ true → CanErase (removal_on step s h) s h)
     × (is_clean_on step ≡ true
     → (clean_slot_on step < length s.cells) × IsLike (cell_at s (clean_slot_on step)) (clean_cell_on step s h))
 CanTally other s h r = Unit {0}
 
-cleaned_tally : (step : MaintenanceStep) (n a : ℕ) (s : Shared) (h : HandState) → is_clean_on step ≡ true
+cleaned_tally : (step : SnapshotOrCleanerStep) (n a : ℕ) (s : Shared) (h : HandState) → is_clean_on step ≡ true
     → clean_slot_on step < length s.cells → IsLike (cell_at s (clean_slot_on step)) (clean_cell_on step s h)
-    → tally n (maintenance_work step a s h).shared (if_number (maintenance_work step a s h).hand.ino) ≡ tally n s (if_number h.ino)
+    → tally n (snapshot_or_cleaner_work step a s h).shared (if_number (snapshot_or_cleaner_work step a s h).hand.ino) ≡ tally n s (if_number h.ino)
 cleaned_tally (Unlink ino) n a s h is low like = let e = set_taken s ino (unlinked (cell_at s ino)) n low like in omega (arith, e)
 cleaned_tally (Compact ino) n a s h is low like =
     let e = set_taken s ino (compacted_cell h (cell_at s ino)) n low like in omega (arith, e)
@@ -186,9 +186,9 @@ work_tally Close n block actor s h r can = absurd can
 work_tally (Retire place) n block actor s h r can =
     removal_tally n (removal (Retire place) s h r) s h (is_removed (Retire place) s h r refl) can.0 can.1
 work_tally ReturnNumber n block actor s h r can = back_tally n h.ino s h refl
-work_tally (Maintenance step) n block actor s h r can =
+work_tally (SnapshotOrCleaner step) n block actor s h r can =
     on_step (λ (t : Shared) (g : HandState). tally n t (if_number g.ino) ≡ tally n s (if_number h.ino)) step actor s h
-    (λ is. let ok = can.0 is in removal_tally n (removal_on step s h) s h (is_removed (Maintenance step) s h r is) ok.0 ok.1)
+    (λ is. let ok = can.0 is in removal_tally n (removal_on step s h) s h (is_removed (SnapshotOrCleaner step) s h r is) ok.0 ok.1)
     (λ ino asked wanted is. refl)
     (λ is. let ok = can.1 is in cleaned_tally step n actor s h is ok.0 ok.1)
     (λ book owners. refl)

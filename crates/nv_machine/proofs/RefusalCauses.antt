@@ -16,12 +16,12 @@ use Rattle.nv_machine.specs.Causes.{EndsFor, FindsNone, IsCause, IsCauseOn, IsRe
 use Rattle.nv_machine.specs.Kinds.{asked_list, check_ending, look_tests, number_turn}
 use Rattle.nv_machine.specs.Reads.{copies}
 use Rattle.nv_machine.specs.Sequence.{beginning, directories, sequel}
-use Rattle.nv_machine.specs.Maintenance.{shown_by, maintenance_turn}
+use Rattle.nv_machine.specs.SnapshotOrCleaner.{shown_by, snapshot_or_cleaner_turn}
 use Rattle.nv_machine.specs.Step.{check_grows, ending_at, handle_at, is_numbered, kind_turn, made_in, same_looked, visit_grows, with_made}
-use Rattle.nv_machine.specs.World.{Answers, ReturnNumber, Check, Draining, Drains, Ending, Enter, Give, HandState, Leave, Lock, Look, Make, Moves, Next, BoundAnew, Ready, Refuses, Running, Shared, MaintenanceStep, Maintenance, TakeBlocks, TakeLogPages, Turn, Unlock, Unpin, Visit, list_at, owner_at, Cleans, Compact, Fresh, Judge, Release, Unlink}
+use Rattle.nv_machine.specs.World.{Answers, ReturnNumber, Check, Draining, Drains, Ending, Enter, Give, HandState, Leave, Lock, Look, Make, Moves, Next, BoundAnew, Ready, Refuses, Running, Shared, SnapshotOrCleanerStep, SnapshotOrCleaner, TakeBlocks, TakeLogPages, Turn, Unlock, Unpin, Visit, list_at, owner_at, Cleans, Compact, Fresh, PlanCleaning, Release, Unlink}
 use Rattle.nv_machine.proofs.StepWays.{After, Closes, EndsBy, Going, IsClear, Takes, Telling, any_ends, any_lasts, any_rests, asks_on, by_last, is_last, is_overtaken, noted, noted_ending}
 use Rattle.nv_machine.proofs.StepWalk.{WaysOf, last_ways, walk_of}
-use Rattle.nv_machine.proofs.MaintenanceWalk.{next_on, no_growth, maintenance_walk, told_on, EndsWith}
+use Rattle.nv_machine.proofs.SnapshotOrCleanerWalk.{next_on, no_growth, snapshot_or_cleaner_walk, told_on, EndsWith}
 use Rattle.nv_clean.specs.declared.cleaned.Cleaned.{Cleaned}
 
 -- ---- a call that goes on or is answered
@@ -210,44 +210,44 @@ module _ (nodes : Handle → Option NodeCopy) (block a : ℕ) (granted : Bool) (
         denied Visit out_of_memory (inr ((refl, none.0), none.1, reads free ∙ passed))),
     λ free passed. tt,
   )
-  ways (Maintenance step) reads = tt
+  ways (SnapshotOrCleaner step) reads = tt
   ways other reads = works other
 
-  ends_for : (step : MaintenanceStep) (e : Ending) → EndsWith step a s h e → {t : Shared} {x : HandState}
-      → Closes (Goes (Maintenance step)) (Tells (Maintenance step)) t x r e
+  ends_for : (step : SnapshotOrCleanerStep) (e : Ending) → EndsWith step a s h e → {t : Shared} {x : HandState}
+      → Closes (Goes (SnapshotOrCleaner step)) (Tells (SnapshotOrCleaner step)) t x r e
   ends_for (Release draining picked) e is =
-      subst (Closes _ _ _ _ r) (sym is) (drains (For (Maintenance (Release draining picked))) _ _)
-  ends_for (Judge manner slot) e is = subst (Closes _ _ _ _ r) (sym is.0) (cleans (For (Maintenance (Judge manner slot))) _ _)
+      subst (Closes _ _ _ _ r) (sym is) (drains (For (SnapshotOrCleaner (Release draining picked))) _ _)
+  ends_for (PlanCleaning manner slot) e is = subst (Closes _ _ _ _ r) (sym is.0) (cleans (For (SnapshotOrCleaner (PlanCleaning manner slot))) _ _)
   ends_for (Fresh ino asked wanted) e is =
-      subst (Closes _ _ _ _ r) (sym is.0) (refuses (For (Maintenance (Fresh ino asked wanted))) _ NoSpace is.1)
-  ends_for (Unlink ino) e is = subst (Closes _ _ _ _ r) (sym is) (cleans (For (Maintenance (Unlink ino))) _ _)
-  ends_for (Compact ino) e is = subst (Closes _ _ _ _ r) (sym is) (cleans (For (Maintenance (Compact ino))) _ _)
+      subst (Closes _ _ _ _ r) (sym is.0) (refuses (For (SnapshotOrCleaner (Fresh ino asked wanted))) _ NoSpace is.1)
+  ends_for (Unlink ino) e is = subst (Closes _ _ _ _ r) (sym is) (cleans (For (SnapshotOrCleaner (Unlink ino))) _ _)
+  ends_for (Compact ino) e is = subst (Closes _ _ _ _ r) (sym is) (cleans (For (SnapshotOrCleaner (Compact ino))) _ _)
   ends_for other e is = absurd is
 
-  snapshot_caused : (step : MaintenanceStep)
-      → RefusesFor (For (Maintenance step)) (MayBeOvertaken (Maintenance step) nodes r) (maintenance_turn step a granted s h r)
+  snapshot_caused : (step : SnapshotOrCleanerStep)
+      → RefusesFor (For (SnapshotOrCleaner step)) (MayBeOvertaken (SnapshotOrCleaner step) nodes r) (snapshot_or_cleaner_turn step a granted s h r)
   snapshot_caused step =
-      on_turn (For (Maintenance step)) (MayBeOvertaken (Maintenance step) nodes r) (maintenance_turn step a granted s h r)
-      (maintenance_walk (Goes (Maintenance step)) (Tells (Maintenance step)) a s h r step granted (record {
-        stops = λ fault cause. any_ends (refuses (For (Maintenance step)) (MayBeOvertaken (Maintenance step) nodes r) fault cause.1);
-        goes = λ on clear. unrefused (For (Maintenance step)) (MayBeOvertaken (Maintenance step) nodes r)
-            (Maintenance (next_on step s)) r.ending going;
+      on_turn (For (SnapshotOrCleaner step)) (MayBeOvertaken (SnapshotOrCleaner step) nodes r) (snapshot_or_cleaner_turn step a granted s h r)
+      (snapshot_or_cleaner_walk (Goes (SnapshotOrCleaner step)) (Tells (SnapshotOrCleaner step)) a s h r step granted (record {
+        stops = λ fault cause. any_ends (refuses (For (SnapshotOrCleaner step)) (MayBeOvertaken (SnapshotOrCleaner step) nodes r) fault cause.1);
+        goes = λ on clear. unrefused (For (SnapshotOrCleaner step)) (MayBeOvertaken (SnapshotOrCleaner step) nodes r)
+            (SnapshotOrCleaner (next_on step s)) r.ending going;
         told = λ on clear. told step;
         denied = λ snapshot showing on.
-            (subst (λ (x : MaintenanceStep). IsCauseOn x a granted s out_of_memory) (sym on.0) (refl, on.1), tt);
-        leads_on = λ next leads. unrefused (For (Maintenance step)) (MayBeOvertaken (Maintenance step) nodes r)
-            (Maintenance next) r.ending going;
+            (subst (λ (x : SnapshotOrCleanerStep). IsCauseOn x a granted s out_of_memory) (sym on.0) (refl, on.1), tt);
+        leads_on = λ next leads. unrefused (For (SnapshotOrCleaner step)) (MayBeOvertaken (SnapshotOrCleaner step) nodes r)
+            (SnapshotOrCleaner next) r.ending going;
         over = λ e ends. any_ends (ends_for step e ends);
         none = λ draining on empty. tt;
       })) where
-        told : (other : MaintenanceStep) → ResultFor (For (Maintenance step)) (told_on other s r)
-        told (Unpin snapshot seen) = subst (λ (e : Ending). ResultFor (For (Maintenance step)) (shown_by e seen)) (sym going) tt
+        told : (other : SnapshotOrCleanerStep) → ResultFor (For (SnapshotOrCleaner step)) (told_on other s r)
+        told (Unpin snapshot seen) = subst (λ (e : Ending). ResultFor (For (SnapshotOrCleaner step)) (shown_by e seen)) (sym going) tt
         told Make = tt
         told other = tt
 
   pub caused_by : (k : Next) → ReadsAs k block nodes s h r
       → RefusesFor (IsCause k block a granted nodes s h r) (MayBeOvertaken k nodes r) (kind_turn k block a granted s h r)
-  caused_by (Maintenance step) reads = snapshot_caused step
+  caused_by (SnapshotOrCleaner step) reads = snapshot_caused step
   caused_by other reads =
       on_turn (For other) (MayBeOvertaken other nodes r) (kind_turn other block a granted s h r)
       (walk_of (Goes other) (Tells other) block a s h r other granted (ways other reads) refl)

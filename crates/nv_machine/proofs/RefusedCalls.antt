@@ -9,16 +9,16 @@ use Rattle.nv_calls.specs.declared.answer.Answer.{Answer}
 use Rattle.nv_machine.specs.Hands.{HandOf, is_going, is_going_on}
 use Rattle.nv_machine.specs.Kept.{IsKept, Knows, KnowsOf}
 use Rattle.nv_machine.specs.Refusing.{GoesOn, IsUnanswered, LeavesBooks, SameBooks}
-use Rattle.nv_machine.specs.Maintenance.{shown_by}
+use Rattle.nv_machine.specs.SnapshotOrCleaner.{shown_by}
 use Rattle.nv_machine.specs.Starts.{IsStart}
 use Rattle.nv_machine.specs.Step.{after, kind_turn, turn}
-use Rattle.nv_machine.specs.World.{Answers, Append, ReturnNumber, Close, Draining, Drains, Drop, Ending, Ends, Enter, Event, HandState, LockPicked, Make, Moves, Next, Number, Open, Pick, Pin, Publish, Refuses, Release, Retire, Running, Shared, Show, MaintenanceStep, Maintenance, Turn, Unpin, Waits, World, actor_at, with_book, Cleans, Compact, Fresh, Judge, LockCleaned, Unlink}
+use Rattle.nv_machine.specs.World.{Answers, Append, ReturnNumber, Close, Draining, Drains, Drop, Ending, Ends, Enter, Event, HandState, LockPicked, Make, Moves, Next, Number, Open, Pick, Pin, Publish, Refuses, Release, Retire, Running, Shared, Show, SnapshotOrCleanerStep, SnapshotOrCleaner, Turn, Unpin, Waits, World, actor_at, with_book, Cleans, Compact, Fresh, PlanCleaning, LockCleaned, Unlink}
 use Rattle.nv_machine.proofs.EveryWorld.{all_numbers, reached}
 use Rattle.nv_machine.proofs.StepWork.{by_back, by_number, work}
 use Rattle.nv_machine.proofs.WorkKeeps.{AfterTurn, turn_keeps}
 use Rattle.nv_machine.proofs.StepWays.{After, EndsBy, Going, Telling, any_ends}
 use Rattle.nv_machine.proofs.StepWalk.{walk_of}
-use Rattle.nv_machine.proofs.MaintenanceWalk.{StepWaysOf, step_walk_by}
+use Rattle.nv_machine.proofs.SnapshotOrCleanerWalk.{StepWaysOf, step_walk_by}
 use Rattle.nv_clean.specs.declared.cleaned.Cleaned.{Cleaned}
 
 -- what leaves them whatever becomes of the call
@@ -72,33 +72,33 @@ module _ (k : Next) (s : Shared) where
       any_ends (record { last = λ n is out. absurd out; told = tt; again = λ n over some out. absurd out; picks = λ d left drains some out. absurd out })
 
 module _ (actor : ℕ) (granted : Bool) (s : Shared) (h : HandState) (r : Running) where
-  step_left : (step : MaintenanceStep) → (is_going_on step ≡ true → r.ending ≡ Answers)
-      → StepWaysOf (LeftGoes (Maintenance step) s) (LeftTold (Maintenance step) s) step actor granted s h r
-  step_left Make going = (λ fault by. refused_left (Maintenance Make) s (refl, refl), λ clear. tt)
-  step_left (Drop snapshot) going = (λ fault by. refused_left (Maintenance (Drop snapshot)) s (refl, refl), λ clear. tt)
+  step_left : (step : SnapshotOrCleanerStep) → (is_going_on step ≡ true → r.ending ≡ Answers)
+      → StepWaysOf (LeftGoes (SnapshotOrCleaner step) s) (LeftTold (SnapshotOrCleaner step) s) step actor granted s h r
+  step_left Make going = (λ fault by. refused_left (SnapshotOrCleaner Make) s (refl, refl), λ clear. tt)
+  step_left (Drop snapshot) going = (λ fault by. refused_left (SnapshotOrCleaner (Drop snapshot)) s (refl, refl), λ clear. tt)
   step_left (Pin snapshot) going =
-      (λ none. refused_left (Maintenance (Pin snapshot)) s (refl, refl), λ clear. answered r.ending (going refl))
+      (λ none. refused_left (SnapshotOrCleaner (Pin snapshot)) s (refl, refl), λ clear. answered r.ending (going refl))
   step_left (Show snapshot showing) going = (λ lacks out. (refl, refl), λ clear out. (refl, refl))
   step_left (Unpin snapshot seen) going = λ clear. go r.ending where
-    go : (e : Ending) → told_left (Maintenance (Unpin snapshot seen)) s (with_book (after_unpin_snapshot snapshot s.book) s)
+    go : (e : Ending) → told_left (SnapshotOrCleaner (Unpin snapshot seen)) s (with_book (after_unpin_snapshot snapshot s.book) s)
         (shown_by e seen)
     go (Refuses fault) = (refl, refl)
     go other = tt
   step_left (Pick draining) going = (
-    λ lacks first. refused_left (Maintenance (Pick draining)) s (refl, refl),
+    λ lacks first. refused_left (SnapshotOrCleaner (Pick draining)) s (refl, refl),
     λ empty. tt,
     λ picked rest free is. answered r.ending (going refl),
   )
   step_left (LockPicked draining picked) going = λ clear out. (refl, refl)
-  step_left (Release draining picked) going = drained_left (Maintenance (Release draining picked)) s
+  step_left (Release draining picked) going = drained_left (SnapshotOrCleaner (Release draining picked)) s
   step_left (LockCleaned manner ino) going = λ clear out. (refl, refl)
-  step_left (Judge manner slot) going = (
-    λ none. refused_left (Maintenance (Judge manner slot)) s (refl, refl),
-    λ some lacks. refused_left (Maintenance (Judge manner slot)) s (refl, refl),
+  step_left (PlanCleaning manner slot) going = (
+    λ none. refused_left (SnapshotOrCleaner (PlanCleaning manner slot)) s (refl, refl),
+    λ some lacks. refused_left (SnapshotOrCleaner (PlanCleaning manner slot)) s (refl, refl),
     λ ino is some. record {
       fast = λ plain out. (refl, refl);
       some = λ n plain more out. (refl, refl);
-      none = λ plain less. cleaned_left (Maintenance (Judge manner slot)) s;
+      none = λ plain less. cleaned_left (SnapshotOrCleaner (PlanCleaning manner slot)) s;
     },
   )
   step_left (Fresh ino asked wanted) going = record {
@@ -111,8 +111,8 @@ module _ (actor : ℕ) (granted : Bool) (s : Shared) (h : HandState) (r : Runnin
       picks = λ d left drains some out. absurd out;
     });
   }
-  step_left (Unlink ino) going = cleaned_left (Maintenance (Unlink ino)) s
-  step_left (Compact ino) going = cleaned_left (Maintenance (Compact ino)) s
+  step_left (Unlink ino) going = cleaned_left (SnapshotOrCleaner (Unlink ino)) s
+  step_left (Compact ino) going = cleaned_left (SnapshotOrCleaner (Compact ino)) s
 
 -- ---- every kind
 
@@ -135,8 +135,8 @@ module _ (block actor cpu : ℕ) (granted : Bool) (s : Shared) (h : HandState) (
   books_left Close knows on = answered r.ending knows.1
   books_left (Retire place) knows on = answered r.ending knows.1
   books_left ReturnNumber knows on = quiet_left ReturnNumber (refl, refl) (by_back (λ (t : Shared) (g : HandState). SameBooks ReturnNumber s t) s h (λ numbers ino. (refl, refl)))
-  books_left (Maintenance step) knows on =
-      leaves (Maintenance step) s _ (step_walk_by (Unit {0}) (LeftGoes (Maintenance step) s) (LeftTold (Maintenance step) s)
+  books_left (SnapshotOrCleaner step) knows on =
+      leaves (SnapshotOrCleaner step) s _ (step_walk_by (Unit {0}) (LeftGoes (SnapshotOrCleaner step) s) (LeftTold (SnapshotOrCleaner step) s)
       actor s h r step granted
       (λ blocked. tt) (step_left actor granted s h r step on))
   books_left other knows on = quiet_left other (refl, refl) (refl, refl)
@@ -152,7 +152,7 @@ refused_books w actor granted r kept is on =
     (kept.each actor)) on
 
 goes_on : (k : Next) (e : Ending) → (is_going k ≡ true → e ≡ Answers) → GoesOn k e
-goes_on (Maintenance step) e going = going
+goes_on (SnapshotOrCleaner step) e going = going
 goes_on other e going = tt
 
 pub all_refused : (g : GeometryNumbers) (start : World) (records : List Record) (events : List Event) (actor : ℕ) (granted : Bool)

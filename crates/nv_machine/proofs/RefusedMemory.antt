@@ -14,13 +14,13 @@ use Rattle.nv_machine.specs.Memory.{denied_at, denied_turn, does_its_work, grows
 use Rattle.nv_machine.specs.Reads.{copies, nodes, pages_wanted, plan_by, written_slots, home_from}
 use Rattle.nv_machine.specs.Sequence.{appending, nothing_looked}
 use Rattle.nv_machine.specs.Step.{ending_at, handle_at, kind_turn, visit_grows, with_made}
-use Rattle.nv_machine.specs.World.{Check, Draining, Ending, Ends, Enter, HandState, Moves, Next, Pick, Ready, Refuses, Running, Shared, Show, Showing, MaintenanceStep, Maintenance, Turn, Visit, Waits, owner_at, Judge, Manner, Cleans}
-use Rattle.nv_machine.specs.Maintenance.{if_free, is_first, picked_turn, show_turn, maintenance_turn}
+use Rattle.nv_machine.specs.World.{Check, Draining, Ending, Ends, Enter, HandState, Moves, Next, Pick, Ready, Refuses, Running, Shared, Show, Showing, SnapshotOrCleanerStep, SnapshotOrCleaner, Turn, Visit, Waits, owner_at, PlanCleaning, Manner, Cleans}
+use Rattle.nv_machine.specs.SnapshotOrCleaner.{if_free, is_first, picked_turn, show_turn, snapshot_or_cleaner_turn}
 use Rattle.nv_machine.proofs.LoopSteps.{appending_any}
 use Rattle.nv_machine.proofs.StepWays.{After, Going, Telling, by_last, end_goes, is_last}
 use Rattle.nv_book.specs.declared.record.Record.{Record}
 use Rattle.nv_entry.specs.declared.node.NodeCopy.{NodeCopy}
-use Rattle.nv_machine.specs.Cleaning.{chosen_turn, inode_turn, judge_turn, thorough_turn, nothing_cleaned}
+use Rattle.nv_machine.specs.Cleaning.{chosen_turn, inode_turn, plan_cleaning_turn, thorough_turn, nothing_cleaned}
 use Rattle.nv_clean.specs.declared.cleaned.Cleaned.{Cleaned}
 
 -- ---- the last steps
@@ -120,19 +120,19 @@ visit_denied None (Ok passed) found s h r = refl
 
 show_denied : (owner : Option ℕ) (found : Option NodeCopy) (snapshot : ℕ) (showing : Showing) (s : Shared) (h : HandState) (r : Running)
     → show_turn owner false found snapshot showing s h r
-    ≡ denied_turn (Maintenance (Show snapshot showing)) s h r (show_turn owner true found snapshot showing s h r)
+    ≡ denied_turn (SnapshotOrCleaner (Show snapshot showing)) s h r (show_turn owner true found snapshot showing s h r)
 show_denied (Some other) found snapshot showing s h r = refl
 show_denied None found snapshot showing s h r = refl
 
 picked_denied : (deferred : List Record) (draining : Draining) (s : Shared) (h : HandState) (r : Running)
-    → refuse out_of_memory s h r ≡ denied_turn (Maintenance (Pick draining)) s h r (picked_turn deferred draining s h r)
+    → refuse out_of_memory s h r ≡ denied_turn (SnapshotOrCleaner (Pick draining)) s h r (picked_turn deferred draining s h r)
 picked_denied [] draining s h r = refl
 picked_denied (picked ∷ deferred) draining s h r = refl
 
 -- a first pick makes room before it picks, and no other does
 pick_denied : (holder : Option ℕ) (first : Bool) (draining : Draining) (s : Shared) (h : HandState) (r : Running) → first ≡ true
     → if_free holder (grown (false || not first) (picked_turn s.book.deferred draining s h r) s h r)
-    ≡ denied_turn (Maintenance (Pick draining)) s h r
+    ≡ denied_turn (SnapshotOrCleaner (Pick draining)) s h r
     (if_free holder (grown (true || not first) (picked_turn s.book.deferred draining s h r) s h r))
 pick_denied (Some other) first draining s h r e = refl
 pick_denied None true draining s h r e = picked_denied s.book.deferred draining s h r
@@ -143,66 +143,66 @@ pick_alike : (first : Bool) (turn : Turn) (s : Shared) (h : HandState) (r : Runn
 pick_alike true turn s h r e = cc
 pick_alike false turn s h r e = refl
 
--- a judge that ends with what it found does its work, and one that refuses does not
-abbrev judges : Turn → Bool
-judges t = is_answered t || moves_unrefused t
+-- a planning that ends with what it found does its work, and one that refuses does not
+abbrev has_planned : Turn → Bool
+has_planned t = is_answered t || moves_unrefused t
 
 cleans_works : (slots : List ℕ) (c : Cleaned) (s : Shared) (h : HandState) (r : Running)
-    → judges (end_turn slots (Cleans c) s h r) ≡ true
+    → has_planned (end_turn slots (Cleans c) s h r) ≡ true
 cleans_works (slot ∷ slots) c s h r = refl
 cleans_works [] c s h r = go (home_from 0 0 s.lists (blocks_in h)) h.ino where
-  go : (home number : Option ℕ) → judges (rest_turn home number s h (record r { ending = Cleans c })) ≡ true
+  go : (home number : Option ℕ) → has_planned (rest_turn home number s h (record r { ending = Cleans c })) ≡ true
   go (Some cpu) number = refl
   go None (Some ino) = refl
   go None None = refl
 
-stale_stops : (slots : List ℕ) (s : Shared) (h : HandState) (r : Running) → judges (end_turn slots (Refuses Stale) s h r) ≡ false
+stale_stops : (slots : List ℕ) (s : Shared) (h : HandState) (r : Running) → has_planned (end_turn slots (Refuses Stale) s h r) ≡ false
 stale_stops (slot ∷ slots) s h r = refl
 stale_stops [] s h r = go (home_from 0 0 s.lists (blocks_in h)) h.ino where
-  go : (home number : Option ℕ) → judges (rest_turn home number s h (record r { ending = Refuses Stale })) ≡ false
+  go : (home number : Option ℕ) → has_planned (rest_turn home number s h (record r { ending = Refuses Stale })) ≡ false
   go (Some cpu) number = refl
   go None (Some ino) = refl
   go None None = refl
 
--- a judge of an inode refuses its call by the walk's memory wherever it would go on or end
+-- a planning of an inode refuses its call by the walk's memory wherever it would go on or end
 thorough_denied : (n pages ino : ℕ) (manner : Manner) (slot : Option ℕ) (s : Shared) (h : HandState) (r : Running)
-    → refuse out_of_memory s h r ≡ denied_turn (Maintenance (Judge manner slot)) s h r (thorough_turn n pages ino s h r)
+    → refuse out_of_memory s h r ≡ denied_turn (SnapshotOrCleaner (PlanCleaning manner slot)) s h r (thorough_turn n pages ino s h r)
 thorough_denied zero pages ino manner slot s h r =
-    refuses_so (Maintenance (Judge manner slot)) s h r _ (cleans_works r.slots nothing_cleaned s h r)
+    refuses_so (SnapshotOrCleaner (PlanCleaning manner slot)) s h r _ (cleans_works r.slots nothing_cleaned s h r)
 thorough_denied (suc n) pages ino manner slot s h r =
     refl
 
 chosen_denied : (thorough : Bool) (ino : ℕ) (manner : Manner) (slot : Option ℕ) (s : Shared) (h : HandState) (r : Running)
-    → refuse out_of_memory s h r ≡ denied_turn (Maintenance (Judge manner slot)) s h r (chosen_turn thorough ino s h r)
+    → refuse out_of_memory s h r ≡ denied_turn (SnapshotOrCleaner (PlanCleaning manner slot)) s h r (chosen_turn thorough ino s h r)
 chosen_denied true ino manner slot s h r = thorough_denied _ _ ino manner slot s h r
 chosen_denied false ino manner slot s h r = refl
 
 inode_denied : (is : Bool) (ino : ℕ) (manner : Manner) (slot : Option ℕ) (s : Shared) (h : HandState) (r : Running)
     → inode_turn is manner ino false s h r
-    ≡ denied_turn (Maintenance (Judge manner slot)) s h r (inode_turn is manner ino true s h r)
+    ≡ denied_turn (SnapshotOrCleaner (PlanCleaning manner slot)) s h r (inode_turn is manner ino true s h r)
 inode_denied true ino manner slot s h r = chosen_denied _ ino manner slot s h r
 inode_denied false ino manner slot s h r =
-    stays_so (Maintenance (Judge manner slot)) s h r (refuse Stale s h r) (stale_stops r.slots s h r)
+    stays_so (SnapshotOrCleaner (PlanCleaning manner slot)) s h r (refuse Stale s h r) (stale_stops r.slots s h r)
 
-judge_denied : (named : Option ℕ) (manner : Manner) (slot : Option ℕ) (s : Shared) (h : HandState) (r : Running)
-    → judge_turn manner named false s h r
-    ≡ denied_turn (Maintenance (Judge manner slot)) s h r (judge_turn manner named true s h r)
-judge_denied None manner slot s h r =
-    stays_so (Maintenance (Judge manner slot)) s h r (refuse Stale s h r) (stale_stops r.slots s h r)
-judge_denied (Some ino) manner slot s h r = inode_denied _ ino manner slot s h r
+plan_cleaning_denied : (named : Option ℕ) (manner : Manner) (slot : Option ℕ) (s : Shared) (h : HandState) (r : Running)
+    → plan_cleaning_turn manner named false s h r
+    ≡ denied_turn (SnapshotOrCleaner (PlanCleaning manner slot)) s h r (plan_cleaning_turn manner named true s h r)
+plan_cleaning_denied None manner slot s h r =
+    stays_so (SnapshotOrCleaner (PlanCleaning manner slot)) s h r (refuse Stale s h r) (stale_stops r.slots s h r)
+plan_cleaning_denied (Some ino) manner slot s h r = inode_denied _ ino manner slot s h r
 
-snapshot_denied : (step : MaintenanceStep) (actor : ℕ) (s : Shared) (h : HandState) (r : Running) → grows_on step ≡ true
-    → maintenance_turn step actor false s h r ≡ denied_turn (Maintenance step) s h r (maintenance_turn step actor true s h r)
+snapshot_denied : (step : SnapshotOrCleanerStep) (actor : ℕ) (s : Shared) (h : HandState) (r : Running) → grows_on step ≡ true
+    → snapshot_or_cleaner_turn step actor false s h r ≡ denied_turn (SnapshotOrCleaner step) s h r (snapshot_or_cleaner_turn step actor true s h r)
 snapshot_denied (Show snapshot showing) actor s h r e = show_denied _ _ snapshot showing s h r
 snapshot_denied (Pick draining) actor s h r e = pick_denied s.holder (is_first draining) draining s h r e
-snapshot_denied (Judge manner slot) actor s h r e = judge_denied slot manner slot s h r
+snapshot_denied (PlanCleaning manner slot) actor s h r e = plan_cleaning_denied slot manner slot s h r
 snapshot_denied other actor s h r e = cc
 
-snapshot_alike : (step : MaintenanceStep) (actor : ℕ) (s : Shared) (h : HandState) (r : Running) → grows_on step ≡ false
-    → maintenance_turn step actor false s h r ≡ maintenance_turn step actor true s h r
+snapshot_alike : (step : SnapshotOrCleanerStep) (actor : ℕ) (s : Shared) (h : HandState) (r : Running) → grows_on step ≡ false
+    → snapshot_or_cleaner_turn step actor false s h r ≡ snapshot_or_cleaner_turn step actor true s h r
 snapshot_alike (Show snapshot showing) actor s h r e = cc
 snapshot_alike (Pick draining) actor s h r e = ap (if_free s.holder) (pick_alike (is_first draining) _ s h r e)
-snapshot_alike (Judge manner slot) actor s h r e = cc
+snapshot_alike (PlanCleaning manner slot) actor s h r e = cc
 snapshot_alike other actor s h r e = refl
 
 -- ---- all kinds
@@ -221,7 +221,7 @@ denied_alike Visit block actor s h r e = go (visit_grows r.call) e where
   go true e = visit_denied (owner_at s (handle_at (handles nothing_looked r.call) 0).ino) (refusal block (copies s) r.call)
       (answer (nodes s) r.made r.call) s h r
   go false e = cc
-denied_alike (Maintenance step) block actor s h r e = snapshot_denied step actor s h r e
+denied_alike (SnapshotOrCleaner step) block actor s h r e = snapshot_denied step actor s h r e
 denied_alike other block actor s h r e = cc
 
 pub ungrown : (k : Next) (block actor : ℕ) (s : Shared) (h : HandState) (r : Running) → grows k block s h r ≡ false
@@ -230,5 +230,5 @@ ungrown Check block actor s h r e = check_alike (ending_at block s h r) _ block 
 ungrown Ready block actor s h r e = cc
 ungrown Enter block actor s h r e = cc
 ungrown Visit block actor s h r e = rw e refl
-ungrown (Maintenance step) block actor s h r e = snapshot_alike step actor s h r e
+ungrown (SnapshotOrCleaner step) block actor s h r e = snapshot_alike step actor s h r e
 ungrown other block actor s h r e = refl

@@ -15,12 +15,12 @@ use Rattle.nv_machine.specs.Kinds.{result_by}
 use Rattle.nv_machine.specs.OwnSteps.{SameButPins, unpinned}
 use Rattle.nv_machine.specs.Reads.{copies, written_slots}
 use Rattle.nv_machine.specs.Sequence.{beginning, sequel}
-use Rattle.nv_machine.specs.Maintenance.{is_first, one_more, shown_by}
+use Rattle.nv_machine.specs.SnapshotOrCleaner.{is_first, one_more, shown_by}
 use Rattle.nv_machine.specs.Step.{ending_at, is_numbered, kind_turn, same_looked, with_made}
-use Rattle.nv_machine.specs.World.{Answers, Append, ReturnNumber, Check, Close, Draining, Drains, Drop, Ending, Enter, Give, HandState, Leave, Lock, LockPicked, Look, Make, Next, Number, Open, BoundAnew, Pick, Pin, Publish, Ready, Refuses, Release, Retire, Running, Shared, Show, MaintenanceStep, Maintenance, TakeBlocks, TakeLogPages, Unlock, Unpin, Visit, with_book, Cleans, Compact, Fresh, Judge, LockCleaned, Unlink, cell_at}
+use Rattle.nv_machine.specs.World.{Answers, Append, ReturnNumber, Check, Close, Draining, Drains, Drop, Ending, Enter, Give, HandState, Leave, Lock, LockPicked, Look, Make, Next, Number, Open, BoundAnew, Pick, Pin, Publish, Ready, Refuses, Release, Retire, Running, Shared, Show, SnapshotOrCleanerStep, SnapshotOrCleaner, TakeBlocks, TakeLogPages, Unlock, Unpin, Visit, with_book, Cleans, Compact, Fresh, PlanCleaning, LockCleaned, Unlink, cell_at}
 use Rattle.nv_machine.proofs.LoopSteps.{Commits, appending_any, publishing_any, retiring_any}
 use Rattle.nv_machine.proofs.RefusalCauses.{CheckCause, reads_itself}
-use Rattle.nv_machine.proofs.MaintenanceWalk.{StepWaysOf, next_on, step_walk_by}
+use Rattle.nv_machine.proofs.SnapshotOrCleanerWalk.{StepWaysOf, next_on, step_walk_by}
 use Rattle.nv_machine.proofs.StepWalk.{WaysOf, last_walk, last_ways, walk_of}
 use Rattle.nv_machine.proofs.StepWays.{After, Closes, EndsBy, Going, Takes, Telling, any_ends, asks_on, by_last, is_last, is_overtaken, noted, noted_ending}
 use Rattle.nv_machine.proofs.StepWork.{by_back, by_number, work}
@@ -30,14 +30,14 @@ use Rattle.nv_machine.specs.Cleaning.{nothing_cleaned}
 
 -- ---- where a call may yet be refused, and where it was
 
-abbrev pub is_open_on : MaintenanceStep → Bool
+abbrev pub is_open_on : SnapshotOrCleanerStep → Bool
 is_open_on Make = true
 is_open_on (Drop snapshot) = true
 is_open_on (Pin snapshot) = true
 is_open_on (Show snapshot showing) = true
 is_open_on (Pick draining) = is_first draining
 is_open_on (LockCleaned manner ino) = true
-is_open_on (Judge manner slot) = true
+is_open_on (PlanCleaning manner slot) = true
 is_open_on (Fresh ino asked wanted) = true
 is_open_on other = false
 
@@ -51,10 +51,10 @@ is_open (TakeLogPages asked) = true
 is_open Ready = true
 is_open Enter = true
 is_open Visit = true
-is_open (Maintenance step) = is_open_on step
+is_open (SnapshotOrCleaner step) = is_open_on step
 is_open other = false
 
-abbrev pub is_closing_on : MaintenanceStep → Bool
+abbrev pub is_closing_on : SnapshotOrCleanerStep → Bool
 is_closing_on (Unpin snapshot seen) = true
 is_closing_on other = false
 
@@ -62,7 +62,7 @@ abbrev pub is_closing : Next → Bool
 is_closing (Unlock place) = true
 is_closing (Give cpu) = true
 is_closing ReturnNumber = true
-is_closing (Maintenance step) = is_closing_on step
+is_closing (SnapshotOrCleaner step) = is_closing_on step
 is_closing other = false
 
 abbrev pub is_unlock : Next → Bool
@@ -292,57 +292,57 @@ module _ (block a : ℕ) (granted : Bool) (s : Shared) (h : HandState) (r : Runn
     λ free passed lacks. denies Visit out_of_memory (refl, same_as s),
     λ free passed. tt,
   )
-  ways (Maintenance step) = tt
+  ways (SnapshotOrCleaner step) = tt
 
-  step_ways : (step : MaintenanceStep) → StepWaysOf (Goes (Maintenance step) s) (Tells (Maintenance step) s) step a granted s h r
-  step_ways Make = (λ fault by. denies (Maintenance Make) fault (refl, same_as s), λ clear. tt)
-  step_ways (Drop snapshot) = (λ fault by. denies (Maintenance (Drop snapshot)) fault (refl, same_as s), λ clear. tt)
+  step_ways : (step : SnapshotOrCleanerStep) → StepWaysOf (Goes (SnapshotOrCleaner step) s) (Tells (SnapshotOrCleaner step) s) step a granted s h r
+  step_ways Make = (λ fault by. denies (SnapshotOrCleaner Make) fault (refl, same_as s), λ clear. tt)
+  step_ways (Drop snapshot) = (λ fault by. denies (SnapshotOrCleaner (Drop snapshot)) fault (refl, same_as s), λ clear. tt)
   step_ways (Pin snapshot) = (
-    λ none. denies (Maintenance (Pin snapshot)) NoSnapshot (refl, same_as s),
-    λ clear. opens (Maintenance (Pin snapshot)) (Maintenance (next_on (Pin snapshot) s)) _ (refl, pinned s snapshot),
+    λ none. denies (SnapshotOrCleaner (Pin snapshot)) NoSnapshot (refl, same_as s),
+    λ clear. opens (SnapshotOrCleaner (Pin snapshot)) (SnapshotOrCleaner (next_on (Pin snapshot) s)) _ (refl, pinned s snapshot),
   )
   step_ways (Show snapshot showing) = (
     λ lacks. (refl, (refl, same_as s)),
-    λ clear. opens (Maintenance (Show snapshot showing)) (Maintenance (next_on (Show snapshot showing) s)) s (refl, same_as s),
+    λ clear. opens (SnapshotOrCleaner (Show snapshot showing)) (SnapshotOrCleaner (next_on (Show snapshot showing) s)) s (refl, same_as s),
   )
   step_ways (Unpin snapshot seen) =
-      λ clear. subst (λ (e : Ending). OpenTold (Maintenance (Unpin snapshot seen)) s
+      λ clear. subst (λ (e : Ending). OpenTold (SnapshotOrCleaner (Unpin snapshot seen)) s
       (with_book (after_unpin_snapshot snapshot s.book) s) (shown_by e seen)) (sym going) tt
   step_ways (Pick draining) = (
-    λ lacks first. denies (Maintenance (Pick draining)) out_of_memory (first, same_as s),
+    λ lacks first. denies (SnapshotOrCleaner (Pick draining)) out_of_memory (first, same_as s),
     λ empty. tt,
-    λ picked rest free is. shuts (Maintenance (Pick draining)) (Maintenance (LockPicked draining picked)) _ refl,
+    λ picked rest free is. shuts (SnapshotOrCleaner (Pick draining)) (SnapshotOrCleaner (LockPicked draining picked)) _ refl,
   )
   step_ways (LockPicked draining picked) =
-      λ clear. shuts (Maintenance (LockPicked draining picked)) (Maintenance (Release draining picked)) _ refl
+      λ clear. shuts (SnapshotOrCleaner (LockPicked draining picked)) (SnapshotOrCleaner (Release draining picked)) _ refl
   step_ways (Release draining picked) =
-      any_ends (drains_closes (Maintenance (Release draining picked)) s (one_more draining) (omega arith))
+      any_ends (drains_closes (SnapshotOrCleaner (Release draining picked)) s (one_more draining) (omega arith))
   step_ways (LockCleaned manner ino) =
-      λ clear. opens (Maintenance (LockCleaned manner ino)) (Maintenance (Judge manner (Some ino))) _
+      λ clear. opens (SnapshotOrCleaner (LockCleaned manner ino)) (SnapshotOrCleaner (PlanCleaning manner (Some ino))) _
       (refl, record { book = refl; cells = refl })
-  step_ways (Judge manner slot) = (
-    λ none. denies (Maintenance (Judge manner slot)) Stale (refl, same_as s),
-    λ some lacks. denies (Maintenance (Judge manner slot)) out_of_memory (refl, same_as s),
+  step_ways (PlanCleaning manner slot) = (
+    λ none. denies (SnapshotOrCleaner (PlanCleaning manner slot)) Stale (refl, same_as s),
+    λ some lacks. denies (SnapshotOrCleaner (PlanCleaning manner slot)) out_of_memory (refl, same_as s),
     λ ino is some. record {
-      fast = λ plain. opens (Maintenance (Judge manner slot)) (Maintenance (Unlink ino)) s (refl, same_as s);
-      some = λ n plain more. opens (Maintenance (Judge manner slot)) (Maintenance (Fresh ino 0 (wanted_of (cell_at s ino)).pages)) s
+      fast = λ plain. opens (SnapshotOrCleaner (PlanCleaning manner slot)) (SnapshotOrCleaner (Unlink ino)) s (refl, same_as s);
+      some = λ n plain more. opens (SnapshotOrCleaner (PlanCleaning manner slot)) (SnapshotOrCleaner (Fresh ino 0 (wanted_of (cell_at s ino)).pages)) s
           (refl, same_as s);
-      none = λ plain less. any_ends (cleans_closes (Maintenance (Judge manner slot)) s nothing_cleaned);
+      none = λ plain less. any_ends (cleans_closes (SnapshotOrCleaner (PlanCleaning manner slot)) s nothing_cleaned);
     },
   )
   step_ways (Fresh ino asked wanted) = record {
-    ready = λ q. opens (Maintenance (Fresh ino asked wanted)) (Maintenance (Compact ino)) _
+    ready = λ q. opens (SnapshotOrCleaner (Fresh ino asked wanted)) (SnapshotOrCleaner (Compact ino)) _
         (refl, record { book = refl; cells = refl });
-    more = λ n q m. opens (Maintenance (Fresh ino asked wanted)) (Maintenance (Fresh ino (asked + 1) (suc n))) _
+    more = λ n q m. opens (SnapshotOrCleaner (Fresh ino asked wanted)) (SnapshotOrCleaner (Fresh ino (asked + 1) (suc n))) _
         (refl, record { book = refl; cells = refl });
-    short = λ n q m. denies (Maintenance (Fresh ino asked wanted)) NoSpace (refl, record { book = refl; cells = refl });
+    short = λ n q m. denies (SnapshotOrCleaner (Fresh ino asked wanted)) NoSpace (refl, record { book = refl; cells = refl });
   }
-  step_ways (Unlink ino) = any_ends (cleans_closes (Maintenance (Unlink ino)) s _)
-  step_ways (Compact ino) = any_ends (cleans_closes (Maintenance (Compact ino)) s _)
+  step_ways (Unlink ino) = any_ends (cleans_closes (SnapshotOrCleaner (Unlink ino)) s _)
+  step_ways (Compact ino) = any_ends (cleans_closes (SnapshotOrCleaner (Compact ino)) s _)
 
   pub open_kind : (k : Next) → After (Goes k s) (Tells k s) (kind_turn k block a granted s h r)
-  open_kind (Maintenance step) =
-      step_walk_by (Unit {0}) (Goes (Maintenance step) s) (Tells (Maintenance step) s) a s h r step granted
+  open_kind (SnapshotOrCleaner step) =
+      step_walk_by (Unit {0}) (Goes (SnapshotOrCleaner step) s) (Tells (SnapshotOrCleaner step) s) a s h r step granted
       (λ blocked. tt) (step_ways step)
   open_kind other = walk_of (Goes other s) (Tells other s) block a s h r other granted (ways other) refl
 
@@ -371,7 +371,7 @@ module _ (fault : Fault) (block a : ℕ) (granted : Bool) (s : Shared) (h : Hand
   closing_kind (Unlock place) on = last_closing (Unlock place) refl (record { book = refl; cells = refl })
   closing_kind (Give cpu) on = last_closing (Give cpu) refl (record { book = refl; cells = refl })
   closing_kind ReturnNumber on = last_closing ReturnNumber refl (given_back s h block a r)
-  closing_kind (Maintenance (Unpin snapshot seen)) on =
+  closing_kind (SnapshotOrCleaner (Unpin snapshot seen)) on =
       step_walk_by (Unit {0}) (ClosingGoes fault s) (ClosingTold fault s) a s h r (Unpin snapshot seen) granted (λ blocked. tt)
       (λ clear. (ap (λ (e : Ending). shown_by e seen) is, unpins s snapshot))
   closing_kind other on = absurd (false≢true on)

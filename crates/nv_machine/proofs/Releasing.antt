@@ -34,10 +34,10 @@ use Rattle.nv_machine.specs.Kinds.{end_turn, with_erased}
 use Rattle.nv_machine.specs.Reads.{written_slots}
 use Rattle.nv_machine.specs.Recorded.{is_marked_kept}
 use Rattle.nv_machine.specs.Settled.{settled}
-use Rattle.nv_machine.specs.Maintenance.{one_more, with_released}
+use Rattle.nv_machine.specs.SnapshotOrCleaner.{one_more, with_released}
 use Rattle.nv_machine.specs.Starts.{IsStart}
 use Rattle.nv_machine.specs.Step.{Step, after, changed, kind_turn, step, turned}
-use Rattle.nv_machine.specs.World.{Actor, Draining, Drains, Event, Go, HandState, Next, Release, Running, Shared, Maintenance, Unlock, World, actor_at, cell_at, empty_hand, idle, no_cell, owner_at, with_cell}
+use Rattle.nv_machine.specs.World.{Actor, Draining, Drains, Event, Go, HandState, Next, Release, Running, Shared, SnapshotOrCleaner, Unlock, World, actor_at, cell_at, empty_hand, idle, no_cell, owner_at, with_cell}
 use Rattle.nv_machine.proofs.ErasedCells.{all_freed, behind, gone_erased}
 use Rattle.nv_machine.proofs.OverEvents.{runs_inside}
 use Rattle.nv_machine.proofs.FitsEvents.{IsKnown, filed_known}
@@ -60,7 +60,7 @@ use Rattle.nv_machine.proofs.CellChanges.{settled_times}
 -- ---- the release step
 
 module _ (g : GeometryNumbers) (w : World) (all : IsKnown g w) (actor : ℕ) (draining : Draining) (d : Record) (r : Running)
-    (runs : (actor_at w actor).running ≡ Some r) (next : r.next ≡ Maintenance (Release draining d)) where
+    (runs : (actor_at w actor).running ≡ Some r) (next : r.next ≡ SnapshotOrCleaner (Release draining d)) where
   abbrev s : Shared
   s = w.shared
 
@@ -91,16 +91,16 @@ module _ (g : GeometryNumbers) (w : World) (all : IsKnown g w) (actor : ℕ) (dr
       (can_list g w actor r (filed_known g w all) runs).alone
       (Release draining d) next
 
-  lock_is : Before actor s (Maintenance (Release draining d)) r
+  lock_is : Before actor s (SnapshotOrCleaner (Release draining d)) r
   lock_is = subst (λ (k : Next). Before actor s k r) next (before w actor r all.reached.locks runs)
 
   low : d.ino < length s.cells
   low = let slots = rw alone.1 at lock_is.are.inside in omega (arith, slots.0, lock_is.wide)
 
   owned : owner_at s d.ino ≡ Some actor
-  owned = lent_cell (Maintenance (Release draining d)) (length s.lists) actor s r lock_is d.ino refl
+  owned = lent_cell (SnapshotOrCleaner (Release draining d)) (length s.lists) actor s r lock_is d.ino refl
 
-  grown : HasGrown (Maintenance (Release draining d)) s actor r
+  grown : HasGrown (SnapshotOrCleaner (Release draining d)) s actor r
   grown =
       let own : HasGrownBy (Some r) s actor = subst (λ (o : Option Running). HasGrownBy o s actor) runs (all.reached.grown.each actor) in
       subst (λ (k : Next). HasGrown k s actor r) next own
@@ -265,7 +265,7 @@ module _ (g : GeometryNumbers) (w : World) (all : IsKnown g w) (actor : ℕ) (dr
 pub release_erases : (g : GeometryNumbers) (start : World) (records : List Record) (events : List Event) (actor : ℕ)
     (draining : Draining) (picked : Record) (granted : Bool)
     (r : Running) → IsStart g start records
-    → (actor_at (after start events) actor).running ≡ Some r → r.next ≡ Maintenance (Release draining picked)
+    → (actor_at (after start events) actor).running ≡ Some r → r.next ≡ SnapshotOrCleaner (Release draining picked)
     → IsOver (pending_but actor (after start events)) (after start events).shared picked.ino
     → IsErasedWhole actor picked.ino (after start events) (step (after start events) (Go actor granted)).world
 release_erases g start records events actor draining picked granted r is_start runs next over =
@@ -277,7 +277,7 @@ release_erases g start records events actor draining picked granted r is_start r
 pub released_has_it : (g : GeometryNumbers) (start : World) (records : List Record) (events : List Event) (actor : ℕ)
     (draining : Draining) (picked : Record) (granted : Bool)
     (r : Running) → IsStart g start records
-    → (actor_at (after start events) actor).running ≡ Some r → r.next ≡ Maintenance (Release draining picked)
+    → (actor_at (after start events) actor).running ≡ Some r → r.next ≡ SnapshotOrCleaner (Release draining picked)
     → IsOver (pending_but actor (after start events)) (after start events).shared picked.ino
     → is_withheld (cell_at (step (after start events) (Go actor granted)).world.shared picked.ino) ≡ false
     → IsOnItsWay actor picked.ino (step (after start events) (Go actor granted)).world

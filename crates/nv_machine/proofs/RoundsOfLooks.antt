@@ -9,14 +9,14 @@ use Rattle.nv_machine.specs.Bound.{IsNoStart}
 use Rattle.nv_machine.specs.PlainRun.{actor_of}
 use Rattle.nv_machine.specs.Rounds.{HasRounds, checks_left, failed_checks, fails_by, fails_in, fails_of}
 use Rattle.nv_machine.specs.Sequence.{Beginning, Numbers, beginning, begun}
-use Rattle.nv_machine.specs.Maintenance.{maintenance_turn}
+use Rattle.nv_machine.specs.SnapshotOrCleaner.{snapshot_or_cleaner_turn}
 use Rattle.nv_machine.specs.Step.{after, ending_at, kind_turn, step, turn}
-use Rattle.nv_machine.specs.World.{Actor, Check, Ending, Ends, Event, Go, HandState, Moves, Next, Number, BoundAnew, Refuses, Running, Shared, MaintenanceStep, Maintenance, Start, Started, Turn, Waits, World, actor_at}
+use Rattle.nv_machine.specs.World.{Actor, Check, Ending, Ends, Event, Go, HandState, Moves, Next, Number, BoundAnew, Refuses, Running, Shared, SnapshotOrCleanerStep, SnapshotOrCleaner, Start, Started, Turn, Waits, World, actor_at}
 use Rattle.nv_machine.proofs.OverEvents.{OwnAfter, event_of, own_goes, started, turn_at}
 use Rattle.nv_machine.proofs.Lists.{self}
 use Rattle.nv_machine.proofs.StepWays.{After, Closes, StopsBy, any_ends, noted, stopped, is_overtaken}
 use Rattle.nv_machine.proofs.StepWalk.{walk}
-use Rattle.nv_machine.proofs.MaintenanceWalk.{maintenance_walk, ends_fair}
+use Rattle.nv_machine.proofs.SnapshotOrCleanerWalk.{snapshot_or_cleaner_walk, ends_fair}
 use Rattle.std.proofs.lemmas.Bool.{true≢false}
 
 -- what is moved on to has at least so many left, with these failed
@@ -64,11 +64,11 @@ stops_left Check block s h r e by = closes _ _ s h _ _ (let more = one_more r.en
 stops_left other block s h r (Refuses fault) by = closes _ _ s h _ _ (let more = one_more r.ending r.rounds in omega (arith, more))
 stops_left other block s h r e by = absurd by
 
-snapshot_left : (step : MaintenanceStep) (actor : ℕ) (granted : Bool) (s : Shared) (h : HandState) (r : Running)
-    → KeepsLeft (checks_left r.ending r.rounds) 0 (maintenance_turn step actor granted s h r)
+snapshot_left : (step : SnapshotOrCleanerStep) (actor : ℕ) (granted : Bool) (s : Shared) (h : HandState) (r : Running)
+    → KeepsLeft (checks_left r.ending r.rounds) 0 (snapshot_or_cleaner_turn step actor granted s h r)
 snapshot_left step actor granted s h r =
     let more = one_more r.ending r.rounds in
-    maintenance_walk (HasLeft (checks_left r.ending r.rounds) 0) IsEnd actor s h r step granted (record {
+    snapshot_or_cleaner_walk (HasLeft (checks_left r.ending r.rounds) 0) IsEnd actor s h r step granted (record {
       stops = λ fault cause. any_ends (closes _ 0 s h r _ (omega (arith, more)));
       goes = λ on clear. omega arith;
       told = λ on clear. tt;
@@ -80,7 +80,7 @@ snapshot_left step actor granted s h r =
 
 kind_left : (k : Next) (block actor : ℕ) (granted : Bool) (s : Shared) (h : HandState) (r : Running)
     → KeepsLeft (checks_left r.ending r.rounds) (fails_by k (ending_at block s h r)) (kind_turn k block actor granted s h r)
-kind_left (Maintenance step) block actor granted s h r = snapshot_left step actor granted s h r
+kind_left (SnapshotOrCleaner step) block actor granted s h r = snapshot_left step actor granted s h r
 kind_left other block actor granted s h r =
     let more = one_more r.ending r.rounds in
     let same = noted_left other block s h r in

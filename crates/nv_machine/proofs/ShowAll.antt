@@ -19,10 +19,10 @@ use Rattle.nv_machine.specs.Grown.{AreGrown}
 use Rattle.nv_machine.specs.Reading.{pins_at}
 use Rattle.nv_machine.specs.Reads.{bytes_among}
 use Rattle.nv_machine.specs.Settled.{settled, settled_copies, snapshot_tree}
-use Rattle.nv_machine.specs.Maintenance.{copies_at, first_showing}
+use Rattle.nv_machine.specs.SnapshotOrCleaner.{copies_at, first_showing}
 use Rattle.nv_machine.specs.Starts.{IsStart}
 use Rattle.nv_machine.specs.Step.{after, step}
-use Rattle.nv_machine.specs.World.{Actor, Done, Event, Go, Running, Maintenance, Unpin, World, actor_at, cell_at, owner_at}
+use Rattle.nv_machine.specs.World.{Actor, Done, Event, Go, Running, SnapshotOrCleaner, Unpin, World, actor_at, cell_at, owner_at}
 use Rattle.nv_machine.proofs.EveryWorld.{reached}
 use Rattle.nv_machine.proofs.CopiesAll.{all_stay, all_whole, events_cells}
 use Rattle.nv_epoch.proofs.Pins.{lives-from_pins}
@@ -93,7 +93,7 @@ module _ (g : GeometryNumbers) (start : World) (records : List Record) (is_start
       events_show events start is_shown (λ before e. all_stay g start records is_start before e) none_shown
 
   pub all_told : (events : List Event) (actor snapshot : ℕ) (granted : Bool) (r : Running) (seen : List TreeNode) (told : Answer)
-      → (actor_at (at events) actor).running ≡ Some r → r.next ≡ Maintenance (Unpin snapshot seen)
+      → (actor_at (at events) actor).running ≡ Some r → r.next ≡ SnapshotOrCleaner (Unpin snapshot seen)
       → (step (at events) (Go actor granted)).reply ≡ Done told
       → (told ≡ answers.Tree (snapshot_tree (at events) snapshot)) × Contains (ids (at events).shared.book.snaps) snapshot
   all_told events actor snapshot granted r seen told is next reply = (

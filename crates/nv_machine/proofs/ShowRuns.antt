@@ -15,9 +15,9 @@ use Rattle.nv_epoch.specs.SnapList.{ids, pins_of}
 use Rattle.nv_machine.specs.Reading.{ArePins, pins_at, pins_by_call, shows_of}
 use Rattle.nv_machine.specs.Sequence.{beginning, begun}
 use Rattle.nv_machine.specs.Settled.{settled_copies}
-use Rattle.nv_machine.specs.Maintenance.{copies_at, first_showing, if_free, shown_by, unpin_turn}
+use Rattle.nv_machine.specs.SnapshotOrCleaner.{copies_at, first_showing, if_free, shown_by, unpin_turn}
 use Rattle.nv_machine.specs.Step.{after, go_step, kind_turn, reply_of, step, turn, turned}
-use Rattle.nv_machine.specs.World.{Actor, Done, Ending, Ends, Event, Go, HandState, Moves, Next, Refuses, Running, Shared, Show, Maintenance, Turn, Unpin, Waits, World, actor_at, idle, owner_at}
+use Rattle.nv_machine.specs.World.{Actor, Done, Ending, Ends, Event, Go, HandState, Moves, Next, Refuses, Running, Shared, Show, SnapshotOrCleaner, Turn, Unpin, Waits, World, actor_at, idle, owner_at}
 use Rattle.nv_machine.proofs.CopyRuns.{cells_stay}
 use Rattle.nv_machine.proofs.OverEvents.{event_by, set_begun, set_one, turn_at, with_call}
 use Rattle.nv_epoch.proofs.Pins.{lives-from_pins}
@@ -56,9 +56,9 @@ shown_lives w actor snapshot r are is shows =
 
 same_shows : (copies other : ℕ → Handle → Option NodeCopy) (inodes : ℕ) (k : Next) (e : Ending)
     → ((n : ℕ) → pins_at n k ≡ true → other n ≡ copies n) → ShowsAt copies inodes k e → ShowsAt other inodes k e
-same_shows copies other inodes (Maintenance (Show snapshot showing)) e same is =
+same_shows copies other inodes (SnapshotOrCleaner (Show snapshot showing)) e same is =
     subst (λ (f : Handle → Option NodeCopy). IsSeen f (tree_by (λ n. f) inodes snapshot) showing) (sym (same snapshot (self snapshot))) is
-same_shows copies other inodes (Maintenance (Unpin snapshot seen)) e same is =
+same_shows copies other inodes (SnapshotOrCleaner (Unpin snapshot seen)) e same is =
     subst (λ (f : Handle → Option NodeCopy). HasSeen e seen (tree_by (λ n. f) inodes snapshot)) (sym (same snapshot (self snapshot))) is
 same_shows copies other inodes k e same is = tt
 
@@ -147,7 +147,7 @@ unpins_seen (Some other) snapshot actor seen tree w s h r told is reply = cc
 unpins_seen None snapshot actor seen tree w s h r told is reply = ends_seen r.ending seen tree told is reply
 
 kind_seen : (k : Next) (snapshot actor : ℕ) (granted : Bool) (seen : List TreeNode) (w : World) (h : HandState) (r : Running)
-    (told : Answer) → k ≡ Maintenance (Unpin snapshot seen) → ShowsAt (settled_copies w.shared) (length w.shared.cells) k r.ending
+    (told : Answer) → k ≡ SnapshotOrCleaner (Unpin snapshot seen) → ShowsAt (settled_copies w.shared) (length w.shared.cells) k r.ending
     → (turned (kind_turn k w.numbers.block actor granted w.shared h r) actor w).reply ≡ Done told
     → told ≡ answers.Tree (tree_by (settled_copies w.shared) (length w.shared.cells) snapshot)
 kind_seen k snapshot actor granted seen w h r told next is reply =
@@ -156,7 +156,7 @@ kind_seen k snapshot actor granted seen w h r told next is reply =
     (subst (λ (n : Next). (turned (kind_turn n w.numbers.block actor granted w.shared h r) actor w).reply ≡ Done told) next reply)
 
 go_told : (b : Bool) (running : Option Running) (w : World) (actor : ℕ) (granted : Bool) (r : Running) (snapshot : ℕ)
-    (seen : List TreeNode) (told : Answer) → running ≡ Some r → r.next ≡ Maintenance (Unpin snapshot seen)
+    (seen : List TreeNode) (told : Answer) → running ≡ Some r → r.next ≡ SnapshotOrCleaner (Unpin snapshot seen)
     → ShowsAt (settled_copies w.shared) (length w.shared.cells) r.next r.ending
     → (go_step b running actor granted w).reply ≡ Done told
     → told ≡ answers.Tree (tree_by (settled_copies w.shared) (length w.shared.cells) snapshot)
@@ -168,7 +168,7 @@ go_told true (Some q) w actor granted r snapshot seen told is next shows reply =
     (same_Some q r is) reply)
 
 pub show_told : (w : World) (actor snapshot : ℕ) (granted : Bool) (r : Running) (seen : List TreeNode) (told : Answer) → AllShow w
-    → (actor_at w actor).running ≡ Some r → r.next ≡ Maintenance (Unpin snapshot seen) → (step w (Go actor granted)).reply ≡ Done told
+    → (actor_at w actor).running ≡ Some r → r.next ≡ SnapshotOrCleaner (Unpin snapshot seen) → (step w (Go actor granted)).reply ≡ Done told
     → told ≡ answers.Tree (tree_by (settled_copies w.shared) (length w.shared.cells) snapshot)
 show_told w actor snapshot granted r seen told all is next reply =
     go_told (nat_lt actor (length w.actors)) (actor_at w actor).running w actor granted r snapshot seen told is next (all actor r is) reply

@@ -1,7 +1,7 @@
 -- A show has seen the front of its snapshot's tree, and what is to come of its walk is the rest: kind by kind.
 use Rattle.nv_machine.proofs.StepWays.{IsClearOn}
-use Rattle.nv_machine.proofs.MaintenanceWalk.{goes_next, next_on, picked_next, LeadsTo}
-use Rattle.nv_machine.proofs.MaintenanceAlone.{alone_walk}
+use Rattle.nv_machine.proofs.SnapshotOrCleanerWalk.{goes_next, next_on, picked_next, LeadsTo}
+use Rattle.nv_machine.proofs.SnapshotOrCleanerAlone.{alone_walk}
 use Rattle.std.proofs.Common.{◌≡◌, ℕ, zero, suc, ◌-◌, ◌≤◌, ◌++◌, ◌∙◌, Bool, true, false, List, [], ◌∷◌, Option, Some, None, ap, append_assoc, arith, refl, subst, sym}
 use Rattle.std.specs.Option.{option_to_list}
 use Rattle.std.specs.Prelude.{is_some}
@@ -15,9 +15,9 @@ use Rattle.nv_entry.specs.declared.node.NodeCopy.{NodeCopy}
 use Rattle.nv_entry.specs.declared.tree.TreeNode.{TreeNode}
 use Rattle.nv_epoch.specs.SnapList.{Snapshots as Living, pins_of}
 use Rattle.nv_machine.specs.Reading.{ArePins, pins_at}
-use Rattle.nv_machine.specs.Maintenance.{copies_at, first_showing, seen_on, show_or_unpin, showing_on, maintenance_turn, visited}
+use Rattle.nv_machine.specs.SnapshotOrCleaner.{copies_at, first_showing, seen_on, show_or_unpin, showing_on, snapshot_or_cleaner_turn, visited}
 use Rattle.nv_machine.specs.Step.{kind_turn}
-use Rattle.nv_machine.specs.World.{ReturnNumber, Ending, Ends, HandState, LockPicked, Moves, Next, Number, Pick, Pin, Refuses, Running, Shared, Show, Showing, MaintenanceStep, Maintenance, Turn, Unpin, Waits, owner_at, Compact, Fresh, LockCleaned, Unlink}
+use Rattle.nv_machine.specs.World.{ReturnNumber, Ending, Ends, HandState, LockPicked, Moves, Next, Number, Pick, Pin, Refuses, Running, Shared, Show, Showing, SnapshotOrCleanerStep, SnapshotOrCleaner, Turn, Unpin, Waits, owner_at, Compact, Fresh, LockCleaned, Unlink}
 use Rattle.nv_machine.proofs.StepWork.{work}
 use Rattle.nv_machine.proofs.WorkKeeps.{AfterTurn, turn_keeps}
 use Rattle.nv_machine.proofs.Lists.{self}
@@ -41,13 +41,13 @@ HasSeen other seen tree = seen ≡ tree
 abbrev pub tree_by : (ℕ → Handle → Option NodeCopy) → ℕ → ℕ → List TreeNode
 tree_by copies inodes snapshot = tree_from (copies snapshot) inodes [] root
 
-abbrev pub ShowsOn : (ℕ → Handle → Option NodeCopy) → ℕ → MaintenanceStep → Ending → Type 0
+abbrev pub ShowsOn : (ℕ → Handle → Option NodeCopy) → ℕ → SnapshotOrCleanerStep → Ending → Type 0
 ShowsOn copies inodes (Show snapshot showing) e = IsSeen (copies snapshot) (tree_by copies inodes snapshot) showing
 ShowsOn copies inodes (Unpin snapshot seen) e = HasSeen e seen (tree_by copies inodes snapshot)
 ShowsOn copies inodes other e = Unit {0}
 
 abbrev pub ShowsAt : (ℕ → Handle → Option NodeCopy) → ℕ → Next → Ending → Type 0
-ShowsAt copies inodes (Maintenance step) e = ShowsOn copies inodes step e
+ShowsAt copies inodes (SnapshotOrCleaner step) e = ShowsOn copies inodes step e
 ShowsAt copies inodes other e = Unit {0}
 
 -- ---- one visit
@@ -107,8 +107,8 @@ visit_seen nodes tree showing found is same =
 
 pub no_show : (copies : ℕ → Handle → Option NodeCopy) (inodes : ℕ) (k : Next) (e : Ending) → ((n : ℕ) → pins_at n k ≡ false)
     → ShowsAt copies inodes k e
-no_show copies inodes (Maintenance (Show snapshot showing)) e none = absurd (true≢false (sym (self snapshot) ∙ none snapshot))
-no_show copies inodes (Maintenance (Unpin snapshot seen)) e none = absurd (true≢false (sym (self snapshot) ∙ none snapshot))
+no_show copies inodes (SnapshotOrCleaner (Show snapshot showing)) e none = absurd (true≢false (sym (self snapshot) ∙ none snapshot))
+no_show copies inodes (SnapshotOrCleaner (Unpin snapshot seen)) e none = absurd (true≢false (sym (self snapshot) ∙ none snapshot))
 no_show copies inodes other e none = tt
 
 -- where pins and shows went together and no pin came, no show came
@@ -150,7 +150,7 @@ module _ (copies : ℕ → Handle → Option NodeCopy) (inodes : ℕ) where
         → copies_at s snapshot handle ≡ copies snapshot handle)
         (first : (snapshot pins : ℕ) → pins_of s.book.snaps snapshot ≡ Some pins
         → IsSeen (copies snapshot) (tree_by copies inodes snapshot) (first_showing s)) where
-      goes_shows : (step : MaintenanceStep) → ShowsOn copies inodes step r.ending → goes_next step ≡ true → IsClearOn step s
+      goes_shows : (step : SnapshotOrCleanerStep) → ShowsOn copies inodes step r.ending → goes_next step ≡ true → IsClearOn step s
           → ShowsOn copies inodes (next_on step s) r.ending
       goes_shows (Pin snapshot) is on clear = go (pins_of s.book.snaps snapshot) refl clear.1 where
         go : (pins : Option ℕ) → pins_of s.book.snaps snapshot ≡ pins → is_some pins ≡ true
@@ -169,14 +169,14 @@ module _ (copies : ℕ → Handle → Option NodeCopy) (inodes : ℕ) where
       goes_shows (LockCleaned manner ino) is on clear = tt
       goes_shows other is on clear = absurd (false≢true on)
 
-      leads_shows : (step next : MaintenanceStep) → LeadsTo step next → ShowsOn copies inodes next r.ending
+      leads_shows : (step next : SnapshotOrCleanerStep) → LeadsTo step next → ShowsOn copies inodes next r.ending
       leads_shows step (Fresh ino asked wanted) leads = tt
       leads_shows step (Unlink ino) leads = tt
       leads_shows step (Compact ino) leads = tt
       leads_shows step other leads = absurd (false≢true leads.to)
 
-      step_shows : (step : MaintenanceStep) → IsBare (Maintenance step) h r → ShowsOn copies inodes step r.ending
-          → OnShows (maintenance_turn step a granted s h r)
+      step_shows : (step : SnapshotOrCleanerStep) → IsBare (SnapshotOrCleaner step) h r → ShowsOn copies inodes step r.ending
+          → OnShows (snapshot_or_cleaner_turn step a granted s h r)
       step_shows step bare is = alone_walk OnShows step a granted s h r bare.0 bare.1 (record {
         waits = tt;
         refused = λ fault on. tt;
@@ -194,7 +194,7 @@ module _ (copies : ℕ → Handle → Option NodeCopy) (inodes : ℕ) where
         → ((snapshot pins : ℕ) → pins_of s.book.snaps snapshot ≡ Some pins
         → IsSeen (copies snapshot) (tree_by copies inodes snapshot) (first_showing s))
         → ShowsAt copies inodes k r.ending → OnShows (kind_turn k block a granted s h r)
-    kind_shows (Maintenance step) bare found first is = step_shows found first step bare is
+    kind_shows (SnapshotOrCleaner step) bare found first is = step_shows found first step bare is
     kind_shows Number bare found first is = plain_shows Number (λ n. refl) (number_same s.pool.numbers s h)
     kind_shows ReturnNumber bare found first is = plain_shows ReturnNumber (λ n. refl) (back_same h.ino s h)
     kind_shows other bare found first is = plain_shows other (λ n. refl) refl

@@ -55,7 +55,7 @@ held_tails w actor r is runs out ino held =
 
 some_handle : (nodes : Handle → Option NodeCopy) (made : Handle) (found : LookupResult) (c : Call) → 0 < length (effect nodes made c)
     → 0 < length (handles found c)
-some_handle nodes made found (call.Maintenance what) any = absurd (omega (arith, any))
+some_handle nodes made found (call.SnapshotOrCleaner what) any = absurd (omega (arith, any))
 some_handle nodes made found other any = omega arith
 
 some_slot : (slots : List ℕ) (n : ℕ) → has slots n ≡ true → 0 < length slots

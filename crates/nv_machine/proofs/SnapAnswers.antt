@@ -10,10 +10,10 @@ use Rattle.nv_calls.specs.declared.answer.Answer.TheVariants as answers
 use Rattle.nv_entry.specs.declared.tree.TreeNode.{TreeNode}
 use Rattle.nv_epoch.specs.SnapList.{pins_of}
 use Rattle.nv_machine.specs.PlainRun.{plain_after, plain_of}
-use Rattle.nv_machine.specs.Maintenance.{drop_tests, drop_turn, if_free, make_tests, make_turn, shown_by, unpin_turn}
+use Rattle.nv_machine.specs.SnapshotOrCleaner.{drop_tests, drop_turn, if_free, make_tests, make_turn, shown_by, unpin_turn}
 use Rattle.nv_machine.specs.Starts.{IsStart}
 use Rattle.nv_machine.specs.Step.{Step, after, kind_turn, reply_of, step, turned}
-use Rattle.nv_machine.specs.World.{Done, Drop, Ending, Event, Go, HandState, Make, Next, Refused, Refuses, Running, MaintenanceStep, Maintenance, Turn, Unpin, Waiting, World, actor_at, empty_hand}
+use Rattle.nv_machine.specs.World.{Done, Drop, Ending, Event, Go, HandState, Make, Next, Refused, Refuses, Running, SnapshotOrCleanerStep, SnapshotOrCleaner, Turn, Unpin, Waiting, World, actor_at, empty_hand}
 use Rattle.nv_machine.proofs.SingleEvents.{goes}
 use Rattle.nv_machine.proofs.FiledTurns.{refused_at_once}
 use Rattle.nv_machine.proofs.OverEvents.{runs_inside}
@@ -56,13 +56,13 @@ module _ (w : World) (actor : ℕ) (granted : Bool) (r : Running) (is : (actor_a
   h = (actor_at w actor).hand
 
   -- what is told of the step before which the call is, is told of the event
-  of_event : (P : Step → Type 0) (kind : MaintenanceStep) → r.next ≡ Maintenance kind
-      → P (turned (kind_turn (Maintenance kind) w.numbers.block actor granted w.shared h r) actor w) → P (step w (Go actor granted))
+  of_event : (P : Step → Type 0) (kind : SnapshotOrCleanerStep) → r.next ≡ SnapshotOrCleaner kind
+      → P (turned (kind_turn (SnapshotOrCleaner kind) w.numbers.block actor granted w.shared h r) actor w) → P (step w (Go actor granted))
   of_event P kind next holds =
       subst P (sym (goes w actor granted r (runs_inside w actor r is) is).is_turn)
       (subst (λ (k : Next). P (turned (kind_turn k w.numbers.block actor granted w.shared h r) actor w)) (sym next) holds)
 
-  pub unpin_refused : (snapshot : ℕ) (seen : List TreeNode) (fault : Fault) → r.next ≡ Maintenance (Unpin snapshot seen)
+  pub unpin_refused : (snapshot : ℕ) (seen : List TreeNode) (fault : Fault) → r.next ≡ SnapshotOrCleaner (Unpin snapshot seen)
       → r.ending ≡ Refuses fault
       → ((step w (Go actor granted)).reply ≡ Waiting) ⊎ ((step w (Go actor granted)).reply ≡ Refused fault)
   unpin_refused snapshot seen fault next ending =
@@ -73,12 +73,12 @@ module _ (g : GeometryNumbers) (start : World) (records : List Record) (events :
   abbrev w : World
   w = after start events
 
-  bare : (kind : MaintenanceStep) → IsStart g start records → r.next ≡ Maintenance kind
-      → IsBare (Maintenance kind) (actor_at w actor).hand r
+  bare : (kind : SnapshotOrCleanerStep) → IsStart g start records → r.next ≡ SnapshotOrCleaner kind
+      → IsBare (SnapshotOrCleaner kind) (actor_at w actor).hand r
   bare kind is_start next =
       subst (λ (k : Next). IsBare k (actor_at w actor).hand r) next (all_bare g start records events is_start actor r is)
 
-  pub made_told : (told : Answer) → IsStart g start records → r.next ≡ Maintenance Make → (step w (Go actor granted)).reply ≡ Done told
+  pub made_told : (told : Answer) → IsStart g start records → r.next ≡ SnapshotOrCleaner Make → (step w (Go actor granted)).reply ≡ Done told
       → told ≡ answers.Snapshot (plain_after start events (plain_of start)).epoch
   made_told told is_start next reply =
       let b = bare Make is_start next in
@@ -87,7 +87,7 @@ module _ (g : GeometryNumbers) (start : World) (records : List Record) (events :
       (make_tells actor w (actor_at w actor).hand r (make_tests w.shared.book.snaps) b.0 b.1)) told reply
       ∙ ap (λ (epoch : ℕ). answers.Snapshot epoch) (in_step g start records events is_start).epoch
 
-  pub dropped_told : (snapshot : ℕ) (told : Answer) → IsStart g start records → r.next ≡ Maintenance (Drop snapshot)
+  pub dropped_told : (snapshot : ℕ) (told : Answer) → IsStart g start records → r.next ≡ SnapshotOrCleaner (Drop snapshot)
       → (step w (Go actor granted)).reply ≡ Done told → told ≡ answers.Nothing
   dropped_told snapshot told is_start next reply =
       let b = bare (Drop snapshot) is_start next in

@@ -12,11 +12,11 @@ use Rattle.nv_entry.specs.declared.node.NodeCopy.{NodeCopy}
 use Rattle.nv_epoch.specs.SnapList.{Snapshots as Living, pins_of}
 use Rattle.nv_machine.specs.PlainRun.{copy_in, Plain, plain_change_of, plain_after, plain_of, plain_step}
 use Rattle.nv_machine.specs.Reading.{plain_tests, test_pins, test_there, tests_on}
-use Rattle.nv_machine.specs.Maintenance.{drop_tests}
+use Rattle.nv_machine.specs.SnapshotOrCleaner.{drop_tests}
 use Rattle.nv_machine.specs.Starts.{IsStart}
 use Rattle.nv_machine.specs.Step.{after, step}
 use Rattle.nv_epoch.specs.declared.snapshot.Snapshot.{Snapshot}
-use Rattle.nv_machine.specs.World.{Shared, Drop, Event, Make, Pin, MaintenanceStep, World}
+use Rattle.nv_machine.specs.World.{Shared, Drop, Event, Make, Pin, SnapshotOrCleanerStep, World}
 use Rattle.nv_machine.proofs.EveryWorld.{all_numbers, reached}
 use Rattle.nv_machine.proofs.SnapSteps.{AreBare, are_bare, event_snaps}
 use Rattle.nv_machine.proofs.SnapshotCopies.{AreAlike, AreBefore, as_many, deed_alike, deed_before, deed_epoch, deed_most, same_pins}
@@ -84,7 +84,7 @@ abbrev made_tests : ℕ → ℕ → ℕ → Tests
 made_tests epoch most living =
     if nat_le NUMBER epoch then Err EpochLimit else if nat_le most living then Err TooManySnapshots else passes
 
-refusals_same : (g : GeometryNumbers) (l : Living) (p : Plain) (kind : MaintenanceStep) → InStep g l p
+refusals_same : (g : GeometryNumbers) (l : Living) (p : Plain) (kind : SnapshotOrCleanerStep) → InStep g l p
     → tests_on kind l ≡ plain_tests g.snaps kind p
 refusals_same g l p Make is =
     ap (λ (n : ℕ). made_tests n l.most (length l.living)) is.epoch
@@ -95,7 +95,7 @@ refusals_same g l p (Drop snapshot) is =
 refusals_same g l p (Pin snapshot) is = ap test_there (same_pins Any l.living p.copies snapshot is.alike)
 refusals_same g l p other is = refl
 
-pub refusals_told : (g : GeometryNumbers) (start : World) (records : List Record) (events : List Event) (kind : MaintenanceStep)
+pub refusals_told : (g : GeometryNumbers) (start : World) (records : List Record) (events : List Event) (kind : SnapshotOrCleanerStep)
     → IsStart g start records
     → tests_on kind (after start events).shared.book.snaps
     ≡ plain_tests g.snaps kind (plain_after start events (plain_of start))

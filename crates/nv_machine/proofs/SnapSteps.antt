@@ -2,8 +2,8 @@
 use Rattle.nv_base.specs.declared.fault.Fault.{Fault}
 use Rattle.std.proofs.lemmas.Bool.{false≢true}
 use Rattle.nv_calls.specs.declared.answer.Answer.TheVariants as answers
-use Rattle.nv_machine.proofs.MaintenanceWalk.{is_denied, tells, told_on}
-use Rattle.nv_machine.proofs.MaintenanceAlone.{alone_walk}
+use Rattle.nv_machine.proofs.SnapshotOrCleanerWalk.{is_denied, tells, told_on}
+use Rattle.nv_machine.proofs.SnapshotOrCleanerAlone.{alone_walk}
 use Rattle.std.proofs.Common.{◌≡◌, ℕ, ◌∙◌, Bool, true, false, if◌then◌else◌, List, [], ◌∷◌, length, nat_lt, Option, Some, None, refl, subst, sym, ◌<◌, arith}
 use Rattle.std.specs.Prelude.{Ok, Err}
 use Rattle.nv_base.specs.declared.geometry.GeometryNumbers.{GeometryNumbers}
@@ -13,11 +13,11 @@ use Rattle.nv_machine.specs.Locks.{AreLocks, HasSlots, IsInside, commits_at}
 use Rattle.nv_machine.specs.Sequence.{slots_on}
 use Rattle.nv_machine.specs.PlainRun.{Commits, PlainChange, Nothing, Numbers, Maintains, plain_change, plain_change_of, done_on, entered}
 use Rattle.nv_machine.specs.Reads.{written_slots}
-use Rattle.nv_machine.specs.Maintenance.{maintenance_turn}
+use Rattle.nv_machine.specs.SnapshotOrCleaner.{snapshot_or_cleaner_turn}
 use Rattle.nv_machine.specs.Step.{kind_turn, step, turned}
-use Rattle.nv_machine.specs.World.{ReturnNumber, Drop, Ends, Enter, Event, HandState, Make, Moves, Next, Number, Pin, Publish, Running, Shared, MaintenanceStep, Maintenance, Turn, Unpin, Waits, World, actor_at, Judge, Pick}
+use Rattle.nv_machine.specs.World.{ReturnNumber, Drop, Ends, Enter, Event, HandState, Make, Moves, Next, Number, Pin, Publish, Running, Shared, SnapshotOrCleanerStep, SnapshotOrCleaner, Turn, Unpin, Waits, World, actor_at, PlanCleaning, Pick}
 use Rattle.nv_machine.proofs.OverEvents.{event_deed, turn_at}
-use Rattle.nv_machine.proofs.StepWork.{return_number_work, work, number_work, maintenance_work}
+use Rattle.nv_machine.proofs.StepWork.{return_number_work, work, number_work, snapshot_or_cleaner_work}
 use Rattle.nv_machine.proofs.WorkKeeps.{AfterTurn, turn_keeps}
 
 -- ---- the list after a deed
@@ -43,50 +43,50 @@ same_snaps d l (Ends result s h) e on = on ∙ sym e
 
 -- ---- the steps of calls on snapshots
 
-abbrev OnStep : MaintenanceStep → Living → Turn → Type 0
+abbrev OnStep : SnapshotOrCleanerStep → Living → Turn → Type 0
 OnStep step l t = OnSnaps (done_on step t) l t
 
 module _ (a : ℕ) (granted : Bool) (s : Shared) (h : HandState) (r : Running) where
   abbrev l : Living
   l = s.book.snaps
 
-  work_snaps : (step : MaintenanceStep) → (maintenance_work step a s h).shared.book.snaps ≡ snaps_after (Maintains step) l
+  work_snaps : (step : SnapshotOrCleanerStep) → (snapshot_or_cleaner_work step a s h).shared.book.snaps ≡ snaps_after (Maintains step) l
   work_snaps Make = refl
   work_snaps other = refl
 
-  refused_snaps : (step : MaintenanceStep) (fault : Fault) → is_denied step ≡ true → OnStep step l (Ends (Err fault) s h)
+  refused_snaps : (step : SnapshotOrCleanerStep) (fault : Fault) → is_denied step ≡ true → OnStep step l (Ends (Err fault) s h)
   refused_snaps (Unpin snapshot seen) fault is = absurd (false≢true is)
   refused_snaps other fault is = refl
 
   -- a step that is refused and unlocks leaves the list of snapshots
-  denied_snaps : (step : MaintenanceStep) → (0 < length (slots_on step)) → is_denied step ≡ true → l ≡ snaps_after (Maintains step) l
-  denied_snaps (Judge manner slot) some is = refl
+  denied_snaps : (step : SnapshotOrCleanerStep) → (0 < length (slots_on step)) → is_denied step ≡ true → l ≡ snaps_after (Maintains step) l
+  denied_snaps (PlanCleaning manner slot) some is = refl
   denied_snaps Make some is = absurd (omega (arith, some))
   denied_snaps (Drop snapshot) some is = absurd (omega (arith, some))
   denied_snaps (Pin snapshot) some is = absurd (omega (arith, some))
   denied_snaps (Pick draining) some is = absurd (omega (arith, some))
   denied_snaps other some is = absurd (false≢true is)
 
-  told_snaps : (step : MaintenanceStep) → tells step ≡ true
-      → OnStep step l (Ends (told_on step s r) (maintenance_work step a s h).shared (maintenance_work step a s h).hand)
+  told_snaps : (step : SnapshotOrCleanerStep) → tells step ≡ true
+      → OnStep step l (Ends (told_on step s r) (snapshot_or_cleaner_work step a s h).shared (snapshot_or_cleaner_work step a s h).hand)
   told_snaps Make is = refl
   told_snaps (Drop snapshot) is = refl
   told_snaps (Unpin snapshot seen) is = refl
   told_snaps other is = absurd (false≢true is)
 
-  step_snaps : (step : MaintenanceStep) → HandOn step h → r.slots ≡ slots_on step
-      → OnStep step l (maintenance_turn step a granted s h r)
+  step_snaps : (step : SnapshotOrCleanerStep) → HandOn step h → r.slots ≡ slots_on step
+      → OnStep step l (snapshot_or_cleaner_turn step a granted s h r)
   step_snaps step empty slots = alone_walk (OnStep step l) step a granted s h r empty slots (record {
     waits = refl;
     refused = refused_snaps step;
     goes = λ on clear. work_snaps step;
     told = λ on clear. told_snaps step on;
-    denied = λ snapshot showing on. subst (λ (x : MaintenanceStep). l ≡ snaps_after (Maintains x) l) (sym on) refl;
+    denied = λ snapshot showing on. subst (λ (x : SnapshotOrCleanerStep). l ≡ snaps_after (Maintains x) l) (sym on) refl;
     unlocks = λ fault on some. denied_snaps step some on;
     leads_on = λ next leads. work_snaps step;
     over = λ e ends. work_snaps step;
     none = λ draining on nothing.
-        subst (λ (x : MaintenanceStep). OnStep x l (Ends (Ok (answers.Count draining.released)) s h)) (sym on) refl;
+        subst (λ (x : SnapshotOrCleanerStep). OnStep x l (Ends (Ok (answers.Count draining.released)) s h)) (sym on) refl;
   })
 
 -- ---- every kind
@@ -105,7 +105,7 @@ publish_same false l = refl
 
 -- what is known of the hand and the slots of a call on snapshots
 abbrev pub IsBare : Next → HandState → Running → Type 0
-IsBare (Maintenance step) h r = HandOn step h × (r.slots ≡ slots_on step)
+IsBare (SnapshotOrCleaner step) h r = HandOn step h × (r.slots ≡ slots_on step)
 IsBare other h r = Unit {0}
 
 pub number_same : (numbers : List ℕ) (s : Shared) (h : HandState) → (number_work numbers s h).shared.book.snaps ≡ s.book.snaps
@@ -131,7 +131,7 @@ module _ (block a : ℕ) (granted : Bool) (s : Shared) (h : HandState) (r : Runn
   kind_snaps Enter bare = file_snaps Enter refl (entered_same (kind_turn Enter block a granted s h r) s.book.snaps)
   kind_snaps (Publish place) bare = file_snaps (Publish place) refl (publish_same (nat_lt 1 (length (written_slots r))) s.book.snaps)
   kind_snaps ReturnNumber bare = file_snaps ReturnNumber (back_same h.ino s h) refl
-  kind_snaps (Maintenance step) bare = step_snaps a granted s h r step bare.0 bare.1
+  kind_snaps (SnapshotOrCleaner step) bare = step_snaps a granted s h r step bare.0 bare.1
   kind_snaps other bare = file_snaps other refl refl
 
 -- ---- events
@@ -157,7 +157,7 @@ bare_at : (g : GeometryNumbers) (w : World) (k : Next) (h : HandState) (r : Runn
     → HasSlots (length w.shared.owners) (Some r) → IsBare k h r
 bare_at g w k h r hand is slots = subst (λ (n : Next). IsBare n h r) is (go r.next hand.0 slots.1) where
   go : (n : Next) → HandAt g n h r → IsInside n r → IsBare n h r
-  go (Maintenance step) hand inside = (hand, inside)
+  go (SnapshotOrCleaner step) hand inside = (hand, inside)
   go other hand inside = tt
 
 pub are_bare : (g : GeometryNumbers) (w : World) → AreLocks w → AreNumbers g w → AreBare w

@@ -7,7 +7,7 @@ use Rattle.nv_base.specs.declared.node.Kind.TheVariants as kind
 use Rattle.nv_book.specs.Manifests.{gain_of, held_of}
 use Rattle.nv_calls.specs.declared.answer.Answer.TheVariants as answer
 use Rattle.nv_calls.specs.declared.call.Call.TheVariants as call
-use Rattle.nv_calls.specs.declared.maintenance_call.MaintenanceCall.TheVariants as on
+use Rattle.nv_calls.specs.declared.snapshot_or_cleaner_call.SnapshotOrCleanerCall.TheVariants as on
 use Rattle.nv_epoch.specs.SnapList.{ids}
 use Rattle.nv_machine.specs.Format.{formatted}
 use Rattle.nv_machine.specs.Step.{step}
@@ -16,10 +16,10 @@ use Rattle.nv_machine.proofs.ScriptRows.{DoCall, Goes, Line, StartCall, device, 
 use Rattle.nv_base.specs.Memory.{out_of_memory}
 
 abbrev pub snap : Line
-snap = DoCall 0 (call.Maintenance on.Snap)
+snap = DoCall 0 (call.SnapshotOrCleaner on.Snap)
 
 abbrev dropping : ℕ → ℕ → Line
-dropping actor snapshot = DoCall actor (call.Maintenance (on.Drop snapshot))
+dropping actor snapshot = DoCall actor (call.SnapshotOrCleaner (on.Drop snapshot))
 
 -- a page of four equal bytes
 abbrev pub page : ℕ → List ℕ
@@ -56,7 +56,7 @@ one_held = refl
 held_by_one : held_of 1 (after_lines twice_written).shared.book.manifests ≡ 1
 held_by_one = refl
 
-as_it_was : told (line (after_lines twice_written) (DoCall 0 (call.Maintenance (on.Show 1)))).reply
+as_it_was : told (line (after_lines twice_written) (DoCall 0 (call.SnapshotOrCleaner (on.Show 1)))).reply
     ≡ ([], (kind.Dir, (493, []))) ∷ ((97 ∷ []) ∷ [], (kind.File, (420, page 97))) ∷ []
 as_it_was = refl
 
@@ -79,10 +79,10 @@ deferring = made ++ snap ∷ write 98 ∷ dropping 0 1 ∷ []
 not_free : space (after_lines deferring) ≡ 12 ∷ 2 ∷ 1 ∷ 1 ∷ 0 ∷ []
 not_free = refl
 
-drained : play (after_lines deferring) (DoCall 0 (call.Maintenance (on.Drain 9)) ∷ []) ≡ Done (answer.Count 2) ∷ []
+drained : play (after_lines deferring) (DoCall 0 (call.SnapshotOrCleaner (on.Drain 9)) ∷ []) ≡ Done (answer.Count 2) ∷ []
 drained = refl
 
-free_then : space (after_lines (deferring ++ DoCall 0 (call.Maintenance (on.Drain 9)) ∷ [])) ≡ 13 ∷ 2 ∷ 1 ∷ 0 ∷ 0 ∷ []
+free_then : space (after_lines (deferring ++ DoCall 0 (call.SnapshotOrCleaner (on.Drain 9)) ∷ [])) ≡ 13 ∷ 2 ∷ 1 ∷ 0 ∷ 0 ∷ []
 free_then = refl
 
 -- ---- a record moves down
@@ -109,13 +109,13 @@ deferred_then = refl
 abbrev four : List Line
 four = dropping 0 7 ∷ snap ∷ snap ∷ snap ∷ snap ∷ snap ∷ []
 
-refused : play (formatted device) (four ++ StartCall 0 (call.Maintenance (on.Show 2)) ∷ Goes 0 1 ∷ dropping 1 2 ∷ [])
+refused : play (formatted device) (four ++ StartCall 0 (call.SnapshotOrCleaner (on.Show 2)) ∷ Goes 0 1 ∷ dropping 1 2 ∷ [])
     ≡ Refused fault.NoSnapshot ∷ Done (answer.Snapshot 1) ∷ Done (answer.Snapshot 2) ∷ Done (answer.Snapshot 3)
     ∷ Done (answer.Snapshot 4) ∷ Refused fault.TooManySnapshots ∷ Started ∷ Moved ∷ Refused fault.Pinned ∷ []
 refused = refl
 
 abbrev showing_two : World
-showing_two = after_lines (four ++ StartCall 0 (call.Maintenance (on.Show 2)) ∷ Goes 0 1 ∷ [])
+showing_two = after_lines (four ++ StartCall 0 (call.SnapshotOrCleaner (on.Show 2)) ∷ Goes 0 1 ∷ [])
 
 shown_then : told (line showing_two (Goes 0 99)).reply ≡ ([], (kind.Dir, (493, []))) ∷ []
 shown_then = refl

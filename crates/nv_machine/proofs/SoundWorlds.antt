@@ -22,10 +22,10 @@ use Rattle.nv_machine.specs.Hands.{AreLists, HandAt, HasPlanned, IsParted}
 use Rattle.nv_machine.specs.Kinds.{asked_list, blocks_in, blocks_left, entries_for, less_list, with_entries, with_log_pages}
 use Rattle.nv_calls.specs.FillPages.{filled, fresh_pages}
 use Rattle.nv_machine.specs.Reads.{copies, pages_needed, slot_at, written_slots}
-use Rattle.nv_machine.specs.World.{Append, ReturnNumber, Check, Give, HandState, Look, Next, Number, Publish, Ready, Retire, Running, Shared, Maintenance, MaintenanceStep, Compact, Unlink, TakeBlocks, TakeLogPages, Visit, cell_at, list_at, no_cell, no_list, with_cell, with_numbers}
+use Rattle.nv_machine.specs.World.{Append, ReturnNumber, Check, Give, HandState, Look, Next, Number, Publish, Ready, Retire, Running, Shared, SnapshotOrCleaner, SnapshotOrCleanerStep, Compact, Unlink, TakeBlocks, TakeLogPages, Visit, cell_at, list_at, no_cell, no_list, with_cell, with_numbers}
 use Rattle.nv_machine.proofs.BlockCounts.{given_all}
 use Rattle.nv_machine.proofs.HandsInCommits.{slot_first}
-use Rattle.nv_machine.proofs.StepWork.{append_work, by_back, by_number, work, maintenance_work}
+use Rattle.nv_machine.proofs.StepWork.{append_work, by_back, by_number, work, snapshot_or_cleaner_work}
 use Rattle.nv_machine.proofs.LocksHeld.{Before}
 use Rattle.nv_machine.proofs.PartPlaces.{entries_parted, erased_parted, paged_parted, published_parted, sized_both, sized_first, sized_later}
 use Rattle.nv_machine.proofs.SortedLists.{given_free, less_free, with_home}
@@ -227,9 +227,9 @@ fresh_sound g cpu wanted s h sound =
     }
 
 -- a cleaning moves log pages between the chain and the hand
-clean_sound : (g : GeometryNumbers) (step : MaintenanceStep) (a : ℕ) (s : Shared) (h : HandState) → is_clean_on step ≡ true
+clean_sound : (g : GeometryNumbers) (step : SnapshotOrCleanerStep) (a : ℕ) (s : Shared) (h : HandState) → is_clean_on step ≡ true
     → IsSound g s h → IsParted g.block (clean_cell_on step s h)
-    → IsSound g (maintenance_work step a s h).shared (maintenance_work step a s h).hand
+    → IsSound g (snapshot_or_cleaner_work step a s h).shared (snapshot_or_cleaner_work step a s h).hand
 clean_sound g (Unlink ino) a s h is sound parted =
     let cell = cell_at s ino in
     let all = all_sized g.block h sound.sized in
@@ -300,8 +300,8 @@ work_sound g (Give cpu) a s h r b at sound cleans = record {
 }
 work_sound g ReturnNumber a s h r b at sound cleans = by_back (IsSound g) s h (same_sound g s h sound)
 work_sound g Visit a s h r b at sound cleans = sound
-work_sound g (Maintenance step) a s h r b at sound cleans =
-    on_step (IsSound g) step a s h (λ is. removal_sound g (removal_on step s h) s h (is_removed (Maintenance step) s h r is) sound)
+work_sound g (SnapshotOrCleaner step) a s h r b at sound cleans =
+    on_step (IsSound g) step a s h (λ is. removal_sound g (removal_on step s h) s h (is_removed (SnapshotOrCleaner step) s h r is) sound)
     (λ ino asked wanted is. fresh_sound g (asked_list (length s.lists) a asked) wanted s h sound)
     (λ is. clean_sound g step a s h is sound (cleans is))
     (λ book owners.

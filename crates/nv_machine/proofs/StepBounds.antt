@@ -9,9 +9,9 @@ use Rattle.nv_machine.specs.Bound.{Falls, bound, most_steps, most_steps_of, rank
 use Rattle.nv_machine.specs.Kinds.{blocks_in, given}
 use Rattle.nv_machine.specs.Reads.{copies, slots_of, written_slots}
 use Rattle.nv_machine.specs.Sequence.{Beginning, Locks, Looks, Numbers, Maintains, Visits, beginning, begun, directories, first_clean, new_draining, nothing_looked, slots_on, started}
-use Rattle.nv_machine.specs.Maintenance.{copies_at, first_showing, seen_on, show_or_unpin, visited}
+use Rattle.nv_machine.specs.SnapshotOrCleaner.{copies_at, first_showing, seen_on, show_or_unpin, visited}
 use Rattle.nv_machine.specs.Step.{ending_at, is_numbered, kind_turn, made_in, same_looked}
-use Rattle.nv_machine.specs.World.{Append, Auto, ReturnNumber, Check, Close, Drop, Ending, Enter, Fast, Give, HandState, Leave, Lock, LockPicked, Look, Make, Manner, Next, Number, Open, Pick, Pin, Publish, Ready, Release, Retire, Running, Shared, Show, Showing, MaintenanceStep, Maintenance, TakeBlocks, TakeLogPages, Thorough, Unlock, Unpin, Visit, Compact, Fresh, Judge, LockCleaned, Unlink}
+use Rattle.nv_machine.specs.World.{Append, Auto, ReturnNumber, Check, Close, Drop, Ending, Enter, Fast, Give, HandState, Leave, Lock, LockPicked, Look, Make, Manner, Next, Number, Open, Pick, Pin, Publish, Ready, Release, Retire, Running, Shared, Show, Showing, SnapshotOrCleanerStep, SnapshotOrCleaner, TakeBlocks, TakeLogPages, Thorough, Unlock, Unpin, Visit, Compact, Fresh, PlanCleaning, LockCleaned, Unlink}
 use Rattle.std.proofs.lemmas.Nat.{mul-le}
 use Rattle.nv_machine.proofs.SlotBounds.{home_from-above, slots_of-length, written-length}
 use Rattle.nv_machine.proofs.FileStepBounds.{Lower, append_from, append_next, behind_of, ends_fall, falls_so, first_lock, lasts_fall, lock_next, look_next, none_behind, overs_fall, publish_from, publish_next, rests_fall, retire_from, retire_next}
@@ -19,23 +19,23 @@ use Rattle.nv_machine.proofs.NextSteps.{Untold}
 use Rattle.nv_machine.proofs.StepWays.{After, EndsBy, noted, numbered_slots}
 use Rattle.nv_machine.proofs.StepWalk.{WaysOf, walk_of}
 use Rattle.nv_machine.proofs.FirstSteps.{clean_by}
-use Rattle.nv_machine.proofs.MaintenanceWalk.{StepWaysOf, step_walk_by}
+use Rattle.nv_machine.proofs.SnapshotOrCleanerWalk.{StepWaysOf, step_walk_by}
 use Rattle.nv_calls.specs.declared.call.Call.TheVariants as call
-use Rattle.nv_calls.specs.declared.maintenance_call.MaintenanceCall.TheVariants as on
+use Rattle.nv_calls.specs.declared.snapshot_or_cleaner_call.SnapshotOrCleanerCall.TheVariants as on
 use Rattle.nv_reader.specs.Walk as walk
 
 -- ---- shows
 
 -- the next step of a show, with as many visits left as it may make
 show_rank : (c n snapshot left : ℕ) (visits : List walk.Visit) (showing : Showing) → showing.left ≡ left
-    → rank c n (Maintenance (show_or_unpin left visits snapshot showing)) ≤ 2 + left
+    → rank c n (SnapshotOrCleaner (show_or_unpin left visits snapshot showing)) ≤ 2 + left
 show_rank c n snapshot zero visits showing e = omega arith
 show_rank c n snapshot (suc left) [] showing e = omega arith
 show_rank c n snapshot (suc left) (visit ∷ visits) showing e = omega (arith, e)
 
 -- or with one less than before
 show_next : (c n snapshot before left : ℕ) (visits : List walk.Visit) (showing : Showing) → showing.left ≡ left → left ≡ before - 1
-    → rank c n (Maintenance (show_or_unpin left visits snapshot showing)) < 2 + before
+    → rank c n (SnapshotOrCleaner (show_or_unpin left visits snapshot showing)) < 2 + before
 show_next c n snapshot before zero visits showing e f = omega arith
 show_next c n snapshot before (suc left) [] showing e f = omega arith
 show_next c n snapshot before (suc left) (visit ∷ visits) showing e f = omega (arith, e, f)
@@ -64,11 +64,11 @@ module _ (block actor : ℕ) (granted : Bool) (s : Shared) (h : HandState) (r : 
       ∙ none_behind cpus (early (copies s) r.call) (same_looked (looked (copies s) r.call) r.looked) (refusal block (copies s) r.call)
       (is_numbered (beginning r.call) h.ino) (effect (copies s) (made_in s h.ino r.made) r.call)
 
-  step_ways : (step : MaintenanceStep) → StepWaysOf (Lower cpus (most (Maintenance step))) Untold step actor granted s h r
-  step_ways Make = (λ fault by. ends (Maintenance Make) (omega arith), λ clear. tt)
-  step_ways (Drop snapshot) = (λ fault by. ends (Maintenance (Drop snapshot)) (omega arith), λ clear. tt)
+  step_ways : (step : SnapshotOrCleanerStep) → StepWaysOf (Lower cpus (most (SnapshotOrCleaner step))) Untold step actor granted s h r
+  step_ways Make = (λ fault by. ends (SnapshotOrCleaner Make) (omega arith), λ clear. tt)
+  step_ways (Drop snapshot) = (λ fault by. ends (SnapshotOrCleaner (Drop snapshot)) (omega arith), λ clear. tt)
   step_ways (Pin snapshot) = (
-    λ none. ends (Maintenance (Pin snapshot)) (omega arith),
+    λ none. ends (SnapshotOrCleaner (Pin snapshot)) (omega arith),
     λ clear. (let next = show_rank cpus (length r.slots) snapshot INODES (first_showing s).visits (first_showing s) refl in
         omega (arith, next)),
   )
@@ -80,26 +80,26 @@ module _ (block actor : ℕ) (granted : Bool) (s : Shared) (h : HandState) (r : 
   )
   step_ways (Unpin snapshot seen) = λ clear. tt
   step_ways (Pick draining) =
-      (λ lacks first. ends (Maintenance (Pick draining)) (omega arith), λ empty. tt, λ picked rest free is. omega arith)
+      (λ lacks first. ends (SnapshotOrCleaner (Pick draining)) (omega arith), λ empty. tt, λ picked rest free is. omega arith)
   step_ways (LockPicked draining picked) = λ free. omega arith
-  step_ways (Release draining picked) = ends (Maintenance (Release draining picked)) (omega arith)
+  step_ways (Release draining picked) = ends (SnapshotOrCleaner (Release draining picked)) (omega arith)
   step_ways (LockCleaned manner ino) = λ free. omega arith
-  step_ways (Judge manner slot) = (
-    λ none. ends (Maintenance (Judge manner slot)) (omega arith),
-    λ some lacks. ends (Maintenance (Judge manner slot)) (omega arith),
+  step_ways (PlanCleaning manner slot) = (
+    λ none. ends (SnapshotOrCleaner (PlanCleaning manner slot)) (omega arith),
+    λ some lacks. ends (SnapshotOrCleaner (PlanCleaning manner slot)) (omega arith),
     λ ino is some. record {
       fast = λ plain. omega arith;
       some = λ n plain more. omega arith;
-      none = λ plain less. ends (Maintenance (Judge manner slot)) (omega arith);
+      none = λ plain less. ends (SnapshotOrCleaner (PlanCleaning manner slot)) (omega arith);
     },
   )
   step_ways (Fresh ino asked wanted) = record {
     ready = λ q. omega arith;
     more = λ n q m. omega (arith, ltb-true (asked + 1) cpus m);
-    short = λ n q m. ends (Maintenance (Fresh ino asked wanted)) (omega arith);
+    short = λ n q m. ends (SnapshotOrCleaner (Fresh ino asked wanted)) (omega arith);
   }
-  step_ways (Unlink ino) = ends (Maintenance (Unlink ino)) (omega arith)
-  step_ways (Compact ino) = ends (Maintenance (Compact ino)) (omega arith)
+  step_ways (Unlink ino) = ends (SnapshotOrCleaner (Unlink ino)) (omega arith)
+  step_ways (Compact ino) = ends (SnapshotOrCleaner (Compact ino)) (omega arith)
 
   ways : (k : Next) → WaysOf (Lower cpus (most k)) Untold k block actor granted s h r
   ways Number = omega (arith, first_lock cpus (numbered_slots s.pool.numbers s r) (numbered_few s.pool.numbers s r))
@@ -168,11 +168,11 @@ module _ (block actor : ℕ) (granted : Bool) (s : Shared) (h : HandState) (r : 
       (omega arith)
   ways ReturnNumber = lasts_fall cpus (most ReturnNumber) (omega arith)
   ways Visit = (λ fault free by. ends Visit (omega arith), λ free passed lacks. ends Visit (omega arith), λ free passed. tt)
-  ways (Maintenance step) = tt
+  ways (SnapshotOrCleaner step) = tt
 
   walks : (k : Next) → After (Lower cpus (most k)) Untold (kind_turn k block actor granted s h r)
-  walks (Maintenance step) =
-      step_walk_by (Unit {0}) (Lower cpus (most (Maintenance step))) Untold actor s h r step granted (λ blocked. tt) (step_ways step)
+  walks (SnapshotOrCleaner step) =
+      step_walk_by (Unit {0}) (Lower cpus (most (SnapshotOrCleaner step))) Untold actor s h r step granted (λ blocked. tt) (step_ways step)
   walks other = walk_of (Lower cpus (most other)) Untold block actor s h r other granted (ways other) refl
 
   falls_by : (k : Next) → Falls cpus (most k) (kind_turn k block actor granted s h r)
@@ -207,10 +207,10 @@ most_left c count = mul-le (new_draining count).left (round c) DRAIN (round c) (
 
 -- a cleaner
 clean_bound : (s : Shared) (c : Call) (manner : Manner) (ino : ℕ) → let step = first_clean (length s.cells) manner ino in
-    bound (length s.lists) (started c (Maintenance step) (slots_on step)) ≤ 8 * round (length s.lists) + INODES
+    bound (length s.lists) (started c (SnapshotOrCleaner step) (slots_on step)) ≤ 8 * round (length s.lists) + INODES
 clean_bound s c = clean_by
-    (λ (step : MaintenanceStep).
-    bound (length s.lists) (started c (Maintenance step) (slots_on step)) ≤ 8 * round (length s.lists) + INODES)
+    (λ (step : SnapshotOrCleanerStep).
+    bound (length s.lists) (started c (SnapshotOrCleaner step) (slots_on step)) ≤ 8 * round (length s.lists) + INODES)
     (length s.cells) (λ manner ino inside. omega arith) (λ manner. omega arith)
 
 pub begun_bound : (s : Shared) (c : Call) → bound (length s.lists) (begun (beginning c) s c) ≤ most_steps_of c (length s.lists)
@@ -226,20 +226,20 @@ begun_bound s (call.Lookup dir name) = file_bound Visits s (call.Lookup dir name
 begun_bound s (call.Unlink dir name) = file_bound Looks s (call.Unlink dir name) refl
 begun_bound s (call.Rmdir dir name) = file_bound Looks s (call.Rmdir dir name) refl
 begun_bound s (call.Rename from old to new) = file_bound Looks s (call.Rename from old to new) refl
-begun_bound s (call.Maintenance on.Snap) = omega arith
-begun_bound s (call.Maintenance (on.Drop snapshot)) = omega arith
-begun_bound s (call.Maintenance (on.Show snapshot)) = omega arith
-begun_bound s (call.Maintenance (on.Drain count)) = omega (arith, most_left (length s.lists) count)
-begun_bound s (call.Maintenance (on.Fast ino)) = clean_bound s (call.Maintenance (on.Fast ino)) Fast ino
-begun_bound s (call.Maintenance (on.Thorough ino)) = clean_bound s (call.Maintenance (on.Thorough ino)) Thorough ino
-begun_bound s (call.Maintenance (on.Auto ino)) = clean_bound s (call.Maintenance (on.Auto ino)) Auto ino
+begun_bound s (call.SnapshotOrCleaner on.Snap) = omega arith
+begun_bound s (call.SnapshotOrCleaner (on.Drop snapshot)) = omega arith
+begun_bound s (call.SnapshotOrCleaner (on.Show snapshot)) = omega arith
+begun_bound s (call.SnapshotOrCleaner (on.Drain count)) = omega (arith, most_left (length s.lists) count)
+begun_bound s (call.SnapshotOrCleaner (on.Fast ino)) = clean_bound s (call.SnapshotOrCleaner (on.Fast ino)) Fast ino
+begun_bound s (call.SnapshotOrCleaner (on.Thorough ino)) = clean_bound s (call.SnapshotOrCleaner (on.Thorough ino)) Thorough ino
+begun_bound s (call.SnapshotOrCleaner (on.Auto ino)) = clean_bound s (call.SnapshotOrCleaner (on.Auto ino)) Auto ino
 
 -- and so of any call
 pub steps_of_any : (c : Call) (cpus : ℕ) → most_steps_of c cpus ≤ most_steps cpus
-steps_of_any (call.Maintenance on.Snap) cpus = omega arith
+steps_of_any (call.SnapshotOrCleaner on.Snap) cpus = omega arith
 steps_of_any other cpus = omega arith
 
 -- and some step is left as long as it runs
 pub some_left : (cpus slots : ℕ) (k : Next) → 0 < rank cpus slots k
-some_left cpus slots (Maintenance Make) = omega arith
+some_left cpus slots (SnapshotOrCleaner Make) = omega arith
 some_left cpus slots other = omega arith

@@ -6,8 +6,8 @@ use Rattle.nv_book.specs.Book.{BookState}
 use Rattle.nv_cell.specs.Cell.{CellState}
 use Rattle.nv_machine.specs.Frame.{Frame, IsFramed, Lent, Stays, lent, lent_on, nothing_lent}
 use Rattle.nv_machine.specs.Step.{kind_turn}
-use Rattle.nv_machine.specs.World.{Append, ReturnNumber, Close, Ends, Enter, Give, HandState, Leave, Lock, LockPicked, Moves, Next, Number, Open, Publish, Release, Retire, Running, Shared, Show, MaintenanceStep, Maintenance, TakeBlocks, TakeLogPages, Turn, Unlock, Waits, no_cell, no_list, with_book, with_cell, with_list, with_owner, Compact, Fresh, Judge, LockCleaned, Unlink}
-use Rattle.nv_machine.proofs.StepWork.{return_number_work, work, number_work, maintenance_work}
+use Rattle.nv_machine.specs.World.{Append, ReturnNumber, Close, Ends, Enter, Give, HandState, Leave, Lock, LockPicked, Moves, Next, Number, Open, Publish, Release, Retire, Running, Shared, Show, SnapshotOrCleanerStep, SnapshotOrCleaner, TakeBlocks, TakeLogPages, Turn, Unlock, Waits, no_cell, no_list, with_book, with_cell, with_list, with_owner, Compact, Fresh, PlanCleaning, LockCleaned, Unlink}
+use Rattle.nv_machine.proofs.StepWork.{return_number_work, work, number_work, snapshot_or_cleaner_work}
 use Rattle.nv_machine.proofs.WorkKeeps.{AfterTurn, turn_keeps}
 
 -- ---- what is changed
@@ -97,13 +97,13 @@ back_framed : (number : Option ℕ) (s : Shared) (h : HandState)
 back_framed None s h = same_frame _ s
 back_framed (Some ino) s h = pool_frame _ s
 
-snapshot_framed : (step : MaintenanceStep) (actor : ℕ) (s : Shared) (h : HandState)
-    → Frame (lent_on step (length s.lists) actor) s (maintenance_work step actor s h).shared
+snapshot_framed : (step : SnapshotOrCleanerStep) (actor : ℕ) (s : Shared) (h : HandState)
+    → Frame (lent_on step (length s.lists) actor) s (snapshot_or_cleaner_work step actor s h).shared
 snapshot_framed (Show snapshot showing) actor s h = same_frame _ s
 snapshot_framed (LockPicked draining picked) actor s h = lock_frame picked.ino (Some actor) s
 snapshot_framed (Release draining picked) actor s h = cell_frame false _ s.book _ s refl
 snapshot_framed (LockCleaned manner ino) actor s h = lock_frame ino (Some actor) s
-snapshot_framed (Judge manner slot) actor s h = same_frame _ s
+snapshot_framed (PlanCleaning manner slot) actor s h = same_frame _ s
 snapshot_framed (Fresh ino asked wanted) actor s h = list_frame _ _ s
 snapshot_framed (Unlink ino) actor s h = cell_frame false _ s.book _ s refl
 snapshot_framed (Compact ino) actor s h = cell_frame false _ s.book _ s refl
@@ -125,7 +125,7 @@ work_framed Leave block actor s h r = leave_frame s
 work_framed (Unlock place) block actor s h r = lock_frame _ None s
 work_framed (Give cpu) block actor s h r = list_frame cpu _ s
 work_framed ReturnNumber block actor s h r = back_framed h.ino s h
-work_framed (Maintenance step) block actor s h r = snapshot_framed step actor s h
+work_framed (SnapshotOrCleaner step) block actor s h r = snapshot_framed step actor s h
 work_framed other block actor s h r = same_frame _ s
 
 -- ---- turns

@@ -6,19 +6,19 @@ use Rattle.nv_base.specs.Memory.{out_of_memory}
 use Rattle.nv_machine.specs.Kinds.{check_turn, end_turn, grown, wants_blocks, wants_pages, wants_room}
 use Rattle.nv_machine.specs.Reads.{pages_wanted, plan_by}
 use Rattle.nv_machine.specs.Sequence.{sequel}
-use Rattle.nv_machine.specs.Maintenance.{maintenance_turn}
+use Rattle.nv_machine.specs.SnapshotOrCleaner.{snapshot_or_cleaner_turn}
 use Rattle.nv_machine.specs.Step.{ending_at, kind_turn, with_made}
 use Rattle.nv_machine.specs.Takings.{asks_list}
-use Rattle.nv_machine.specs.World.{ReturnNumber, Check, Ending, Ends, Give, HandState, Leave, Lock, Look, Moves, Next, Number, Ready, Refuses, Running, Shared, Maintenance, TakeBlocks, TakeLogPages, Turn, Unlock, Visit, Waits, Fresh, Judge, MaintenanceStep}
+use Rattle.nv_machine.specs.World.{ReturnNumber, Check, Ending, Ends, Give, HandState, Leave, Lock, Look, Moves, Next, Number, Ready, Refuses, Running, Shared, SnapshotOrCleaner, TakeBlocks, TakeLogPages, Turn, Unlock, Visit, Waits, Fresh, PlanCleaning, SnapshotOrCleanerStep}
 use Rattle.nv_machine.proofs.NextSteps.{IsNext, end_next, kind_next, step_next}
 use Rattle.nv_machine.proofs.LoopSteps.{Sequel, goes_on, locking_any, looking_any, sequel_any}
 use Rattle.nv_machine.proofs.StepWays.{by_last, is_last, is_taker, noted, EndsBy, any_ends}
-use Rattle.nv_machine.proofs.MaintenanceWalk.{leads, step_walk_by, goes_plain, is_cleaning}
+use Rattle.nv_machine.proofs.SnapshotOrCleanerWalk.{leads, step_walk_by, goes_plain, is_cleaning}
 
 abbrev pub IsFirst : Next → Type 0
 IsFirst (TakeBlocks asked) = (asked == 0) ≡ true
 IsFirst (TakeLogPages asked) = (asked == 0) ≡ true
-IsFirst (Maintenance (Fresh ino asked wanted)) = (asked == 0) ≡ true
+IsFirst (SnapshotOrCleaner (Fresh ino asked wanted)) = (asked == 0) ≡ true
 IsFirst other = Unit {0}
 
 -- no taking, and not the step behind both; and none of a commit either
@@ -26,7 +26,7 @@ abbrev pub IsApart : Next → Type 0
 IsApart (TakeBlocks asked) = ⊥
 IsApart (TakeLogPages asked) = ⊥
 IsApart Ready = ⊥
-IsApart (Maintenance (Fresh ino asked wanted)) = ⊥
+IsApart (SnapshotOrCleaner (Fresh ino asked wanted)) = ⊥
 IsApart other = Unit {0}
 
 abbrev pub IsPlain : Next → Type 0
@@ -38,8 +38,8 @@ IsPlain (Unlock place) = Unit {0}
 IsPlain (Give cpu) = Unit {0}
 IsPlain ReturnNumber = Unit {0}
 IsPlain Visit = Unit {0}
-IsPlain (Maintenance (Fresh ino asked wanted)) = ⊥
-IsPlain (Maintenance step) = Unit {0}
+IsPlain (SnapshotOrCleaner (Fresh ino asked wanted)) = ⊥
+IsPlain (SnapshotOrCleaner step) = Unit {0}
 IsPlain other = ⊥
 
 abbrev pub OnNext : (Next → Type 0) → Turn → Type 0
@@ -63,7 +63,7 @@ plain_apart : (next : Next) → IsPlain next → IsApart next
 plain_apart (TakeBlocks asked) is = absurd is
 plain_apart (TakeLogPages asked) is = absurd is
 plain_apart Ready is = absurd is
-plain_apart (Maintenance (Fresh ino asked wanted)) is = absurd is
+plain_apart (SnapshotOrCleaner (Fresh ino asked wanted)) is = absurd is
 plain_apart other is = tt
 
 pub on_apart : (t : Turn) → OnPlain t → OnApart t
@@ -72,7 +72,7 @@ on_apart t on = next_weaker IsPlain IsApart plain_apart t on
 apart_first : (next : Next) → IsApart next → IsFirst next
 apart_first (TakeBlocks asked) is = absurd is
 apart_first (TakeLogPages asked) is = absurd is
-apart_first (Maintenance (Fresh ino asked wanted)) is = absurd is
+apart_first (SnapshotOrCleaner (Fresh ino asked wanted)) is = absurd is
 apart_first other is = tt
 
 pub on_first : (t : Turn) → OnApart t → OnFirst t
@@ -98,7 +98,7 @@ leads_to_plain (Unlock place) = true
 leads_to_plain (Give cpu) = true
 leads_to_plain ReturnNumber = true
 leads_to_plain Visit = true
-leads_to_plain (Maintenance step) = not (leads step)
+leads_to_plain (SnapshotOrCleaner step) = not (leads step)
 leads_to_plain other = false
 
 sequel_plain : (k : Next) (q : Running) → leads_to_plain k ≡ true → goes_on k ≡ true → IsPlain (sequel q k)
@@ -124,13 +124,13 @@ no_taker (TakeBlocks asked) e on = false≢true e
 no_taker (TakeLogPages asked) e on = false≢true e
 no_taker other e on = false≢true on
 
-not_cleaning : (step : MaintenanceStep) → is_cleaning step ≡ false → IsPlain (Maintenance step)
+not_cleaning : (step : SnapshotOrCleanerStep) → is_cleaning step ≡ false → IsPlain (SnapshotOrCleaner step)
 not_cleaning (Fresh ino asked wanted) plain = absurd (true≢false plain)
 not_cleaning other plain = tt
 
 pub plain : (k : Next) (block actor : ℕ) (granted : Bool) (s : Shared) (h : HandState) (r : Running) → leads_to_plain k ≡ true
     → OnPlain (kind_turn k block actor granted s h r)
-plain (Maintenance step) block actor granted s h r e =
+plain (SnapshotOrCleaner step) block actor granted s h r e =
     step_next IsPlain last_plain tt (λ draining. tt) step actor granted s h r (λ on clear. not_cleaning _ (goes_plain step s on))
     (λ snapshot showing on. tt)
     (λ next is. absurd (true≢false (sym e ∙ ap not is.from)))
@@ -140,7 +140,7 @@ plain other block actor granted s h r e =
 
 abbrev pub leads_to_takings : Next → Bool
 leads_to_takings Check = true
-leads_to_takings (Maintenance step) = leads step
+leads_to_takings (SnapshotOrCleaner step) = leads step
 leads_to_takings other = asks_list other
 
 taker_leads : (k : Next) → is_taker k ≡ true → leads_to_takings k ≡ true
@@ -151,8 +151,8 @@ taker_leads other on = absurd (false≢true on)
 
 pub apart : (k : Next) (block actor : ℕ) (granted : Bool) (s : Shared) (h : HandState) (r : Running) → leads_to_takings k ≡ false
     → OnApart (kind_turn k block actor granted s h r)
-apart (Maintenance step) block actor granted s h r e =
-    on_apart (maintenance_turn step actor granted s h r) (plain (Maintenance step) block actor granted s h r (ap not e))
+apart (SnapshotOrCleaner step) block actor granted s h r e =
+    on_apart (snapshot_or_cleaner_turn step actor granted s h r) (plain (SnapshotOrCleaner step) block actor granted s h r (ap not e))
 apart other block actor granted s h r e =
     kind_next IsApart (λ next last. plain_apart next (last_plain next last)) tt (λ draining. tt) other block actor granted s h r
     (λ on. sequel_any IsApart all_apart other (noted other block s h r) on)
@@ -193,8 +193,8 @@ first_ends = any_ends (record {
 pub first : (k : Next) (block actor : ℕ) (granted : Bool) (s : Shared) (h : HandState) (r : Running) → asks_list k ≡ false
     → OnFirst (kind_turn k block actor granted s h r)
 first Check block actor granted s h r e = check_first (ending_at block s h r) granted _ block s h (with_made s h r)
-first (Maintenance (Judge manner slot)) block actor granted s h r e =
-    step_walk_by (Unit {0}) (λ t g q. IsFirst q.next) (λ x t g. Unit {0}) actor s h r (Judge manner slot) granted (λ blocked. tt) (
+first (SnapshotOrCleaner (PlanCleaning manner slot)) block actor granted s h r e =
+    step_walk_by (Unit {0}) (λ t g q. IsFirst q.next) (λ x t g. Unit {0}) actor s h r (PlanCleaning manner slot) granted (λ blocked. tt) (
       λ none. first_ends,
       λ some lacks. first_ends,
       λ ino is some. record { fast = λ plain. tt; some = λ n plain more. refl; none = λ plain less. first_ends },

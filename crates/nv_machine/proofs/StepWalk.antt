@@ -14,7 +14,7 @@ use Rattle.nv_machine.specs.Kinds.{return_number_turn, blocks_in, blocks_turn, c
 use Rattle.nv_machine.specs.Reads.{copies, home_from, nodes, slot_at}
 use Rattle.nv_machine.specs.Sequence.{directories, nothing_looked, sequel}
 use Rattle.nv_machine.specs.Step.{check_grows, ending_at, handle_at, kind_turn, visit_grows, with_made}
-use Rattle.nv_machine.specs.World.{Answers, ReturnNumber, Check, Cleans, Drains, Ending, Ends, Enter, Give, HandState, Leave, Lock, Look, Next, Number, BoundAnew, Ready, Refuses, Running, Shared, Maintenance, TakeBlocks, TakeLogPages, Turn, Unlock, Visit, go_to, owner_at}
+use Rattle.nv_machine.specs.World.{Answers, ReturnNumber, Check, Cleans, Drains, Ending, Ends, Enter, Give, HandState, Leave, Lock, Look, Next, Number, BoundAnew, Ready, Refuses, Running, Shared, SnapshotOrCleaner, TakeBlocks, TakeLogPages, Turn, Unlock, Visit, go_to, owner_at}
 use Rattle.nv_machine.proofs.StepWork.{return_number_work, work, number_work}
 use Rattle.nv_machine.proofs.LoopSteps.{is_on_files}
 use Rattle.nv_machine.proofs.StepWays.{After, AfterBy, Closes, EndsBy, Going, IsBlocked, IsClear, Lasts, Overs, Rests, StopsBy, Takes, Telling, Ways, any_ends, any_lasts, any_overs, any_rests, asks_on, ends_go, is_last, is_taking, last_goes, may_ask, noted, numbered_slots, over_goes, pages_yet, rest_goes, wanted_yet}
@@ -66,7 +66,7 @@ WaysOf P E Visit block a granted s h r =
     × (IsClear Visit s r → refusal block (copies s) r.call ≡ Ok tt → (granted || not (visit_grows r.call)) ≡ false
     → Denies P E s h r out_of_memory)
     × (IsClear Visit s r → refusal block (copies s) r.call ≡ Ok tt → E (Ok (answer (nodes s) r.made r.call)) s h)
-WaysOf P E (Maintenance step) block a granted s h r = Unit {0}
+WaysOf P E (SnapshotOrCleaner step) block a granted s h r = Unit {0}
 WaysOf P E other block a granted s h r = Works P other block a s h r
 
 module _ (W : Type 0) (P : Going) (E : Telling) where
@@ -175,7 +175,7 @@ module _ (W : Type 0) (P : Going) (E : Telling) (block a : ℕ) (s : Shared) (h 
   walk_by (Give cpu) granted wait w is = rest_goes W P E _ _ r r.ending _ (given cpu s h).ino refl w
   walk_by ReturnNumber granted wait w is = back_goes h.ino w
   walk_by Visit granted wait w is = visit_goes _ _ granted refl refl wait w
-  walk_by (Maintenance step) granted wait w is = absurd (false≢true is)
+  walk_by (SnapshotOrCleaner step) granted wait w is = absurd (false≢true is)
   walk_by other granted wait w is = w
 
 module _ (P : Going) (E : Telling) (block a : ℕ) (s : Shared) (h : HandState) (r : Running) where
@@ -251,7 +251,7 @@ module _ (P : Going) (E : Telling) (block a : ℕ) (s : Shared) (h : HandState) 
     λ free passed lacks. any_ends (w.stops (Refuses out_of_memory) refl),
     λ free passed. w.told refl free,
   )
-  any_ways (Maintenance step) granted w is = absurd (false≢true is)
+  any_ways (SnapshotOrCleaner step) granted w is = absurd (false≢true is)
   any_ways other granted w is = w.goes refl tt
 
   pub last_walk : (k : Next) (granted : Bool) → is_last k ≡ true

@@ -13,9 +13,9 @@ use Rattle.nv_epoch.specs.SnapList.{pins_of}
 use Rattle.nv_machine.specs.Kinds.{again_turn, asked_list, blocks_in, drained_turn, end_turn, last_turn, look_tests, over_turn, rest_turn, result_by, seen_at}
 use Rattle.nv_machine.specs.Reads.{copies, has_last_page, home_from, nodes, pages_wanted, plan_by, slot_at, slots_of}
 use Rattle.nv_machine.specs.Sequence.{directories, nothing_looked, sequel}
-use Rattle.nv_machine.specs.Maintenance.{drop_tests, make_tests, visited}
+use Rattle.nv_machine.specs.SnapshotOrCleaner.{drop_tests, make_tests, visited}
 use Rattle.nv_machine.specs.Step.{ending_at, handle_at, with_made}
-use Rattle.nv_machine.specs.World.{Answers, ReturnNumber, Check, Compact, Draining, Drains, Drop, Ending, Ends, Enter, Fresh, Give, HandState, Judge, Leave, Lock, LockCleaned, LockPicked, Look, Make, Moves, Next, Number, BoundAnew, Pick, Pin, Ready, Refuses, Release, Running, Shared, Show, MaintenanceStep, Maintenance, TakeBlocks, TakeLogPages, Turn, Unlink, Unlock, Unpin, Visit, Waits, go_to, list_at, owner_at, Cleans}
+use Rattle.nv_machine.specs.World.{Answers, ReturnNumber, Check, Compact, Draining, Drains, Drop, Ending, Ends, Enter, Fresh, Give, HandState, PlanCleaning, Leave, Lock, LockCleaned, LockPicked, Look, Make, Moves, Next, Number, BoundAnew, Pick, Pin, Ready, Refuses, Release, Running, Shared, Show, SnapshotOrCleanerStep, SnapshotOrCleaner, TakeBlocks, TakeLogPages, Turn, Unlink, Unlock, Unpin, Visit, Waits, go_to, list_at, owner_at, Cleans}
 use Rattle.nv_machine.proofs.StepWork.{work}
 use Rattle.nv_machine.proofs.LoopSteps.{goes_on}
 
@@ -91,7 +91,7 @@ pub record Closes (P : Going) (E : Telling) (s : Shared) (h : HandState) (r : Ru
   pub told : E (result_by e r) s h
   pub again : (n : ℕ) → e ≡ BoundAnew → r.rounds ≡ suc n → P s h (record r { ending = Answers; rounds = n; next = Look 0 })
   pub picks : (d : Draining) (left : ℕ) → e ≡ Drains d → d.left ≡ suc left
-      → P s h (record r { ending = Answers; slots = []; next = Maintenance (Pick (record { released = d.released; left = left })) })
+      → P s h (record r { ending = Answers; slots = []; next = SnapshotOrCleaner (Pick (record { released = d.released; left = left })) })
 
 abbrev pub numbered_slots : List ℕ → Shared → Running → List ℕ
 numbered_slots [] s r = slots_of s None r.looked r.call
@@ -137,7 +137,7 @@ never_stops Check block s h r e none by = true≢false none
 never_stops other block s h r e none by = by
 
 -- nothing stops a step: no other actor has what it needs, and it passes its tests
-abbrev pub IsClearOn : MaintenanceStep → Shared → Type 0
+abbrev pub IsClearOn : SnapshotOrCleanerStep → Shared → Type 0
 IsClearOn Make s = (s.holder ≡ None) × (make_tests s.book.snaps ≡ Ok tt)
 IsClearOn (Drop snapshot) s = (s.holder ≡ None) × (drop_tests (pins_of s.book.snaps snapshot) ≡ Ok tt)
 IsClearOn (Pin snapshot) s = (s.holder ≡ None) × (is_some (pins_of s.book.snaps snapshot) ≡ true)
@@ -147,7 +147,7 @@ IsClearOn (Pick draining) s = (s.holder ≡ None) × (0 < length s.book.deferred
 IsClearOn (LockPicked draining picked) s = owner_at s picked.ino ≡ None
 IsClearOn (Release draining picked) s = Unit {0}
 IsClearOn (LockCleaned manner ino) s = owner_at s ino ≡ None
-IsClearOn (Judge manner slot) s = Unit {0}
+IsClearOn (PlanCleaning manner slot) s = Unit {0}
 IsClearOn (Fresh ino asked wanted) s = Unit {0}
 IsClearOn (Unlink ino) s = Unit {0}
 IsClearOn (Compact ino) s = Unit {0}
@@ -158,19 +158,19 @@ IsClear (Look place) s r =
 IsClear (Lock place) s r = owner_at s (slot_at r.slots place) ≡ None
 IsClear Enter s r = (s.holder ≡ None) × (nat_le NUMBER s.book.commit ≡ false)
 IsClear Visit s r = owner_at s (handle_at (handles nothing_looked r.call) 0).ino ≡ None
-IsClear (Maintenance step) s r = IsClearOn step s
+IsClear (SnapshotOrCleaner step) s r = IsClearOn step s
 IsClear other s r = Unit {0}
 
 -- or it waits: another has what it needs
 abbrev pub IsHeld : Option ℕ → Type 0
 IsHeld owner = (other : ℕ) × (owner ≡ Some other)
 
-abbrev pub IsBlockedOn : MaintenanceStep → Shared → Type 0
+abbrev pub IsBlockedOn : SnapshotOrCleanerStep → Shared → Type 0
 IsBlockedOn (Show snapshot showing) s = IsHeld (owner_at s (visited showing.visits).ino)
 IsBlockedOn (LockPicked draining picked) s = IsHeld (owner_at s picked.ino)
 IsBlockedOn (Release draining picked) s = ⊥
 IsBlockedOn (LockCleaned manner ino) s = IsHeld (owner_at s ino)
-IsBlockedOn (Judge manner slot) s = ⊥
+IsBlockedOn (PlanCleaning manner slot) s = ⊥
 IsBlockedOn (Fresh ino asked wanted) s = ⊥
 IsBlockedOn (Unlink ino) s = ⊥
 IsBlockedOn (Compact ino) s = ⊥
@@ -181,7 +181,7 @@ IsBlocked (Look place) s r = IsHeld (owner_at s (handle_at (directories r.call) 
 IsBlocked (Lock place) s r = IsHeld (owner_at s (slot_at r.slots place))
 IsBlocked Enter s r = IsHeld s.holder
 IsBlocked Visit s r = IsHeld (owner_at s (handle_at (handles nothing_looked r.call) 0).ino)
-IsBlocked (Maintenance step) s r = IsBlockedOn step s
+IsBlocked (SnapshotOrCleaner step) s r = IsBlockedOn step s
 IsBlocked other s r = ⊥
 
 -- WHAT A LAW SAYS OF A KIND of a call on files and directories: of one that stops before its work, and behind its work of
@@ -220,7 +220,7 @@ IsFull e = (d : Draining) → e ≡ Drains d → d.left ≡ 0
 pub record Lasts (P : Going) (E : Telling) (s : Shared) (h : HandState) (r : Running) (e : Ending) : Type 0 where
   pub told : IsFull e → E (result_by e r) s h
   pub picks : (d : Draining) (left : ℕ) → e ≡ Drains d → d.left ≡ suc left
-      → P s h (record r { ending = Answers; slots = []; next = Maintenance (Pick (record { released = d.released; left = left })) })
+      → P s h (record r { ending = Answers; slots = []; next = SnapshotOrCleaner (Pick (record { released = d.released; left = left })) })
 
 -- nothing is locked: blocks are at home on a CPU, or none are and a number is in the hand, or nothing is
 pub record Rests (P : Going) (E : Telling) (home : Option ℕ) (s : Shared) (h : HandState) (r : Running) (e : Ending) : Type 0 where

@@ -10,8 +10,8 @@ use Rattle.nv_cell.specs.declared.killed.KilledPart.{KilledPart}
 use Rattle.nv_machine.specs.Cleaning.{compacted_cell, unlinked, with_fresh, with_old_chain, with_unlinked}
 use Rattle.nv_machine.specs.Kinds.{asked_list, blocks_left, entries_for, first_killed, given, less_list, old_tails, retired_book, retired_cell, with_bytes, with_entries, with_erased, with_freed, with_given, with_killed, with_log_pages}
 use Rattle.nv_machine.specs.Reads.{pages_needed, slot_at, written_slots}
-use Rattle.nv_machine.specs.Maintenance.{with_released}
-use Rattle.nv_machine.specs.World.{Append, ReturnNumber, Close, Compact, Drop, Enter, Fresh, Give, HandState, Judge, Leave, Lock, LockCleaned, LockPicked, Make, Next, Number, Open, Pick, Pin, Publish, Ready, Release, Retire, Running, Shared, Show, MaintenanceStep, Maintenance, TakeBlocks, TakeLogPages, Unlink, Unlock, Unpin, cell_at, list_at, with_book, with_cell, with_numbers, with_owner}
+use Rattle.nv_machine.specs.SnapshotOrCleaner.{with_released}
+use Rattle.nv_machine.specs.World.{Append, ReturnNumber, Close, Compact, Drop, Enter, Fresh, Give, HandState, PlanCleaning, Leave, Lock, LockCleaned, LockPicked, Make, Next, Number, Open, Pick, Pin, Publish, Ready, Release, Retire, Running, Shared, Show, SnapshotOrCleanerStep, SnapshotOrCleaner, TakeBlocks, TakeLogPages, Unlink, Unlock, Unpin, cell_at, list_at, with_book, with_cell, with_numbers, with_owner}
 
 -- what is shared, and a hand
 pub record Both : Type 0 where
@@ -44,22 +44,22 @@ release_work picked s h =
     both (with_cell picked.ino (erased (released picked (cell_at s picked.ino))) s)
     (with_erased picked.ino (released picked (cell_at s picked.ino)) (with_released picked s h))
 
-abbrev pub maintenance_work : MaintenanceStep → ℕ → Shared → HandState → Both
-maintenance_work Make actor s h = both (with_book (after_make_snapshot s.book) s) h
-maintenance_work (Drop snapshot) actor s h = both (with_book (after_drop_snapshot snapshot s.book) s) h
-maintenance_work (Pin snapshot) actor s h = both (with_book (after_pin_snapshot snapshot s.book) s) h
-maintenance_work (Show snapshot showing) actor s h = both s h
-maintenance_work (Unpin snapshot seen) actor s h = both (with_book (after_unpin_snapshot snapshot s.book) s) h
-maintenance_work (Pick draining) actor s h = both (with_book (after_pick s.book) s) h
-maintenance_work (LockPicked draining picked) actor s h = both (with_owner picked.ino (Some actor) s) h
-maintenance_work (Release draining picked) actor s h = release_work picked s h
-maintenance_work (LockCleaned manner ino) actor s h = both (with_owner ino (Some actor) s) h
-maintenance_work (Judge manner slot) actor s h = both s h
-maintenance_work (Fresh ino asked wanted) actor s h =
+abbrev pub snapshot_or_cleaner_work : SnapshotOrCleanerStep → ℕ → Shared → HandState → Both
+snapshot_or_cleaner_work Make actor s h = both (with_book (after_make_snapshot s.book) s) h
+snapshot_or_cleaner_work (Drop snapshot) actor s h = both (with_book (after_drop_snapshot snapshot s.book) s) h
+snapshot_or_cleaner_work (Pin snapshot) actor s h = both (with_book (after_pin_snapshot snapshot s.book) s) h
+snapshot_or_cleaner_work (Show snapshot showing) actor s h = both s h
+snapshot_or_cleaner_work (Unpin snapshot seen) actor s h = both (with_book (after_unpin_snapshot snapshot s.book) s) h
+snapshot_or_cleaner_work (Pick draining) actor s h = both (with_book (after_pick s.book) s) h
+snapshot_or_cleaner_work (LockPicked draining picked) actor s h = both (with_owner picked.ino (Some actor) s) h
+snapshot_or_cleaner_work (Release draining picked) actor s h = release_work picked s h
+snapshot_or_cleaner_work (LockCleaned manner ino) actor s h = both (with_owner ino (Some actor) s) h
+snapshot_or_cleaner_work (PlanCleaning manner slot) actor s h = both s h
+snapshot_or_cleaner_work (Fresh ino asked wanted) actor s h =
     both (less_list (asked_list (length s.lists) actor asked) wanted s)
     (with_fresh (asked_list (length s.lists) actor asked) wanted s h)
-maintenance_work (Unlink ino) actor s h = both (with_cell ino (unlinked (cell_at s ino)) s) (with_unlinked (cell_at s ino) h)
-maintenance_work (Compact ino) actor s h =
+snapshot_or_cleaner_work (Unlink ino) actor s h = both (with_cell ino (unlinked (cell_at s ino)) s) (with_unlinked (cell_at s ino) h)
+snapshot_or_cleaner_work (Compact ino) actor s h =
     both (with_cell ino (compacted_cell h (cell_at s ino)) s) (with_old_chain (cell_at s ino) h)
 
 abbrev pub work : Next → ℕ → ℕ → Shared → HandState → Running → Both
@@ -86,7 +86,7 @@ work Leave block actor s h r = both (record s { holder = None }) h
 work (Unlock place) block actor s h r = both (with_owner (slot_at r.slots place) None s) h
 work (Give cpu) block actor s h r = both (with_given cpu h s) (given cpu s h)
 work ReturnNumber block actor s h r = return_number_work h.ino s h
-work (Maintenance step) block actor s h r = maintenance_work step actor s h
+work (SnapshotOrCleaner step) block actor s h r = snapshot_or_cleaner_work step actor s h
 work other block actor s h r = both s h
 
 -- A NUMBER that is taken or goes back changes the numbers of the pool and the number in the hand, and nothing else

@@ -2,7 +2,7 @@
 use Rattle.std.proofs.Common.{Bool, arith, inl, inr, refl, sym, ℕ}
 use Rattle.nv_machine.specs.Step.{kind_turn}
 use Rattle.nv_machine.specs.Wanted.{LeadsTo, TakesInTurn}
-use Rattle.nv_machine.specs.World.{Check, Ends, HandState, Moves, Next, Ready, Running, Shared, TakeBlocks, TakeLogPages, Turn, Waits, Maintenance, Judge, Fresh, MaintenanceStep}
+use Rattle.nv_machine.specs.World.{Check, Ends, HandState, Moves, Next, Ready, Running, Shared, TakeBlocks, TakeLogPages, Turn, Waits, SnapshotOrCleaner, PlanCleaning, Fresh, SnapshotOrCleanerStep}
 use Rattle.nv_machine.proofs.StepPhases.{IsApart, OnApart, apart}
 use Rattle.nv_machine.proofs.NextSteps.{IsQuiet, Known, OnKnown, quiet_walk, QuietWays, quiet_step}
 
@@ -61,12 +61,12 @@ takes_in_turn (TakeLogPages asked) block actor granted s h r =
       pages = λ n few is. cc;
       ready = λ few is. inr (asked, refl, few);
     }))
-takes_in_turn (Maintenance step) block actor granted s h r =
-    leads (Maintenance step) block actor s r _
-    (quiet_step (Leads (Maintenance step) block actor s r) (quiet (Maintenance step) block actor s r) step block actor granted s h r
+takes_in_turn (SnapshotOrCleaner step) block actor granted s h r =
+    leads (SnapshotOrCleaner step) block actor s r _
+    (quiet_step (Leads (SnapshotOrCleaner step) block actor s r) (quiet (SnapshotOrCleaner step) block actor s r) step block actor granted s h r
     (leads_nothing step)) where
-      leads_nothing : (x : MaintenanceStep) → QuietWays (Leads (Maintenance step) block actor s r) (Maintenance x) block actor s h r
-      leads_nothing (Judge manner slot) = λ ino. (tt, tt)
+      leads_nothing : (x : SnapshotOrCleanerStep) → QuietWays (Leads (SnapshotOrCleaner step) block actor s r) (SnapshotOrCleaner x) block actor s h r
+      leads_nothing (PlanCleaning manner slot) = λ ino. (tt, tt)
       leads_nothing (Fresh ino asked wanted) = (λ q. tt, λ n q. tt)
       leads_nothing other = tt
 takes_in_turn other block actor granted s h r =

@@ -3,7 +3,7 @@ use Rattle.std.proofs.Common.{Bool, false, length, length-set, refl, true, ℕ, 
 use Rattle.std.proofs.lemmas.Bool.{false≢true}
 use Rattle.nv_machine.specs.Kinds.{asked_list}
 use Rattle.nv_machine.specs.Step.{kind_turn}
-use Rattle.nv_machine.specs.World.{Append, ReturnNumber, Close, Enter, Give, HandState, Leave, LockPicked, Next, Number, Open, Publish, Retire, Running, Shared, Show, MaintenanceStep, Maintenance, TakeBlocks, TakeLogPages, LockCleaned, Judge, Fresh}
+use Rattle.nv_machine.specs.World.{Append, ReturnNumber, Close, Enter, Give, HandState, Leave, LockPicked, Next, Number, Open, Publish, Retire, Running, Shared, Show, SnapshotOrCleanerStep, SnapshotOrCleaner, TakeBlocks, TakeLogPages, LockCleaned, PlanCleaning, Fresh}
 use Rattle.nv_machine.proofs.StepWork.{by_back, by_number, work}
 use Rattle.nv_machine.proofs.WorkKeeps.{AfterTurn, turn_keeps}
 use Rattle.nv_machine.proofs.LoopSteps.{is_on_files}
@@ -14,11 +14,11 @@ pub record IsBeside (s t : Shared) : Type 0 where
   pub holder : t.holder ≡ s.holder
   pub cpus : length t.lists ≡ length s.lists
 
-abbrev pub is_aside_on : MaintenanceStep → Bool
+abbrev pub is_aside_on : SnapshotOrCleanerStep → Bool
 is_aside_on (Show snapshot showing) = true
 is_aside_on (LockPicked draining picked) = true
 is_aside_on (LockCleaned manner ino) = true
-is_aside_on (Judge manner slot) = true
+is_aside_on (PlanCleaning manner slot) = true
 is_aside_on (Fresh ino asked wanted) = true
 is_aside_on other = false
 
@@ -30,18 +30,18 @@ is_aside (Publish place) = false
 is_aside Close = false
 is_aside (Retire place) = false
 is_aside Leave = false
-is_aside (Maintenance step) = is_aside_on step
+is_aside (SnapshotOrCleaner step) = is_aside_on step
 is_aside other = true
 
 same : (s : Shared) → IsBeside s s
 same s = record { cells = refl; book = refl; holder = refl; cpus = refl }
 
-on_beside : (step : MaintenanceStep) (block a : ℕ) (s : Shared) (h : HandState) (r : Running) → is_aside_on step ≡ true
-    → IsBeside s (work (Maintenance step) block a s h r).shared
+on_beside : (step : SnapshotOrCleanerStep) (block a : ℕ) (s : Shared) (h : HandState) (r : Running) → is_aside_on step ≡ true
+    → IsBeside s (work (SnapshotOrCleaner step) block a s h r).shared
 on_beside (Show snapshot showing) block a s h r is = same s
 on_beside (LockPicked draining picked) block a s h r is = record { cells = refl; book = refl; holder = refl; cpus = refl }
 on_beside (LockCleaned manner ino) block a s h r is = record { cells = refl; book = refl; holder = refl; cpus = refl }
-on_beside (Judge manner slot) block a s h r is = same s
+on_beside (PlanCleaning manner slot) block a s h r is = same s
 on_beside (Fresh ino asked wanted) block a s h r is =
     record { cells = refl; book = refl; holder = refl; cpus = length-set s.lists _ _ }
 on_beside other block a s h r is = absurd (false≢true is)
@@ -59,7 +59,7 @@ work_beside (TakeBlocks asked) block a s h r is =
 work_beside (TakeLogPages asked) block a s h r is =
     record { cells = refl; book = refl; holder = refl; cpus = length-set s.lists (asked_list (length s.lists) a asked) _ }
 work_beside (Give cpu) block a s h r is = record { cells = refl; book = refl; holder = refl; cpus = length-set s.lists cpu _ }
-work_beside (Maintenance step) block a s h r is = on_beside step block a s h r is
+work_beside (SnapshotOrCleaner step) block a s h r is = on_beside step block a s h r is
 work_beside Enter block a s h r is = absurd (false≢true is)
 work_beside (Append place) block a s h r is = absurd (false≢true is)
 work_beside Open block a s h r is = absurd (false≢true is)
@@ -86,5 +86,5 @@ files_leave Number block a s h r is =
     by_number (λ (t : Shared) (g : HandState). LeavesRecords s t) s h (λ numbers ino. record { snaps = refl; deferred = refl })
 files_leave ReturnNumber block a s h r is =
     by_back (λ (t : Shared) (g : HandState). LeavesRecords s t) s h (λ numbers ino. record { snaps = refl; deferred = refl })
-files_leave (Maintenance step) block a s h r is = absurd (false≢true is)
+files_leave (SnapshotOrCleaner step) block a s h r is = absurd (false≢true is)
 files_leave other block a s h r is = record { snaps = refl; deferred = refl }

@@ -12,7 +12,7 @@ use Rattle.nv_machine.specs.Reads.{is_written, slot_at, written_slots}
 use Rattle.nv_machine.specs.Sequence.{appending}
 use Rattle.nv_machine.specs.Settled.{settled}
 use Rattle.nv_machine.specs.Step.{Step, kind_turn, step, turn, turned}
-use Rattle.nv_machine.specs.World.{Append, Close, Ends, Enter, Go, HandState, Leave, Moves, Next, Open, Publish, Retire, Running, Shared, Maintenance, Turn, Waits, World, actor_at, cell_at, owner_at}
+use Rattle.nv_machine.specs.World.{Append, Close, Ends, Enter, Go, HandState, Leave, Moves, Next, Open, Publish, Retire, Running, Shared, SnapshotOrCleaner, Turn, Waits, World, actor_at, cell_at, owner_at}
 use Rattle.nv_machine.proofs.EndingsStay.{deed_is, entered_none, is_single, no_commit, no_commit_on}
 use Rattle.nv_machine.proofs.SingleEvents.{go_is_turn}
 use Rattle.nv_machine.proofs.UnsettledLogs.{AllQuiet, OnGrown, all_settled, is_settled, not_appended, not_behind, quiet_grown, quiet_kind, still_quiet}
@@ -161,7 +161,7 @@ commit_settles (Publish place) block a granted s h r st e =
           (λ ne. record { generation = refl; block = refl; blocks = refl }),
     )
 commit_settles Enter block a granted s h r st e = absurd (entered_none _ e)
-commit_settles (Maintenance step) block a granted s h r st e = absurd (no_commit_on step _ e)
+commit_settles (SnapshotOrCleaner step) block a granted s h r st e = absurd (no_commit_on step _ e)
 commit_settles other block a granted s h r st e = absurd (no_commit e)
 
 turned_settles : (t : Turn) (actor : ℕ) (w : World) (r : Running) → OnSettling w.shared r t

@@ -17,7 +17,7 @@ use Rattle.nv_machine.specs.Reads.{is_written, pages_needed, slot_at, written_sl
 use Rattle.nv_machine.specs.Sequence.{closing, opening, publishing, retiring}
 use Rattle.nv_machine.specs.Step.{kind_turn}
 use Rattle.nv_machine.specs.Versions.{AreVersions, HasUnseen, to_publish}
-use Rattle.nv_machine.specs.World.{Append, Close, Ends, Enter, HandState, Leave, Moves, Next, Open, Publish, Retire, Running, Shared, Turn, Waits, cell_at, Make, Maintenance}
+use Rattle.nv_machine.specs.World.{Append, Close, Ends, Enter, HandState, Leave, Moves, Next, Open, Publish, Retire, Running, Shared, Turn, Waits, cell_at, Make, SnapshotOrCleaner}
 use Rattle.nv_machine.proofs.AppendsToCome.{OnShared, end_shared}
 use Rattle.nv_machine.proofs.StepFrames.{framed}
 use Rattle.nv_machine.proofs.LocksAlongCalls.{OnLocks}
@@ -166,7 +166,7 @@ module _ (block a : ℕ) (s : Shared) (h : HandState) (r : Running) (are : AreVe
       (none_retiring (place + 1) written (nat_lt (place + 1) (length written))) there)
   turn_unseen Leave granted b yet =
       ended a s (record s { holder = None }) _ _ refl (end_shared r.slots _ _ h r) (locks_kept Leave block a granted s h r b)
-  turn_unseen (Maintenance Make) granted b yet = silent (Maintenance Make) granted refl refl b
+  turn_unseen (SnapshotOrCleaner Make) granted b yet = silent (SnapshotOrCleaner Make) granted refl refl b
   turn_unseen other granted b yet = silent other granted refl refl b
 
   -- ---- all cells

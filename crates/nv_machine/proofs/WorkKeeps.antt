@@ -5,14 +5,14 @@ use Rattle.std.proofs.lemmas.Bool.{true≢false}
 use Rattle.nv_base.specs.declared.fault.Fault.{Fault}
 use Rattle.nv_calls.specs.declared.answer.Answer.{Answer}
 use Rattle.nv_machine.specs.Kinds.{end_turn}
-use Rattle.nv_machine.specs.Maintenance.{maintenance_turn}
+use Rattle.nv_machine.specs.SnapshotOrCleaner.{snapshot_or_cleaner_turn}
 use Rattle.nv_machine.specs.Step.{kind_turn}
-use Rattle.nv_machine.specs.World.{Ending, HandState, Next, Running, Shared, MaintenanceStep, Maintenance, Turn}
-use Rattle.nv_machine.proofs.StepWork.{work, maintenance_work}
+use Rattle.nv_machine.specs.World.{Ending, HandState, Next, Running, Shared, SnapshotOrCleanerStep, SnapshotOrCleaner, Turn}
+use Rattle.nv_machine.proofs.StepWork.{work, snapshot_or_cleaner_work}
 use Rattle.nv_machine.proofs.LoopSteps.{is_on_files}
 use Rattle.nv_machine.proofs.StepWays.{After, Closes, IsClearOn, any_ends, end_goes, may_refuse, never_stops}
 use Rattle.nv_machine.proofs.StepWalk.{walk}
-use Rattle.nv_machine.proofs.MaintenanceWalk.{maintenance_walk, ends_clear, leads_clear}
+use Rattle.nv_machine.proofs.SnapshotOrCleanerWalk.{snapshot_or_cleaner_walk, ends_clear, leads_clear}
 
 -- it holds of what is shared and of the hand after a turn
 abbrev pub AfterTurn : (Shared → HandState → Type 0) → Turn → Type 0
@@ -32,10 +32,10 @@ module _ (P : Shared → HandState → Type 0) where
   end_keeps slots e s h r p = end_goes On At s h r e (closes s h r e p) slots
 
   -- by a step that no other actor makes wait
-  pub snapshot_works : (step : MaintenanceStep) (actor : ℕ) (granted : Bool) (s : Shared) (h : HandState) (r : Running) → P s h
-      → (IsClearOn step s → P (maintenance_work step actor s h).shared (maintenance_work step actor s h).hand)
-      → AfterTurn P (maintenance_turn step actor granted s h r)
-  snapshot_works step actor granted s h r p q = maintenance_walk On At actor s h r step granted (record {
+  pub snapshot_works : (step : SnapshotOrCleanerStep) (actor : ℕ) (granted : Bool) (s : Shared) (h : HandState) (r : Running) → P s h
+      → (IsClearOn step s → P (snapshot_or_cleaner_work step actor s h).shared (snapshot_or_cleaner_work step actor s h).hand)
+      → AfterTurn P (snapshot_or_cleaner_turn step actor granted s h r)
+  snapshot_works step actor granted s h r p q = snapshot_or_cleaner_walk On At actor s h r step granted (record {
     stops = λ fault cause. any_ends (closes s h r _ p);
     goes = λ on clear. q clear;
     told = λ on clear. q clear;
@@ -45,14 +45,14 @@ module _ (P : Shared → HandState → Type 0) where
     none = λ draining on empty. p;
   })
 
-  pub snapshot_keeps : (step : MaintenanceStep) (actor : ℕ) (granted : Bool) (s : Shared) (h : HandState) (r : Running) → P s h
-      → P (maintenance_work step actor s h).shared (maintenance_work step actor s h).hand
-      → AfterTurn P (maintenance_turn step actor granted s h r)
+  pub snapshot_keeps : (step : SnapshotOrCleanerStep) (actor : ℕ) (granted : Bool) (s : Shared) (h : HandState) (r : Running) → P s h
+      → P (snapshot_or_cleaner_work step actor s h).shared (snapshot_or_cleaner_work step actor s h).hand
+      → AfterTurn P (snapshot_or_cleaner_turn step actor granted s h r)
   snapshot_keeps step actor granted s h r p q = snapshot_works step actor granted s h r p (λ clear. q)
 
   pub turn_keeps : (k : Next) (block actor : ℕ) (granted : Bool) (s : Shared) (h : HandState) (r : Running) → P s h
       → P (work k block actor s h r).shared (work k block actor s h r).hand → AfterTurn P (kind_turn k block actor granted s h r)
-  turn_keeps (Maintenance step) block actor granted s h r p q = snapshot_keeps step actor granted s h r p q
+  turn_keeps (SnapshotOrCleaner step) block actor granted s h r p q = snapshot_keeps step actor granted s h r p q
   turn_keeps other block actor granted s h r p q = walk On At block actor s h r other granted (record {
     stops = λ e by. closes s h _ e p;
     goes = λ on clear. q;

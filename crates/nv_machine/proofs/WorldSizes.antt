@@ -4,8 +4,8 @@ use Rattle.nv_base.specs.declared.geometry.GeometryNumbers.{GeometryNumbers}
 use Rattle.nv_book.specs.declared.record.Record.{Record}
 use Rattle.nv_machine.specs.Starts.{IsStart}
 use Rattle.nv_machine.specs.Step.{after, step}
-use Rattle.nv_machine.specs.World.{ReturnNumber, Event, HandState, Make, Next, Number, Running, Shared, MaintenanceStep, Maintenance, World, actor_at}
-use Rattle.nv_machine.proofs.StepWork.{by_back, by_number, work, maintenance_work}
+use Rattle.nv_machine.specs.World.{ReturnNumber, Event, HandState, Make, Next, Number, Running, Shared, SnapshotOrCleanerStep, SnapshotOrCleaner, World, actor_at}
+use Rattle.nv_machine.proofs.StepWork.{by_back, by_number, work, snapshot_or_cleaner_work}
 use Rattle.nv_machine.proofs.OverEvents.{event_actors, event_shared, events_by}
 use Rattle.nv_machine.proofs.WorkKeeps.{turn_keeps}
 
@@ -16,8 +16,8 @@ pub record IsOfNumbers (g : GeometryNumbers) (w : World) : Type 0 where
 
 -- ---- the pool
 
-snapshot_pool : (step : MaintenanceStep) (actor : ℕ) (s : Shared) (h : HandState)
-    → (maintenance_work step actor s h).shared.pool.inodes ≡ s.pool.inodes
+snapshot_pool : (step : SnapshotOrCleanerStep) (actor : ℕ) (s : Shared) (h : HandState)
+    → (snapshot_or_cleaner_work step actor s h).shared.pool.inodes ≡ s.pool.inodes
 snapshot_pool Make actor s h = refl
 snapshot_pool other actor s h = refl
 
@@ -25,7 +25,7 @@ work_pool : (k : Next) (block actor : ℕ) (s : Shared) (h : HandState) (r : Run
     → (work k block actor s h r).shared.pool.inodes ≡ s.pool.inodes
 work_pool Number block actor s h r = by_number (λ t g. t.pool.inodes ≡ s.pool.inodes) s h (λ numbers ino. refl)
 work_pool ReturnNumber block actor s h r = by_back (λ t g. t.pool.inodes ≡ s.pool.inodes) s h (λ numbers ino. refl)
-work_pool (Maintenance step) block actor s h r = snapshot_pool step actor s h
+work_pool (SnapshotOrCleaner step) block actor s h r = snapshot_pool step actor s h
 work_pool other block actor s h r = refl
 
 -- ---- events

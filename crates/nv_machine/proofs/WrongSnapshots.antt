@@ -9,7 +9,7 @@ use Rattle.nv_book.specs.declared.record.Record.{Record}
 use Rattle.nv_calls.specs.declared.answer.Answer.{Answer}
 use Rattle.nv_calls.specs.declared.answer.Answer.TheVariants as answer
 use Rattle.nv_calls.specs.declared.call.Call.TheVariants as call
-use Rattle.nv_calls.specs.declared.maintenance_call.MaintenanceCall.TheVariants as on
+use Rattle.nv_calls.specs.declared.snapshot_or_cleaner_call.SnapshotOrCleanerCall.TheVariants as on
 use Rattle.nv_cell.specs.Cell.{CellState}
 use Rattle.nv_entry.specs.declared.item.Entry.{Entry}
 use Rattle.nv_entry.specs.declared.node.NodeCopy.{NodeCopy}
@@ -39,7 +39,7 @@ IsRefused before rs w =
 -- ---- a drop: two snapshots hold the page and the size that a write has replaced, and the younger one goes
 
 abbrev dropping_two : World
-dropping_two = after_lines (twice_held ++ StartCall 0 (call.Maintenance (on.Drop 2)) ∷ [])
+dropping_two = after_lines (twice_held ++ StartCall 0 (call.SnapshotOrCleaner (on.Drop 2)) ∷ [])
 
 abbrev both : List Record
 both = all_records dropping_two.shared.book.manifests
@@ -50,7 +50,7 @@ deferred_all e = let many : 2 ≡ 0 = ap (λ (ds : List Record). length ds) e.de
 
 -- and where no older snapshot holds them, a drop that defers nothing
 abbrev dropping_one : World
-dropping_one = after_lines (made ++ snap ∷ write 98 ∷ StartCall 0 (call.Maintenance (on.Drop 1)) ∷ [])
+dropping_one = after_lines (made ++ snap ∷ write 98 ∷ StartCall 0 (call.SnapshotOrCleaner (on.Drop 1)) ∷ [])
 
 deferred_nothing : IsRefused dropping_one (all_records dropping_one.shared.book.manifests)
     (with_filed [] [] (step dropping_one (Go 0 true)).world)
@@ -68,7 +68,7 @@ recorded_before_birth d e =
 -- ---- a release: the first record is that of the size, the part 3; one that leaves its mark
 
 abbrev releasing : World
-releasing = after_lines (deferring ++ StartCall 0 (call.Maintenance (on.Drain 9)) ∷ Goes 0 2 ∷ [])
+releasing = after_lines (deferring ++ StartCall 0 (call.SnapshotOrCleaner (on.Drain 9)) ∷ Goes 0 2 ∷ [])
 
 abbrev still_marked : World
 still_marked = let w = (step releasing (Go 0 true)).world in
@@ -82,7 +82,7 @@ left_marked e = let many : 0 ≡ 1 = e 1 3 in omega (arith, many)
 abbrev across : World
 across =
     after_lines (made ++ StartCall 0 (call.Write (handle 1 1) 0 (page 98)) ∷ Goes 0 3
-    ∷ DoCall 1 (call.Maintenance on.Snap) ∷ Goes 0 99 ∷ [])
+    ∷ DoCall 1 (call.SnapshotOrCleaner on.Snap) ∷ Goes 0 99 ∷ [])
 
 abbrev stamped_early : CellState → CellState
 stamped_early cell =
@@ -131,7 +131,7 @@ shown_now e = let same = ap byte_told e in omega (arith, same, byte_then, byte_n
 -- ---- a show that is refused and leaves its pin; and a drop that heeds no pin
 
 abbrev showing : World
-showing = after_lines (snap ∷ StartCall 0 (call.Maintenance (on.Show 1)) ∷ Goes 0 1 ∷ [])
+showing = after_lines (snap ∷ StartCall 0 (call.SnapshotOrCleaner (on.Show 1)) ∷ Goes 0 1 ∷ [])
 
 one_pin : ArePins (shows_of 1 showing) (pins_of showing.shared.book.snaps 1)
 one_pin = refl
@@ -148,7 +148,7 @@ dropped_while_shown e = let same : Done answer.Nothing ≡ Refused fault.Pinned 
 -- ---- a drain of two records: one that counts its picks, the last of which finds nothing
 
 abbrev draining : World
-draining = (step (after_lines deferring) (Start 0 (call.Maintenance (on.Drain 9)))).world
+draining = (step (after_lines deferring) (Start 0 (call.SnapshotOrCleaner (on.Drain 9)))).world
 
 abbrev goes_on : List Event
 goes_on = replicate 14 (Go 0 true)
@@ -161,10 +161,10 @@ picks_counted e = omega (arith, e, two_released)
 
 -- ---- once both are drained block 2 is free, and it is not before
 
-two_answered : drained (after_lines deferring) (Start 0 (call.Maintenance (on.Drain 9)) ∷ goes_on) ≡ 2
+two_answered : drained (after_lines deferring) (Start 0 (call.SnapshotOrCleaner (on.Drain 9)) ∷ goes_on) ≡ 2
 two_answered = refl
 
-free_then : free_but_needed device (after_lines (deferring ++ DoCall 0 (call.Maintenance (on.Drain 9)) ∷ [])) 0
+free_then : free_but_needed device (after_lines (deferring ++ DoCall 0 (call.SnapshotOrCleaner (on.Drain 9)) ∷ [])) 0
     ≡ 2 ∷ 4 ∷ 5 ∷ 6 ∷ 7 ∷ []
 free_then = refl
 

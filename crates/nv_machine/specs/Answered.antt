@@ -4,7 +4,7 @@ use Rattle.nv_calls.specs.AllCalls.{answer}
 use Rattle.nv_calls.specs.declared.answer.Answer.{Answer}
 use Rattle.nv_machine.specs.Kinds.{result_by}
 use Rattle.nv_machine.specs.Step.{Step, reply_of}
-use Rattle.nv_machine.specs.World.{Answers, Append, ReturnNumber, Cleans, Close, Drains, Ending, Give, Leave, Moved, Next, Open, BoundAnew, Publish, Refuses, Retire, Running, Maintenance, Unlock, Unpin, actor_at}
+use Rattle.nv_machine.specs.World.{Answers, Append, ReturnNumber, Cleans, Close, Drains, Ending, Give, Leave, Moved, Next, Open, BoundAnew, Publish, Refuses, Retire, Running, SnapshotOrCleaner, Unlock, Unpin, actor_at}
 
 -- no step is left that decides anything: a commit is under way, or what is locked or in the hand is given up
 abbrev pub IsLast : Next → Type 0
@@ -21,7 +21,7 @@ IsLast other = ⊥
 
 -- nor is one left that refuses anything: a show that is refused has to take its pin off
 abbrev pub IsEnding : Next → Type 0
-IsEnding (Maintenance (Unpin snapshot seen)) = Unit {0}
+IsEnding (SnapshotOrCleaner (Unpin snapshot seen)) = Unit {0}
 IsEnding other = IsLast other
 
 -- how a call may end that has only such steps left: there is no further round, and no further record

@@ -4,16 +4,16 @@ use Rattle.std.specs.List.{AllByRecursion}
 use Rattle.nv_base.specs.declared.limits.TheConstants.{DRAIN, INODES}
 use Rattle.nv_calls.specs.declared.call.Call.{Call}
 use Rattle.nv_calls.specs.declared.call.Call.TheVariants as call
-use Rattle.nv_calls.specs.declared.maintenance_call.MaintenanceCall.TheVariants as on
+use Rattle.nv_calls.specs.declared.snapshot_or_cleaner_call.SnapshotOrCleanerCall.TheVariants as on
 use Rattle.nv_machine.specs.Step.{step}
-use Rattle.nv_machine.specs.World.{Append, ReturnNumber, Check, Close, Compact, Drains, Drop, Ending, Ends, Enter, Event, Fresh, Give, Go, Judge, Leave, Lock, LockCleaned, LockPicked, Look, Make, Moved, Moves, Next, Number, Open, Pick, Pin, Publish, Ready, Release, Reply, Retire, Running, Show, MaintenanceStep, Maintenance, Start, TakeBlocks, TakeLogPages, Turn, Unlink, Unlock, Unpin, Visit, Waits, World, actor_at}
+use Rattle.nv_machine.specs.World.{Append, ReturnNumber, Check, Close, Compact, Drains, Drop, Ending, Ends, Enter, Event, Fresh, Give, Go, PlanCleaning, Leave, Lock, LockCleaned, LockPicked, Look, Make, Moved, Moves, Next, Number, Open, Pick, Pin, Publish, Ready, Release, Reply, Retire, Running, Show, SnapshotOrCleanerStep, SnapshotOrCleaner, Start, TakeBlocks, TakeLogPages, Turn, Unlink, Unlock, Unpin, Visit, Waits, World, actor_at}
 
 -- a whole round, whatever its looks find
 abbrev pub round : ℕ → ℕ
 round cpus = 44 + 3 * cpus
 
 -- the steps left of a call on snapshots, of a drain with the records that it may still release
-abbrev pub rank_on : ℕ → ℕ → MaintenanceStep → ℕ
+abbrev pub rank_on : ℕ → ℕ → SnapshotOrCleanerStep → ℕ
 rank_on cpus slots Make = 4 + cpus + slots
 rank_on cpus slots (Drop snapshot) = 4 + cpus + slots
 rank_on cpus slots (Pin snapshot) = INODES + (4 + cpus + slots)
@@ -23,7 +23,7 @@ rank_on cpus slots (Release draining picked) = draining.left * round cpus + (4 +
 rank_on cpus slots (LockPicked draining picked) = draining.left * round cpus + (5 + cpus + slots)
 rank_on cpus slots (Pick draining) = draining.left * round cpus + (7 + cpus + slots)
 rank_on cpus slots (LockCleaned manner ino) = 7 + 2 * cpus + slots
-rank_on cpus slots (Judge manner slot) = 6 + 2 * cpus + slots
+rank_on cpus slots (PlanCleaning manner slot) = 6 + 2 * cpus + slots
 rank_on cpus slots (Fresh ino asked wanted) = 5 + cpus + slots + (cpus - asked)
 rank_on cpus slots (Unlink ino) = 4 + cpus + slots
 rank_on cpus slots (Compact ino) = 4 + cpus + slots
@@ -48,7 +48,7 @@ rank cpus slots Visit = 14 + 3 * cpus + 4 * slots
 rank cpus slots (Lock place) = 15 + 3 * cpus + 4 * slots + (slots - place)
 rank cpus slots Number = 41 + 3 * cpus
 rank cpus slots (Look place) = 41 + 3 * cpus + (2 - place)
-rank cpus slots (Maintenance step) = rank_on cpus slots step
+rank cpus slots (SnapshotOrCleaner step) = rank_on cpus slots step
 
 -- and behind a record that a drain has released, those of the records that it may still release
 abbrev pub rank_behind : ℕ → Ending → ℕ
@@ -66,8 +66,8 @@ bound cpus r = rank_behind cpus r.ending + r.rounds * round cpus + rank cpus (le
 -- At a start it is at most 8 * (44 + 3 * CPUs), for a `show` call as many more as inodes are allowed, and for a
 -- `drain` call at most (8 + 1,048,576) * (44 + 3 * CPUs).
 abbrev pub most_steps_of : Call → ℕ → ℕ
-most_steps_of (call.Maintenance (on.Drain count)) cpus = (8 + DRAIN) * round cpus
-most_steps_of (call.Maintenance c) cpus = 8 * round cpus + INODES
+most_steps_of (call.SnapshotOrCleaner (on.Drain count)) cpus = (8 + DRAIN) * round cpus
+most_steps_of (call.SnapshotOrCleaner c) cpus = 8 * round cpus + INODES
 most_steps_of c cpus = 8 * round cpus
 
 -- and of any call

@@ -14,9 +14,9 @@ use Rattle.nv_machine.specs.Kinds.{asked_list}
 use Rattle.nv_cell.specs.Readers.{has_inode}
 use Rattle.nv_machine.specs.Sequence.{beginning}
 use Rattle.nv_epoch.specs.SnapList.{pins_of}
-use Rattle.nv_machine.specs.Maintenance.{drop_tests, is_first, make_tests}
+use Rattle.nv_machine.specs.SnapshotOrCleaner.{drop_tests, is_first, make_tests}
 use Rattle.nv_machine.specs.Step.{check_grows, is_numbered, same_looked, visit_grows}
-use Rattle.nv_machine.specs.World.{Answers, Check, Cleans, Drains, Drop, Ending, Ends, Enter, Fresh, HandState, Judge, Look, Make, Moves, Next, BoundAnew, Pick, Pin, Ready, Refuses, Running, Shared, Show, MaintenanceStep, Maintenance, TakeBlocks, TakeLogPages, Turn, Visit, Waits, cell_at, list_at}
+use Rattle.nv_machine.specs.World.{Answers, Check, Cleans, Drains, Drop, Ending, Ends, Enter, Fresh, HandState, PlanCleaning, Look, Make, Moves, Next, BoundAnew, Pick, Pin, Ready, Refuses, Running, Shared, Show, SnapshotOrCleanerStep, SnapshotOrCleaner, TakeBlocks, TakeLogPages, Turn, Visit, Waits, cell_at, list_at}
 
 -- ---- causes
 
@@ -66,13 +66,13 @@ is_cleanable (Some ino) s = has_inode (cell_at s ino)
 -- for what a step of a call on snapshots refuses it: no further epoch or no room for one more snapshot, no such
 -- snapshot, one that has a pin, or memory that a show or a first pick asks for; and a cleaner: no inode of its number, the
 -- memory of its walk where there is one, or too few blocks
-abbrev pub IsCauseOn : MaintenanceStep → ℕ → Bool → Shared → Fault → Type 0
+abbrev pub IsCauseOn : SnapshotOrCleanerStep → ℕ → Bool → Shared → Fault → Type 0
 IsCauseOn Make actor granted s fault = make_tests s.book.snaps ≡ Err fault
 IsCauseOn (Drop snapshot) actor granted s fault = drop_tests (pins_of s.book.snaps snapshot) ≡ Err fault
 IsCauseOn (Pin snapshot) actor granted s fault = (fault ≡ NoSnapshot) × (pins_of s.book.snaps snapshot ≡ None)
 IsCauseOn (Show snapshot showing) actor granted s fault = IsDenied granted fault
 IsCauseOn (Pick draining) actor granted s fault = IsDenied granted fault × (is_first draining ≡ true)
-IsCauseOn (Judge manner slot) actor granted s fault =
+IsCauseOn (PlanCleaning manner slot) actor granted s fault =
     ((fault ≡ Stale) × (is_cleanable slot s ≡ false)) ⊎ (IsDenied granted fault × (is_cleanable slot s ≡ true))
 IsCauseOn (Fresh ino asked wanted) actor granted s fault =
     IsShort s (asked_list (length s.lists) actor asked) asked wanted fault
@@ -94,7 +94,7 @@ IsCause Ready block actor granted nodes s h r fault = IsDenied granted fault
 IsCause Enter block actor granted nodes s h r fault = IsAtLimit s fault ⊎ IsDenied granted fault
 IsCause Visit block actor granted nodes s h r fault =
     IsRefusal block nodes r fault ⊎ (IsDenied granted fault × (visit_grows r.call ≡ true) × Passes block nodes r)
-IsCause (Maintenance step) block actor granted nodes s h r fault = IsCauseOn step actor granted s fault
+IsCause (SnapshotOrCleaner step) block actor granted nodes s h r fault = IsCauseOn step actor granted s fault
 IsCause other block actor granted nodes s h r fault = ⊥
 
 -- a call may be overtaken at its check alone

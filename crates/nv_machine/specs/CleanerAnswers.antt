@@ -7,26 +7,26 @@ use Rattle.nv_calls.specs.declared.answer.Answer.{Answer}
 use Rattle.nv_calls.specs.declared.answer.Answer.TheVariants as answers
 use Rattle.nv_calls.specs.declared.call.Call.{Call}
 use Rattle.nv_calls.specs.declared.call.Call.TheVariants as call
-use Rattle.nv_calls.specs.declared.maintenance_call.MaintenanceCall.TheVariants as on
+use Rattle.nv_calls.specs.declared.snapshot_or_cleaner_call.SnapshotOrCleanerCall.TheVariants as on
 use Rattle.nv_cell.specs.Cell.{CellState}
 use Rattle.nv_clean.specs.Plans.{wanted_of}
 use Rattle.nv_machine.specs.OwnSteps.{OwnStep, turn_of}
 use Rattle.nv_cell.specs.Readers.{has_inode}
-use Rattle.nv_machine.specs.World.{Auto, Compact, Ends, Fast, Fresh, Judge, Maintenance, Manner, Moves, Next, Shared, Thorough, Turn, Unlink, Waits, cell_at}
+use Rattle.nv_machine.specs.World.{Auto, Compact, Ends, Fast, Fresh, PlanCleaning, SnapshotOrCleaner, Manner, Moves, Next, Shared, Thorough, Turn, Unlink, Waits, cell_at}
 
 -- the call that cleans the log of an inode so
 abbrev pub cleaner : Manner → ℕ → Call
-cleaner Fast ino = call.Maintenance (on.Fast ino)
-cleaner Thorough ino = call.Maintenance (on.Thorough ino)
-cleaner Auto ino = call.Maintenance (on.Auto ino)
+cleaner Fast ino = call.SnapshotOrCleaner (on.Fast ino)
+cleaner Thorough ino = call.SnapshotOrCleaner (on.Thorough ino)
+cleaner Auto ino = call.SnapshotOrCleaner (on.Auto ino)
 
 -- ---- its work
 
--- how many steps were made, those of them that judged, how many lists were asked, of each clean step whether it went entry
+-- how many steps were made, those of them that planned, how many lists were asked, of each clean step whether it went entry
 -- by entry, and how many entries and pages the log of the slot lost
 pub record CleanerWork : Type 0 where
   pub made : ℕ
-  pub judges : List OwnStep
+  pub plannings : List OwnStep
   pub asked : ℕ
   pub cleans : List Bool
   pub entries : ℕ
@@ -34,22 +34,22 @@ pub record CleanerWork : Type 0 where
 
 -- a cleaner that has done nothing yet
 abbrev pub no_work : CleanerWork
-no_work = record { made = 0; judges = []; asked = 0; cleans = []; entries = 0; pages = 0 }
+no_work = record { made = 0; plannings = []; asked = 0; cleans = []; entries = 0; pages = 0 }
 
--- the judge of a step, if it is one
-abbrev pub judges_at : Next → OwnStep → List OwnStep
-judges_at (Maintenance (Judge manner slot)) x = x ∷ []
-judges_at other x = []
+-- the planning of a step, if it is one
+abbrev pub plannings_at : Next → OwnStep → List OwnStep
+plannings_at (SnapshotOrCleaner (PlanCleaning manner slot)) x = x ∷ []
+plannings_at other x = []
 
 -- 1 for a step that asks a list for log pages, else 0
 abbrev pub asks_at : Next → ℕ
-asks_at (Maintenance (Fresh ino asked wanted)) = 1
+asks_at (SnapshotOrCleaner (Fresh ino asked wanted)) = 1
 asks_at other = 0
 
 -- for a clean step whether it goes entry by entry
 abbrev pub cleans_at : Next → List Bool
-cleans_at (Maintenance (Unlink ino)) = false ∷ []
-cleans_at (Maintenance (Compact ino)) = true ∷ []
+cleans_at (SnapshotOrCleaner (Unlink ino)) = false ∷ []
+cleans_at (SnapshotOrCleaner (Compact ino)) = true ∷ []
 cleans_at other = []
 
 -- how many entries a log lost
@@ -64,7 +64,7 @@ pages_lost old new = length old.chain.blocks - length new.chain.blocks
 abbrev pub with_made : Next → ℕ → OwnStep → Shared → CleanerWork → CleanerWork
 with_made k ino x t work = record {
   made = work.made + 1;
-  judges = judges_at k x ++ work.judges;
+  plannings = plannings_at k x ++ work.plannings;
   asked = work.asked + asks_at k;
   cleans = cleans_at k ++ work.cleans;
   entries = work.entries + entries_lost (cell_at x.world.shared ino) (cell_at t ino);
@@ -78,21 +78,21 @@ with_turn ino x Waits work = work
 with_turn ino x (Ends result t h) work = with_made x.running.next ino x t work
 
 -- THE WORK of these steps, the last first, on the log of a slot.
--- The work of a cleaner, by its own steps: how many it made, its judges, how many lists it asked, how many steps
+-- The work of a cleaner, by its own steps: how many it made, its plannings, how many lists it asked, how many steps
 -- cleaned, and how many entries and log pages the log of its number lost.
 abbrev pub work_done : ℕ → List OwnStep → CleanerWork
 work_done ino [] = no_work
 work_done ino (x ∷ steps) = with_turn ino x (turn_of x) (work_done ino steps)
 
--- ---- what its judge finds
+-- ---- what its planning finds
 
--- the cell that a judge walked
-abbrev pub judged_cell : ℕ → OwnStep → CellState
-judged_cell ino judge = cell_at judge.world.shared ino
+-- the cell that a planning walked
+abbrev pub walked_cell : ℕ → OwnStep → CellState
+walked_cell ino planning = cell_at planning.world.shared ino
 
 -- the log has an entry, and the memory of the walk is granted
 abbrev pub is_passed : ℕ → OwnStep → Bool
-is_passed ino judge = has_inode (judged_cell ino judge) && judge.granted
+is_passed ino planning = has_inode (walked_cell ino planning) && planning.granted
 
 -- it goes entry by entry: auto does where less than half of the entries stay.
 -- It goes entry by entry or by whole log pages.
@@ -107,19 +107,19 @@ goes_none manner cell = by_entries manner cell && ((wanted_of cell).dropped == 0
 
 -- ---- what it is told
 
--- THE ANSWER of a cleaner that has done this work: it was judged once, and then made one clean step or found nothing.
+-- THE ANSWER of a cleaner that has done this work: it planned once, and then made one clean step or found nothing.
 -- By its work it is answered or refused. Example: a log of six entries has four log pages with room for two entries
 -- each, and four entries may go. `thorough`, where the own list has a free block, makes five steps before `give`:
--- `lock cleaned`, `judge`, `fresh`, `compact`, `unlock`. The log has lost four entries and three log pages, and the
+-- `lock cleaned`, `plan cleaning`, `fresh`, `compact`, `unlock`. The log has lost four entries and three log pages, and the
 -- answer tells these.
 pub record IsCleanedBy (manner : Manner) (ino : ℕ) (work : CleanerWork) (told : Answer) : Type 0 where
-  pub judge : OwnStep
-  pub judged : work.judges ≡ judge ∷ []
-  pub passed : is_passed ino judge ≡ true
+  pub planning : OwnStep
+  pub planned : work.plannings ≡ planning ∷ []
+  pub passed : is_passed ino planning ≡ true
   pub cleans : work.cleans
-      ≡ (if goes_none manner (judged_cell ino judge) then [] else by_entries manner (judged_cell ino judge) ∷ [])
-  pub is : told ≡ answers.Cleaned (by_entries manner (judged_cell ino judge)) work.entries work.pages
-  pub nothing : goes_none manner (judged_cell ino judge) ≡ true → (work.entries ≡ 0) × (work.pages ≡ 0)
+      ≡ (if goes_none manner (walked_cell ino planning) then [] else by_entries manner (walked_cell ino planning) ∷ [])
+  pub is : told ≡ answers.Cleaned (by_entries manner (walked_cell ino planning)) work.entries work.pages
+  pub nothing : goes_none manner (walked_cell ino planning) ≡ true → (work.entries ≡ 0) × (work.pages ≡ 0)
 
 -- for what it is refused, by whether the log has an entry and whether memory is granted: first for want of an inode, then
 -- of memory, and last of blocks
@@ -130,9 +130,9 @@ fault_by true true = NoSpace
 
 -- THE REFUSAL of one where there are so many lists: for want of blocks each was asked, and else none; the log lost nothing
 pub record IsRefusedInOrder (ino lists : ℕ) (work : CleanerWork) (fault : Fault) : Type 0 where
-  pub judge : OwnStep
-  pub judged : work.judges ≡ judge ∷ []
-  pub is : fault ≡ fault_by (has_inode (judged_cell ino judge)) judge.granted
-  pub asked : work.asked ≡ (if is_passed ino judge then lists else 0)
+  pub planning : OwnStep
+  pub planned : work.plannings ≡ planning ∷ []
+  pub is : fault ≡ fault_by (has_inode (walked_cell ino planning)) planning.granted
+  pub asked : work.asked ≡ (if is_passed ino planning then lists else 0)
   pub cleans : work.cleans ≡ []
   pub lost : (work.entries ≡ 0) × (work.pages ≡ 0)

@@ -9,7 +9,7 @@ use Rattle.nv_clean.specs.declared.cleaned.Cleaned.{Cleaned}
 use Rattle.nv_log.specs.Chain.{compacted, gone_of}
 use Rattle.nv_machine.specs.Kinds.{end_turn, grown, less_list, refuse}
 use Rattle.nv_cell.specs.Readers.{has_inode}
-use Rattle.nv_machine.specs.World.{Auto, Cleans, Compact, Fast, Fresh, HandState, Judge, Maintenance, Manner, Moves, Running, Shared, Thorough, Turn, Unlink, Waits, cell_at, go_to, list_at, with_cell, with_owner}
+use Rattle.nv_machine.specs.World.{Auto, Cleans, Compact, Fast, Fresh, HandState, PlanCleaning, SnapshotOrCleaner, Manner, Moves, Running, Shared, Thorough, Turn, Unlink, Waits, cell_at, go_to, list_at, with_cell, with_owner}
 
 -- ---- lock
 
@@ -17,9 +17,9 @@ use Rattle.nv_machine.specs.World.{Auto, Cleans, Compact, Fast, Fresh, HandState
 abbrev pub lock_cleaned_turn : Option ℕ → ℕ → Manner → ℕ → Shared → HandState → Running → Turn
 lock_cleaned_turn (Some other) actor manner ino s h r = Waits
 lock_cleaned_turn None actor manner ino s h r =
-    Moves (with_owner ino (Some actor) s) h (go_to (Maintenance (Judge manner (Some ino))) r)
+    Moves (with_owner ino (Some actor) s) h (go_to (SnapshotOrCleaner (PlanCleaning manner (Some ino))) r)
 
--- ---- judge: what the walk of the log finds
+-- ---- plan cleaning: what the walk of the log finds
 
 -- a thorough cleaning is worth its pages where less than half of the entries stay
 abbrev pub is_thorough : Manner → CellState → Bool
@@ -34,13 +34,13 @@ nothing_cleaned = record { thorough = true; entries = 0; pages = 0 }
 -- so many entries go, and the others fill so many pages, which are taken first; where none goes the call is told so
 abbrev pub thorough_turn : ℕ → ℕ → ℕ → Shared → HandState → Running → Turn
 thorough_turn zero pages ino s h r = end_turn r.slots (Cleans nothing_cleaned) s h r
-thorough_turn (suc n) pages ino s h r = Moves s h (go_to (Maintenance (Fresh ino 0 pages)) r)
+thorough_turn (suc n) pages ino s h r = Moves s h (go_to (SnapshotOrCleaner (Fresh ino 0 pages)) r)
 
 -- the cleaning that was chosen: entry by entry, or by whole log pages
 abbrev pub chosen_turn : Bool → ℕ → Shared → HandState → Running → Turn
 chosen_turn true ino s h r =
     thorough_turn (wanted_of (cell_at s ino)).dropped (wanted_of (cell_at s ino)).pages ino s h r
-chosen_turn false ino s h r = Moves s h (go_to (Maintenance (Unlink ino)) r)
+chosen_turn false ino s h r = Moves s h (go_to (SnapshotOrCleaner (Unlink ino)) r)
 
 -- a slot without an inode is refused first; then the walk takes memory
 abbrev pub inode_turn : Bool → Manner → ℕ → Bool → Shared → HandState → Running → Turn
@@ -48,16 +48,16 @@ inode_turn false manner ino granted s h r = refuse Stale s h r
 inode_turn true manner ino granted s h r = grown granted (chosen_turn (is_thorough manner (cell_at s ino)) ino s h r) s h r
 
 -- so is a number without a slot
-abbrev pub judge_turn : Manner → Option ℕ → Bool → Shared → HandState → Running → Turn
-judge_turn manner None granted s h r = refuse Stale s h r
-judge_turn manner (Some ino) granted s h r = inode_turn (has_inode (cell_at s ino)) manner ino granted s h r
+abbrev pub plan_cleaning_turn : Manner → Option ℕ → Bool → Shared → HandState → Running → Turn
+plan_cleaning_turn manner None granted s h r = refuse Stale s h r
+plan_cleaning_turn manner (Some ino) granted s h r = inode_turn (has_inode (cell_at s ino)) manner ino granted s h r
 
 -- ---- fresh: log pages from one list
 
 -- a cleaner goes on to its cleaning once no log page is wanted, else to the next list, or is refused
 abbrev pub fresh_turn : ℕ → Bool → ℕ → ℕ → Shared → HandState → Running → Turn
-fresh_turn zero more ino asked s h r = Moves s h (go_to (Maintenance (Compact ino)) r)
-fresh_turn (suc n) true ino asked s h r = Moves s h (go_to (Maintenance (Fresh ino (asked + 1) (suc n))) r)
+fresh_turn zero more ino asked s h r = Moves s h (go_to (SnapshotOrCleaner (Compact ino)) r)
+fresh_turn (suc n) true ino asked s h r = Moves s h (go_to (SnapshotOrCleaner (Fresh ino (asked + 1) (suc n))) r)
 fresh_turn (suc n) false ino asked s h r = refuse NoSpace s h r
 
 -- the hand with the lowest blocks of a list as log pages

@@ -1,7 +1,7 @@
 -- How many records a drain releases.
 use Rattle.std.specs.Prelude.{◌≡◌, ℕ, nat_lt, if◌then◌else◌, [], Some}
 use Rattle.nv_base.specs.declared.limits.TheConstants.{DRAIN}
-use Rattle.nv_machine.specs.World.{Draining, Pick, Running, Maintenance, World, actor_at}
+use Rattle.nv_machine.specs.World.{Draining, Pick, Running, SnapshotOrCleaner, World, actor_at}
 
 -- as many as its number says, where one outside 1 to 1,048,576 counts as the nearest of these
 abbrev pub drain_number : ℕ → ℕ
@@ -13,5 +13,5 @@ pub record FindsNothing (actor : ℕ) (w : World) : Type 0 where
   pub running : Running
   pub draining : Draining
   pub runs : (actor_at w actor).running ≡ Some running
-  pub picks : running.next ≡ Maintenance (Pick draining)
+  pub picks : running.next ≡ SnapshotOrCleaner (Pick draining)
   pub nothing : w.shared.book.deferred ≡ []

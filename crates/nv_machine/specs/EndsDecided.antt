@@ -39,9 +39,9 @@ is_answered (Ends (Ok told) s h) = true
 is_answered (Ends (Err fault) s h) = false
 
 -- a call on snapshots, of which the laws of snapshots tell the answer
-abbrev pub is_maintenance : Call → Bool
-is_maintenance (call.Maintenance c) = true
-is_maintenance other = false
+abbrev pub is_snapshot_or_cleaner : Call → Bool
+is_snapshot_or_cleaner (call.SnapshotOrCleaner c) = true
+is_snapshot_or_cleaner other = false
 
 -- WHETHER A STEP DECIDES that its call is answered, by the nodes of the plain world: a commit point does; a check where
 -- the call has nothing to do; and a visit that is answered, and that the plain world does not refuse

@@ -14,7 +14,7 @@ use Rattle.nv_calls.specs.Retiring.{name_of}
 use Rattle.nv_machine.specs.Held.{is_of_slot, pending_in}
 use Rattle.nv_machine.specs.Settled.{settled}
 use Rattle.nv_machine.specs.Step.{changed}
-use Rattle.nv_machine.specs.World.{ReturnNumber, Give, Leave, Next, Pick, Retire, Running, Shared, Maintenance, Unlock, World, actor_at, cell_at, empty_hand}
+use Rattle.nv_machine.specs.World.{ReturnNumber, Give, Leave, Next, Pick, Retire, Running, Shared, SnapshotOrCleaner, Unlock, World, actor_at, cell_at, empty_hand}
 
 -- what keeps the pairs of a slot, but for a hand that has killed them: the living snapshots and, by name,
 -- these that are pending
@@ -79,7 +79,7 @@ abbrev pub is_done_with : Option Running → Bool
 is_done_with None = true
 is_done_with (Some r) = picks_next r.next where
   picks_next : Next → Bool
-  picks_next (Maintenance (Pick draining)) = true
+  picks_next (SnapshotOrCleaner (Pick draining)) = true
   picks_next other = false
 
 -- so it is, and the pool has the number.

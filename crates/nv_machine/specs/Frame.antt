@@ -5,7 +5,7 @@ use Rattle.nv_machine.specs.Kinds.{asked_list}
 use Rattle.nv_machine.specs.Reads.{slot_at, written_slots}
 use Rattle.nv_machine.specs.Sequence.{beginning, begun}
 use Rattle.nv_machine.specs.Step.{Step, turn, turned}
-use Rattle.nv_machine.specs.World.{Append, ReturnNumber, Check, Close, Compact, Ends, Enter, Fresh, Give, Judge, Leave, Lock, LockCleaned, LockPicked, Look, Moves, Next, Number, Open, Publish, Ready, Release, Retire, Running, Shared, Show, MaintenanceStep, Maintenance, Started, TakeBlocks, TakeLogPages, Turn, Unlink, Unlock, Visit, Waits, World, actor_at, cell_at, list_at, owner_at}
+use Rattle.nv_machine.specs.World.{Append, ReturnNumber, Check, Close, Compact, Ends, Enter, Fresh, Give, PlanCleaning, Leave, Lock, LockCleaned, LockPicked, Look, Moves, Next, Number, Open, Publish, Ready, Release, Retire, Running, Shared, Show, SnapshotOrCleanerStep, SnapshotOrCleaner, Started, TakeBlocks, TakeLogPages, Turn, Unlink, Unlock, Visit, Waits, World, actor_at, cell_at, list_at, owner_at}
 
 -- the parts that a step may change: the free list of a CPU, the pool, the cell of a slot, the lock of a slot, the
 -- book, and the commit lock
@@ -22,12 +22,12 @@ abbrev pub nothing_lent : Lent
 nothing_lent = record { list = None; pool = false; cell = None; lock = None; book = false; commit_lock = false }
 
 -- what a step of a call on snapshots or of a cleaner is lent, with so many CPUs
-abbrev pub lent_on : MaintenanceStep → ℕ → ℕ → Lent
+abbrev pub lent_on : SnapshotOrCleanerStep → ℕ → ℕ → Lent
 lent_on (Show snapshot showing) cpus actor = nothing_lent
 lent_on (LockPicked draining picked) cpus actor = record nothing_lent { lock = Some picked.ino }
 lent_on (Release draining picked) cpus actor = record nothing_lent { cell = Some picked.ino }
 lent_on (LockCleaned manner ino) cpus actor = record nothing_lent { lock = Some ino }
-lent_on (Judge manner slot) cpus actor = nothing_lent
+lent_on (PlanCleaning manner slot) cpus actor = nothing_lent
 lent_on (Fresh ino asked wanted) cpus actor = record nothing_lent { list = Some (asked_list cpus actor asked) }
 lent_on (Unlink ino) cpus actor = record nothing_lent { cell = Some ino }
 lent_on (Compact ino) cpus actor = record nothing_lent { cell = Some ino }
@@ -54,7 +54,7 @@ lent (Unlock place) cpus actor r = record nothing_lent { lock = Some (slot_at r.
 lent (Give cpu) cpus actor r = record nothing_lent { list = Some cpu }
 lent ReturnNumber cpus actor r = record nothing_lent { pool = true }
 lent Visit cpus actor r = nothing_lent
-lent (Maintenance step) cpus actor r = lent_on step cpus actor
+lent (SnapshotOrCleaner step) cpus actor r = lent_on step cpus actor
 
 -- what is not lent stays
 abbrev pub Stays : Bool → Type 0 → Type 0

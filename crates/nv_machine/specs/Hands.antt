@@ -20,7 +20,7 @@ use Rattle.nv_machine.specs.Kinds.{blocks_in}
 use Rattle.nv_machine.specs.Numbers.{all_blocks}
 use Rattle.nv_machine.specs.Reads.{written_slots}
 use Rattle.nv_machine.specs.Sequence.{Beginning, Looks, Locks, Numbers, Maintains, Visits, beginning, nothing_looked}
-use Rattle.nv_machine.specs.World.{Answers, Append, ReturnNumber, Check, Close, Compact, Enter, Fresh, Give, HandState, Leave, Lock, Look, Next, Number, Open, BoundAnew, Publish, Ready, Retire, Running, Shared, MaintenanceStep, Maintenance, TakeBlocks, TakeLogPages, Unlock, Unpin, Visit, World, actor_at, cell_at, empty_hand, list_at}
+use Rattle.nv_machine.specs.World.{Answers, Append, ReturnNumber, Check, Close, Compact, Enter, Fresh, Give, HandState, Leave, Lock, Look, Next, Number, Open, BoundAnew, Publish, Ready, Retire, Running, Shared, SnapshotOrCleanerStep, SnapshotOrCleaner, TakeBlocks, TakeLogPages, Unlock, Unpin, Visit, World, actor_at, cell_at, empty_hand, list_at}
 
 -- ---- lists and cells
 
@@ -116,7 +116,7 @@ abbrev pub HasPagesAlone : HandState → Type 0
 HasPagesAlone h = h ≡ record empty_hand { pages = h.pages }
 
 -- a cleaner has taken log pages at most, and other calls of this kind have nothing before the last steps
-abbrev pub HandOn : MaintenanceStep → HandState → Type 0
+abbrev pub HandOn : SnapshotOrCleanerStep → HandState → Type 0
 HandOn (Fresh ino asked wanted) h = HasPagesAlone h
 HandOn (Compact ino) h = HasPagesAlone h
 HandOn other h = h ≡ empty_hand
@@ -141,10 +141,10 @@ HandAt g (Unlock place) h r = (h.killed ≡ []) × (r.ending ≡ BoundAnew → B
 HandAt g (Give cpu) h r = (h.killed ≡ []) × (cpu < g.cpus) × AreGiven g cpu (blocks_in h)
 HandAt g ReturnNumber h r = (h.killed ≡ []) × (blocks_in h ≡ [])
 HandAt g Visit h r = h ≡ empty_hand
-HandAt g (Maintenance step) h r = HandOn step h
+HandAt g (SnapshotOrCleaner step) h r = HandOn step h
 
 -- until its last steps a call is to be answered; a show takes its pin off whatever it is answered
-abbrev pub is_going_on : MaintenanceStep → Bool
+abbrev pub is_going_on : SnapshotOrCleanerStep → Bool
 is_going_on (Unpin snapshot seen) = false
 is_going_on other = true
 
@@ -153,7 +153,7 @@ abbrev pub is_going : Next → Bool
 is_going (Unlock place) = false
 is_going (Give cpu) = false
 is_going ReturnNumber = false
-is_going (Maintenance step) = is_going_on step
+is_going (SnapshotOrCleaner step) = is_going_on step
 is_going other = true
 
 -- the hand of an actor is as its call's next step says

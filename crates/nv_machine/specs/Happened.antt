@@ -9,12 +9,12 @@ use Rattle.nv_journal.specs.Journal.{tail_noted}
 use Rattle.nv_journal.specs.declared.old_tail.OldTail.{OldTail}
 use Rattle.nv_machine.specs.PlainRun.{Commits, PlainChange, Nothing, Numbers, Maintains, actor_of, plain_change_of}
 use Rattle.nv_machine.specs.Step.{step}
-use Rattle.nv_machine.specs.World.{Close, Drop, Event, Make, Next, Publish, Shared, MaintenanceStep, World}
+use Rattle.nv_machine.specs.World.{Close, Drop, Event, Make, Next, Publish, Shared, SnapshotOrCleanerStep, World}
 
 -- ---- the history
 
 -- what a step adds to the history
-abbrev pub added_on : MaintenanceStep → Shared → List BookEvent
+abbrev pub added_on : SnapshotOrCleanerStep → Shared → List BookEvent
 added_on Make s = Made s.book.snaps.epoch ∷ []
 added_on (Drop snapshot) s = Dropped snapshot ∷ []
 added_on other s = []

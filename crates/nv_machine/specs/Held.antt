@@ -18,7 +18,7 @@ use Rattle.nv_entry.specs.Log.{pairs}
 use Rattle.nv_epoch.specs.SnapList.{ids}
 use Rattle.nv_machine.specs.Numbers.{held_by_actor}
 use Rattle.nv_machine.specs.Reads.{written_slots}
-use Rattle.nv_machine.specs.World.{Actor, Close, HandState, LockPicked, Next, Publish, Release, Retire, Running, MaintenanceStep, Maintenance, World, cell_at}
+use Rattle.nv_machine.specs.World.{Actor, Close, HandState, LockPicked, Next, Publish, Release, Retire, Running, SnapshotOrCleanerStep, SnapshotOrCleaner, World, cell_at}
 
 -- ---- what is killed: published over, and not yet retired
 
@@ -52,14 +52,14 @@ killed_in w ino = flat_map (killed_by_actor ino) w.actors
 -- ---- what is pending: deferred, or picked by a drain and not yet released
 
 -- the record that a drain has picked, at such a step
-abbrev pub picked_on : MaintenanceStep → List Record
+abbrev pub picked_on : SnapshotOrCleanerStep → List Record
 picked_on (LockPicked draining picked) = picked ∷ []
 picked_on (Release draining picked) = picked ∷ []
 picked_on other = []
 
 -- the record that a call has picked, if it has
 abbrev pub picked_at : Next → List Record
-picked_at (Maintenance step) = picked_on step
+picked_at (SnapshotOrCleaner step) = picked_on step
 picked_at other = []
 
 -- the record that a running call has picked, if it has

@@ -22,7 +22,7 @@ use Rattle.nv_machine.specs.Hands.{AreTailsLast}
 use Rattle.nv_machine.specs.Pages.{PagesOf}
 use Rattle.nv_machine.specs.Reads.{written_slots}
 use Rattle.nv_machine.specs.Settled.{settled}
-use Rattle.nv_machine.specs.World.{Answers, Append, ReturnNumber, Check, Close, Enter, Give, HandState, Leave, Lock, Look, Next, Number, Open, BoundAnew, Publish, Ready, Release, Retire, Running, Shared, Maintenance, TakeBlocks, TakeLogPages, Unlock, Visit, World, actor_at, cell_at, empty_hand}
+use Rattle.nv_machine.specs.World.{Answers, Append, ReturnNumber, Check, Close, Enter, Give, HandState, Leave, Lock, Look, Next, Number, Open, BoundAnew, Publish, Ready, Release, Retire, Running, Shared, SnapshotOrCleaner, TakeBlocks, TakeLogPages, Unlock, Visit, World, actor_at, cell_at, empty_hand}
 
 -- ---- blocks
 
@@ -40,7 +40,7 @@ AreApart slots = (n m : ℕ) (b c : BlockValue) → slice_index_or slots n None 
 
 -- a part that is to be released is covered in its log
 abbrev pub IsReleaseCovered : Shared → Next → Type 0
-IsReleaseCovered s (Maintenance (Release draining picked)) =
+IsReleaseCovered s (SnapshotOrCleaner (Release draining picked)) =
     is_covered (cell_at s picked.ino).block (log_of (cell_at s picked.ino)) (number_in (cell_at s picked.ino) (name_of picked)) ≡ true
 IsReleaseCovered s other = Unit {0}
 
@@ -142,7 +142,7 @@ Knows (Unlock place) block s cpu h r = r.ending ≡ BoundAnew → HasNothing h
 Knows (Give home) block s cpu h r = Unit {0}
 Knows ReturnNumber block s cpu h r = Unit {0}
 Knows Visit block s cpu h r = Unit {0}
-Knows (Maintenance step) block s cpu h r = Unit {0}
+Knows (SnapshotOrCleaner step) block s cpu h r = Unit {0}
 
 -- an actor's call knows what its next step asks
 abbrev pub KnowsOf : Option Running → ℕ → Shared → ℕ → HandState → Type 0

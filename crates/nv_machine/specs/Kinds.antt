@@ -28,7 +28,7 @@ use Rattle.nv_calls.specs.FillPages.{filled, fresh_pages}
 use Rattle.nv_machine.specs.Reads.{copies, home_from, pages_wanted, plan_by, slot_at, slots_of, written_slots}
 use Rattle.nv_machine.specs.Sequence.{sequel}
 use Rattle.nv_cell.specs.Readers.{is_erased}
-use Rattle.nv_machine.specs.World.{Answers, Append, ReturnNumber, Cleans, Close, Drains, Ending, Ends, Enter, Give, HandState, Lock, Look, Moves, Next, Number, Open, BoundAnew, Pick, Publish, Ready, Refuses, Retire, Running, Shared, Maintenance, TakeBlocks, TakeLogPages, Turn, Unlock, Waits, cell_at, go_to, list_at, with_book, with_cell, with_list, with_numbers, with_owner}
+use Rattle.nv_machine.specs.World.{Answers, Append, ReturnNumber, Cleans, Close, Drains, Ending, Ends, Enter, Give, HandState, Lock, Look, Moves, Next, Number, Open, BoundAnew, Pick, Publish, Ready, Refuses, Retire, Running, Shared, SnapshotOrCleaner, TakeBlocks, TakeLogPages, Turn, Unlock, Waits, cell_at, go_to, list_at, with_book, with_cell, with_list, with_numbers, with_owner}
 
 -- ---- how a call ends
 
@@ -48,7 +48,7 @@ result_by (Cleans cleaned) r = Ok (answers.Cleaned cleaned.thorough cleaned.entr
 abbrev pub drained_turn : ℕ → ℕ → Shared → HandState → Running → Turn
 drained_turn zero released s h r = Ends (Ok (answers.Count released)) s h
 drained_turn (suc left) released s h r =
-    Moves s h (record r { ending = Answers; slots = []; next = Maintenance (Pick (record { released = released; left = left })) })
+    Moves s h (record r { ending = Answers; slots = []; next = SnapshotOrCleaner (Pick (record { released = released; left = left })) })
 
 -- nothing is locked, and nothing in the hand
 abbrev pub last_turn : Ending → Shared → HandState → Running → Turn

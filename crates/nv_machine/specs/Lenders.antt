@@ -1,10 +1,10 @@
 -- WHICH STEPS ARE LENT EACH PART of what is shared, part by part.
 use Rattle.std.specs.Prelude.{◌≡◌, Bool, true, false, is_some}
 use Rattle.nv_machine.specs.Frame.{Lent}
-use Rattle.nv_machine.specs.World.{Append, ReturnNumber, Close, Compact, Drop, Enter, Fresh, Give, Leave, Lock, LockCleaned, LockPicked, Make, Next, Number, Open, Pick, Pin, Publish, Release, Retire, MaintenanceStep, Maintenance, TakeBlocks, TakeLogPages, Unlink, Unlock, Unpin}
+use Rattle.nv_machine.specs.World.{Append, ReturnNumber, Close, Compact, Drop, Enter, Fresh, Give, Leave, Lock, LockCleaned, LockPicked, Make, Next, Number, Open, Pick, Pin, Publish, Release, Retire, SnapshotOrCleanerStep, SnapshotOrCleaner, TakeBlocks, TakeLogPages, Unlink, Unlock, Unpin}
 
 -- a free list: those that take from one or give to one
-abbrev pub takes_fresh : MaintenanceStep → Bool
+abbrev pub takes_fresh : SnapshotOrCleanerStep → Bool
 takes_fresh (Fresh ino asked wanted) = true
 takes_fresh other = false
 
@@ -13,7 +13,7 @@ abbrev pub moves_blocks : Next → Bool
 moves_blocks (TakeBlocks asked) = true
 moves_blocks (TakeLogPages asked) = true
 moves_blocks (Give cpu) = true
-moves_blocks (Maintenance step) = takes_fresh step
+moves_blocks (SnapshotOrCleaner step) = takes_fresh step
 moves_blocks other = false
 
 -- the pool: those that take a number or give one back
@@ -23,7 +23,7 @@ moves_numbers ReturnNumber = true
 moves_numbers other = false
 
 -- a cell: those that change a log, or what is kept of it
-abbrev pub takes_out : MaintenanceStep → Bool
+abbrev pub takes_out : SnapshotOrCleanerStep → Bool
 takes_out (Release draining picked) = true
 takes_out (Unlink ino) = true
 takes_out (Compact ino) = true
@@ -34,11 +34,11 @@ abbrev pub changes_log : Next → Bool
 changes_log (Append place) = true
 changes_log (Publish place) = true
 changes_log (Retire place) = true
-changes_log (Maintenance step) = takes_out step
+changes_log (SnapshotOrCleaner step) = takes_out step
 changes_log other = false
 
 -- the lock of a slot: those that lock and unlock
-abbrev pub locks_slot : MaintenanceStep → Bool
+abbrev pub locks_slot : SnapshotOrCleanerStep → Bool
 locks_slot (LockPicked draining picked) = true
 locks_slot (LockCleaned manner ino) = true
 locks_slot other = false
@@ -47,12 +47,12 @@ locks_slot other = false
 abbrev pub changes_lock : Next → Bool
 changes_lock (Lock place) = true
 changes_lock (Unlock place) = true
-changes_lock (Maintenance step) = locks_slot step
+changes_lock (SnapshotOrCleaner step) = locks_slot step
 changes_lock other = false
 
 -- the book: those that number a commit, note its tails, or file records; and those that change the list of snapshots or
 -- what is deferred
-abbrev pub changes_snapshots : MaintenanceStep → Bool
+abbrev pub changes_snapshots : SnapshotOrCleanerStep → Bool
 changes_snapshots Make = true
 changes_snapshots (Drop snapshot) = true
 changes_snapshots (Pin snapshot) = true
@@ -66,7 +66,7 @@ changes_book Enter = true
 changes_book Open = true
 changes_book Close = true
 changes_book (Retire place) = true
-changes_book (Maintenance step) = changes_snapshots step
+changes_book (SnapshotOrCleaner step) = changes_snapshots step
 changes_book other = false
 
 -- the commit lock: the first step of a commit and its last

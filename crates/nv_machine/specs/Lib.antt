@@ -43,7 +43,7 @@ pub mod Sequence
 pub mod Settled
 pub mod Shapes
 pub mod Cleaning
-pub mod Maintenance
+pub mod SnapshotOrCleaner
 pub mod Starts
 pub mod Step
 pub mod StepNames

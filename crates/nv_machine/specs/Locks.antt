@@ -10,15 +10,15 @@ use Rattle.nv_machine.specs.Reads.{slot_at, written_slots}
 use Rattle.nv_machine.specs.Sequence.{directories, nothing_looked, slots_on}
 use Rattle.nv_machine.specs.Step.{handle_at}
 use Rattle.nv_calls.specs.Locked.{handles}
-use Rattle.nv_machine.specs.Maintenance.{visited}
-use Rattle.nv_machine.specs.World.{Append, ReturnNumber, Close, Compact, Enter, Fresh, Give, Judge, Leave, Lock, LockCleaned, LockPicked, Look, Next, Number, Open, Publish, Release, Retire, Running, Shared, Show, MaintenanceStep, Maintenance, Unlink, Unlock, Visit, World, actor_at, owner_at}
+use Rattle.nv_machine.specs.SnapshotOrCleaner.{visited}
+use Rattle.nv_machine.specs.World.{Append, ReturnNumber, Close, Compact, Enter, Fresh, Give, PlanCleaning, Leave, Lock, LockCleaned, LockPicked, Look, Next, Number, Open, Publish, Release, Retire, Running, Shared, Show, SnapshotOrCleanerStep, SnapshotOrCleaner, Unlink, Unlock, Visit, World, actor_at, owner_at}
 
 -- ---- what a call holds
 
--- a drain has locked the inode of a record that it releases, and a cleaner the slot that it judges and cleans
-abbrev pub held_on : MaintenanceStep → List ℕ → List ℕ
+-- a drain has locked the inode of a record that it releases, and a cleaner the slot that it plans and cleans
+abbrev pub held_on : SnapshotOrCleanerStep → List ℕ → List ℕ
 held_on (Release draining picked) slots = slots
-held_on (Judge manner slot) slots = slots
+held_on (PlanCleaning manner slot) slots = slots
 held_on (Fresh ino asked wanted) slots = slots
 held_on (Unlink ino) slots = slots
 held_on (Compact ino) slots = slots
@@ -35,7 +35,7 @@ held_at (Unlock place) slots = drop place slots
 held_at (Give cpu) slots = []
 held_at ReturnNumber slots = []
 held_at Visit slots = []
-held_at (Maintenance step) slots = held_on step slots
+held_at (SnapshotOrCleaner step) slots = held_on step slots
 held_at other slots = slots
 
 -- whether it holds the commit lock: from its enter to its leave
@@ -76,7 +76,7 @@ IsInside (Append place) r = place < length (written_slots r)
 IsInside (Publish place) r = place < length (written_slots r)
 IsInside (Retire place) r = place < length (written_slots r)
 IsInside Visit r = r.slots ≡ []
-IsInside (Maintenance step) r = r.slots ≡ slots_on step
+IsInside (SnapshotOrCleaner step) r = r.slots ≡ slots_on step
 IsInside other r = Unit {0}
 
 -- the slots of an actor's call rise and are there
@@ -112,12 +112,12 @@ abbrev pub IsHeldByOther : ℕ → Option ℕ → Type 0
 IsHeldByOther actor owner = (other : ℕ) × (owner ≡ Some other) × (other ≢ actor)
 
 -- the lock that a step of a call on snapshots needs
-abbrev pub WaitsOn : Shared → ℕ → MaintenanceStep → Type 0
+abbrev pub WaitsOn : Shared → ℕ → SnapshotOrCleanerStep → Type 0
 WaitsOn s actor (Show snapshot showing) = IsHeldByOther actor (owner_at s (visited showing.visits).ino)
 WaitsOn s actor (LockPicked draining picked) = IsHeldByOther actor (owner_at s picked.ino)
 WaitsOn s actor (Release draining picked) = ⊥
 WaitsOn s actor (LockCleaned manner ino) = IsHeldByOther actor (owner_at s ino)
-WaitsOn s actor (Judge manner slot) = ⊥
+WaitsOn s actor (PlanCleaning manner slot) = ⊥
 WaitsOn s actor (Fresh ino asked wanted) = ⊥
 WaitsOn s actor (Unlink ino) = ⊥
 WaitsOn s actor (Compact ino) = ⊥
@@ -132,7 +132,7 @@ WaitsFor s actor r (Look place) = IsHeldByOther actor (owner_at s (handle_at (di
 WaitsFor s actor r (Lock place) = IsHeldByOther actor (owner_at s (slot_at r.slots place))
 WaitsFor s actor r Enter = IsHeldByOther actor s.holder
 WaitsFor s actor r Visit = IsHeldByOther actor (owner_at s (handle_at (handles nothing_looked r.call) 0).ino)
-WaitsFor s actor r (Maintenance step) = WaitsOn s actor step
+WaitsFor s actor r (SnapshotOrCleaner step) = WaitsOn s actor step
 WaitsFor s actor r other = ⊥
 
 -- ---- what is lent

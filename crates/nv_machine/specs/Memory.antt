@@ -4,15 +4,15 @@ use Rattle.nv_base.specs.declared.fault.Fault.{Fault}
 use Rattle.nv_base.specs.Memory.{out_of_memory}
 use Rattle.nv_machine.specs.Hands.{is_going}
 use Rattle.nv_machine.specs.Kinds.{refuse}
-use Rattle.nv_machine.specs.Maintenance.{is_first}
+use Rattle.nv_machine.specs.SnapshotOrCleaner.{is_first}
 use Rattle.nv_machine.specs.Step.{check_grows, visit_grows, with_made}
-use Rattle.nv_machine.specs.World.{Check, Ending, Ends, Enter, HandState, Judge, Look, Moves, Next, Pick, Ready, Refuses, Running, Shared, Show, MaintenanceStep, Maintenance, Turn, Unpin, Visit}
+use Rattle.nv_machine.specs.World.{Check, Ending, Ends, Enter, HandState, PlanCleaning, Look, Moves, Next, Pick, Ready, Refuses, Running, Shared, Show, SnapshotOrCleanerStep, SnapshotOrCleaner, Turn, Unpin, Visit}
 
--- of the steps of calls on snapshots those that show a node, and the first pick of a drain; and the judge of a cleaner
-abbrev pub grows_on : MaintenanceStep → Bool
+-- of the steps of calls on snapshots those that show a node, and the first pick of a drain; and the planning of a cleaner
+abbrev pub grows_on : SnapshotOrCleanerStep → Bool
 grows_on (Show snapshot showing) = true
 grows_on (Pick draining) = is_first draining
-grows_on (Judge manner slot) = true
+grows_on (PlanCleaning manner slot) = true
 grows_on other = false
 
 -- the steps that grow anything: a check where it wants blocks, and of the others each of its kind
@@ -21,13 +21,13 @@ grows Check block s h r = check_grows block s h r
 grows Ready block s h r = true
 grows Enter block s h r = true
 grows Visit block s h r = visit_grows r.call
-grows (Maintenance step) block s h r = grows_on step
+grows (SnapshotOrCleaner step) block s h r = grows_on step
 grows other block s h r = false
 
 -- neither to the last steps nor to another round of looks, nor to another record
 abbrev pub is_onward : Next → Bool
 is_onward (Look place) = false
-is_onward (Maintenance step) = false
+is_onward (SnapshotOrCleaner step) = false
 is_onward other = is_going other
 
 -- the turn moves on to a step that is none of the last ones
@@ -45,14 +45,14 @@ abbrev pub is_answered : Turn → Bool
 is_answered (Ends (Ok found) t after) = true
 is_answered other = false
 
--- the call moves on to a step of maintenance, or to its last steps and is not to be refused
+-- the call moves on to a step of a call on snapshots or of a cleaner, or to its last steps and is not to be refused
 abbrev pub is_unrefused : Ending → Bool
 is_unrefused (Refuses fault) = false
 is_unrefused other = true
 
 -- the step is of a call on snapshots, or of a cleaner
 abbrev pub is_maintaining : Next → Bool
-is_maintaining (Maintenance step) = true
+is_maintaining (SnapshotOrCleaner step) = true
 is_maintaining other = false
 
 -- the turn moves a call that is not refused
@@ -60,12 +60,12 @@ abbrev pub moves_unrefused : Turn → Bool
 moves_unrefused (Moves t after q) = is_maintaining q.next || is_unrefused q.ending
 moves_unrefused other = false
 
--- what a step does where nothing stops its call: a visit answers, a judge answers or moves on unless it refuses, a step on
+-- what a step does where nothing stops its call: a visit answers, a planning answers or moves on unless it refuses, a step on
 -- snapshots answers or moves on, and any other goes on towards the commit
 abbrev pub does_its_work : Next → Turn → Bool
 does_its_work Visit turn = is_answered turn
-does_its_work (Maintenance (Judge manner slot)) turn = is_answered turn || moves_unrefused turn
-does_its_work (Maintenance step) turn = is_answered turn || moves_on turn
+does_its_work (SnapshotOrCleaner (PlanCleaning manner slot)) turn = is_answered turn || moves_unrefused turn
+does_its_work (SnapshotOrCleaner step) turn = is_answered turn || moves_on turn
 does_its_work other turn = moves_onward turn
 
 -- what a step has noted before it grows anything: a check the handle of a new inode
@@ -75,8 +75,8 @@ noted other s h r = r
 
 -- the call turns to its last steps: a show to the one that takes its pin off
 abbrev pub denied_at : Next → Shared → HandState → Running → Turn
-denied_at (Maintenance (Show snapshot showing)) s h r =
-    Moves s h (record r { ending = Refuses out_of_memory; next = Maintenance (Unpin snapshot []) })
+denied_at (SnapshotOrCleaner (Show snapshot showing)) s h r =
+    Moves s h (record r { ending = Refuses out_of_memory; next = SnapshotOrCleaner (Unpin snapshot []) })
 denied_at other s h r = refuse out_of_memory s h r
 
 -- THE TURN WHERE MEMORY IS REFUSED, by the turn where it is granted: it refuses the call where that one does its work,

@@ -9,7 +9,7 @@ use Rattle.nv_base.specs.declared.geometry.GeometryNumbers.{GeometryNumbers}
 use Rattle.nv_calls.specs.declared.answer.Answer.TheVariants as answers
 use Rattle.nv_calls.specs.declared.call.Call.{Call}
 use Rattle.nv_calls.specs.declared.call.Call.TheVariants as call
-use Rattle.nv_calls.specs.declared.maintenance_call.MaintenanceCall.TheVariants as on
+use Rattle.nv_calls.specs.declared.snapshot_or_cleaner_call.SnapshotOrCleanerCall.TheVariants as on
 use Rattle.nv_cell.specs.Cell.{CellState, log_of, page_block}
 use Rattle.nv_entry.specs.Covered.{part_total}
 use Rattle.nv_entry.specs.Held.{is_needed}
@@ -67,7 +67,7 @@ count_in other = 0
 
 -- how many records a drain is told that it released, 0 for other calls
 abbrev pub told_to : Call → ℕ → ℕ
-told_to (call.Maintenance (on.Drain count)) told = told
+told_to (call.SnapshotOrCleaner (on.Drain count)) told = told
 told_to other told = 0
 
 -- how many records a running call is told so
@@ -91,7 +91,7 @@ drained w (e ∷ events) = told_in w e + drained (step w e).world events
 
 -- no drop of a snapshot is started
 abbrev pub is_drop : Call → Bool
-is_drop (call.Maintenance (on.Drop snapshot)) = true
+is_drop (call.SnapshotOrCleaner (on.Drop snapshot)) = true
 is_drop other = false
 
 -- the event starts no drop

@@ -4,7 +4,7 @@ use Rattle.nv_clean.specs.Plans.{wanted_of}
 use Rattle.nv_log.specs.Chain.{AreEnds, ChainState}
 use Rattle.nv_machine.specs.Reads.{pages_wanted, written_slots}
 use Rattle.nv_machine.specs.Wanted.{log_pages_wanted}
-use Rattle.nv_machine.specs.World.{Append, Close, Compact, Enter, Fresh, HandState, Leave, Maintenance, MaintenanceStep, Next, Open, Publish, Ready, Retire, Running, Shared, TakeBlocks, TakeLogPages, cell_at}
+use Rattle.nv_machine.specs.World.{Append, Close, Compact, Enter, Fresh, HandState, Leave, SnapshotOrCleaner, SnapshotOrCleanerStep, Next, Open, Publish, Ready, Retire, Running, Shared, TakeBlocks, TakeLogPages, cell_at}
 
 -- each entry of a chain stands on one of its pages, none of which has more than so many; pages without an entry stand last
 pub record AreOnPages (page : ℕ) (chain : ChainState) : Type 0 where
@@ -15,7 +15,7 @@ pub record AreOnPages (page : ℕ) (chain : ChainState) : Type 0 where
 -- how many log pages a hand has before a step: with those still wanted as many as the plan needs; then as many as the
 -- entries need that are yet to be appended, and none besides
 -- and of a cleaner: with those still wanted as many as the entries fill that stay
-abbrev pub HasPagesOn : MaintenanceStep → Shared → HandState → Type 0
+abbrev pub HasPagesOn : SnapshotOrCleanerStep → Shared → HandState → Type 0
 HasPagesOn (Fresh ino asked wanted) s h = length h.pages + wanted ≡ (wanted_of (cell_at s ino)).pages
 HasPagesOn (Compact ino) s h = length h.pages ≡ (wanted_of (cell_at s ino)).pages
 HasPagesOn other s h = Unit {0}
@@ -32,7 +32,7 @@ HasLogPages (Publish place) block s h r = length h.pages ≡ 0
 HasLogPages Close block s h r = length h.pages ≡ 0
 HasLogPages (Retire place) block s h r = length h.pages ≡ 0
 HasLogPages Leave block s h r = length h.pages ≡ 0
-HasLogPages (Maintenance step) block s h r = HasPagesOn step s h
+HasLogPages (SnapshotOrCleaner step) block s h r = HasPagesOn step s h
 HasLogPages other block s h r = Unit {0}
 
 -- the hand of an actor has the log pages that its call's next step needs

@@ -12,7 +12,7 @@ use Rattle.nv_machine.specs.Locks.{commits_at}
 use Rattle.nv_machine.specs.Reads.{written_slots}
 use Rattle.nv_machine.specs.Settled.{settled_copies, settled_nodes}
 use Rattle.nv_machine.specs.Step.{step, turn}
-use Rattle.nv_machine.specs.World.{Close, Drop, Ends, Enter, Event, Go, Make, Moves, Next, Pin, Publish, Running, Shared, MaintenanceStep, Maintenance, Start, Turn, Unpin, Waits, World, actor_at}
+use Rattle.nv_machine.specs.World.{Close, Drop, Ends, Enter, Event, Go, Make, Moves, Next, Pin, Publish, Running, Shared, SnapshotOrCleanerStep, SnapshotOrCleaner, Start, Turn, Unpin, Waits, World, actor_at}
 
 -- a snapshot: all nodes as they were when it was made, and how many shows pin it.
 -- It has nodes, the number of its last commit, its epoch, and of each living snapshot a copy: its number, all nodes
@@ -54,7 +54,7 @@ pub data PlainChange : Type 0 where
   Nothing : PlainChange
   Numbers : PlainChange
   Commits : PlainChange
-  Maintains : (step : MaintenanceStep) → PlainChange
+  Maintains : (step : SnapshotOrCleanerStep) → PlainChange
 
 -- what a step does leaves all nodes
 abbrev pub keeps_nodes : PlainChange → Bool
@@ -69,7 +69,7 @@ entered (Moves s h r) = if commits_at r.next then Numbers else Nothing
 entered other = Nothing
 
 -- a step of a call on snapshots that is not refused and does not wait
-abbrev pub done_on : MaintenanceStep → Turn → PlainChange
+abbrev pub done_on : SnapshotOrCleanerStep → Turn → PlainChange
 done_on step (Moves s h r) = Maintains step
 done_on step Waits = Nothing
 done_on (Unpin snapshot seen) (Ends result s h) = Maintains (Unpin snapshot seen)
@@ -81,7 +81,7 @@ abbrev pub plain_change : Next → List ℕ → Turn → PlainChange
 plain_change Enter written t = entered t
 plain_change (Publish place) written t = if nat_lt 1 (length written) then Nothing else Commits
 plain_change Close written t = Commits
-plain_change (Maintenance step) written t = done_on step t
+plain_change (SnapshotOrCleaner step) written t = done_on step t
 plain_change other written t = Nothing
 
 -- what the next step of an actor does in the plain world
@@ -114,7 +114,7 @@ with_pins snapshot change copy = if is_of snapshot copy then record copy { pins 
 
 -- a making adds a copy of the nodes as they are, which the epoch names, and begins the next epoch; a drop takes one
 -- out; a show has a pin from its first step to its last. A drain changes nothing
-abbrev pub after_step : MaintenanceStep → Plain → Plain
+abbrev pub after_step : SnapshotOrCleanerStep → Plain → Plain
 after_step Make p = record p {
   epoch = p.epoch + 1;
   copies = p.copies ++ (record { snapshot = p.epoch; nodes = node_in p.nodes; pins = 0 }) ∷ [];

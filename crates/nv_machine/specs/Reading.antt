@@ -12,9 +12,9 @@ use Rattle.nv_epoch.specs.SnapList.{Snapshots as Living, pins_of}
 use Rattle.nv_epoch.specs.declared.snapshot.Snapshot.{Snapshot}
 use Rattle.nv_machine.specs.PlainRun.{Copy, Plain, is_of}
 use Rattle.nv_machine.specs.Settled.{settled_copies}
-use Rattle.nv_machine.specs.Maintenance.{drop_tests, make_tests}
+use Rattle.nv_machine.specs.SnapshotOrCleaner.{drop_tests, make_tests}
 use Rattle.nv_machine.specs.Step.{step}
-use Rattle.nv_machine.specs.World.{Actor, Drop, Event, Go, Make, Next, Pin, Refused, Release, Reply, Running, Shared, Show, MaintenanceStep, Maintenance, Start, Unpin, World, actor_at}
+use Rattle.nv_machine.specs.World.{Actor, Drop, Event, Go, Make, Next, Pin, Refused, Release, Reply, Running, Shared, Show, SnapshotOrCleanerStep, SnapshotOrCleaner, Start, Unpin, World, actor_at}
 
 -- ---- copies
 
@@ -51,14 +51,14 @@ copied_tree inodes (copy ∷ copies) snapshot =
 -- ---- pins: what is between a show's first step and its last
 
 -- such a step is of a show that pins the snapshot
-abbrev pub pins_on : ℕ → MaintenanceStep → Bool
+abbrev pub pins_on : ℕ → SnapshotOrCleanerStep → Bool
 pins_on snapshot (Show other showing) = other == snapshot
 pins_on snapshot (Unpin other seen) = other == snapshot
 pins_on snapshot other = false
 
 -- a call before this step pins the snapshot
 abbrev pub pins_at : ℕ → Next → Bool
-pins_at snapshot (Maintenance step) = pins_on snapshot step
+pins_at snapshot (SnapshotOrCleaner step) = pins_on snapshot step
 pins_at snapshot other = false
 
 -- an actor's call pins the snapshot
@@ -97,7 +97,7 @@ test_there (Some pins) = passes
 -- for what the plain world refuses a step, where so many snapshots may live.
 -- What the plain world refuses the calls `snap`, `drop` and `show` for is told by its epoch, its copies and their
 -- pins.
-abbrev pub plain_tests : ℕ → MaintenanceStep → Plain → Tests
+abbrev pub plain_tests : ℕ → SnapshotOrCleanerStep → Plain → Tests
 plain_tests most Make p =
     if nat_le NUMBER p.epoch then Err EpochLimit else if nat_le most (length p.copies) then Err TooManySnapshots else passes
 plain_tests most (Drop snapshot) p = test_pins (pins_in p.copies snapshot)
@@ -105,14 +105,14 @@ plain_tests most (Pin snapshot) p = test_there (pins_in p.copies snapshot)
 plain_tests most other p = passes
 
 -- and for what the machine does, by its list of snapshots
-abbrev pub tests_on : MaintenanceStep → Living → Tests
+abbrev pub tests_on : SnapshotOrCleanerStep → Living → Tests
 tests_on Make snaps = make_tests snaps
 tests_on (Drop snapshot) snaps = drop_tests (pins_of snaps snapshot)
 tests_on (Pin snapshot) snaps = test_there (pins_of snaps snapshot)
 tests_on other snaps = passes
 
 -- the steps that the list of snapshots may refuse
-abbrev pub is_tested : MaintenanceStep → Bool
+abbrev pub is_tested : SnapshotOrCleanerStep → Bool
 is_tested Make = true
 is_tested (Drop snapshot) = true
 is_tested (Pin snapshot) = true
@@ -127,7 +127,7 @@ GoesBy (Ok passed) reply = (fault : Fault) → reply ≢ Refused fault
 
 -- 1 for a step that releases a record, else 0
 abbrev pub releases_at : Next → ℕ
-releases_at (Maintenance (Release draining picked)) = 1
+releases_at (SnapshotOrCleaner (Release draining picked)) = 1
 releases_at other = 0
 
 -- how many records the next step of an actor's call releases

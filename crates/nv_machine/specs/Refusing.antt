@@ -2,7 +2,7 @@
 use Rattle.std.specs.Prelude.{◌≡◌, true, Ok, Err}
 use Rattle.nv_book.specs.Book.{BookState, after_unpin_snapshot}
 use Rattle.nv_machine.specs.Hands.{is_going_on}
-use Rattle.nv_machine.specs.World.{Answers, Cleans, Drains, Ending, Ends, Moves, Next, BoundAnew, Refuses, Shared, Maintenance, Turn, Unpin, Waits}
+use Rattle.nv_machine.specs.World.{Answers, Cleans, Drains, Ending, Ends, Moves, Next, BoundAnew, Refuses, Shared, SnapshotOrCleaner, Turn, Unpin, Waits}
 
 -- the call is to be refused, or its names are looked up again
 abbrev pub IsUnanswered : Ending → Type 0
@@ -14,7 +14,7 @@ IsUnanswered (Cleans cleaned) = ⊥
 
 -- the book as it was: a show that is refused takes its pin off
 abbrev pub book_left : Next → BookState → BookState
-book_left (Maintenance (Unpin snapshot seen)) b = after_unpin_snapshot snapshot b
+book_left (SnapshotOrCleaner (Unpin snapshot seen)) b = after_unpin_snapshot snapshot b
 book_left other b = b
 
 -- the book with its number, epoch, journals and records, and all cells
@@ -32,5 +32,5 @@ LeavesBooks next s (Ends (Err fault) t h) = SameBooks next s t
 -- a call on snapshots is to be answered up to its last steps, but for a show that is refused, which is
 -- left to take its pin off
 abbrev pub GoesOn : Next → Ending → Type 0
-GoesOn (Maintenance step) e = is_going_on step ≡ true → e ≡ Answers
+GoesOn (SnapshotOrCleaner step) e = is_going_on step ≡ true → e ≡ Answers
 GoesOn other e = Unit {0}

@@ -4,11 +4,11 @@ use Rattle.std.specs.Prelude.{ℕ, ◌+◌, ◌-◌, if◌then◌else◌, max, m
 use Rattle.nv_base.specs.declared.limits.TheConstants.{DRAIN}
 use Rattle.nv_calls.specs.declared.call.Call.{Call}
 use Rattle.nv_calls.specs.declared.call.Call.TheVariants as call
-use Rattle.nv_calls.specs.declared.maintenance_call.MaintenanceCall.{MaintenanceCall}
-use Rattle.nv_calls.specs.declared.maintenance_call.MaintenanceCall.TheVariants as on
+use Rattle.nv_calls.specs.declared.snapshot_or_cleaner_call.SnapshotOrCleanerCall.{SnapshotOrCleanerCall}
+use Rattle.nv_calls.specs.declared.snapshot_or_cleaner_call.SnapshotOrCleanerCall.TheVariants as on
 use Rattle.nv_entry.specs.Tree.{root}
 use Rattle.nv_machine.specs.Reads.{slots_of, written_slots}
-use Rattle.nv_machine.specs.World.{Answers, Append, Auto, Check, Close, Compact, Draining, Drop, Enter, Fast, Fresh, Judge, Leave, Lock, LockCleaned, LockPicked, Look, Make, Manner, Next, Number, Open, Pick, Pin, Publish, Ready, Release, Retire, Running, Shared, MaintenanceStep, Maintenance, Thorough, Unlink, Visit}
+use Rattle.nv_machine.specs.World.{Answers, Append, Auto, Check, Close, Compact, Draining, Drop, Enter, Fast, Fresh, PlanCleaning, Leave, Lock, LockCleaned, LockPicked, Look, Make, Manner, Next, Number, Open, Pick, Pin, Publish, Ready, Release, Retire, Running, Shared, SnapshotOrCleanerStep, SnapshotOrCleaner, Thorough, Unlink, Visit}
 
 -- ---- how calls begin
 
@@ -19,7 +19,7 @@ pub data Beginning : Type 0 where
   Looks : Beginning
   Locks : Beginning
   Visits : Beginning
-  Maintains : (what : MaintenanceCall) → Beginning
+  Maintains : (what : SnapshotOrCleanerCall) → Beginning
 
 -- how a call begins
 abbrev pub beginning : Call → Beginning
@@ -35,7 +35,7 @@ beginning (call.Lookup dir name) = Visits
 beginning (call.Unlink dir name) = Looks
 beginning (call.Rmdir dir name) = Looks
 beginning (call.Rename from old to new) = Looks
-beginning (call.Maintenance what) = Maintains what
+beginning (call.SnapshotOrCleaner what) = Maintains what
 
 -- ---- loops: the step for a place, or what comes behind the last one
 
@@ -108,11 +108,11 @@ abbrev pub new_draining : ℕ → Draining
 new_draining count = record { released = 0; left = max 1 (min count DRAIN) - 1 }
 
 -- a cleaner locks the slot of its number, if there are that many
-abbrev pub first_clean : ℕ → Manner → ℕ → MaintenanceStep
-first_clean slots manner ino = if nat_lt ino slots then LockCleaned manner ino else Judge manner None
+abbrev pub first_clean : ℕ → Manner → ℕ → SnapshotOrCleanerStep
+first_clean slots manner ino = if nat_lt ino slots then LockCleaned manner ino else PlanCleaning manner None
 
 -- where there are so many slots
-abbrev pub first_step : ℕ → MaintenanceCall → MaintenanceStep
+abbrev pub first_step : ℕ → SnapshotOrCleanerCall → SnapshotOrCleanerStep
 first_step slots on.Snap = Make
 first_step slots (on.Drop snapshot) = Drop snapshot
 first_step slots (on.Show snapshot) = Pin snapshot
@@ -122,11 +122,11 @@ first_step slots (on.Thorough ino) = first_clean slots Thorough ino
 first_step slots (on.Auto ino) = first_clean slots Auto ino
 
 -- such a call locks the inode of the record that it has picked, or the slot that it cleans, and none else
-abbrev pub slots_on : MaintenanceStep → List ℕ
+abbrev pub slots_on : SnapshotOrCleanerStep → List ℕ
 slots_on (LockPicked draining picked) = picked.ino ∷ []
 slots_on (Release draining picked) = picked.ino ∷ []
 slots_on (LockCleaned manner ino) = ino ∷ []
-slots_on (Judge manner slot) = option_to_list slot
+slots_on (PlanCleaning manner slot) = option_to_list slot
 slots_on (Fresh ino asked wanted) = ino ∷ []
 slots_on (Unlink ino) = ino ∷ []
 slots_on (Compact ino) = ino ∷ []
@@ -139,4 +139,4 @@ begun Looks s c = started c (Look 0) []
 begun Locks s c = started c (locking 0 (slots_of s None nothing_looked c)) (slots_of s None nothing_looked c)
 begun Visits s c = started c Visit []
 begun (Maintains what) s c =
-    started c (Maintenance (first_step (length s.cells) what)) (slots_on (first_step (length s.cells) what))
+    started c (SnapshotOrCleaner (first_step (length s.cells) what)) (slots_on (first_step (length s.cells) what))

@@ -14,8 +14,8 @@ use Rattle.nv_calls.specs.declared.call.Call.{Call}
 use Rattle.nv_machine.specs.Kinds.{append_turn, asked_list, return_number_turn, check_ending, check_turn, close_turn, enter_turn, first_killed, give_turn, leave_turn, lock_turn, look_tests, look_turn, number_turn, open_turn, publish_turn, ready_turn, retire_turn, seen_at, take_blocks_turn, take_log_pages_turn, unlock_turn, visit_turn, wants_room}
 use Rattle.nv_machine.specs.Reads.{copies, has_last_page, nodes, pages_needed, pages_wanted, plan_by, slot_at, written_slots}
 use Rattle.nv_machine.specs.Sequence.{Beginning, Looks, Locks, Numbers, Maintains, Visits, beginning, begun, directories, nothing_looked}
-use Rattle.nv_machine.specs.Maintenance.{maintenance_turn}
-use Rattle.nv_machine.specs.World.{Append, ReturnNumber, Check, Close, Done, Ending, Ends, Enter, Event, Give, Go, HandState, Leave, Lock, Look, Moved, Moves, Next, Number, Open, Publish, Ready, Refused, Reply, Retire, Running, Shared, Maintenance, Start, Started, TakeBlocks, TakeLogPages, Turn, Unlock, Visit, Waiting, Waits, World, actor_at, cell_at, owner_at}
+use Rattle.nv_machine.specs.SnapshotOrCleaner.{snapshot_or_cleaner_turn}
+use Rattle.nv_machine.specs.World.{Append, ReturnNumber, Check, Close, Done, Ending, Ends, Enter, Event, Give, Go, HandState, Leave, Lock, Look, Moved, Moves, Next, Number, Open, Publish, Ready, Refused, Reply, Retire, Running, Shared, SnapshotOrCleaner, Start, Started, TakeBlocks, TakeLogPages, Turn, Unlock, Visit, Waiting, Waits, World, actor_at, cell_at, owner_at}
 
 -- ---- what decides
 
@@ -80,7 +80,7 @@ kind_turn ReturnNumber block actor granted s h r = return_number_turn h.ino s h 
 kind_turn Visit block actor granted s h r =
     visit_turn (owner_at s (handle_at (handles nothing_looked r.call) 0).ino) (refusal block (copies s) r.call)
     (granted || not (visit_grows r.call)) (answer (nodes s) r.made r.call) s h r
-kind_turn (Maintenance step) block actor granted s h r = maintenance_turn step actor granted s h r
+kind_turn (SnapshotOrCleaner step) block actor granted s h r = snapshot_or_cleaner_turn step actor granted s h r
 
 -- the turn of a running call's next step
 abbrev pub turn : ℕ → ℕ → Bool → Shared → HandState → Running → Turn

@@ -31,7 +31,7 @@ pub data StepName : Type 0 where
   LockPicked : (slot : ℕ) → StepName
   Release : (slot : ℕ) → StepName
   LockCleaned : (slot : ℕ) → StepName
-  Judge : StepName
+  PlanCleaning : StepName
   Fresh : (cpu : ℕ) → StepName
   Unlink : (slot : ℕ) → StepName
   Compact : (slot : ℕ) → StepName

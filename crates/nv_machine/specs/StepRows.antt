@@ -5,20 +5,20 @@ use Rattle.nv_base.specs.declared.numbers.Handle.{Handle}
 use Rattle.nv_calls.specs.Locked.{handles}
 use Rattle.nv_calls.specs.declared.call.Call.{Call}
 use Rattle.nv_calls.specs.declared.call.Call.TheVariants as call
-use Rattle.nv_calls.specs.declared.maintenance_call.MaintenanceCall.TheVariants as on
+use Rattle.nv_calls.specs.declared.snapshot_or_cleaner_call.SnapshotOrCleanerCall.TheVariants as on
 use Rattle.nv_machine.specs.Format.{formatted}
 use Rattle.nv_machine.specs.Kinds.{asked_list}
 use Rattle.nv_machine.specs.Reads.{slot_at, written_slots}
 use Rattle.nv_machine.specs.Sequence.{directories, nothing_looked}
-use Rattle.nv_machine.specs.Maintenance.{visited}
+use Rattle.nv_machine.specs.SnapshotOrCleaner.{visited}
 use Rattle.nv_machine.specs.Step.{handle_at, step}
 use Rattle.nv_machine.specs.StepNames as named
-use Rattle.nv_machine.specs.World.{Append, ReturnNumber, Check, Close, Compact, Drop, Enter, Fresh, Give, Go, Judge, Leave, Lock, LockCleaned, LockPicked, Look, Make, Next, Number, Open, Pick, Pin, Publish, Ready, Release, Retire, Running, Show, MaintenanceStep, Maintenance, Start, TakeBlocks, TakeLogPages, Unlink, Unlock, Unpin, Visit, World, actor_at}
+use Rattle.nv_machine.specs.World.{Append, ReturnNumber, Check, Close, Compact, Drop, Enter, Fresh, Give, Go, PlanCleaning, Leave, Lock, LockCleaned, LockPicked, Look, Make, Next, Number, Open, Pick, Pin, Publish, Ready, Release, Retire, Running, Show, SnapshotOrCleanerStep, SnapshotOrCleaner, Start, TakeBlocks, TakeLogPages, Unlink, Unlock, Unpin, Visit, World, actor_at}
 
 -- ---- the steps of a call
 
 -- the name of a step on snapshots, or of a cleaner
-abbrev pub name_on : MaintenanceStep → ℕ → ℕ → named.StepName
+abbrev pub name_on : SnapshotOrCleanerStep → ℕ → ℕ → named.StepName
 name_on Make cpus actor = named.Make
 name_on (Drop snapshot) cpus actor = named.Drop
 name_on (Pin snapshot) cpus actor = named.Pin
@@ -28,7 +28,7 @@ name_on (Pick draining) cpus actor = named.Pick
 name_on (LockPicked draining picked) cpus actor = named.LockPicked picked.ino
 name_on (Release draining picked) cpus actor = named.Release picked.ino
 name_on (LockCleaned manner ino) cpus actor = named.LockCleaned ino
-name_on (Judge manner slot) cpus actor = named.Judge
+name_on (PlanCleaning manner slot) cpus actor = named.PlanCleaning
 name_on (Fresh ino asked wanted) cpus actor = named.Fresh (asked_list cpus actor asked)
 name_on (Unlink ino) cpus actor = named.Unlink ino
 name_on (Compact ino) cpus actor = named.Compact ino
@@ -53,7 +53,7 @@ name_of (Unlock place) cpus actor r = named.Unlock (slot_at r.slots place)
 name_of (Give cpu) cpus actor r = named.Give cpu
 name_of ReturnNumber cpus actor r = named.ReturnNumber
 name_of Visit cpus actor r = named.Visit (handle_at (handles nothing_looked r.call) 0).ino
-name_of (Maintenance step) cpus actor r = name_on step cpus actor
+name_of (SnapshotOrCleaner step) cpus actor r = name_on step cpus actor
 
 -- the steps of the call that an actor runs, up to its end or to so many, and the world that they lead to
 pub record Made : Type 0 where
@@ -180,21 +180,21 @@ rows_of_readers =
 
 -- a snapshot with a file, whose page is written over: the first record is of the old size, and the other of the page
 abbrev pub two_deferred : List Call
-two_deferred = create_a ∷ write_a ∷ call.Maintenance on.Snap ∷ write_a ∷ call.Maintenance (on.Drop 1) ∷ []
+two_deferred = create_a ∷ write_a ∷ call.SnapshotOrCleaner on.Snap ∷ write_a ∷ call.SnapshotOrCleaner (on.Drop 1) ∷ []
 
 -- the rows of calls on snapshots
 abbrev pub rows_on_snapshots : List Row
 rows_on_snapshots =
-    row [] (call.Maintenance on.Snap) (named.Make ∷ [])
-    ∷ row (call.Maintenance on.Snap ∷ []) (call.Maintenance (on.Drop 1)) (named.Drop ∷ [])
+    row [] (call.SnapshotOrCleaner on.Snap) (named.Make ∷ [])
+    ∷ row (call.SnapshotOrCleaner on.Snap ∷ []) (call.SnapshotOrCleaner (on.Drop 1)) (named.Drop ∷ [])
     -- a step for each inode
-    ∷ row (create_a ∷ call.Maintenance on.Snap ∷ []) (call.Maintenance (on.Show 1))
+    ∷ row (create_a ∷ call.SnapshotOrCleaner on.Snap ∷ []) (call.SnapshotOrCleaner (on.Show 1))
     (named.Pin ∷ named.Show 0 ∷ named.Show 1 ∷ named.Unpin ∷ [])
     -- the last record of its number ends a drain, and a pick that finds nothing
-    ∷ row two_deferred (call.Maintenance (on.Drain 2))
+    ∷ row two_deferred (call.SnapshotOrCleaner (on.Drain 2))
     (named.Pick ∷ named.LockPicked 1 ∷ named.Release 1 ∷ named.Unlock 1
     ∷ named.Pick ∷ named.LockPicked 1 ∷ named.Release 1 ∷ named.Unlock 1 ∷ named.Give 1 ∷ [])
-    ∷ row two_deferred (call.Maintenance (on.Drain 3))
+    ∷ row two_deferred (call.SnapshotOrCleaner (on.Drain 3))
     (named.Pick ∷ named.LockPicked 1 ∷ named.Release 1 ∷ named.Unlock 1
     ∷ named.Pick ∷ named.LockPicked 1 ∷ named.Release 1 ∷ named.Unlock 1 ∷ named.Give 1 ∷ named.Pick ∷ [])
     ∷ []
@@ -207,13 +207,13 @@ written_over = create_a ∷ write_a ∷ write_a ∷ []
 abbrev pub rows_of_cleaners : List Row
 rows_of_cleaners =
     -- whole pages: a step that cleans, also where nothing goes
-    row written_over (call.Maintenance (on.Fast 1)) (named.LockCleaned 1 ∷ named.Judge ∷ named.Unlink 1 ∷ named.Unlock 1 ∷ [])
+    row written_over (call.SnapshotOrCleaner (on.Fast 1)) (named.LockCleaned 1 ∷ named.PlanCleaning ∷ named.Unlink 1 ∷ named.Unlock 1 ∷ [])
     -- entry by entry: fresh pages first, and the old ones go back
-    ∷ row written_over (call.Maintenance (on.Thorough 1))
-    (named.LockCleaned 1 ∷ named.Judge ∷ named.Fresh 1 ∷ named.Compact 1 ∷ named.Unlock 1 ∷ named.Give 1 ∷ [])
-    -- where no entry may go it ends at its judge
-    ∷ row (create_a ∷ []) (call.Maintenance (on.Thorough 1)) (named.LockCleaned 1 ∷ named.Judge ∷ named.Unlock 1 ∷ [])
-    ∷ row written_over (call.Maintenance (on.Auto 1)) (named.LockCleaned 1 ∷ named.Judge ∷ named.Unlink 1 ∷ named.Unlock 1 ∷ [])
+    ∷ row written_over (call.SnapshotOrCleaner (on.Thorough 1))
+    (named.LockCleaned 1 ∷ named.PlanCleaning ∷ named.Fresh 1 ∷ named.Compact 1 ∷ named.Unlock 1 ∷ named.Give 1 ∷ [])
+    -- where no entry may go it ends at its planning
+    ∷ row (create_a ∷ []) (call.SnapshotOrCleaner (on.Thorough 1)) (named.LockCleaned 1 ∷ named.PlanCleaning ∷ named.Unlock 1 ∷ [])
+    ∷ row written_over (call.SnapshotOrCleaner (on.Auto 1)) (named.LockCleaned 1 ∷ named.PlanCleaning ∷ named.Unlink 1 ∷ named.Unlock 1 ∷ [])
     -- a number without a slot has no lock
-    ∷ row [] (call.Maintenance (on.Fast 99)) (named.Judge ∷ [])
+    ∷ row [] (call.SnapshotOrCleaner (on.Fast 99)) (named.PlanCleaning ∷ [])
     ∷ []

@@ -5,7 +5,7 @@ use Rattle.nv_base.specs.declared.fault.Fault.{Fault}
 use Rattle.nv_base.specs.declared.fault.Fault.TheVariants.{NoSpace}
 use Rattle.nv_machine.specs.Kinds.{asked_list, blocks_in}
 use Rattle.nv_machine.specs.Step.{step, turn}
-use Rattle.nv_machine.specs.World.{Ends, Event, Fresh, Go, HandState, Maintenance, Moves, Next, Running, Shared, Start, TakeBlocks, TakeLogPages, Turn, Waits, World, actor_at, list_at}
+use Rattle.nv_machine.specs.World.{Ends, Event, Fresh, Go, HandState, SnapshotOrCleaner, Moves, Next, Running, Shared, Start, TakeBlocks, TakeLogPages, Turn, Waits, World, actor_at, list_at}
 
 -- ---- what was asked
 
@@ -45,7 +45,7 @@ and_asked cpu s h t after taking = record taking { asked = asked_in cpu s h t af
 abbrev pub asking : Next → ℕ → Shared → HandState → Shared → HandState → Taking → Taking
 asking (TakeBlocks asked) actor s h t after taking = and_asked (asked_list (length s.lists) actor asked) s h t after taking
 asking (TakeLogPages asked) actor s h t after taking = and_asked (asked_list (length s.lists) actor asked) s h t after taking
-asking (Maintenance (Fresh ino asked wanted)) actor s h t after taking =
+asking (SnapshotOrCleaner (Fresh ino asked wanted)) actor s h t after taking =
     and_asked (asked_list (length s.lists) actor asked) s h t after taking
 asking other actor s h t after taking = taking
 
@@ -53,7 +53,7 @@ asking other actor s h t after taking = taking
 abbrev pub beginning_with : Next → ℕ → Taking → Taking
 beginning_with (TakeBlocks asked) wanted taking = if asked == 0 then record { wanted = wanted; asked = [] } else taking
 beginning_with (TakeLogPages asked) wanted taking = if asked == 0 then record { wanted = wanted; asked = [] } else taking
-beginning_with (Maintenance (Fresh ino asked wanted)) other taking =
+beginning_with (SnapshotOrCleaner (Fresh ino asked wanted)) other taking =
     if asked == 0 then record { wanted = wanted; asked = [] } else taking
 beginning_with other wanted taking = taking
 
@@ -102,7 +102,7 @@ AreEmptied cpus actor (suc n) (one ∷ asked) =
 abbrev pub asks_list : Next → Bool
 asks_list (TakeBlocks asked) = true
 asks_list (TakeLogPages asked) = true
-asks_list (Maintenance (Fresh ino asked wanted)) = true
+asks_list (SnapshotOrCleaner (Fresh ino asked wanted)) = true
 asks_list other = false
 
 -- EVERY LIST was asked and gave all that it had, and the sum is short of what the taking wants

@@ -66,22 +66,22 @@ pub data Manner : Type 0 where
 
 -- a step of a call on snapshots, or of a cleaner. It makes a snapshot, or drops one; it pins one, shows its nodes inode by
 -- inode and unpins it, with what it has seen; it picks a deferred record, locks its inode and releases it; or it locks the
--- slot that is to be cleaned, judges what may go of its log, and unlinks pages, or takes fresh ones list by list and moves to
--- them the entries that stay. A number without a slot is judged too
-pub data MaintenanceStep : Type 0 where
-  Make : MaintenanceStep
-  Drop : (snapshot : ℕ) → MaintenanceStep
-  Pin : (snapshot : ℕ) → MaintenanceStep
-  Show : (snapshot : ℕ) (showing : Showing) → MaintenanceStep
-  Unpin : (snapshot : ℕ) (seen : List TreeNode) → MaintenanceStep
-  Pick : (draining : Draining) → MaintenanceStep
-  LockPicked : (draining : Draining) (picked : Record) → MaintenanceStep
-  Release : (draining : Draining) (picked : Record) → MaintenanceStep
-  LockCleaned : (manner : Manner) (ino : ℕ) → MaintenanceStep
-  Judge : (manner : Manner) (slot : Option ℕ) → MaintenanceStep
-  Fresh : (ino asked wanted : ℕ) → MaintenanceStep
-  Unlink : (ino : ℕ) → MaintenanceStep
-  Compact : (ino : ℕ) → MaintenanceStep
+-- slot that is to be cleaned, plans what goes of its log, and unlinks pages, or takes fresh ones list by list and moves to
+-- them the entries that stay. A number without a slot is planned too
+pub data SnapshotOrCleanerStep : Type 0 where
+  Make : SnapshotOrCleanerStep
+  Drop : (snapshot : ℕ) → SnapshotOrCleanerStep
+  Pin : (snapshot : ℕ) → SnapshotOrCleanerStep
+  Show : (snapshot : ℕ) (showing : Showing) → SnapshotOrCleanerStep
+  Unpin : (snapshot : ℕ) (seen : List TreeNode) → SnapshotOrCleanerStep
+  Pick : (draining : Draining) → SnapshotOrCleanerStep
+  LockPicked : (draining : Draining) (picked : Record) → SnapshotOrCleanerStep
+  Release : (draining : Draining) (picked : Record) → SnapshotOrCleanerStep
+  LockCleaned : (manner : Manner) (ino : ℕ) → SnapshotOrCleanerStep
+  PlanCleaning : (manner : Manner) (slot : Option ℕ) → SnapshotOrCleanerStep
+  Fresh : (ino asked wanted : ℕ) → SnapshotOrCleanerStep
+  Unlink : (ino : ℕ) → SnapshotOrCleanerStep
+  Compact : (ino : ℕ) → SnapshotOrCleanerStep
 
 -- the step of a call that comes next; in a loop with its place: of a directory, a slot, a list asked, an inode written
 pub data Next : Type 0 where
@@ -103,7 +103,7 @@ pub data Next : Type 0 where
   Give : (cpu : ℕ) → Next
   ReturnNumber : Next
   Visit : Next
-  Maintenance : (step : MaintenanceStep) → Next
+  SnapshotOrCleaner : (step : SnapshotOrCleanerStep) → Next
 
 -- how a call is to end: with its answer, refused, or not yet, since a name was bound anew after the looks; a drain goes
 -- on to the next record, as long as it may release more; a cleaner ends with what it has cleaned

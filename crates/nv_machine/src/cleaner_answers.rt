@@ -14,14 +14,14 @@ ghost use Rattle.nv_machine.specs.Starts.{IsStart};
 ghost use Rattle.nv_machine.specs.Step.{after, step};
 ghost use Rattle.nv_machine.specs.World.{Done, Go, Event, Manner, Refused, Running, World, actor_at, cell_at};
 
-/// A cleaner is answered what its steps did, whatever events came from any start on. It was judged
-/// once, and then made one clean step, or none where it goes entry by entry and the judge found that no
+/// A cleaner is answered what its steps did, whatever events came from any start on. It planned
+/// once, and then made one clean step, or none where it goes entry by entry and the planning found that no
 /// entry goes. The entries and the pages that it tells are those that the log of its inode lost by its
 /// steps, 0 and 0 without a clean step. And it tells whether it went entry by entry, as its clean step
-/// did: fast never does, thorough always, and auto where less than half of the entries stay by its judge.
+/// did: fast never does, thorough always, and auto where less than half of the entries stay by its planning.
 pub fn cleaners_tell_what_went()
     // A cleaner is told how many entries and log pages the log of its inode lost by its steps.
-    // A cleaner that is answered was judged once, and the judge passed it.
+    // A cleaner that is answered planned once, and the planning passed it.
     // Such a cleaner made one clean step, unless it goes entry by entry and no entry goes.
     // The clean step went entry by entry, or by whole log pages, as the answer tells.
     // A cleaner without a clean step is told 0 entries and 0 log pages.
@@ -36,16 +36,16 @@ pub fn cleaners_tell_what_went()
         (work_done ino (own_steps actor start (events ++ Go actor granted ∷ []) [])) told }
 {}
 
-/// A cleaner is refused at its judge, first where its number has no slot or the slot's log no entry, and
-/// then where the memory of the walk is not granted. Behind a judge that it passed it is refused only where
+/// A cleaner is refused at its planning, first where its number has no slot or the slot's log no entry, and
+/// then where the memory of the walk is not granted. Behind a planning that it passed it is refused only where
 /// so many lists were asked for pages as there are: each of them once, and they are too few
 /// ([`crate::plain_laws::short_takings_have_asked_every_list`]). So whatever events came, and a refused
 /// cleaner has made no clean step, and the log of its inode has lost nothing.
 pub fn cleaners_are_refused_in_order()
-    // A cleaner is refused by its judge where its number has no slot, or the slot's log no entry.
+    // A cleaner is refused by its planning where its number has no slot, or the slot's log no entry.
     // Want of an inode comes before want of the walk's memory.
-    // A cleaner is refused for want of blocks only behind a judge that it passed.
-    // For want of blocks each list was asked once, and at a refusal of the judge none was.
+    // A cleaner is refused for want of blocks only behind a planning that it passed.
+    // For want of blocks each list was asked once, and at a refusal of the planning none was.
     // A refused cleaner has made no clean step.
     // The log of a refused cleaner has lost no entry and no log page.
     ensures { (g : GeometryNumbers) (start : World) (records : List Record) (events : List Event)

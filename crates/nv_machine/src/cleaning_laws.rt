@@ -6,7 +6,7 @@ ghost use Rattle.nv_book.specs.declared.record.Record.{Record};
 ghost use Rattle.nv_machine.specs.Starts.{IsStart};
 ghost use Rattle.nv_machine.specs.Step.{after, step};
 ghost use Rattle.nv_machine.specs.WhatStays.{IsCompacted, IsUnlinked};
-ghost use Rattle.nv_machine.specs.World.{Compact, Event, Go, Maintenance, Running, Unlink, World, actor_at};
+ghost use Rattle.nv_machine.specs.World.{Compact, Event, Go, SnapshotOrCleaner, Running, Unlink, World, actor_at};
 
 /// A step that compacts leaves of its slot's log what the walk by single entries leaves
 /// ([`nv_entry::laws::thorough_takes_what_is_droppable`]), in order and on as few pages as that fills, and none of these
@@ -22,13 +22,13 @@ pub fn cleaners_leave_what_is_needed()
     ensures compact { (g : GeometryNumbers) (start : World) (records : List Record)
         (events : List Event) (actor ino : ℕ) (granted : Bool) (r : Running)
         → IsStart g start records → (actor_at (after start events) actor).running ≡ Some r
-        → r.next ≡ Maintenance (Compact ino) → IsCompacted ino (after start events)
+        → r.next ≡ SnapshotOrCleaner (Compact ino) → IsCompacted ino (after start events)
         (step (after start events) (Go actor granted)).world }
     // An unlink leaves exactly the log pages with entries that the walk by whole pages leaves.
     // What an unlink leaves stays in its blocks, and pages without entries stay.
     ensures unlink { (g : GeometryNumbers) (start : World) (records : List Record)
         (events : List Event) (actor ino : ℕ) (granted : Bool) (r : Running)
         → IsStart g start records → (actor_at (after start events) actor).running ≡ Some r
-        → r.next ≡ Maintenance (Unlink ino) → IsUnlinked ino (after start events)
+        → r.next ≡ SnapshotOrCleaner (Unlink ino) → IsUnlinked ino (after start events)
         (step (after start events) (Go actor granted)).world }
 {}

@@ -9,7 +9,7 @@ ghost use Rattle.nv_cell.specs.Readers.{is_withheld};
 ghost use Rattle.nv_machine.specs.Reads.{slot_at, written_slots};
 ghost use Rattle.nv_machine.specs.Starts.{IsStart};
 ghost use Rattle.nv_machine.specs.Step.{after, step};
-ghost use Rattle.nv_machine.specs.World.{Draining, Event, Go, Release, Retire, Running, Maintenance, World, actor_at, cell_at};
+ghost use Rattle.nv_machine.specs.World.{Draining, Event, Go, Release, Retire, Running, SnapshotOrCleaner, World, actor_at, cell_at};
 
 /// Whatever events came from any start on, an inode that is gone and of which nothing is kept is erased in the
 /// step that retires what was killed of it, or in the one that releases its last record: its chain and the blocks
@@ -37,7 +37,7 @@ pub fn gone_inodes_are_erased()
         (events : List Event) (actor : ℕ) (draining : Draining) (picked : Record) (granted : Bool)
         (r : Running) → IsStart g start records
         → (actor_at (after start events) actor).running ≡ Some r
-        → r.next ≡ Maintenance (Release draining picked)
+        → r.next ≡ SnapshotOrCleaner (Release draining picked)
         → IsOver (pending_but actor (after start events)) (after start events).shared picked.ino
         → IsErasedWhole actor picked.ino (after start events)
         (step (after start events) (Go actor granted)).world }
@@ -56,7 +56,7 @@ pub fn gone_inodes_are_erased()
         (events : List Event) (actor : ℕ) (draining : Draining) (picked : Record) (granted : Bool)
         (r : Running) → IsStart g start records
         → (actor_at (after start events) actor).running ≡ Some r
-        → r.next ≡ Maintenance (Release draining picked)
+        → r.next ≡ SnapshotOrCleaner (Release draining picked)
         → IsOver (pending_but actor (after start events)) (after start events).shared picked.ino
         → is_withheld
         (cell_at (step (after start events) (Go actor granted)).world.shared picked.ino) ≡ false

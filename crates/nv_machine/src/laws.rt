@@ -33,7 +33,7 @@ ghost use Rattle.nv_machine.specs.Step.{after, kind_turn, stays, step, turn};
 ghost use Rattle.nv_machine.specs.Pages.{AreOnPages, HasLogPages, TakesPages};
 ghost use Rattle.nv_machine.specs.Memory.{IsOther, denied_turn, grows};
 ghost use Rattle.nv_machine.specs.Wanted.{TakesInTurn};
-ghost use Rattle.nv_machine.specs.World.{Answers, Append, Event, Fresh, Go, HandState, Maintenance, Number, Refused, Running, Shared, Start, Started, TakeBlocks, TakeLogPages, Waiting, World, actor_at, cell_at, list_at};
+ghost use Rattle.nv_machine.specs.World.{Answers, Append, Event, Fresh, Go, HandState, SnapshotOrCleaner, Number, Refused, Running, Shared, Start, Started, TakeBlocks, TakeLogPages, Waiting, World, actor_at, cell_at, list_at};
 
 /// A `Go` of an actor whose call runs makes the one step that comes next, and changes only its actor and the
 /// parts that the step is lent. A start changes its actor alone: one without a call has the call now, before its
@@ -82,7 +82,7 @@ pub fn the_lowest_are_taken()
     ensures fresh { (ino asked wanted block actor : ℕ) (granted : Bool) (s : Shared) (h : HandState)
         (r : Running) → 0 < length s.lists
         → Leaves (TakesLogPages s (asked_list (length s.lists) actor asked) h wanted)
-        (kind_turn (Maintenance (Fresh ino asked wanted)) block actor granted s h r) }
+        (kind_turn (SnapshotOrCleaner (Fresh ino asked wanted)) block actor granted s h r) }
 {}
 
 /// A call takes its data first and then its log pages, in two takings, neither of which wants any of the other's. The
@@ -103,14 +103,14 @@ pub fn data_is_taken_before_log_pages()
 {}
 
 /// Memory that is refused makes one and the same turn of every step that grows anything (a check where the call takes
-/// blocks, a ready, an enter, a read and a list, a show's visit, a drain's first pick, a cleaner's judge), also where that
+/// blocks, a ready, an enter, a read and a list, a show's visit, a drain's first pick, a cleaner's planning), also where that
 /// step of that call would have asked for none: where the step would have done its work, it refuses the call instead, and
 /// leaves all that is shared and the hand as they were. Where it would not, it waits or ends the call as it would have: so a refusal of the plain world,
 /// want of a number and the last commit number come first. All other steps go on as ever. And where memory is granted,
 /// no step refuses a call for want of it.
 pub fn refused_memory_makes_one_turn()
     // Memory that is refused makes one turn of each step that grows anything.
-    // Steps that grow are check, ready, enter, a visit, a show's visit, a drain's first pick and a judge.
+    // Steps that grow are check, ready, enter, a visit, a show's visit, a drain's first pick and a planning.
     // A visit of `stat` or `lookup` grows nothing.
     // A check grows nothing where neither data blocks nor log pages are wanted.
     // Refused memory makes that turn even where the step would ask for none.

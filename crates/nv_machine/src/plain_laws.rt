@@ -23,7 +23,7 @@ ghost use Rattle.nv_entry.specs.Tree.{root};
 ghost use Rattle.nv_machine.specs.Answered.{GoesTo, IsFinal, IsToEnd};
 ghost use Rattle.nv_machine.specs.Causes.{FindsNone, IsCause, IsRoundless, MayBeOvertaken, RefusesFor};
 ghost use Rattle.nv_machine.specs.Effects.{AreSound, HasPlanNow};
-ghost use Rattle.nv_machine.specs.EndsDecided.{decided, is_maintenance};
+ghost use Rattle.nv_machine.specs.EndsDecided.{decided, is_snapshot_or_cleaner};
 ghost use Rattle.nv_machine.specs.FitsNow.{bytes_in, is_checked};
 ghost use Rattle.nv_machine.specs.Format.{formatted};
 ghost use Rattle.nv_machine.specs.Frame.{lent};
@@ -417,7 +417,7 @@ pub fn calls_are_decided_once()
     ensures done { (g : GeometryNumbers) (start : World) (records : List Record)
         (events : List Event) (actor : ℕ) (granted : Bool) (r : Running) (told : Answer)
         → IsStart g start records → (actor_at (after start events) actor).running ≡ Some r
-        → is_maintenance r.call ≡ false
+        → is_snapshot_or_cleaner r.call ≡ false
         → (step (after start events) (Go actor granted)).reply ≡ Done told
         → decided actor start (events ++ Go actor granted ∷ []) [] ≡ told ∷ [] }
     // Of a refused call nothing was decided.

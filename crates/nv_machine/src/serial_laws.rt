@@ -9,7 +9,7 @@ ghost use Rattle.nv_book.specs.declared.record.Record.{Record};
 ghost use Rattle.nv_calls.specs.declared.answer.Answer.{Answer};
 ghost use Rattle.nv_calls.specs.declared.call.Call.{Call};
 ghost use Rattle.nv_machine.specs.Alone.{IsAnsweredOn, IsRefusedOn, goes};
-ghost use Rattle.nv_machine.specs.EndsDecided.{is_maintenance};
+ghost use Rattle.nv_machine.specs.EndsDecided.{is_snapshot_or_cleaner};
 ghost use Rattle.nv_machine.specs.Settled.{settled_nodes};
 ghost use Rattle.nv_machine.specs.Starts.{IsStart};
 ghost use Rattle.nv_machine.specs.Step.{after, step};
@@ -26,7 +26,7 @@ pub fn calls_alone_are_the_plain_worlds()
     // The nodes at its start do not refuse it, and with its effect they are those that stand at its end.
     ensures answered { (g : GeometryNumbers) (start : World) (records : List Record)
         (before : List Event) (actor : ℕ) (c : Call) (grants : List Bool) (granted : Bool)
-        (r : Running) (told : Answer) → IsStart g start records → is_maintenance c ≡ false
+        (r : Running) (told : Answer) → IsStart g start records → is_snapshot_or_cleaner c ≡ false
         → (step (after start before) (Start actor c)).reply ≡ Started
         → let w = after start (before ++ Start actor c ∷ goes actor grants) in
         (actor_at w actor).running ≡ Some r → (step w (Go actor granted)).reply ≡ Done told
@@ -37,7 +37,7 @@ pub fn calls_alone_are_the_plain_worlds()
     // A call made alone is never refused as contended, and a refused one leaves the nodes as they stood.
     ensures refused { (g : GeometryNumbers) (start : World) (records : List Record)
         (before : List Event) (actor : ℕ) (c : Call) (grants : List Bool) (granted : Bool)
-        (r : Running) (fault : Fault) → IsStart g start records → is_maintenance c ≡ false
+        (r : Running) (fault : Fault) → IsStart g start records → is_snapshot_or_cleaner c ≡ false
         → (step (after start before) (Start actor c)).reply ≡ Started
         → let w = after start (before ++ Start actor c ∷ goes actor grants) in
         (actor_at w actor).running ≡ Some r → (step w (Go actor granted)).reply ≡ Refused fault

@@ -12,7 +12,7 @@ ghost use Rattle.nv_book.specs.declared.record.Record.{Record};
 ghost use Rattle.nv_calls.specs.declared.answer.Answer.{Answer};
 ghost use Rattle.nv_calls.specs.declared.answer.Answer.TheVariants as answers;
 ghost use Rattle.nv_calls.specs.declared.call.Call.TheVariants as call;
-ghost use Rattle.nv_calls.specs.declared.maintenance_call.MaintenanceCall.TheVariants as on;
+ghost use Rattle.nv_calls.specs.declared.snapshot_or_cleaner_call.SnapshotOrCleanerCall.TheVariants as on;
 ghost use Rattle.nv_cell.specs.Cell.{log_of};
 ghost use Rattle.nv_entry.specs.Held.{holds, is_current};
 ghost use Rattle.nv_entry.specs.Log.{pairs};
@@ -28,10 +28,10 @@ ghost use Rattle.nv_machine.specs.PlainRun.{plain_after, plain_of};
 ghost use Rattle.nv_machine.specs.Reading.{AreCopied, ArePins, GoesBy, copied_tree, is_tested, plain_tests, releases, shows_of, tests_on};
 ghost use Rattle.nv_machine.specs.Recorded.{AreRecordedOnce, IsOfPair, is_killed_pair, is_recorded_for, recorded_in, records_after};
 ghost use Rattle.nv_machine.specs.Settled.{settled_copies, snapshot_tree};
-ghost use Rattle.nv_machine.specs.Maintenance.{maintenance_turn};
+ghost use Rattle.nv_machine.specs.SnapshotOrCleaner.{snapshot_or_cleaner_turn};
 ghost use Rattle.nv_machine.specs.Starts.{IsStart};
 ghost use Rattle.nv_machine.specs.Step.{after, step};
-ghost use Rattle.nv_machine.specs.World.{Done, Draining, Drop, Ends, Event, Go, HandState, Make, Pick, Refused, Refuses, Running, Shared, MaintenanceStep, Maintenance, Start, Started, Unpin, Waiting, World, actor_at, cell_at, list_at};
+ghost use Rattle.nv_machine.specs.World.{Done, Draining, Drop, Ends, Event, Go, HandState, Make, Pick, Refused, Refuses, Running, Shared, SnapshotOrCleanerStep, SnapshotOrCleaner, Start, Started, Unpin, Waiting, World, actor_at, cell_at, list_at};
 
 /// The records are one list, whatever events came from any start on: a retire step puts the killed parts of its inode
 /// to its end, in order, that a living snapshot holds; a drop moves there, in order, the records that its snapshot was
@@ -114,7 +114,7 @@ pub fn snapshots_read_as_they_were()
     ensures refused { (w : World) (actor snapshot : ℕ)
         (granted : Bool) (r : Running) (seen : List TreeNode) (fault : Fault)
         → (actor_at w actor).running ≡ Some r
-        → r.next ≡ Maintenance (Unpin snapshot seen) → r.ending ≡ Refuses fault
+        → r.next ≡ SnapshotOrCleaner (Unpin snapshot seen) → r.ending ≡ Refuses fault
         → ((step w (Go actor granted)).reply ≡ Waiting)
         ⊎ ((step w (Go actor granted)).reply ≡ Refused fault) }
     // A show that is answered is told the tree of its snapshot.
@@ -123,7 +123,7 @@ pub fn snapshots_read_as_they_were()
         (events : List Event) (actor snapshot : ℕ) (granted : Bool) (r : Running)
         (seen : List TreeNode) (told : Answer) → IsStart g start records
         → (actor_at (after start events) actor).running ≡ Some r
-        → r.next ≡ Maintenance (Unpin snapshot seen)
+        → r.next ≡ SnapshotOrCleaner (Unpin snapshot seen)
         → (step (after start events) (Go actor granted)).reply ≡ Done told
         → (told ≡ answers.Tree (snapshot_tree (after start events) snapshot))
         × Contains (ids (after start events).shared.book.snaps) snapshot }
@@ -147,14 +147,15 @@ pub fn snapshot_refusals_are_told()
     // A making, a drop and a show are refused for just what the plain world refuses them for.
     // A drop of a snapshot that does not live is refused as by the plain world.
     ensures tests { (g : GeometryNumbers) (start : World) (records : List Record)
-        (events : List Event) (kind : MaintenanceStep) → IsStart g start records
+        (events : List Event) (kind : SnapshotOrCleanerStep) → IsStart g start records
         → tests_on kind (after start events).shared.book.snaps
         ≡ plain_tests g.snaps kind (plain_after start events (plain_of start)) }
     // A making, a drop or a show waits, or it replies that fault, and none where there is none.
     ensures replies { (g : GeometryNumbers) (start : World) (records : List Record)
-        (events : List Event) (actor : ℕ) (granted : Bool) (r : Running) (kind : MaintenanceStep)
+        (events : List Event) (actor : ℕ) (granted : Bool) (r : Running)
+        (kind : SnapshotOrCleanerStep)
         → IsStart g start records → (actor_at (after start events) actor).running ≡ Some r
-        → r.next ≡ Maintenance kind → is_tested kind ≡ true
+        → r.next ≡ SnapshotOrCleaner kind → is_tested kind ≡ true
         → ((step (after start events) (Go actor granted)).reply ≡ Waiting) ⊎ GoesBy
         (plain_tests g.snaps kind (plain_after start events (plain_of start)))
         (step (after start events) (Go actor granted)).reply }
@@ -168,13 +169,13 @@ pub fn makings_and_drops_are_answered()
     ensures made { (g : GeometryNumbers) (start : World) (records : List Record)
         (events : List Event) (actor : ℕ) (granted : Bool) (r : Running) (told : Answer)
         → IsStart g start records → (actor_at (after start events) actor).running ≡ Some r
-        → r.next ≡ Maintenance Make
+        → r.next ≡ SnapshotOrCleaner Make
         → (step (after start events) (Go actor granted)).reply ≡ Done told
         → told ≡ answers.Snapshot (plain_after start events (plain_of start)).epoch }
     ensures dropped { (g : GeometryNumbers) (start : World) (records : List Record)
         (events : List Event) (actor snapshot : ℕ) (granted : Bool) (r : Running) (told : Answer)
         → IsStart g start records → (actor_at (after start events) actor).running ≡ Some r
-        → r.next ≡ Maintenance (Drop snapshot)
+        → r.next ≡ SnapshotOrCleaner (Drop snapshot)
         → (step (after start events) (Go actor granted)).reply ≡ Done told
         → told ≡ answers.Nothing }
 {}
@@ -188,31 +189,35 @@ pub fn drains_count_their_releases()
     ensures answer { (g : GeometryNumbers) (start : World) (records : List Record)
         (before events : List Event) (actor count told : ℕ) (granted : Bool)
         → IsStart g start records
-        → (step (after start before) (Start actor (call.Maintenance (on.Drain count)))).reply
+        → (step (after start before) (Start actor (call.SnapshotOrCleaner (on.Drain count)))).reply
         ≡ Started → AreNoStarts actor events
         → (step
-        (after (step (after start before) (Start actor (call.Maintenance (on.Drain count)))).world
+        (after (step (after start before) (Start actor
+        (call.SnapshotOrCleaner (on.Drain count)))).world
         events) (Go actor granted)).reply ≡ Done (answers.Count told) → told ≡ releases actor
-        (step (after start before) (Start actor (call.Maintenance (on.Drain count)))).world
+        (step (after start before) (Start actor (call.SnapshotOrCleaner (on.Drain count)))).world
         (events ++ Go actor granted ∷ []) }
     // A running drain is refused only for want of memory before its first release.
     ensures refused { (g : GeometryNumbers) (start : World) (records : List Record)
         (before events : List Event) (actor count : ℕ) (fault : Fault) (granted : Bool)
         → IsStart g start records
-        → (step (after start before) (Start actor (call.Maintenance (on.Drain count)))).reply
+        → (step (after start before) (Start actor (call.SnapshotOrCleaner (on.Drain count)))).reply
         ≡ Started → AreNoStarts actor events → IsSome (actor_at
-        (after (step (after start before) (Start actor (call.Maintenance (on.Drain count)))).world
+        (after (step (after start before) (Start actor
+        (call.SnapshotOrCleaner (on.Drain count)))).world
         events) actor).running
         → (step
-        (after (step (after start before) (Start actor (call.Maintenance (on.Drain count)))).world
+        (after (step (after start before) (Start actor
+        (call.SnapshotOrCleaner (on.Drain count)))).world
         events) (Go actor granted)).reply ≡ Refused fault → (fault ≡ out_of_memory)
         × (releases actor
-        (step (after start before) (Start actor (call.Maintenance (on.Drain count)))).world
+        (step (after start before) (Start actor (call.SnapshotOrCleaner (on.Drain count)))).world
         (events ++ Go actor granted ∷ []) ≡ 0) }
     // A pick finds nothing only where nothing is deferred.
     ensures nothing { (draining : Draining) (actor told : ℕ) (granted : Bool) (s t : Shared)
         (h after : HandState) (r : Running)
-        → maintenance_turn (Pick draining) actor granted s h r ≡ Ends (Ok (answers.Count told)) t after
+        → snapshot_or_cleaner_turn (Pick draining) actor granted s h r
+        ≡ Ends (Ok (answers.Count told)) t after
         → s.book.deferred ≡ [] }
 {}
 
@@ -223,33 +228,36 @@ pub fn drains_release_their_number()
     // A drain releases no more records than its number says, at any time.
     ensures never_more { (g : GeometryNumbers) (start : World) (records : List Record)
         (before events : List Event) (actor count : ℕ) → IsStart g start records
-        → (step (after start before) (Start actor (call.Maintenance (on.Drain count)))).reply
+        → (step (after start before) (Start actor (call.SnapshotOrCleaner (on.Drain count)))).reply
         ≡ Started → AreNoStarts actor events → releases actor
-        (step (after start before) (Start actor (call.Maintenance (on.Drain count)))).world
+        (step (after start before) (Start actor (call.SnapshotOrCleaner (on.Drain count)))).world
         events ≤ drain_number count }
     // A drain that is answered is told a count, of what it has released.
     ensures answer { (g : GeometryNumbers) (start : World) (records : List Record)
         (before events : List Event) (actor count : ℕ) (told : Answer) (granted : Bool)
         → IsStart g start records
-        → (step (after start before) (Start actor (call.Maintenance (on.Drain count)))).reply
+        → (step (after start before) (Start actor (call.SnapshotOrCleaner (on.Drain count)))).reply
         ≡ Started → AreNoStarts actor events
         → (step
-        (after (step (after start before) (Start actor (call.Maintenance (on.Drain count)))).world
+        (after (step (after start before) (Start actor
+        (call.SnapshotOrCleaner (on.Drain count)))).world
         events) (Go actor granted)).reply ≡ Done told → told ≡ answers.Count (releases actor
-        (step (after start before) (Start actor (call.Maintenance (on.Drain count)))).world
+        (step (after start before) (Start actor (call.SnapshotOrCleaner (on.Drain count)))).world
         (events ++ Go actor granted ∷ [])) }
     // A drain that is answered has released its number, or its last pick finds nothing.
     ensures number { (g : GeometryNumbers) (start : World) (records : List Record)
         (before events : List Event) (actor count : ℕ) (told : Answer) (granted : Bool)
         → IsStart g start records
-        → (step (after start before) (Start actor (call.Maintenance (on.Drain count)))).reply
+        → (step (after start before) (Start actor (call.SnapshotOrCleaner (on.Drain count)))).reply
         ≡ Started → AreNoStarts actor events
         → (step
-        (after (step (after start before) (Start actor (call.Maintenance (on.Drain count)))).world
+        (after (step (after start before) (Start actor
+        (call.SnapshotOrCleaner (on.Drain count)))).world
         events) (Go actor granted)).reply ≡ Done told → (releases actor
-        (step (after start before) (Start actor (call.Maintenance (on.Drain count)))).world
+        (step (after start before) (Start actor (call.SnapshotOrCleaner (on.Drain count)))).world
         (events ++ Go actor granted ∷ []) ≡ drain_number count) ⊎ FindsNothing actor
-        (after (step (after start before) (Start actor (call.Maintenance (on.Drain count)))).world
+        (after (step (after start before) (Start actor
+        (call.SnapshotOrCleaner (on.Drain count)))).world
         events) }
 {}
 

@@ -53,7 +53,7 @@ pub fn show_on(alloc: Global, cell: &InodeCell, epoch: Epoch) -> Result<Option<N
     ensures err { FailsOnly out_of_memory result }
 {
     // What a cell keeps of its log and its blocks.
-    cell.use_invariant();
+    cell.holds_together();
     let log = entries_to(cell.log().log(), epoch);
     Ok(node_by(alloc, cell.block_bytes(), log, cell)?)
 }
@@ -108,7 +108,7 @@ pub fn settled_on(
         return node_by_index(cell);
     };
     // What a cell keeps of its log and its blocks.
-    cell.use_invariant();
+    cell.holds_together();
     let log = &cell.log().entries()[..tail];
     Ok(node_by(alloc, cell.block_bytes(), log, cell)?)
 }
@@ -122,7 +122,7 @@ fn node_by_index(cell: &InodeCell) -> Result<Option<NodeCopy>, Fault>
     ensures err { FailsOnly out_of_memory result }
 {
     // What a cell keeps of its log.
-    cell.use_invariant();
+    cell.holds_together();
     let Some(stat) = cell.stat() else {
         return Ok(None);
     };

@@ -10,14 +10,14 @@ use Rattle.nv_book.specs.declared.record.Record.{Record}
 use Rattle.nv_calls.specs.Refusals.{Check, passes}
 use Rattle.nv_epoch.specs.SnapList.{Snapshots, repinned}
 use Rattle.nv_epoch.specs.declared.snapshot.Snapshot.{Snapshot}
-use Rattle.nv_machine.specs.Maintenance.{make_tests}
+use Rattle.nv_machine.specs.SnapshotOrCleaner.{make_tests}
 use Rattle.nv_machine.specs.Starts.{IsStart}
 use Rattle.nv_machine.specs.Step.{after, kind_turn, step}
-use Rattle.nv_machine.specs.World.{Drop, Event, HandState, Maintenance, MaintenanceStep, Make, Next, Number, Pin, ReturnNumber, Running, Shared, Unpin, World, actor_at}
+use Rattle.nv_machine.specs.World.{Drop, Event, HandState, SnapshotOrCleaner, SnapshotOrCleanerStep, Make, Next, Number, Pin, ReturnNumber, Running, Shared, Unpin, World, actor_at}
 use Rattle.nv_machine.proofs.EveryWorld.{reached}
 use Rattle.nv_machine.proofs.OverEvents.{event_shared, events_by}
 use Rattle.nv_machine.proofs.StepWays.{IsClearOn}
-use Rattle.nv_machine.proofs.StepWork.{by_back, by_number, maintenance_work}
+use Rattle.nv_machine.proofs.StepWork.{by_back, by_number, snapshot_or_cleaner_work}
 use Rattle.nv_machine.proofs.WorkKeeps.{AfterTurn, snapshot_works, turn_keeps}
 use Rattle.nv_machine.specs.Reached.{IsReached}
 use Rattle.nv_restart.specs.Snapshots.{SnapshotsFit}
@@ -46,8 +46,8 @@ module _ (block a : ℕ) (granted : Bool) (s : Shared) (h : HandState) (r : Runn
   abbrev P : Shared → HandState → Type 0
   P t x = SnapshotsFit t.book.snaps
 
-  works : (step : MaintenanceStep) → IsClearOn step s
-      → SnapshotsFit (maintenance_work step a s h).shared.book.snaps
+  works : (step : SnapshotOrCleanerStep) → IsClearOn step s
+      → SnapshotsFit (snapshot_or_cleaner_work step a s h).shared.book.snaps
   works Make clear =
       let may = may_make s.book.snaps clear.1 in
       let low = may.0 in
@@ -100,7 +100,7 @@ module _ (block a : ℕ) (granted : Bool) (s : Shared) (h : HandState) (r : Runn
       turn_keeps P Number block a granted s h r fit (by_number P s h (λ numbers ino. fit))
   kind_fits ReturnNumber =
       turn_keeps P ReturnNumber block a granted s h r fit (by_back P s h (λ numbers ino. fit))
-  kind_fits (Maintenance step) = snapshot_works P step a granted s h r fit (works step)
+  kind_fits (SnapshotOrCleaner step) = snapshot_works P step a granted s h r fit (works step)
   kind_fits other = turn_keeps P other block a granted s h r fit fit
 
 event_fits : (w : World) (e : Event) → IsReached w → SnapshotsFit w.shared.book.snaps

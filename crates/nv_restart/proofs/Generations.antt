@@ -33,7 +33,7 @@ use Rattle.nv_machine.specs.Kinds.{entries_for}
 use Rattle.nv_machine.specs.Reads.{is_written, pages_needed, slot_at, written_slots}
 use Rattle.nv_machine.specs.Starts.{IsStart}
 use Rattle.nv_machine.specs.Step.{after, step}
-use Rattle.nv_machine.specs.World.{Compact, Event, HandState, Maintenance, Next, Running, Shared, Unlink, World, actor_at, cell_at}
+use Rattle.nv_machine.specs.World.{Compact, Event, HandState, SnapshotOrCleaner, Next, Running, Shared, Unlink, World, actor_at, cell_at}
 use Rattle.nv_restart.specs.Stops.{AreInRange}
 
 -- ---- one cell
@@ -73,10 +73,10 @@ none_long (x ∷ xs) le = absurd (omega (arith, le))
 clean_pages : (k : Next) (block : ℕ) (s : Shared) (h : HandState) (r : Running) → is_clean k ≡ true
     → clean_slot k < length s.cells → IsCleanable k block s h r
     → (cell_at s (clean_slot k)).chain.blocks ≡ [] → (clean_cell k s h).chain.blocks ≡ []
-clean_pages (Maintenance (Unlink ino)) block s h r is low ready none =
+clean_pages (SnapshotOrCleaner (Unlink ino)) block s h r is low ready none =
     let stays = pages_staying (cell_at s ino) in
     ap (λ (l : List BlockValue). left_of stays l) none ∙ none_left stays
-clean_pages (Maintenance (Compact ino)) block s h r is low ready none =
+clean_pages (SnapshotOrCleaner (Compact ino)) block s h r is low ready none =
     let cell = cell_at s ino in
     let chain = (ready.cells ino low).chain in
     let few = fresh_within (entries_staying cell) h.pages cell.chain chain ready.pages in

@@ -14,11 +14,11 @@ use Rattle.nv_machine.specs.Locks.{HasSlots}
 use Rattle.nv_machine.specs.Reads.{is_written, written_slots}
 use Rattle.nv_machine.specs.Starts.{IsStart}
 use Rattle.nv_machine.specs.Step.{after, kind_turn, step}
-use Rattle.nv_machine.specs.World.{Close, Drop, Event, HandState, Maintenance, MaintenanceStep, Make, Next, Number, Open, ReturnNumber, Running, Shared, World, actor_at}
+use Rattle.nv_machine.specs.World.{Close, Drop, Event, HandState, SnapshotOrCleaner, SnapshotOrCleanerStep, Make, Next, Number, Open, ReturnNumber, Running, Shared, World, actor_at}
 use Rattle.nv_machine.proofs.EveryWorld.{reached}
 use Rattle.nv_machine.proofs.Lists.{rising_filter}
 use Rattle.nv_machine.proofs.OverEvents.{event_shared, events_by}
-use Rattle.nv_machine.proofs.StepWork.{by_back, by_number, maintenance_work}
+use Rattle.nv_machine.proofs.StepWork.{by_back, by_number, snapshot_or_cleaner_work}
 use Rattle.nv_machine.proofs.WorkKeeps.{AfterTurn, turn_keeps}
 use Rattle.nv_machine.specs.Reached.{IsReached}
 
@@ -68,7 +68,7 @@ module _ (block a cpu : ℕ) (granted : Bool) (s : Shared) (h : HandState) (r : 
   abbrev P : Shared → HandState → Type 0
   P t x = NotesOnce t
 
-  works : (step : MaintenanceStep) → NotesOnce (maintenance_work step a s h).shared
+  works : (step : SnapshotOrCleanerStep) → NotesOnce (snapshot_or_cleaner_work step a s h).shared
   works Make = once
   works (Drop snapshot) = once
   works other = once
@@ -86,8 +86,8 @@ module _ (block a cpu : ℕ) (granted : Bool) (s : Shared) (h : HandState) (r : 
   kind_once Close knows = turn_keeps P Close block a granted s h r once
       (subst (λ (c : ℕ). are_apart (all_notes (set s.book.journals c [])) ≡ true) at
       (ap are_apart (none_noted (set s.book.journals cpu []) knows.2.alone)))
-  kind_once (Maintenance step) knows =
-      turn_keeps P (Maintenance step) block a granted s h r once (works step)
+  kind_once (SnapshotOrCleaner step) knows =
+      turn_keeps P (SnapshotOrCleaner step) block a granted s h r once (works step)
   kind_once other knows = turn_keeps P other block a granted s h r once once
 
 -- ---- all events

@@ -250,10 +250,10 @@ pub const SNAPSHOTS: &[Row] = &[
     ),
 ];
 
-/// Of a cleaner: a lock, and the judge, which walks the log and makes room for pages. Back goes the unlock.
-const JUDGED: &[Growth] = &[("judge", 3)];
+/// Of a cleaner: a lock, and the planning, which walks the log and makes room for pages. Back goes the unlock.
+const PLANNED: &[Growth] = &[("plan cleaning", 3)];
 
-/// Cleaners of the root's log. Behind the judge none takes memory.
+/// Cleaners of the root's log. Behind the planning none takes memory.
 pub const CLEANERS: &[Row] = &[
     // the page of the modes 4 to 7 goes
     (
@@ -270,7 +270,7 @@ pub const CLEANERS: &[Row] = &[
         ],
         Fast(0),
         Want::Cleaned(false, 4, 1),
-        JUDGED,
+        PLANNED,
     ),
     // the first mode goes
     (
@@ -278,7 +278,7 @@ pub const CLEANERS: &[Row] = &[
         &[Mode(ROOT, 1), Mode(ROOT, 2)],
         Thorough(0),
         Want::Cleaned(true, 1, 0),
-        JUDGED,
+        PLANNED,
     ),
     // two of five would stay, and fit one page; and two of two
     (
@@ -286,14 +286,14 @@ pub const CLEANERS: &[Row] = &[
         &[Mode(ROOT, 1), Mode(ROOT, 2), Mode(ROOT, 3), Mode(ROOT, 4)],
         Auto(0),
         Want::Cleaned(true, 3, 1),
-        JUDGED,
+        PLANNED,
     ),
     (
         "auto as fast",
         &[Mode(ROOT, 1)],
         Auto(0),
         Want::Cleaned(false, 0, 0),
-        JUDGED,
+        PLANNED,
     ),
     (
         "no inode",

@@ -1,7 +1,7 @@
 //! Calls by their words, and answers that are wanted.
 
 use nv_base::{Bytes, Epoch, Fault, Handle, Ino, Kind, Mode};
-use nv_calls::{Answer, Call, MaintenanceCall};
+use nv_calls::{Answer, Call, SnapshotOrCleanerCall};
 use nv_entry::{BoundName, TreeNode};
 use nv_scenes::handle_of;
 use std::alloc::Global;
@@ -126,20 +126,20 @@ fn call_on_a_node(alloc: Global, words: &Words) -> Option<Call> {
             dir: at_handle(at),
             name: bytes(alloc, name)?,
         }),
-        _ => Some(Call::Maintenance(maintenance_call_of(words)?)),
+        _ => Some(Call::SnapshotOrCleaner(snapshot_or_cleaner_call_of(words)?)),
     }
 }
 
 /// The same for calls on snapshots and cleaners.
-fn maintenance_call_of(words: &Words) -> Option<MaintenanceCall> {
+fn snapshot_or_cleaner_call_of(words: &Words) -> Option<SnapshotOrCleanerCall> {
     match *words {
-        Words::Snap => Some(MaintenanceCall::Snap),
-        Words::Drop(number) => Some(MaintenanceCall::Drop(Epoch::new(number))),
-        Words::Show(number) => Some(MaintenanceCall::Show(Epoch::new(number))),
-        Words::Drain(most) => Some(MaintenanceCall::Drain(most)),
-        Words::Fast(ino) => Some(MaintenanceCall::Fast(Ino::new(ino))),
-        Words::Thorough(ino) => Some(MaintenanceCall::Thorough(Ino::new(ino))),
-        Words::Auto(ino) => Some(MaintenanceCall::Auto(Ino::new(ino))),
+        Words::Snap => Some(SnapshotOrCleanerCall::Snap),
+        Words::Drop(number) => Some(SnapshotOrCleanerCall::Drop(Epoch::new(number))),
+        Words::Show(number) => Some(SnapshotOrCleanerCall::Show(Epoch::new(number))),
+        Words::Drain(most) => Some(SnapshotOrCleanerCall::Drain(most)),
+        Words::Fast(ino) => Some(SnapshotOrCleanerCall::Fast(Ino::new(ino))),
+        Words::Thorough(ino) => Some(SnapshotOrCleanerCall::Thorough(Ino::new(ino))),
+        Words::Auto(ino) => Some(SnapshotOrCleanerCall::Auto(Ino::new(ino))),
         _ => None,
     }
 }

@@ -10,8 +10,8 @@ use Rattle.nv_base.specs.declared.limits.TheConstants.{DRAIN, MODE}
 use Rattle.nv_base.specs.declared.numbers.Handle.{Handle}
 use Rattle.nv_calls.specs.declared.call.Call.{Call}
 use Rattle.nv_calls.specs.declared.call.Call.TheVariants as call
-use Rattle.nv_calls.specs.declared.maintenance_call.MaintenanceCall.{MaintenanceCall}
-use Rattle.nv_calls.specs.declared.maintenance_call.MaintenanceCall.TheVariants as maintenance
+use Rattle.nv_calls.specs.declared.snapshot_or_cleaner_call.SnapshotOrCleanerCall.{SnapshotOrCleanerCall}
+use Rattle.nv_calls.specs.declared.snapshot_or_cleaner_call.SnapshotOrCleanerCall.TheVariants as snapshot_or_cleaner
 use Rattle.nv_script.specs.declared.call.CallWord.{CallWord}
 use Rattle.nv_script.specs.declared.call.CallWord.TheVariants as calls
 use Rattle.nv_script.specs.declared.command.Command.{Command}
@@ -91,13 +91,13 @@ row calls.Unlink = entry (codes "unlink") (field.Handle ∷ field.Text ∷ []) (
 row calls.Rmdir = entry (codes "rmdir") (field.Handle ∷ field.Text ∷ []) (λ dir name. call.Rmdir dir name)
 row calls.Rename =
     entry (codes "rename") (field.Handle ∷ field.Text ∷ field.Handle ∷ field.Text ∷ []) (λ from old to new. call.Rename from old to new)
-row calls.Snap = entry (codes "snap") [] (call.Maintenance maintenance.Snap)
-row calls.Drop = entry (codes "drop") (field.Number ∷ []) (λ s. call.Maintenance (maintenance.Drop s))
-row calls.Show = entry (codes "show") (field.Number ∷ []) (λ s. call.Maintenance (maintenance.Show s))
-row calls.Drain = entry (codes "drain") (field.Records ∷ []) (λ most. call.Maintenance (maintenance.Drain most))
-row calls.Fast = entry (codes "fast") (field.Number ∷ []) (λ ino. call.Maintenance (maintenance.Fast ino))
-row calls.Thorough = entry (codes "thorough") (field.Number ∷ []) (λ ino. call.Maintenance (maintenance.Thorough ino))
-row calls.Auto = entry (codes "auto") (field.Number ∷ []) (λ ino. call.Maintenance (maintenance.Auto ino))
+row calls.Snap = entry (codes "snap") [] (call.SnapshotOrCleaner snapshot_or_cleaner.Snap)
+row calls.Drop = entry (codes "drop") (field.Number ∷ []) (λ s. call.SnapshotOrCleaner (snapshot_or_cleaner.Drop s))
+row calls.Show = entry (codes "show") (field.Number ∷ []) (λ s. call.SnapshotOrCleaner (snapshot_or_cleaner.Show s))
+row calls.Drain = entry (codes "drain") (field.Records ∷ []) (λ most. call.SnapshotOrCleaner (snapshot_or_cleaner.Drain most))
+row calls.Fast = entry (codes "fast") (field.Number ∷ []) (λ ino. call.SnapshotOrCleaner (snapshot_or_cleaner.Fast ino))
+row calls.Thorough = entry (codes "thorough") (field.Number ∷ []) (λ ino. call.SnapshotOrCleaner (snapshot_or_cleaner.Thorough ino))
+row calls.Auto = entry (codes "auto") (field.Number ∷ []) (λ ino. call.SnapshotOrCleaner (snapshot_or_cleaner.Auto ino))
 
 -- all words of calls, in the order of their table
 abbrev pub all_calls : List CallWord
@@ -145,20 +145,20 @@ reads_or_unbinds calls.Thorough = false
 reads_or_unbinds calls.Auto = false
 
 -- the calls on snapshots, and the cleaners
-abbrev pub is_maintenance : CallWord → Bool
-is_maintenance calls.Snap = true
-is_maintenance calls.Drop = true
-is_maintenance calls.Show = true
-is_maintenance calls.Drain = true
-is_maintenance calls.Fast = true
-is_maintenance calls.Thorough = true
-is_maintenance calls.Auto = true
-is_maintenance other = false
+abbrev pub is_snapshot_or_cleaner : CallWord → Bool
+is_snapshot_or_cleaner calls.Snap = true
+is_snapshot_or_cleaner calls.Drop = true
+is_snapshot_or_cleaner calls.Show = true
+is_snapshot_or_cleaner calls.Drain = true
+is_snapshot_or_cleaner calls.Fast = true
+is_snapshot_or_cleaner calls.Thorough = true
+is_snapshot_or_cleaner calls.Auto = true
+is_snapshot_or_cleaner other = false
 
 -- such a call that was read
-abbrev pub maintenance_read : Parsed MaintenanceCall → Parsed Call
-maintenance_read (Ok c) = Ok (call.Maintenance c)
-maintenance_read (Err fault) = Err fault
+abbrev pub snapshot_or_cleaner_read : Parsed SnapshotOrCleanerCall → Parsed Call
+snapshot_or_cleaner_read (Ok c) = Ok (call.SnapshotOrCleaner c)
+snapshot_or_cleaner_read (Err fault) = Err fault
 
 -- the first of some calls that has this name
 abbrev pub named_among : List CallWord → List ℕ → Option CallWord

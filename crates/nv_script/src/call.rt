@@ -2,13 +2,13 @@
 //! definition of the same name.
 
 ghost use Rattle.std.specs.Prelude.{◌≡◌, true};
-ghost use Rattle.nv_script.specs.Grammar.{Reads, all_calls, call_with, fields_in, is_maintenance, name_in, named_among, reads_or_unbinds, row, maintenance_read, texts, third_call};
+ghost use Rattle.nv_script.specs.Grammar.{Reads, all_calls, call_with, fields_in, is_snapshot_or_cleaner, name_in, named_among, reads_or_unbinds, row, snapshot_or_cleaner_read, texts, third_call};
 
 use crate::fault::LineFault;
 use crate::field::{Field, handle_at, mode_at, number_at, records_at, text_at};
 use crate::word::word_at;
 use nv_base::{Epoch, Ino, ScriptFaultKind};
-use nv_core::{Call, MaintenanceCall};
+use nv_core::{Call, SnapshotOrCleanerCall};
 use std::alloc::Global;
 
 /// A call by its name.
@@ -183,7 +183,9 @@ impl CallWord {
             | CallWord::Drain
             | CallWord::Fast
             | CallWord::Thorough
-            | CallWord::Auto => { Ok(Call::Maintenance(self.read_maintenance(words)?)) }
+            | CallWord::Auto => {
+                Ok(Call::SnapshotOrCleaner(self.read_snapshot_or_cleaner(words)?))
+            }
             _ => self.read_names(alloc, words),
         }
     }
@@ -223,18 +225,23 @@ impl CallWord {
     }
 
     /// The calls on snapshots, and the cleaners.
-    fn read_maintenance(self, words: &[&[u8]]) -> Result<MaintenanceCall, ScriptFaultKind>
-        requires { is_maintenance self ≡ true }
-        ensures { maintenance_read result ≡ call_with self (texts words.now) }
+    fn read_snapshot_or_cleaner(
+        self,
+        words: &[&[u8]],
+    ) -> Result<SnapshotOrCleanerCall, ScriptFaultKind>
+        requires { is_snapshot_or_cleaner self ≡ true }
+        ensures { snapshot_or_cleaner_read result ≡ call_with self (texts words.now) }
     {
         match self {
-            CallWord::Snap => Ok(MaintenanceCall::Snap),
-            CallWord::Drop => Ok(MaintenanceCall::Drop(Epoch::new(number_at(words, 3)?))),
-            CallWord::Show => Ok(MaintenanceCall::Show(Epoch::new(number_at(words, 3)?))),
-            CallWord::Drain => Ok(MaintenanceCall::Drain(records_at(words, 3)?)),
-            CallWord::Fast => Ok(MaintenanceCall::Fast(Ino::new(number_at(words, 3)?))),
-            CallWord::Thorough => Ok(MaintenanceCall::Thorough(Ino::new(number_at(words, 3)?))),
-            CallWord::Auto => Ok(MaintenanceCall::Auto(Ino::new(number_at(words, 3)?))),
+            CallWord::Snap => Ok(SnapshotOrCleanerCall::Snap),
+            CallWord::Drop => Ok(SnapshotOrCleanerCall::Drop(Epoch::new(number_at(words, 3)?))),
+            CallWord::Show => Ok(SnapshotOrCleanerCall::Show(Epoch::new(number_at(words, 3)?))),
+            CallWord::Drain => Ok(SnapshotOrCleanerCall::Drain(records_at(words, 3)?)),
+            CallWord::Fast => Ok(SnapshotOrCleanerCall::Fast(Ino::new(number_at(words, 3)?))),
+            CallWord::Thorough => Ok(SnapshotOrCleanerCall::Thorough(Ino::new(number_at(
+                words, 3,
+            )?))),
+            CallWord::Auto => Ok(SnapshotOrCleanerCall::Auto(Ino::new(number_at(words, 3)?))),
             _ => unreachable!(),
         }
     }

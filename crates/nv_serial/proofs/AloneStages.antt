@@ -10,7 +10,7 @@ use Rattle.nv_calls.specs.declared.answer.Answer.{Answer}
 use Rattle.nv_calls.specs.declared.call.Call.{Call}
 use Rattle.nv_epoch.specs.SnapList.{ids}
 use Rattle.nv_machine.specs.Alone.{goes}
-use Rattle.nv_machine.specs.EndsDecided.{decided, is_maintenance}
+use Rattle.nv_machine.specs.EndsDecided.{decided, is_snapshot_or_cleaner}
 use Rattle.nv_machine.specs.Hands.{HandOf, is_going}
 use Rattle.nv_machine.specs.PlainRun.{PlainChange, Nothing, Plain, plain_change, plain_change_by, plain_change_of, done, plain_after, plain_step}
 use Rattle.nv_machine.specs.Reads.{written_slots}
@@ -19,7 +19,7 @@ use Rattle.nv_machine.specs.Sequence as sequence
 use Rattle.nv_machine.specs.Sequence.{Beginning, beginning, begun}
 use Rattle.nv_machine.specs.Starts.{IsStart}
 use Rattle.nv_machine.specs.Step.{Step, after, start_step, step, turned}
-use Rattle.nv_machine.specs.World.{Actor, Answers, Ending, Ends, Event, Go, HandState, Maintenance, Moves, Next, Running, Shared, Start, Started, Turn, Waits, World, actor_at, empty_hand, idle}
+use Rattle.nv_machine.specs.World.{Actor, Answers, Ending, Ends, Event, Go, HandState, SnapshotOrCleaner, Moves, Next, Running, Shared, Start, Started, Turn, Waits, World, actor_at, empty_hand, idle}
 use Rattle.nv_machine.proofs.CallsStay.{IsCallOf, call_stays}
 use Rattle.nv_machine.proofs.AloneRuns.{starts}
 use Rattle.nv_machine.proofs.CopiesAll.{after_one}
@@ -159,7 +159,7 @@ begun_call sequence.Numbers s c = refl
 begun_call other s c = refl
 
 module _ (g : GeometryNumbers) (start : World) (records : List Record) (is_start : IsStart g start records) (actor : ℕ) (c : Call)
-    (plain : is_maintenance c ≡ false) (others : ℕ → Actor) where
+    (plain : is_snapshot_or_cleaner c ≡ false) (others : ℕ → Actor) where
   -- no other actor has moved
   abbrev pub OthersStay : List Event → Type 0
   OthersStay events = (b : ℕ) → b ≢ actor → actor_at (after start events) b ≡ others b
@@ -174,7 +174,7 @@ module _ (g : GeometryNumbers) (start : World) (records : List Record) (is_start
     pub stay : OthersStay events
 
   files_of : (k : Next) (e : Ending) (c : Call) → told.Stage k e c → is_on_files k ≡ true
-  files_of (Maintenance step) e c stage = absurd stage
+  files_of (SnapshotOrCleaner step) e c stage = absurd stage
   files_of other e c stage = refl
 
   is_on : (events : List Event) → IsCallOf c (actor_at (after start events) actor).running → OthersStay events → (r : Running)
@@ -182,7 +182,7 @@ module _ (g : GeometryNumbers) (start : World) (records : List Record) (is_start
   is_on events call stay r is =
       let w = after start events in
       let same : r.call ≡ c = subst (IsCallOf c) is call in
-      let known = plainly_told g start records events actor is_start r is (ap is_maintenance same ∙ plain) in
+      let known = plainly_told g start records events actor is_start r is (ap is_snapshot_or_cleaner same ∙ plain) in
       record {
         runs = is;
         call_is = same;

@@ -12,7 +12,7 @@ use Rattle.nv_book.specs.declared.record.Record.{Record}
 use Rattle.nv_calls.specs.Refusals.{Check, passes}
 use Rattle.nv_epoch.specs.SnapList.{pins_at, pins_of}
 use Rattle.nv_epoch.specs.declared.snapshot.Snapshot.{Snapshot}
-use Rattle.nv_machine.specs.Maintenance.{drop_tests, make_tests}
+use Rattle.nv_machine.specs.SnapshotOrCleaner.{drop_tests, make_tests}
 use Rattle.nv_machine.specs.PlainRun.{copy_in, is_of}
 use Rattle.nv_machine.specs.Reading.{ArePins, test_there}
 use Rattle.nv_machine.specs.Starts.{IsStart}

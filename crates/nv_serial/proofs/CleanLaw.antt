@@ -5,7 +5,7 @@ use Rattle.nv_base.specs.declared.geometry.GeometryNumbers.{GeometryNumbers}
 use Rattle.nv_book.specs.declared.record.Record.{Record}
 use Rattle.nv_calls.specs.declared.call.Call.{Call}
 use Rattle.nv_calls.specs.declared.call.Call.TheVariants as call
-use Rattle.nv_calls.specs.declared.maintenance_call.MaintenanceCall.TheVariants as on
+use Rattle.nv_calls.specs.declared.snapshot_or_cleaner_call.SnapshotOrCleanerCall.TheVariants as on
 use Rattle.nv_machine.specs.Alone.{goes}
 use Rattle.nv_machine.specs.CleanerAnswers.{cleaner}
 use Rattle.nv_machine.specs.Needed.{IsAtRest}
@@ -14,7 +14,7 @@ use Rattle.nv_machine.specs.Recorded.{records_after}
 use Rattle.nv_machine.specs.Sequence.{beginning, begun, first_clean, slots_on, started}
 use Rattle.nv_machine.specs.Starts.{IsStart}
 use Rattle.nv_machine.specs.Step.{Step, after, replies, start_step, step}
-use Rattle.nv_machine.specs.World.{Actor, Auto, Event, Fast, HandState, Judge, LockCleaned, Maintenance, Manner, Moved, Reply, Running, Start, Started, Thorough, World, actor_at, empty_hand, idle}
+use Rattle.nv_machine.specs.World.{Actor, Auto, Event, Fast, HandState, PlanCleaning, LockCleaned, SnapshotOrCleaner, Manner, Moved, Reply, Running, Start, Started, Thorough, World, actor_at, empty_hand, idle}
 use Rattle.nv_machine.proofs.CallsStay.{IsCallOf}
 use Rattle.nv_machine.proofs.CopiesAll.{after_one}
 use Rattle.nv_machine.proofs.OverEvents.{begun_at, others_stay}
@@ -71,13 +71,13 @@ module _ (g : GeometryNumbers) (start : World) (records : List Record) (is_start
     StandsAt h r = Stands g v ds at actor there manner ino v.shared h r
 
     first_stage : (m : Manner) → m ≡ manner → (d : Call) → let k = first_clean (length v.shared.cells) m ino in
-        StandsAt empty_hand (started d (Maintenance k) (slots_on k))
+        StandsAt empty_hand (started d (SnapshotOrCleaner k) (slots_on k))
     first_stage m same d = go (nat_lt ino (length v.shared.cells)) refl where
       bare : IsBare g v ds at actor there manner ino v.shared empty_hand
       bare = record { cells_are = refl; lists_are = refl; pages_are = refl }
 
-      go : (b : Bool) → nat_lt ino (length v.shared.cells) ≡ b → let k = if b then LockCleaned m ino else Judge m None in
-          StandsAt empty_hand (started d (Maintenance k) (slots_on k))
+      go : (b : Bool) → nat_lt ino (length v.shared.cells) ≡ b → let k = if b then LockCleaned m ino else PlanCleaning m None in
+          StandsAt empty_hand (started d (SnapshotOrCleaner k) (slots_on k))
       go true low =
           let lt = ltb-true ino (length v.shared.cells) low in
           record { by = (same, refl, omega (arith, lt, at.slots), bare, at.unlocked ino); number = refl }
@@ -185,16 +185,16 @@ clean_serial g start records before actor manner ino grants last made = by made.
 
 -- and so of each of the three calls
 pub fast_serial : (g : GeometryNumbers) (start : World) (records : List Record) (before : List Event) (actor ino : ℕ)
-    (grants : List Bool) (last : Reply) → IsMadeAlone g start records before actor (call.Maintenance (on.Fast ino)) grants last
-    → IsSerialCall g start records before actor (call.Maintenance (on.Fast ino)) grants last
+    (grants : List Bool) (last : Reply) → IsMadeAlone g start records before actor (call.SnapshotOrCleaner (on.Fast ino)) grants last
+    → IsSerialCall g start records before actor (call.SnapshotOrCleaner (on.Fast ino)) grants last
 fast_serial g start records before actor ino = clean_serial g start records before actor Fast ino
 
 pub thorough_serial : (g : GeometryNumbers) (start : World) (records : List Record) (before : List Event) (actor ino : ℕ)
-    (grants : List Bool) (last : Reply) → IsMadeAlone g start records before actor (call.Maintenance (on.Thorough ino)) grants last
-    → IsSerialCall g start records before actor (call.Maintenance (on.Thorough ino)) grants last
+    (grants : List Bool) (last : Reply) → IsMadeAlone g start records before actor (call.SnapshotOrCleaner (on.Thorough ino)) grants last
+    → IsSerialCall g start records before actor (call.SnapshotOrCleaner (on.Thorough ino)) grants last
 thorough_serial g start records before actor ino = clean_serial g start records before actor Thorough ino
 
 pub auto_serial : (g : GeometryNumbers) (start : World) (records : List Record) (before : List Event) (actor ino : ℕ)
-    (grants : List Bool) (last : Reply) → IsMadeAlone g start records before actor (call.Maintenance (on.Auto ino)) grants last
-    → IsSerialCall g start records before actor (call.Maintenance (on.Auto ino)) grants last
+    (grants : List Bool) (last : Reply) → IsMadeAlone g start records before actor (call.SnapshotOrCleaner (on.Auto ino)) grants last
+    → IsSerialCall g start records before actor (call.SnapshotOrCleaner (on.Auto ino)) grants last
 auto_serial g start records before actor ino = clean_serial g start records before actor Auto ino

@@ -24,12 +24,12 @@ use Rattle.nv_machine.specs.Kinds.{blocks_in, result_by, with_given}
 use Rattle.nv_machine.specs.Reads.{home_from, slot_at}
 use Rattle.nv_machine.specs.Starts.{IsStart}
 use Rattle.nv_machine.specs.Step.{kind_turn, reply_of}
-use Rattle.nv_machine.specs.World.{Auto, Cleans, Compact, Done, Ending, Fast, Fresh, Give, HandState, Judge, LockCleaned, Maintenance, MaintenanceStep, Manner, Next, Refuses, Running, Shared, Thorough, Turn, Unlink, Unlock, World, cell_at, owner_at, with_cell, with_owner}
+use Rattle.nv_machine.specs.World.{Auto, Cleans, Compact, Done, Ending, Fast, Fresh, Give, HandState, PlanCleaning, LockCleaned, SnapshotOrCleaner, SnapshotOrCleanerStep, Manner, Next, Refuses, Running, Shared, Thorough, Turn, Unlink, Unlock, World, cell_at, owner_at, with_cell, with_owner}
 use Rattle.nv_machine.proofs.CleanSteps.{compact_chain, unlink_chain}
-use Rattle.nv_machine.proofs.MaintenanceWalk.{Judged, step_walk_by}
+use Rattle.nv_machine.proofs.SnapshotOrCleanerWalk.{Planned, step_walk_by}
 use Rattle.nv_machine.proofs.StepWalk.{refused_goes, walk_by}
 use Rattle.nv_machine.proofs.StepWays.{AfterBy, EndsBy, Going, Overs, Rests, Telling}
-use Rattle.nv_machine.proofs.StepWork.{maintenance_work}
+use Rattle.nv_machine.proofs.StepWork.{snapshot_or_cleaner_work}
 use Rattle.nv_serial.specs.Cleaning.{cleaned, entries_staying, fast, pages_filled, pages_staying, thorough, thorough_if}
 use Rattle.nv_serial.specs.Free.{row_of}
 use Rattle.nv_serial.specs.Law.{IsOutcome, grows_nothing}
@@ -122,17 +122,17 @@ module _ (g : GeometryNumbers) (w : World) (rs : List Record) (is : IsStart g w 
     pub many : length h.pages ≡ filled
     pub says : made ≡ thorough_if true true old actor ino
 
-  abbrev pub StageOn : MaintenanceStep → Shared → HandState → Type 0
+  abbrev pub StageOn : SnapshotOrCleanerStep → Shared → HandState → Type 0
   StageOn (LockCleaned m slot) s h = (m ≡ manner) × (slot ≡ ino) × (ino < g.inodes) × IsBare s h × (owner_at s ino ≡ None)
-  StageOn (Judge m None) s h = (m ≡ manner) × (g.inodes ≤ ino) × IsBare s h
-  StageOn (Judge m (Some slot)) s h = (m ≡ manner) × (slot ≡ ino) × (ino < g.inodes) × IsBare s h
+  StageOn (PlanCleaning m None) s h = (m ≡ manner) × (g.inodes ≤ ino) × IsBare s h
+  StageOn (PlanCleaning m (Some slot)) s h = (m ≡ manner) × (slot ≡ ino) × (ino < g.inodes) × IsBare s h
   StageOn (Fresh slot asked wanted) s h = (slot ≡ ino) × (ino < g.inodes) × (asked < cpus) × IsAsking asked wanted s h
   StageOn (Unlink slot) s h = (slot ≡ ino) × (ino < g.inodes) × (s.cells ≡ w.shared.cells) × (made ≡ fast old ino)
   StageOn (Compact slot) s h = (slot ≡ ino) × (ino < g.inodes) × IsFilled s h
   StageOn other s h = ⊥
 
   abbrev pub StageBy : Next → Ending → Shared → HandState → Type 0
-  StageBy (Maintenance step) e s h = StageOn step s h
+  StageBy (SnapshotOrCleaner step) e s h = StageOn step s h
   StageBy (Unlock place) e s h = IsEnd e s
   StageBy (Give cpu) e s h = IsEnd e s
   StageBy other e s h = ⊥
@@ -182,8 +182,8 @@ module _ (g : GeometryNumbers) (w : World) (rs : List Record) (is : IsStart g w 
   -- ---- each step
 
   module _ (block : ℕ) (s : Shared) (h : HandState) (r : Running) (number : h.ino ≡ None) where
-    abbrev pub OnStep : MaintenanceStep → Bool → Type 0
-    OnStep step granted = OnTurn (kind_turn (Maintenance step) block actor granted s h r)
+    abbrev pub OnStep : SnapshotOrCleanerStep → Bool → Type 0
+    OnStep step granted = OnTurn (kind_turn (SnapshotOrCleaner step) block actor granted s h r)
 
     lock_on : (granted : Bool) → ino < g.inodes → IsBare s h → owner_at s ino ≡ None → OnStep (LockCleaned manner ino) granted
     lock_on granted inside bare free =
@@ -194,10 +194,10 @@ module _ (g : GeometryNumbers) (w : World) (rs : List Record) (is : IsStart g w 
           number = number;
         })
 
-    -- ---- its judge
+    -- ---- its planning
 
-    judge_none : (granted : Bool) → g.inodes ≤ ino → IsBare s h → OnStep (Judge manner None) granted
-    judge_none granted past bare =
+    plan_cleaning_none : (granted : Bool) → g.inodes ≤ ino → IsBare s h → OnStep (PlanCleaning manner None) granted
+    plan_cleaning_none granted past bare =
         refused_goes ⊥ Goes Tells Stale s h r (ends number (refused_told s Stale bare.cells_are (none_past g w rs is actor ino manner there past)))
 
     module _ (inside : ino < g.inodes) (bare : IsBare s h) where
@@ -245,8 +245,8 @@ module _ (g : GeometryNumbers) (w : World) (rs : List Record) (is : IsStart g w 
             let e = by_manner true way ∙ drop_here 0 none in
             inl (sym (ap (λ (o : Outcome). o.reply) e), as_before s bare.cells_are ∙ sym (ap (λ (o : Outcome). o.world) e))
 
-        judged : Judged Goes Tells manner ino s h r
-        judged = record {
+        planned : Planned Goes Tells manner ino s h r
+        planned = record {
           fast = λ plain. record { by = (refl, inside, bare.cells_are, by_manner false plain); number = number };
           some = λ n way more. record {
             by = (refl, inside, omega (arith, is.limits.some_cpus, is.lists.cpus), asking n way more);
@@ -255,15 +255,15 @@ module _ (g : GeometryNumbers) (w : World) (rs : List Record) (is : IsStart g w 
           none = λ way less. ends number (nothing_goes way less);
         }
 
-      judge_slot : (granted : Bool) → OnStep (Judge manner (Some ino)) granted
-      judge_slot granted =
-          step_walk_by ⊥ Goes Tells actor s h r (Judge manner (Some ino)) granted (λ blocked. blocked) (
+      plan_cleaning_slot : (granted : Bool) → OnStep (PlanCleaning manner (Some ino)) granted
+      plan_cleaning_slot granted =
+          step_walk_by ⊥ Goes Tells actor s h r (PlanCleaning manner (Some ino)) granted (λ blocked. blocked) (
             λ none. ends number (refused_told s Stale bare.cells_are (inode_here false none)),
             λ some lacks. ends number (memory_told s bare.cells_are),
             λ slot same has.
                 let e : ino ≡ slot = ap (λ (o : Option ℕ). unwrap_or o 0) same in
-                subst (λ (i : ℕ). Judged Goes Tells manner i s h r) e
-                (judged (subst (λ (i : ℕ). has_inode (cell_at s i) ≡ true) (sym e) has)),
+                subst (λ (i : ℕ). Planned Goes Tells manner i s h r) e
+                (planned (subst (λ (i : ℕ). has_inode (cell_at s i) ≡ true) (sym e) has)),
           )
 
     -- ---- fresh pages
@@ -308,7 +308,7 @@ module _ (g : GeometryNumbers) (w : World) (rs : List Record) (is : IsStart g w 
               };
           short = λ n yet last.
               let less = row_short cpus actor filled all asked wanted s.lists h.pages on.taking few n yet last in
-              ends number (refused_told (maintenance_work (Fresh ino asked wanted) actor s h).shared NoSpace on.cells_are
+              ends number (refused_told (snapshot_or_cleaner_work (Fresh ino asked wanted) actor s h).shared NoSpace on.cells_are
               (on.says ∙ ap (λ (b : Bool). thorough_if true b old actor ino)
               (lt-leb filled (length (row_of old actor)) (omega (arith, less, length_row)))));
         })
@@ -361,15 +361,15 @@ module _ (g : GeometryNumbers) (w : World) (rs : List Record) (is : IsStart g w 
 
     -- ---- every step
 
-    maintained : (step : MaintenanceStep) (granted : Bool) → StageOn step s h → OnStep step granted
+    maintained : (step : SnapshotOrCleanerStep) (granted : Bool) → StageOn step s h → OnStep step granted
     maintained (LockCleaned m slot) granted on =
         subst (λ (n : Manner). OnStep (LockCleaned n slot) granted) (sym on.0)
         (subst (λ (i : ℕ). OnStep (LockCleaned manner i) granted) (sym on.1) (lock_on granted on.2 on.3 on.4))
-    maintained (Judge m None) granted on =
-        subst (λ (n : Manner). OnStep (Judge n None) granted) (sym on.0) (judge_none granted on.1 on.2)
-    maintained (Judge m (Some slot)) granted on =
-        subst (λ (n : Manner). OnStep (Judge n (Some slot)) granted) (sym on.0)
-        (subst (λ (i : ℕ). OnStep (Judge manner (Some i)) granted) (sym on.1) (judge_slot on.2 on.3 granted))
+    maintained (PlanCleaning m None) granted on =
+        subst (λ (n : Manner). OnStep (PlanCleaning n None) granted) (sym on.0) (plan_cleaning_none granted on.1 on.2)
+    maintained (PlanCleaning m (Some slot)) granted on =
+        subst (λ (n : Manner). OnStep (PlanCleaning n (Some slot)) granted) (sym on.0)
+        (subst (λ (i : ℕ). OnStep (PlanCleaning manner (Some i)) granted) (sym on.1) (plan_cleaning_slot on.2 on.3 granted))
     maintained (Fresh slot asked wanted) granted on =
         subst (λ (i : ℕ). OnStep (Fresh i asked wanted) granted) (sym on.0) (fresh_on granted asked wanted on.1 on.2 on.3)
     maintained (Unlink slot) granted on = subst (λ (i : ℕ). OnStep (Unlink i) granted) (sym on.0) (unlink_on on.1 on.2 granted on.3)
@@ -378,7 +378,7 @@ module _ (g : GeometryNumbers) (w : World) (rs : List Record) (is : IsStart g w 
     maintained other granted on = absurd on
 
     kind_on : (k : Next) (granted : Bool) → StageBy k r.ending s h → OnTurn (kind_turn k block actor granted s h r)
-    kind_on (Maintenance step) granted on = maintained step granted on
+    kind_on (SnapshotOrCleaner step) granted on = maintained step granted on
     kind_on (Unlock place) granted on =
         let end : IsEnd r.ending (with_owner (slot_at r.slots place) None s) =
         end_same r.ending s (with_owner (slot_at r.slots place) None s) refl on in

@@ -5,7 +5,7 @@ use Rattle.nv_base.specs.declared.fault.Fault.TheVariants as fault
 use Rattle.nv_base.specs.declared.geometry.GeometryNumbers.{GeometryNumbers}
 use Rattle.nv_calls.specs.declared.answer.Answer.TheVariants as answer
 use Rattle.nv_calls.specs.declared.call.Call.TheVariants as call
-use Rattle.nv_calls.specs.declared.maintenance_call.MaintenanceCall.TheVariants as on
+use Rattle.nv_calls.specs.declared.snapshot_or_cleaner_call.SnapshotOrCleanerCall.TheVariants as on
 use Rattle.nv_machine.specs.World.{Done, Refused}
 use Rattle.nv_serial.specs.Reports.{lists_told, tree_told}
 use Rattle.nv_serial.specs.Serial.{Serial, new_serial}
@@ -27,7 +27,7 @@ killer_shown : told (line killer (show 1)).reply
 killer_shown = refl
 
 abbrev killer_thorough : Line
-killer_thorough = by 1 (call.Maintenance (on.Thorough 1))
+killer_thorough = by 1 (call.SnapshotOrCleaner (on.Thorough 1))
 
 abbrev killed : Serial
 killed = (line killer killer_thorough).world

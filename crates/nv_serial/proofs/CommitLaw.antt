@@ -17,7 +17,7 @@ use Rattle.nv_calls.specs.declared.call.Call.TheVariants as call
 use Rattle.nv_calls.specs.declared.plan.InodePlan.{InodePlan}
 use Rattle.nv_entry.specs.Tree.{root}
 use Rattle.nv_machine.specs.Alone.{IsAnsweredOn, goes}
-use Rattle.nv_machine.specs.EndsDecided.{is_maintenance}
+use Rattle.nv_machine.specs.EndsDecided.{is_snapshot_or_cleaner}
 use Rattle.nv_machine.specs.Needed.{IsAtRest}
 use Rattle.nv_machine.specs.PlainRun.{plain_of}
 use Rattle.nv_machine.specs.Recorded.{records_after}
@@ -88,7 +88,7 @@ module _ (g : GeometryNumbers) (w : World) (rs : List Record) (is : IsStart g w 
 -- ---- the law
 
 module _ (g : GeometryNumbers) (start : World) (records : List Record) (is_start : IsStart g start records) (before : List Event)
-    (at_rest : IsAtRest (after start before)) (actor : ℕ) (c : Call) (plain : is_maintenance c ≡ false)
+    (at_rest : IsAtRest (after start before)) (actor : ℕ) (c : Call) (plain : is_snapshot_or_cleaner c ≡ false)
     (started : (step (after start before) (Start actor c)).reply ≡ Started) (grants : List Bool) (granted : Bool) (r : Running)
     (is : (actor_at (after start (before ++ Start actor c ∷ goes actor grants)) actor).running ≡ Some r) where
   abbrev ran : List Event
@@ -250,8 +250,8 @@ module _ (g : GeometryNumbers) (start : World) (records : List Record) (is_start
 
 -- ---- by the call of an actor that is there
 
-of_files : (s : Serial) (actor : ℕ) (c : Call) → is_maintenance c ≡ false → of_call s actor c ≡ on_files s actor c
-of_files s actor (call.Maintenance what) e = absurd (true≢false e)
+of_files : (s : Serial) (actor : ℕ) (c : Call) → is_snapshot_or_cleaner c ≡ false → of_call s actor c ≡ on_files s actor c
+of_files s actor (call.SnapshotOrCleaner what) e = absurd (true≢false e)
 of_files s actor other e = refl
 
 pub there_is : (s : Serial) (actor : ℕ) (c : Call) → nat_lt actor s.numbers.actors ≡ true → serial_call s actor c ≡ of_call s actor c
@@ -263,7 +263,7 @@ has_started w actor c false running e = cc
 has_started w actor c true running e = refl
 
 pub serial_files : (g : GeometryNumbers) (start : World) (records : List Record) (before : List Event) (actor : ℕ) (c : Call)
-    → IsStart g start records → is_maintenance c ≡ false → (step (after start before) (Start actor c)).reply ≡ Started
+    → IsStart g start records → is_snapshot_or_cleaner c ≡ false → (step (after start before) (Start actor c)).reply ≡ Started
     → serial_call (serial_after g start records before) actor c ≡ on_files (serial_after g start records before) actor c
 serial_files g start records before actor c is_start plain started =
     let w = after start before in
@@ -278,7 +278,7 @@ module _ (g : GeometryNumbers) (start : World) (records : List Record) (before :
   abbrev run : List Event
   run = before ++ Start actor c ∷ goes actor grants
 
-  rest_at : IsStart g start records → IsAtRest (after start before) → is_maintenance c ≡ false
+  rest_at : IsStart g start records → IsAtRest (after start before) → is_snapshot_or_cleaner c ≡ false
       → (step (after start before) (Start actor c)).reply ≡ Started → (actor_at (after start run) actor).running ≡ Some r
       → is_final (step (after start run) (Go actor granted)).reply ≡ true → IsAtRest (after start (run ++ Go actor granted ∷ []))
   rest_at is_start at_rest plain started is final =
@@ -286,7 +286,7 @@ module _ (g : GeometryNumbers) (start : World) (records : List Record) (before :
       (rest_then g start records is_start before actor c plain started (λ b ne. at_rest b) grants granted r is final)
 
   pub file_calls_done : (found : Answer) → IsStart g start records → IsAtRest (after start before)
-      → is_maintenance c ≡ false → (step (after start before) (Start actor c)).reply ≡ Started
+      → is_snapshot_or_cleaner c ≡ false → (step (after start before) (Start actor c)).reply ≡ Started
       → (actor_at (after start run) actor).running ≡ Some r → (step (after start run) (Go actor granted)).reply ≡ Done found
       → (serial_call (serial_after g start records before) actor c
       ≡ told_outcome found (serial_after g start records (run ++ Go actor granted ∷ [])))
@@ -298,7 +298,7 @@ module _ (g : GeometryNumbers) (start : World) (records : List Record) (before :
   )
 
   pub file_calls_refused : (fault : Fault) → IsStart g start records → IsAtRest (after start before)
-      → is_maintenance c ≡ false → (step (after start before) (Start actor c)).reply ≡ Started
+      → is_snapshot_or_cleaner c ≡ false → (step (after start before) (Start actor c)).reply ≡ Started
       → (actor_at (after start run) actor).running ≡ Some r → (step (after start run) (Go actor granted)).reply ≡ Refused fault
       → (serial_after g start records (run ++ Go actor granted ∷ []) ≡ serial_after g start records before)
       × IsAtRest (after start (run ++ Go actor granted ∷ []))

@@ -14,9 +14,9 @@ use Rattle.nv_calls.specs.declared.answer.Answer.{Answer}
 use Rattle.nv_calls.specs.declared.call.Call.{Call}
 use Rattle.nv_calls.specs.declared.call.Call.TheVariants as call
 use Rattle.nv_cell.specs.Cell.{CellState}
-use Rattle.nv_calls.specs.declared.maintenance_call.MaintenanceCall.{MaintenanceCall}
+use Rattle.nv_calls.specs.declared.snapshot_or_cleaner_call.SnapshotOrCleanerCall.{SnapshotOrCleanerCall}
 use Rattle.nv_machine.specs.Alone.{goes}
-use Rattle.nv_machine.specs.EndsDecided.{is_maintenance}
+use Rattle.nv_machine.specs.EndsDecided.{is_snapshot_or_cleaner}
 use Rattle.nv_machine.specs.Erasing.{IsOver}
 use Rattle.nv_machine.specs.FitsNow.{bytes_in}
 use Rattle.nv_machine.specs.Held.{pending_in, picked_at, picked_by_actor, picked_by_call}
@@ -70,12 +70,12 @@ is_final (Done told) = true
 is_final (Refused fault) = true
 is_final other = false
 
-maintains_is : (c : Call) (what : MaintenanceCall) → beginning c ≡ sequence.Maintains what → is_maintenance c ≡ true
-maintains_is (call.Maintenance what) other e = refl
+maintains_is : (c : Call) (what : SnapshotOrCleanerCall) → beginning c ≡ sequence.Maintains what → is_snapshot_or_cleaner c ≡ true
+maintains_is (call.SnapshotOrCleaner what) other e = refl
 maintains_is rest other e = cc
 
 module _ (g : GeometryNumbers) (start : World) (records : List Record) (is_start : IsStart g start records) (before : List Event)
-    (actor : ℕ) (c : Call) (plain : is_maintenance c ≡ false)
+    (actor : ℕ) (c : Call) (plain : is_snapshot_or_cleaner c ≡ false)
     (started : (step (after start before) (Start actor c)).reply ≡ Started)
     (rest : (b : ℕ) → b ≢ actor → (actor_at (after start before) b).running ≡ None) where
   abbrev s0 : Shared

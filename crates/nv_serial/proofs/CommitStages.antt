@@ -31,7 +31,7 @@ use Rattle.nv_machine.specs.Held.{is_of_slot}
 use Rattle.nv_machine.specs.PlainRun.{Plain}
 use Rattle.nv_machine.specs.Reads.{is_written, pages_needed, pages_wanted, written_slots}
 use Rattle.nv_machine.specs.Recorded.{with_parts}
-use Rattle.nv_machine.specs.World.{Answers, Append, Cleans, Close, Drains, Ending, Give, Leave, Maintenance, Open, BoundAnew, Publish, Refuses, Retire, ReturnNumber, Running, Shared, Unlock, cell_at, no_cell}
+use Rattle.nv_machine.specs.World.{Answers, Append, Cleans, Close, Drains, Ending, Give, Leave, SnapshotOrCleaner, Open, BoundAnew, Publish, Refuses, Retire, ReturnNumber, Running, Shared, Unlock, cell_at, no_cell}
 use Rattle.nv_machine.proofs.NextSteps.{Known}
 use Rattle.nv_machine.proofs.StepWays.{Telling}
 use Rattle.nv_serial.specs.Row.{data_for, plan_by_row, row, row_at}
@@ -257,5 +257,5 @@ module _ (block actor : ℕ) (s0 : Shared) (c : Call) (b0 : PlainState) where
   CommitStage now (Unlock place) s h r = EndsSo r.ending now s.cells s.book r.made r.call
   CommitStage now (Give cpu) s h r = EndsSo r.ending now s.cells s.book r.made r.call
   CommitStage now ReturnNumber s h r = EndsSo r.ending now s.cells s.book r.made r.call
-  CommitStage now (Maintenance step) s h r = ⊥
+  CommitStage now (SnapshotOrCleaner step) s h r = ⊥
   CommitStage now other s h r = UnchangedIn now s

@@ -26,7 +26,7 @@ use Rattle.nv_machine.specs.Reads.{copies, pages_wanted, slot_at, written_slots}
 use Rattle.nv_machine.specs.Sequence as sequence
 use Rattle.nv_machine.specs.Sequence.{appending, beginning, locking, looking, opening}
 use Rattle.nv_machine.specs.Step.{ending_at, kind_turn, made_in}
-use Rattle.nv_machine.specs.World.{Answers, Append, Check, Cleans, Close, Drains, Ending, Ends, Enter, Give, HandState, Leave, Lock, Look, Maintenance, Moves, Next, Number, Open, BoundAnew, Publish, Ready, Refuses, Retire, ReturnNumber, Running, Shared, TakeBlocks, TakeLogPages, Turn, Unlock, Visit, Waits, go_to, no_cell}
+use Rattle.nv_machine.specs.World.{Answers, Append, Check, Cleans, Close, Drains, Ending, Ends, Enter, Give, HandState, Leave, Lock, Look, SnapshotOrCleaner, Moves, Next, Number, Open, BoundAnew, Publish, Ready, Refuses, Retire, ReturnNumber, Running, Shared, TakeBlocks, TakeLogPages, Turn, Unlock, Visit, Waits, go_to, no_cell}
 use Rattle.nv_machine.proofs.DecidedNext as told
 use Rattle.nv_machine.proofs.LoopSteps.{by_test, is_on_files, locking_any, looking_any}
 use Rattle.nv_machine.proofs.NextSteps.{KnowsNext}
@@ -75,7 +75,7 @@ visits_nothing (call.Read file offset count) e = refl
 visits_nothing (call.Stat handle) e = refl
 visits_nothing (call.List dir) e = refl
 visits_nothing (call.Lookup dir name) e = refl
-visits_nothing (call.Maintenance what) e = refl
+visits_nothing (call.SnapshotOrCleaner what) e = refl
 visits_nothing other e = cc
 
 module _ (block actor : ℕ) (s0 : Shared) (c : Call) (b0 : PlainState) where
@@ -369,4 +369,4 @@ module _ (block actor : ℕ) (s0 : Shared) (c : Call) (b0 : PlainState) where
         (by_back (λ (t : Shared) (i : HandState). EndsSo block actor s0 c b0 r.ending now t.cells t.book r.made r.call) s h (λ numbers ino. on)))) refl
     kind_stands Visit files fit enters on =
         walks Visit (λ blocked. on) (visit_ways on (ap is_nothing (sym fit.call_is) ∙ visits_nothing r.call fit.stage)) refl
-    kind_stands (Maintenance step) files fit enters on = absurd on
+    kind_stands (SnapshotOrCleaner step) files fit enters on = absurd on

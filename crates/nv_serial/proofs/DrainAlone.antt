@@ -14,20 +14,20 @@ use Rattle.nv_calls.specs.Retiring.{released as released_part}
 use Rattle.nv_calls.specs.declared.answer.Answer.TheVariants as answers
 use Rattle.nv_calls.specs.declared.call.Call.{Call}
 use Rattle.nv_calls.specs.declared.call.Call.TheVariants as call
-use Rattle.nv_calls.specs.declared.maintenance_call.MaintenanceCall.TheVariants as on
+use Rattle.nv_calls.specs.declared.snapshot_or_cleaner_call.SnapshotOrCleanerCall.TheVariants as on
 use Rattle.nv_epoch.specs.SnapList.{ids}
 use Rattle.nv_machine.specs.Hands.{HandAt, HandOf}
 use Rattle.nv_machine.specs.Kinds.{blocks_in, drained_turn, end_turn, given, grown, last_turn, over_turn, rest_turn, return_number_turn, unlocked_turn, with_erased, with_given}
-use Rattle.nv_machine.specs.Maintenance.{if_free, is_first, lock_picked_turn, one_more, pick_turn, picked_turn, with_released}
+use Rattle.nv_machine.specs.SnapshotOrCleaner.{if_free, is_first, lock_picked_turn, one_more, pick_turn, picked_turn, with_released}
 use Rattle.nv_machine.specs.Reads.{home_from, slot_at}
 use Rattle.nv_machine.specs.Sequence.{beginning, begun}
 use Rattle.nv_machine.specs.Starts.{IsStart}
 use Rattle.nv_machine.specs.Step.{Step, after, kind_turn, turned}
-use Rattle.nv_machine.specs.World.{Actor, Done, Draining, Drains, Ending, Event, Give, HandState, LockPicked, Maintenance, Next, Pick, Refused, Refuses, Release, Reply, ReturnNumber, Running, Shared, Turn, Unlock, Waits, World, actor_at, cell_at, empty_hand, owner_at, with_numbers, with_owner}
+use Rattle.nv_machine.specs.World.{Actor, Done, Draining, Drains, Ending, Event, Give, HandState, LockPicked, SnapshotOrCleaner, Next, Pick, Refused, Refuses, Release, Reply, ReturnNumber, Running, Shared, Turn, Unlock, Waits, World, actor_at, cell_at, empty_hand, owner_at, with_numbers, with_owner}
 use Rattle.nv_machine.proofs.AloneNeverWaits.{never_waits}
 use Rattle.nv_machine.proofs.EveryWorld.{all_listed, all_numbers, reached}
-use Rattle.nv_machine.proofs.MaintenanceAlone.{none_home}
-use Rattle.nv_machine.proofs.MaintenanceWalk.{no_growth}
+use Rattle.nv_machine.proofs.SnapshotOrCleanerAlone.{none_home}
+use Rattle.nv_machine.proofs.SnapshotOrCleanerWalk.{no_growth}
 use Rattle.nv_machine.proofs.NextSteps.{KnowsNext}
 use Rattle.nv_machine.proofs.OverEvents.{runs_inside}
 use Rattle.nv_machine.proofs.SingleEvents.{goes as goes_by_turn}
@@ -61,7 +61,7 @@ kept b = record { records = b.records; plain = b.plain }
 
 module _ (g : GeometryNumbers) (w : World) (rs : List Record) (is : IsStart g w rs) (actor count : ℕ) where
   abbrev c : Call
-  c = call.Maintenance (on.Drain count)
+  c = call.SnapshotOrCleaner (on.Drain count)
 
   abbrev s : Serial
   s = told_by g w rs
@@ -99,9 +99,9 @@ module _ (g : GeometryNumbers) (w : World) (rs : List Record) (is : IsStart g w 
   Stage b (Unlock place) sh h r = OverBy r.ending b sh
   Stage b (Give cpu) sh h r = OverBy r.ending b sh
   Stage b ReturnNumber sh h r = OverBy r.ending b sh
-  Stage b (Maintenance (Pick d)) sh h r = (r.slots ≡ []) × ToGo (suc d.left) d.released b sh
-  Stage b (Maintenance (LockPicked d picked)) sh h r = (r.slots ≡ picked.ino ∷ []) × Picked d b sh
-  Stage b (Maintenance (Release d picked)) sh h r = (r.slots ≡ picked.ino ∷ []) × Picked d b sh
+  Stage b (SnapshotOrCleaner (Pick d)) sh h r = (r.slots ≡ []) × ToGo (suc d.left) d.released b sh
+  Stage b (SnapshotOrCleaner (LockPicked d picked)) sh h r = (r.slots ≡ picked.ino ∷ []) × Picked d b sh
+  Stage b (SnapshotOrCleaner (Release d picked)) sh h r = (r.slots ≡ picked.ino ∷ []) × Picked d b sh
   Stage b k sh h r = ⊥
 
   steady_as : (b : PlainState) (sh other : Shared) → IsSteady w b sh → IsSteady w (kept b) (as_of sh other)
@@ -187,14 +187,14 @@ module _ (g : GeometryNumbers) (w : World) (rs : List Record) (is : IsStart g w 
         (ap (λ (x : Step). x.reply) (goes_by_turn v actor granted r (runs_inside v actor r runs) runs).is_turn
         ∙ ap (λ (t : Turn). (turned t actor v).reply) is_wait)
 
-    empty : (draining : Draining) → r.next ≡ Maintenance (Pick draining) → h ≡ empty_hand
+    empty : (draining : Draining) → r.next ≡ SnapshotOrCleaner (Pick draining) → h ≡ empty_hand
     empty draining next =
         subst (λ (k : Next). HandAt g k h r) next
         (subst (λ (o : Option Running). HandOf g h o) runs ((all_numbers g w rs events is).hands actor)).0
 
     -- a pick
     abbrev picking : Draining → Next
-    picking d = Maintenance (Pick d)
+    picking d = SnapshotOrCleaner (Pick d)
 
     pick_refused : (d : Draining) → r.next ≡ picking d → r.slots ≡ [] → ToGo (suc d.left) d.released b sh → is_first d ≡ true
         → Then (picking d) (end_turn r.slots (Refuses out_of_memory) sh h r)
@@ -243,8 +243,8 @@ module _ (g : GeometryNumbers) (w : World) (rs : List Record) (is : IsStart g w 
         )
 
     lock_by : (d : Draining) (picked : Record) (o : Option ℕ) → owner_at sh picked.ino ≡ o
-        → r.next ≡ Maintenance (LockPicked d picked) → r.slots ≡ picked.ino ∷ [] → Picked d b sh
-        → Then (Maintenance (LockPicked d picked)) (lock_picked_turn o actor d picked sh h r)
+        → r.next ≡ SnapshotOrCleaner (LockPicked d picked) → r.slots ≡ picked.ino ∷ [] → Picked d b sh
+        → Then (SnapshotOrCleaner (LockPicked d picked)) (lock_picked_turn o actor d picked sh h r)
     lock_by d picked (Some other) owner next slots at =
         absurd (no_wait (ap (λ (k : Next). kind_turn k v.numbers.block actor granted sh h r) next
         ∙ ap (λ (o : Option ℕ). lock_picked_turn o actor d picked sh h r) owner))
@@ -257,7 +257,7 @@ module _ (g : GeometryNumbers) (w : World) (rs : List Record) (is : IsStart g w 
       },
     )
 
-    release_ok : (d : Draining) (picked : Record) (next : r.next ≡ Maintenance (Release d picked)) (at : Picked d b sh)
+    release_ok : (d : Draining) (picked : Record) (next : r.next ≡ SnapshotOrCleaner (Release d picked)) (at : Picked d b sh)
         → ToGo d.left (d.released + 1) (kept b) (released_shared g w rs is actor c events at.steady r others (runs_inside v actor r runs) runs d picked next)
     release_ok d picked next at =
         let there = runs_inside v actor r runs in
@@ -283,18 +283,18 @@ module _ (g : GeometryNumbers) (w : World) (rs : List Record) (is : IsStart g w 
         rest_ok (kept b) (home_from (cpu + 1) 0 sh.lists (blocks_in (given cpu sh h))) h.ino (with_given cpu h sh) (given cpu sh h) r
         (over_as r.ending b sh (with_given cpu h sh) at)
     steps ReturnNumber next at = returned_ok (kept b) h.ino sh h r (λ other. over_as r.ending b sh other at)
-    steps (Maintenance (Pick d)) next (none, at) =
+    steps (SnapshotOrCleaner (Pick d)) next (none, at) =
         subst (λ (o : Option ℕ). Then (picking d) (if_free o (pick_turn d granted sh h r))) (sym at.steady.free)
         (go (granted || not (is_first d)) refl) where
           go : (grows : Bool) → (granted || not (is_first d)) ≡ grows
               → Then (picking d) (grown grows (picked_turn sh.book.deferred d sh h r) sh h r)
           go true e = pick_by d sh.book.deferred refl at
           go false e = pick_refused d next none at (no_growth granted (is_first d) e).1
-    steps (Maintenance (LockPicked d picked)) next (slots, at) = lock_by d picked (owner_at sh picked.ino) refl next slots at
-    steps (Maintenance (Release d picked)) next (slots, at) =
+    steps (SnapshotOrCleaner (LockPicked d picked)) next (slots, at) = lock_by d picked (owner_at sh picked.ino) refl next slots at
+    steps (SnapshotOrCleaner (Release d picked)) next (slots, at) =
         let there = runs_inside v actor r runs in
         let later = released_shared g w rs is actor c events at.steady r others there runs d picked next in
-        subst (λ (l : List ℕ). Then (Maintenance (Release d picked)) (end_turn l (Drains (one_more d)) later
+        subst (λ (l : List ℕ). Then (SnapshotOrCleaner (Release d picked)) (end_turn l (Drains (one_more d)) later
         (with_erased picked.ino (released_part picked (cell_at sh picked.ino)) (with_released picked sh h)) r)) (sym slots)
         (release_ok d picked next at)
     steps other next at = absurd at
@@ -318,10 +318,10 @@ module _ (g : GeometryNumbers) (w : World) (rs : List Record) (is : IsStart g w 
 
 -- THE LAW
 pub drained_alone : (g : GeometryNumbers) (start : World) (records : List Record) (before : List Event) (actor : ℕ) (grants : List Bool)
-    (last : Reply) (count : ℕ) → IsMadeAlone g start records before actor (call.Maintenance (on.Drain count)) grants last
-    → IsSerialCall g start records before actor (call.Maintenance (on.Drain count)) grants last
+    (last : Reply) (count : ℕ) → IsMadeAlone g start records before actor (call.SnapshotOrCleaner (on.Drain count)) grants last
+    → IsSerialCall g start records before actor (call.SnapshotOrCleaner (on.Drain count)) grants last
 drained_alone g start records before actor grants last count alone =
-    let c = call.Maintenance (on.Drain count) in
+    let c = call.SnapshotOrCleaner (on.Drain count) in
     let w = world_then g start records before actor c grants last alone in
     let rs = records_then g start records before actor c grants last alone in
     let is = start_then g start records before actor c grants last alone in

@@ -22,7 +22,7 @@ use Rattle.nv_machine.specs.PlainRun.{Copy, Plain, plain_of}
 use Rattle.nv_machine.specs.Reads.{written_slots}
 use Rattle.nv_machine.specs.Starts.{IsStart}
 use Rattle.nv_machine.specs.Step.{after}
-use Rattle.nv_machine.specs.World.{Actor, Draining, Event, Maintenance, Next, Release, Running, Shared, World, actor_at, cell_at, idle, no_cell, with_cell}
+use Rattle.nv_machine.specs.World.{Actor, Draining, Event, SnapshotOrCleaner, Next, Release, Running, Shared, World, actor_at, cell_at, idle, no_cell, with_cell}
 use Rattle.nv_machine.proofs.EachElement.{all_back, all_front}
 use Rattle.nv_machine.proofs.EveryWorld.{all_known, all_marked, all_parts}
 use Rattle.nv_machine.proofs.FiledLists.{count, count_append, count_cons, one}
@@ -115,7 +115,7 @@ module _ (g : GeometryNumbers) (w : World) (rs : List Record) (is : IsStart g w 
 
     module _ (r : Running) (others : OthersRest g w rs actor c events) (there : actor < length v.actors)
         (runs : (actor_at v actor).running ≡ Some r) (draining : Draining) (picked : Record)
-        (next : r.next ≡ Maintenance (Release draining picked)) where
+        (next : r.next ≡ SnapshotOrCleaner (Release draining picked)) where
       abbrev snapshots : List ℕ
       snapshots = ids sh.book.snaps
 

@@ -5,7 +5,7 @@ use Rattle.nv_base.specs.declared.fault.Fault.TheVariants as fault
 use Rattle.nv_base.specs.declared.node.Kind.TheVariants as kind
 use Rattle.nv_calls.specs.declared.answer.Answer.TheVariants as answer
 use Rattle.nv_calls.specs.declared.call.Call.TheVariants as call
-use Rattle.nv_calls.specs.declared.maintenance_call.MaintenanceCall.TheVariants as on
+use Rattle.nv_calls.specs.declared.snapshot_or_cleaner_call.SnapshotOrCleanerCall.TheVariants as on
 use Rattle.nv_machine.proofs.ScriptRows.{device}
 use Rattle.nv_machine.specs.World.{Done, Refused}
 use Rattle.nv_serial.specs.Reports.{lists_told, tree_told}

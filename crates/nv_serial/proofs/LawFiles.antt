@@ -9,7 +9,7 @@ use Rattle.nv_book.specs.declared.record.Record.{Record}
 use Rattle.nv_calls.specs.declared.answer.Answer.{Answer}
 use Rattle.nv_calls.specs.declared.call.Call.{Call}
 use Rattle.nv_machine.specs.Alone.{goes}
-use Rattle.nv_machine.specs.EndsDecided.{is_maintenance}
+use Rattle.nv_machine.specs.EndsDecided.{is_snapshot_or_cleaner}
 use Rattle.nv_machine.specs.Needed.{IsAtRest}
 use Rattle.nv_machine.specs.Sequence.{beginning, begun}
 use Rattle.nv_machine.specs.Step.{Step, after, replies, step, turned}
@@ -99,7 +99,7 @@ others_rest (granted ∷ grants) w actor rest =
 -- ---- the law
 
 module _ (g : GeometryNumbers) (start : World) (records : List Record) (before : List Event) (actor : ℕ) (c : Call) (grants : List Bool)
-    (last : Reply) (plain : is_maintenance c ≡ false) (alone_is : IsMadeAlone g start records before actor c grants last) where
+    (last : Reply) (plain : is_snapshot_or_cleaner c ≡ false) (alone_is : IsMadeAlone g start records before actor c grants last) where
   abbrev w : World
   w = after start before
 

@@ -5,7 +5,7 @@ use Rattle.nv_base.specs.declared.fault.Fault.TheVariants as fault
 use Rattle.nv_base.specs.declared.node.Kind.TheVariants as kind
 use Rattle.nv_calls.specs.declared.answer.Answer.TheVariants as answer
 use Rattle.nv_calls.specs.declared.call.Call.TheVariants as call
-use Rattle.nv_calls.specs.declared.maintenance_call.MaintenanceCall.TheVariants as on
+use Rattle.nv_calls.specs.declared.snapshot_or_cleaner_call.SnapshotOrCleanerCall.TheVariants as on
 use Rattle.nv_machine.specs.World.{Done, Refused}
 use Rattle.nv_serial.specs.Reports.{tree_told}
 use Rattle.nv_serial.specs.Serial.{Serial, new_serial}
@@ -72,7 +72,7 @@ unlinked_space = refl
 -- ---- numbers out of range: of an actor, a snapshot and slots
 
 out_of_range : play new (
-    by 9 (call.Maintenance on.Snap) ∷ by 3 (call.Maintenance on.Snap) ∷ maintain (on.Drop 18446744073709551615)
+    by 9 (call.SnapshotOrCleaner on.Snap) ∷ by 3 (call.SnapshotOrCleaner on.Snap) ∷ maintain (on.Drop 18446744073709551615)
     ∷ by 0 (call.Stat (handle 99 1)) ∷ create (codes "/") ∷ maintain (on.Fast 99) ∷ maintain (on.Thorough 1) ∷ maintain (on.Auto 8) ∷ [])
     ≡ Refused fault.NoActor ∷ Refused fault.NoActor ∷ Refused fault.NoSnapshot ∷ Refused fault.Stale ∷ Refused fault.BadName
     ∷ Refused fault.Stale ∷ Refused fault.Stale ∷ Refused fault.Stale ∷ []

@@ -21,7 +21,7 @@ use Rattle.nv_calls.specs.declared.call.Call.{Call}
 use Rattle.nv_calls.specs.declared.call.Call.TheVariants as call
 use Rattle.nv_calls.specs.declared.plan.InodePlan.{InodePlan}
 use Rattle.nv_machine.specs.Alone.{IsRefusedOn, goes, is_want}
-use Rattle.nv_machine.specs.EndsDecided.{is_maintenance}
+use Rattle.nv_machine.specs.EndsDecided.{is_snapshot_or_cleaner}
 use Rattle.nv_machine.specs.Locks.{AreSlots}
 use Rattle.nv_machine.specs.Needed.{IsAtRest}
 use Rattle.nv_machine.specs.PlainRun.{plain_of}
@@ -105,7 +105,7 @@ not_le a b lt = go (nat_le a b) refl where
   go true e = absurd (omega (arith, lt, leb-true a b e))
 
 module _ (g : GeometryNumbers) (start : World) (records : List Record) (is_start : IsStart g start records) (before : List Event)
-    (at_rest : IsAtRest (after start before)) (actor : ℕ) (c : Call) (plain : is_maintenance c ≡ false)
+    (at_rest : IsAtRest (after start before)) (actor : ℕ) (c : Call) (plain : is_snapshot_or_cleaner c ≡ false)
     (started : (step (after start before) (Start actor c)).reply ≡ Started) (grants : List Bool) (granted : Bool) (r : Running)
     (is : (actor_at (after start (before ++ Start actor c ∷ goes actor grants)) actor).running ≡ Some r) (fault : Fault)
     (e : (step (after start (before ++ Start actor c ∷ goes actor grants)) (Go actor granted)).reply ≡ Refused fault) where
@@ -217,7 +217,7 @@ module _ (g : GeometryNumbers) (start : World) (records : List Record) (is_start
 
 pub file_calls_refused_so : (g : GeometryNumbers) (start : World) (records : List Record) (before : List Event) (actor : ℕ) (c : Call)
     (grants : List Bool) (granted : Bool) (r : Running) (fault : Fault) → IsStart g start records → IsAtRest (after start before)
-    → is_maintenance c ≡ false → (step (after start before) (Start actor c)).reply ≡ Started
+    → is_snapshot_or_cleaner c ≡ false → (step (after start before) (Start actor c)).reply ≡ Started
     → let ran = before ++ Start actor c ∷ goes actor grants in
     (actor_at (after start ran) actor).running ≡ Some r → (step (after start ran) (Go actor granted)).reply ≡ Refused fault
     → ((serial_call (serial_after g start records before) actor c ≡ refused fault (serial_after g start records before))

@@ -6,8 +6,8 @@ use Rattle.nv_base.specs.declared.node.Kind.TheVariants as kind
 use Rattle.nv_calls.specs.declared.answer.Answer.TheVariants as answer
 use Rattle.nv_calls.specs.declared.call.Call.{Call}
 use Rattle.nv_calls.specs.declared.call.Call.TheVariants as call
-use Rattle.nv_calls.specs.declared.maintenance_call.MaintenanceCall.{MaintenanceCall}
-use Rattle.nv_calls.specs.declared.maintenance_call.MaintenanceCall.TheVariants as on
+use Rattle.nv_calls.specs.declared.snapshot_or_cleaner_call.SnapshotOrCleanerCall.{SnapshotOrCleanerCall}
+use Rattle.nv_calls.specs.declared.snapshot_or_cleaner_call.SnapshotOrCleanerCall.TheVariants as on
 use Rattle.nv_cell.specs.declared.tally.LogPageCounts.{LogPageCounts}
 use Rattle.nv_entry.specs.declared.tree.TreeNode.{TreeNode}
 use Rattle.nv_machine.specs.World.{Done, Reply}
@@ -91,8 +91,8 @@ nothing = Done answer.Nothing
 abbrev pub handle : ℕ → ℕ → Handle
 handle ino generation = record { ino = ino; generation = generation }
 
-abbrev pub maintain : MaintenanceCall → Line
-maintain what = by 0 (call.Maintenance what)
+abbrev pub maintain : SnapshotOrCleanerCall → Line
+maintain what = by 0 (call.SnapshotOrCleaner what)
 
 -- a file in the root
 abbrev pub create : List ℕ → Line

@@ -10,21 +10,21 @@ use Rattle.nv_book.specs.declared.record.Record.{Record}
 use Rattle.nv_calls.specs.declared.answer.Answer.TheVariants as answers
 use Rattle.nv_calls.specs.declared.call.Call.{Call}
 use Rattle.nv_calls.specs.declared.call.Call.TheVariants as call
-use Rattle.nv_calls.specs.declared.maintenance_call.MaintenanceCall.{MaintenanceCall}
-use Rattle.nv_calls.specs.declared.maintenance_call.MaintenanceCall.TheVariants as on
+use Rattle.nv_calls.specs.declared.snapshot_or_cleaner_call.SnapshotOrCleanerCall.{SnapshotOrCleanerCall}
+use Rattle.nv_calls.specs.declared.snapshot_or_cleaner_call.SnapshotOrCleanerCall.TheVariants as on
 use Rattle.nv_entry.specs.Tree.{root, tree_from}
 use Rattle.nv_entry.specs.declared.tree.TreeNode.{TreeNode}
 use Rattle.nv_epoch.specs.SnapList.{ids, pins_of}
 use Rattle.nv_epoch.proofs.Pins.{lives-from_pins, pins_at-lives}
 use Rattle.nv_machine.specs.Kinds.{rest_turn}
-use Rattle.nv_machine.specs.Maintenance.{copies_at, first_showing, if_free, maintenance_turn, pin_turn, seen_on, show_or_unpin, show_turn, shown_by, unpin_turn, visited}
+use Rattle.nv_machine.specs.SnapshotOrCleaner.{copies_at, first_showing, if_free, snapshot_or_cleaner_turn, pin_turn, seen_on, show_or_unpin, show_turn, shown_by, unpin_turn, visited}
 use Rattle.nv_machine.specs.PlainRun.{Copy, Plain, after_step, is_of, plain_of, with_pins}
 use Rattle.nv_machine.specs.Sequence.{first_step}
 use Rattle.nv_machine.specs.Settled.{settled_copies, snapshot_tree}
 use Rattle.nv_machine.specs.Starts.{IsStart}
 use Rattle.nv_machine.specs.Step.{Step, after, kind_turn, step, turned}
-use Rattle.nv_machine.specs.World.{Answers, Done, Ending, Ends, Event, Go, HandState, Maintenance, Next, Pin, Refuses, Reply, Running, Shared, Show, Showing, Turn, Unpin, World, actor_at, empty_hand, owner_at, with_book}
-use Rattle.nv_machine.proofs.MaintenanceAlone.{none_home}
+use Rattle.nv_machine.specs.World.{Answers, Done, Ending, Ends, Event, Go, HandState, SnapshotOrCleaner, Next, Pin, Refuses, Reply, Running, Shared, Show, Showing, Turn, Unpin, World, actor_at, empty_hand, owner_at, with_book}
+use Rattle.nv_machine.proofs.SnapshotOrCleanerAlone.{none_home}
 use Rattle.nv_machine.proofs.NextSteps.{KnowsNext}
 use Rattle.nv_machine.proofs.OverEvents.{runs_inside}
 use Rattle.nv_machine.proofs.ShowAll.{all_told}
@@ -71,11 +71,11 @@ unpinned n seen p =
 -- ---- a show
 
 module _ (g : GeometryNumbers) (w : World) (rs : List Record) (is : IsStart g w rs) (actor snapshot : ℕ) where
-  abbrev what : MaintenanceCall
+  abbrev what : SnapshotOrCleanerCall
   what = on.Show snapshot
 
   abbrev c : Call
-  c = call.Maintenance what
+  c = call.SnapshotOrCleaner what
 
   abbrev s : Serial
   s = told_by g w rs
@@ -97,14 +97,14 @@ module _ (g : GeometryNumbers) (w : World) (rs : List Record) (is : IsStart g w 
     pub shared_is : sh ≡ pinned_shared
 
   abbrev pub Stage : PlainState → Next → Shared → HandState → Running → Type 0
-  Stage b (Maintenance (Pin n)) sh h r = IsFirst g w rs is actor what b (Maintenance (Pin n)) sh h r
-  Stage b (Maintenance (Show n showing)) sh h r = (r.ending ≡ Answers) × IsPinned n b sh
-  Stage b (Maintenance (Unpin n seen)) sh h r =
+  Stage b (SnapshotOrCleaner (Pin n)) sh h r = IsFirst g w rs is actor what b (SnapshotOrCleaner (Pin n)) sh h r
+  Stage b (SnapshotOrCleaner (Show n showing)) sh h r = (r.ending ≡ Answers) × IsPinned n b sh
+  Stage b (SnapshotOrCleaner (Unpin n seen)) sh h r =
       ((r.ending ≡ Answers) ⊎ (r.ending ≡ Refuses out_of_memory)) × IsPinned n b sh
   Stage b k sh h r = ⊥
 
   stage_showing : (left : ℕ) (visits : List Visit) (n : ℕ) (showing : Showing) (b : PlainState) (sh : Shared) (h : HandState) (r : Running)
-      → r.ending ≡ Answers → IsPinned n b sh → Stage b (Maintenance (show_or_unpin left visits n showing)) sh h r
+      → r.ending ≡ Answers → IsPinned n b sh → Stage b (SnapshotOrCleaner (show_or_unpin left visits n showing)) sh h r
   stage_showing zero visits n showing b sh h r e at = (inl e, at)
   stage_showing (suc left) [] n showing b sh h r e at = (inl e, at)
   stage_showing (suc left) (visit ∷ visits) n showing b sh h r e at = (e, at)
@@ -137,7 +137,7 @@ module _ (g : GeometryNumbers) (w : World) (rs : List Record) (is : IsStart g w 
       })
 
   pin_turned : (granted : Bool) → FirstTurn g w rs is actor what Stage made
-      (maintenance_turn (first_step (length w.shared.cells) what) actor granted w.shared empty_hand (first_run g w rs is actor what))
+      (snapshot_or_cleaner_turn (first_step (length w.shared.cells) what) actor granted w.shared empty_hand (first_run g w rs is actor what))
   pin_turned granted =
       subst (λ (o : Option ℕ). FirstTurn g w rs is actor what Stage made
       (if_free o (pin_turn snapshot (pins_of w.shared.book.snaps snapshot) w.shared empty_hand (first_run g w rs is actor what))))
@@ -168,10 +168,10 @@ module _ (g : GeometryNumbers) (w : World) (rs : List Record) (is : IsStart g w 
     again n at = record { same = at.same; lives = at.lives; beside_is = ap kept at.beside_is; shared_is = at.shared_is }
 
     show_by : (n : ℕ) (showing : Showing) (b2 : Bool) → r.ending ≡ Answers → IsPinned n b sh
-        → Then (Maintenance (Show n showing)) (show_turn None b2 (copies_at sh n (visited showing.visits)) n showing sh h r)
+        → Then (SnapshotOrCleaner (Show n showing)) (show_turn None b2 (copies_at sh n (visited showing.visits)) n showing sh h r)
     show_by n showing true e at =
         let seen = seen_on (copies_at sh n (visited showing.visits)) showing in
-        stage_showing seen.left seen.visits n seen (kept b) sh h (record r { next = Maintenance (show_or_unpin seen.left seen.visits n seen) }) e
+        stage_showing seen.left seen.visits n seen (kept b) sh h (record r { next = SnapshotOrCleaner (show_or_unpin seen.left seen.visits n seen) }) e
         (again n at)
     show_by n showing false e at = (inr refl, again n at)
 
@@ -195,7 +195,7 @@ module _ (g : GeometryNumbers) (w : World) (rs : List Record) (is : IsStart g w 
 
     unpin_by : (n : ℕ) (seen : List TreeNode) → IsPinned n b sh → (e : Ending) → r.ending ≡ e → (e ≡ Answers) ⊎ (e ≡ Refuses out_of_memory)
         → (kind_turn r.next v.numbers.block actor granted sh h r ≡ Ends (shown_by r.ending seen) (unpinned_shared n) h)
-        → r.next ≡ Maintenance (Unpin n seen)
+        → r.next ≡ SnapshotOrCleaner (Unpin n seen)
         → Tells g w rs actor c made (last_beside n seen) (shown_by r.ending seen) (unpinned_shared n) h
     unpin_by n seen at e is_e (inl answers_it) turn_is next =
         let ending : r.ending ≡ Answers = is_e ∙ answers_it in
@@ -217,7 +217,7 @@ module _ (g : GeometryNumbers) (w : World) (rs : List Record) (is : IsStart g w 
         (sym (is_e ∙ refuses)) (inr (refl, refl, left_as_was n seen at))
 
     behind : (k : Next) → r.next ≡ k → Stage b k sh h r → Then k (kind_turn k v.numbers.block actor granted sh h r)
-    behind (Maintenance (Pin n)) next at =
+    behind (SnapshotOrCleaner (Pin n)) next at =
         subst (λ (k : Next). Then k (kind_turn k v.numbers.block actor granted sh h r)) next
         (first_keeps g w rs is actor what Stage made events granted r (record {
           beside_is = at.beside_is;
@@ -225,26 +225,26 @@ module _ (g : GeometryNumbers) (w : World) (rs : List Record) (is : IsStart g w 
           hand_is = at.hand_is;
           run_is = at.run_is;
         }) (pin_turned granted))
-    behind (Maintenance (Show n showing)) next (e, at) =
+    behind (SnapshotOrCleaner (Show n showing)) next (e, at) =
         let ino = (visited showing.visits).ino in
         let free : owner_at sh ino ≡ None = ap (λ (x : Shared). owner_at x ino) at.shared_is ∙ is.unlocked ino in
-        subst (λ (o : Option ℕ). Then (Maintenance (Show n showing))
+        subst (λ (o : Option ℕ). Then (SnapshotOrCleaner (Show n showing))
         (show_turn o granted (copies_at sh n (visited showing.visits)) n showing sh h r)) (sym free) (show_by n showing granted e at)
-    behind (Maintenance (Unpin n seen)) next (e, at) =
+    behind (SnapshotOrCleaner (Unpin n seen)) next (e, at) =
         let free : sh.holder ≡ None = ap (λ (x : Shared). x.holder) at.shared_is ∙ is.uncommitted in
         let turn_is : kind_turn r.next v.numbers.block actor granted sh h r ≡ Ends (shown_by r.ending seen) (unpinned_shared n) h =
         ap (λ (k : Next). kind_turn k v.numbers.block actor granted sh h r) next
         ∙ ap (λ (o : Option ℕ). if_free o (unpin_turn n seen sh h r)) free in
-        subst (λ (o : Option ℕ). Then (Maintenance (Unpin n seen)) (if_free o (unpin_turn n seen sh h r))) (sym free)
+        subst (λ (o : Option ℕ). Then (SnapshotOrCleaner (Unpin n seen)) (if_free o (unpin_turn n seen sh h r))) (sym free)
         (unpin_by n seen at r.ending refl e turn_is next)
     behind other next at = absurd at
 
 -- THE LAW
 pub shown_alone : (g : GeometryNumbers) (start : World) (records : List Record) (before : List Event) (actor : ℕ) (grants : List Bool)
-    (last : Reply) (snapshot : ℕ) → IsMadeAlone g start records before actor (call.Maintenance (on.Show snapshot)) grants last
-    → IsSerialCall g start records before actor (call.Maintenance (on.Show snapshot)) grants last
+    (last : Reply) (snapshot : ℕ) → IsMadeAlone g start records before actor (call.SnapshotOrCleaner (on.Show snapshot)) grants last
+    → IsSerialCall g start records before actor (call.SnapshotOrCleaner (on.Show snapshot)) grants last
 shown_alone g start records before actor grants last snapshot alone =
-    let c = call.Maintenance (on.Show snapshot) in
+    let c = call.SnapshotOrCleaner (on.Show snapshot) in
     let w = world_then g start records before actor c grants last alone in
     let rs = records_then g start records before actor c grants last alone in
     let is = start_then g start records before actor c grants last alone in

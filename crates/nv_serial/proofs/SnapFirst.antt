@@ -10,18 +10,18 @@ use Rattle.nv_book.specs.declared.record.Record.{Record}
 use Rattle.nv_calls.specs.Refusals.{Check as Tests, passes}
 use Rattle.nv_calls.specs.declared.call.Call.{Call}
 use Rattle.nv_calls.specs.declared.call.Call.TheVariants as call
-use Rattle.nv_calls.specs.declared.maintenance_call.MaintenanceCall.{MaintenanceCall}
-use Rattle.nv_calls.specs.declared.maintenance_call.MaintenanceCall.TheVariants as on
+use Rattle.nv_calls.specs.declared.snapshot_or_cleaner_call.SnapshotOrCleanerCall.{SnapshotOrCleanerCall}
+use Rattle.nv_calls.specs.declared.snapshot_or_cleaner_call.SnapshotOrCleanerCall.TheVariants as on
 use Rattle.nv_book.specs.Listed.{with_moved}
 use Rattle.nv_epoch.specs.SnapList.{pins_of}
-use Rattle.nv_machine.specs.Maintenance.{drop_turn, if_free, make_turn, maintenance_turn, drop_tests, make_tests}
+use Rattle.nv_machine.specs.SnapshotOrCleaner.{drop_turn, if_free, make_turn, snapshot_or_cleaner_turn, drop_tests, make_tests}
 use Rattle.nv_machine.specs.PlainRun.{is_of}
 use Rattle.nv_machine.specs.Sequence.{first_step, begun, beginning}
 use Rattle.nv_machine.specs.Kinds.{rest_turn}
 use Rattle.nv_machine.specs.Starts.{IsStart}
 use Rattle.nv_machine.specs.Step.{after, kind_turn}
 use Rattle.nv_machine.specs.World.{Event, HandState, Next, Refuses, Reply, Running, Shared, Turn, World, actor_at, empty_hand}
-use Rattle.nv_machine.proofs.MaintenanceAlone.{none_home}
+use Rattle.nv_machine.proofs.SnapshotOrCleanerAlone.{none_home}
 use Rattle.nv_machine.proofs.NextSteps.{Known, KnowsNext}
 use Rattle.nv_machine.proofs.OverEvents.{turn_at}
 use Rattle.nv_machine.proofs.StepWays.{AfterBy}
@@ -34,9 +34,9 @@ use Rattle.nv_serial.proofs.AtRestTests.{drop_tests_are, make_tests_are}
 use Rattle.nv_serial.proofs.SnapAlone.{Holds, HoldsThen, Now, Tells, at_first}
 use Rattle.nv_serial.proofs.SnapCalls.{is_serial, records_then, start_then, world_then}
 
-module _ (g : GeometryNumbers) (w : World) (rs : List Record) (is : IsStart g w rs) (actor : ℕ) (what : MaintenanceCall) where
+module _ (g : GeometryNumbers) (w : World) (rs : List Record) (is : IsStart g w rs) (actor : ℕ) (what : SnapshotOrCleanerCall) where
   abbrev pub c : Call
-  c = call.Maintenance what
+  c = call.SnapshotOrCleaner what
 
   abbrev pub b0 : PlainState
   b0 = at_first g w rs actor c
@@ -64,7 +64,7 @@ module _ (g : GeometryNumbers) (w : World) (rs : List Record) (is : IsStart g w 
 
   pub first_keeps : (X : PlainState → Known) (made : Outcome) (events : List Event) (granted : Bool) (r : Running)
       → Holds g w rs actor c IsFirst events r
-      → FirstTurn X made (maintenance_turn (first_step (length w.shared.cells) what) actor granted w.shared empty_hand first_run)
+      → FirstTurn X made (snapshot_or_cleaner_turn (first_step (length w.shared.cells) what) actor granted w.shared empty_hand first_run)
       → HoldsThen g w rs actor c X made (Now g w rs actor c events) (after w events) r (turn_at (after w events) actor granted r)
   first_keeps X made events granted r at turned =
       let v = after w events in
@@ -97,7 +97,7 @@ module _ (g : GeometryNumbers) (w : World) (rs : List Record) (is : IsStart g w 
 
   pub make_turned : (granted : Bool) → let s = told_by g w rs in
       Made (snap_if (nat_le NUMBER s.plain.epoch) (nat_le s.numbers.snaps (length s.plain.copies)) s)
-      (maintenance_turn (first_step (length w.shared.cells) on.Snap) actor granted w.shared empty_hand run_made)
+      (snapshot_or_cleaner_turn (first_step (length w.shared.cells) on.Snap) actor granted w.shared empty_hand run_made)
   make_turned granted =
       let s = told_by g w rs in
       let last = nat_le NUMBER s.plain.epoch in
@@ -110,7 +110,7 @@ module _ (g : GeometryNumbers) (w : World) (rs : List Record) (is : IsStart g w 
 -- ---- a drop
 
 module _ (g : GeometryNumbers) (w : World) (rs : List Record) (is : IsStart g w rs) (actor snapshot : ℕ) where
-  abbrev what : MaintenanceCall
+  abbrev what : SnapshotOrCleanerCall
   what = on.Drop snapshot
 
   abbrev Dropped : Outcome → Turn → Type 0
@@ -137,7 +137,7 @@ module _ (g : GeometryNumbers) (w : World) (rs : List Record) (is : IsStart g w 
 
   pub drop_turned : (granted : Bool) → let s = told_by g w rs in
       Dropped (drop_if (list_any (is_of snapshot) s.plain.copies) snapshot s)
-      (maintenance_turn (first_step (length w.shared.cells) what) actor granted w.shared empty_hand run_dropped)
+      (snapshot_or_cleaner_turn (first_step (length w.shared.cells) what) actor granted w.shared empty_hand run_dropped)
   drop_turned granted =
       let s = told_by g w rs in
       let lives = list_any (is_of snapshot) s.plain.copies in
@@ -151,10 +151,10 @@ module _ (g : GeometryNumbers) (w : World) (rs : List Record) (is : IsStart g w 
 
 module _ (g : GeometryNumbers) (start : World) (records : List Record) (before : List Event) (actor : ℕ) (grants : List Bool)
     (last : Reply) where
-  pub made_alone : IsMadeAlone g start records before actor (call.Maintenance on.Snap) grants last
-      → IsSerialCall g start records before actor (call.Maintenance on.Snap) grants last
+  pub made_alone : IsMadeAlone g start records before actor (call.SnapshotOrCleaner on.Snap) grants last
+      → IsSerialCall g start records before actor (call.SnapshotOrCleaner on.Snap) grants last
   made_alone alone =
-      let c = call.Maintenance on.Snap in
+      let c = call.SnapshotOrCleaner on.Snap in
       let w = world_then g start records before actor c grants last alone in
       let rs = records_then g start records before actor c grants last alone in
       let is = start_then g start records before actor c grants last alone in
@@ -164,10 +164,10 @@ module _ (g : GeometryNumbers) (start : World) (records : List Record) (before :
       (make_turned g w rs is actor granted))
       (first g w rs is actor on.Snap)
 
-  pub dropped_alone : (snapshot : ℕ) → IsMadeAlone g start records before actor (call.Maintenance (on.Drop snapshot)) grants last
-      → IsSerialCall g start records before actor (call.Maintenance (on.Drop snapshot)) grants last
+  pub dropped_alone : (snapshot : ℕ) → IsMadeAlone g start records before actor (call.SnapshotOrCleaner (on.Drop snapshot)) grants last
+      → IsSerialCall g start records before actor (call.SnapshotOrCleaner (on.Drop snapshot)) grants last
   dropped_alone snapshot alone =
-      let c = call.Maintenance (on.Drop snapshot) in
+      let c = call.SnapshotOrCleaner (on.Drop snapshot) in
       let w = world_then g start records before actor c grants last alone in
       let rs = records_then g start records before actor c grants last alone in
       let is = start_then g start records before actor c grants last alone in

@@ -6,7 +6,7 @@ use Rattle.nv_base.specs.declared.fault.Fault.TheVariants as fault
 use Rattle.nv_base.specs.declared.node.Kind.TheVariants as kind
 use Rattle.nv_calls.specs.declared.answer.Answer.TheVariants as answer
 use Rattle.nv_calls.specs.declared.call.Call.TheVariants as call
-use Rattle.nv_calls.specs.declared.maintenance_call.MaintenanceCall.TheVariants as on
+use Rattle.nv_calls.specs.declared.snapshot_or_cleaner_call.SnapshotOrCleanerCall.TheVariants as on
 use Rattle.nv_entry.specs.declared.tree.TreeNode.{TreeNode}
 use Rattle.nv_machine.specs.World.{Done, Refused}
 use Rattle.nv_serial.specs.Reports.{lists_told, snapshot_tree_told, tree_told}
@@ -181,7 +181,7 @@ emptied_refused = refl
 abbrev refusals : List Line
 refusals =
     maintain (on.Drop 7) ∷ maintain on.Snap ∷ maintain on.Snap ∷ maintain on.Snap ∷ maintain on.Snap ∷ maintain on.Snap
-    ∷ by 1 (call.Maintenance (on.Drop 2)) ∷ []
+    ∷ by 1 (call.SnapshotOrCleaner (on.Drop 2)) ∷ []
 
 refusals_replies : play new refusals ≡
     Refused fault.NoSnapshot ∷ snapped 1 ∷ snapped 2 ∷ snapped 3 ∷ snapped 4

@@ -6,7 +6,7 @@ use Rattle.nv_machine.specs.Hands.{is_going}
 use Rattle.nv_machine.specs.Reads.{written_slots}
 use Rattle.nv_machine.specs.Sequence.{appending, publishing, retiring}
 use Rattle.nv_machine.specs.Step.{kind_turn}
-use Rattle.nv_machine.specs.World.{Answers, Append, Close, Ending, Enter, Give, HandState, Leave, Maintenance, Next, Open, BoundAnew, Publish, Retire, ReturnNumber, Running, Shared, Unlock, Visit, go_to}
+use Rattle.nv_machine.specs.World.{Answers, Append, Close, Ending, Enter, Give, HandState, Leave, SnapshotOrCleaner, Next, Open, BoundAnew, Publish, Retire, ReturnNumber, Running, Shared, Unlock, Visit, go_to}
 use Rattle.nv_machine.proofs.NextSteps.{Known, KnowsNext, OnKnown, Untold}
 use Rattle.nv_machine.proofs.LoopSteps.{Commits, appending_any, is_on_files, publishing_any, retiring_any}
 use Rattle.nv_machine.proofs.StepWalk.{WaysOf, walk_of}
@@ -75,5 +75,5 @@ module _ (block actor : ℕ) (s0 : Shared) (c : Call) (some : 0 < length s0.list
       λ free passed lacks. any_ends (refused_closes block actor s0 c some),
       λ free passed. tt,
     ) refl
-    go (Maintenance step) e files going on = absurd (false≢true files)
+    go (SnapshotOrCleaner step) e files going on = absurd (false≢true files)
     go other e files going on = absurd (true≢false e)

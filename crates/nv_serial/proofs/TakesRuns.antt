@@ -4,7 +4,7 @@ use Rattle.nv_base.specs.declared.geometry.GeometryNumbers.{GeometryNumbers}
 use Rattle.nv_book.specs.declared.record.Record.{Record}
 use Rattle.nv_calls.specs.declared.call.Call.{Call}
 use Rattle.nv_machine.specs.Alone.{goes}
-use Rattle.nv_machine.specs.EndsDecided.{is_maintenance}
+use Rattle.nv_machine.specs.EndsDecided.{is_snapshot_or_cleaner}
 use Rattle.nv_machine.specs.PlainRun.{plain_of}
 use Rattle.nv_machine.specs.Reads.{slots_of}
 use Rattle.nv_machine.specs.Sequence as sequence
@@ -49,7 +49,7 @@ module _ (g : GeometryNumbers) (start : World) (records : List Record) (is_start
       let cpus = (all_numbers g start records before is_start).lists.cpus in
       let least = is_start.limits.some_cpus in omega (arith, cpus, least)
 
-  module _ (before : List Event) (actor : ℕ) (c : Call) (plain : is_maintenance c ≡ false)
+  module _ (before : List Event) (actor : ℕ) (c : Call) (plain : is_snapshot_or_cleaner c ≡ false)
       (started : (step (after start before) (Start actor c)).reply ≡ Started) where
     abbrev s0 : Shared
     s0 = (after start before).shared
@@ -103,7 +103,7 @@ module _ (g : GeometryNumbers) (start : World) (records : List Record) (is_start
 
 pub row_taken : (g : GeometryNumbers) (start : World) (records : List Record) (before : List Event) (actor : ℕ) (c : Call)
     (grants : List Bool) (r : Running) → IsStart g start records
-    → is_maintenance c ≡ false → (step (after start before) (Start actor c)).reply ≡ Started
+    → is_snapshot_or_cleaner c ≡ false → (step (after start before) (Start actor c)).reply ≡ Started
     → let w = after start (before ++ Start actor c ∷ goes actor grants) in
     (actor_at w actor).running ≡ Some r → r.next ≡ Enter
     → IsPlannedByRow g.block (after start before).shared actor c w.shared.lists (actor_at w actor).hand.pages r.made r.plan

@@ -25,7 +25,7 @@ use Rattle.nv_machine.specs.Reads.{copies, pages_wanted, plan_by, written_slots}
 use Rattle.nv_machine.specs.Sequence.{appending, beginning, locking, looking, publishing, retiring}
 use Rattle.nv_machine.specs.Sequence as sequence
 use Rattle.nv_machine.specs.Step.{ending_at, is_numbered, kind_turn, visit_grows}
-use Rattle.nv_machine.specs.World.{Answers, Append, Check, Cleans, Close, Drains, Ending, Enter, Give, HandState, Leave, Lock, Look, Maintenance, Next, Number, Open, BoundAnew, Publish, Ready, Refuses, Retire, ReturnNumber, Running, Shared, TakeBlocks, TakeLogPages, Turn, Unlock, Visit, go_to, list_at}
+use Rattle.nv_machine.specs.World.{Answers, Append, Check, Cleans, Close, Drains, Ending, Enter, Give, HandState, Leave, Lock, Look, SnapshotOrCleaner, Next, Number, Open, BoundAnew, Publish, Ready, Refuses, Retire, ReturnNumber, Running, Shared, TakeBlocks, TakeLogPages, Turn, Unlock, Visit, go_to, list_at}
 use Rattle.nv_machine.proofs.DecidedNext as told
 use Rattle.nv_machine.proofs.LoopSteps.{Commits, appending_any, is_on_files, locking_any, looking_any, publishing_any, retiring_any}
 use Rattle.nv_machine.proofs.NextSteps.{Known, KnowsNext}
@@ -60,7 +60,7 @@ look_fails (suc place) tests fault e = cc
 grows_some : (c : Call) → told.IsNoVisit c → grows_nothing c ≡ false
 grows_some (call.Stat handle) none = absurd (none.0 refl)
 grows_some (call.Lookup dir name) none = absurd (none.0 refl)
-grows_some (call.Maintenance what) none = absurd (true≢false none.1)
+grows_some (call.SnapshotOrCleaner what) none = absurd (true≢false none.1)
 grows_some other none = refl
 
 visit_some : (c : Call) (granted : Bool) → beginning c ≡ sequence.Visits → (granted || not (visit_grows c)) ≡ false → grows_nothing c ≡ false
@@ -316,4 +316,4 @@ module _ (block actor : ℕ) (s0 : Shared) (c : Call) (b0 : PlainState) (some : 
       λ free passed lacks. any_ends (why_closes (Refuses out_of_memory) (Memory (refl, by_call knows.call_is (visit_some r.call granted knows.stage lacks)))),
       λ free passed. tt,
     ) refl
-    kind_why (Maintenance step) files knows on = absurd (false≢true files)
+    kind_why (SnapshotOrCleaner step) files knows on = absurd (false≢true files)

@@ -10,7 +10,7 @@ use Rattle.nv_calls.specs.AllCalls.{is_nothing}
 use Rattle.nv_calls.specs.declared.call.Call.{Call}
 use Rattle.nv_calls.specs.declared.plan.InodePlan.{InodePlan}
 use Rattle.nv_machine.specs.Alone.{goes}
-use Rattle.nv_machine.specs.EndsDecided.{is_maintenance}
+use Rattle.nv_machine.specs.EndsDecided.{is_snapshot_or_cleaner}
 use Rattle.nv_machine.specs.Locks.{AreSlots}
 use Rattle.nv_machine.specs.Reads.{pages_wanted, slots_of, written_slots}
 use Rattle.nv_machine.specs.Sequence as sequence
@@ -34,7 +34,7 @@ use Rattle.nv_serial.proofs.TakesRuns.{begun_early, some_lists}
 use Rattle.nv_serial.proofs.WhyRefused.{IsAtLimit, Knows, OnWhy, Why, WhyStage, WhyTold, kind_why}
 
 module _ (g : GeometryNumbers) (start : World) (records : List Record) (is_start : IsStart g start records) (before : List Event)
-    (actor : ℕ) (c : Call) (plain : is_maintenance c ≡ false)
+    (actor : ℕ) (c : Call) (plain : is_snapshot_or_cleaner c ≡ false)
     (started : (step (after start before) (Start actor c)).reply ≡ Started)
     (rest : (b : ℕ) → b ≢ actor → (actor_at (after start before) b).running ≡ None) where
   abbrev s0 : Shared

@@ -6,7 +6,7 @@ use Rattle.nv_base.specs.declared.geometry.GeometryNumbers.{GeometryNumbers}
 use Rattle.nv_book.specs.declared.record.Record.{Record}
 use Rattle.nv_calls.specs.declared.call.Call.{Call}
 use Rattle.nv_calls.specs.declared.call.Call.TheVariants as call
-use Rattle.nv_calls.specs.declared.maintenance_call.MaintenanceCall.TheVariants as on
+use Rattle.nv_calls.specs.declared.snapshot_or_cleaner_call.SnapshotOrCleanerCall.TheVariants as on
 use Rattle.nv_machine.specs.Alone.{goes}
 use Rattle.nv_machine.specs.Needed.{IsAtRest}
 use Rattle.nv_machine.specs.PlainRun.{plain_after, plain_of}
@@ -34,8 +34,8 @@ serial_after g start records events = record {
 abbrev pub grows_nothing : Call → Bool
 grows_nothing (call.Stat handle) = true
 grows_nothing (call.Lookup dir name) = true
-grows_nothing (call.Maintenance on.Snap) = true
-grows_nothing (call.Maintenance (on.Drop snapshot)) = true
+grows_nothing (call.SnapshotOrCleaner on.Snap) = true
+grows_nothing (call.SnapshotOrCleaner (on.Drop snapshot)) = true
 grows_nothing other = false
 
 -- the reply and the world are those of an outcome; or a call that grows something is refused memory, and nothing has changed

@@ -11,7 +11,7 @@ ghost use Rattle.nv_book.specs.declared.record.Record.{Record};
 ghost use Rattle.nv_calls.specs.declared.answer.Answer.{Answer};
 ghost use Rattle.nv_calls.specs.declared.call.Call.{Call};
 ghost use Rattle.nv_machine.specs.Alone.{goes};
-ghost use Rattle.nv_machine.specs.EndsDecided.{is_maintenance};
+ghost use Rattle.nv_machine.specs.EndsDecided.{is_snapshot_or_cleaner};
 ghost use Rattle.nv_machine.specs.Format.{formatted};
 ghost use Rattle.nv_machine.specs.Needed.{IsAtRest};
 ghost use Rattle.nv_machine.specs.Starts.{IsStart};
@@ -33,7 +33,8 @@ pub fn calls_alone_take_the_row()
     // It has the next blocks of that row as log pages, and the lists have the rest.
     ensures { (g : GeometryNumbers) (start : World) (records : List Record) (before : List Event)
         (actor : ℕ) (c : Call) (grants : List Bool) (r : Running) → IsStart g start records
-        → is_maintenance c ≡ false → (step (after start before) (Start actor c)).reply ≡ Started
+        → is_snapshot_or_cleaner c ≡ false → (step (after start before) (Start actor c)).reply
+        ≡ Started
         → let w = after start (before ++ Start actor c ∷ goes actor grants) in
         (actor_at w actor).running ≡ Some r → r.next ≡ Enter
         → IsPlannedByRow g.block (after start before).shared actor c w.shared.lists
@@ -51,7 +52,7 @@ pub fn file_calls_alone_are_serial()
     ensures answered { (g : GeometryNumbers) (start : World) (records : List Record)
         (before : List Event) (actor : ℕ) (c : Call) (grants : List Bool) (granted : Bool)
         (r : Running) (found : Answer) → IsStart g start records
-        → IsAtRest (after start before) → is_maintenance c ≡ false
+        → IsAtRest (after start before) → is_snapshot_or_cleaner c ≡ false
         → (step (after start before) (Start actor c)).reply ≡ Started
         → let ran = before ++ Start actor c ∷ goes actor grants in
         (actor_at (after start ran) actor).running ≡ Some r
@@ -63,7 +64,7 @@ pub fn file_calls_alone_are_serial()
     ensures refused { (g : GeometryNumbers) (start : World) (records : List Record)
         (before : List Event) (actor : ℕ) (c : Call) (grants : List Bool) (granted : Bool)
         (r : Running) (fault : Fault) → IsStart g start records
-        → IsAtRest (after start before) → is_maintenance c ≡ false
+        → IsAtRest (after start before) → is_snapshot_or_cleaner c ≡ false
         → (step (after start before) (Start actor c)).reply ≡ Started
         → let ran = before ++ Start actor c ∷ goes actor grants in
         (actor_at (after start ran) actor).running ≡ Some r

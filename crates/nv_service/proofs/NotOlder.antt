@@ -4,16 +4,16 @@ use Rattle.std.proofs.lemmas.List.{get_or-map, length-map}
 use Rattle.nv_cell.specs.Cell.{CellValue}
 use Rattle.nv_service.specs.Closing.{IsNotOlder}
 use Rattle.nv_service.specs.Locked.{version_at}
-use Rattle.nv_service.specs.Rests.{AreInPlace, CellRestValue, IsKnown, Told, rest_told, cell_told}
+use Rattle.nv_service.specs.UnlockedParts.{AreInPlace, BesideCellValue, IsKnown, Told, rest_told, cell_told}
 
-no_rest : CellRestValue
+no_rest : BesideCellValue
 no_rest = record { slot = 0; ino = 0; blocks = 0; version = 0 }
 
 no_told : Told
 no_told = record { blocks = 0; version = 0 }
 
 -- no owner's version is below that of the opening
-pub known_from_start : (opened seen : List ℕ) (rests : List CellRestValue) → All (IsKnown opened seen) rests
+pub known_from_start : (opened seen : List ℕ) (rests : List BesideCellValue) → All (IsKnown opened seen) rests
     → All (IsKnown opened []) rests
 known_from_start opened seen rests known = λ k d lt.
     let rest = slice_index_or rests k d in
@@ -22,7 +22,7 @@ known_from_start opened seen rests known = λ k d lt.
     omega (arith, met, none)
 
 -- no cell is older than what was seen, where its owner knows as much
-pub not_older : (opened seen : List ℕ) (rests : List CellRestValue) (cells : List CellValue)
+pub not_older : (opened seen : List ℕ) (rests : List BesideCellValue) (cells : List CellValue)
     → map rest_told rests ≡ map cell_told cells → AreInPlace rests → All (IsKnown opened seen) rests
     → IsNotOlder opened seen cells
 not_older opened seen rests cells fit placed known ino d lt =

@@ -19,7 +19,7 @@ use Rattle.nv_core.proofs.RestingParts.{rest_once}
 use Rattle.nv_core.proofs.SpaceLaw.{just_as_many}
 use Rattle.nv_service.specs.Opened.{blocks_at, cell_blocks, list_blocks}
 use Rattle.nv_service.specs.Opening.{blocks_in}
-use Rattle.nv_service.specs.Rests.{list_told}
+use Rattle.nv_service.specs.UnlockedParts.{list_told}
 
 -- ---- counted one by one
 

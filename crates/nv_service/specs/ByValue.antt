@@ -5,8 +5,8 @@ use Rattle.nv_base.specs.declared.limits.TheConstants.{DRAIN}
 use Rattle.nv_calls.specs.declared.answer.Answer.TheVariants as answer
 use Rattle.nv_calls.specs.declared.call.Call.{Call}
 use Rattle.nv_calls.specs.declared.call.Call.TheVariants as call
-use Rattle.nv_calls.specs.declared.maintenance_call.MaintenanceCall.{MaintenanceCall}
-use Rattle.nv_calls.specs.declared.maintenance_call.MaintenanceCall.TheVariants as maintenance
+use Rattle.nv_calls.specs.declared.snapshot_or_cleaner_call.SnapshotOrCleanerCall.{SnapshotOrCleanerCall}
+use Rattle.nv_calls.specs.declared.snapshot_or_cleaner_call.SnapshotOrCleanerCall.TheVariants as snapshot_or_cleaner
 use Rattle.nv_calls.specs.declared.update.Update.TheVariants as update
 use Rattle.nv_service.specs.Sessions.{IsChangedBy, IsCommittedBy, IsViewedBy, SessionValue}
 use Rattle.nv_service.specs.declared.seen.Seen.{Seen}
@@ -17,24 +17,24 @@ abbrev pub HasCleaned : Seen → Type 0
 HasCleaned seen = (thorough : Bool) × (entries pages : ℕ) × (seen ≡ Other (answer.Cleaned thorough entries pages))
 
 -- an answer of the kind that a call on snapshots or of a cleaner has, which is neither a commit nor a view
-abbrev pub IsAnswerTo : MaintenanceCall → Seen → Type 0
-IsAnswerTo maintenance.Snap seen = (s : ℕ) × (seen ≡ Other (answer.Snapshot s))
-IsAnswerTo (maintenance.Drop snapshot) seen = seen ≡ Other answer.Nothing
-IsAnswerTo (maintenance.Show snapshot) seen = (tree : List TreeNode) × (seen ≡ Other (answer.Tree tree))
-IsAnswerTo (maintenance.Drain number) seen = (n : ℕ) × (n ≤ max 1 (min number DRAIN)) × (seen ≡ Other (answer.Count n))
-IsAnswerTo (maintenance.Fast ino) seen = HasCleaned seen
-IsAnswerTo (maintenance.Thorough ino) seen = HasCleaned seen
-IsAnswerTo (maintenance.Auto ino) seen = HasCleaned seen
+abbrev pub IsAnswerTo : SnapshotOrCleanerCall → Seen → Type 0
+IsAnswerTo snapshot_or_cleaner.Snap seen = (s : ℕ) × (seen ≡ Other (answer.Snapshot s))
+IsAnswerTo (snapshot_or_cleaner.Drop snapshot) seen = seen ≡ Other answer.Nothing
+IsAnswerTo (snapshot_or_cleaner.Show snapshot) seen = (tree : List TreeNode) × (seen ≡ Other (answer.Tree tree))
+IsAnswerTo (snapshot_or_cleaner.Drain number) seen = (n : ℕ) × (n ≤ max 1 (min number DRAIN)) × (seen ≡ Other (answer.Count n))
+IsAnswerTo (snapshot_or_cleaner.Fast ino) seen = HasCleaned seen
+IsAnswerTo (snapshot_or_cleaner.Thorough ino) seen = HasCleaned seen
+IsAnswerTo (snapshot_or_cleaner.Auto ino) seen = HasCleaned seen
 
 -- a making or a drop counts as one of the session's
 abbrev pub once_snapped : SessionValue → SessionValue
 once_snapped before = record before { snapped = before.snapped + 1 }
 
 -- what a call on snapshots or of a cleaner leaves of a session
-abbrev pub after_maintenance : MaintenanceCall → SessionValue → SessionValue
-after_maintenance maintenance.Snap before = once_snapped before
-after_maintenance (maintenance.Drop snapshot) before = once_snapped before
-after_maintenance other before = before
+abbrev pub after_snapshot_or_cleaner : SnapshotOrCleanerCall → SessionValue → SessionValue
+after_snapshot_or_cleaner snapshot_or_cleaner.Snap before = once_snapped before
+after_snapshot_or_cleaner (snapshot_or_cleaner.Drop snapshot) before = once_snapped before
+after_snapshot_or_cleaner other before = before
 
 -- it is what the method of its name leaves
 abbrev pub IsMadeAs : ℕ → List ℕ → SessionValue → SessionValue → Call → Seen → Type 0
@@ -62,4 +62,4 @@ IsMadeAs opening opened before after (call.List dir) seen =
     IsViewedBy opened before after dir.ino (call.List dir) seen
 IsMadeAs opening opened before after (call.Lookup dir name) seen =
     IsViewedBy opened before after dir.ino (call.Lookup dir name) seen
-IsMadeAs opening opened before after (call.Maintenance c) seen = (after ≡ after_maintenance c before) × IsAnswerTo c seen
+IsMadeAs opening opened before after (call.SnapshotOrCleaner c) seen = (after ≡ after_snapshot_or_cleaner c before) × IsAnswerTo c seen

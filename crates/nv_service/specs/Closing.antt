@@ -8,7 +8,7 @@ use Rattle.nv_cell.specs.Cell.{CellValue}
 use Rattle.nv_core.specs.AtRest.{IsMismatchOf}
 use Rattle.nv_core.specs.declared.parts.Parts.{Parts}
 use Rattle.nv_service.specs.Locked.{version_at}
-use Rattle.nv_service.specs.Rests.{AreAllSlots, AreInPlace, CellRestValue, rest_told, cell_told}
+use Rattle.nv_service.specs.UnlockedParts.{AreAllSlots, AreInPlace, BesideCellValue, rest_told, cell_told}
 
 -- no cell is older than what was seen of its inode.
 -- Not older: no cell is older than what was seen of its inode; where nothing was seen, than at the opening.
@@ -18,7 +18,7 @@ IsNotOlder opened seen cells =
     → version_at opened ino (slice_index seen ino) ≤ (slice_index_or cells ino d).state.version
 
 -- parts of a device, and what lay beside its cells: of each slot, in their order, both tell the same blocks and version
-pub record AreBeside (geometry : Geometry) (slots : ℕ) (parts : Parts) (cells : List CellRestValue) : Type 0 where
+pub record AreBeside (geometry : Geometry) (slots : ℕ) (parts : Parts) (cells : List BesideCellValue) : Type 0 where
   pub device : parts.geometry ≡ geometry
   pub count : length cells ≡ slots
   pub order : AreAllSlots cells
@@ -26,5 +26,5 @@ pub record AreBeside (geometry : Geometry) (slots : ℕ) (parts : Parts) (cells 
 
 -- WHY PARTS ARE NOT AT REST: one differs from those of a world at rest, or a cell came out of another slot's lock.
 -- A difference is the first part that is not as in a world at rest, or the lists, where a cell is out of place.
-abbrev pub IsDifference : Parts → List CellRestValue → Fault → Type 0
+abbrev pub IsDifference : Parts → List BesideCellValue → Fault → Type 0
 IsDifference parts cells fault = IsMismatchOf parts fault ⊎ ((fault ≡ Mismatch Lists) × (¬ AreInPlace cells))

@@ -4,8 +4,8 @@ use Rattle.nv_alloc.specs.Hand.{blocks_of}
 use Rattle.nv_alloc.specs.InodePool.{FreeInodes}
 use Rattle.nv_alloc.specs.Numbers.{has, put_by}
 use Rattle.nv_alloc.specs.declared.hand.Hand.{Hand}
-use Rattle.nv_calls.specs.declared.maintenance_call.MaintenanceCall.{MaintenanceCall}
-use Rattle.nv_calls.specs.declared.maintenance_call.MaintenanceCall.TheVariants as maintenance
+use Rattle.nv_calls.specs.declared.snapshot_or_cleaner_call.SnapshotOrCleanerCall.{SnapshotOrCleanerCall}
+use Rattle.nv_calls.specs.declared.snapshot_or_cleaner_call.SnapshotOrCleanerCall.TheVariants as snapshot_or_cleaner
 use Rattle.nv_cell.specs.Cell.{CellState}
 use Rattle.nv_service.specs.Cleaning.{IsSettled}
 use Rattle.nv_service.specs.declared.cleaners.Manner.{Manner}
@@ -17,10 +17,10 @@ pub record IsEmptyHand (hand : Hand) : Type 0 where
   pub number : hand.ino ≡ None
 
 -- the call of a cleaner of that manner
-abbrev pub cleaner_of : Manner → ℕ → MaintenanceCall
-cleaner_of manner.Fast ino = maintenance.Fast ino
-cleaner_of manner.Thorough ino = maintenance.Thorough ino
-cleaner_of manner.Auto ino = maintenance.Auto ino
+abbrev pub cleaner_of : Manner → ℕ → SnapshotOrCleanerCall
+cleaner_of manner.Fast ino = snapshot_or_cleaner.Fast ino
+cleaner_of manner.Thorough ino = snapshot_or_cleaner.Thorough ino
+cleaner_of manner.Auto ino = snapshot_or_cleaner.Auto ino
 
 -- a pool takes the number of a slot that is not free already
 abbrev pub takes : FreeInodes → ℕ → Bool

@@ -12,7 +12,7 @@ pub mod Names
 pub mod Opened
 pub mod Opening
 pub mod Refusing
-pub mod Rests
+pub mod UnlockedParts
 pub mod Rounds
 pub mod Seats
 pub mod Sessions

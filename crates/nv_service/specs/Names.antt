@@ -10,7 +10,7 @@ pub record LedgerValue : Type 0 where
   pub parts : ℕ
 
 -- the ledger of commits, that of makings and drops of snapshots, that of blocks, and the table of the freshness cell
-pub record NamesValue : Type 0 where
+pub record LedgersValue : Type 0 where
   pub commits : LedgerValue
   pub snapshots : LedgerValue
   pub blocks : LedgerValue
@@ -30,7 +30,7 @@ abbrev pub block_parts : GeometryNumbers → ℕ
 block_parts numbers = placed_parts numbers + commit_parts
 
 -- the names are those of a ledger of commits and of a freshness cell that types stand for
-pub record AreCommitNames (names : NamesValue) (name parts whole : ℕ) (table : TableId)
+pub record AreCommitNames (names : LedgersValue) (name parts whole : ℕ) (table : TableId)
     : Type 0 where
   pub same_name : names.commits.name ≡ name
   pub same_parts : names.commits.parts ≡ parts
@@ -38,12 +38,12 @@ pub record AreCommitNames (names : NamesValue) (name parts whole : ℕ) (table :
   pub same_table : names.table ≡ table
 
 -- the names are those of a ledger of makings and drops of snapshots
-pub record AreSnapshotNames (names : NamesValue) (name parts : ℕ) : Type 0 where
+pub record AreSnapshotNames (names : LedgersValue) (name parts : ℕ) : Type 0 where
   pub same_name : names.snapshots.name ≡ name
   pub same_parts : names.snapshots.parts ≡ parts
 
 -- the names are those of a ledger of blocks that a type stands for, over a device with these numbers
-pub record AreBlockNames (names : NamesValue) (name parts whole placed : ℕ)
+pub record AreBlockNames (names : LedgersValue) (name parts whole placed : ℕ)
     (numbers : GeometryNumbers) : Type 0 where
   pub same_name : names.blocks.name ≡ name
   pub same_parts : names.blocks.parts ≡ parts

@@ -3,7 +3,7 @@ use Rattle.std.specs.Prelude.{ℕ, List, map}
 use Rattle.std.specs.List.{sum_by}
 use Rattle.nv_alloc.specs.FreeList.{FreeBlocks}
 use Rattle.nv_cell.specs.Cell.{CellValue, block_total}
-use Rattle.nv_service.specs.Rests.{list_told}
+use Rattle.nv_service.specs.UnlockedParts.{list_told}
 
 -- the version of each inode
 abbrev pub version_of : CellValue → ℕ

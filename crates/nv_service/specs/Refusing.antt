@@ -7,8 +7,8 @@ use Rattle.nv_base.specs.declared.fault.MismatchPart.{MismatchPart}
 use Rattle.nv_calls.specs.declared.call.Call.{Call}
 use Rattle.nv_calls.specs.declared.call.Call.TheVariants as call
 use Rattle.nv_calls.specs.declared.looked.LookupResult.{LookupResult}
-use Rattle.nv_calls.specs.declared.maintenance_call.MaintenanceCall.{MaintenanceCall}
-use Rattle.nv_calls.specs.declared.maintenance_call.MaintenanceCall.TheVariants as maintenance
+use Rattle.nv_calls.specs.declared.snapshot_or_cleaner_call.SnapshotOrCleanerCall.{SnapshotOrCleanerCall}
+use Rattle.nv_calls.specs.declared.snapshot_or_cleaner_call.SnapshotOrCleanerCall.TheVariants as snapshot_or_cleaner
 use Rattle.nv_calls.specs.declared.update.Update.{Update}
 use Rattle.nv_calls.specs.declared.update.Update.TheVariants as update
 use Rattle.nv_service.specs.declared.change.ChangeEnd.{ChangeEnd}
@@ -23,14 +23,14 @@ abbrev pub wants : List Fault
 wants = fault.NoSpace ∷ out_of_memory ∷ fault.CommitLimit ∷ []
 
 -- the faults of a call on snapshots, or of a cleaner
-abbrev pub maintenance_faults : MaintenanceCall → List Fault
-maintenance_faults maintenance.Snap = fault.EpochLimit ∷ fault.TooManySnapshots ∷ []
-maintenance_faults (maintenance.Drop snapshot) = fault.NoSnapshot ∷ fault.Pinned ∷ []
-maintenance_faults (maintenance.Show snapshot) = fault.NoSnapshot ∷ out_of_memory ∷ []
-maintenance_faults (maintenance.Drain number) = out_of_memory ∷ []
-maintenance_faults (maintenance.Fast ino) = fault.Stale ∷ out_of_memory ∷ []
-maintenance_faults (maintenance.Thorough ino) = fault.Stale ∷ fault.NoSpace ∷ out_of_memory ∷ []
-maintenance_faults (maintenance.Auto ino) = fault.Stale ∷ fault.NoSpace ∷ out_of_memory ∷ []
+abbrev pub snapshot_or_cleaner_faults : SnapshotOrCleanerCall → List Fault
+snapshot_or_cleaner_faults snapshot_or_cleaner.Snap = fault.EpochLimit ∷ fault.TooManySnapshots ∷ []
+snapshot_or_cleaner_faults (snapshot_or_cleaner.Drop snapshot) = fault.NoSnapshot ∷ fault.Pinned ∷ []
+snapshot_or_cleaner_faults (snapshot_or_cleaner.Show snapshot) = fault.NoSnapshot ∷ out_of_memory ∷ []
+snapshot_or_cleaner_faults (snapshot_or_cleaner.Drain number) = out_of_memory ∷ []
+snapshot_or_cleaner_faults (snapshot_or_cleaner.Fast ino) = fault.Stale ∷ out_of_memory ∷ []
+snapshot_or_cleaner_faults (snapshot_or_cleaner.Thorough ino) = fault.Stale ∷ fault.NoSpace ∷ out_of_memory ∷ []
+snapshot_or_cleaner_faults (snapshot_or_cleaner.Auto ino) = fault.Stale ∷ fault.NoSpace ∷ out_of_memory ∷ []
 
 -- the faults that the check of a change may find, by its nodes and for want of an inode number
 abbrev pub check_faults : Update → List Fault
@@ -76,8 +76,8 @@ abbrev pub MayRefuseChange : Update → Fault → Type 0
 MayRefuseChange u why = Contains (change_faults u) why ⊎ IsMisfit why
 
 -- a call on snapshots, or a cleaner, may be refused by this fault
-abbrev pub MayRefuseMaintenance : MaintenanceCall → Fault → Type 0
-MayRefuseMaintenance c why = Contains (maintenance_faults c) why ⊎ IsMisfit why
+abbrev pub MayRefuseSnapshotOrCleaner : SnapshotOrCleanerCall → Fault → Type 0
+MayRefuseSnapshotOrCleaner c why = Contains (snapshot_or_cleaner_faults c) why ⊎ IsMisfit why
 
 -- the faults of a call that reads
 abbrev pub view_faults : Call → List Fault
@@ -104,7 +104,7 @@ MayRefuse (call.Mode handle mode) why = MayRefuseChange (update.Mode handle mode
 MayRefuse (call.Unlink dir name) why = MayRefuseChange (update.Unlink dir name) why
 MayRefuse (call.Rmdir dir name) why = MayRefuseChange (update.Rmdir dir name) why
 MayRefuse (call.Rename from old to new) why = MayRefuseChange (update.Rename from old to new) why
-MayRefuse (call.Maintenance c) why = MayRefuseMaintenance c why
+MayRefuse (call.SnapshotOrCleaner c) why = MayRefuseSnapshotOrCleaner c why
 MayRefuse view why = MayRefuseView view why
 
 -- ---- the way there

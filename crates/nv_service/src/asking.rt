@@ -88,8 +88,7 @@ impl Asking {
         ensures same { OnErr result ((queue.new ≡ queue.old) × (list.new ≡ list.old)
             × (mine.new.amount ≡ mine.old.amount)) }
     {
-        // It tells that no home range goes past the device.
-        let _end = geometry.home_start(cpu + 1);
+        geometry.home_ends_within(cpu);
         if !list.part().made_for(geometry, cpu) {
             return Err(Fault::Mismatch(MismatchPart::Lists));
         }

@@ -99,8 +99,7 @@ impl<C: Commits> LockedBook<C> {
         ensures parts { mine.new.parts ≡ mine.old.parts }
         ensures same { OnErr result ((self.new ≡ self.old) × (mine.new.amount ≡ mine.old.amount)) }
     {
-        // It tells that no epoch is past the last one, and that no more snapshots live than may.
-        let _epoch = self.book.snaps().epoch();
+        self.book.snaps().rises();
         let snapshot = self.book.make_snapshot()?;
         self.snap_book.add(mine, 1);
         Ok(snapshot)
@@ -128,8 +127,7 @@ impl<C: Commits> LockedBook<C> {
         ensures parts { mine.new.parts ≡ mine.old.parts }
         ensures same { OnErr result ((self.new ≡ self.old) × (mine.new.amount ≡ mine.old.amount)) }
     {
-        // It tells that the numbers of the living snapshots rise.
-        let _epoch = self.book.snaps().epoch();
+        self.book.snaps().rises();
         self.book.drop_snapshot(s)?;
         self.snap_book.add(mine, 1);
         Ok(())

@@ -54,17 +54,17 @@ impl<C: Commits, B: Blocks> LockedCell<C, B> {
     }
 
     /// Compares notes with the cell: they have no higher version of it than it has.
-    pub(crate) fn meet<R: Wait>(&mut self, rt: &R, fresh: &Fresh<C>, seen: &mut Notes<C>)
+    pub(crate) fn check_seen<R: Wait>(&mut self, rt: &R, fresh: &Fresh<C>, seen: &mut Notes<C>)
         ensures cell { self.new ≡ self.old }
         ensures seen { seen.new ≡ seen.old }
         ensures met { version_at C.opened self.old.ino (slice_index seen.old self.old.ino)
             ≤ self.old.cell.state.version }
     {
-        self.owner.meet(rt, fresh, seen);
+        self.owner.check_seen(rt, fresh, seen);
     }
 
-    /// Notes the version of the cell, and nothing else new. The notes have no higher one, which `meet` tells.
-    pub(crate) fn tell(&mut self, fresh: &Fresh<C>, seen: &mut Notes<C>)
+    /// Notes the version of the cell, and nothing else new. The notes have no higher one, which `check_seen` tells.
+    pub(crate) fn note_seen(&mut self, fresh: &Fresh<C>, seen: &mut Notes<C>)
         requires { version_at C.opened self.old.ino (slice_index seen.old self.old.ino)
             ≤ self.old.cell.state.version }
         ensures cell { self.new ≡ self.old }
@@ -73,7 +73,7 @@ impl<C: Commits, B: Blocks> LockedCell<C, B> {
         ensures elsewhere { (i : ℕ) → i ≢ self.old.ino
             → slice_index seen.new i ≡ slice_index seen.old i }
     {
-        self.owner.tell(fresh, seen);
+        self.owner.note_seen(fresh, seen);
     }
 
     /// Takes the cell apart with all its blocks: for the owner of a whole device that is let go.

@@ -18,7 +18,7 @@ use crate::service::Service;
 use crate::taking::take_all;
 use nv_alloc::Hand;
 use nv_base::Fault;
-use nv_calls::{Cells, CheckEnd, LookupResult, Plan, Ready, Receipt, Source, Update, ready_filled};
+use nv_calls::{Cells, CheckEnd, LookupResult, Ready, Receipt, Source, Update, ready_filled};
 use std::sync::Wait;
 use std::sync::ledger::Share;
 
@@ -98,16 +98,7 @@ pub(crate) fn change_over<C: Commits, B: Blocks, L: Cells, S: Source, R: Wait>(
         Err(CheckEnd::BoundAnew) => return (hand, Err(ChangeEnd::BoundAnew(update))),
         Err(CheckEnd::Answers) => return (hand, Err(ChangeEnd::Answers)),
     };
-    match make_change(
-        rt,
-        service,
-        seat,
-        lent,
-        Plan { update },
-        hand,
-        wanted,
-        source,
-    ) {
+    match make_change(rt, service, seat, lent, update, hand, wanted, source) {
         Ok((receipt, hand)) => (hand, Ok(receipt)),
         Err((fault, hand)) => (hand, Err(ChangeEnd::Refuses(fault))),
     }
@@ -119,7 +110,7 @@ fn make_change<C: Commits, B: Blocks, L: Cells, S: Source, R: Wait>(
     service: &Service<C, B>,
     seat: &mut Seat<C, B>,
     lent: &mut L,
-    plan: Plan,
+    update: Update,
     mut hand: Hand,
     wanted: u64,
     source: &mut S,
@@ -128,7 +119,7 @@ fn make_change<C: Commits, B: Blocks, L: Cells, S: Source, R: Wait>(
     requires some { 0 < length (L.cells lent.old) }
     requires whole { AreWhole (L.cells lent.old) }
     requires passed { HasPassed service.now.geometry.numbers.block (L.cells lent.old) hand
-        plan.update wanted }
+        update wanted }
     requires commits_part { 0 < seat.old.commits.parts }
     requires blocks_part { 0 < seat.old.blocks.parts }
     requires blocks { seat.old.blocks.amount
@@ -136,7 +127,7 @@ fn make_change<C: Commits, B: Blocks, L: Cells, S: Source, R: Wait>(
     requires failures { S.failed source.old < 2 ^ 64 - 1 }
     ensures cells { MayBeRaised (L.cells lent.old) (L.cells lent.new) }
     ensures raised { IfOk result (λ done.
-        RaisesPublished (L.cells lent.old) (L.cells lent.new) plan.update done.0) }
+        RaisesPublished (L.cells lent.old) (L.cells lent.new) update done.0) }
     ensures number { seat.new.number ≡ seat.old.number }
     ensures notes { seat.new.notes ≡ seat.old.notes }
     ensures commits_part { seat.new.commits.parts ≡ seat.old.commits.parts }
@@ -148,10 +139,10 @@ fn make_change<C: Commits, B: Blocks, L: Cells, S: Source, R: Wait>(
     ensures counted { OnOk result (seat.new.commits.amount ≡ seat.old.commits.amount + 1) }
     ensures least { IfOk result
         (λ done. C.commit + seat.new.commits.amount ≤ done.0.stamp.commit) }
-    ensures call { IfOk result (λ done. IsReceiptOf plan.update done.0) }
+    ensures call { IfOk result (λ done. IsReceiptOf update done.0) }
     ensures same { OnErr result ((seat.new.commits.amount ≡ seat.old.commits.amount)
         × KeepVersions (L.cells lent.old) (L.cells lent.new)) }
-    ensures err { IfErr result (λ refused. MayEnd plan.update refused.0) }
+    ensures err { IfErr result (λ refused. MayEnd update refused.0) }
     ensures reads { OnOk result (S.failed source.new ≡ S.failed source.old) }
     ensures failed_reads { IfErr result (λ refused.
         S.failed source.new ≡ S.failed source.old + reads_failed refused.0) }
@@ -165,7 +156,7 @@ fn make_change<C: Commits, B: Blocks, L: Cells, S: Source, R: Wait>(
         service,
         seat.number,
         lent,
-        &plan,
+        &update,
         &mut hand,
         wanted,
         &mut seat.blocks,
@@ -174,7 +165,7 @@ fn make_change<C: Commits, B: Blocks, L: Cells, S: Source, R: Wait>(
     if let Err(fault) = taken {
         return Err((fault, hand));
     }
-    match ready_filled(service.alloc, lent, plan, hand, source) {
+    match ready_filled(service.alloc, lent, update, hand, source) {
         Ok(ready) => commit_ready(rt, service, seat.number, lent, ready, &mut seat.commits),
         Err(refused) => Err(refused),
     }

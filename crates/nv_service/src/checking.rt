@@ -120,7 +120,7 @@ fn is_empty_slot<L: Cells>(lent: &L, ino: Ino) -> bool
     for k in 0..lent.count() {
         if lent.ino(k) == ino {
             let cell = lent.cell(k);
-            cell.use_invariant();
+            cell.holds_together();
             return cell.tail() == 0;
         }
     }

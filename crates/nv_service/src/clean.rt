@@ -7,11 +7,11 @@ ghost use Rattle.nv_calls.specs.Retired.{CanTakeGone};
 ghost use Rattle.nv_calls.specs.Retiring.{erased, hand_with, released, released_blocks, with_back};
 ghost use Rattle.nv_cell.specs.Cell.{log_of};
 ghost use Rattle.nv_cell.specs.Removal.{KeepsTheLast};
-ghost use Rattle.nv_clean.specs.Cleaned.{HasPages, KeepsValues, LeavesNone, NodesStay, answer_of, with_chain, with_entries, with_gone, with_pages_unlinked};
+ghost use Rattle.nv_clean.specs.Cleaned.{KeepsValues, LeavesNone, NodesStay, answer_of, with_chain, with_entries, with_gone, with_pages_unlinked};
 ghost use Rattle.nv_clean.specs.Plans.{unlinkable_of, wanted_of};
 ghost use Rattle.nv_entry.specs.Clean.{entries_of, select};
 ghost use Rattle.nv_log.specs.Chain.{log_pages};
-ghost use Rattle.nv_service.specs.Cleaning.{CanCompact, CanRelease, CanUnlink, IsSettled};
+ghost use Rattle.nv_service.specs.Cleaning.{CanCompact, CanRelease, CanUnlink};
 
 use crate::cell::LockedCell;
 use crate::names::{Blocks, Commits};
@@ -45,41 +45,9 @@ fn takes_gone(cell: &InodeCell, hand: &Hand) -> bool
     !cell.is_withheld() && hand.chain.is_empty() && hand.ino().is_none()
 }
 
-/// Whether all entries of a cell are published, and all killed parts retired. The time is linear in its parts.
-pub(crate) fn is_settled(cell: &InodeCell) -> bool
-    ensures { IsTrue result ↔ IsSettled cell.now.state }
-{
-    cell.tail() == cell.len() && !cell.has_killed()
-}
-
-/// Whether the log pages that a walk found can go to the hand.
-pub(crate) fn can_unlink(cell: &InodeCell, unlinkable: &Unlinkable, hand: &Hand) -> bool
-    ensures { IsTrue result ↔ CanUnlink cell.now.state unlinkable.now hand.now }
-{
-    is_settled(cell)
-        && unlinkable.pages() <= hand.pages.room()
-        && hand.pages.block_bytes() as u64 == cell.block_bytes()
-}
-
-/// Whether the hand has the log pages for the entries that a walk found to stay.
-pub(crate) fn can_compact(cell: &InodeCell, wanted: &Wanted, hand: &Hand) -> bool
-    ensures { IsTrue result ↔ CanCompact cell.now.state wanted.now hand.now }
-{
-    is_settled(cell)
-        && (wanted.is_all() || has_pages(wanted, hand))
-        && hand.pages.block_bytes() as u64 == cell.block_bytes()
-}
-
-/// Whether the hand has just so many log pages as the entries fill that stay, and no chain.
-fn has_pages(wanted: &Wanted, hand: &Hand) -> bool
-    ensures { IsTrue result ↔ HasPages wanted.now hand.now }
-{
-    hand.pages.len() == wanted.pages() as u64 && hand.chain.is_empty()
-}
-
 /// Moves between the shares of a cell and of a hand what went between these: the hand had `before` blocks and has
 /// `after`.
-fn follow<B: Blocks>(cell: &mut Share<B>, hand: &mut Share<B>, before: u64, after: u64)
+fn move_blocks<B: Blocks>(cell: &mut Share<B>, hand: &mut Share<B>, before: u64, after: u64)
     requires parts { (0 < cell.old.parts) × (0 < hand.old.parts) }
     requires before { hand.old.amount ≡ before }
     requires fits { after ≤ cell.old.amount + before }
@@ -109,10 +77,10 @@ impl<C: Commits, B: Blocks> LockedCell<C, B> {
         ensures amount { mine.new.amount ≡ length (blocks_of hand.new) }
     {
         laws::releases_keep_the_number_of_blocks();
-        self.cell.use_invariant();
+        self.cell.holds_together();
         let before = hand.len();
         release_on(&mut self.cell, picked, hand);
-        follow(&mut self.blocks, mine, before, hand.len());
+        move_blocks(&mut self.blocks, mine, before, hand.len());
     }
 
     /// Unlinks the pages of the log that a walk over it found, as [`fast_on`] does.
@@ -142,10 +110,10 @@ impl<C: Commits, B: Blocks> LockedCell<C, B> {
         ensures amount { mine.new.amount ≡ length (blocks_of hand.new) }
     {
         laws::cleanings_keep_the_number_of_blocks();
-        self.cell.use_invariant();
+        self.cell.holds_together();
         let before = hand.len();
         let cleaned = fast_on(&mut self.cell, unlinkable, hand);
-        follow(&mut self.blocks, mine, before, hand.len());
+        move_blocks(&mut self.blocks, mine, before, hand.len());
         cleaned
     }
 
@@ -177,10 +145,10 @@ impl<C: Commits, B: Blocks> LockedCell<C, B> {
         ensures amount { mine.new.amount ≡ length (blocks_of hand.new) }
     {
         laws::cleanings_keep_the_number_of_blocks();
-        self.cell.use_invariant();
+        self.cell.holds_together();
         let before = hand.len();
         let cleaned = thorough_on(&mut self.cell, wanted, hand);
-        follow(&mut self.blocks, mine, before, hand.len());
+        move_blocks(&mut self.blocks, mine, before, hand.len());
         cleaned
     }
 }

@@ -8,7 +8,7 @@ ghost use Rattle.nv_base.specs.Refusals.{FailsOnly};
 ghost use Rattle.nv_base.specs.declared.fault.Fault.TheVariants.{NoSpace, Stale};
 ghost use Rattle.nv_service.specs.Asking.{turned_in};
 ghost use Rattle.nv_service.specs.Ending.{CanClean, IsEmptyHand, cleaner_of};
-ghost use Rattle.nv_service.specs.Refusing.{IsMisfit, IsMisfitOrWant, MayRefuseMaintenance};
+ghost use Rattle.nv_service.specs.Refusing.{IsMisfit, IsMisfitOrWant, MayRefuseSnapshotOrCleaner};
 
 use crate::asking::Asking;
 use crate::cell::LockedCell;
@@ -49,7 +49,7 @@ pub(crate) fn clean_log<C: Commits, B: Blocks, R: Wait>(
     requires part { 0 < mine.old.parts }
     requires amount { mine.old.amount ≡ length (blocks_of hand.old) }
     requires empty { IsEmptyHand hand.old }
-    ensures err { IfErr result (MayRefuseMaintenance (cleaner_of manner ino)) }
+    ensures err { IfErr result (MayRefuseSnapshotOrCleaner (cleaner_of manner ino)) }
     ensures parts { mine.new.parts ≡ mine.old.parts }
     ensures amount { mine.new.amount ≡ length (blocks_of hand.new) }
     // A cleaner ends by `NoSpace` only where its taking fell short.

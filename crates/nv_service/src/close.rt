@@ -10,18 +10,18 @@ ghost use Rattle.nv_core.specs.declared.parts.Parts.{Parts};
 ghost use Rattle.nv_service.specs.Closing.{AreBeside, IsDifference, IsNotOlder};
 ghost use Rattle.nv_service.specs.Judging.{IsFound};
 ghost use Rattle.nv_service.specs.Opening.{blocks_in};
-ghost use Rattle.nv_service.specs.Rests.{AreAllSlots, CellRestValue, list_told, rest_told, cell_told};
+ghost use Rattle.nv_service.specs.UnlockedParts.{AreAllSlots, BesideCellValue, list_told, rest_told, cell_told};
 ghost use Rattle.nv_service.specs.Seats.{AreSeats};
 ghost use Rattle.nv_service.specs.Snapped.{AreSnapped};
 
 use crate::book::LockedBook;
 use crate::judge::Judge;
 use crate::names::{Blocks, Commits};
-use crate::rests::{CellRest, ListRest, Rests};
 use crate::seats::are_seats;
 use crate::service::Service;
 use crate::session::Session;
 use crate::unlocked::{lock_cells, lock_lists, unlock_cells, unlock_lists};
+use crate::unlocked_parts::{BesideCell, BesideList, UnlockedParts};
 use crossbeam_utils::CachePadded;
 use nv_alloc::FreeList;
 use nv_base::{Fault, Items};
@@ -33,9 +33,9 @@ use std::sync::{Mutex, Wait};
 /// Room for the parts of a service, and for what lies beside them.
 pub(crate) struct PartRoom<C: Commits, B: Blocks> {
     pub(crate) cells: Vec<InodeCell>,
-    pub(crate) cell_rests: Vec<CellRest<C, B>>,
+    pub(crate) cell_rests: Vec<BesideCell<C, B>>,
     pub(crate) lists: Vec<FreeList>,
-    pub(crate) list_rests: Vec<ListRest<B>>,
+    pub(crate) list_rests: Vec<BesideList<B>>,
 }
 
 impl<C: Commits, B: Blocks> PartRoom<C, B> {
@@ -114,7 +114,7 @@ impl<C: Commits, B: Blocks> Service<C, B> {
             ↔ (¬ AreSeats self.seating.given (map (λ s. s.number) sessions.items))) }
         // It names what differed in parts of the service's device, with as many cells.
         ensures err { IfErr result (λ refused. (refused.0 ≡ SeatsOut) ⊎ (refused.0 ≡ out_of_memory)
-            ⊎ ((parts : Parts) × (cells : List CellRestValue)
+            ⊎ ((parts : Parts) × (cells : List BesideCellValue)
             × AreBeside self.geometry (vec_len self.cells.locks) parts cells
             × IsDifference parts cells refused.0)) }
         ensures found { IfErr result (λ refused.
@@ -133,20 +133,20 @@ impl<C: Commits, B: Blocks> Service<C, B> {
             Ok(room) => room,
             Err(fault) => return Err((fault, self, sessions)),
         };
-        let (parts, rests, mut judge) = self.apart(room);
+        let (parts, rests, mut judge) = self.unlock(room);
         match judge.world_of(alloc, parts, &rests.cells) {
             Ok(world) => {
-                rests.join(rt, sessions);
+                rests.add_up(rt, sessions);
                 Ok(world)
             }
-            Err((fault, parts)) => Err((fault, rests.together(parts, judge), sessions)),
+            Err((fault, parts)) => Err((fault, rests.lock_again(parts, judge), sessions)),
         }
     }
 }
 
-impl<C: Commits, B: Blocks> Rests<C, B> {
+impl<C: Commits, B: Blocks> UnlockedParts<C, B> {
     /// Puts the parts behind their locks again.
-    fn together(self, parts: Parts, judge: Judge) -> Service<C, B>
+    fn lock_again(self, parts: Parts, judge: Judge) -> Service<C, B>
         requires cells { map rest_told self.cells.items ≡ map cell_told parts.cells }
         // All cells of a refused `close` go back in the order of their slots.
         requires slots { AreAllSlots self.cells.items }
@@ -160,7 +160,7 @@ impl<C: Commits, B: Blocks> Rests<C, B> {
         ensures given { result.seating.given ≡ self.seating.given }
         ensures judge { result.judge ≡ judge }
     {
-        let Rests {
+        let UnlockedParts {
             alloc,
             geometry: _,
             mut cell_locks,

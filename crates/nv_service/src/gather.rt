@@ -1,14 +1,14 @@
 //! Shares and notes that come back.
 
 ghost use Rattle.std.specs.Prelude.{◌≡◌, ℕ, ◌+◌, ◌≤◌, All, slice_index, sum_by, vec_len};
-ghost use Rattle.nv_service.specs.Rests.{IsKnown};
+ghost use Rattle.nv_service.specs.UnlockedParts.{IsKnown};
 
 use crate::names::{Blocks, Commits, SnapLedger};
 use crate::passes::{Fresh, Notes};
-use crate::rests::{CellRest, ListRest};
 use crate::seat::Seat;
 use crate::seats::FreeSeat;
 use crate::session::Session;
+use crate::unlocked_parts::{BesideCell, BesideList};
 use std::sync::ledger::Share;
 use std::sync::{Mutex, Wait};
 
@@ -82,7 +82,7 @@ pub(crate) fn gather_cells<C: Commits, B: Blocks, R: Wait>(
     rt: &R,
     fresh: &Fresh<C>,
     notes: &mut Notes<C>,
-    rests: Vec<CellRest<C, B>>,
+    rests: Vec<BesideCell<C, B>>,
     blocks: &mut Share<B>,
 )
     ensures parts { blocks.new.parts ≡ blocks.old.parts + vec_len rests }
@@ -91,24 +91,24 @@ pub(crate) fn gather_cells<C: Commits, B: Blocks, R: Wait>(
     ensures met { All (IsKnown C.opened notes.old) rests.items }
 {
     for rest in rests {
-        let CellRest {
+        let BesideCell {
             slot: _,
             ino: _,
             blocks: held,
             mut owner,
         } = rest;
-        owner.meet(rt, fresh, notes);
+        owner.check_seen(rt, fresh, notes);
         blocks.merge(held);
     }
 }
 
 /// Takes in what lay beside the lists.
-pub(crate) fn gather_lists<B: Blocks>(rests: Vec<ListRest<B>>, blocks: &mut Share<B>)
+pub(crate) fn gather_lists<B: Blocks>(rests: Vec<BesideList<B>>, blocks: &mut Share<B>)
     ensures parts { blocks.new.parts ≡ blocks.old.parts + vec_len rests }
     ensures amount { blocks.new.amount ≡ blocks.old.amount + sum_by (λ r. r) rests.items }
 {
     for rest in rests {
-        let ListRest { blocks: held } = rest;
+        let BesideList { blocks: held } = rest;
         blocks.merge(held);
     }
 }

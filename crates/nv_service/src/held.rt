@@ -10,7 +10,7 @@ ghost use Rattle.nv_service.specs.Refusing.{failed_by};
 
 use crate::cell::LockedCell;
 use crate::change::{Change, ChangeEnd, change_over};
-use crate::lending::{lend, settle};
+use crate::lending::{borrow_share, return_share};
 use crate::names::{Blocks, Commits};
 use crate::over::{over_four, over_three, over_two};
 use crate::seat::Seat;
@@ -57,7 +57,7 @@ pub(crate) fn change_one<C: Commits, B: Blocks, S: Source, R: Wait>(
     ensures reads { S.failed source.new ≡ S.failed source.old + failed_by result.1 }
     ensures short { seat.new.asking.turn ≡ turned_end result.1 seat.old.asking.turn }
 {
-    let version = lend(
+    let version = borrow_share(
         rt,
         &service.fresh,
         &mut seat.notes,
@@ -71,7 +71,7 @@ pub(crate) fn change_one<C: Commits, B: Blocks, S: Source, R: Wait>(
         cell: &mut cell.cell,
     };
     let done = change_over(rt, service, seat, &mut lent, change, source);
-    settle(
+    return_share(
         rt,
         &service.fresh,
         &mut seat.notes,
@@ -119,7 +119,7 @@ pub(crate) fn change_two<C: Commits, B: Blocks, S: Source, R: Wait>(
     ensures reads { S.failed source.new ≡ S.failed source.old + failed_by result.1 }
     ensures short { seat.new.asking.turn ≡ turned_end result.1 seat.old.asking.turn }
 {
-    let first_version = lend(
+    let first_version = borrow_share(
         rt,
         &service.fresh,
         &mut seat.notes,
@@ -128,7 +128,7 @@ pub(crate) fn change_two<C: Commits, B: Blocks, S: Source, R: Wait>(
         &first.cell,
         &mut first.blocks,
     );
-    let second_version = lend(
+    let second_version = borrow_share(
         rt,
         &service.fresh,
         &mut seat.notes,
@@ -147,7 +147,7 @@ pub(crate) fn change_two<C: Commits, B: Blocks, S: Source, R: Wait>(
         change,
         source,
     );
-    settle(
+    return_share(
         rt,
         &service.fresh,
         &mut seat.notes,
@@ -157,7 +157,7 @@ pub(crate) fn change_two<C: Commits, B: Blocks, S: Source, R: Wait>(
         &mut first.blocks,
         first_version,
     );
-    settle(
+    return_share(
         rt,
         &service.fresh,
         &mut seat.notes,
@@ -208,7 +208,7 @@ pub(crate) fn change_three<C: Commits, B: Blocks, S: Source, R: Wait>(
     ensures reads { S.failed source.new ≡ S.failed source.old + failed_by result.1 }
     ensures short { seat.new.asking.turn ≡ turned_end result.1 seat.old.asking.turn }
 {
-    let first_version = lend(
+    let first_version = borrow_share(
         rt,
         &service.fresh,
         &mut seat.notes,
@@ -217,7 +217,7 @@ pub(crate) fn change_three<C: Commits, B: Blocks, S: Source, R: Wait>(
         &first.cell,
         &mut first.blocks,
     );
-    let second_version = lend(
+    let second_version = borrow_share(
         rt,
         &service.fresh,
         &mut seat.notes,
@@ -226,7 +226,7 @@ pub(crate) fn change_three<C: Commits, B: Blocks, S: Source, R: Wait>(
         &second.cell,
         &mut second.blocks,
     );
-    let third_version = lend(
+    let third_version = borrow_share(
         rt,
         &service.fresh,
         &mut seat.notes,
@@ -246,7 +246,7 @@ pub(crate) fn change_three<C: Commits, B: Blocks, S: Source, R: Wait>(
         change,
         source,
     );
-    settle(
+    return_share(
         rt,
         &service.fresh,
         &mut seat.notes,
@@ -256,7 +256,7 @@ pub(crate) fn change_three<C: Commits, B: Blocks, S: Source, R: Wait>(
         &mut first.blocks,
         first_version,
     );
-    settle(
+    return_share(
         rt,
         &service.fresh,
         &mut seat.notes,
@@ -266,7 +266,7 @@ pub(crate) fn change_three<C: Commits, B: Blocks, S: Source, R: Wait>(
         &mut second.blocks,
         second_version,
     );
-    settle(
+    return_share(
         rt,
         &service.fresh,
         &mut seat.notes,
@@ -320,7 +320,7 @@ pub(crate) fn change_four<C: Commits, B: Blocks, S: Source, R: Wait>(
     ensures reads { S.failed source.new ≡ S.failed source.old + failed_by result.1 }
     ensures short { seat.new.asking.turn ≡ turned_end result.1 seat.old.asking.turn }
 {
-    let first_version = lend(
+    let first_version = borrow_share(
         rt,
         &service.fresh,
         &mut seat.notes,
@@ -329,7 +329,7 @@ pub(crate) fn change_four<C: Commits, B: Blocks, S: Source, R: Wait>(
         &first.cell,
         &mut first.blocks,
     );
-    let second_version = lend(
+    let second_version = borrow_share(
         rt,
         &service.fresh,
         &mut seat.notes,
@@ -338,7 +338,7 @@ pub(crate) fn change_four<C: Commits, B: Blocks, S: Source, R: Wait>(
         &second.cell,
         &mut second.blocks,
     );
-    let third_version = lend(
+    let third_version = borrow_share(
         rt,
         &service.fresh,
         &mut seat.notes,
@@ -347,7 +347,7 @@ pub(crate) fn change_four<C: Commits, B: Blocks, S: Source, R: Wait>(
         &third.cell,
         &mut third.blocks,
     );
-    let fourth_version = lend(
+    let fourth_version = borrow_share(
         rt,
         &service.fresh,
         &mut seat.notes,
@@ -368,7 +368,7 @@ pub(crate) fn change_four<C: Commits, B: Blocks, S: Source, R: Wait>(
         change,
         source,
     );
-    settle(
+    return_share(
         rt,
         &service.fresh,
         &mut seat.notes,
@@ -378,7 +378,7 @@ pub(crate) fn change_four<C: Commits, B: Blocks, S: Source, R: Wait>(
         &mut first.blocks,
         first_version,
     );
-    settle(
+    return_share(
         rt,
         &service.fresh,
         &mut seat.notes,
@@ -388,7 +388,7 @@ pub(crate) fn change_four<C: Commits, B: Blocks, S: Source, R: Wait>(
         &mut second.blocks,
         second_version,
     );
-    settle(
+    return_share(
         rt,
         &service.fresh,
         &mut seat.notes,
@@ -398,7 +398,7 @@ pub(crate) fn change_four<C: Commits, B: Blocks, S: Source, R: Wait>(
         &mut third.blocks,
         third_version,
     );
-    settle(
+    return_share(
         rt,
         &service.fresh,
         &mut seat.notes,

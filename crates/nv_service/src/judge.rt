@@ -6,10 +6,10 @@ ghost use Rattle.nv_core.specs.AtRest.{AreJudged, at_rest, parts_of};
 ghost use Rattle.nv_core.specs.Worlds.{Shows};
 ghost use Rattle.nv_service.specs.Closing.{IsDifference};
 ghost use Rattle.nv_service.specs.Judging.{IsFound, after_refusal};
-ghost use Rattle.nv_service.specs.Rests.{AreInPlace};
+ghost use Rattle.nv_service.specs.UnlockedParts.{AreInPlace};
 
 use crate::names::{Blocks, Commits};
-use crate::rests::{CellRest, are_in_place};
+use crate::unlocked_parts::{BesideCell, are_in_place};
 use nv_base::{Fault, MismatchPart};
 use nv_core::{Parts, World};
 use std::alloc::Global;
@@ -56,7 +56,7 @@ impl Judge {
         &mut self,
         alloc: Global,
         parts: Parts,
-        cells: &[CellRest<C, B>],
+        cells: &[BesideCell<C, B>],
     ) -> Result<World, (Fault, Parts)>
         ensures shows { IfOk result (λ world. Shows world (at_rest parts)) }
         ensures parts { IfOk result (λ world. parts_of world.shared ≡ parts) }
@@ -93,7 +93,7 @@ impl Judge {
 fn in_place<C: Commits, B: Blocks>(
     alloc: Global,
     parts: Parts,
-    cells: &[CellRest<C, B>],
+    cells: &[BesideCell<C, B>],
 ) -> Result<World, (Fault, Parts)>
     ensures shows { IfOk result (λ world. Shows world (at_rest parts)) }
     ensures parts { IfOk result (λ world. parts_of world.shared ≡ parts) }

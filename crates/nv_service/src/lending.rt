@@ -11,7 +11,7 @@ use std::sync::ledger::Share;
 
 /// Lends the blocks of a cell to a seat's share, and gives the version of the cell, which is at least the one that the
 /// seat's notes have.
-pub(crate) fn lend<C: Commits, B: Blocks, R: Wait>(
+pub(crate) fn borrow_share<C: Commits, B: Blocks, R: Wait>(
     rt: &R,
     fresh: &Fresh<C>,
     notes: &mut Notes<C>,
@@ -33,15 +33,15 @@ pub(crate) fn lend<C: Commits, B: Blocks, R: Wait>(
     ensures parts { blocks.new.parts ≡ blocks.old.parts }
     ensures blocks { blocks.new.amount ≡ 0 }
 {
-    cell.use_invariant();
-    owner.meet(rt, fresh, notes);
+    cell.holds_together();
+    owner.check_seen(rt, fresh, notes);
     blocks.transfer(mine, cell.blocks());
     cell.version()
 }
 
 /// Takes the blocks of a cell back that was lent at a version. Where a commit raised the version, the pass follows it,
 /// and the notes have then seen a higher one of the inode.
-pub(crate) fn settle<C: Commits, B: Blocks, R: Wait>(
+pub(crate) fn return_share<C: Commits, B: Blocks, R: Wait>(
     rt: &R,
     fresh: &Fresh<C>,
     notes: &mut Notes<C>,
@@ -77,5 +77,5 @@ pub(crate) fn settle<C: Commits, B: Blocks, R: Wait>(
         return;
     }
     owner.raise(rt, fresh);
-    owner.tell(fresh, notes);
+    owner.note_seen(fresh, notes);
 }

@@ -1,7 +1,7 @@
 //! Two to four cells that are lent, one above the other.
 //!
 //! Each count has a type of its own. What a loan leaves behind its reference is known where the type names the reference, and not
-//! where the reference lies in a type parameter, as in [`nv_calls::LentCell`].
+//! where the reference lies in a type parameter.
 
 use nv_alloc::{Block, BlockQueue};
 use nv_base::{Fault, Ino};

@@ -25,7 +25,7 @@ impl<C: Commits, B: Blocks> Session<C, B> {
         ensures met { version_at C.opened cell.old.ino (slice_index self.old.seen cell.old.ino)
             ≤ cell.old.cell.state.version }
     {
-        cell.meet(rt, &service.fresh, &mut self.seat.notes);
+        cell.check_seen(rt, &service.fresh, &mut self.seat.notes);
     }
 
     /// Nothing changes. Whoever holds the book's guard and the session finds at least the commits that stood at the opening

@@ -96,7 +96,7 @@ impl Blocks for Brand {
 
 /// The ledgers and the freshness cell of a service that is to be opened, which no types stand for yet.
 #[derive(Drop)]
-pub struct Names {
+pub struct Ledgers {
     commits: Blank,
     snapshots: Blank,
     blocks: Blank,
@@ -104,13 +104,13 @@ pub struct Names {
     pass: FreshPass,
 }
 
-impl Model for Names {
+impl Model for Ledgers {
     ghost use Rattle.std.specs.Prelude.{◌≡◌};
     ghost use Rattle.crossbeam_utils.specs.Seq.{cell_view};
     ghost use Rattle.nv_service.specs.Fresh.{maker};
-    ghost use Rattle.nv_service.specs.Names.{NamesValue, commit_parts};
+    ghost use Rattle.nv_service.specs.Names.{LedgersValue, commit_parts};
 
-    ghost Value = { NamesValue };
+    ghost Value = { LedgersValue };
 
     ghost view = { λ n. record {
       commits = record { name = n.commits.name; parts = n.commits.parts };
@@ -146,12 +146,12 @@ pub(crate) struct Opened<C: Commits, B: Blocks> {
     pub(crate) all_blocks: Share<B>,
 }
 
-impl Names {
+impl Ledgers {
     /// Names for a service over a device with this geometry. The ledgers of commits and of snapshots have a part for each
     /// seat, the ledger of blocks one for each inode slot, each CPU and each seat, and all have one part more.
     ///
     /// The only error is `OutOfMemory`.
-    pub fn new(alloc: Global, geometry: &Geometry) -> Result<Names, Fault>
+    pub fn new(alloc: Global, geometry: &Geometry) -> Result<Ledgers, Fault>
         // The ledger of blocks has a part for each inode slot, each CPU and each seat, and one more.
         ensures blocks { IfOk result (λ names. names.blocks.parts
             ≡ block_parts geometry.now.numbers) }
@@ -160,7 +160,7 @@ impl Names {
         let numbers = geometry.numbers;
         let seats = limits::ACTORS + 1;
         let (cell, pass) = FreshCell::ruled(alloc, [0])?;
-        Ok(Names {
+        Ok(Ledgers {
             commits: Blank::new(seats),
             snapshots: Blank::new(seats),
             blocks: Blank::new(numbers.inodes + numbers.cpus + seats),
@@ -184,7 +184,7 @@ impl Names {
         ensures blocks { (result.blocks.total ≡ 0) × (result.all_blocks.amount ≡ 0) }
         ensures parts { result.all_blocks.parts ≡ block_parts geometry.now.numbers }
     {
-        let Names {
+        let Ledgers {
             commits,
             snapshots,
             blocks,

@@ -14,7 +14,7 @@ ghost use Rattle.nv_service.specs.Opening.{blocks_in};
 use crate::book::LockedBook;
 use crate::first_locks::{LockRoom, lock_first_cells, lock_first_lists};
 use crate::judge::Judge;
-use crate::names::{Blocks, Commits, Names, Opened};
+use crate::names::{Blocks, Commits, Ledgers, Opened};
 use crate::seats::{Reserve, Seating, free_seats};
 use crate::service::Service;
 use crossbeam_utils::CachePadded;
@@ -28,17 +28,17 @@ impl<C: Commits, B: Blocks> Service<C, B> {
     /// beside its cell. The names are those of the ledgers, and these say what stands now: the number of the last
     /// commit, the epoch, how many snapshots live, and the version of each inode.
     ///
-    /// `OutOfMemory` where room was refused, before anything else; `ActorBusy` where an actor has a call. World and names
+    /// `OutOfMemory` where room was refused, before anything else; `ActorBusy` where an actor has a call. World and ledgers
     /// come back as they were.
     pub fn open(
         alloc: Global,
         world: World,
-        names: Names,
-    ) -> Result<Service<C, B>, (Fault, World, Names)>
-        requires commits { AreCommitNames names C.name C.parts C.whole C.table }
-        requires snapshots { AreSnapshotNames names C.snap_name C.snap_parts }
+        ledgers: Ledgers,
+    ) -> Result<Service<C, B>, (Fault, World, Ledgers)>
+        requires commits { AreCommitNames ledgers C.name C.parts C.whole C.table }
+        requires snapshots { AreSnapshotNames ledgers C.snap_name C.snap_parts }
         // The blocks of cells and free lists are those of the ledger, and the device stays.
-        requires blocks { AreBlockNames names B.name B.parts B.whole B.placed
+        requires blocks { AreBlockNames ledgers B.name B.parts B.whole B.placed
             world.shared.geometry.numbers }
         requires stood { (C.commit ≡ world.shared.book.state.commit)
             × (C.epoch ≡ world.shared.book.state.snaps.epoch)
@@ -50,32 +50,36 @@ impl<C: Commits, B: Blocks> Service<C, B> {
         ensures seats { IfOk result (λ service. service.seating.given ≡ 0) }
         // It opens only where no actor has a call.
         ensures idle { (m : machine.World) → Shows world m → OnOk result (¬ IsBusy m) }
-        // It fails only where room is refused, or an actor has a call, and world and names come back.
+        // It fails only where room is refused, or an actor has a call, and world and ledgers come back.
         ensures err { (m : machine.World) → Shows world m → IfErr result (λ refused.
             (refused.0 ≡ out_of_memory) ⊎ ((refused.0 ≡ ActorBusy) × IsBusy m)) }
-        ensures same { IfErr result (λ refused. (refused.1 ≡ world) × (refused.2 ≡ names)) }
+        ensures same { IfErr result (λ refused. (refused.1 ≡ world) × (refused.2 ≡ ledgers)) }
     {
         let room = match LockRoom::new(alloc, world.inodes(), world.cpus()) {
             Ok(room) => room,
-            Err(fault) => return Err((fault, world, names)),
+            Err(fault) => return Err((fault, world, ledgers)),
         };
-        // It tells that there is a part for each slot and each CPU, and that each block stands once.
         world.consistent();
         match world.into_parts() {
-            Ok(parts) => Ok(Service::of_parts(alloc, parts, names, room)),
+            Ok(parts) => Ok(Service::of_parts(alloc, parts, ledgers, room)),
             Err((fault, world)) => {
                 room.destroy_empty();
-                Err((fault, world, names))
+                Err((fault, world, ledgers))
             }
         }
     }
 
     /// A service of these parts, in room that was made before.
     /// The book goes behind its lock with the snapshots of the world.
-    fn of_parts(alloc: Global, parts: Parts, names: Names, room: LockRoom<C, B>) -> Service<C, B>
-        requires commits { AreCommitNames names C.name C.parts C.whole C.table }
-        requires snapshots { AreSnapshotNames names C.snap_name C.snap_parts }
-        requires blocks { AreBlockNames names B.name B.parts B.whole B.placed
+    fn of_parts(
+        alloc: Global,
+        parts: Parts,
+        ledgers: Ledgers,
+        room: LockRoom<C, B>,
+    ) -> Service<C, B>
+        requires commits { AreCommitNames ledgers C.name C.parts C.whole C.table }
+        requires snapshots { AreSnapshotNames ledgers C.snap_name C.snap_parts }
+        requires blocks { AreBlockNames ledgers B.name B.parts B.whole B.placed
             parts.geometry.numbers }
         requires stood { (C.commit ≡ parts.book.state.commit)
             × (C.epoch ≡ parts.book.state.snaps.epoch)
@@ -103,7 +107,7 @@ impl<C: Commits, B: Blocks> Service<C, B> {
             all_snapped: mut spare_snapped,
             blocks: mut counts,
             all_blocks: mut spare_blocks,
-        } = names.open::<C, B>(&geometry);
+        } = ledgers.open::<C, B>(&geometry);
         let LockRoom {
             cells: cell_locks,
             lists: list_locks,

@@ -104,7 +104,7 @@ impl<C: Commits> Owner<C> {
     }
 
     /// Nobody has seen more of the inode than the version.
-    pub fn meet<R: Wait>(&mut self, rt: &R, fresh: &Fresh<C>, seen: &mut Notes<C>)
+    pub fn check_seen<R: Wait>(&mut self, rt: &R, fresh: &Fresh<C>, seen: &mut Notes<C>)
         ensures owner { self.new ≡ self.old }
         ensures seen { seen.new ≡ seen.old }
         // Nobody has seen more of an inode than its owner's version.
@@ -116,7 +116,7 @@ impl<C: Commits> Owner<C> {
     }
 
     /// Tells the version: it is seen from here on.
-    pub fn tell(&mut self, fresh: &Fresh<C>, seen: &mut Notes<C>)
+    pub fn note_seen(&mut self, fresh: &Fresh<C>, seen: &mut Notes<C>)
         ensures owner { self.new ≡ self.old }
         // A version that is told is seen from then on.
         ensures seen { seen.new ≡ greater seen.old (only_at self.old.ino self.old.version) }

@@ -4,7 +4,7 @@
 use crate::book::LockedBook;
 use crate::cell::LockedCell;
 use crate::list::LockedList;
-use crate::names::{Blocks, Commits, Names};
+use crate::names::{Blocks, Commits, Ledgers};
 use crate::passes::{Fresh, Notes};
 use nv_alloc::{FreeList, Hand, InodePool};
 use nv_book::Book;
@@ -22,14 +22,14 @@ fn parts_are_send(
     pool: &InodePool,
     book: &Book,
     hand: &Hand,
-    names: &Names,
+    ledgers: &Ledgers,
 ) {
     is_send(cell);
     is_send(list);
     is_send(pool);
     is_send(book);
     is_send(hand);
-    is_send(names);
+    is_send(ledgers);
 }
 
 /// What lies under a lock, and what a session has seen, may go to another thread.

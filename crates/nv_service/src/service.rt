@@ -3,7 +3,7 @@
 ghost use Rattle.std.specs.Prelude.{◌≡◌, ◌+◌, ◌≤◌, [], MatchOption, Some, map, slice_get, vec_capacity, vec_len};
 ghost use Rattle.std.specs.Option.{option_map};
 ghost use Rattle.crossbeam_utils.specs.Padded.{padded_value};
-ghost use Rattle.nv_service.specs.Rests.{AreAllSlots, list_told, rest_told, cell_told};
+ghost use Rattle.nv_service.specs.UnlockedParts.{AreAllSlots, list_told, rest_told, cell_told};
 ghost use Rattle.nv_service.specs.Snapped.{AreSnapped};
 
 use crate::book::LockedBook;
@@ -14,9 +14,9 @@ use crate::judge::Judge;
 use crate::list::LockedList;
 use crate::names::{Blocks, Commits};
 use crate::passes::Fresh;
-use crate::rests::Rests;
 use crate::seats::Seating;
 use crate::unlocked::{unlock_cells, unlock_lists};
+use crate::unlocked_parts::UnlockedParts;
 use crossbeam_utils::CachePadded;
 use nv_alloc::InodePool;
 use nv_base::{Geometry, Ino, Items, MismatchPart};
@@ -92,7 +92,7 @@ impl<C: Commits, B: Blocks> Service<C, B> {
 
 impl<C: Commits, B: Blocks> Service<C, B> {
     /// Takes all values out of their locks: the parts, and what lay beside them. The judge comes out too.
-    pub(crate) fn apart(self, room: PartRoom<C, B>) -> (Parts, Rests<C, B>, Judge)
+    pub(crate) fn unlock(self, room: PartRoom<C, B>) -> (Parts, UnlockedParts<C, B>, Judge)
         requires cells { (room.cells.items ≡ [])
             × (vec_len self.cells.locks ≤ vec_capacity room.cells) }
         requires cell_rests { (room.cell_rests.items ≡ [])
@@ -145,7 +145,7 @@ impl<C: Commits, B: Blocks> Service<C, B> {
             pool: pool.into_inner().into_inner(),
             book,
         };
-        let rests = Rests {
+        let rests = UnlockedParts {
             alloc,
             geometry,
             cell_locks,

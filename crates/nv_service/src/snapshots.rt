@@ -63,7 +63,7 @@ pub(crate) fn show_tree<C: Commits, B: Blocks, R: Wait>(
         let Some(handle) = walk.wanted() else {
             break;
         };
-        meet(&mut met, &handle)?;
+        note_once(&mut met, &handle)?;
         let node = node_of(rt, service, &handle, epoch)?;
         if let Some(given) = walk.hand_in(Some(node))? {
             nodes.push(given)?;
@@ -73,7 +73,7 @@ pub(crate) fn show_tree<C: Commits, B: Blocks, R: Wait>(
 }
 
 /// Marks the slot of a handle as met. `Mismatch` of `Names` where there is no such slot, or it was met before.
-fn meet(met: &mut [bool], handle: &Handle) -> Result<(), Fault>
+fn note_once(met: &mut [bool], handle: &Handle) -> Result<(), Fault>
     ensures { FailsOnly (fault.Mismatch part.Names) result }
 {
     match met.get_mut(handle.ino.number() as usize) {

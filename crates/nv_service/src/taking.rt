@@ -16,7 +16,7 @@ use crate::names::{Blocks, Commits};
 use crate::service::Service;
 use nv_alloc::{BlockQueue, Hand};
 use nv_base::{Fault, MismatchPart};
-use nv_calls::{Cells, Plan, make_room, pages_wanted};
+use nv_calls::{Cells, Update, make_room, pages_wanted};
 use std::sync::Wait;
 use std::sync::ledger::Share;
 
@@ -31,7 +31,7 @@ pub(crate) fn take_all<C: Commits, B: Blocks, L: Cells, R: Wait>(
     service: &Service<C, B>,
     number: u64,
     lent: &L,
-    plan: &Plan,
+    update: &Update,
     hand: &mut Hand,
     wanted: u64,
     mine: &mut Share<B>,
@@ -40,19 +40,19 @@ pub(crate) fn take_all<C: Commits, B: Blocks, L: Cells, R: Wait>(
     requires some { 0 < length (L.cells lent.now) }
     requires cells { AreCells (L.cells lent.now) }
     requires passed { HasPassed service.now.geometry.numbers.block (L.cells lent.now) hand.old
-        plan.now.update wanted }
+        update.now wanted }
     requires part { 0 < mine.old.parts }
     ensures err { IfErr result IsWant }
-    ensures can { OnOk result (CanReady (L.cells lent.now) hand.new plan.now.update) }
-    ensures pages { OnOk result (HasLogPages (L.cells lent.now) hand.new plan.now.update) }
+    ensures can { OnOk result (CanReady (L.cells lent.now) hand.new update.now) }
+    ensures pages { OnOk result (HasLogPages (L.cells lent.now) hand.new update.now) }
     ensures parts { mine.new.parts ≡ mine.old.parts }
     ensures amount { mine.new.amount + length (blocks_of hand.old)
         ≡ mine.old.amount + length (blocks_of hand.new) }
     ensures short { asking.new.turn ≡ turned_in result asking.old.turn }
 {
-    make_room(lent, plan, hand, wanted)?;
+    make_room(lent, update, hand, wanted)?;
     take_blocks(rt, service, number, wanted, &mut hand.data, mine, asking)?;
-    let pages = pages_wanted(lent, plan, hand);
+    let pages = pages_wanted(lent, update, hand);
     take_blocks(rt, service, number, pages, &mut hand.pages, mine, asking)
 }
 

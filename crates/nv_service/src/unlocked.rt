@@ -1,13 +1,13 @@
 //! Locked parts are taken apart for a world, and put together again where it is refused.
 
 ghost use Rattle.std.specs.Prelude.{◌≡◌, ◌≤◌, [], length, map, vec_capacity, vec_len};
-ghost use Rattle.nv_service.specs.Rests.{AreAllSlots, list_told, rest_told, cell_told};
+ghost use Rattle.nv_service.specs.UnlockedParts.{AreAllSlots, list_told, rest_told, cell_told};
 
 use crate::cell::LockedCell;
 use crate::cell_locks::CellLocks;
 use crate::list::LockedList;
 use crate::names::{Blocks, Commits};
-use crate::rests::{CellRest, ListRest};
+use crate::unlocked_parts::{BesideCell, BesideList};
 use crossbeam_utils::CachePadded;
 use nv_alloc::FreeList;
 use nv_cell::InodeCell;
@@ -18,8 +18,8 @@ use std::sync::Mutex;
 pub(crate) fn unlock_cells<C: Commits, B: Blocks>(
     locks: &mut CellLocks<C, B>,
     mut cells: Vec<InodeCell>,
-    mut rests: Vec<CellRest<C, B>>,
-) -> (Vec<InodeCell>, Vec<CellRest<C, B>>)
+    mut rests: Vec<BesideCell<C, B>>,
+) -> (Vec<InodeCell>, Vec<BesideCell<C, B>>)
     requires empty { (cells.items ≡ []) × (rests.items ≡ []) }
     requires room { (vec_len locks.old.locks ≤ vec_capacity cells)
         × (vec_len locks.old.locks ≤ vec_capacity rests) }
@@ -38,7 +38,7 @@ pub(crate) fn unlock_cells<C: Commits, B: Blocks>(
             owner,
         } = locked;
         cells.push_reserved(cell);
-        rests.push_reserved(CellRest {
+        rests.push_reserved(BesideCell {
             slot,
             ino,
             blocks,
@@ -53,7 +53,7 @@ pub(crate) fn unlock_cells<C: Commits, B: Blocks>(
 /// Puts cells and what lay beside them behind locks again, each behind that of the slot that it was taken out of.
 pub(crate) fn lock_cells<C: Commits, B: Blocks>(
     mut cells: Vec<InodeCell>,
-    mut rests: Vec<CellRest<C, B>>,
+    mut rests: Vec<BesideCell<C, B>>,
     locks: &mut CellLocks<C, B>,
 )
     requires fit { map rest_told rests.items ≡ map cell_told cells.items }
@@ -69,7 +69,7 @@ pub(crate) fn lock_cells<C: Commits, B: Blocks>(
         let Some(rest) = rests.pop() else {
             unreachable!()
         };
-        let CellRest {
+        let BesideCell {
             slot,
             ino,
             blocks,
@@ -90,8 +90,8 @@ pub(crate) fn lock_cells<C: Commits, B: Blocks>(
 pub(crate) fn unlock_lists<B: Blocks>(
     locks: &mut Vec<CachePadded<Mutex<LockedList<B>>>>,
     mut lists: Vec<FreeList>,
-    mut rests: Vec<ListRest<B>>,
-) -> (Vec<FreeList>, Vec<ListRest<B>>)
+    mut rests: Vec<BesideList<B>>,
+) -> (Vec<FreeList>, Vec<BesideList<B>>)
     requires empty { (lists.items ≡ []) × (rests.items ≡ []) }
     requires room { (vec_len locks.old ≤ vec_capacity lists)
         × (vec_len locks.old ≤ vec_capacity rests) }
@@ -102,7 +102,7 @@ pub(crate) fn unlock_lists<B: Blocks>(
     while let Some(lock) = locks.pop() {
         let LockedList { list, blocks } = lock.into_inner().into_inner();
         lists.push_reserved(list);
-        rests.push_reserved(ListRest { blocks });
+        rests.push_reserved(BesideList { blocks });
     }
     lists.reverse();
     rests.reverse();
@@ -112,7 +112,7 @@ pub(crate) fn unlock_lists<B: Blocks>(
 /// Puts free lists and what lay beside them behind locks again.
 pub(crate) fn lock_lists<B: Blocks>(
     mut lists: Vec<FreeList>,
-    mut rests: Vec<ListRest<B>>,
+    mut rests: Vec<BesideList<B>>,
     locks: &mut Vec<CachePadded<Mutex<LockedList<B>>>>,
 )
     requires fit { rests.items ≡ map list_told lists.items }
@@ -123,7 +123,7 @@ pub(crate) fn lock_lists<B: Blocks>(
         let Some(rest) = rests.pop() else {
             unreachable!()
         };
-        let ListRest { blocks } = rest;
+        let BesideList { blocks } = rest;
         locks.push_reserved(CachePadded::new(Mutex::new(LockedList { list, blocks })));
     }
     lists.destroy_empty();

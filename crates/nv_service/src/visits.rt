@@ -31,8 +31,8 @@ impl<C: Commits, B: Blocks> Session<C, B> {
         ensures refused { IfErr result (λ why. found ≡ Err why) }
     {
         let view = found?;
-        cell.meet(rt, &service.fresh, &mut self.seat.notes);
-        cell.tell(&service.fresh, &mut self.seat.notes);
+        cell.check_seen(rt, &service.fresh, &mut self.seat.notes);
+        cell.note_seen(&service.fresh, &mut self.seat.notes);
         Ok(Seen::Viewed(view))
     }
 }

@@ -5,6 +5,7 @@ ghost use Rattle.nv_base.specs.declared.limits.TheConstants.{BLOCK_BYTES};
 ghost use Rattle.nv_book.specs.Book.{after_enter};
 ghost use Rattle.nv_calls.specs.AllCalls.{is_nothing, refusal};
 ghost use Rattle.nv_calls.specs.Cells.{AreCells};
+ghost use Rattle.nv_calls.specs.Checked.{ends_over, refusal_by};
 ghost use Rattle.nv_calls.specs.Nodes.{block_in, nodes_in};
 ghost use Rattle.nv_calls.specs.Refusals.{passes};
 ghost use Rattle.nv_calls.specs.Updates.{blank_call};
@@ -16,8 +17,8 @@ use nv_base::limits::BLOCK_BYTES;
 use nv_base::{EntryId, Fault, Ino};
 use nv_book::Book;
 use nv_calls::{
-    Cells, HeldNodes, Plan, Receipt, Source, Update, check_on, commit_on, fill, laws, look_all,
-    pages_wanted, ready_on,
+    Cells, CheckEnd, HeldNodes, LookupResult, Receipt, Source, Update, commit_on, ends_at_check,
+    fill, is_nothing, laws, look_all, pages_wanted, ready_on,
 };
 use nv_cell::Stat;
 use std::alloc::Global;
@@ -29,16 +30,49 @@ pub fn checked<C: Cells>(
     cells: &C,
     number: Option<Ino>,
     update: Update,
-) -> Result<Plan, Fault>
+) -> Result<Update, Fault>
     requires cells { AreCells (C.cells cells.now) }
     requires some { 0 < length (C.cells cells.now) }
     ensures few_bytes { block_in (C.cells cells.now) ≤ BLOCK_BYTES }
-    ensures passed { let lent = C.cells cells.now in IfOk result (λ plan.
-        refusal (block_in lent) (nodes_in lent) (blank_call plan.update) ≡ passes) }
+    ensures passed { let lent = C.cells cells.now in IfOk result (λ passed.
+        refusal (block_in lent) (nodes_in lent) (blank_call passed) ≡ passes) }
 {
     assert!(rt; cells.cell(0).block_bytes() <= BLOCK_BYTES);
     let before = look_all(&HeldNodes::new(cells), &update);
-    check_on(cells, &before, number, update)
+    refused_at_check(cells, &before, number.is_some(), &update)?;
+    Ok(update)
+}
+
+/// Why the check of a call refuses it over its cells, if it does. One of which a name was bound anew is `Contended`.
+pub fn refused_at_check<C: Cells>(
+    cells: &C,
+    before: &LookupResult,
+    has_number: bool,
+    update: &Update,
+) -> Result<(), Fault>
+    requires few { length (C.cells cells.now) ≤ 4 }
+    requires few_bytes { block_in (C.cells cells.now) ≤ BLOCK_BYTES }
+    ensures { let lent = C.cells cells.now in result ≡ refusal_by
+        (ends_over (block_in lent) (nodes_in lent) before.now has_number update.now) }
+{
+    let nodes = HeldNodes::new(cells);
+    match ends_at_check(block_in(cells), &nodes, before, update, has_number) {
+        Err(CheckEnd::Refuses(fault)) => Err(fault),
+        Err(CheckEnd::BoundAnew) => Err(Fault::Contended),
+        Err(CheckEnd::Answers) | Ok(_) => Ok(()),
+    }
+}
+
+/// The bytes of a block, which are the same for all cells.
+fn block_in<C: Cells>(cells: &C) -> u64
+    requires { length (C.cells cells.now) ≤ 4 }
+    ensures value { result ≡ block_in (C.cells cells.now) }
+    ensures some { 0 < result }
+{
+    if cells.count() == 0 {
+        return 1;
+    }
+    cells.cell(0).block_bytes()
 }
 
 /// What a call that is given up leaves of a cell as it was.
@@ -75,7 +109,7 @@ pub fn committed<C: Cells, S: Source>(
     alloc: Global,
     book: &mut Book,
     cells: &mut C,
-    plan: Plan,
+    update: Update,
     hand: Hand,
     source: &mut S,
 ) -> Result<(Receipt, Hand), (Fault, Hand)>
@@ -83,18 +117,18 @@ pub fn committed<C: Cells, S: Source>(
     requires some { 0 < length (C.cells cells.old) }
     requires few_bytes { block_in (C.cells cells.old) ≤ BLOCK_BYTES }
     requires passed { let lent = C.cells cells.old in
-        refusal (block_in lent) (nodes_in lent) (blank_call plan.update) ≡ passes }
-    requires something { is_nothing (blank_call plan.update) ≡ false }
+        refusal (block_in lent) (nodes_in lent) (blank_call update) ≡ passes }
+    requires something { is_nothing (blank_call update) ≡ false }
     ensures given_up { IfErr result (λ _. length (C.cells cells.new) ≡ length (C.cells cells.old)) }
 {
     let pages = hand.pages.len();
-    assert!(rt; can_ready(cells, &plan, &hand) && source.failures() < u64::MAX);
-    assert!(rt; has_log_pages(cells, &plan, &hand));
-    same(rt, pages_wanted(cells, &plan, &hand), pages);
+    assert!(rt; can_ready(cells, &update, &hand) && source.failures() < u64::MAX);
+    assert!(rt; has_log_pages(cells, &update, &hand));
+    same(rt, pages_wanted(cells, &update, &hand), pages);
     laws::what_is_ready_can_be_filled();
     laws::what_is_filled_stays_ready();
     laws::what_is_ready_can_be_committed();
-    let mut ready = ready_on(alloc, cells, plan, hand)?;
+    let mut ready = ready_on(alloc, cells, update, hand)?;
     if let Err(fault) = fill(&mut ready, cells, source) {
         return Err((fault, ready.into_hand()));
     }
@@ -125,14 +159,14 @@ pub fn make_call<C: Cells, S: Source>(
     requires some { 0 < length (C.cells cells.old) }
 {
     let before = states(rt, cells);
-    let plan = match checked(rt, cells, hand.ino(), update) {
-        Ok(plan) => plan,
+    let update = match checked(rt, cells, hand.ino(), update) {
+        Ok(update) => update,
         Err(fault) => return Tried::Refused(fault, hand),
     };
-    if plan.nothing() {
+    if is_nothing(&update) {
         return Tried::Nothing(hand);
     }
-    match committed(rt, alloc, book, cells, plan, hand, source) {
+    match committed(rt, alloc, book, cells, update, hand, source) {
         Ok((receipt, hand)) => {
             assert!(rt; is_closed(book));
             Tried::Committed(receipt, hand)

@@ -17,7 +17,7 @@ use nv_alloc::{Block, BlockQueue, Hand};
 use nv_base::limits::NUMBER;
 use nv_base::{BlockNo, Ino};
 use nv_book::Book;
-use nv_calls::{Cells, HeldNodes, Plan, Ready, Update, ends_at_check, look_all, pages_wanted};
+use nv_calls::{Cells, HeldNodes, Ready, Update, ends_at_check, look_all, pages_wanted};
 use nv_cell::InodeCell;
 use std::collections::vec_deque;
 
@@ -115,30 +115,30 @@ fn has_its_blocks<C: Cells>(cells: &C, update: &Update, hand: &Hand) -> bool
 }
 
 /// Whether a call that passed its check can be made ready with a hand.
-pub fn can_ready<C: Cells>(cells: &C, plan: &Plan, hand: &Hand) -> bool
+pub fn can_ready<C: Cells>(cells: &C, update: &Update, hand: &Hand) -> bool
     requires cells { AreCells (C.cells cells.now) }
     requires some { 0 < length (C.cells cells.now) }
     requires few_bytes { block_in (C.cells cells.now) ≤ BLOCK_BYTES }
     requires passed { let lent = C.cells cells.now in
-        refusal (block_in lent) (nodes_in lent) (blank_call plan.now.update) ≡ passes }
-    requires something { is_nothing (blank_call plan.now.update) ≡ false }
-    ensures { IsTrue result → CanReady (C.cells cells.now) hand.now plan.now.update }
+        refusal (block_in lent) (nodes_in lent) (blank_call update.now) ≡ passes }
+    requires something { is_nothing (blank_call update.now) ≡ false }
+    ensures { IsTrue result → CanReady (C.cells cells.now) hand.now update.now }
 {
     let block = cells.cell(0).block_bytes();
     are_still(cells, block)
         && are_small(&hand.data)
         && hand.data.block_bytes() as u64 == block
-        && has_its_blocks(cells, &plan.update, hand)
-        && has_number(cells, &plan.update, hand.ino())
+        && has_its_blocks(cells, update, hand)
+        && has_number(cells, update, hand.ino())
 }
 
-/// Whether a hand has the log pages that a plan wants, and no chain.
-pub fn has_log_pages<C: Cells>(cells: &C, plan: &Plan, hand: &Hand) -> bool
-    requires { CanReady (C.cells cells.now) hand.now plan.now.update }
-    ensures { IsTrue result → HasLogPages (C.cells cells.now) hand.now plan.now.update }
+/// Whether a hand has the log pages that a call wants, and no chain.
+pub fn has_log_pages<C: Cells>(cells: &C, update: &Update, hand: &Hand) -> bool
+    requires { CanReady (C.cells cells.now) hand.now update.now }
+    ensures { IsTrue result → HasLogPages (C.cells cells.now) hand.now update.now }
 {
     hand.pages.block_bytes() == hand.data.block_bytes()
-        && pages_wanted(cells, plan, hand) <= hand.pages.len()
+        && pages_wanted(cells, update, hand) <= hand.pages.len()
         && hand.chain.len() == 0
 }
 

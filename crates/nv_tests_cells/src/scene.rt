@@ -1,13 +1,13 @@
 //! Four inodes, the book, and the free blocks of the first CPU.
 
-use crate::commits::make_call;
+use crate::commits::{make_call, refused_at_check};
 use crate::hands::Takes;
 use crate::says::update;
 use crate::slots::{begin, slot};
 use crate::stock::{Outcome, Stock};
 use nv_base::limits::BLOCK_BYTES;
 use nv_base::{Fault, Ino};
-use nv_calls::{Cells, LastCell, LentCell, LookupResult, Source, check_on};
+use nv_calls::{Cells, LastCell, LookupResult, SlotCells, Source};
 use nv_cell::InodeCell;
 use nv_scenes::Row;
 use nv_scenes_calls::updates::{Says, handle};
@@ -15,10 +15,7 @@ use std::alloc::Global;
 use std::process::Abort;
 
 pub struct Scene {
-    root: InodeCell,
-    first: InodeCell,
-    second: InodeCell,
-    third: InodeCell,
+    cells: [InodeCell; 4],
     pub stock: Stock,
 }
 
@@ -29,10 +26,12 @@ impl Scene {
         let mut root = slot(rt, alloc, &stock.device);
         begin(rt, &mut root, &mut stock);
         Scene {
-            root,
-            first: slot(rt, alloc, &stock.device),
-            second: slot(rt, alloc, &stock.device),
-            third: slot(rt, alloc, &stock.device),
+            cells: [
+                root,
+                slot(rt, alloc, &stock.device),
+                slot(rt, alloc, &stock.device),
+                slot(rt, alloc, &stock.device),
+            ],
             stock,
         }
     }
@@ -62,24 +61,13 @@ impl Scene {
         let alloc = self.stock.alloc;
         let call = update(rt, alloc, says);
         let hand = self.stock.take(rt, takes);
-        let mut cells = LentCell {
-            ino: Ino::new(0),
-            cell: &mut self.root,
-            higher: LentCell {
-                ino: Ino::new(1),
-                cell: &mut self.first,
-                higher: LentCell {
-                    ino: Ino::new(2),
-                    cell: &mut self.second,
-                    higher: LastCell {
-                        ino: Ino::new(3),
-                        cell: &mut self.third,
-                    },
-                },
-            },
+        let slots = [Ino::new(0), Ino::new(1), Ino::new(2), Ino::new(3)];
+        let mut lent = SlotCells {
+            cells: &mut self.cells,
+            slots: &slots,
         };
         let book = &mut self.stock.book;
-        let tried = make_call(rt, alloc, book, &mut cells, call, hand, source);
+        let tried = make_call(rt, alloc, book, &mut lent, call, hand, source);
         self.stock.settle(rt, says, takes, tried)
     }
 
@@ -91,48 +79,39 @@ impl Scene {
         };
         let cells = LastCell {
             ino: Ino::new(0),
-            cell: &mut self.root,
+            cell: &mut self.cells[0],
         };
         assert!(rt; cells.cell(0).block_bytes() <= BLOCK_BYTES);
-        check_on(&cells, &before, None, update(rt, self.stock.alloc, says)).err()
+        let call = update(rt, self.stock.alloc, says);
+        refused_at_check(&cells, &before, false, &call).err()
     }
 
     /// The cell of an inode that is said.
     pub fn cell(&self, rt: &impl Abort, said: u64) -> &InodeCell {
         match said % 10 {
-            0 => &self.root,
-            1 => &self.first,
-            2 => &self.second,
-            3 => &self.third,
+            0 => &self.cells[0],
+            1 => &self.cells[1],
+            2 => &self.cells[2],
+            3 => &self.cells[3],
             _ => panic!(rt; "no inode {said}"),
         }
     }
 
     /// The cells by their numbers, and what calls share.
     pub fn into_cells(self, rt: &impl Abort, alloc: Global) -> (Vec<InodeCell>, Stock) {
-        let Scene {
-            root,
-            first,
-            second,
-            third,
-            stock,
-        } = self;
-        let mut cells = Vec::new(alloc);
-        push_cell(rt, &mut cells, root);
-        push_cell(rt, &mut cells, first);
-        push_cell(rt, &mut cells, second);
-        push_cell(rt, &mut cells, third);
-        (cells, stock)
+        let Scene { cells, stock } = self;
+        let [root, first, second, third] = cells;
+        let mut list = Vec::new(alloc);
+        push_cell(rt, &mut list, root);
+        push_cell(rt, &mut list, first);
+        push_cell(rt, &mut list, second);
+        push_cell(rt, &mut list, third);
+        (list, stock)
     }
 
     pub fn dismantle(self) {
-        let Scene {
-            root,
-            first,
-            second,
-            third,
-            stock,
-        } = self;
+        let Scene { cells, stock } = self;
+        let [root, first, second, third] = cells;
         root.dismantle();
         first.dismantle();
         second.dismantle();

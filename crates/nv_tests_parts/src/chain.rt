@@ -119,13 +119,10 @@ fn assert_pages(rt: &impl Abort, chain: &Chain, pages: &[Page], log: &[u64]) {
             number_at(chain.blocks(), k),
             Some(BlockNo::new(*number)),
         );
-        assert_commits(rt, chain.page_entries(k), commits);
-        same(
-            rt,
-            (chain.page_start(k), chain.page_len(k)),
-            (end, commits.len()),
-        );
+        let start = chain.page_start(k);
+        same(rt, start, end);
         end = chain.page_end(k);
+        assert_commits(rt, &chain.entries()[start..end], commits);
         assert!(rt; k >= chain.ends().len() || chain.ends()[k] == end);
     }
     same(rt, (chain.blocks().len(), chain.len()), (pages.len(), end));

@@ -122,7 +122,6 @@ fn the_last_page_of_an_empty_file_is_one_run(rt: HostRuntime) {
         (index.at(65_534), index.next_from(0)),
         (None, Some((65_535, lies(7, 2, 0)))),
     );
-    same(&rt, index.run_from(0).map(|run| run.page_count()), Some(1));
     index.cut_from(65_535);
     same(&rt, (index.next_from(0), index.run_count()), (None, 0));
 }

@@ -7,7 +7,7 @@ ghost use Rattle.nv_service.specs.Opened.{versions_in};
 use crate::compare::{refused_memory, same};
 use nv_base::Fault;
 use nv_core::World;
-use nv_service::{Blocks, Commits, Names, Service, Session};
+use nv_service::{Blocks, Commits, Ledgers, Service, Session};
 use std::alloc::Global;
 use std::marker::Brand;
 use std::process::Abort;
@@ -32,20 +32,20 @@ pub fn serve<W: Work, R: Threads + Wait + Abort + Sync>(
     world: World,
     work: &mut W,
 ) -> World {
-    let names = new_names(rt, alloc, &world);
-    run::<Brand, Brand, W, R>(rt, alloc, world, names, work)
+    let ledgers = new_ledgers(rt, alloc, &world);
+    run::<Brand, Brand, W, R>(rt, alloc, world, ledgers, work)
 }
 
 /// Names for a service on a world.
-pub fn new_names(rt: &impl Abort, alloc: Global, world: &World) -> Names
+pub fn new_ledgers(rt: &impl Abort, alloc: Global, world: &World) -> Ledgers
     ensures { result.blocks.parts ≡ block_parts world.now.shared.geometry.numbers }
 {
     let device = world.geometry();
-    match Names::new(alloc, device) {
-        Ok(names) => return names,
+    match Ledgers::new(alloc, device) {
+        Ok(ledgers) => return ledgers,
         Err(fault) => refused_memory(rt, fault),
     }
-    Names::new(alloc, device).expect(rt, "memory for names")
+    Ledgers::new(alloc, device).expect(rt, "memory for ledgers")
 }
 
 /// The same under names of their own for both ledgers.
@@ -54,17 +54,17 @@ fn run<
     B: Blocks + Send + Sync,
     W: Work,
     R: Threads + Wait + Abort + Sync,
->(rt: &R, alloc: Global, world: World, names: Names, work: &mut W) -> World
-    requires commits { AreCommitNames names C.name C.parts C.whole C.table }
-    requires snapshots { AreSnapshotNames names C.snap_name C.snap_parts }
-    requires blocks { AreBlockNames names B.name B.parts B.whole B.placed
+>(rt: &R, alloc: Global, world: World, ledgers: Ledgers, work: &mut W) -> World
+    requires commits { AreCommitNames ledgers C.name C.parts C.whole C.table }
+    requires snapshots { AreSnapshotNames ledgers C.snap_name C.snap_parts }
+    requires blocks { AreBlockNames ledgers B.name B.parts B.whole B.placed
         world.shared.geometry.numbers }
     requires stood { (C.commit ≡ world.shared.book.state.commit)
         × (C.epoch ≡ world.shared.book.state.snaps.epoch)
         × (C.living ≡ length world.shared.book.state.snaps.living)
         × (C.opened ≡ versions_in world.shared.cells.items) }
 {
-    let service = opened::<C, B>(rt, alloc, world, names);
+    let service = opened::<C, B>(rt, alloc, world, ledgers);
     let (service, sessions) = work.work(rt, alloc, service);
     closed(rt, alloc, service, sessions)
 }
@@ -74,25 +74,25 @@ pub fn opened<C: Commits, B: Blocks>(
     rt: &impl Abort,
     alloc: Global,
     world: World,
-    names: Names,
+    ledgers: Ledgers,
 ) -> Service<C, B>
-    requires commits { AreCommitNames names C.name C.parts C.whole C.table }
-    requires snapshots { AreSnapshotNames names C.snap_name C.snap_parts }
-    requires blocks { AreBlockNames names B.name B.parts B.whole B.placed
+    requires commits { AreCommitNames ledgers C.name C.parts C.whole C.table }
+    requires snapshots { AreSnapshotNames ledgers C.snap_name C.snap_parts }
+    requires blocks { AreBlockNames ledgers B.name B.parts B.whole B.placed
         world.shared.geometry.numbers }
     requires stood { (C.commit ≡ world.shared.book.state.commit)
         × (C.epoch ≡ world.shared.book.state.snaps.epoch)
         × (C.living ≡ length world.shared.book.state.snaps.living)
         × (C.opened ≡ versions_in world.shared.cells.items) }
 {
-    let (world, names) = match Service::open(alloc, world, names) {
+    let (world, ledgers) = match Service::open(alloc, world, ledgers) {
         Ok(service) => return service,
-        Err((fault, world, names)) => {
+        Err((fault, world, ledgers)) => {
             refused_memory(rt, fault);
-            (world, names)
+            (world, ledgers)
         }
     };
-    match Service::open(alloc, world, names) {
+    match Service::open(alloc, world, ledgers) {
         Ok(service) => service,
         Err((fault, _, _)) => panic!(rt; "no service: {fault}"),
     }
@@ -139,26 +139,26 @@ pub fn seated<C: Commits, B: Blocks>(
 
 /// No service opens on a world in which an actor has a call: it comes back.
 pub fn busy_comes_back(rt: &impl Abort, alloc: Global, world: World) -> World {
-    let names = new_names(rt, alloc, &world);
-    refused_as_busy::<Brand, Brand>(rt, alloc, world, names)
+    let ledgers = new_ledgers(rt, alloc, &world);
+    refused_as_busy::<Brand, Brand>(rt, alloc, world, ledgers)
 }
 
 fn refused_as_busy<C: Commits, B: Blocks>(
     rt: &impl Abort,
     alloc: Global,
     world: World,
-    names: Names,
+    ledgers: Ledgers,
 ) -> World
-    requires commits { AreCommitNames names C.name C.parts C.whole C.table }
-    requires snapshots { AreSnapshotNames names C.snap_name C.snap_parts }
-    requires blocks { AreBlockNames names B.name B.parts B.whole B.placed
+    requires commits { AreCommitNames ledgers C.name C.parts C.whole C.table }
+    requires snapshots { AreSnapshotNames ledgers C.snap_name C.snap_parts }
+    requires blocks { AreBlockNames ledgers B.name B.parts B.whole B.placed
         world.shared.geometry.numbers }
     requires stood { (C.commit ≡ world.shared.book.state.commit)
         × (C.epoch ≡ world.shared.book.state.snaps.epoch)
         × (C.living ≡ length world.shared.book.state.snaps.living)
         × (C.opened ≡ versions_in world.shared.cells.items) }
 {
-    match Service::<C, B>::open(alloc, world, names) {
+    match Service::<C, B>::open(alloc, world, ledgers) {
         Ok(_) => panic!(rt; "a service on a busy world"),
         Err((fault, world, _)) => {
             same(rt, fault, Fault::ActorBusy);

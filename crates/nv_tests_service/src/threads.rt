@@ -4,9 +4,9 @@ ghost use Rattle.std.specs.Prelude.{◌≡◌, length};
 ghost use Rattle.nv_service.specs.Names.{AreBlockNames, AreCommitNames, AreSnapshotNames};
 ghost use Rattle.nv_service.specs.Opened.{versions_in};
 
-use crate::runner::{closed, new_names, opened, seated};
+use crate::runner::{closed, new_ledgers, opened, seated};
 use nv_core::World;
-use nv_service::{Blocks, Commits, Names, Service, Session};
+use nv_service::{Blocks, Commits, Ledgers, Service, Session};
 use std::alloc::Global;
 use std::marker::Brand;
 use std::process::Abort;
@@ -38,8 +38,8 @@ pub fn serve_in_threads<A: Acts + Sync, R: Threads + Wait + Abort + Sync>(
     count: u64,
     acts: &A,
 ) -> World {
-    let names = new_names(rt, alloc, &world);
-    run_in_threads::<Brand, Brand, A, R>(rt, alloc, world, names, count, acts)
+    let ledgers = new_ledgers(rt, alloc, &world);
+    run_in_threads::<Brand, Brand, A, R>(rt, alloc, world, ledgers, count, acts)
 }
 
 /// The same under names of their own for both ledgers.
@@ -48,17 +48,17 @@ fn run_in_threads<
     B: Blocks + Send + Sync,
     A: Acts + Sync,
     R: Threads + Wait + Abort + Sync,
->(rt: &R, alloc: Global, world: World, names: Names, count: u64, acts: &A) -> World
-    requires commits { AreCommitNames names C.name C.parts C.whole C.table }
-    requires snapshots { AreSnapshotNames names C.snap_name C.snap_parts }
-    requires blocks { AreBlockNames names B.name B.parts B.whole B.placed
+>(rt: &R, alloc: Global, world: World, ledgers: Ledgers, count: u64, acts: &A) -> World
+    requires commits { AreCommitNames ledgers C.name C.parts C.whole C.table }
+    requires snapshots { AreSnapshotNames ledgers C.snap_name C.snap_parts }
+    requires blocks { AreBlockNames ledgers B.name B.parts B.whole B.placed
         world.shared.geometry.numbers }
     requires stood { (C.commit ≡ world.shared.book.state.commit)
         × (C.epoch ≡ world.shared.book.state.snaps.epoch)
         × (C.living ≡ length world.shared.book.state.snaps.living)
         × (C.opened ≡ versions_in world.shared.cells.items) }
 {
-    let mut service = opened::<C, B>(rt, alloc, world, names);
+    let mut service = opened::<C, B>(rt, alloc, world, ledgers);
     let mut sessions = seated(rt, alloc, &mut service, count);
     each_acts(rt, alloc, &service, sessions.as_mut_slice(), acts);
     closed(rt, alloc, service, sessions)

@@ -7,8 +7,8 @@ use Rattle.nv_alloc.proofs.Lists.{times-cons}
 use Rattle.nv_alloc.specs.Numbers.{times}
 use Rattle.nv_calls.specs.declared.call.Call.{Call}
 use Rattle.nv_calls.specs.declared.call.Call.TheVariants as call
-use Rattle.nv_calls.specs.declared.maintenance_call.MaintenanceCall.{MaintenanceCall}
-use Rattle.nv_calls.specs.declared.maintenance_call.MaintenanceCall.TheVariants as maintenance
+use Rattle.nv_calls.specs.declared.snapshot_or_cleaner_call.SnapshotOrCleanerCall.{SnapshotOrCleanerCall}
+use Rattle.nv_calls.specs.declared.snapshot_or_cleaner_call.SnapshotOrCleanerCall.TheVariants as snapshot_or_cleaner
 use Rattle.nv_calls.specs.declared.update.Update.{Update}
 use Rattle.nv_calls.specs.declared.update.Update.TheVariants as update
 use Rattle.nv_base.specs.Memory.{out_of_memory}
@@ -17,9 +17,9 @@ use Rattle.nv_base.specs.declared.fault.Fault.TheVariants as fault
 use Rattle.nv_core.specs.AtRest.{IsBusy, IsMismatchOf}
 use Rattle.nv_core.specs.declared.parts.Parts.{Parts}
 use Rattle.nv_machine.specs.World.{World}
-use Rattle.nv_service.specs.ByValue.{IsMadeAs, after_maintenance}
+use Rattle.nv_service.specs.ByValue.{IsMadeAs, after_snapshot_or_cleaner}
 use Rattle.nv_service.specs.Closing.{IsDifference}
-use Rattle.nv_service.specs.Rests.{CellRestValue}
+use Rattle.nv_service.specs.UnlockedParts.{BesideCellValue}
 use Rattle.nv_service.specs.Seats.{AreSeats, new_session}
 use Rattle.nv_service.specs.Sessions.{IsChangedBy, IsCommittedBy, IsViewedBy, SessionValue}
 use Rattle.nv_service.specs.declared.seen.Seen.{Seen}
@@ -81,14 +81,14 @@ viewed_seat opened before after ino c (seen.Viewed view) is = is.seat
 viewed_seat opened before after ino c (seen.Committed receipt) is = absurd is
 viewed_seat opened before after ino c (seen.Other answer) is = absurd is
 
-maintained_seat : (c : MaintenanceCall) (before : SessionValue) → (after_maintenance c before).number ≡ before.number
-maintained_seat maintenance.Snap before = refl
-maintained_seat (maintenance.Drop snapshot) before = refl
-maintained_seat (maintenance.Show snapshot) before = refl
-maintained_seat (maintenance.Drain number) before = refl
-maintained_seat (maintenance.Fast ino) before = refl
-maintained_seat (maintenance.Thorough ino) before = refl
-maintained_seat (maintenance.Auto ino) before = refl
+maintained_seat : (c : SnapshotOrCleanerCall) (before : SessionValue) → (after_snapshot_or_cleaner c before).number ≡ before.number
+maintained_seat snapshot_or_cleaner.Snap before = refl
+maintained_seat (snapshot_or_cleaner.Drop snapshot) before = refl
+maintained_seat (snapshot_or_cleaner.Show snapshot) before = refl
+maintained_seat (snapshot_or_cleaner.Drain number) before = refl
+maintained_seat (snapshot_or_cleaner.Fast ino) before = refl
+maintained_seat (snapshot_or_cleaner.Thorough ino) before = refl
+maintained_seat (snapshot_or_cleaner.Auto ino) before = refl
 
 pub made_seat : (opening : ℕ) (opened : List ℕ) (before after : SessionValue) (c : Call) (s : Seen)
     → IsMadeAs opening opened before after c s → after.number ≡ before.number
@@ -106,7 +106,7 @@ made_seat opening opened before after (call.Read file offset count) s is = viewe
 made_seat opening opened before after (call.Stat handle) s is = viewed_seat opened before after _ _ s is
 made_seat opening opened before after (call.List dir) s is = viewed_seat opened before after _ _ s is
 made_seat opening opened before after (call.Lookup dir name) s is = viewed_seat opened before after _ _ s is
-made_seat opening opened before after (call.Maintenance c) s is = ap (λ (s : SessionValue). s.number) is.0 ∙ maintained_seat c before
+made_seat opening opened before after (call.SnapshotOrCleaner c) s is = ap (λ (s : SessionValue). s.number) is.0 ∙ maintained_seat c before
 
 -- ---- a service that does not close
 
@@ -115,10 +115,10 @@ mismatch (fault.Mismatch part) parts m idle is = idle
 mismatch _ parts m idle is = absurd is
 
 -- where all seats came back it is for want of memory, or because parts differ
-pub not_closed : (why : Fault) (m : World) (Back : Type 0) (Of : Parts → List CellRestValue → Type 0) → ¬ IsBusy m → Back
+pub not_closed : (why : Fault) (m : World) (Back : Type 0) (Of : Parts → List BesideCellValue → Type 0) → ¬ IsBusy m → Back
     → (why ≡ fault.SeatsOut → Back → ⊥)
     → (why ≡ fault.SeatsOut) ⊎ ((why ≡ out_of_memory)
-    ⊎ ((parts : Parts) × (cells : List CellRestValue) × Of parts cells × IsDifference parts cells why))
+    ⊎ ((parts : Parts) × (cells : List BesideCellValue) × Of parts cells × IsDifference parts cells why))
     → RefusesThreads why m
 not_closed why m Back Of idle back none (inl out) = absurd (none out back)
 not_closed why m Back Of idle back none (inr (inl starved)) = subst (λ (f : Fault). RefusesThreads f m) (sym starved) tt

@@ -18,7 +18,7 @@ use crate::forked::ForkedLines;
 use crate::gate::Gate;
 use nv_base::Fault;
 use nv_core::World;
-use nv_service::{Blocks, Commits, Names, Service};
+use nv_service::{Blocks, Commits, Ledgers, Service};
 use std::alloc::Global;
 use std::marker::Brand;
 use std::sync::Wait;
@@ -42,8 +42,8 @@ pub(crate) fn play_in_threads<G: Gate + Sync, R: Threads + Wait + Sync>(
     ensures err { (m : machine.World) → Shows world m
         → IfErr result (λ fault. RefusesThreads fault m) }
 {
-    let names = Names::new(alloc, world.geometry())?;
-    serve::<Brand, Brand, G, R>(rt, alloc, world, names, lines, cleaners, gate)
+    let ledgers = Ledgers::new(alloc, world.geometry())?;
+    serve::<Brand, Brand, G, R>(rt, alloc, world, ledgers, lines, cleaners, gate)
 }
 
 /// Plays lines in threads, as [`play_in_threads`] does, under names of their own for both ledgers of the service.
@@ -56,14 +56,14 @@ fn serve<
     rt: &R,
     alloc: Global,
     world: World,
-    names: Names,
+    ledgers: Ledgers,
     lines: ForkedLines,
     cleaners: u64,
     gate: &G,
 ) -> Result<(World, Vec<Vec<u8>>), Fault>
-    requires commits { AreCommitNames names C.name C.parts C.whole C.table }
-    requires snapshots { AreSnapshotNames names C.snap_name C.snap_parts }
-    requires blocks { AreBlockNames names B.name B.parts B.whole B.placed
+    requires commits { AreCommitNames ledgers C.name C.parts C.whole C.table }
+    requires snapshots { AreSnapshotNames ledgers C.snap_name C.snap_parts }
+    requires blocks { AreBlockNames ledgers B.name B.parts B.whole B.placed
         world.shared.geometry.numbers }
     requires stood { (C.commit ≡ world.shared.book.state.commit)
         × (C.epoch ≡ world.shared.book.state.snaps.epoch)
@@ -77,7 +77,7 @@ fn serve<
     ensures err { (m : machine.World) → Shows world m
         → IfErr result (λ fault. RefusesThreads fault m) }
 {
-    let mut service = match Service::<C, B>::open(alloc, world, names) {
+    let mut service = match Service::<C, B>::open(alloc, world, ledgers) {
         Ok(service) => service,
         Err((fault, _, _)) => return Err(fault),
     };

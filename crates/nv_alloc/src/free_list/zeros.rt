@@ -39,13 +39,11 @@ impl FreeList {
         // The only error is `OutOfMemory`.
         ensures err { FailsOnly out_of_memory result }
     {
-        // It tells that the home range ends within the device.
-        let _end = geometry.home_start(cpu + 1);
+        geometry.home_ends_within(cpu);
         let mut list = FreeList::empty(alloc, geometry, cpu)?;
         match list.add_unmarked(alloc, marks) {
             Ok(()) => {
-                // It tells that the free blocks rise, and that each is at home.
-                let _count = list.len();
+                list.rises();
                 Ok(list)
             }
             Err(error) => {

@@ -38,4 +38,4 @@ module _ (bytes : ℕ → List ℕ) (block : ℕ) (slots : ℕ → InodeSlot) (t
   call_fits (call.Stat handle) h r = no_plan bytes block slots some
   call_fits (call.List dir) h r = no_plan bytes block slots some
   call_fits (call.Lookup dir name) h r = no_plan bytes block slots some
-  call_fits (call.Maintenance c) h r = no_plan bytes block slots some
+  call_fits (call.SnapshotOrCleaner c) h r = no_plan bytes block slots some

@@ -97,7 +97,7 @@ fn test(shared: &mut Shared, running: &Running, has_number: bool) -> Result<u64,
         IsChangeWith (λ u. IfOk result (λ n. n ≡ wanted_over block lent u)) running.now.request }
 {
     let block = shared.block();
-    let update = &running.plan().update;
+    let update = running.update();
     test_in(
         block,
         &mut shared.cells,
@@ -178,8 +178,8 @@ fn make_room(
         → IsChangeWith (λ u. 0 < pages_to_take shared.old slots hand.old u) running.now.request) }
     ensures err { FailsOnly out_of_memory result }
 {
-    let plan = running.plan();
-    room_in(&mut shared.cells, &running.slots, plan, hand, wanted)
+    let update = running.update();
+    room_in(&mut shared.cells, &running.slots, update, hand, wanted)
 }
 
 /// The call wants data blocks, and log pages after them. A taking of nothing has no step.

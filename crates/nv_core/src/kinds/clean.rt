@@ -14,7 +14,7 @@ ghost use Rattle.nv_core.specs.GhostCalls.{KeepsRequest};
 use crate::kinds::compact::compact;
 use crate::kinds::fresh::take_fresh;
 use crate::kinds::unlink::unlink;
-use crate::next::{MaintenanceStep, Next, ToClean};
+use crate::next::{Next, SnapshotOrCleanerStep, ToClean};
 use crate::reservation::Reservation;
 use crate::running::Running;
 use crate::shared::Shared;
@@ -29,7 +29,8 @@ pub(crate) fn lock_cleaned(
     actor: u64,
     log: ToClean,
 ) -> Turn
-    requires next { running.old.next ≡ Next.Maintenance (MaintenanceStep.LockCleaned log) }
+    requires next { running.old.next
+        ≡ Next.SnapshotOrCleaner (SnapshotOrCleanerStep.LockCleaned log) }
     requires there { log.ino < length shared.old.owners.items }
     // A cleaner locks the slot of its number.
     // Where it waits for that lock it changes nothing.
@@ -47,11 +48,14 @@ pub(crate) fn lock_cleaned(
         return Turn::Waits;
     }
     shared.set_owner(log.ino, Some(actor));
-    running.next = Next::Maintenance(MaintenanceStep::Judge(log.manner, Some(log.ino)));
+    running.next = Next::SnapshotOrCleaner(SnapshotOrCleanerStep::PlanCleaning(
+        log.manner,
+        Some(log.ino),
+    ));
     Turn::Moves
 }
 
-/// A step of a cleaner behind its judge. None waits.
+/// A step of a cleaner behind its planning. None waits.
 pub(crate) fn clean(shared: &mut Shared, hand: &mut Hand, running: &mut Running, actor: u64) -> Turn
     requires step { IsCleaning running.old.next }
     requires can { CanStep shared.old (Reservation.Hand hand.old) running.old actor }
@@ -68,11 +72,15 @@ pub(crate) fn clean(shared: &mut Shared, hand: &mut Hand, running: &mut Running,
         (slots_in running.old.slots)) shared.old shared.new }
 {
     match mem::replace(&mut running.next, Next::Visit) {
-        Next::Maintenance(MaintenanceStep::Fresh(fresh)) => {
+        Next::SnapshotOrCleaner(SnapshotOrCleanerStep::Fresh(fresh)) => {
             take_fresh(shared, hand, running, actor, fresh)
         }
-        Next::Maintenance(MaintenanceStep::Unlink(plan)) => unlink(shared, hand, running, plan),
-        Next::Maintenance(MaintenanceStep::Compact(plan)) => compact(shared, hand, running, plan),
+        Next::SnapshotOrCleaner(SnapshotOrCleanerStep::Unlink(plan)) => unlink(
+            shared, hand, running, plan,
+        ),
+        Next::SnapshotOrCleaner(SnapshotOrCleanerStep::Compact(plan)) => compact(
+            shared, hand, running, plan,
+        ),
         _ => unreachable!(),
     }
 }

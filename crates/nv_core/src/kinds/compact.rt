@@ -19,7 +19,7 @@ use crate::turn::Turn;
 use nv_alloc::Hand;
 use nv_clean::thorough_on;
 
-/// Moves the entries that the judge found to stay, and takes the old pages into the hand. The call turns to its last
+/// Moves the entries that the planning found to stay, and takes the old pages into the hand. The call turns to its last
 /// steps.
 pub(crate) fn compact(
     shared: &mut Shared,

@@ -1,13 +1,13 @@
 //! A deferred record is picked, and its inode locked.
 
 ghost use Rattle.std.specs.Prelude.{◌≡◌, ◌≢◌, ◌<◌, [], length};
-ghost use Rattle.nv_machine.specs.Maintenance.{lock_picked_turn, pick_turn};
+ghost use Rattle.nv_machine.specs.SnapshotOrCleaner.{lock_picked_turn, pick_turn};
 ghost use Rattle.nv_machine.specs.World.{HandState, empty_hand, owner_at};
 ghost use Rattle.nv_core.specs.Rooms.{HasRooms, HasRoomsAfter};
 ghost use Rattle.nv_core.specs.Shown.{ShownCall, draining_of, hand_of, shared_of, shown, slots_in, turn_of};
 ghost use Rattle.nv_core.specs.GhostCalls.{IsEither, KeepsRequest};
 
-use crate::next::{Draining, MaintenanceStep, Next};
+use crate::next::{Draining, Next, SnapshotOrCleanerStep};
 use crate::reservation::Reservation;
 use crate::running::Running;
 use crate::shared::Shared;
@@ -24,7 +24,8 @@ pub(crate) fn pick(
     running: &mut Running,
     draining: Draining,
 ) -> Turn
-    requires next { running.old.next ≡ Next.Maintenance (MaintenanceStep.Pick draining) }
+    requires next { running.old.next
+        ≡ Next.SnapshotOrCleaner (SnapshotOrCleanerStep.Pick draining) }
     requires slots { slots_in running.old.slots ≡ [] }
     requires empty { hand_of hand.old ≡ empty_hand }
     requires rooms { HasRooms shared.old (Reservation.Hand hand.old) running.old }
@@ -49,7 +50,7 @@ pub(crate) fn pick(
         return Turn::Ends(Ok(Answer::Count(draining.released)));
     };
     running.slots = LockedSlots::one(picked.ino);
-    running.next = Next::Maintenance(MaintenanceStep::LockPicked(draining, picked));
+    running.next = Next::SnapshotOrCleaner(SnapshotOrCleanerStep::LockPicked(draining, picked));
     Turn::Moves
 }
 
@@ -61,7 +62,8 @@ pub(crate) fn lock_picked(
     draining: Draining,
     picked: Record,
 ) -> Turn
-    requires next { running.old.next ≡ Next.Maintenance (MaintenanceStep.LockPicked draining picked) }
+    requires next { running.old.next
+        ≡ Next.SnapshotOrCleaner (SnapshotOrCleanerStep.LockPicked draining picked) }
     requires there { picked.ino < length shared.old.owners.items }
     // A drain locks the inode of the record that it picked.
     ensures turn { (told : ShownCall) (h : HandState) → let s = shared_of shared.old in
@@ -78,6 +80,6 @@ pub(crate) fn lock_picked(
         return Turn::Waits;
     }
     shared.set_owner(picked.ino, Some(actor));
-    running.next = Next::Maintenance(MaintenanceStep::Release(draining, picked));
+    running.next = Next::SnapshotOrCleaner(SnapshotOrCleanerStep::Release(draining, picked));
     Turn::Moves
 }

@@ -2,7 +2,7 @@
 
 ghost use Rattle.std.specs.Prelude.{◌≡◌, ◌≢◌, []};
 ghost use Rattle.nv_epoch.specs.SnapList.{pins_of};
-ghost use Rattle.nv_machine.specs.Maintenance.{drop_tests, drop_turn};
+ghost use Rattle.nv_machine.specs.SnapshotOrCleaner.{drop_tests, drop_turn};
 ghost use Rattle.nv_machine.specs.World as machine;
 ghost use Rattle.nv_machine.specs.World.{empty_hand};
 ghost use Rattle.nv_core.specs.Shown.{shared_of, turn_of};

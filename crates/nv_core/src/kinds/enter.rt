@@ -67,8 +67,7 @@ pub(crate) fn enter(
     let Reservation::Ready(ready) = reserved else {
         unreachable!()
     };
-    // It tells that the number of the latest commit is none above the limit.
-    let _last = shared.book.commit();
+    shared.book.keeps_its_limit();
     match shared.book.enter(actor, ready.need()) {
         Ok(_fixed) => {
             shared.holder = Some(actor);

@@ -12,7 +12,7 @@ ghost use Rattle.nv_core.specs.GhostCalls.{KeepsRequest};
 
 use crate::ending::refuse;
 use crate::kinds::take::take_from;
-use crate::next::{FreshPages, MaintenanceStep, Next};
+use crate::next::{FreshPages, Next, SnapshotOrCleanerStep};
 use crate::reservation::Reservation;
 use crate::running::Running;
 use crate::shared::Shared;
@@ -71,13 +71,13 @@ fn ask_on(shared: &Shared, hand: &Hand, running: &mut Running, fresh: FreshPages
 {
     let FreshPages { asked, left, plan } = fresh;
     if left == 0 {
-        running.next = Next::Maintenance(MaintenanceStep::Compact(plan));
+        running.next = Next::SnapshotOrCleaner(SnapshotOrCleanerStep::Compact(plan));
         return Turn::Moves;
     }
     let asked = asked + 1;
     if asked < shared.lists.len() as u64 {
         let fresh = FreshPages { asked, left, plan };
-        running.next = Next::Maintenance(MaintenanceStep::Fresh(fresh));
+        running.next = Next::SnapshotOrCleaner(SnapshotOrCleanerStep::Fresh(fresh));
         return Turn::Moves;
     }
     refuse(shared, hand, running, Fault::NoSpace)

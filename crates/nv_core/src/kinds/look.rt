@@ -39,7 +39,7 @@ pub(crate) fn look(shared: &Shared, hand: &Hand, running: &mut Running, place: u
     ensures request { KeepsRequest running.old running.new }
     ensures rooms { HasRoomsAfter result shared.now (Reservation.Hand hand.now) running.new }
 {
-    let update = &running.plan().update;
+    let update = running.update();
     let ino = directory(update, place).ino;
     if shared.is_locked(ino) {
         return Turn::Waits;

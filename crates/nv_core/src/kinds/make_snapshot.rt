@@ -1,7 +1,7 @@
 //! A snapshot is made.
 
 ghost use Rattle.std.specs.Prelude.{◌≡◌, ◌≢◌, []};
-ghost use Rattle.nv_machine.specs.Maintenance.{make_tests, make_turn};
+ghost use Rattle.nv_machine.specs.SnapshotOrCleaner.{make_tests, make_turn};
 ghost use Rattle.nv_machine.specs.World as machine;
 ghost use Rattle.nv_machine.specs.World.{empty_hand};
 ghost use Rattle.nv_core.specs.Shown.{shared_of, turn_of};
@@ -21,7 +21,7 @@ pub(crate) fn make_snapshot(shared: &mut Shared) -> Turn
     ensures rest { shared.new ≡ record shared.old { book = shared.new.book } }
 {
     // Neither the epoch nor the number of snapshots is over its limit.
-    let _living = shared.book.snaps().snapshots();
+    shared.book.snaps().rises();
     match shared.book.make_snapshot() {
         Ok(snapshot) => Turn::Ends(Ok(Answer::Snapshot(snapshot))),
         Err(fault) => Turn::Ends(Err(fault)),

@@ -34,14 +34,14 @@ pub(crate) fn number(shared: &mut Shared, hand: &mut Hand, running: &mut Running
     match shared.pool.take() {
         Some(ino) => {
             hand.put_ino(ino);
-            go_on(shared.inodes(), running, Some(ino))
+            goes_to_locks(shared.inodes(), running, Some(ino))
         }
-        None => go_on(shared.inodes(), running, None),
+        None => goes_to_locks(shared.inodes(), running, None),
     }
 }
 
 /// It is known which slots the call locks, with this number among them.
-fn go_on(inodes: u64, running: &mut Running, number: Option<Ino>) -> Turn
+fn goes_to_locks(inodes: u64, running: &mut Running, number: Option<Ino>) -> Turn
     requires call { FitsCall running.old }
     requires makes { makes_inode running.old.request ≡ true }
     ensures turn { (told : ShownCall) (s : machine.Shared) (h : machine.HandState)
@@ -55,7 +55,7 @@ fn go_on(inodes: u64, running: &mut Running, number: Option<Ino>) -> Turn
         → HasNextRoom running.new.next how request shared hand }
     ensures moves { result ≡ Turn.Moves }
 {
-    let update = &running.plan().update;
+    let update = running.update();
     let slots = slots_of(inodes, number, update, &running.looked);
     let next = locking(0, &slots);
     running.slots = slots;

@@ -22,7 +22,7 @@ use crate::shared::Shared;
 use crate::turn::Turn;
 use core::mem::replace_with;
 use nv_alloc::Hand;
-use nv_calls::Plan;
+use nv_calls::Update;
 use std::alloc::Global;
 use std::mem;
 
@@ -60,7 +60,7 @@ pub(crate) fn ready(
     ensures rest { LeavesCells (slots_in running.old.slots) shared.old shared.new }
     ensures book { shared.new.book ≡ shared.old.book }
 {
-    let Request::Change(plan, text) = mem::replace(&mut running.request, Request::Given) else {
+    let Request::Change(update, text) = mem::replace(&mut running.request, Request::Taken) else {
         unreachable!()
     };
     let Reservation::Hand(held) = reserved else {
@@ -71,7 +71,7 @@ pub(crate) fn ready(
         alloc,
         &mut shared.cells,
         &running.slots,
-        plan,
+        update,
         hand,
         text.as_slice(),
     );

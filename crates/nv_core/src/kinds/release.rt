@@ -1,7 +1,7 @@
 //! A deferred record is released.
 
 ghost use Rattle.std.specs.Prelude.{◌≡◌, ◌≢◌, ◌∷◌, ℕ, []};
-ghost use Rattle.nv_machine.specs.Maintenance.{release_turn};
+ghost use Rattle.nv_machine.specs.SnapshotOrCleaner.{release_turn};
 ghost use Rattle.nv_machine.specs.World.{empty_hand};
 ghost use Rattle.nv_machine.specs.Locks.{held_at};
 ghost use Rattle.nv_core.specs.Frames.{LeavesRest};
@@ -12,7 +12,7 @@ ghost use Rattle.nv_core.specs.Steps.{CanRelease};
 ghost use Rattle.nv_core.specs.GhostCalls.{KeepsRequest};
 
 use crate::ending::end;
-use crate::next::{Draining, Ending, MaintenanceStep, Next};
+use crate::next::{Draining, Ending, Next, SnapshotOrCleanerStep};
 use crate::reservation::Reservation;
 use crate::running::Running;
 use crate::shared::Shared;
@@ -29,7 +29,8 @@ pub(crate) fn release(
     draining: Draining,
     picked: Record,
 ) -> Turn
-    requires next { running.old.next ≡ Next.Maintenance (MaintenanceStep.Release draining picked) }
+    requires next { running.old.next
+        ≡ Next.SnapshotOrCleaner (SnapshotOrCleanerStep.Release draining picked) }
     requires slots { slots_in running.old.slots ≡ picked.ino ∷ [] }
     requires home { AreHome shared.old }
     requires can { CanRelease shared.old picked }

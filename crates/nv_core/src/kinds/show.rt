@@ -6,7 +6,7 @@ ghost use Rattle.nv_base.specs.Refusals.{FailsOnly};
 ghost use Rattle.nv_base.specs.Memory.{out_of_memory};
 ghost use Rattle.nv_base.specs.declared.limits.TheConstants.{PINS};
 ghost use Rattle.nv_epoch.specs.SnapList.{pins_of};
-ghost use Rattle.nv_machine.specs.Maintenance.{copies_at, pin_turn, seen_on, show_turn, showing_on, unpin_turn, visited};
+ghost use Rattle.nv_machine.specs.SnapshotOrCleaner.{copies_at, pin_turn, seen_on, show_turn, showing_on, unpin_turn, visited};
 ghost use Rattle.nv_machine.specs.World as machine;
 ghost use Rattle.nv_machine.specs.World.{HandState, empty_hand, owner_at};
 ghost use Rattle.nv_reader.specs.Showing.{is_over};
@@ -15,7 +15,7 @@ ghost use Rattle.nv_core.specs.Shown.{ShownCall, seen_in, shared_of, showing_in,
 ghost use Rattle.nv_core.specs.Steps.{CanShow};
 ghost use Rattle.nv_core.specs.GhostCalls.{IsEither, KeepsRequest};
 
-use crate::next::{Ending, MaintenanceStep, Next};
+use crate::next::{Ending, Next, SnapshotOrCleanerStep};
 use crate::reservation::Reservation;
 use crate::running::Running;
 use crate::shared::Shared;
@@ -30,7 +30,7 @@ use std::mem;
 
 /// Pins a snapshot, if it lives. Takes no memory.
 pub(crate) fn pin(alloc: Global, shared: &mut Shared, running: &mut Running, snapshot: u64) -> Turn
-    requires next { running.old.next ≡ Next.Maintenance (MaintenanceStep.Pin snapshot) }
+    requires next { running.old.next ≡ Next.SnapshotOrCleaner (SnapshotOrCleanerStep.Pin snapshot) }
     requires slots { slots_in running.old.slots ≡ [] }
     requires pins { ForSome (pins_of shared.old.book.state.snaps snapshot) (λ pins. pins < PINS) }
     // A show pins its snapshot first.
@@ -47,19 +47,19 @@ pub(crate) fn pin(alloc: Global, shared: &mut Shared, running: &mut Running, sna
         return Turn::Ends(Err(fault));
     }
     let showing = Showing::new(alloc, shared.cells.len());
-    running.next = Next::Maintenance(showing_on(snapshot, showing));
+    running.next = Next::SnapshotOrCleaner(showing_on(snapshot, showing));
     Turn::Moves
 }
 
 /// The next visit, or the end where there is none.
-fn showing_on(snapshot: u64, showing: Showing) -> MaintenanceStep
+fn showing_on(snapshot: u64, showing: Showing) -> SnapshotOrCleanerStep
     ensures step { step_on result ≡ showing_on snapshot showing }
     ensures room { (shared : Shared) (hand : Hand) → HasStepRoom result shared hand }
 {
     if showing.is_over() {
-        return MaintenanceStep::Unpin(snapshot, showing.into_seen());
+        return SnapshotOrCleanerStep::Unpin(snapshot, showing.into_seen());
     }
-    MaintenanceStep::Show(snapshot, showing)
+    SnapshotOrCleanerStep::Show(snapshot, showing)
 }
 
 /// Visits one inode at the epoch of a snapshot, or waits for its lock. Where memory is refused, the pin is to go.
@@ -81,23 +81,26 @@ pub(crate) fn show(alloc: Global, shared: &Shared, running: &mut Running) -> Tur
     ensures rooms { (hand : Hand) → HasRooms shared.now (Reservation.Hand hand) running.old
         → HasRoomsAfter result shared.now (Reservation.Hand hand) running.new }
 {
-    let Next::Maintenance(MaintenanceStep::Show(_, showing)) = &running.next else {
+    let Next::SnapshotOrCleaner(SnapshotOrCleanerStep::Show(_, showing)) = &running.next else {
         unreachable!()
     };
     if shared.is_locked(showing.visited().ino) {
         return Turn::Waits;
     }
-    let Next::Maintenance(MaintenanceStep::Show(snapshot, showing)) = mem::replace(
+    let Next::SnapshotOrCleaner(SnapshotOrCleanerStep::Show(snapshot, showing)) = mem::replace(
         &mut running.next,
         Next::Visit,
     ) else {
         unreachable!()
     };
     match see(alloc, shared, snapshot, showing) {
-        Ok(showing) => running.next = Next::Maintenance(showing_on(snapshot, showing)),
+        Ok(showing) => running.next = Next::SnapshotOrCleaner(showing_on(snapshot, showing)),
         Err(fault) => {
             running.ending = Ending::Refuses(fault);
-            running.next = Next::Maintenance(MaintenanceStep::Unpin(snapshot, Tree::empty(alloc)));
+            running.next = Next::SnapshotOrCleaner(SnapshotOrCleanerStep::Unpin(
+                snapshot,
+                Tree::empty(alloc),
+            ));
         }
     }
     Turn::Moves
@@ -129,7 +132,7 @@ pub(crate) fn unpin(shared: &mut Shared, running: &mut Running) -> Turn
     ensures request { KeepsRequest running.old running.new }
     ensures rest { shared.new ≡ record shared.old { book = shared.new.book } }
 {
-    let Next::Maintenance(MaintenanceStep::Unpin(snapshot, seen)) = mem::replace(
+    let Next::SnapshotOrCleaner(SnapshotOrCleanerStep::Unpin(snapshot, seen)) = mem::replace(
         &mut running.next,
         Next::Visit,
     ) else {

@@ -60,7 +60,7 @@ fn pages_by(shared: &mut Shared, hand: &Hand, running: &Running) -> u64
         (λ u. result ≡ pages_to_take shared.old slots hand.now u) running.now.request }
     ensures few { result ≤ length hand.now.data.blocks + MORE_PAGES }
 {
-    pages_in(&mut shared.cells, &running.slots, running.plan(), hand)
+    pages_in(&mut shared.cells, &running.slots, running.update(), hand)
 }
 
 /// Takes data blocks from one list, its lowest.
@@ -159,7 +159,7 @@ pub(crate) fn take_from(shared: &mut Shared, queue: &mut BlockQueue, wanted: u64
     let cpu = shared.cpu_of(place) as usize;
     let list = &mut shared.lists[cpu];
     // What a list has free is at home there.
-    let _free = list.len();
+    list.rises();
     list.take(wanted, queue)
 }
 

@@ -19,7 +19,7 @@ use crate::turn::Turn;
 use nv_alloc::Hand;
 use nv_clean::fast_on;
 
-/// Unlinks the pages that the judge found, also where there is none. The call turns to its last steps.
+/// Unlinks the pages that the planning found, also where there is none. The call turns to its last steps.
 pub(crate) fn unlink(
     shared: &mut Shared,
     hand: &mut Hand,
@@ -32,7 +32,7 @@ pub(crate) fn unlink(
     requires can { CanClean shared.old plan.ino }
     requires empty { hand_of hand.old ≡ empty_hand }
     requires plan { CanUnlink shared.old hand.old plan }
-    // The log pages that the judge found leave the log, and go into the hand.
+    // The log pages that the planning found leave the log, and go into the hand.
     // A fast cleaner is told that its cleaning was fast.
     ensures turn { (told : ShownCall) → unlink_turn plan.ino (shared_of shared.old) (hand_of hand.old)
         (shown told running.old)

@@ -50,7 +50,7 @@ pub(crate) fn visit(shared: &Shared, running: &mut Running) -> Turn
     if shared.is_locked(ino) {
         return Turn::Waits;
     }
-    let Request::Visit(call) = mem::replace(&mut running.request, Request::Given) else {
+    let Request::Visit(call) = mem::replace(&mut running.request, Request::Taken) else {
         unreachable!()
     };
     Turn::Ends(found(shared, ino, call))

@@ -1,11 +1,11 @@
 //! What a cleaner does to a chain: flags say which pages or entries stay.
 
-ghost use Rattle.std.specs.Prelude.{◌≡◌, ◌+◌, ◌-◌, ◌<◌, ◌≤◌, ◌++◌, IfOk, Some, length, map, not, slice_get, sum, vec_len};
+ghost use Rattle.std.specs.Prelude.{◌≡◌, ◌+◌, ◌-◌, ◌<◌, ◌≤◌, ◌++◌, IfOk, length, map, not, sum, vec_len};
 ghost use Rattle.std.specs.Int.{div_ceil};
 ghost use Rattle.std.specs.List.{count_by};
 ghost use Rattle.nv_alloc.specs.Block.{AreSized};
 ghost use Rattle.nv_entry.specs.Clean.{pages_by, select};
-ghost use Rattle.nv_log.specs.Chain.{IsChain, KeepsPages, all_but, compacted, flags_from, gone_of, joined, left_of, log, log_pages, pages_of, with_entries_left, with_pages_left};
+ghost use Rattle.nv_log.specs.Chain.{IsChain, compacted, flags_from, gone_of, joined, left_of, log, log_pages, pages_of, with_entries_left, with_pages_left};
 
 use super::Chain;
 use crate::commit_run::CommitRun;
@@ -29,20 +29,6 @@ impl Chain {
             counts.push(self.page_end(k).min(self.tail) - self.page_start(k).min(self.tail))?;
         }
         Ok(counts)
-    }
-
-    /// Takes page `k` and its entries out, and hands out its block. All other entries stay, in their order
-    /// and on their pages, and those of them that count still do. The time is linear in the entries and pages.
-    pub fn unlink_page(&mut self, k: usize) -> Block
-        requires { k < length self.old.state.blocks }
-        // A log page leaves with its entries, and its block is handed out.
-        ensures block { slice_get self.old.state.blocks k ≡ Some result }
-        ensures state { self.new.state ≡ with_pages_left (all_but k) self.old.state }
-        ensures pages { KeepsPages (all_but k) self.old.state self.new.state }
-        ensures spare { self.new.spare ≡ self.old.spare + 1 }
-    {
-        self.leave_pages(k, &[false]);
-        self.blocks.remove(k)
     }
 
     /// Leaves the pages with entries that are flagged as staying, a flag for each, and those without an entry.

@@ -2,15 +2,15 @@
 
 ghost use Rattle.std.specs.Prelude.{◌≡◌, IfErr, IfOk, OnOk};
 ghost use Rattle.nv_base.specs.Refusals.{KeepsOnErr};
-ghost use Rattle.nv_service.specs.ByValue.{IsAnswerTo, IsMadeAs, after_maintenance};
-ghost use Rattle.nv_service.specs.Refusing.{MayRefuse, MayRefuseMaintenance};
+ghost use Rattle.nv_service.specs.ByValue.{IsAnswerTo, IsMadeAs, after_snapshot_or_cleaner};
+ghost use Rattle.nv_service.specs.Refusing.{MayRefuse, MayRefuseSnapshotOrCleaner};
 
 use crate::names::{Blocks, Commits};
 use crate::seen::Seen;
 use crate::service::Service;
 use crate::session::Session;
 use nv_base::Fault;
-use nv_calls::{Call, MaintenanceCall};
+use nv_calls::{Call, SnapshotOrCleanerCall};
 use nv_core::Text;
 use std::sync::Wait;
 
@@ -50,7 +50,7 @@ impl<C: Commits, B: Blocks> Session<C, B> {
             Call::Unlink { dir, name } => self.unlink(rt, service, dir, name),
             Call::Rmdir { dir, name } => self.rmdir(rt, service, dir, name),
             Call::Rename { from, old, to, new } => self.rename(rt, service, from, old, to, new),
-            Call::Maintenance(call) => self.maintain(rt, service, call),
+            Call::SnapshotOrCleaner(call) => self.maintain(rt, service, call),
         }
     }
 
@@ -60,21 +60,21 @@ impl<C: Commits, B: Blocks> Session<C, B> {
         &mut self,
         rt: &R,
         service: &Service<C, B>,
-        call: MaintenanceCall,
+        call: SnapshotOrCleanerCall,
     ) -> Result<Seen, Fault>
         ensures other { IfOk result (IsAnswerTo call) }
-        ensures left { OnOk result (self.new ≡ after_maintenance call self.old) }
+        ensures left { OnOk result (self.new ≡ after_snapshot_or_cleaner call self.old) }
         ensures same { KeepsOnErr result self.old self.new }
-        ensures err { IfErr result (MayRefuseMaintenance call) }
+        ensures err { IfErr result (MayRefuseSnapshotOrCleaner call) }
     {
         match call {
-            MaintenanceCall::Snap => self.snap(rt, service),
-            MaintenanceCall::Drop(snapshot) => self.drop_snap(rt, service, snapshot),
-            MaintenanceCall::Show(snapshot) => self.show(rt, service, snapshot),
-            MaintenanceCall::Drain(number) => self.drain(rt, service, number),
-            MaintenanceCall::Fast(ino) => self.fast(rt, service, ino),
-            MaintenanceCall::Thorough(ino) => self.thorough(rt, service, ino),
-            MaintenanceCall::Auto(ino) => self.auto(rt, service, ino),
+            SnapshotOrCleanerCall::Snap => self.snap(rt, service),
+            SnapshotOrCleanerCall::Drop(snapshot) => self.drop_snap(rt, service, snapshot),
+            SnapshotOrCleanerCall::Show(snapshot) => self.show(rt, service, snapshot),
+            SnapshotOrCleanerCall::Drain(number) => self.drain(rt, service, number),
+            SnapshotOrCleanerCall::Fast(ino) => self.fast(rt, service, ino),
+            SnapshotOrCleanerCall::Thorough(ino) => self.thorough(rt, service, ino),
+            SnapshotOrCleanerCall::Auto(ino) => self.auto(rt, service, ino),
         }
     }
 }

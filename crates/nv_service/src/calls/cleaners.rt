@@ -3,7 +3,7 @@
 ghost use Rattle.std.specs.Prelude.{◌≡◌, ◌≤◌, ℕ, Bool, IfErr, IfOk, max, min};
 ghost use Rattle.nv_base.specs.declared.limits.TheConstants.{DRAIN};
 ghost use Rattle.nv_service.specs.Ending.{cleaner_of};
-ghost use Rattle.nv_service.specs.Refusing.{MayRefuseMaintenance};
+ghost use Rattle.nv_service.specs.Refusing.{MayRefuseSnapshotOrCleaner};
 
 use crate::cleaners::{Manner, clean_log};
 use crate::drain::drain_deferred;
@@ -13,7 +13,7 @@ use crate::seen::Seen;
 use crate::service::Service;
 use crate::session::Session;
 use nv_base::{Fault, Ino, limits};
-use nv_calls::{Answer, MaintenanceCall};
+use nv_calls::{Answer, SnapshotOrCleanerCall};
 use nv_clean::Cleaned;
 use std::sync::Wait;
 
@@ -29,7 +29,7 @@ impl<C: Commits, B: Blocks> Session<C, B> {
         // Cleaners are answered by their kind, and leave what the session has seen.
         ensures answer { IfOk result (λ seen. (thorough : Bool) × (entries pages : ℕ)
             × (seen ≡ Seen.Other (Answer.Cleaned thorough entries pages))) }
-        ensures err { IfErr result (MayRefuseMaintenance (MaintenanceCall.Fast ino)) }
+        ensures err { IfErr result (MayRefuseSnapshotOrCleaner (SnapshotOrCleanerCall.Fast ino)) }
         ensures same { self.new ≡ self.old }
     {
         self.clean(rt, service, Manner::Fast, ino)
@@ -46,7 +46,8 @@ impl<C: Commits, B: Blocks> Session<C, B> {
     ) -> Result<Seen, Fault>
         ensures answer { IfOk result (λ seen. (thorough : Bool) × (entries pages : ℕ)
             × (seen ≡ Seen.Other (Answer.Cleaned thorough entries pages))) }
-        ensures err { IfErr result (MayRefuseMaintenance (MaintenanceCall.Thorough ino)) }
+        ensures err { IfErr result
+            (MayRefuseSnapshotOrCleaner (SnapshotOrCleanerCall.Thorough ino)) }
         ensures same { self.new ≡ self.old }
     {
         self.clean(rt, service, Manner::Thorough, ino)
@@ -62,7 +63,7 @@ impl<C: Commits, B: Blocks> Session<C, B> {
     ) -> Result<Seen, Fault>
         ensures answer { IfOk result (λ seen. (thorough : Bool) × (entries pages : ℕ)
             × (seen ≡ Seen.Other (Answer.Cleaned thorough entries pages))) }
-        ensures err { IfErr result (MayRefuseMaintenance (MaintenanceCall.Auto ino)) }
+        ensures err { IfErr result (MayRefuseSnapshotOrCleaner (SnapshotOrCleanerCall.Auto ino)) }
         ensures same { self.new ≡ self.old }
     {
         self.clean(rt, service, Manner::Auto, ino)
@@ -77,7 +78,7 @@ impl<C: Commits, B: Blocks> Session<C, B> {
     ) -> Result<Seen, Fault>
         ensures answer { IfOk result (λ seen. (thorough : Bool) × (entries pages : ℕ)
             × (seen ≡ Seen.Other (Answer.Cleaned thorough entries pages))) }
-        ensures err { IfErr result (MayRefuseMaintenance (cleaner_of manner ino)) }
+        ensures err { IfErr result (MayRefuseSnapshotOrCleaner (cleaner_of manner ino)) }
         ensures same { self.new ≡ self.old }
     {
         let mine = &mut self.seat.blocks;
@@ -117,7 +118,8 @@ impl<C: Commits, B: Blocks> Session<C, B> {
         // It releases no more than it may.
         ensures answer { IfOk result (λ seen. (n : ℕ) × (n ≤ max 1 (min number DRAIN))
             × (seen ≡ Seen.Other (Answer.Count n))) }
-        ensures err { IfErr result (MayRefuseMaintenance (MaintenanceCall.Drain number)) }
+        ensures err { IfErr result
+            (MayRefuseSnapshotOrCleaner (SnapshotOrCleanerCall.Drain number)) }
         ensures same { self.new ≡ self.old }
     {
         let mine = &mut self.seat.blocks;

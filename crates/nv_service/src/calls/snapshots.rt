@@ -3,7 +3,7 @@
 ghost use Rattle.std.specs.Prelude.{◌≡◌, ℕ, IfErr, IfOk, List, OnOk};
 ghost use Rattle.nv_base.specs.Refusals.{KeepsOnErr};
 ghost use Rattle.nv_service.specs.ByValue.{once_snapped};
-ghost use Rattle.nv_service.specs.Refusing.{MayRefuseMaintenance};
+ghost use Rattle.nv_service.specs.Refusing.{MayRefuseSnapshotOrCleaner};
 ghost use Rattle.nv_entry.specs.declared.tree.TreeNode.{TreeNode};
 
 use crate::names::{Blocks, Commits};
@@ -12,7 +12,7 @@ use crate::service::Service;
 use crate::session::Session;
 use crate::snapshots::{pin, show_tree, unpin};
 use nv_base::{Epoch, Fault};
-use nv_calls::{Answer, MaintenanceCall};
+use nv_calls::{Answer, SnapshotOrCleanerCall};
 use std::sync::Wait;
 
 impl<C: Commits, B: Blocks> Session<C, B> {
@@ -22,7 +22,7 @@ impl<C: Commits, B: Blocks> Session<C, B> {
         // Snapshots are answered by their kind, and leave what the session has seen and committed.
         ensures answer { IfOk result (λ seen. (s : ℕ) × (seen ≡ Seen.Other (Answer.Snapshot s))) }
         // Each refusal is one of the call's list, or a part that does not fit.
-        ensures err { IfErr result (MayRefuseMaintenance MaintenanceCall.Snap) }
+        ensures err { IfErr result (MayRefuseSnapshotOrCleaner SnapshotOrCleanerCall.Snap) }
         // Each counts in the session, where it is not refused.
         ensures counted { OnOk result (self.new ≡ once_snapped self.old) }
         ensures same { KeepsOnErr result self.old self.new }
@@ -40,7 +40,8 @@ impl<C: Commits, B: Blocks> Session<C, B> {
         snapshot: Epoch,
     ) -> Result<Seen, Fault>
         ensures answer { IfOk result (λ seen. seen ≡ Seen.Other Answer.Nothing) }
-        ensures err { IfErr result (MayRefuseMaintenance (MaintenanceCall.Drop snapshot)) }
+        ensures err { IfErr result
+            (MayRefuseSnapshotOrCleaner (SnapshotOrCleanerCall.Drop snapshot)) }
         ensures counted { OnOk result (self.new ≡ once_snapped self.old) }
         ensures same { KeepsOnErr result self.old self.new }
     {
@@ -60,7 +61,8 @@ impl<C: Commits, B: Blocks> Session<C, B> {
     ) -> Result<Seen, Fault>
         ensures answer { IfOk result (λ seen. (tree : List TreeNode)
             × (seen ≡ Seen.Other (Answer.Tree tree))) }
-        ensures err { IfErr result (MayRefuseMaintenance (MaintenanceCall.Show snapshot)) }
+        ensures err { IfErr result
+            (MayRefuseSnapshotOrCleaner (SnapshotOrCleanerCall.Show snapshot)) }
         ensures same { self.new ≡ self.old }
     {
         pin(rt, service, snapshot)?;

@@ -7,12 +7,10 @@ ghost use Rattle.nv_calls.specs.Refusals.{passes};
 ghost use Rattle.nv_calls.specs.Updates.{blank_call, blocks_taken};
 
 use super::known::{Known, KnownNode};
-use crate::compare::{holds_for, same_for};
+use crate::compare::same_for;
 use Says::{Create, List, Lookup, Mkdir, Mode, Read, Rename, Rmdir, Size, Stat, Unlink, Write};
 use nv_base::{Bytes, Fault, Kind, Name};
-use nv_calls::{
-    CheckEnd, Nodes, Update, calls, check_early, check_late, check_look, ends_at_check, look_all,
-};
+use nv_calls::{CheckEnd, Nodes, Update, calls, check_early, check_late, ends_at_check, look_all};
 use nv_entry::{BoundName, NameList, NodeCopy};
 use nv_scenes::handle;
 use nv_scenes::logs::mode;
@@ -210,9 +208,6 @@ fn is_refused(
     let call = update(alloc, says).ok_or("a call")?;
     let found = refused(nodes, &call);
     same_for(rt, &row, in_parts(BLOCK, nodes, &call).err(), found);
-    // what a look refuses, the check refuses alike
-    let at_look = check_look(nodes, &call).err();
-    holds_for(rt, row, at_look.is_none() || at_look == found);
     same_for(rt, &row, found, wanted);
     Ok(())
 }

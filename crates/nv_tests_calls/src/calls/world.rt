@@ -10,7 +10,7 @@ use nv_calls::{
     Allocation, CheckEnd, InodePlan, InodePlans, Update, ends_at_check, look_all, plan_items,
     runs_of,
 };
-use nv_entry::{Entry, Item, When, node_when, page_source};
+use nv_entry::{Entry, Item, Key, When, node_when, value_when};
 use nv_scenes::logs::{Device, Says as LogSays, log_of};
 use nv_scenes::{handle, id, wants_memory};
 use nv_scenes_calls::updates::{Says, update};
@@ -272,7 +272,7 @@ fn known_node(
     };
     let mut pages = Vec::new(alloc);
     for page in 0..8 {
-        pages.push(page_source(block, When::Now, log, page).is_some())?;
+        pages.push(value_when(block, When::Now, log, Key::Page(page)).is_some())?;
     }
     let handle = handle(ino);
     Ok(Some(KnownNode {

@@ -141,7 +141,7 @@ fn ids_on_pages(rt: &impl Abort, alloc: Global, chain: &Chain, stays: &[bool]) -
     let mut ids = Vec::new(alloc);
     for (k, stays) in stays.iter().enumerate() {
         if *stays {
-            for entry in chain.page_entries(k) {
+            for entry in &chain.entries()[chain.page_start(k)..chain.page_end(k)] {
                 push(rt, &mut ids, entry.id);
             }
         }
@@ -199,7 +199,7 @@ fn marks_are(rt: &impl Abort, cell: &InodeCell, retention: &Retention<'_>)
     ensures { AreMarksOf (retention_of retention.now) cell.now.state }
 {
     assert!(rt; retention.block == cell.block_bytes());
-    cell.use_invariant();
+    cell.holds_together();
     let log = cell.log().log();
     for place in 0..log.len() {
         assert!(rt; place < cell.tail());

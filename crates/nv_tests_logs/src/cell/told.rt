@@ -84,7 +84,7 @@ pub fn tells(rt: &impl Abort, cell: &InodeCell, want: Option<Stat>) {
 
 /// Whether it is gone, keeps nothing, and is withheld; its generation and version.
 pub fn is_slot(rt: &impl Abort, cell: &InodeCell, is: [bool; 3], generation: u64, version: u64) {
-    cell.use_invariant();
+    cell.holds_together();
     let found = [cell.is_gone(), cell.keeps_nothing(), cell.is_withheld()];
     same(rt, found, is);
     same(rt, cell.generation(), Gen::new(generation));

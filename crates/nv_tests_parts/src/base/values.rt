@@ -2,7 +2,7 @@
 
 use crate::compare::{push, same, same_for};
 use crate::device::name;
-use nv_base::limits::{is_contended, most_drained};
+use nv_base::limits::most_drained;
 use nv_base::{BlockNo, Bytes, CommitNo, EntryId, Epoch, Fault, Gen, Ino, Kind, Mode, Name};
 use nv_scenes::id;
 use std::alloc::Global;
@@ -108,7 +108,6 @@ fn numbers(rt: HostRuntime) {
     for (number, records) in &DRAINED {
         same(&rt, most_drained(*number), *records);
     }
-    same(&rt, (is_contended(7), is_contended(8)), (false, true));
 }
 
 /// What a drain is asked for, and how many records it takes at most.

@@ -12,8 +12,7 @@ use std::process::Abort;
 /// Puts a chain into an image and takes it out. Where a growth is refused, the image is as it was, and it is taken out once
 /// more.
 fn through_an_image(rt: &impl Abort, alloc: Global, chain: Chain) -> Chain {
-    // It tells that the entries stand on their pages.
-    let _ends = chain.ends();
+    chain.holds_together();
     let page = chain.entries_per_page();
     let was = shape(&chain);
     let image = match Chain::rebuild(page, chain.into_image()) {

@@ -4,11 +4,11 @@ ghost use Rattle.std.specs.Prelude.{◌↔◌, IsTrue};
 ghost use Rattle.nv_alloc.specs.Block.{AreSized};
 
 use super::{
-    Page, add_page, append, assert_pages, chain_of, free_blocks, give_pages, let_go, nine_entries,
-    publish, queue_with, reserve, shape,
+    Page, append, assert_pages, chain_of, free_blocks, give_pages, let_go, nine_entries, publish,
+    queue_with, reserve, shape,
 };
 use crate::compare::same;
-use crate::device::{has_numbers, next, put, queue_for};
+use crate::device::{has_numbers, next, queue_for};
 use nv_alloc::{Block, BlockQueue};
 use nv_base::BlockNo;
 use nv_log::Chain;
@@ -98,28 +98,6 @@ fn unlinks_pages(rt: HostRuntime) {
     for row in &UNLINKS {
         unlinks(&rt, rt.alloc(), row);
     }
-}
-
-/// The middle three pages go one by one, and then one without entries.
-#[test]
-fn unlinks_single_pages(rt: HostRuntime) {
-    let mut list = free_blocks(&rt, rt.alloc());
-    let mut chain = nine_entries(&rt, rt.alloc(), &mut list);
-    let mut taken = queue_for(&rt, rt.alloc(), 4);
-    for number in 1..4 {
-        assert!(rt; chain.blocks().len() > 1);
-        let block = chain.unlink_page(1);
-        same(&rt, block.number(), BlockNo::new(number));
-        put(&rt, &mut taken, block);
-    }
-    same(&rt, shape(&chain), [2, 3, 2, 1, 3]);
-    assert_pages(&rt, &chain, &[(0, &[1, 2]), (4, &[9])], &[1, 2]);
-
-    add_page(&rt, &mut chain, &mut taken);
-    assert!(rt; chain.blocks().len() > 2);
-    put(&rt, &mut taken, chain.unlink_page(2));
-    assert_pages(&rt, &chain, &[(0, &[1, 2]), (4, &[9])], &[1, 2]);
-    let_go(rt.alloc(), chain, taken, list);
 }
 
 const COMPACTIONS: [Removal; 3] = [

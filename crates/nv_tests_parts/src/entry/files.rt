@@ -2,13 +2,10 @@
 
 use crate::compare::{same, same_for};
 use nv_base::{BlockNo, Epoch};
-use nv_entry::{
-    Datum, Entry, Key, PageSource, Pair, PartId, first_cover, page_source, value_at, value_now,
-    value_when,
-};
+use nv_entry::{Datum, Entry, Key, Pair, PartId, first_cover, value_when};
+use nv_scenes::handle;
 use nv_scenes::logs::{BLOCK, Line, epochs, log_of, when};
 use nv_scenes::rows::{CUT, KILLER, KILLER_GONE, NAMES, OVERWRITTEN, RUNS, SHORT_LIVED};
-use nv_scenes::{handle, id};
 use std::alloc::Global;
 use std::process::Abort;
 use std::test::Fail;
@@ -25,6 +22,17 @@ const VALUES: &[(&[Line], Option<u64>, Key<'static>, Option<u64>)] = &[
     // no living snapshot sees the difference
     (KILLER, Some(2), Key::Page(0), Some(3)),
     (KILLER_GONE, Some(2), Key::Page(0), Some(2)),
+    (CUT, None, Key::Page(0), Some(2)),
+    (CUT, None, Key::Page(1), Some(5)),
+    (CUT, None, Key::Page(2), None),
+    (CUT, None, Key::Page(3), None),
+    (CUT, Some(1), Key::Page(1), Some(3)),
+    (CUT, Some(1), Key::Page(2), Some(4)),
+    (RUNS, None, Key::Page(0), Some(2)),
+    (RUNS, None, Key::Page(1), Some(5)),
+    (RUNS, None, Key::Page(2), Some(4)),
+    (RUNS, None, Key::Page(3), Some(3)),
+    (RUNS, None, Key::Page(4), Some(6)),
     (NAMES, Some(2), Key::Name(b"b"), Some(2)),
     (NAMES, None, Key::Name(b"b"), None),
 ];
@@ -35,12 +43,7 @@ fn values(rt: HostRuntime) -> Result<(), Fail> {
         let log = log_of(rt.alloc(), lines)?;
         let wanted = number.map(|number| datum(*key, number));
         let seen = value_when(BLOCK, when(*epoch), &log, *key);
-        let value = match epoch {
-            Some(number) => value_at(BLOCK, Epoch::new(*number), &log, *key),
-            None => value_now(BLOCK, &log, *key),
-        };
         assert!(rt; seen == wanted, "{lines:?}");
-        same_for(&rt, &lines, value, wanted);
     }
     Ok(())
 }
@@ -143,38 +146,5 @@ fn is_held(
     let others = epochs(alloc, others)?;
     let held = (pair.is_held(&others), pair.is_needed(&others));
     same_for(rt, pair, held, (false, pair.is_current()));
-    Ok(())
-}
-
-/// A log, a time, a page, and the entry and block that it stands in there.
-const SOURCES: &[(&[Line], Option<u64>, u32, Option<(u64, u32, u64)>)] = &[
-    (CUT, None, 0, Some((2, 0, 2))),
-    (CUT, None, 1, Some((3, 0, 5))),
-    (CUT, None, 2, None),
-    (CUT, None, 3, None),
-    (CUT, Some(1), 1, Some((2, 0, 3))),
-    (CUT, Some(1), 2, Some((2, 0, 4))),
-    (RUNS, None, 0, Some((2, 0, 2))),
-    (RUNS, None, 1, Some((3, 0, 5))),
-    (RUNS, None, 2, Some((2, 0, 4))),
-    (RUNS, None, 3, Some((4, 0, 3))),
-    (RUNS, None, 4, Some((4, 1, 6))),
-];
-
-#[test]
-fn sources_of_pages(rt: HostRuntime) -> Result<(), Fail> {
-    for (lines, epoch, page, wanted) in SOURCES {
-        let log = log_of(rt.alloc(), lines)?;
-        let wanted = wanted.map(|(commit, place, block)| PageSource {
-            entry: id(commit, place),
-            block: BlockNo::new(block),
-        });
-        same_for(
-            &rt,
-            &(page, lines),
-            page_source(BLOCK, when(*epoch), &log, *page),
-            wanted,
-        );
-    }
     Ok(())
 }

@@ -9,7 +9,7 @@ pub loop-run-init : goal.loop-run-init
 loop-run-init c =
     let old = c.args.numbers.now.items in
     let free = numbers_of c.args.list.now.blocks in
-    let cuts = cut free c.len-count.ensures.lawful.rising in
+    let cuts = cut free c.rises.ensures.rising in
     let is : c.into_iter-run-iterator.result ≡ free_runs_of free = c.into_iter-run-iterator.ensures.into_iter_gives ∙ c.runs-run-items.ensures in
     record {
       can = search rules;

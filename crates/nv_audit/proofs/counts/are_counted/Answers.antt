@@ -30,7 +30,7 @@ returns-clause-ok c =
     let all : c.log-2.result.now ≡ log_of cell = c.log-2.ensures.value ∙ ap log c.log.ensures.state in
     let marked : c.deref-2.result.now ≡ marked_entries (log_of cell) (retained_in r cell) =
     c.deref-2.ensures.value ∙ c.in_ok-entries.ensures ∙ ap₂ marked_entries all (c.deref.ensures.value ∙ c.in_ok-parts.ensures.ok) in
-    let both = counted_by r cell c.deref-2.result.now c.use_invariant.ensures c.requires marked in (
+    let both = counted_by r cell c.deref-2.result.now c.holds_together.ensures c.requires marked in (
       λ t. both.0 (c.are_valid_as.ensures.0 t),
       λ are. c.are_valid_as.ensures.1 (both.1 are),
     )

@@ -20,7 +20,7 @@ returns c =
     let end : c.min.result ≡ min (end_of state.chain page) (length (log_of state)) =
     c.min.ensures ∙ ap₂ min (c.page_end.ensures.value ∙ ap (λ (x : ChainState). end_of x page) chain_is) c.requires.entries in
     let count : c.min.result - c.min-start.result ≡ published_on state page =
-    ap₂ (λ (a b : ℕ). a - b) end start ∙ sym (published_is state page c.use_invariant.ensures.chain c.requires.page) in
+    ap₂ (λ (a b : ℕ). a - b) end start ∙ sym (published_is state page c.holds_together.ensures.chain c.requires.page) in
     let from : drop c.min-start.result entries ≡ drop (start_of state.chain page) entries =
     ap (λ (k : ℕ). drop k entries) start
     ∙ ap (λ (n : ℕ). drop (min (start_of state.chain page) n) entries) (sym c.requires.entries)

@@ -16,7 +16,7 @@ returns-in-Some c =
     let d = c.args.record.now in
     let pair = c.in-Some.pair in
     let living = ids c.args.snaps.now in
-    let is : IsLog (log_of cell) = IsLog-take cell.chain.tail cell.chain.entries c.use_invariant.ensures.chain.rising in
+    let is : IsLog (log_of cell) = IsLog-take cell.chain.tail cell.chain.entries c.holds_together.ensures.chain.rising in
     let named : pair_named cell (part_of d) ≡ Some pair = ap (pair_named cell) (sym c.part_of.ensures) ∙ sym c.pair_named.ensures ∙ c.in-Some.is in
     let at = found cell (part_of d) pair named in (
       λ t. record {
@@ -33,7 +33,7 @@ pub returns-in-None : goal.returns-in-None
 returns-in-None c =
     let cell = c.args.cell.now.state in
     let d = c.args.record.now in
-    let is : IsLog (log_of cell) = IsLog-take cell.chain.tail cell.chain.entries c.use_invariant.ensures.chain.rising in
+    let is : IsLog (log_of cell) = IsLog-take cell.chain.tail cell.chain.entries c.holds_together.ensures.chain.rising in
     let named : pair_named cell (part_of d) ≡ None = ap (pair_named cell) (sym c.part_of.ensures) ∙ sym c.pair_named.ensures ∙ c.in-None.is in (
       λ no. cc,
       λ r. let other : None ≡ Some r.pair = sym named ∙ record_names (ids c.args.snaps.now) cell d is r in cc,

@@ -14,7 +14,7 @@ overflow_add-result c =
     let first = c.requires.parts.firsts.each f.entry lt in
     let there : f.entry < length firsts = omega (arith, lt, c.requires.parts.firsts.len) in
     let read = get_or_default_zero firsts f.entry c.index.result.now there in
-    omega (arith, within, first, read, c.index.ensures, c.use_invariant.ensures.marks.len, c.requires.parts.len, c.len-count.ensures)
+    omega (arith, within, first, read, c.index.ensures, c.holds_together.ensures.marks.len, c.requires.parts.len, c.len-count.ensures)
 
 pub returns-clause-number : goal.returns-clause-number
 returns-clause-number c =
@@ -36,4 +36,4 @@ returns-clause-within c =
     let first = c.requires.parts.firsts.each f.entry lt in
     let there : f.entry < length firsts = omega (arith, lt, c.requires.parts.firsts.len) in
     let read = get_or_default_zero firsts f.entry c.index.result.now there in
-    omega (arith, within, first, read, c.index.ensures, c.use_invariant.ensures.marks.len)
+    omega (arith, within, first, read, c.index.ensures, c.holds_together.ensures.marks.len)

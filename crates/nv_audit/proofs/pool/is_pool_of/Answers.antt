@@ -11,7 +11,7 @@ returns-then-made_for c =
     let same = c.made_for.ensures.0 c.if-made_for.true in (
       λ t. record {
         inodes = same;
-        numbers = pool_by_numbers inodes used pool c.len-free.ensures.lawful same (c.are_unused.ensures.0 t);
+        numbers = pool_by_numbers inodes used pool c.rises.ensures same (c.are_unused.ensures.0 t);
       },
       λ is. c.are_unused.ensures.1 (numbers_by_pool inodes used pool is.numbers),
     )

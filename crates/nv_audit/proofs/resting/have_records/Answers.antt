@@ -6,7 +6,7 @@ pub returns-clause-ok : goal.returns-clause-ok
 returns-clause-ok c =
     let scanned = AreRecorded (states_of c.args.cells.now) c.args.book.now.state in (
       λ t. record {
-        whole = c.use_book.ensures;
+        whole = c.book_holds_together.ensures;
         rest = c.is_at_rest.ensures.0 c.if-not-is_at_rest.false;
         past = c.are_all_of_past.ensures.0 c.if-not-are_all_of_past.false;
         kept = c.in_ok-kept.ensures.ok.0 c.if-not-kept.false;

@@ -15,14 +15,14 @@ returns-then-is_empty-clause-ok c =
     let none : r.pending ≡ [] = nil_from_length r.pending (eqb-true (length r.pending) 0 (sym c.if-is_empty.ensures)) in
     c.in_ok-parts.ensures ∙ ap (λ (l : LoggedValue). needed_by r.snapshots l.block l.log) c.of-logged.ensures
     ∙ sym (ap (λ names. with_named (log_of cell) names (needed_in r.snapshots cell)) none)
-    ∙ all_retained r cell c.use_invariant.ensures
+    ∙ all_retained r cell c.holds_together.ensures
 
 pub mark_named-requires-clause-parts : goal.mark_named-requires-clause-parts
 mark_named-requires-clause-parts c =
     let r = retention_of c.args.retention.now in
     ap (λ (bs : List Bool). length bs)
     (c.in_ok-parts.ensures ∙ ap (λ (l : LoggedValue). needed_by r.snapshots l.block l.log) c.of-logged.ensures)
-    ∙ needed_count c.args.retention.now.snapshots.now c.args.cell.now.state c.use_invariant.ensures
+    ∙ needed_count c.args.retention.now.snapshots.now c.args.cell.now.state c.holds_together.ensures
 
 pub returns-clause-ok : goal.returns-clause-ok
 returns-clause-ok c =
@@ -31,4 +31,4 @@ returns-clause-ok c =
     c.mark_named.ensures
     ∙ ap (with_named (log_of cell) r.pending)
     (c.in_ok-parts.ensures ∙ ap (λ (l : LoggedValue). needed_by r.snapshots l.block l.log) c.of-logged.ensures)
-    ∙ all_retained r cell c.use_invariant.ensures
+    ∙ all_retained r cell c.holds_together.ensures

@@ -12,7 +12,7 @@ returns-then-last-from c =
     let cell = c.args.cell.now.state in
     let same : c.size-size.result / c.block_bytes-block.result ≡ own_size cell / cell.block =
     rw (c.size-size.ensures, c.block_bytes-block.ensures.value) refl in (
-      λ t. past_all cell (whole cell c.use_invariant.ensures) c.requires
+      λ t. past_all cell (whole cell c.holds_together.ensures) c.requires
           (subst (λ (n : ℕ). FILE_PAGES ≤ n) same (omega (arith, c.if-last-from.true, c.from.ensures))),
       λ all. refl,
     )
@@ -28,7 +28,7 @@ returns-in-Some c =
     let bytes : drop (c.size-size.result % c.block_bytes-block.result) c.bytes.result.now ≡ drop (own_size cell % cell.block) b.bytes =
     rw (c.size-size.ensures, c.block_bytes-block.ensures.value, c.bytes.ensures) refl in
     let zeros = λ (xs : List ℕ). All (λ (byte : ℕ). byte ≡ 0) xs in
-    let by = by_bytes cell (whole cell c.use_invariant.ensures) c.requires b there in (
+    let by = by_bytes cell (whole cell c.holds_together.ensures) c.requires b there in (
       λ t. by.0 (subst zeros bytes (c.are_zeros_from.ensures.0 t)),
       λ past. c.are_zeros_from.ensures.1 (subst zeros (sym bytes) (by.1 past)),
     )
@@ -38,7 +38,7 @@ returns-in-None c =
     let cell = c.args.cell.now.state in
     let same : c.size-size.result / c.block_bytes-block.result ≡ own_size cell / cell.block =
     rw (c.size-size.ensures, c.block_bytes-block.ensures.value) refl in (
-      λ t. without_last cell (whole cell c.use_invariant.ensures) c.requires
+      λ t. without_last cell (whole cell c.holds_together.ensures) c.requires
           (sym (c.page_now.ensures.block ∙ ap (block_at_page cell) same) ∙ ap option_copied c.in-None.is),
       λ all. refl,
     )

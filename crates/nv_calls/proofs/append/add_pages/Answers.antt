@@ -41,7 +41,7 @@ loop-added-preserved g c =
     let is = now_is g (goal.at.loop-added-preserved g c).After-add_page-arg-1 in
     let here : Some c.in-Some.block ≡ slice_get (drop n bs) 0 =
     c.in-Some.ensures.block ∙ ap (λ (q : QueueValue). slice_get q.blocks 0) i.pages in
-    let chain : IsChain now.state.chain = subst (λ (v : CellValue). IsChain v.state.chain) c.cell.ensures c.use_invariant.ensures.chain in
+    let chain : IsChain now.state.chain = subst (λ (v : CellValue). IsChain v.state.chain) c.cell.ensures c.holds_together.ensures.chain in
     let p = page_added n v0 now new bs c.in-Some.block here chain is c.add_page.ensures.state c.add_page.ensures.room in
     record {
       cells = only_again cells (g.C.Cells.cells l.cells) (g.C.Cells.cells c.add_page.new.self) k (with_new_pages (take n bs) v0)
@@ -57,5 +57,5 @@ loop-added-preserved g c =
 pub add_page-requires-clause-sized : goal.add_page-requires-clause-sized
 add_page-requires-clause-sized g c =
     let l = c.loop-added in
-    first_sized l.pages.size l.pages.blocks c.in-Some.block c.block_bytes-size.ensures.sized c.in-Some.ensures.block
+    first_sized l.pages.size l.pages.blocks c.in-Some.block c.keeps_its_size.ensures c.in-Some.ensures.block
     ∙ ap (λ (q : QueueValue). q.size) l.invariant.pages ∙ c.requires.size ∙ sym (ap (λ (v : CellValue). v.state.block) (now_is g c))

@@ -46,7 +46,7 @@ loop-done-preserved g c =
     value_is new _ _ c.append.ensures.state c.append.ensures.room ∙ ap (λ (x : Entry). with_entry x l.blocks.blocks now) e in
     let queue : c.append.new.queue ≡ without_front (length (item_blocks item)) l.blocks =
     c.append.ensures.queue ∙ ap (λ (x : Entry). without_front (length (item_blocks x.item)) l.blocks) e in
-    let chain : IsChain now.state.chain = subst (λ (v : CellValue). IsChain v.state.chain) c.cell.ensures c.use_invariant.ensures.chain in
+    let chain : IsChain now.state.chain = subst (λ (v : CellValue). IsChain v.state.chain) c.cell.ensures c.holds_together.ensures.chain in
     record {
       only = only_along (g.C.Cells.cells c.args.cells.now) (g.C.Cells.cells l.cells)
           (g.C.Cells.cells c.append.new.self) k i.only c.append.ensures.cells;

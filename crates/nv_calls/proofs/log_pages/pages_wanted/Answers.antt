@@ -19,7 +19,7 @@ overflow_add-wanted g c =
     omega (
       arith,
       c.run_count-runs.ensures.few,
-      blocks_below (g.C.Cells.cells c.args.cells.now) c.args.hand.now c.args.plan.now.update c.requires.can,
+      blocks_below (g.C.Cells.cells c.args.cells.now) c.args.hand.now c.args.update.now c.requires.can,
       c.entries_of-entries.ensures.few,
       c.loop-ino.invariant.few,
       c.loop-ino-test.true,
@@ -70,7 +70,7 @@ pub returns-clause-wanted : goal.returns-clause-wanted
 returns-clause-wanted g c =
     let cells = g.C.Cells.cells c.args.cells.now in
     let hand = c.args.hand.now in
-    let u = c.args.plan.now.update in
+    let u = c.args.update.now in
     let made : (taken_by cells hand u).made.ino ≡ c.unwrap_or-made.result =
     made_number cells hand u c.requires.can ∙ grind (arith, common_steps) in
     let counts : c.entries_of-entries.result ≡ entry_counts (planned_by cells hand u) =

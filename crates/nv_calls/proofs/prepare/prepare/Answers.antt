@@ -40,7 +40,7 @@ ready_cells-requires-clause-one g c =
     ∙ ap (λ (plan : List InodePlan). cell_plans plan 0 cells) c.in_ok-planned.ensures.ok in
     subst (AllByRecursion (λ (p : CellCommitValue). BindOne p.items)) (sym is)
     (planned_one cells c.args.hand.now c.args.update.now c.requires.can
-    (omega (arith, c.block_in-block.ensures.value, c.block_in-block.ensures.some)) c.in_ok-planned.ensures.runs.0
+    (omega (arith, c.blocks_have_bytes.ensures)) c.in_ok-planned.ensures.runs.0
     c.in_ok-planned.ensures.runs.1)
 
 pub need_of-requires : goal.need_of-requires
@@ -63,7 +63,7 @@ returns-clause-blocks g c =
     let queue : c.reserve.new.self ≡ record hand.«data» { room = c.reserve.new.self.room } = grind (arith, common_steps) in
     subst (AllByRecursion (λ (p : CellCommitValue). HaveBlocks p.items (block_in cells) c.reserve.new.self)) (sym is)
     (planned_blocks cells hand c.args.update.now c.requires.can
-    (omega (arith, c.block_in-block.ensures.value, c.block_in-block.ensures.some)) c.in_ok-planned.ensures.runs.0
+    (omega (arith, c.blocks_have_bytes.ensures)) c.in_ok-planned.ensures.runs.0
     c.in_ok-planned.ensures.runs.1 c.reserve.new.self (ap (λ (q : QueueValue). q.size) queue) (ap (λ (q : QueueValue). q.blocks) queue))
 
 pub returns-clause-few : goal.returns-clause-few
@@ -73,5 +73,5 @@ returns-clause-few g c =
     c.in_ok-plans.ensures ∙ ap (λ (plan : List InodePlan). cell_plans plan 0 cells) c.in_ok-planned.ensures.ok in
     subst (λ (ps : List CellCommitValue). sum_by (λ (p : CellCommitValue). length p.items) ps < 2 ^ 32) (sym is)
     (planned_few cells c.args.hand.now c.args.update.now c.requires.can
-    (omega (arith, c.block_in-block.ensures.value, c.block_in-block.ensures.some)) c.in_ok-planned.ensures.runs.0
+    (omega (arith, c.blocks_have_bytes.ensures)) c.in_ok-planned.ensures.runs.0
     c.in_ok-planned.ensures.runs.1)

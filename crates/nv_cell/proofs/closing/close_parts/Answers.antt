@@ -25,7 +25,7 @@ pub pass-requires : goal.pass-requires
 pass-requires c =
     let chain = c.args.chain.now.state in
     let lt : c.loop-i.i < chain.tail = omega (arith, c.loop-i-test.true, c.tail-i-end.ensures.value) in
-    let at = is_at c.args.stays chain c.loop-i.i _ c.ends-ends.ensures.chain c.requires.flags lt c.entry_at.ensures in
+    let at = is_at c.args.stays chain c.loop-i.i _ c.holds_together.ensures c.requires.flags lt c.entry_at.ensures in
     let slot = next_of slot_totals at c.at.ensures in
     let slots = ap (λ n. n - 1) c.part_count-count.ensures in
     let inv = c.loop-i.invariant in
@@ -43,7 +43,7 @@ loop-i-preserved c =
     let i = c.loop-i.i in
     let e = c.entry_at.result.now in
     let lt : i < chain.tail = omega (arith, c.loop-i-test.true, c.tail-i-end.ensures.value) in
-    let at = is_at c.args.stays chain i e c.ends-ends.ensures.chain c.requires.flags lt c.entry_at.ensures in
+    let at = is_at c.args.stays chain i e c.holds_together.ensures c.requires.flags lt c.entry_at.ensures in
     let part = next_of part_totals at c.at.ensures in
     let slot = next_of slot_totals at c.at.ensures in
     let parts = c.part_count-count.ensures in
@@ -67,7 +67,7 @@ returns c =
     let inv = c.loop-i.invariant in
     let queue = c.loop-i.mark_queue.items in
     let size = length-take chain.tail chain.entries in
-    let count = flags-count c.args.stays chain c.ends-ends.ensures.chain c.requires.flags in
+    let count = flags-count c.args.stays chain c.holds_together.ensures c.requires.flags in
     let len : length flags ≡ length es = omega (arith, count, size, c.tail-i-end.ensures) in
     let past : length es ≤ i = omega (arith, size, c.loop-i-test.false, c.tail-i-end.ensures) in
     record {

@@ -23,7 +23,7 @@ push_covered-requires-clause-room c =
     let e = c.entry_at-entry.result.now in
     let p = entry_read es t e c.entry_at-entry.ensures in
     let w = weight_is c.args.block (take t es) c.loop-t.index e.item c.loop-t.invariant.scan c.loop-t.invariant.bound
-    c.name_count-names.ensures.distinct in
+    c.tells_names_apart.ensures in
     let len = rw (drop_next es t e p.within p.is) at c.loop-t.invariant.len in
     let more = weights_push c.args.block (take t es) e (items_of (drop (t + 1) es)) in
     omega (arith, w, len, more, c.requires.room, c.loop-t.invariant.capacity)
@@ -39,7 +39,7 @@ loop-t-preserved c =
     let pages = rw (drop_next es t e p.within p.is) at c.loop-t.invariant.pages in
     let len = rw (drop_next es t e p.within p.is) at c.loop-t.invariant.len in
     let w = weight_is c.args.block (take t es) c.loop-t.index e.item c.loop-t.invariant.scan c.loop-t.invariant.bound
-    c.name_count-names.ensures.distinct in
+    c.tells_names_apart.ensures in
     let more = rw (← take_next es t e p.within p.is) at (weights_push c.args.block (take t es) e (items_of (drop (t + 1) es))) in
     record {
       room =

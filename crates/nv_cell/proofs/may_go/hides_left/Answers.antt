@@ -15,7 +15,7 @@ returns-then-hides c =
     let chain = c.args.chain.now.state in
     let lt : c.loop-i.i < c.args.place = c.loop-i-test.true in
     let short : c.loop-i.i < chain.tail = omega (arith, lt, c.requires.place) in
-    let at = is_at c.args.stays chain c.loop-i.i _ c.ends-ends.ensures.chain c.requires.flags short c.entry_at.ensures in
+    let at = is_at c.args.stays chain c.loop-i.i _ c.holds_together.ensures c.requires.flags short c.entry_at.ensures in
     let test = λ (e : Entry). hides c.args.block c.args.item.now e.item in
     let flag = rw c.if-at.true at c.at.ensures ∙ sym (get_or-take c.args.place (flags_of c.args.stays chain) c.loop-i.i true lt) in
     sym (any_here test (at_front c.args.place at lt) flag (sym c.hides.ensures ∙ c.if-hides.true)) ∙ c.loop-i.invariant
@@ -30,7 +30,7 @@ loop-i-preserved c =
     let test = λ (e : Entry). hides c.args.block c.args.item.now e.item in
     let lt : i < c.args.place = c.loop-i-test.true in
     let short : i < chain.tail = omega (arith, lt, c.requires.place) in
-    let at = at_front c.args.place (is_at c.args.stays chain i e c.ends-ends.ensures.chain c.requires.flags short c.entry_at.ensures) lt in
+    let at = at_front c.args.place (is_at c.args.stays chain i e c.holds_together.ensures c.requires.flags short c.entry_at.ensures) lt in
     let flag = get_or_default kept i false c.at.result at.flag ∙ get_or-take c.args.place all i c.at.result lt ∙ sym c.at.ensures in
     elim c.else-at.branch [
       | else-at-via-then-at+else-hides w ↦

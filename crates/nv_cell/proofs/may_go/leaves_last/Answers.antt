@@ -9,7 +9,7 @@ pub returns-else-tail-eq0 : goal.returns-else-tail-eq0
 returns-else-tail-eq0 c =
     let chain = c.args.chain.now.state in
     let flags = flags_of c.args.stays chain in
-    let is = c.ends-ends.ensures.chain in
+    let is = c.holds_together.ensures in
     let size = length-take-le chain.tail chain.entries is.within in
     let n : c.tail-tail.result - 1 ≡ length (log chain) - 1 = omega (arith, size, c.tail-tail.ensures.value) in
     let lt : c.tail-tail.result - 1 < length flags =

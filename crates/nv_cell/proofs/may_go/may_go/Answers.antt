@@ -18,7 +18,7 @@ returns-then-hides_left c =
     let s = state_in c.cell.inside in
     let lt : c.loop-i.i < s.chain.tail = omega (arith, c.loop-i-test.true, c.tail-i-end.ensures.value) in
     let req = rw (← c.cell.view_is) at c.requires in
-    let at = is_at c.args.stays s.chain c.loop-i.i _ c.ends-ends.ensures.chain req lt c.entry_at.ensures in
+    let at = is_at c.args.stays s.chain c.loop-i.i _ c.holds_together.ensures req lt c.entry_at.ensures in
     let inv = rw (← c.cell.view_is) at c.loop-i.invariant in
     let goes = rw c.if-goes.true at c.at-goes.ensures in
     let there = c.has_there.ensures ∙ there_is c.cell.inside c.cell.invariant at in
@@ -39,7 +39,7 @@ loop-i-preserved c =
     let e = c.entry_at.result.now in
     let lt : i < s.chain.tail = omega (arith, c.loop-i-test.true, c.tail-i-end.ensures.value) in
     let req = rw (← c.cell.view_is) at c.requires in
-    let at = is_at c.args.stays s.chain i e c.ends-ends.ensures.chain req lt c.entry_at.ensures in
+    let at = is_at c.args.stays s.chain i e c.holds_together.ensures req lt c.entry_at.ensures in
     let inv = rw (← c.cell.view_is) at c.loop-i.invariant in
     rw (← c.cell.view_is) (elim c.else-goes.branch [
       | else-goes-via-then-goes+else-hides_left w ↦
@@ -65,7 +65,7 @@ pub returns : goal.returns
 returns c =
     let s = state_in c.cell.inside in
     let flags = flags_of c.args.stays s.chain in
-    let is = c.ends-ends.ensures.chain in
+    let is = c.holds_together.ensures in
     let req = rw (← c.cell.view_is) at c.requires in
     let inv = rw (← c.cell.view_is) at c.loop-i.invariant in
     let count = flags-count c.args.stays s.chain is req in

@@ -10,7 +10,7 @@ stretch_of-requires-clause-known c =
     let chain = c.args.chain.now.state in
     let index = c.args.index.now in
     let scan : IsScan c.args.block chain.entries chain.tail index =
-    record { log = c.ends-ends.ensures.chain.rising; scan = c.requires.index } in
+    record { log = c.holds_together.ensures.rising; scan = c.requires.index } in
     let run : IsRunFrom c.min-from.result (ref_at index.pages.pages) (Some c.in-Some.run') =
     subst (λ (v : IndexValue). IsRunFrom c.min-from.result (ref_at v.pages.pages) (Some c.in-Some.run')) c.index.view_is
     c.in-Some.ensures.run in
@@ -22,7 +22,7 @@ stretch_of-requires-clause-small c =
     let index = c.args.index.now in
     let run' = c.in-Some.run' in
     let scan : IsScan c.args.block chain.entries chain.tail index =
-    record { log = c.ends-ends.ensures.chain.rising; scan = c.requires.index } in
+    record { log = c.holds_together.ensures.rising; scan = c.requires.index } in
     let run : IsRunFrom c.min-from.result (ref_at index.pages.pages) (Some run') =
     subst (λ (v : IndexValue). IsRunFrom c.min-from.result (ref_at v.pages.pages) (Some run')) c.index.view_is c.in-Some.ensures.run in
     let found = page_found c.args.block chain.entries chain.tail index c.args.marks.now.tallies.items
@@ -35,7 +35,7 @@ returns-in-Some c =
     let index = c.args.index.now in
     let run' = c.in-Some.run' in
     let scan : IsScan c.args.block chain.entries chain.tail index =
-    record { log = c.ends-ends.ensures.chain.rising; scan = c.requires.index } in
+    record { log = c.holds_together.ensures.rising; scan = c.requires.index } in
     let run : IsRunFrom c.min-from.result (ref_at index.pages.pages) (Some run') =
     subst (λ (v : IndexValue). IsRunFrom c.min-from.result (ref_at v.pages.pages) (Some run')) c.index.view_is c.in-Some.ensures.run in
     rw c.stretch_of.ensures

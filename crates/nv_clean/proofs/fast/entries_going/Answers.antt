@@ -14,9 +14,9 @@ loop-k-preserved c =
     let short : k < length (log_pages chain) = omega (arith, lt, length-parts 0 chain.ends (log chain)) in
     let step = count_step stays (log_pages chain) k false c.loop-k-test.true short in
     let has : length (get_or (log_pages chain) k []) ≡ min (end_of chain k) chain.tail - min (start_of chain k) chain.tail =
-    sym (of_page (log_pages chain) k short) ∙ count_at chain k c.use_invariant.ensures.chain lt in
+    sym (of_page (log_pages chain) k short) ∙ count_at chain k c.holds_together.ensures.chain lt in
     let next = next_start chain k in
-    let order = (in_order chain.page chain.ends (length chain.entries) k c.use_invariant.ensures.chain.parted).0 in
+    let order = (in_order chain.page chain.ends (length chain.entries) k c.holds_together.ensures.chain.parted).0 in
     elim c.if-not-stay.branch [
       | then-not-stay w ↦
           let goes = ap (λ (b : Bool). if b then 0 else length (get_or (log_pages chain) k [])) w.if-not-stay.true in

@@ -25,12 +25,12 @@ remove_pages-requires-clause-flags c =
 pub remove_pages-requires-clause-published : goal.remove_pages-requires-clause-published
 remove_pages-requires-clause-published c =
     subst (λ (stays : List Bool). ArePublished stays c.args.cell.now.state.chain) (sym (flags_are c))
-    (pages_published c.args.cell.now.state c.use_invariant.ensures)
+    (pages_published c.args.cell.now.state c.holds_together.ensures)
 
 pub remove_pages-requires-clause-may : goal.remove_pages-requires-clause-may
 remove_pages-requires-clause-may c =
     subst (λ (stays : List Bool). MayGo (log_flags stays c.args.cell.now.state.chain) c.args.cell.now.state) (sym (flags_are c))
-    (pages_may c.args.cell.now.state c.use_invariant.ensures)
+    (pages_may c.args.cell.now.state c.holds_together.ensures)
 
 stays_are : (c : goal.After-drop-unlinkable-inside) → c.args.unlinkable.stays ≡ pages_staying c.args.cell.now.state
 stays_are c = ap (λ (u : UnlinkableValue). u.stays) c.requires.walk
@@ -39,7 +39,7 @@ log_is : (c : goal.After-drop-unlinkable-inside)
     → log_of c.remove_pages.new.self.state ≡ entries_of (select (pages_staying c.args.cell.now.state) (log_pages c.args.cell.now.state.chain))
 log_is c =
     ap log_of c.remove_pages.ensures.state
-    ∙ log_without c.deref.result.now c.args.cell.now.state.chain c.use_invariant.ensures.chain
+    ∙ log_without c.deref.result.now c.args.cell.now.state.chain c.holds_together.ensures.chain
     (ap (λ (stays : List Bool). length stays) (same c) ∙ pages_flagged c.args.cell.now.state)
     ∙ ap (λ (stays : List Bool). entries_of (select stays (log_pages c.args.cell.now.state.chain))) (same c) where
       same : (c : goal.After-drop-unlinkable-inside) → c.deref.result.now ≡ pages_staying c.args.cell.now.state
@@ -54,14 +54,14 @@ returns-clause-log c =
 values : (c : goal.After-drop-unlinkable-inside) → KeepsValues c.args.cell.now.state c.remove_pages.new.self.state
 values c = λ r are.
     subst (λ (l : List Entry). KeepsReads r (log_of c.args.cell.now.state) l) (sym (log_is c))
-    (pages_keep c.args.cell.now.state c.use_invariant.ensures r are)
+    (pages_keep c.args.cell.now.state c.holds_together.ensures r are)
 
 pub returns-clause-values : goal.returns-clause-values
 returns-clause-values c = values c
 
 pub returns-clause-nodes : goal.returns-clause-nodes
 returns-clause-nodes c =
-    nodes_stay c.args.cell.now.state c.remove_pages.new.self.state c.use_invariant.ensures
+    nodes_stay c.args.cell.now.state c.remove_pages.new.self.state c.holds_together.ensures
     (ap (λ (cell : CellState). cell.block) c.remove_pages.ensures.state)
     (values c)
 
@@ -79,7 +79,7 @@ returns-clause-entries c =
     ap (λ (cleaned : Cleaned). cleaned.entries) c.since.ensures
     ∙ ap (λ (n : ℕ). n - length c.remove_pages.new.self.state.chain.entries) c.len-entries.ensures
     ∙ ap (λ (chain : ChainState). length cell.chain.entries - length chain.entries) (left_is c)
-    ∙ entries_lost cell c.use_invariant.ensures c.requires.published
+    ∙ entries_lost cell c.holds_together.ensures c.requires.published
     ∙ sym (ap (λ (u : UnlinkableValue). u.entries) c.requires.walk)
 
 pub returns-clause-pages : goal.returns-clause-pages
@@ -90,4 +90,4 @@ returns-clause-pages c =
     (c.blocks-pages.ensures ∙ ap (λ (chain : ChainState). chain.blocks) c.log.ensures.state) in
     let left = ap (λ (chain : ChainState). length chain.blocks) (left_is c) in
     let told = ap (λ (u : UnlinkableValue). u.pages) c.requires.walk in
-    omega (arith, said, had, left, told, pages_lost cell c.use_invariant.ensures)
+    omega (arith, said, had, left, told, pages_lost cell c.holds_together.ensures)

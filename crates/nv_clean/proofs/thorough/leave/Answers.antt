@@ -12,7 +12,7 @@ returns-then-is_all-clause-log c =
     let cell = c.args.cell.now.state in
     let none = eqb-true c.args.wanted.now.dropped 0 (sym c.is_all.ensures ∙ c.if-is_all.true) in
     sym (ap (λ (w : WantedValue). select w.stays (log_of cell)) c.requires.walk
-    ∙ none_dropped cell c.use_invariant.ensures c.requires.published (ap (λ (w : WantedValue). w.dropped) (sym c.requires.walk) ∙ none))
+    ∙ none_dropped cell c.holds_together.ensures c.requires.published (ap (λ (w : WantedValue). w.dropped) (sym c.requires.walk) ∙ none))
 
 flags_are : (c : goal.After-deref) → c.deref.result.now ≡ entries_staying c.args.cell.now.state
 flags_are c =
@@ -20,9 +20,9 @@ flags_are c =
 
 pub compact-old-requires-clause-flags : goal.compact-old-requires-clause-flags
 compact-old-requires-clause-flags c =
-    ap (λ (stays : List Bool). length stays) (flags_are c) ∙ entries_flagged c.args.cell.now.state c.use_invariant.ensures
+    ap (λ (stays : List Bool). length stays) (flags_are c) ∙ entries_flagged c.args.cell.now.state c.holds_together.ensures
 
 pub compact-old-requires-clause-may : goal.compact-old-requires-clause-may
 compact-old-requires-clause-may c =
     subst (λ (stays : List Bool). MayGo stays c.args.cell.now.state) (sym (flags_are c))
-    (entries_may c.args.cell.now.state c.use_invariant.ensures)
+    (entries_may c.args.cell.now.state c.holds_together.ensures)

@@ -15,19 +15,19 @@ log_is c =
 
 pub returns-clause-none : goal.returns-clause-none
 returns-clause-none c = λ r are.
-    subst (λ (l : List Entry). NoneDroppable r [] l) (sym (log_is c)) (none_left c.args.cell.now.state c.use_invariant.ensures r are)
+    subst (λ (l : List Entry). NoneDroppable r [] l) (sym (log_is c)) (none_left c.args.cell.now.state c.holds_together.ensures r are)
 
 values : (c : goal.After-drop-wanted-inside) → KeepsValues c.args.cell.now.state c.leave.new.cell.state
 values c = λ r are.
     subst (λ (l : List Entry). KeepsReads r (log_of c.args.cell.now.state) l) (sym (log_is c))
-    (entries_keep c.args.cell.now.state c.use_invariant.ensures r are)
+    (entries_keep c.args.cell.now.state c.holds_together.ensures r are)
 
 pub returns-clause-values : goal.returns-clause-values
 returns-clause-values c = values c
 
 pub returns-clause-nodes : goal.returns-clause-nodes
 returns-clause-nodes c =
-    nodes_stay c.args.cell.now.state c.leave.new.cell.state c.use_invariant.ensures
+    nodes_stay c.args.cell.now.state c.leave.new.cell.state c.holds_together.ensures
     (ap (λ (cell : CellState). cell.block) c.leave.ensures.cell
     ∙ same_size c.args.wanted c.args.hand.now.pages.blocks c.args.cell.now.state)
     (values c)

@@ -6,5 +6,5 @@ use Rattle.nv_clean.proofs.thorough.wanted.Goals as goal
 pub staying-entries-requires : goal.staying-entries-requires
 staying-entries-requires c =
     ap (λ (stays : List Bool). length stays) (c.deref.ensures.value ∙ c.in_ok-stays.ensures)
-    ∙ entries_flagged c.args.cell.now.state c.use_invariant.ensures
+    ∙ entries_flagged c.args.cell.now.state c.holds_together.ensures
     ∙ ap (λ (chain : ChainState). chain.tail) (sym c.log.ensures.state)

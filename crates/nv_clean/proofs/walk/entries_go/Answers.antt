@@ -17,7 +17,7 @@ returns-then-not-may_go c = λ before covers.
     let i = c.loop-place.place in
     let from = c.args.from in
     let to = c.args.to in
-    let size = log_len cell c.use_invariant.ensures in
+    let size = log_len cell c.holds_together.ensures in
     let short : i < length log = omega (arith, c.loop-place-test.true, c.requires.within, size) in
     let found = entry_there log i short in
     let step = all_go-step cell.block (there_flags cell) before log i to found.0 c.loop-place-test.true
@@ -35,7 +35,7 @@ loop-place-preserved c = λ before covers.
     let log = log_of cell in
     let i = c.loop-place.place in
     let to = c.args.to in
-    let size = log_len cell c.use_invariant.ensures in
+    let size = log_len cell c.holds_together.ensures in
     let short : i < length log = omega (arith, c.loop-place-test.true, c.requires.within, size) in
     let found = entry_there log i short in
     let step = all_go-step cell.block (there_flags cell) before log i to found.0 c.loop-place-test.true
@@ -49,4 +49,4 @@ pub returns : goal.returns
 returns c = λ before covers.
     let cell = c.args.cell.now.state in
     page_whole cell.block (there_flags cell) before (log_of cell) c.args.from c.loop-place.place c.args.to c.loop-place-test.false
-    c.requires.order (omega (arith, c.requires.within, log_len cell c.use_invariant.ensures)) (c.loop-place.invariant before covers)
+    c.requires.order (omega (arith, c.requires.within, log_len cell c.holds_together.ensures)) (c.loop-place.invariant before covers)

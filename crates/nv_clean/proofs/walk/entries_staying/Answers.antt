@@ -20,7 +20,7 @@ loop-place-preserved c =
     let log = log_of cell in
     let i = c.loop-place.place in
     let tail = c.tail-place-end.ensures in
-    let short : i < length log = omega (arith, c.loop-place-test.true, tail, log_len cell c.use_invariant.ensures) in
+    let short : i < length log = omega (arith, c.loop-place-test.true, tail, log_len cell c.holds_together.ensures) in
     let found = entry_there log i short in
     let goes = c.may_go-goes.result in
     let stays = c.loop-place.stays.items in
@@ -42,4 +42,4 @@ pub returns : goal.returns
 returns c =
     let cell = c.args.cell.now.state in
     after_walk cell.block (there_flags cell) c.loop-place.stays.items (log_of cell) c.loop-place.place
-    (omega (arith, c.loop-place-test.false, c.tail-place-end.ensures, log_len cell c.use_invariant.ensures)) c.loop-place.invariant.walk
+    (omega (arith, c.loop-place-test.false, c.tail-place-end.ensures, log_len cell c.holds_together.ensures)) c.loop-place.invariant.walk

@@ -18,6 +18,6 @@ returns c = λ before e covers is.
     (ap (λ (chain : ChainState). slice_get chain.entries i) (sym c.log.ensures.state) ∙ c.entry_at-entry.ensures) is in
     c.is_free.ensures
     ∙ ap (λ (n : ℕ). nat_lt (i + 1) n && not flag && not (is_hidden cell.block c.entry_at-entry.result.now.item c.args.cover.now))
-    (sym (log_len cell c.use_invariant.ensures))
+    (sym (log_len cell c.holds_together.ensures))
     ∙ ap (λ (x : Entry). nat_lt (i + 1) (length log) && not flag && not (is_hidden cell.block x.item c.args.cover.now)) read
     ∙ tested cell.block before log i e flag c.args.cover.now covers

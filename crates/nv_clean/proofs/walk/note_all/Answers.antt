@@ -10,7 +10,7 @@ use Rattle.nv_clean.proofs.walk.note_all.Goals as goal
 pub entry_at-requires : goal.entry_at-requires
 entry_at-requires c =
     let same = ap (λ (chain : ChainState). length chain.entries) c.log.ensures.state in
-    omega (arith, c.loop-place-test.true, c.requires.within, c.use_invariant.ensures.chain.within, same)
+    omega (arith, c.loop-place-test.true, c.requires.within, c.holds_together.ensures.chain.within, same)
 
 pub loop-place-preserved : goal.loop-place-preserved
 loop-place-preserved c = λ before covers.
@@ -19,7 +19,7 @@ loop-place-preserved c = λ before covers.
     let i = c.loop-place.place in
     let from = c.args.from in
     let lt : i < cell.chain.tail = omega (arith, c.loop-place-test.true, c.requires.within) in
-    let short : i < length log = omega (arith, lt, log_len cell c.use_invariant.ensures) in
+    let short : i < length log = omega (arith, lt, log_len cell c.holds_together.ensures) in
     let e = c.entry_at.result.now in
     let is : slice_get log i ≡ Some e =
     read_in cell i e lt (ap (λ (chain : ChainState). slice_get chain.entries i) (sym c.log.ensures.state) ∙ c.entry_at.ensures) in

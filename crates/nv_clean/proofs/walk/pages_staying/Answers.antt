@@ -15,7 +15,7 @@ use Rattle.nv_clean.proofs.walk.pages_staying.Goals as goal
 pub loop-k-init : goal.loop-k-init
 loop-k-init c =
     let cell = c.args.cell.now.state in
-    let counts = all_counts cell c.use_invariant.ensures in
+    let counts = all_counts cell c.holds_together.ensures in
     record {
       flags = [];
       at = omega arith;
@@ -37,7 +37,7 @@ loop-k-preserved c =
     let counts : List ℕ = map length (log_pages chain) in
     let count = get_or counts k 0 in
     let goes = c.page_goes-goes.result in
-    let facts = all_counts cell c.use_invariant.ensures in
+    let facts = all_counts cell c.holds_together.ensures in
     let same = c.log-chain.ensures.state in
     let ends : length c.ends-k-end.result.now ≡ length chain.ends =
     ap (λ (l : List ℕ). length l) c.ends-k-end.ensures.value ∙ ap (λ (ch : ChainState). length ch.ends) same in
@@ -54,7 +54,7 @@ loop-k-preserved c =
     let start_is : start ≡ min (start_of chain k) chain.tail = omega (arith, c.min-start.ensures, first, tail) in
     let end_is : end ≡ min (end_of chain k) chain.tail = omega (arith, c.min-end.ensures, last, tail_too) in
     let at : length flags ≡ start = omega (arith, c.loop-k.invariant.at, start_is) in
-    let has = count_at chain k c.use_invariant.ensures.chain lt in
+    let has = count_at chain k c.holds_together.ensures.chain lt in
     let whole : length flags + count ≡ end = omega (arith, at, start_is, end_is, has, order) in
     let size : end - start ≡ count = omega (arith, at, whole) in
     let long : length (flags ++ replicate count (not goes)) ≡ length flags + count =
@@ -80,7 +80,7 @@ pub returns : goal.returns
 returns c =
     let cell = c.args.cell.now.state in
     let counts : List ℕ = map length (log_pages cell.chain) in
-    let facts = all_counts cell c.use_invariant.ensures in
+    let facts = all_counts cell c.holds_together.ensures in
     let ends : length c.ends-k-end.result.now ≡ length cell.chain.ends =
     ap (λ (l : List ℕ). length l) c.ends-k-end.ensures.value
     ∙ ap (λ (ch : ChainState). length ch.ends) c.log-chain.ensures.state in

@@ -8,7 +8,7 @@ use Rattle.nv_core.proofs.lent.ready_in.Goals as goal
 
 pub returns-clause-filled : goal.returns-clause-filled
 returns-clause-filled c =
-    let cells = c.args.cells.now in let text = c.args.text.now in let u = c.args.plan.update in
+    let cells = c.args.cells.now in let text = c.args.text.now in let u = c.args.update in
     subst (λ (slots : List ℕ). IfOk c.ready_filled.result (λ ready. hand_of ready.hand
     ≡ filled_hand (lent_cells slots cells) text u c.args.hand)) c.as_slice-slots.ensures.slots
     (filled_text (lent_cells c.as_slice-slots.result.now cells) _ text u c.args.hand c.ready_filled.result c.ready_filled.ensures.ok

@@ -7,7 +7,7 @@ use Rattle.nv_core.proofs.reports.has_block.Goals as goal
 pub returns-in-Some : goal.returns-in-Some
 returns-in-Some c = λ place at there.
     c.is_page.ensures
-    ∙ sym (page_has c.args.cell.now.state place c.args.k c.args.entry.now c.in-Some.part c.use_invariant.ensures.blocks at
+    ∙ sym (page_has c.args.cell.now.state place c.args.k c.args.entry.now c.in-Some.part c.holds_together.ensures.blocks at
     (sym c.part_at.ensures.value ∙ c.in-Some.is) there)
 
 pub returns-in-None : goal.returns-in-None

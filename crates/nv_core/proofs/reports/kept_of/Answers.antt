@@ -18,7 +18,7 @@ mark_at-requires c =
     let within = entry_within (log_of cell) c.args.place e c.requires in
     let long = length-take (part_count e) (drop (part_base (log_of cell) c.args.place) cell.marks) in
     let rest = length-drop (part_base (log_of cell) c.args.place) cell.marks in
-    rw marks (omega (arith, within, long, rest, c.use_invariant.ensures.marks.len, c.loop-k-test.true, c.part_count-k-end.ensures))
+    rw marks (omega (arith, within, long, rest, c.holds_together.ensures.marks.len, c.loop-k-test.true, c.part_count-k-end.ensures))
 
 pub loop-k-preserved : goal.loop-k-preserved
 loop-k-preserved c =
@@ -30,8 +30,8 @@ loop-k-preserved c =
     let blocks = length-drop base cell.blocks in
     let whole = total_take cell.chain.entries cell.chain.tail in
     let more = kept_more c.args.book.now.state e.epoch c.loop-k.k (drop base cell.marks) (drop base cell.blocks)
-    (omega (arith, within, marks, c.use_invariant.ensures.marks.len, c.loop-k-test.true, c.part_count-k-end.ensures))
-    (omega (arith, within, blocks, whole, c.use_invariant.ensures.blocks.len, c.loop-k-test.true, c.part_count-k-end.ensures)) in
+    (omega (arith, within, marks, c.holds_together.ensures.marks.len, c.loop-k-test.true, c.part_count-k-end.ensures))
+    (omega (arith, within, blocks, whole, c.holds_together.ensures.blocks.len, c.loop-k-test.true, c.part_count-k-end.ensures)) in
     let marked = c.marks_of-marks.ensures ∙ entry_marks (log_of cell) cell.marks c.args.place e c.requires in
     let mark : c.mark_at.result ≡ slice_index_or (drop base cell.marks) c.loop-k.k Current =
     c.mark_at.ensures ∙ ap (λ (l : List Mark). slice_index_or l c.loop-k.k Current) marked

@@ -23,7 +23,7 @@ give_past-requires c =
     let old = c.args.lists.now.items in
     subst (λ (bs : List BlockValue). CanAllGoHome c.args.geometry.now.numbers (map zeroed bs) old) (sym (past here))
     (subst (λ (n : GeometryNumbers). CanAllGoHome n (map zeroed (fresh_blocks c.args.cell.state)) old) (sym r.3)
-    (can_go_home r.0 r.1 r.2 c.args.cell.state old c.use_invariant.ensures r.4))
+    (can_go_home r.0 r.1 r.2 c.args.cell.state old c.holds_together.ensures r.4))
 
 pub returns : goal.returns
 returns c image view ino owed same can seen =
@@ -38,5 +38,5 @@ returns c image view ino owed same can seen =
     c.give_past.ensures.given) in
     let cut = c.give_past.ensures.places ∙ ap (λ (n : ℕ). take n bare.blocks.items) c.published_slots-published.ensures in
     let is = c.into_bare-bare.ensures in
-    cell_left image ino owed c.args.cell.state old c.use_invariant.ensures can view kept new given
+    cell_left image ino owed c.args.cell.state old c.holds_together.ensures can view kept new given
     (slot_left image view ino c.args.cell bare kept can.slot seen is.generation is.chain is.spare is.blocks is.slots refl refl cut)

@@ -72,8 +72,8 @@ returns-in-Visit-clause-turn c r shows =
 pub returns-in-Lock-clause-rooms : goal.returns-in-Lock-clause-rooms
 returns-in-Lock-clause-rooms c = c.lock.ensures.rooms c.args.hand.now c.requires.rooms
 
-pub returns-in-Maintenance-clause-turn : goal.returns-in-Maintenance-clause-turn
-returns-in-Maintenance-clause-turn c r shows =
+pub returns-in-SnapshotOrCleaner-clause-turn : goal.returns-in-SnapshotOrCleaner-clause-turn
+returns-in-SnapshotOrCleaner-clause-turn c r shows =
     turns_alone c.args.running.now.next c.args.actor c.args.shared.now c.args.hand.now c.args.running.now r c.maintain.result
     c.maintain.new.shared c.maintain.new.hand c.maintain.new.running refl shows c.maintain.ensures.request
     (λ told is. either _ _ (c.maintain.ensures.turn told))

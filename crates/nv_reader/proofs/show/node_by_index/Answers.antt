@@ -24,7 +24,7 @@ returns-clause-own c =
     let text : c.in_ok-read.field-0 ≡ shown =
     c.in_ok-read.ensures.own
     ∙ ap (λ (n : ℕ). read_at 0 n (own_bytes cell)) (size_told cell.block log stat is)
-    ∙ whole_read _ _ ∙ own_shown cell c.use_invariant.ensures.chain.rising in
+    ∙ whole_read _ _ ∙ own_shown cell c.holds_together.ensures.chain.rising in
     let names : c.in_ok-list.field-0 ≡ names_of log = c.in_ok-list.ensures.names in
     ap₂ (λ (b : List ℕ) (n : List BoundName). Some (record { kind = stat.kind; mode = stat.mode; size = stat.size; bytes = b; names = n }))
     text names

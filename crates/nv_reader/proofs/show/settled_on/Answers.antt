@@ -25,4 +25,4 @@ returns-clause-node c bytes same there =
     returns-clause-own c
     ∙ rw c.in-Some.is
     (node_shown (part_bytes cell) bytes cell.block (take tail cell.chain.entries)
-    (cell_gives cell tail bytes c.use_invariant.ensures le same there'))
+    (cell_gives cell tail bytes c.holds_together.ensures le same there'))

@@ -14,7 +14,7 @@ pub entries_to-log-requires : goal.entries_to-log-requires
 entries_to-log-requires c =
     let chain = c.args.cell.now.state.chain in
     let logs : c.log-2.result.now ≡ log chain = c.log-2.ensures.value ∙ ap log c.log.ensures.state in
-    subst IsLog (sym logs) (IsLog-take chain.tail chain.entries c.use_invariant.ensures.chain.rising)
+    subst IsLog (sym logs) (IsLog-take chain.tail chain.entries c.holds_together.ensures.chain.rising)
 
 pub returns-clause-own : goal.returns-clause-own
 returns-clause-own c =
@@ -37,4 +37,4 @@ returns-clause-node c bytes same there =
     subst (λ (es : List Entry). es ≡ take (length es) (log_of cell)) is front in
     returns-clause-own c
     ∙ node_shown (part_bytes cell) bytes cell.block (up_to epoch (log_of cell))
-    (front_gives cell (up_to epoch (log_of cell)) bytes c.use_invariant.ensures whole same there)
+    (front_gives cell (up_to epoch (log_of cell)) bytes c.holds_together.ensures whole same there)

@@ -14,7 +14,7 @@ returns-then-eq g c =
     let first = c.loop-k.invariant in
     let tail : c.tail.result ≡ (value_at cells k).state.chain.tail =
     c.tail.ensures ∙ ap (λ (v : CellValue). v.state.chain.tail) c.cell-cell.ensures in
-    let whole : IsCell (value_at cells k).state = subst (λ (v : CellValue). IsCell v.state) c.cell-cell.ensures c.use_invariant.ensures in (
+    let whole : IsCell (value_at cells k).state = subst (λ (v : CellValue). IsCell v.state) c.cell-cell.ensures c.holds_together.ensures in (
       λ yes. empty_slot cells k c.args.ino lt here first (sym tail ∙ eqb-true c.tail.result 0 yes),
       λ slot. eq-eqb c.tail.result 0 (tail ∙ empty_tail cells k c.args.ino lt here first whole slot),
     )

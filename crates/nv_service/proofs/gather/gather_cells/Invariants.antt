@@ -1,12 +1,12 @@
 use Rattle.std.proofs.Common.{◌≡◌, ◌+◌, All, sum_by, length}
-use Rattle.nv_service.specs.Rests.{CellRestValue, IsKnown}
+use Rattle.nv_service.specs.UnlockedParts.{BesideCellValue, IsKnown}
 use Rattle.nv_service.proofs.gather.gather_cells.Given as goal
 
 abbrev pub invariant-loop-rest : goal.invariant-loop-rest
 invariant-loop-rest g l = record {
   parts : l.blocks.parts ≡ l.initial.blocks.parts + length l.yielded;
   amount : l.blocks.amount
-      ≡ l.initial.blocks.amount + sum_by (λ (r : CellRestValue). r.blocks) l.yielded;
+      ≡ l.initial.blocks.amount + sum_by (λ (r : BesideCellValue). r.blocks) l.yielded;
   notes : l.notes ≡ l.initial.notes;
   met : All (IsKnown g.C.Commits.opened l.initial.notes) l.yielded;
 }

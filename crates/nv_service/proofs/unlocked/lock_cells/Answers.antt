@@ -1,7 +1,7 @@
 use Rattle.std.proofs.Common.{◌≡◌, ◌∙◌, ℕ, List, ap, arith, length, rules, sym, vec_len}
 use Rattle.std.specs.List.{range_with_len}
 use Rattle.std.proofs.lemmas.List.{length-map}
-use Rattle.nv_service.specs.Rests.{CellRestValue, Told, rest_told, cell_told}
+use Rattle.nv_service.specs.UnlockedParts.{BesideCellValue, Told, rest_told, cell_told}
 use Rattle.nv_service.proofs.Slots.{falling, fallen, left}
 use Rattle.nv_service.proofs.Turning.{split_last, turned}
 use Rattle.nv_service.proofs.unlocked.lock_cells.Goals as goal
@@ -37,7 +37,7 @@ pub put_back-requires-clause-next : goal.put_back-requires-clause-next
 put_back-requires-clause-next g c =
     let l = c.loop-cell in
     let before = l.invariant.slots ∙ ap (λ (n : ℕ). falling (vec_len l.locks.locks) n) (sym c.in-Some-pop.ensures.cases) in
-    ap (λ (r : CellRestValue). r.slot) c.rest.view_is
+    ap (λ (r : BesideCellValue). r.slot) c.rest.view_is
     ∙ (left l.rests.items c.pop-in-Some.new.self.items c.in-Some-pop.rest (vec_len l.locks.locks) (vec_len c.pop-in-Some.new.self) before
     c.in-Some-pop.ensures.items).1
 
@@ -48,9 +48,9 @@ invariant_of-locked g c =
     let fit = (split_last rest_told cell_told l.rests.items c.pop-in-Some.new.self.items c.in-Some-pop.rest l.cells.items
     c.pop.new.self.items c.in-Some.cell l.invariant.fit c.in-Some-pop.ensures.items c.in-Some.ensures.items).1 in (
       c.rest.invariant.0,
-      ap (λ (r : CellRestValue). r.blocks) is ∙ ap (λ (t : Told). t.blocks) fit,
+      ap (λ (r : BesideCellValue). r.blocks) is ∙ ap (λ (t : Told). t.blocks) fit,
       c.rest.invariant.1,
-      sym (ap (λ (r : CellRestValue). r.version) is ∙ ap (λ (t : Told). t.version) fit),
+      sym (ap (λ (r : BesideCellValue). r.version) is ∙ ap (λ (t : Told). t.version) fit),
     )
 
 pub loop-cell-preserved : goal.loop-cell-preserved

@@ -1,5 +1,5 @@
 use Rattle.std.proofs.Common.{◌≡◌, ◌+◌, length, map, vec_len, vec_capacity}
-use Rattle.nv_service.specs.Rests.{slot_of, rest_told, cell_told}
+use Rattle.nv_service.specs.UnlockedParts.{slot_of, rest_told, cell_told}
 use Rattle.nv_service.proofs.Slots.{falling}
 use Rattle.nv_service.proofs.unlocked.lock_cells.Given as goal
 

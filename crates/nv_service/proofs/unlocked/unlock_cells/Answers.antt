@@ -1,6 +1,6 @@
 use Rattle.std.proofs.Common.{◌≡◌, ◌∙◌, ℕ, ap, arith, sym, vec_len}
 use Rattle.std.specs.List.{range_with_len}
-use Rattle.nv_service.specs.Rests.{Told, rest_told, cell_told}
+use Rattle.nv_service.specs.UnlockedParts.{Told, rest_told, cell_told}
 use Rattle.nv_service.proofs.Slots.{falling, joined, risen}
 use Rattle.nv_service.proofs.Turning.{joined_last, turned}
 use Rattle.nv_service.proofs.unlocked.unlock_cells.Goals as goal

@@ -1,4 +1,4 @@
-use Rattle.nv_service.specs.Rests.{list_told}
+use Rattle.nv_service.specs.UnlockedParts.{list_told}
 use Rattle.nv_service.proofs.Turning.{turned_told}
 use Rattle.nv_service.proofs.unlocked.unlock_lists.Goals as goal
 

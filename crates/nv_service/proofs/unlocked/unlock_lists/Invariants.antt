@@ -1,5 +1,5 @@
 use Rattle.std.proofs.Common.{◌≡◌, ◌+◌, ◌≤◌, length, map, vec_len, vec_capacity}
-use Rattle.nv_service.specs.Rests.{list_told}
+use Rattle.nv_service.specs.UnlockedParts.{list_told}
 use Rattle.nv_service.proofs.unlocked.unlock_lists.Given as goal
 
 abbrev pub decreases-loop-lock : goal.decreases-loop-lock

@@ -6,8 +6,8 @@ use Rattle.nv_tests_cells.proofs.commits.committed.Goals as goal
 pub fill-requires-clause-can : goal.fill-requires-clause-can
 fill-requires-clause-can g c =
     let cells = g.C.Cells.cells c.args.cells.now in
-    let can : CanReady cells c.args.hand c.args.plan.update = search rules in
-    c.what_is_ready_can_be_filled.ensures cells (g.C.Cells.cells c.ready_on.new.cells) c.args.hand c.args.plan.update c.in_ok-ready.ready
+    let can : CanReady cells c.args.hand c.args.update = search rules in
+    c.what_is_ready_can_be_filled.ensures cells (g.C.Cells.cells c.ready_on.new.cells) c.args.hand c.args.update c.in_ok-ready.ready
     can c.ready_on.ensures.cells c.in_ok-ready.ensures.ok
 
 pub commit_on-requires : goal.commit_on-requires
@@ -15,7 +15,7 @@ commit_on-requires g c =
     let cells = g.C.Cells.cells c.args.cells.now in
     let now = g.C.Cells.cells c.ready_on.new.cells in
     let hand = c.args.hand in
-    let u = c.args.plan.update in
+    let u = c.args.update in
     let ready = c.fill.new.ready in
     let book = c.enter.new.book in
     let can : CanReady cells hand u = search rules in

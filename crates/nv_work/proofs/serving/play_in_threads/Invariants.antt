@@ -4,22 +4,22 @@ use Rattle.nv_service.specs.Opened.{versions_in}
 use Rattle.nv_work.proofs.serving.play_in_threads.Given as goal
 
 abbrev pub ghosts-serve-C-Ledger : goal.ghosts-serve-C-Ledger
-ghosts-serve-C-Ledger g a = record { name = a.names.commits.name; parts = a.names.commits.parts }
+ghosts-serve-C-Ledger g a = record { name = a.ledgers.commits.name; parts = a.ledgers.commits.parts }
 
 abbrev pub ghosts-serve-B-Ledger : goal.ghosts-serve-B-Ledger
-ghosts-serve-B-Ledger g a = record { name = a.names.blocks.name; parts = a.names.blocks.parts }
+ghosts-serve-B-Ledger g a = record { name = a.ledgers.blocks.name; parts = a.ledgers.blocks.parts }
 
 abbrev pub ghosts-serve-C-Commits : goal.ghosts-serve-C-Commits
 ghosts-serve-C-Commits g a = record {
-  whole = a.names.commits.parts;
+  whole = a.ledgers.commits.parts;
   commit = a.world.shared.book.state.commit;
   epoch = a.world.shared.book.state.snaps.epoch;
   living = length a.world.shared.book.state.snaps.living;
   opened = versions_in a.world.shared.cells.items;
-  table = a.names.table;
-  snap_name = a.names.snapshots.name;
-  snap_parts = a.names.snapshots.parts;
+  table = a.ledgers.table;
+  snap_name = a.ledgers.snapshots.name;
+  snap_parts = a.ledgers.snapshots.parts;
 }
 
 abbrev pub ghosts-serve-B-Blocks : goal.ghosts-serve-B-Blocks
-ghosts-serve-B-Blocks g a = record { whole = a.names.blocks.parts; placed = placed_parts a.world.shared.geometry.numbers }
+ghosts-serve-B-Blocks g a = record { whole = a.ledgers.blocks.parts; placed = placed_parts a.world.shared.geometry.numbers }

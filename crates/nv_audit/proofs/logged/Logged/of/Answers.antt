@@ -8,4 +8,4 @@ pub new-requires-clause-rising : goal.new-requires-clause-rising
 new-requires-clause-rising c =
     let cell = c.args.cell.now.state in
     subst IsLog (sym (c.log-2.ensures.value ∙ ap log c.log.ensures.state))
-    (IsLog-take cell.chain.tail cell.chain.entries c.use_invariant.ensures.chain.rising)
+    (IsLog-take cell.chain.tail cell.chain.entries c.holds_together.ensures.chain.rising)

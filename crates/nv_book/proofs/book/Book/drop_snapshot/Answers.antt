@@ -33,7 +33,7 @@ drop-noted c =
 pub invariant_of-self-2 : goal.invariant_of-self-2
 invariant_of-self-2 c =
     let book = c.self.invariant in
-    let filed = c.dropping_files.ensures.dropped _ c.args.s _ _ c.epoch-epoch.ensures.sound.rising book.filed in
+    let filed = c.dropping_files.ensures.dropped _ c.args.s _ _ c.rises.ensures.rising book.filed in
     rw (c.in_ok-remove.ensures.ok, c.drop_at.ensures, c.older-older.ensures)
     (book-dropped _ _ _ _ book c.args.s _ (same c) filed (drop-noted c).0)
 

@@ -22,7 +22,7 @@ returns-in_default-clause-state c =
 pub unreachable-requires : goal.unreachable-requires
 unreachable-requires c =
     let y = (c.holders_are_told_by_the_list.ensures.youngest (ids c.self.inside.snaps) c.args.killed.birth c.args.killed.death c.in-Some.s
-    c.epoch-epoch.ensures.sound.rising).0 (sym c.in-Some.ensures) in
+    c.rises.ensures.rising).0 (sym c.in-Some.ensures) in
     let p : IsSome (pins_at c.self.inside.snaps.living c.in-Some.s) =
     (c.pins_stay_with_their_snapshot.ensures.lives c.self.inside.snaps.living c.in-Some.s).1 y.lives in
     let q = subst (λ o. IsSome o) c.in_default-place.ensures.absent p in

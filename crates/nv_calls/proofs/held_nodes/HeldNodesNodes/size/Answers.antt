@@ -16,7 +16,7 @@ returns-then-has_node g c =
     sym (rw c.in-Some.is at c.cell_of.ensures) in
     let there : is_some (copy_of (λ number. []) cell.state file) ≡ true =
     sym (c.has_node.ensures (λ number. [])) ∙ c.if-has_node.true in
-    c.size.ensures ∙ size_is cell.state file c.use_invariant.ensures there
+    c.size.ensures ∙ size_is cell.state file c.holds_together.ensures there
     ∙ ap (λ (o : Option CellValue). length (bytes_of (option_map (λ (p : PlainNode). p.node)
     (option_and_then (λ (v : CellValue). own_node v.state file) o))))
     (sym found)

@@ -33,12 +33,12 @@ invariant_of-self c =
 
 pub returns-clause-pages : goal.returns-clause-pages
 returns-clause-pages c =
-    rw (← c.self.view_is, c.add_page.ensures.state) (adds_page c.args.block c.self.inside.chain.state c.ends-ends.ensures.chain)
+    rw (← c.self.view_is, c.add_page.ensures.state) (adds_page c.args.block c.self.inside.chain.state c.holds_together.ensures)
 
 pub returns-clause-ready : goal.returns-clause-ready
 returns-clause-ready c items h =
     let i = c.self.inside in
     let chain : c.add_page.new.self.state ≡ with_page c.args.block i.chain.state = c.add_page.ensures.state in
     let spare : c.add_page.new.self.spare ≡ i.chain.spare - 1 = omega (arith, c.add_page.ensures.spare) in
-    page_ready c.args.block items (value_in i) _ c.ends-ends.ensures.chain (rw chain refl) (rw spare refl)
+    page_ready c.args.block items (value_in i) _ c.holds_together.ensures (rw chain refl) (rw spare refl)
     (subst (λ (v : CellValue). IsReadyFor items v) (sym c.self.view_is) h)

@@ -37,7 +37,7 @@ invariant_of-self c =
     let es : List Entry = s.chain.entries in
     let queue = c.args.queue.now in
     let bs = blocks_for e.item queue.blocks in
-    let old : IsChain s.chain = c.ends-ends.ensures.chain in
+    let old : IsChain s.chain = c.holds_together.ensures in
     let next : IsChain (appended_chain e s.chain) = subst IsChain c.append.ensures.state c.ends.ensures.chain in
     let within : s.chain.tail ≤ length es = old.within in
     let size : queue.size ≡ s.block = c.requires.size ∙ ap (λ (v : CellValue). v.state.block) (sym c.self.view_is) in
@@ -46,7 +46,7 @@ invariant_of-self c =
     subst (λ (v : CellValue). part_count e ≤ v.room.parts) (sym c.self.view_is) c.requires.next.parts in
     let sized : AreSized s.block bs =
     subst (λ (n : ℕ). AreSized n bs) size
-    (sized_front queue.size (length (item_blocks e.item)) queue.blocks c.block_bytes-size.ensures.sized) in
+    (sized_front queue.size (length (item_blocks e.item)) queue.blocks c.keeps_its_size.ensures) in
     let few : length s.marks ≤ part_total es = omega (arith, inv.marks.len, total_take es s.chain.tail) in
     let blocks : HasBlocks (appended e bs s) = blocks_append s e bs inv.blocks few c.requires.next.within c.requires.blocks sized in
     let after : CellState = appended e bs s in
@@ -107,7 +107,7 @@ returns-clause-ready c later h =
     let page : 0 < room_of i.chain.state = subst (λ (v : CellValue). 0 < room_of v.state.chain) (sym c.self.view_is) c.requires.next.page in
     let spread = slots_append i.chain.state.entries i.blocks.items c.push_slots.new.slots.items e bs c.self.invariant.slots
     c.requires.next.within c.requires.blocks c.push_slots.ensures.slots in
-    others_ready e bs later (value_in i) _ c.ends-ends.ensures.chain page
+    others_ready e bs later (value_in i) _ c.holds_together.ensures page
     (rw (c.append.ensures.state, spread.0) refl)
     (rw (c.append.ensures.spare, c.part_count-parts.ensures) refl)
     (subst (λ (v : CellValue). IsReadyFor (e.item ∷ later) v) (sym c.self.view_is) h)

@@ -10,14 +10,14 @@ pub close_parts-requires : goal.close_parts-requires
 close_parts-requires c =
     let given = rw (← c.self.view_is) at c.requires in
     let inv = c.self.invariant in
-    let taken = compact_taken c.args.stays.now c.args.pages.items inv c.ends-ends.ensures.chain given.flags given.may refl in
+    let taken = compact_taken c.args.stays.now c.args.pages.items inv c.holds_together.ensures given.flags given.may refl in
     record { flags = given.flags; marks_there = inv.marks.len; slots_there = slots_there inv taken; none = slots_empty inv taken }
 
 pub recount-requires : goal.recount-requires
 recount-requires c =
     let given = rw (← c.self.view_is) at c.requires in
     let inv = c.self.invariant in
-    let is = c.ends-ends.ensures.chain in
+    let is = c.holds_together.ensures in
     let now = c.compact-old.ensures.state in
     let taken = compact_taken c.args.stays.now c.args.pages.items inv is given.flags given.may now in
     may_recount inv taken c.close_parts.ensures.marks is
@@ -27,7 +27,7 @@ pub invariant_of-self : goal.invariant_of-self
 invariant_of-self c =
     let given = rw (← c.self.view_is) at c.requires in
     let inv = c.self.invariant in
-    let is = c.ends-ends.ensures.chain in
+    let is = c.holds_together.ensures in
     let now = c.compact-old.ensures.state in
     let taken = compact_taken c.args.stays.now c.args.pages.items inv is given.flags given.may now in
     let fresh = fresh_within c.args.stays.now c.args.pages.items c.self.inside.chain.state is
@@ -41,7 +41,7 @@ returns c =
     let inv = c.self.invariant in
     let s = state_in c.self.inside in
     let now = c.compact-old.ensures.state in
-    let taken = compact_taken c.args.stays.now c.args.pages.items inv c.ends-ends.ensures.chain given.flags given.may now in
+    let taken = compact_taken c.args.stays.now c.args.pages.items inv c.holds_together.ensures given.flags given.may now in
     let slots = slots_closed inv taken c.close_parts.new.slots.items c.close_parts.ensures.slots in
     rw (← c.self.view_is) (record {
       blocks = c.compact-old.ensures.blocks;

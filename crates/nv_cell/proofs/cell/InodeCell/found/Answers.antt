@@ -18,7 +18,7 @@ append-requires-clause-next c =
     ap (λ (s : CellState). s.chain) c.add_page.ensures.state in
     let now : c.add_page.new.self.state.chain ≡ with_page c.args.page empty = same ∙ ap (with_page c.args.page) was in
     let room : 0 < room_of c.add_page.new.self.state.chain =
-    omega (arith, c.add_page.ensures.pages.room_rises, c.use_invariant.ensures.chain.least) in
+    omega (arith, c.add_page.ensures.pages.room_rises, c.holds_together.ensures.chain.least) in
     let id : ForSome (last_id c.add_page.new.self.state.chain) (λ last. IsIdBefore last e.id) = rw now (λ last is. absurd cc) in
     let epoch : ForSome (last_epoch c.add_page.new.self.state.chain) (λ last. last ≤ e.epoch) = rw now (λ last is. absurd cc) in
     let ready : IsReadyFor (e.item ∷ []) c.add_page.new.self = c.add_page.ensures.ready (e.item ∷ []) c.in_default.ensures.ok.ready in

@@ -26,6 +26,6 @@ returns c =
     (ap is_valid tally
     ∙ tally_marks is_there (λ (t : Tally). t.there) chain m.ends.items m.tallies.items
     m.marks.items entry
-    c.ends-ends.ensures.chain.within c.self.invariant.ends_len c.self.invariant.ends
+    c.holds_together.ensures.within c.self.invariant.ends_len c.self.invariant.ends
     c.self.invariant.tallied.tallies.there lt
     ∙ sym (get_or-map (list_any is_there) (marks_by_entry (log chain) m.marks.items) entry []))

@@ -11,7 +11,7 @@ returns-clause-names c =
     let i = c.self.inside in
     let listed = map lent c.in_ok-bindings.bindings.items in
     let rising : IsLog i.chain.state.entries =
-    subst (λ (v : Inside). IsLog v.chain.state.entries) c.self-inside.view_is c.ends-ends.ensures.chain.rising in
+    subst (λ (v : Inside). IsLog v.chain.state.entries) c.self-inside.view_is c.holds_together.ensures.rising in
     let list : IsListOf i.index.names.names listed =
     subst (λ (v : Inside). IsListOf v.index.names.names listed) c.self-inside.view_is c.in_ok-bindings.ensures.names in
     let told = ap (λ xs. map named (map lent xs)) c.deref.ensures.value

@@ -48,4 +48,4 @@ returns c =
     let end = c.end-end.ensures in
     rw (← c.self.view_is, c.deref.ensures.value, end, c.first-first.ensures)
     (entry_marks i.chain.state i.marks.ends.items i.marks.marks.items c.args.entry
-    c.ends-ends.ensures.chain.within c.self.invariant.ends lt)
+    c.holds_together.ensures.within c.self.invariant.ends lt)

@@ -18,7 +18,7 @@ found c =
     let numbers = page_slot i.chain.state.entries i.index in
     c.block_at.ensures
     ∙ rw (c.slot_in.ensures numbers c.stretch_from-stretch.ensures, c.deref.ensures.value, c.from-page.ensures)
-    (page_in_slot (state_in i) i.blocks.items i.index c.args.page refl c.self.invariant.slots c.ends-ends.ensures.chain.rising
+    (page_in_slot (state_in i) i.blocks.items i.index c.args.page refl c.self.invariant.slots c.holds_together.ensures.rising
     c.self.invariant.refs)
 
 pub returns-clause-block : goal.returns-clause-block
@@ -29,9 +29,9 @@ returns-clause-number c =
     let s = state_in c.self.inside in
     let inv = c.self.invariant in
     rw (← c.self.view_is)
-    (ap (option_map number_of) (found c) ∙ page_number_is s c.args.page c.ends-ends.ensures.chain.rising inv.marks inv.blocks)
+    (ap (option_map number_of) (found c) ∙ page_number_is s c.args.page c.holds_together.ensures.rising inv.marks inv.blocks)
 
 pub returns-clause-sized : goal.returns-clause-sized
 returns-clause-sized c =
     let s = state_in c.self.inside in
-    rw (← c.self.view_is, found c) (page_sized s c.args.page c.ends-ends.ensures.chain.rising c.self.invariant.blocks.sized)
+    rw (← c.self.view_is, found c) (page_sized s c.args.page c.holds_together.ensures.rising c.self.invariant.blocks.sized)

@@ -174,4 +174,4 @@ returns-clause-few c =
 pub returns-clause-marked : goal.returns-clause-marked
 returns-clause-marked c =
     let s = state_in c.self.inside in
-    rw (chain_is c, marks_are c) (published_killed s c.name_all.new.killed.items c.ends-ends.ensures.chain.rising (killed_told c))
+    rw (chain_is c, marks_are c) (published_killed s c.name_all.new.killed.items c.holds_together.ensures.rising (killed_told c))

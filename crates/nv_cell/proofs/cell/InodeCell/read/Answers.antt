@@ -43,7 +43,7 @@ read c =
     (pages_now s.block xs numbers (pages_for s.block size))) slots in
     c.from_vec.ensures ∙ pages ∙ read_cut c.args.at c.args.len size c.min-start.result c.min-end.result all ended begun
     ∙ ap (λ (xs : List ℕ). read_at c.args.at c.args.len (take size xs)) (pages_are s own c.self.inside.index
-    (pages_for s.block size) refl inv.slots c.ends-ends.ensures.chain.rising inv.refs)
+    (pages_for s.block size) refl inv.slots c.holds_together.ensures.rising inv.refs)
 
 pub returns-clause-own : goal.returns-clause-own
 returns-clause-own c = rw (← c.self.view_is) (read c)
@@ -53,7 +53,7 @@ returns-clause-bytes c bytes are =
     let s = state_in c.self.inside in
     let inv = c.self.invariant in
     let is : IsCell s =
-    record { some = inv.some; chain = c.ends-ends.ensures.chain; pages = inv.pages; marks = inv.marks; blocks = inv.blocks } in
+    record { some = inv.some; chain = c.holds_together.ensures; pages = inv.pages; marks = inv.marks; blocks = inv.blocks } in
     rw (← c.self.view_is)
     (read c ∙ ap (read_at c.args.at c.args.len)
     (file_is s bytes is (subst (λ (v : CellValue). AreBytesOf v.state bytes) (sym c.self.view_is) are)))

@@ -24,7 +24,7 @@ recount-requires c =
       marks = ap length plan.marks ∙ len_anew living c.args.block chain.entries ∙ ap part_total (sym log);
       ends_room = omega (arith, plan.ends_room, c.requires.whole);
       tallies_room = omega (arith, plan.tallies_room, c.requires.whole);
-      pages_room = omega (arith, plan.pages_room, c.ends-ends.ensures.chain.paged);
+      pages_room = omega (arith, plan.pages_room, c.holds_together.ensures.paged);
     }
 
 -- the state that the fields leave

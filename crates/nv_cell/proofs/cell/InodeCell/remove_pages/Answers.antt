@@ -13,7 +13,7 @@ pub close_parts-requires : goal.close_parts-requires
 close_parts-requires c =
     let given = rw (← c.self.view_is) at c.requires in
     let inv = c.self.invariant in
-    let taken = pages_taken c.args.stays.now inv c.ends-ends.ensures.chain given.flags given.published given.may refl in
+    let taken = pages_taken c.args.stays.now inv c.holds_together.ensures given.flags given.published given.may refl in
     record { flags = given.flags; marks_there = inv.marks.len; slots_there = slots_there inv taken; none = slots_empty inv taken }
 
 pub unlink_pages-requires-clause-sized : goal.unlink_pages-requires-clause-sized
@@ -26,7 +26,7 @@ pub recount-requires : goal.recount-requires
 recount-requires c =
     let given = rw (← c.self.view_is) at c.requires in
     let inv = c.self.invariant in
-    let is = c.ends-ends.ensures.chain in
+    let is = c.holds_together.ensures in
     let now = c.unlink_pages.ensures.state in
     let taken = pages_taken c.args.stays.now inv is given.flags given.published given.may now in
     may_recount inv taken c.close_parts.ensures.marks is (rw now (pages_fewer c.args.stays.now c.self.inside.chain.state))
@@ -35,7 +35,7 @@ pub invariant_of-self : goal.invariant_of-self
 invariant_of-self c =
     let given = rw (← c.self.view_is) at c.requires in
     let inv = c.self.invariant in
-    let is = c.ends-ends.ensures.chain in
+    let is = c.holds_together.ensures in
     let now = c.unlink_pages.ensures.state in
     let taken = pages_taken c.args.stays.now inv is given.flags given.published given.may now in
     let blocks = c.self.inside.chain.state.blocks in
@@ -49,7 +49,7 @@ returns c =
     let inv = c.self.invariant in
     let s = state_in c.self.inside in
     let now = c.unlink_pages.ensures.state in
-    let taken = pages_taken c.args.stays.now inv c.ends-ends.ensures.chain given.flags given.published given.may now in
+    let taken = pages_taken c.args.stays.now inv c.holds_together.ensures given.flags given.published given.may now in
     let slots = slots_closed inv taken c.close_parts.new.slots.items c.close_parts.ensures.slots in
     rw (← c.self.view_is) (record {
       state = rw (slots.0, c.recount.ensures.marks, c.close_parts.ensures.marks, now) refl;

@@ -23,7 +23,7 @@ push_covered-requires-clause-ends c = c.requires.scanned.ends.ends
 pub push_covered-requires-clause-named : goal.push_covered-requires-clause-named
 push_covered-requires-clause-named c =
     are_named c.args.block c.args.chain.now.state.entries c.args.t c.args.self.now.index
-    (record { log = c.ends-ends.ensures.chain.rising; scan = c.requires.scanned.refs })
+    (record { log = c.holds_together.ensures.rising; scan = c.requires.scanned.refs })
 
 pub push_covered-requires-clause-room : goal.push_covered-requires-clause-room
 push_covered-requires-clause-room c =
@@ -58,7 +58,7 @@ end_all-requires-clause-within c i lt =
     let ns = numbers_in parts in
     let here = (goal.at.end_all-requires-clause-within c).After-push_covered in
     let is : IsScan c.args.block es c.args.t c.args.self.now.index =
-    record { log = c.ends-ends.ensures.chain.rising; scan = c.requires.scanned.refs } in
+    record { log = c.holds_together.ensures.rising; scan = c.requires.scanned.refs } in
     let within : i < length ns = omega (arith, lt, ap (λ (ps : List NumberedPart). length ps) c.deref.ensures.value, length_numbers parts) in
     let low : slice_index ns i < part_base es c.args.t =
     ended_low c.args.block es c.args.t c.entry_at-entry.result.now c.args.self.now.index is ns (counted here) i within in
@@ -85,7 +85,7 @@ returns-clause-ok c =
     let ns = numbers_in c.push_covered.new.killed.items in
     let marks = c.end_all.new.self.marks.items in
     let new : Scan = record { index = c.put.new.self; marks = c.end_all.new.self; ended = c.push_covered.new.killed } in
-    scan_more c.args.block living c.args.chain.now c.args.tail c.args.t e old c.ends-ends.ensures.chain.rising c.requires.next
+    scan_more c.args.block living c.args.chain.now c.args.tail c.args.t e old c.holds_together.ensures.rising c.requires.next
     c.requires.within (entry_read es c.args.t e c.entry_at-entry.ensures).is c.requires.scanned ns (counted here) marks
     (λ n. c.end_all.ensures.marks n
     ∙ ap (λ (ps : List NumberedPart). cond (is_in n (numbers_in ps)) (mark_ended living (birth_at es n) e.epoch)

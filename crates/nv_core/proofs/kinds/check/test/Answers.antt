@@ -22,10 +22,10 @@ returns-clause-ends c =
     ends_over size (nodes_in (lent_cells slots cells)) before c.args.has_number u in
     let block = c.args.shared.now.geometry.numbers.block in
     by_with (λ (u : Update). option_map ending_of (result_err c.test_in.result) ≡ over block c.args.shared.now.cells.items u)
-    c.args.running.now.request c.plan.result.now
+    c.args.running.now.request c.update-update.result.now
     (c.test_in.ensures.ends
-    ∙ ap₂ (λ (size : ℕ) (cells : List CellValue). over size cells c.plan.result.now.update) c.block-block.ensures c.deref_mut.ensures.value)
-    c.plan.ensures
+    ∙ ap₂ (λ (size : ℕ) (cells : List CellValue). over size cells c.update-update.result.now) c.block-block.ensures c.deref_mut.ensures.value)
+    c.update-update.ensures
 
 pub returns-clause-wanted : goal.returns-clause-wanted
 returns-clause-wanted c =
@@ -33,7 +33,7 @@ returns-clause-wanted c =
     let over = λ (size : ℕ) (cells : List CellValue) (u : Update).
     IfOk c.test_in.result (λ n. n ≡ wanted_over size (lent_cells slots cells) u) in
     by_with (λ (u : Update). over c.args.shared.now.geometry.numbers.block c.args.shared.now.cells.items u)
-    c.args.running.now.request c.plan.result.now
-    (subst₂ (λ (size : ℕ) (cells : List CellValue). over size cells c.plan.result.now.update) c.block-block.ensures c.deref_mut.ensures.value
+    c.args.running.now.request c.update-update.result.now
+    (subst₂ (λ (size : ℕ) (cells : List CellValue). over size cells c.update-update.result.now) c.block-block.ensures c.deref_mut.ensures.value
     c.test_in.ensures.wanted)
-    c.plan.ensures
+    c.update-update.ensures

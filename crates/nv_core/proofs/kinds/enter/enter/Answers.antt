@@ -20,9 +20,9 @@ returns-in-Ok-clause-turn c told is =
     rw (c.replace_with.ensures ready refl) (rw at (inl (enters c.args.shared.now ready c.args.running.now c.args.actor c.need.result
     c.enter.new.self (begun (stamp_of c.enter.new.self.state) ready) told
     (none_there c.args.shared.now.holder (sym c.is_some.ensures ∙ c.if-is_some.false))
-    (last_below c.enter.result c.args.shared.now.book.state.commit c.commit-last.result c.in-Ok._fixed c.in-Ok.is
-    c.commit-last.ensures.value
-    c.commit-last.ensures.fits c.enter.ensures.limit.1)
+    (last_below c.enter.result c.args.shared.now.book.state.commit c.args.shared.now.book.state.commit c.in-Ok._fixed c.in-Ok.is
+    refl
+    c.keeps_its_limit.ensures c.enter.ensures.limit.1)
     c.in-Ok.ensures.ok refl (subst (λ (h : Reservation). IsReservationOf slots h told) at is))))
 
 pub returns-in-Ok-clause-told : goal.returns-in-Ok-clause-told
@@ -39,8 +39,8 @@ returns-in-Hand-clause-turn c told is =
     c.in-Err.fault _ (none_there c.args.shared.now.holder (sym c.is_some.ensures ∙ c.if-is_some.false)) c.in-Err.ensures.same
     (ap (λ (h : Reservation). hand_held h) (sym c.in-Hand.is ∙ c.replace_with-in-Err.ensures ready refl))
     (c.refuse.ensures.turn told)
-    (told_why c.enter.result c.in-Err.fault c.args.shared.now.book.state.commit c.commit-last.result c.in-Err.is c.enter.ensures.limit.0
-    c.enter.ensures.limit.1 c.in-Err.ensures.err c.commit-last.ensures.value c.commit-last.ensures.fits))
+    (told_why c.enter.result c.in-Err.fault c.args.shared.now.book.state.commit c.args.shared.now.book.state.commit c.in-Err.is c.enter.ensures.limit.0
+    c.enter.ensures.limit.1 c.in-Err.ensures.err refl c.keeps_its_limit.ensures))
 
 pub returns-in-Ok-clause-placed : goal.returns-in-Ok-clause-placed
 returns-in-Ok-clause-placed c told is placed =
@@ -56,9 +56,9 @@ pub returns-in-Ok-clause-rooms : goal.returns-in-Ok-clause-rooms
 returns-in-Ok-clause-rooms c =
     let sh = c.args.shared.now in let ru = c.args.running.now in let at = c.in-Ready.is in let ready = c.in-Ready.ready in
     let below = leb-false NUMBER sh.book.state.commit
-    (last_below c.enter.result sh.book.state.commit c.commit-last.result c.in-Ok._fixed c.in-Ok.is
-    c.commit-last.ensures.value
-    c.commit-last.ensures.fits c.enter.ensures.limit.1) in
+    (last_below c.enter.result sh.book.state.commit sh.book.state.commit c.in-Ok._fixed c.in-Ok.is
+    refl
+    c.keeps_its_limit.ensures c.enter.ensures.limit.1) in
     rw (c.replace_with.ensures ready refl) (entered_rooms sh ru ready c.args.actor c.need.result c.enter.new.self
     (begun (stamp_of c.enter.new.self.state) ready) (subst (λ (h : Reservation). HasRooms sh h ru) at c.requires.rooms) c.need.ensures
     (subst (λ (h : Reservation). GivenBy sh h ru c.args.actor) at c.requires.given

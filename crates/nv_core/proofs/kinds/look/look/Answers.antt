@@ -21,12 +21,12 @@ returns-in-Ok-clause-turn c told is =
     let s = shared_of c.args.shared.now in
     let place = c.args.place in
     let found = c.in-Ok.looked in
-    let u = c.plan.result.now.update in
-    let by = call_by c.args.running.now.request c.args.running.now.owed told.call c.plan.result.now c.plan.ensures is in
+    let u = c.update-update.result.now in
+    let by = call_by c.args.running.now.request c.args.running.now.owed told.call c.update-update.result.now c.update-update.ensures is in
     let look =
     rw c.in-Ok.is at
     (look_alone s u by.0 place c.args.running.now.looked c.directory-ino.result (λ cell. cell.now) c.cell.result c.look_at.result
-    (place_of c.args.running.now.request c.plan.result.now place c.plan.ensures c.requires.place) (c.directory-ino.ensures by.0)
+    (place_of c.args.running.now.request c.update-update.result.now place c.update-update.ensures c.requires.place) (c.directory-ino.ensures by.0)
     c.cell.ensures (λ bytes. c.look_at.ensures bytes by.0)) in
     let many = length-map c.args.shared.now.cells.items (λ (x : CellValue). x.state) ∙ sym c.inodes.ensures in
     look_moves s (hand_of c.args.hand.now) (shown told c.args.running.now) (owner_at s (handle_at (directories told.call) place).ino)
@@ -46,11 +46,11 @@ pub returns-in-Err-clause-turn : goal.returns-in-Err-clause-turn
 returns-in-Err-clause-turn c told is =
     let s = shared_of c.args.shared.now in
     let place = c.args.place in
-    let by = call_by c.args.running.now.request c.args.running.now.owed told.call c.plan.result.now c.plan.ensures is in
+    let by = call_by c.args.running.now.request c.args.running.now.owed told.call c.update-update.result.now c.update-update.ensures is in
     let look =
     rw c.in-Err.is at
-    (look_alone s c.plan.result.now.update by.0 place c.args.running.now.looked c.directory-ino.result (λ cell. cell.now) c.cell.result
-    c.look_at.result (place_of c.args.running.now.request c.plan.result.now place c.plan.ensures c.requires.place)
+    (look_alone s c.update-update.result.now by.0 place c.args.running.now.looked c.directory-ino.result (λ cell. cell.now) c.cell.result
+    c.look_at.result (place_of c.args.running.now.request c.update-update.result.now place c.update-update.ensures c.requires.place)
     (c.directory-ino.ensures by.0) c.cell.ensures (λ bytes. c.look_at.ensures bytes by.0)) in
     look_ends s (hand_of c.args.hand.now) (shown told c.args.running.now) (owner_at s (handle_at (directories told.call) place).ino)
     (look_tests place (look_refusal (copies s) told.call))

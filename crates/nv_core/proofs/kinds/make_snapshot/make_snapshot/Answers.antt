@@ -8,7 +8,7 @@ use Rattle.nv_core.proofs.kinds.make_snapshot.make_snapshot.Goals as goal
 pub returns-in-Err-clause-turn : goal.returns-in-Err-clause-turn
 returns-in-Err-clause-turn c r none =
     let made = c.make_snapshot.ensures in
-    let told = make_told c.args.shared.now.book.state.snaps (subst IsSound c.snaps.ensures.snaps c.snapshots-living.ensures.sound)
+    let told = make_told c.args.shared.now.book.state.snaps (subst IsSound c.snaps.ensures.snaps c.rises.ensures)
     c.make_snapshot.result c.in-Err.fault made.made
     made.epoch_limit made.too_many c.in-Err.is in
     rw told (rw c.in-Err.ensures.same (refuses (shared_of c.args.shared.now) r c.in-Err.fault none))

@@ -29,11 +29,11 @@ ready_in-ready-requires-clause-can c =
     let at = c.in-Hand.is ∙ ap (λ (h : Hand). reserved.Hand h) (sym c.replace-hand.ensures.value) in
     let rooms = subst (λ (h : Reservation). HasRooms c.args.shared.now h c.args.running.now) at c.requires.rooms in
     let device = subst (λ (h : Reservation). IsOfDevice c.args.shared.now.geometry.numbers (hand_held h)) at c.requires.device in
-    let has = at_ready c.args.shared.now c.replace-hand.result c.args.running.now c.in-Change.plan c.in-Change.text c.requires.next
+    let has = at_ready c.args.shared.now c.replace-hand.result c.args.running.now c.in-Change.update c.in-Change.text c.requires.next
     (sym c.in-Change.ensures.value) rooms in
     let slots = slots_in c.args.running.now.slots in
-    subst (λ (xs : List CellValue). CanReady (lent_cells slots xs) c.replace-hand.result c.in-Change.plan.update) (sym c.deref_mut.ensures.value)
-    (can_ready c.args.shared.now slots c.replace-hand.result c.args.running.now.looked c.in-Change.plan.update
+    subst (λ (xs : List CellValue). CanReady (lent_cells slots xs) c.replace-hand.result c.in-Change.update) (sym c.deref_mut.ensures.value)
+    (can_ready c.args.shared.now slots c.replace-hand.result c.args.running.now.looked c.in-Change.update
     c.requires.limits device rooms.1 has.1.0 has.1.1.blocks)
 
 pub returns-in-Ok-clause-turn : goal.returns-in-Ok-clause-turn
@@ -41,9 +41,9 @@ returns-in-Ok-clause-turn c told is =
     let at = c.in-Hand.is ∙ ap (λ (h : Hand). reserved.Hand h) (sym c.replace-hand.ensures.value) in
     let rooms = subst (λ (h : Reservation). HasRooms c.args.shared.now h c.args.running.now) at c.requires.rooms in
     let shared = c.args.shared.now in let hand = c.replace-hand.result in let running = c.args.running.now in
-    let slots = slots_in running.slots in let u = c.in-Change.plan.update in let text = c.in-Change.text in
+    let slots = slots_in running.slots in let u = c.in-Change.update in let text = c.in-Change.text in
     let s = shared_of shared in let r = shown told running in
-    let has = at_ready shared hand running c.in-Change.plan text c.requires.next (sym c.in-Change.ensures.value) rooms in
+    let has = at_ready shared hand running c.in-Change.update text c.requires.next (sym c.in-Change.ensures.value) rooms in
     let of = subst (λ (j : Request). IsRequestOf j running.owed told.call) (sym c.in-Change.ensures.value) is in
     let gives = rw c.deref_mut.ensures.value at c.in-Ok.ensures in
     let fill : hand_of c.in-Ok.ready.hand ≡ with_bytes shared.geometry.numbers.block s r (hand_of hand) =
@@ -64,15 +64,15 @@ returns-in-Ok-clause-plans c told is =
     let rooms = subst (λ (h : Reservation). HasRooms c.args.shared.now h c.args.running.now) at c.requires.rooms in
     let device = subst (λ (h : Reservation). IsOfDevice c.args.shared.now.geometry.numbers (hand_held h)) at c.requires.device in
     let shared = c.args.shared.now in let hand = c.replace-hand.result in let running = c.args.running.now in
-    let slots = slots_in running.slots in let u = c.in-Change.plan.update in
-    let has = at_ready shared hand running c.in-Change.plan c.in-Change.text c.requires.next (sym c.in-Change.ensures.value)
+    let slots = slots_in running.slots in let u = c.in-Change.update in
+    let has = at_ready shared hand running c.in-Change.update c.in-Change.text c.requires.next (sym c.in-Change.ensures.value)
     rooms in
     let gives = rw c.deref_mut.ensures.value at c.in-Ok.ensures in
     rw c.replace_with.ensures (rw at (plans_ready slots shared.cells.items (lent_cells slots c.ready_in-ready.new.cells) hand u c.in-Ok.ready
     (plan_by shared.geometry.numbers.block (shared_of shared) (hand_of hand) (shown told running))
     (can_ready shared slots hand running.looked u c.requires.limits device rooms.1 has.1.0 has.1.1.blocks)
     gives.ok
-    (plan_ready shared hand running told c.in-Change.plan c.in-Change.text (sym c.in-Change.ensures.value) is has.0 has.1.0)))
+    (plan_ready shared hand running told c.in-Change.update c.in-Change.text (sym c.in-Change.ensures.value) is has.0 has.1.0)))
 
 pub returns-in-Ok-clause-placed : goal.returns-in-Ok-clause-placed
 returns-in-Ok-clause-placed c told is =
@@ -80,13 +80,13 @@ returns-in-Ok-clause-placed c told is =
     let rooms = subst (λ (h : Reservation). HasRooms c.args.shared.now h c.args.running.now) at c.requires.rooms in
     let device = subst (λ (h : Reservation). IsOfDevice c.args.shared.now.geometry.numbers (hand_held h)) at c.requires.device in
     let shared = c.args.shared.now in let hand = c.replace-hand.result in let running = c.args.running.now in
-    let slots = slots_in running.slots in let u = c.in-Change.plan.update in
-    let has = at_ready shared hand running c.in-Change.plan c.in-Change.text c.requires.next (sym c.in-Change.ensures.value)
+    let slots = slots_in running.slots in let u = c.in-Change.update in
+    let has = at_ready shared hand running c.in-Change.update c.in-Change.text c.requires.next (sym c.in-Change.ensures.value)
     rooms in
     rw c.replace_with.ensures (rw at (placed_ready slots shared.cells.items hand u
     (plan_by shared.geometry.numbers.block (shared_of shared) (hand_of hand) (shown told running))
     (can_ready shared slots hand running.looked u c.requires.limits device rooms.1 has.1.0 has.1.1.blocks)
-    (plan_ready shared hand running told c.in-Change.plan c.in-Change.text (sym c.in-Change.ensures.value) is has.0 has.1.0)))
+    (plan_ready shared hand running told c.in-Change.update c.in-Change.text (sym c.in-Change.ensures.value) is has.0 has.1.0)))
 
 pub returns-in-Ok-clause-rooms : goal.returns-in-Ok-clause-rooms
 returns-in-Ok-clause-rooms c =
@@ -94,8 +94,8 @@ returns-in-Ok-clause-rooms c =
     let rooms = subst (λ (h : Reservation). HasRooms c.args.shared.now h c.args.running.now) at c.requires.rooms in
     let device = subst (λ (h : Reservation). IsOfDevice c.args.shared.now.geometry.numbers (hand_held h)) at c.requires.device in
     let shared = c.args.shared.now in let hand = c.replace-hand.result in let running = c.args.running.now in
-    let slots = slots_in running.slots in let u = c.in-Change.plan.update in let new = c.ready_in-ready.new.cells in
-    let has = at_ready shared hand running c.in-Change.plan c.in-Change.text c.requires.next (sym c.in-Change.ensures.value)
+    let slots = slots_in running.slots in let u = c.in-Change.update in let new = c.ready_in-ready.new.cells in
+    let has = at_ready shared hand running c.in-Change.update c.in-Change.text c.requires.next (sym c.in-Change.ensures.value)
     rooms in
     let gives = rw c.deref_mut.ensures.value at c.in-Ok.ensures in
     let lent = lent_cells slots shared.cells.items in

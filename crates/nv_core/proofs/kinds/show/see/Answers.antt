@@ -2,7 +2,7 @@ use Rattle.std.proofs.Common.{◌≡◌, ℕ, Option, subst, sym}
 use Rattle.std.specs.Prelude.{IfOk}
 use Rattle.nv_base.specs.declared.numbers.Handle.{Handle}
 use Rattle.nv_entry.specs.declared.node.NodeCopy.{NodeCopy}
-use Rattle.nv_machine.specs.Maintenance.{seen_on, visited}
+use Rattle.nv_machine.specs.SnapshotOrCleaner.{seen_on, visited}
 use Rattle.nv_machine.specs.World.{cell_at}
 use Rattle.nv_reader.specs.Nodes.{IsWhole}
 use Rattle.nv_core.proofs.Copies.{bytes_at, copy_lent, whole_lent}

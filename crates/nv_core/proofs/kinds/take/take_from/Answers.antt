@@ -36,5 +36,5 @@ returns-clause-taken c =
         lt,
         c.requires.home.count,
       )))
-          (subst IsFreeList was c.len-free.ensures.lawful);
+          (subst IsFreeList was c.rises.ensures);
     }

@@ -35,5 +35,5 @@ returns-clause-judged c =
     ap (λ (v : WorldState). parts_of v.shared) c.self.view_is ∙ sym (c.into_parts-parts.ensures ∙ ap parts_of c.into_shared.ensures) in
     let is = c.self.invariant.0.2 in
     subst (λ (p : Parts). AreJudged p) parts
-    (rested (parts_of w.shared) c.self.invariant.0.1 (subst (λ (p : Parts). IsOneBook p.book.state) (sym parts) c.use_book.ensures)
+    (rested (parts_of w.shared) c.self.invariant.0.1 (subst (λ (p : Parts). IsOneBook p.book.state) (sym parts) c.book_holds_together.ensures)
     is.is_start is.may (sym (rests w c.self.invariant.0 none c.self.invariant.0.0 is.shows) ∙ is.reached))

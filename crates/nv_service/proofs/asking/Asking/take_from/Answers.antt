@@ -8,4 +8,4 @@ returns-clause-taken g c =
     let home : IsHomeList c.args.geometry.now.numbers c.args.cpu c.args.list.now = search rules in
     let list = c.args.list.now in
     taken_from c.take.result c.args.wanted list.end list c.args.queue.now c.take.new.queue
-    (omega (arith, home.end, c.home_start-end.ensures.value, c.home_start-end.ensures.within, c.args.geometry.now.limits.blocks_fit)) home.free.below_end (length-take c.args.wanted list.blocks ∙ sym c.take.ensures.taken) c.take.ensures.queue
+    (omega (arith, home.end, c.home_ends_within.ensures, c.args.geometry.now.limits.blocks_fit)) home.free.below_end (length-take c.args.wanted list.blocks ∙ sym c.take.ensures.taken) c.take.ensures.queue

@@ -22,7 +22,7 @@ invariant_of-self-2 g c =
     let living = g.C.Commits.living in
     let epoch = g.C.Commits.epoch in
     let snaps = c.self.inside.book.state.snaps in
-    let rising = subst (λ (list : Snapshots). IsRising (ids list)) c.snaps.ensures.snaps c.epoch-epoch.ensures.sound.rising in
+    let rising = subst (λ (list : Snapshots). IsRising (ids list)) c.snaps.ensures.snaps c.rises.ensures.rising in
     let counted =
     dropped_one living epoch c.self.inside.snap_book.total snaps c.args.s 0 rising (c.in_ok-drop_snapshot.ensures.dropped.0 refl)
     c.self.invariant.1 in (

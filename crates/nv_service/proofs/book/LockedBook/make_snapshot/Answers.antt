@@ -30,6 +30,6 @@ invariant_of-self-2 g c =
 pub returns-in_err-snapshot-clause-err : goal.returns-in_err-snapshot-clause-err
 returns-in_err-snapshot-clause-err g c =
     let e = c.in_err-snapshot.ensures in
-    let sound = subst IsSound c.snaps.ensures.snaps c.epoch-epoch.ensures.sound in
+    let sound = subst IsSound c.snaps.ensures.snaps c.rises.ensures in
     exits (λ (why : Fault). (why ≡ fault.EpochLimit) ⊎ (why ≡ fault.TooManySnapshots)) c.from_residual.result _ c.from_residual.ensures.1
     (making_fails (Err _) c.self.inside.book.state.snaps sound e.made e.epoch_limit e.too_many)

@@ -3,7 +3,7 @@ use Rattle.std.proofs.lemmas.List.{length-map}
 use Rattle.nv_base.specs.declared.geometry.Geometry.{Geometry}
 use Rattle.nv_core.specs.declared.parts.Parts.{Parts}
 use Rattle.nv_service.specs.Opening.{blocks_in}
-use Rattle.nv_service.specs.Rests.{AreInPlace, cell_told}
+use Rattle.nv_service.specs.UnlockedParts.{AreInPlace, cell_told}
 use Rattle.nv_service.specs.Seats.{AreSeats}
 use Rattle.nv_service.specs.Sessions.{SessionValue}
 use Rattle.nv_service.specs.Snapped.{AreSnapped}
@@ -12,8 +12,8 @@ use Rattle.nv_service.proofs.NotOlder.{not_older}
 use Rattle.nv_service.proofs.PartBlocks.{judged_blocks}
 use Rattle.nv_service.proofs.service.Service.close.Goals as goal
 
-pub join-requires : goal.join-requires
-join-requires g c =
+pub add_up-requires : goal.add_up-requires
+add_up-requires g c =
     let seats =
     subst (λ (ss : List SessionValue). AreSeats c.args.self.seating.given (map (λ (s : SessionValue). s.number) ss))
     c.deref.ensures.value (c.are_seats.ensures.0 c.if-not-are_seats.false) in
@@ -24,7 +24,7 @@ join-requires g c =
         seats.count,
         c.deref.ensures.value,
         c.deref.ensures.len,
-        c.apart-parts.ensures.given,
+        c.unlock-parts.ensures.given,
       );
     }
 
@@ -32,46 +32,46 @@ pub returns-in-Ok-world_of-clause-snapshots : goal.returns-in-Ok-world_of-clause
 returns-in-Ok-world_of-clause-snapshots g c =
     let living = g.C.Commits.living in
     let epoch = g.C.Commits.epoch in
-    subst (λ (n : ℕ). AreSnapped living epoch c.in-Ok-world_of.world.shared.book.state.snaps n) c.join.ensures.snapshots
-    (subst (λ (p : Parts). AreSnapped living epoch p.book.state.snaps c.apart-parts.result.1.snap_book.total)
-    (sym c.in-Ok-world_of.ensures.parts) c.apart-parts.ensures.snapshots)
+    subst (λ (n : ℕ). AreSnapped living epoch c.in-Ok-world_of.world.shared.book.state.snaps n) c.add_up.ensures.snapshots
+    (subst (λ (p : Parts). AreSnapped living epoch p.book.state.snaps c.unlock-parts.result.1.snap_book.total)
+    (sym c.in-Ok-world_of.ensures.parts) c.unlock-parts.ensures.snapshots)
 
 pub returns-in-Ok-world_of-clause-versions : goal.returns-in-Ok-world_of-clause-versions
 returns-in-Ok-world_of-clause-versions g c =
     let made = c.in-Ok-world_of.ensures in
-    not_older g.C.Commits.opened [] c.apart-parts.result.1.cells.items c.in-Ok-world_of.world.shared.cells.items
-    (c.apart-parts.ensures.cells ∙ ap (λ (p : Parts). map cell_told p.cells) (sym made.parts)) (subst AreInPlace c.deref-2.ensures.value made.placed)
-    c.join.ensures.versions
+    not_older g.C.Commits.opened [] c.unlock-parts.result.1.cells.items c.in-Ok-world_of.world.shared.cells.items
+    (c.unlock-parts.ensures.cells ∙ ap (λ (p : Parts). map cell_told p.cells) (sym made.parts)) (subst AreInPlace c.deref-2.ensures.value made.placed)
+    c.add_up.ensures.versions
 
 pub returns-in-Ok-world_of-clause-seen : goal.returns-in-Ok-world_of-clause-seen
 returns-in-Ok-world_of-clause-seen g c =
     let made = c.in-Ok-world_of.ensures in
-    none_older g.C.Commits.opened c.args.sessions.items c.apart-parts.result.1.cells.items
+    none_older g.C.Commits.opened c.args.sessions.items c.unlock-parts.result.1.cells.items
     c.in-Ok-world_of.world.shared.cells.items
-    (c.apart-parts.ensures.cells ∙ ap (λ (p : Parts). map cell_told p.cells) (sym made.parts)) (subst AreInPlace c.deref-2.ensures.value made.placed)
-    c.join.ensures.seen
+    (c.unlock-parts.ensures.cells ∙ ap (λ (p : Parts). map cell_told p.cells) (sym made.parts)) (subst AreInPlace c.deref-2.ensures.value made.placed)
+    c.add_up.ensures.seen
 
 pub returns-in-Ok-world_of-clause-blocks : goal.returns-in-Ok-world_of-clause-blocks
 returns-in-Ok-world_of-clause-blocks g c =
     let made = c.in-Ok-world_of.ensures in
-    ap blocks_in made.parts ∙ judged_blocks c.apart-parts.result.0 made.judged
-    ∙ ap (λ (n : Geometry). n.numbers.blocks) c.apart-parts.ensures.geometry.0 ∙ sym c.args.self.all_blocks
+    ap blocks_in made.parts ∙ judged_blocks c.unlock-parts.result.0 made.judged
+    ∙ ap (λ (n : Geometry). n.numbers.blocks) c.unlock-parts.ensures.geometry.0 ∙ sym c.args.self.all_blocks
 
 pub returns-in-Err-world_of-clause-out : goal.returns-in-Err-world_of-clause-out
 returns-in-Err-world_of-clause-out g c =
     let seats =
     subst (λ (ss : List SessionValue). AreSeats c.args.self.seating.given (map (λ (s : SessionValue). s.number) ss))
     c.deref.ensures.value (c.are_seats.ensures.0 c.if-not-are_seats.false) in
-    (λ is none. not_seats c.apart-parts.result.0 c.deref-2.result.now c.in-Err-world_of.fault c.in-Err-world_of.ensures.err is, λ none. absurd (none seats))
+    (λ is none. not_seats c.unlock-parts.result.0 c.deref-2.result.now c.in-Err-world_of.fault c.in-Err-world_of.ensures.err is, λ none. absurd (none seats))
 
 pub returns-in-Err-world_of-clause-err : goal.returns-in-Err-world_of-clause-err
 returns-in-Err-world_of-clause-err g c =
-    let out = c.apart-parts.ensures in
+    let out = c.unlock-parts.ensures in
     let lay =
-    beside c.args.self.geometry (vec_len c.args.self.cells.locks) c.apart-parts.result.0 c.apart-parts.result.1.cells.items
+    beside c.args.self.geometry (vec_len c.args.self.cells.locks) c.unlock-parts.result.0 c.unlock-parts.result.1.cells.items
     c.deref-2.result.now c.deref-2.ensures.value out.geometry.0 (omega (arith, c.deref-2.ensures.len, out.count)) out.slots
     out.cells in
     elim c.in-Err-world_of.ensures.err [
       | inl memory ↦ inr (inl memory)
-      | inr differs ↦ inr (inr (c.apart-parts.result.0, c.deref-2.result.now, lay, differs))
+      | inr differs ↦ inr (inr (c.unlock-parts.result.0, c.deref-2.result.now, lay, differs))
     ]

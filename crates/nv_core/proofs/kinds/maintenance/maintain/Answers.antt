@@ -1,7 +1,0 @@
-use Rattle.nv_core.proofs.kinds.maintenance.maintain.Goals as goal
-
-pub returns-in_default-clause-rest : goal.returns-in_default-clause-rest
-returns-in_default-clause-rest c = rw c.on_book.ensures.held c.on_book.ensures.rest
-
-pub returns-in-Maintenance-Release-clause-rest : goal.returns-in-Maintenance-Release-clause-rest
-returns-in-Maintenance-Release-clause-rest c = c.release.ensures.rest c.args.actor
