@@ -111,10 +111,6 @@ pub fn calls_are_serial()
 /// without one. An inode that is gone and of which no living snapshot holds a pair leaves its slot
 /// empty, in the next generation. A record stands for each pair that is not current and that a
 /// living snapshot holds, by rising slot and in the order of its log.
-/// Log pages without an entry go, and the others stay with their entries.
-/// A gone inode leaves its slot empty, of the next generation,.
-/// unless a living snapshot holds a pair of its log.
-/// Records are of held pairs that are not current, by inode and log order.
 pub fn stops_are_serial()
     // A stop where no call runs leaves the world with numbers as that world says, with the records anew.
     ensures left { (g : GeometryNumbers) (start : World) (records : List Record)

@@ -8,7 +8,7 @@ use nv_journal::Journal;
 impl Book {
     /// The journals of all CPUs.
     pub fn journals(&self) -> &[Journal]
-        // The journals of all CPUs are told,.
+        // The journals of all CPUs are told.
         ensures { result.now ≡ self.now.state.journals }
     {
         self.journals.as_slice()
@@ -16,7 +16,7 @@ impl Book {
 
     /// The journals alone: for a machine that stops. Takes no memory.
     pub fn into_journals(self) -> Vec<Journal>
-        // and handed out, without memory.
+        // The journals of all CPUs are handed out, without memory.
         ensures { result.items ≡ self.state.journals }
     {
         let Book {
