@@ -1,6 +1,6 @@
 //! The numbers that a device and its world are made with.
 
-ghost use Rattle.std.specs.Prelude.{◌≡◌, ℕ, ◌<◌, ◌≤◌, ◌↔◌, IsTrue, IsOk, IfOk, IfErr};
+ghost use Rattle.std.specs.Prelude.{◌≡◌, ℕ, ◌+◌, ◌<◌, ◌≤◌, ◌↔◌, IsTrue, IsOk, IfOk, IfErr};
 ghost use Rattle.nv_base.specs.Homes.{home_start, IsHome, CutsBlocks};
 ghost use Rattle.nv_base.specs.Limits.{IsFirstBad, IsWithinLimits, first_bad_field, is_between};
 ghost use Rattle.nv_base.specs.Refusals.{FailsOnly};

@@ -1,6 +1,6 @@
 //! What a book tells: its lists, counts and history. Nothing here changes a book.
 
-ghost use Rattle.std.specs.Prelude.{◌≡◌, ◌+◌, ◌≤◌, ◌↔◌, length, map, slice_index_or, IfOk, IsTrue};
+ghost use Rattle.std.specs.Prelude.{◌≡◌, ◌+◌, ◌<◌, ◌≤◌, ◌↔◌, length, map, slice_index_or, IfOk, IsTrue};
 ghost use Rattle.nv_base.specs.declared.limits.TheConstants.{NUMBER};
 ghost use Rattle.nv_base.specs.Refusals.{FailsOnly};
 ghost use Rattle.nv_base.specs.Memory.{out_of_memory};
