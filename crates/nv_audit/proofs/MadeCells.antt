@@ -1,8 +1,8 @@
 -- A cell whose marks and blocks are made of an image's blocks by its log.
-use Rattle.std.proofs.Common.{◌≡◌, ℕ, ◌-◌, ◌<◌, ◌≤◌, ◌==◌, inl, inr, Bool, true, false, cond, nat_lt, List, [], ◌∷◌, length, Option, None, Some, refl, ap, arith, sym, subst, ◌∙◌}
+use Rattle.std.proofs.Common.{◌≡◌, ℕ, ◌-◌, ◌<◌, ◌≤◌, ◌==◌, inl, inr, Bool, true, false, cond, List, [], ◌∷◌, length, Option, None, Some, refl, ap, arith, sym, subst, ◌∙◌}
 use Rattle.std.specs.Prelude.{option_and_then, slice_index_or}
 use Rattle.std.specs.Option.{option_map}
-use Rattle.std.proofs.lemmas.Bool.{cases_lt, eqb-true, le-ltb}
+use Rattle.std.proofs.lemmas.Bool.{cases_lt, eqb-true}
 use Rattle.std.proofs.lemmas.List.{get_or_default, get_or_past}
 use Rattle.std.proofs.lemmas.List.FromFn.{get_or-map-range_with_len, length-map-range_with_len}
 use Rattle.std.proofs.lemmas.Option.{none-some, same_Some}
@@ -14,9 +14,10 @@ use Rattle.nv_cell.specs.Numbers.{number}
 use Rattle.nv_cell.specs.Pages.{block_at_page}
 use Rattle.nv_cell.specs.declared.mark.Mark.{Mark}
 use Rattle.nv_cell.specs.declared.mark.Mark.TheVariants.{Current, Out}
+use Rattle.nv_cell.proofs.CellAnew.{no_page, sized_by}
 use Rattle.nv_cell.proofs.MarksAnew.{current_anew, len_anew}
 use Rattle.nv_cell.proofs.PageBlocks.{page_number_is}
-use Rattle.nv_entry.specs.Covered.{part_count, part_total}
+use Rattle.nv_entry.specs.Covered.{part_total}
 use Rattle.nv_entry.specs.Keys.{PageKey}
 use Rattle.nv_entry.specs.Log.{IsLog}
 use Rattle.nv_entry.specs.Node.{block_now}
@@ -35,22 +36,6 @@ number_by (c ∷ blocks) number b e = go (c.number == number) refl e (number_by 
       → (block_by blocks number ≡ Some b → b.number ≡ number) → b.number ≡ number
   go true q e more = ap (λ (x : BlockValue). x.number) (sym (same_Some c b e)) ∙ eqb-true c.number number q
   go false q e more = more e
-
-pub sized_by : (size : ℕ) (blocks : List BlockValue) (number : ℕ) (b : BlockValue) → AreSized size blocks
-    → block_by blocks number ≡ Some b → length b.bytes ≡ size
-sized_by size [] number b all e = cc
-sized_by size (c ∷ blocks) number b all e = go (c.number == number) e (sized_by size blocks number b all.1) where
-  go : (d : Bool) → cond d (Some c) (block_by blocks number) ≡ Some b
-      → (block_by blocks number ≡ Some b → length b.bytes ≡ size) → length b.bytes ≡ size
-  go true e more = ap (λ (x : BlockValue). length x.bytes) (sym (same_Some c b e)) ∙ all.0
-  go false e more = more e
-
--- past all parts there is no page
-no_page : (block : ℕ) (log : List Entry) (n : ℕ) → part_total log ≤ n → page_block block log n ≡ None
-no_page block [] n past = refl
-no_page block (e ∷ log) n past =
-    let out : nat_lt n (part_count e) ≡ false = le-ltb n (part_count e) (omega (arith, past)) in
-    rw out (no_page block log (n - part_count e) (omega (arith, past)))
 
 -- ---- the cell
 

@@ -20,7 +20,8 @@ use Rattle.nv_audit.specs.MountedLogs.{AreAmong, HasItsBlocks, IsMadeOf, IsRunOf
 use Rattle.nv_audit.specs.Retained.{needed_by}
 use Rattle.nv_audit.specs.Sound.{AreLogPagesWithin, ArePagesWithin, AreZerosPast, EndsAtSize, own_size}
 use Rattle.nv_audit.specs.Tree.{IsOnce}
-use Rattle.nv_audit.proofs.MadeCells.{made_page, made_whole, sized_by}
+use Rattle.nv_audit.proofs.MadeCells.{made_page, made_whole}
+use Rattle.nv_cell.proofs.CellAnew.{sized_by}
 use Rattle.nv_audit.proofs.NeededPages.{are_among_all, are_once, its_blocks}
 use Rattle.nv_audit.proofs.SizeEnds.{by_bytes, past_all, without_last}
 

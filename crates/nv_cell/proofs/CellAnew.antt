@@ -26,13 +26,13 @@ use Rattle.nv_cell.proofs.MarksAnew.{current_anew, len_anew}
 use Rattle.nv_cell.proofs.Publishing.{take_whole}
 
 -- past all parts there is no page
-no_page : (block : ℕ) (log : List Entry) (n : ℕ) → part_total log ≤ n → page_block block log n ≡ None
+pub no_page : (block : ℕ) (log : List Entry) (n : ℕ) → part_total log ≤ n → page_block block log n ≡ None
 no_page block [] n past = refl
 no_page block (e ∷ log) n past =
     let out : nat_lt n (part_count e) ≡ false = le-ltb n (part_count e) (omega (arith, past)) in
     rw out (no_page block log (n - part_count e) (omega (arith, past)))
 
-sized_by : (size : ℕ) (blocks : List BlockValue) (number : ℕ) (b : BlockValue) → AreSized size blocks
+pub sized_by : (size : ℕ) (blocks : List BlockValue) (number : ℕ) (b : BlockValue) → AreSized size blocks
     → block_by blocks number ≡ Some b → length b.bytes ≡ size
 sized_by size [] number b all e = cc
 sized_by size (c ∷ blocks) number b all e = go (c.number == number) e (sized_by size blocks number b all.1) where
