@@ -45,6 +45,8 @@ pub mod LivingLogs
 pub mod Looks
 pub mod Maintains
 pub mod MountedWorlds
+pub mod NextSteps
+pub mod NextWaits
 pub mod Nodes
 pub mod Opens
 pub mod Others

@@ -7,6 +7,7 @@ pub mod Committing
 pub mod Consistent
 pub mod Formats
 pub mod Frames
+pub mod NextSteps
 pub mod Nodes
 pub mod Parts
 pub mod Picked

@@ -18,6 +18,8 @@ pub mod laws;
 mod lent;
 mod mount;
 mod next;
+pub mod next_laws;
+mod next_step;
 mod parts;
 mod reports;
 mod request;
@@ -48,6 +50,7 @@ pub use nv_base::{
 pub use nv_calls::{Answer, Call, SnapshotOrCleanerCall};
 pub use nv_entry::{NodeCopy, Path, Tree, TreeNode};
 pub use nv_log::ChainImage;
+pub use next_step::{NextStep, StepName};
 pub use nv_reader::root;
 pub use parts::Parts;
 pub use reports::{Lists, LogCounts, Space};
