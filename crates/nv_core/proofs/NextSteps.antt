@@ -17,7 +17,7 @@ use Rattle.nv_calls.proofs.LentSlots.{lent_length}
 use Rattle.nv_cell.specs.Cell.{CellState, CellValue}
 use Rattle.nv_machine.specs.PlainRun.{Nothing, Numbers, PlainChange, done_on, entered, plain_change, plain_change_by, plain_change_of}
 use Rattle.nv_machine.specs.Locks.{IsHeldByOther, WaitsFor, WaitsOn, commits_at}
-use Rattle.nv_machine.specs.Maintenance.{maintenance_turn}
+use Rattle.nv_machine.specs.SnapshotOrCleaner.{snapshot_or_cleaner_turn}
 use Rattle.nv_machine.specs.Reads.{is_written, slot_at, written_slots}
 use Rattle.nv_machine.specs.Step as machine_step
 use Rattle.nv_machine.specs.Step.{kind_turn, turned}
@@ -51,7 +51,7 @@ use Rattle.nv_core.proofs.WorldSteps.{shows_none, shows_some}
 -- ---- steps that are no commit point
 
 -- a step on snapshots commits nothing
-on_none : (m : machine.MaintenanceStep) (t : machine.Turn) (c : ℕ) → number_at (done_on m t) c ≡ None
+on_none : (m : machine.SnapshotOrCleanerStep) (t : machine.Turn) (c : ℕ) → number_at (done_on m t) c ≡ None
 on_none m (machine.Moves s h r) c = refl
 on_none m machine.Waits c = refl
 on_none (machine.Unpin snapshot seen) (machine.Ends result s h) c = refl
@@ -68,7 +68,7 @@ enter_none other c = refl
 
 -- no step of a call whose hand is with its actor commits
 pub alone_none : (n : Next) (written : List ℕ) (t : machine.Turn) (c : ℕ) → number_at (plain_change (next_of n) written t) c ≡ None
-alone_none (next.Maintenance m) written t c = on_none (step_on m) t c
+alone_none (next.SnapshotOrCleaner m) written t c = on_none (step_on m) t c
 alone_none other written t c = refl
 
 -- ---- in a commit
@@ -236,9 +236,9 @@ module _ (s : machine.Shared) (slots : List ℕ) (commit : CommitValue) (are : A
 -- ---- who waits
 
 module _ (s : machine.Shared) (actor : ℕ) (r : machine.Running) where
-  waits_on : (m : machine.MaintenanceStep) → IsHeldByOther actor (holder_on s m) → WaitsOn s actor m
+  waits_on : (m : machine.SnapshotOrCleanerStep) → IsHeldByOther actor (holder_on s m) → WaitsOn s actor m
   waits_on (machine.Release draining picked) held = cc (held.1)
-  waits_on (machine.Judge manner slot) held = cc (held.1)
+  waits_on (machine.PlanCleaning manner slot) held = cc (held.1)
   waits_on (machine.Fresh ino asked wanted) held = cc (held.1)
   waits_on (machine.Unlink ino) held = cc (held.1)
   waits_on (machine.Compact ino) held = cc (held.1)
@@ -250,12 +250,12 @@ module _ (s : machine.Shared) (actor : ℕ) (r : machine.Running) where
   waits_so (machine.Lock place) held = held
   waits_so machine.Enter held = held
   waits_so machine.Visit held = held
-  waits_so (machine.Maintenance m) held = waits_on m held
+  waits_so (machine.SnapshotOrCleaner m) held = waits_on m held
   waits_so other held = cc (held.1)
 
-  held_on : (m : machine.MaintenanceStep) → WaitsOn s actor m → IsHeldByOther actor (holder_on s m)
+  held_on : (m : machine.SnapshotOrCleanerStep) → WaitsOn s actor m → IsHeldByOther actor (holder_on s m)
   held_on (machine.Release draining picked) held = absurd held
-  held_on (machine.Judge manner slot) held = absurd held
+  held_on (machine.PlanCleaning manner slot) held = absurd held
   held_on (machine.Fresh ino asked wanted) held = absurd held
   held_on (machine.Unlink ino) held = absurd held
   held_on (machine.Compact ino) held = absurd held
@@ -266,11 +266,11 @@ module _ (s : machine.Shared) (actor : ℕ) (r : machine.Running) where
   held_so (machine.Lock place) held = held
   held_so machine.Enter held = held
   held_so machine.Visit held = held
-  held_so (machine.Maintenance m) held = held_on m held
+  held_so (machine.SnapshotOrCleaner m) held = held_on m held
   held_so other held = absurd held
 
   module _ (block : ℕ) (granted : Bool) (h : machine.HandState) (other : ℕ) where
-    stands_on : (m : machine.MaintenanceStep) → holder_on s m ≡ Some other → maintenance_turn m actor granted s h r ≡ machine.Waits
+    stands_on : (m : machine.SnapshotOrCleanerStep) → holder_on s m ≡ Some other → snapshot_or_cleaner_turn m actor granted s h r ≡ machine.Waits
     stands_on machine.Make held = rw held refl
     stands_on (machine.Drop snapshot) held = rw held refl
     stands_on (machine.Pin snapshot) held = rw held refl
@@ -280,7 +280,7 @@ module _ (s : machine.Shared) (actor : ℕ) (r : machine.Running) where
     stands_on (machine.LockPicked draining picked) held = rw held refl
     stands_on (machine.Release draining picked) held = cc
     stands_on (machine.LockCleaned manner ino) held = rw held refl
-    stands_on (machine.Judge manner slot) held = cc
+    stands_on (machine.PlanCleaning manner slot) held = cc
     stands_on (machine.Fresh ino asked wanted) held = cc
     stands_on (machine.Unlink ino) held = cc
     stands_on (machine.Compact ino) held = cc
@@ -291,7 +291,7 @@ module _ (s : machine.Shared) (actor : ℕ) (r : machine.Running) where
     stands (machine.Lock place) held = rw held refl
     stands machine.Enter held = rw held refl
     stands machine.Visit held = rw held refl
-    stands (machine.Maintenance m) held = stands_on m held
+    stands (machine.SnapshotOrCleaner m) held = stands_on m held
     stands k held = cc
 
 -- in a world that events have led to no actor waits for itself

@@ -4,14 +4,14 @@ use Rattle.nv_calls.specs.Commit.{CommitValue}
 use Rattle.nv_calls.specs.Locked.{handles}
 use Rattle.nv_calls.specs.Ready.{plan_at}
 use Rattle.nv_machine.specs.Locks.{WaitsFor}
-use Rattle.nv_machine.specs.Maintenance.{visited}
+use Rattle.nv_machine.specs.SnapshotOrCleaner.{visited}
 use Rattle.nv_machine.specs.PlainRun.{Commits, PlainChange, plain_change, plain_change_of}
 use Rattle.nv_machine.specs.Reads.{slot_at, written_slots}
 use Rattle.nv_machine.specs.Sequence.{directories, nothing_looked}
 use Rattle.nv_machine.specs.Step.{handle_at}
 use Rattle.nv_machine.specs.StepNames as named
 use Rattle.nv_machine.specs.StepRows.{name_of}
-use Rattle.nv_machine.specs.World.{Compact, Enter, Fresh, Go, Judge, Lock, LockCleaned, LockPicked, Look, Maintenance, MaintenanceStep, Next, Release, Running, Shared, Show, Turn, Unlink, Visit, World, cell_at, owner_at}
+use Rattle.nv_machine.specs.World.{Compact, Enter, Fresh, Go, PlanCleaning, Lock, LockCleaned, LockPicked, Look, SnapshotOrCleaner, SnapshotOrCleanerStep, Next, Release, Running, Shared, Show, Turn, Unlink, Visit, World, cell_at, owner_at}
 use Rattle.nv_core.specs.declared.next_step.NextStep.{NextStep}
 use Rattle.nv_core.specs.declared.next_step.StepName.{StepName}
 use Rattle.nv_core.specs.declared.next_step.StepName.TheVariants as step
@@ -47,7 +47,7 @@ name_in step.Pick = named.Pick
 name_in (step.LockPicked slot) = named.LockPicked slot
 name_in (step.Release slot) = named.Release slot
 name_in (step.LockCleaned slot) = named.LockCleaned slot
-name_in step.Judge = named.Judge
+name_in step.PlanCleaning = named.PlanCleaning
 name_in (step.Fresh cpu) = named.Fresh cpu
 name_in (step.Unlink slot) = named.Unlink slot
 name_in (step.Compact slot) = named.Compact slot
@@ -55,12 +55,12 @@ name_in (step.Compact slot) = named.Compact slot
 -- ---- who holds what a step needs
 
 -- the actor that holds the lock which a step on snapshots, or of a cleaner, needs
-abbrev pub holder_on : Shared → MaintenanceStep → Option ℕ
+abbrev pub holder_on : Shared → SnapshotOrCleanerStep → Option ℕ
 holder_on s (Show snapshot showing) = owner_at s (visited showing.visits).ino
 holder_on s (LockPicked draining picked) = owner_at s picked.ino
 holder_on s (Release draining picked) = None
 holder_on s (LockCleaned manner ino) = owner_at s ino
-holder_on s (Judge manner slot) = None
+holder_on s (PlanCleaning manner slot) = None
 holder_on s (Fresh ino asked wanted) = None
 holder_on s (Unlink ino) = None
 holder_on s (Compact ino) = None
@@ -72,7 +72,7 @@ holder_for s r (Look place) = owner_at s (handle_at (directories r.call) place).
 holder_for s r (Lock place) = owner_at s (slot_at r.slots place)
 holder_for s r Enter = s.holder
 holder_for s r Visit = owner_at s (handle_at (handles nothing_looked r.call) 0).ino
-holder_for s r (Maintenance step) = holder_on s step
+holder_for s r (SnapshotOrCleaner step) = holder_on s step
 holder_for s r other = None
 
 -- a step waits for the actor that holds the lock which it needs, or it doesn't wait

@@ -19,7 +19,7 @@ ghost use Rattle.nv_core.specs.Steps.{CanStep};
 ghost use Rattle.nv_core.specs.Turns.{CanGo};
 ghost use Rattle.nv_core.specs.Worlds.{Shows, ShowsCall};
 
-use crate::next::{FreshPages, MaintenanceStep, Next};
+use crate::next::{FreshPages, SnapshotOrCleanerStep, Next};
 use crate::request::{PendingAnswer, Request, visited};
 use crate::reservation::Reservation;
 use crate::running::Running;
@@ -63,7 +63,7 @@ pub enum StepName {
     LockPicked(Ino),
     Release(Ino),
     LockCleaned(Ino),
-    Judge,
+    PlanCleaning,
     Fresh(u64),
     Unlink(Ino),
     Compact(Ino),
@@ -201,7 +201,7 @@ fn alone(shared: &Shared, _hand: &Hand, running: &Running, actor: u64) -> NextSt
             let ino = visited_by(&running.request);
             on_slot(shared, StepName::Visit(ino), ino)
         }
-        Next::Maintenance(step) => maintains(shared, step, actor),
+        Next::SnapshotOrCleaner(step) => snapshot_or_cleaner(shared, step, actor),
     }
 }
 
@@ -211,7 +211,7 @@ fn looked_in(running: &Running, place: usize) -> Ino
     ensures { (told : ShownCall) → IsShownCallOf running.now told
         → result ≡ (handle_at (directories told.call) place).ino }
 {
-    directory(&running.plan().update, place).ino
+    directory(running.update(), place).ino
 }
 
 /// The inode that a visit reads.
@@ -227,9 +227,9 @@ fn visited_by(request: &Request) -> Ino
 }
 
 /// The next step of a call on snapshots, or of a cleaner.
-fn maintains(shared: &Shared, step: &MaintenanceStep, actor: u64) -> NextStep
+fn snapshot_or_cleaner(shared: &Shared, step: &SnapshotOrCleanerStep, actor: u64) -> NextStep
     requires lists { 0 < length shared.now.lists.items }
-    requires fresh { (fresh : FreshPages) → step.now ≡ MaintenanceStep.Fresh fresh
+    requires fresh { (fresh : FreshPages) → step.now ≡ SnapshotOrCleanerStep.Fresh fresh
         → actor + fresh.asked < 2 ^ 64 }
     ensures name { name_in result.name
         ≡ name_on (step_on step.now) (length shared.now.lists.items) actor }
@@ -237,28 +237,28 @@ fn maintains(shared: &Shared, step: &MaintenanceStep, actor: u64) -> NextStep
     ensures commits { result.commits ≡ None }
 {
     match step {
-        MaintenanceStep::Make => uncommitted(StepName::Make, shared.holder),
-        MaintenanceStep::Drop(_) => uncommitted(StepName::Drop, shared.holder),
-        MaintenanceStep::Pin(_) => uncommitted(StepName::Pin, shared.holder),
-        MaintenanceStep::Show(_, showing) => {
+        SnapshotOrCleanerStep::Make => uncommitted(StepName::Make, shared.holder),
+        SnapshotOrCleanerStep::Drop(_) => uncommitted(StepName::Drop, shared.holder),
+        SnapshotOrCleanerStep::Pin(_) => uncommitted(StepName::Pin, shared.holder),
+        SnapshotOrCleanerStep::Show(_, showing) => {
             let ino = showing.visited().ino;
             on_slot(shared, StepName::Show(ino), ino)
         }
-        MaintenanceStep::Unpin(..) => uncommitted(StepName::Unpin, shared.holder),
-        MaintenanceStep::Pick(_) => uncommitted(StepName::Pick, shared.holder),
-        MaintenanceStep::LockPicked(_, picked) => {
+        SnapshotOrCleanerStep::Unpin(..) => uncommitted(StepName::Unpin, shared.holder),
+        SnapshotOrCleanerStep::Pick(_) => uncommitted(StepName::Pick, shared.holder),
+        SnapshotOrCleanerStep::LockPicked(_, picked) => {
             on_slot(shared, StepName::LockPicked(picked.ino), picked.ino)
         }
-        MaintenanceStep::Release(_, picked) => uncommitted(StepName::Release(picked.ino), None),
-        MaintenanceStep::LockCleaned(log) => {
+        SnapshotOrCleanerStep::Release(_, picked) => uncommitted(StepName::Release(picked.ino), None),
+        SnapshotOrCleanerStep::LockCleaned(log) => {
             on_slot(shared, StepName::LockCleaned(log.ino), log.ino)
         }
-        MaintenanceStep::Judge(..) => uncommitted(StepName::Judge, None),
-        MaintenanceStep::Fresh(fresh) => {
+        SnapshotOrCleanerStep::PlanCleaning(..) => uncommitted(StepName::PlanCleaning, None),
+        SnapshotOrCleanerStep::Fresh(fresh) => {
             uncommitted(StepName::Fresh(shared.cpu_of(actor + fresh.asked)), None)
         }
-        MaintenanceStep::Unlink(plan) => uncommitted(StepName::Unlink(plan.ino), None),
-        MaintenanceStep::Compact(plan) => uncommitted(StepName::Compact(plan.ino), None),
+        SnapshotOrCleanerStep::Unlink(plan) => uncommitted(StepName::Unlink(plan.ino), None),
+        SnapshotOrCleanerStep::Compact(plan) => uncommitted(StepName::Compact(plan.ino), None),
     }
 }
 
