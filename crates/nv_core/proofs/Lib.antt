@@ -70,6 +70,7 @@ pub mod RetirePhase
 pub mod Retires
 pub mod RoomsAfter
 pub mod RoomsMade
+pub mod RunningCalls
 pub mod Runs
 pub mod SameCells
 pub mod ScannedParts
