@@ -35,7 +35,7 @@ call_name (call.Rmdir dir bytes) = name.Rmdir
 call_name (call.Rename from old to new) = name.Rename
 call_name (call.SnapshotOrCleaner on) = name_on on
 
--- what is owed keeps the name of its call, once its commit has the rest: what is counted is a write's bytes
+-- the name that what is owed to a call keeps; what is counted are the bytes of a write
 abbrev pub name_owed : PendingAnswer → CallName
 name_owed (owed.Made by) = by
 name_owed (owed.Count count) = name.Write

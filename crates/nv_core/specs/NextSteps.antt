@@ -91,9 +91,11 @@ number_at other commit = None
 
 -- of a call: the name of its step, the number of its commit where the step is its commit point, and who is waited for
 pub record IsTold (m : World) (actor : ℕ) (r : Running) (told : NextStep) : Type 0 where
+  -- the name is that of the machine's step
   pub name : name_in told.name ≡ name_of r.next m.numbers.cpus actor r
   -- whether memory is granted or not
   pub commits : (granted : Bool) → told.commits ≡ number_at (plain_change_of m (Go actor granted)) r.commit
+  -- the actor is told that the step waits for, or none where it doesn't wait
   pub waits : IsAwaited m.shared actor r told.waits_for
   -- so it is the holder of the lock that the step needs, if that has one
   pub holder : told.waits_for ≡ holder_for m.shared r r.next
@@ -108,8 +110,11 @@ IsNext m actor other told = ⊥
 
 -- the same of a call by what is shared alone
 pub record TellsStep (s : Shared) (cpus actor : ℕ) (r : Running) (told : NextStep) : Type 0 where
+  -- the name is that of the machine's step
   pub name : name_in told.name ≡ name_of r.next cpus actor r
+  -- whatever its turn
   pub commits : (t : Turn) → told.commits ≡ number_at (plain_change r.next (written_slots r) t) r.commit
+  -- the holder of the lock that the step needs
   pub waits : told.waits_for ≡ holder_for s r r.next
 
 -- something is told, and this holds of it
