@@ -249,7 +249,10 @@ fn snapshot_or_cleaner(shared: &Shared, step: &SnapshotOrCleanerStep, actor: u64
         SnapshotOrCleanerStep::LockPicked(_, picked) => {
             on_slot(shared, StepName::LockPicked(picked.ino), picked.ino)
         }
-        SnapshotOrCleanerStep::Release(_, picked) => uncommitted(StepName::Release(picked.ino), None),
+        SnapshotOrCleanerStep::Release(_, picked) => uncommitted(
+            StepName::Release(picked.ino),
+            None,
+        ),
         SnapshotOrCleanerStep::LockCleaned(log) => {
             on_slot(shared, StepName::LockCleaned(log.ino), log.ino)
         }
