@@ -83,11 +83,10 @@ impl World {
     /// The step that an actor's call makes next: what [`World::go`] does, if it is called now. `None` where there is no
     /// such actor, or where it runs no call.
     ///
-    /// Takes no memory; the time is that of at most four cells.
+    /// Takes no memory; the time is constant.
     pub fn next_step(&self, actor: u64) -> Option<NextStep>
-        // The name is the machine's name of the step of the running call.
-        // A commit is told with its number at its commit point alone.
-        // The step waits for the actor that holds the lock which it needs, where it waits.
+        // The step is told by the machine's name, with its commit's number at its commit point alone, and
+        // with the holder of the lock that it waits for; nothing is told where no call runs.
         ensures { (m : machine.World) → Shows self.now m
             → IsNext m actor (actor_at m actor).running result }
     {
