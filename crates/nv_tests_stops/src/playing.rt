@@ -28,7 +28,8 @@ pub fn start(
 
 /// A call of an actor goes on by one step. Tells whether it has another.
 pub fn goes_on(world: &mut World, actor: u64) -> bool {
-    matches!(step(world, Event::Go(actor)), Reply::Moved | Reply::Waits)
+    let reply = step(world, Event::Go(actor));
+    matches!(reply, Reply::Moved | Reply::Waits)
 }
 
 /// The machine stops and goes on.
