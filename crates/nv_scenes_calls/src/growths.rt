@@ -251,7 +251,7 @@ pub const SNAPSHOTS: &[Row] = &[
 ];
 
 /// Of a cleaner: a lock, and the planning, which walks the log and makes room for pages. Back goes the unlock.
-const PLANNED: &[Growth] = &[("plan cleaning", 3)];
+const PLANNED: &[Growth] = &[("plan_cleaning", 3)];
 
 /// Cleaners of the root's log. Behind the planning none takes memory.
 pub const CLEANERS: &[Row] = &[
