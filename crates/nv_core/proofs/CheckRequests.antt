@@ -88,7 +88,7 @@ wanted_by_job shared slots before number wanted request.Taken owed c change is c
 
 -- whose answer is owed
 pub owed_by : (j : Request) (owed : PendingAnswer) (c : Call) → is_change j ≡ true → IsRequestOf j owed c → IsOwed owed c
-owed_by (request.Change plan text) owed c change is = is.2
+owed_by (request.Change plan text) owed c change is = is.3
 owed_by (request.Visit visit) owed c change is = cc
 owed_by (request.SnapshotOrCleaner on) owed c change is = cc
 owed_by request.Taken owed c change is = cc

@@ -47,6 +47,7 @@ pub mod Maintains
 pub mod MountedWorlds
 pub mod NextSteps
 pub mod NextWaits
+pub mod RunningCalls
 pub mod Nodes
 pub mod Opens
 pub mod Others

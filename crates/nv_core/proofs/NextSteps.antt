@@ -357,6 +357,7 @@ module _ (w : WorldState) (m : machine.World) (shows : Shows w m) (is : IsWorld 
           subst (IsOf (TellsStep (shared_of w.shared) (length w.shared.lists.items) actor its.0)) e (some running its.0 runs its.2) in
           apart w is actor other its.0 there its.1
           (ap (λ (s : machine.Shared). holder_for s its.0 its.0.next) (sym is.2.shows.shared) ∙ sym same.waits ∙ waits_for));
+      holder = it.waits ∙ ap (λ (s : machine.Shared). holder_for s r r.next) shows.shared;
     }
 
     of_some : IsNext m actor (Some r) result

@@ -171,4 +171,4 @@ rest_ready actor old new running r hand here shows leaves book =
 
 -- what a call is owed whose commit has its request
 pub owes_given : (running : Running) (told : ShownCall) → running.request ≡ request.Taken → IsShownCallOf running told → OwesAt running.ending running told
-owes_given running told given is answers = subst (λ (j : Request). IsRequestOf j running.owed told.call) given is
+owes_given running told given is answers = (subst (λ (j : Request). IsRequestOf j running.owed told.call) given is).1

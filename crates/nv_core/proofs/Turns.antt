@@ -79,10 +79,10 @@ turns_alone next actor shared hand running r result shared_after hand_after afte
 
 -- a call at its last steps is told what it is owed
 owed_by : (j : Request) (owed : PendingAnswer) (c : Call) → FitsNext next.ReturnNumber j → IsRequestOf j owed c → IsOwed owed c
-owed_by (request.Change plan text) owed c fits is = is.2
+owed_by (request.Change plan text) owed c fits is = is.3
 owed_by (request.Visit visit) owed c fits is = absurd fits
-owed_by (request.SnapshotOrCleaner on) owed c fits is = is.1
-owed_by request.Taken owed c fits is = is
+owed_by (request.SnapshotOrCleaner on) owed c fits is = is.2
+owed_by request.Taken owed c fits is = is.1
 
 last_unlock : (place : ℕ) (j : Request) → FitsNext (next.Unlock place) j → FitsNext next.ReturnNumber j
 last_unlock place (request.Change plan text) fits = tt

@@ -25,6 +25,7 @@ use Rattle.nv_core.specs.declared.request.PendingAnswer.{PendingAnswer}
 use Rattle.nv_core.specs.declared.next.Ending.{Ending}
 use Rattle.nv_core.specs.declared.next.Ending.TheVariants as ending
 use Rattle.nv_core.specs.declared.running.Running.{Running}
+use Rattle.nv_core.specs.CallNames.{IsNamed}
 use Rattle.nv_core.specs.Shown.{ShownCall, answered}
 
 -- ---- the call
@@ -33,12 +34,13 @@ use Rattle.nv_core.specs.Shown.{ShownCall, answered}
 abbrev pub IsOwed : PendingAnswer → Call → Type 0
 IsOwed owed c = (made : Handle) → answer (λ handle. None) made c ≡ answered owed made
 
--- the call of a request; of one that its commit has, what it is answered
+-- the call of a request; of one that its commit has, its name and what it is answered
 abbrev pub IsRequestOf : Request → PendingAnswer → Call → Type 0
-IsRequestOf (request.Change plan text) owed c = (c ≡ call_of plan text) × (text_len plan ≡ length text) × IsOwed owed c
+IsRequestOf (request.Change plan text) owed c =
+    (c ≡ call_of plan text) × (text_len plan ≡ length text) × IsNamed owed c × IsOwed owed c
 IsRequestOf (request.Visit visit) owed c = c ≡ visit
-IsRequestOf (request.SnapshotOrCleaner on) owed c = (c ≡ call.SnapshotOrCleaner on) × IsOwed owed c
-IsRequestOf request.Taken owed c = IsOwed owed c
+IsRequestOf (request.SnapshotOrCleaner on) owed c = (c ≡ call.SnapshotOrCleaner on) × IsNamed owed c × IsOwed owed c
+IsRequestOf request.Taken owed c = IsNamed owed c × IsOwed owed c
 
 -- So three things tie them: what is owed to the call, the plans of what is ready or on its way, and the place of
 -- the next entry.

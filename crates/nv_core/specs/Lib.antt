@@ -1,6 +1,7 @@
 pub mod Appends
 pub mod AtRest
 pub mod Audited
+pub mod CallNames
 pub mod Cleaning
 pub mod CommitSteps
 pub mod Committing

@@ -95,6 +95,8 @@ pub record IsTold (m : World) (actor : ℕ) (r : Running) (told : NextStep) : Ty
   -- whether memory is granted or not
   pub commits : (granted : Bool) → told.commits ≡ number_at (plain_change_of m (Go actor granted)) r.commit
   pub waits : IsAwaited m.shared actor r told.waits_for
+  -- so it is the holder of the lock that the step needs, if that has one
+  pub holder : told.waits_for ≡ holder_for m.shared r r.next
 
 -- of an actor: nothing where it runs no call
 abbrev pub IsNext : World → ℕ → Option Running → Option NextStep → Type 0

@@ -207,9 +207,9 @@ shown_by (reserved.Commit commit) told running = shown_commit commit told runnin
 
 -- the answer that is owed, where a new inode has this handle
 abbrev pub answered : PendingAnswer → Handle → Answer
-answered owed.Made made = answers.Made made
+answered (owed.Made name) made = answers.Made made
 answered (owed.Count count) made = answers.Count count
-answered owed.Nothing made = answers.Nothing
+answered (owed.Nothing name) made = answers.Nothing
 
 -- ---- turns
 

@@ -7,6 +7,7 @@
 
 mod audit;
 mod beside;
+mod call_name;
 mod calls_end;
 mod ending;
 mod event;
@@ -39,6 +40,7 @@ mod turn;
 mod whole;
 mod world;
 
+pub use call_name::CallName;
 pub use calls_end::MOST_STEPS;
 pub use event::{Event, Reply};
 pub use fill::Text;

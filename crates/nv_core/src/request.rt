@@ -4,9 +4,11 @@ ghost use Rattle.std.specs.Prelude.{◌≡◌, true};
 ghost use Rattle.nv_calls.specs.Locked.{handles};
 ghost use Rattle.nv_machine.specs.Sequence.{nothing_looked};
 ghost use Rattle.nv_machine.specs.Step.{handle_at};
+ghost use Rattle.nv_core.specs.CallNames.{name_owed};
 ghost use Rattle.nv_core.specs.Shown.{answered};
 ghost use Rattle.nv_core.specs.GhostCalls.{IsAtStart, IsRequestOf, IsVisit, is_change};
 
+use crate::call_name::CallName;
 use nv_base::{Bytes, Handle};
 use nv_calls::{Answer, Call, SnapshotOrCleanerCall, Update};
 use std::alloc::Global;
@@ -24,12 +26,13 @@ pub(crate) enum Request {
     Taken,
 }
 
-/// What a call that changes nodes is answered, apart from the handle of the inode that it makes.
+/// What a call is answered, apart from the handle of the inode that it makes, and by its name which call it is: a write alone is
+/// answered by a count.
 #[derive(Clone, Copy, Debug, PartialEq, Eq)]
 pub(crate) enum PendingAnswer {
-    Made,
+    Made(CallName),
     Count(u64),
-    Nothing,
+    Nothing(CallName),
 }
 
 impl PendingAnswer {
@@ -38,9 +41,19 @@ impl PendingAnswer {
         ensures { result ≡ answered self made }
     {
         match self {
-            PendingAnswer::Made => Answer::Made(made),
+            PendingAnswer::Made(_) => Answer::Made(made),
             PendingAnswer::Count(count) => Answer::Count(count),
-            PendingAnswer::Nothing => Answer::Nothing,
+            PendingAnswer::Nothing(_) => Answer::Nothing,
+        }
+    }
+
+    /// The name of the call.
+    pub(crate) fn call(self) -> CallName
+        ensures { result ≡ name_owed self }
+    {
+        match self {
+            PendingAnswer::Made(name) | PendingAnswer::Nothing(name) => name,
+            PendingAnswer::Count(_) => CallName::Write,
         }
     }
 }
@@ -50,28 +63,20 @@ pub(crate) fn request_of(alloc: Global, call: Call) -> (Request, PendingAnswer)
     ensures of { IsRequestOf result.0 result.1 call }
     ensures kind { IsAtStart result.0 }
 {
+    let call_name = CallName::of(&call);
+    let made = PendingAnswer::Made(call_name);
+    let nothing = PendingAnswer::Nothing(call_name);
     let (update, owed) = match call {
         Call::Write { file, offset, text } => return request_of_write(file, offset, text),
-        Call::Create { dir, name, mode } => (
-            Update::Create { dir, name, mode },
-            PendingAnswer::Made,
-        ),
-        Call::Mkdir { dir, name, mode } => (Update::Mkdir { dir, name, mode }, PendingAnswer::Made),
-        Call::Size { file, size } => (Update::Size { file, size }, PendingAnswer::Nothing),
-        Call::Mode { handle, mode } => (Update::Mode { handle, mode }, PendingAnswer::Nothing),
-        Call::Unlink { dir, name } => (Update::Unlink { dir, name }, PendingAnswer::Nothing),
-        Call::Rmdir { dir, name } => (Update::Rmdir { dir, name }, PendingAnswer::Nothing),
-        Call::Rename { from, old, to, new } => {
-            (
-                Update::Rename { from, old, to, new },
-                PendingAnswer::Nothing,
-            )
-        }
-        Call::SnapshotOrCleaner(call) => return (
-            Request::SnapshotOrCleaner(call),
-            PendingAnswer::Nothing,
-        ),
-        visit => return (Request::Visit(visit), PendingAnswer::Nothing),
+        Call::Create { dir, name, mode } => (Update::Create { dir, name, mode }, made),
+        Call::Mkdir { dir, name, mode } => (Update::Mkdir { dir, name, mode }, made),
+        Call::Size { file, size } => (Update::Size { file, size }, nothing),
+        Call::Mode { handle, mode } => (Update::Mode { handle, mode }, nothing),
+        Call::Unlink { dir, name } => (Update::Unlink { dir, name }, nothing),
+        Call::Rmdir { dir, name } => (Update::Rmdir { dir, name }, nothing),
+        Call::Rename { from, old, to, new } => (Update::Rename { from, old, to, new }, nothing),
+        Call::SnapshotOrCleaner(call) => return (Request::SnapshotOrCleaner(call), nothing),
+        visit => return (Request::Visit(visit), nothing),
     };
     (Request::Change(update, Bytes::empty(alloc)), owed)
 }

@@ -4,4 +4,4 @@ use Rattle.nv_script.proofs.player.Player.play.Goals as goal
 pub returns-clause-script : goal.returns-clause-script
 returns-clause-script g c =
     let played = c.play_lines-outcome in
-    ends_text _ played.result c.end.result _ _ _ _ _ played.ensures.script played.ensures.unheld c.end.ensures.ended
+    ends_text _ _ played.result c.end.result _ _ _ _ _ played.ensures.script played.ensures.unheld c.end.ensures.ended

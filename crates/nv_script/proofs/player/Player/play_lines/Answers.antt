@@ -10,7 +10,7 @@ loop-number-init g c = record {
   number = omega arith;
   line = (
     None,
-    at_first _ _ _ _ _ _ (none_ahead _ _ c.requires.ahead) c.requires.gathered refl,
+    at_first _ _ _ _ _ _ _ (none_ahead _ _ c.requires.ahead) c.requires.gathered refl,
     subst (λ (w : Option WorldState). ShowsAny w None) (sym c.requires.world) tt,
   );
   reads = refl;
