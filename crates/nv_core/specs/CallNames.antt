@@ -2,22 +2,22 @@
 use Rattle.std.specs.Prelude.{◌≡◌}
 use Rattle.nv_calls.specs.declared.call.Call.{Call}
 use Rattle.nv_calls.specs.declared.call.Call.TheVariants as call
-use Rattle.nv_calls.specs.declared.maintenance_call.MaintenanceCall.{MaintenanceCall}
-use Rattle.nv_calls.specs.declared.maintenance_call.MaintenanceCall.TheVariants as maintenance
+use Rattle.nv_calls.specs.declared.snapshot_or_cleaner_call.SnapshotOrCleanerCall.{SnapshotOrCleanerCall}
+use Rattle.nv_calls.specs.declared.snapshot_or_cleaner_call.SnapshotOrCleanerCall.TheVariants as snapshot_or_cleaner
 use Rattle.nv_core.specs.declared.call_name.CallName.{CallName}
 use Rattle.nv_core.specs.declared.call_name.CallName.TheVariants as name
 use Rattle.nv_core.specs.declared.request.PendingAnswer.{PendingAnswer}
 use Rattle.nv_core.specs.declared.request.PendingAnswer.TheVariants as owed
 
 -- the name of a call on snapshots, or of a cleaner
-abbrev pub name_on : MaintenanceCall → CallName
-name_on maintenance.Snap = name.Snap
-name_on (maintenance.Drop snapshot) = name.Drop
-name_on (maintenance.Show snapshot) = name.Show
-name_on (maintenance.Drain most) = name.Drain
-name_on (maintenance.Fast ino) = name.Fast
-name_on (maintenance.Thorough ino) = name.Thorough
-name_on (maintenance.Auto ino) = name.Auto
+abbrev pub name_on : SnapshotOrCleanerCall → CallName
+name_on snapshot_or_cleaner.Snap = name.Snap
+name_on (snapshot_or_cleaner.Drop snapshot) = name.Drop
+name_on (snapshot_or_cleaner.Show snapshot) = name.Show
+name_on (snapshot_or_cleaner.Drain most) = name.Drain
+name_on (snapshot_or_cleaner.Fast ino) = name.Fast
+name_on (snapshot_or_cleaner.Thorough ino) = name.Thorough
+name_on (snapshot_or_cleaner.Auto ino) = name.Auto
 
 -- the name of a call
 abbrev pub call_name : Call → CallName
@@ -33,7 +33,7 @@ call_name (call.Lookup dir bytes) = name.Lookup
 call_name (call.Unlink dir bytes) = name.Unlink
 call_name (call.Rmdir dir bytes) = name.Rmdir
 call_name (call.Rename from old to new) = name.Rename
-call_name (call.Maintenance on) = name_on on
+call_name (call.SnapshotOrCleaner on) = name_on on
 
 -- what is owed keeps the name of its call, once its commit has the rest: what is counted is a write's bytes
 abbrev pub name_owed : PendingAnswer → CallName

@@ -11,7 +11,7 @@ ghost use Rattle.nv_core.specs.Worlds.{Shows, ShowsCall};
 use crate::request::{PendingAnswer, Request};
 use crate::running::Running;
 use crate::world::{Actor, World};
-use nv_calls::{Call, MaintenanceCall};
+use nv_calls::{Call, SnapshotOrCleanerCall};
 
 /// A call by its name.
 #[derive(Clone, Copy, Debug, PartialEq, Eq)]
@@ -56,22 +56,22 @@ impl CallName {
             Call::Unlink { .. } => CallName::Unlink,
             Call::Rmdir { .. } => CallName::Rmdir,
             Call::Rename { .. } => CallName::Rename,
-            Call::Maintenance(call) => CallName::on(call),
+            Call::SnapshotOrCleaner(call) => CallName::on(call),
         }
     }
 
     /// The name of a call on snapshots, or of a cleaner.
-    fn on(call: &MaintenanceCall) -> CallName
+    fn on(call: &SnapshotOrCleanerCall) -> CallName
         ensures { result ≡ name_on call.now }
     {
         match call {
-            MaintenanceCall::Snap => CallName::Snap,
-            MaintenanceCall::Drop(_) => CallName::Drop,
-            MaintenanceCall::Show(_) => CallName::Show,
-            MaintenanceCall::Drain(_) => CallName::Drain,
-            MaintenanceCall::Fast(_) => CallName::Fast,
-            MaintenanceCall::Thorough(_) => CallName::Thorough,
-            MaintenanceCall::Auto(_) => CallName::Auto,
+            SnapshotOrCleanerCall::Snap => CallName::Snap,
+            SnapshotOrCleanerCall::Drop(_) => CallName::Drop,
+            SnapshotOrCleanerCall::Show(_) => CallName::Show,
+            SnapshotOrCleanerCall::Drain(_) => CallName::Drain,
+            SnapshotOrCleanerCall::Fast(_) => CallName::Fast,
+            SnapshotOrCleanerCall::Thorough(_) => CallName::Thorough,
+            SnapshotOrCleanerCall::Auto(_) => CallName::Auto,
         }
     }
 }
@@ -110,6 +110,6 @@ fn name_of(request: &Request, owed: PendingAnswer) -> CallName
 {
     match request {
         Request::Visit(call) => CallName::of(call),
-        Request::Change(..) | Request::Maintenance(_) | Request::Given => owed.call(),
+        Request::Change(..) | Request::SnapshotOrCleaner(_) | Request::Taken => owed.call(),
     }
 }

@@ -76,7 +76,7 @@ pub(crate) fn step_word(name: StepName) -> &'static [u8]
         StepName::LockPicked(_) => b"lock_picked",
         StepName::Release(_) => b"release",
         StepName::LockCleaned(_) => b"lock_cleaned",
-        StepName::Judge => b"judge",
+        StepName::PlanCleaning => b"plan_cleaning",
         StepName::Fresh(_) => b"fresh",
         StepName::Unlink(_) => b"unlink",
         StepName::Compact(_) => b"compact",
@@ -118,7 +118,7 @@ pub(crate) fn step_place(name: StepName) -> Option<u64>
         | StepName::Pin
         | StepName::Unpin
         | StepName::Pick
-        | StepName::Judge => None,
+        | StepName::PlanCleaning => None,
     }
 }
 
