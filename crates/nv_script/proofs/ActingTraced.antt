@@ -20,8 +20,8 @@ use Rattle.nv_script.specs.Trace.{ActsToldBy, ActsTracedBy, AnswersTraced, Calls
 use Rattle.nv_script.specs.Traced.{Adds}
 
 -- a command writes this text with its events, and leads to that world
-abbrev pub Traces : ℕ → Command → List ℕ → (old new : WorldState) → Type 0
-Traces number c text old new = Leads (λ m n. ActsTracedBy (reports_of m) number m c text n) old new
+abbrev pub Traces : Trace → ℕ → Command → List ℕ → (old new : WorldState) → Type 0
+Traces form number c text old new = Leads (λ m n. ActsTracedBy (reports_of m) form number m c text n) old new
 
 -- a command, whose events are told so
 pub told_as : {T E : Type 0} (result : Result T E) (told as : Trace) (number : ℕ) (old new : WorldState) (c : Command) (text : List ℕ)
@@ -54,16 +54,16 @@ answered_by {F = F} result reply told mid text is wrote =
 
 -- events are told, and then the last reply
 answered : {T E F : Type 0} (Traced : machine.World → List ℕ → machine.Reply → machine.World → Type 0) (result : Result T E)
-    (reply : Result Reply F) (number : ℕ) (old new : WorldState) (before mid text : List ℕ) (given c : Command) → given ≡ c
-    → ((m : machine.World) (n : machine.World) → AnswersTraced (Traced m) text n → ActsTracedBy (reports_of m) number m c text n)
+    (reply : Result Reply F) (form : Trace) (number : ℕ) (old new : WorldState) (before mid text : List ℕ) (given c : Command) → given ≡ c
+    → ((m : machine.World) (n : machine.World) → AnswersTraced (Traced m) text n → ActsTracedBy (reports_of m) form number m c text n)
     → before ≡ []
     → IfOk reply (λ told. Leads (λ m n. Adds before mid (λ events. Traced m events (reply_of told) n)) old new)
     → IfOk reply (λ told. (m : machine.World) → Shows old m → told_by told ≡ Replied (reply_of told)) → OnOk result (Behind reply mid text)
-    → OnOk result (Traces number given text old new)
-answered Traced (Err why) reply number old new before mid text given c is acts none leads replied behind = tt
-answered Traced (Ok done) (Err why) number old new before mid text given c is acts none leads replied behind = absurd behind
-answered Traced (Ok done) (Ok told) number old new before mid text given c is acts none leads replied behind =
-    subst (λ (d : Command). Traces number d text old new) (sym is) (λ m shows.
+    → OnOk result (Traces form number given text old new)
+answered Traced (Err why) reply form number old new before mid text given c is acts none leads replied behind = tt
+answered Traced (Ok done) (Err why) form number old new before mid text given c is acts none leads replied behind = absurd behind
+answered Traced (Ok done) (Ok told) form number old new before mid text given c is acts none leads replied behind =
+    subst (λ (d : Command). Traces form number d text old new) (sym is) (λ m shows.
     let by = leads m shows in
     let events = by.1.0 in
     let mid_is : mid ≡ events = by.1.1 ∙ ap (λ (front : List ℕ). front ++ events) none in
@@ -71,67 +71,67 @@ answered Traced (Ok done) (Ok told) number old new before mid text given c is ac
     behind ∙ ap (λ (front : List ℕ). front ++ told_line (told_by told)) mid_is ∙ ap (λ t. events ++ told_line t) (replied m shows) in
     (by.0, acts m by.0 (events, reply_of told, by.1.2, text_is), by.2))
 
-pub goes : {T E F : Type 0} (result : Result T E) (reply : Result Reply F) (number : ℕ) (old new : WorldState) (actor more : ℕ)
+pub goes : {T E F : Type 0} (result : Result T E) (reply : Result Reply F) (form : Trace) (number : ℕ) (old new : WorldState) (actor more : ℕ)
     (before mid text : List ℕ) (given : Command) → given ≡ command.Go actor more → before ≡ []
-    → IfOk reply (λ told. Leads (λ m n. Adds before mid (λ events. GoesTraced number (more + 1) m actor events (reply_of told) n)) old new)
+    → IfOk reply (λ told. Leads (λ m n. Adds before mid (λ events. GoesTraced form number (more + 1) m actor events (reply_of told) n)) old new)
     → IfOk reply (λ told. told_by told ≡ Replied (reply_of told)) → OnOk result (Behind reply mid text)
-    → OnOk result (Traces number given text old new)
-goes result reply number old new actor more before mid text given is none leads replied behind =
-    answered (λ m. GoesTraced number (more + 1) m actor) result reply number old new before mid text given (command.Go actor more) is
+    → OnOk result (Traces form number given text old new)
+goes result reply form number old new actor more before mid text given is none leads replied behind =
+    answered (λ m. GoesTraced form number (more + 1) m actor) result reply form number old new before mid text given (command.Go actor more) is
     (λ m n acts. acts) none leads (always (λ told. told_by told ≡ Replied (reply_of told)) old reply replied) behind
 
-pub runs : {T E F : Type 0} (result : Result T E) (reply : Result Reply F) (number : ℕ) (old new : WorldState) (actor : ℕ)
+pub runs : {T E F : Type 0} (result : Result T E) (reply : Result Reply F) (form : Trace) (number : ℕ) (old new : WorldState) (actor : ℕ)
     (before mid text : List ℕ) (given : Command) → given ≡ command.Run actor → before ≡ []
-    → IfOk reply (λ told. Leads (λ m n. Adds before mid (λ events. RunsTraced number m actor events (reply_of told) n)) old new)
+    → IfOk reply (λ told. Leads (λ m n. Adds before mid (λ events. RunsTraced form number m actor events (reply_of told) n)) old new)
     → IfOk reply (λ told. told_by told ≡ Replied (reply_of told)) → OnOk result (Behind reply mid text)
-    → OnOk result (Traces number given text old new)
-runs result reply number old new actor before mid text given is none leads replied behind =
-    answered (λ m. RunsTraced number m actor) result reply number old new before mid text given (command.Run actor) is
+    → OnOk result (Traces form number given text old new)
+runs result reply form number old new actor before mid text given is none leads replied behind =
+    answered (λ m. RunsTraced form number m actor) result reply form number old new before mid text given (command.Run actor) is
     (λ m n acts. acts) none leads (always (λ told. told_by told ≡ Replied (reply_of told)) old reply replied) behind
 
-pub calls : {T E F : Type 0} (result : Result T E) (reply : Result Reply F) (number : ℕ) (old new : WorldState) (actor : ℕ) (c : Call)
+pub calls : {T E F : Type 0} (result : Result T E) (reply : Result Reply F) (form : Trace) (number : ℕ) (old new : WorldState) (actor : ℕ) (c : Call)
     (before mid text : List ℕ) (given : Command) → given ≡ command.Do actor c → before ≡ []
-    → IfOk reply (λ told. Leads (λ m n. Adds before mid (λ events. CallsTraced number m actor c events (reply_of told) n)) old new)
+    → IfOk reply (λ told. Leads (λ m n. Adds before mid (λ events. CallsTraced form number m actor c events (reply_of told) n)) old new)
     → IfOk reply (λ told. (m : machine.World) → Shows old m → told_by told ≡ Replied (reply_of told)) → OnOk result (Behind reply mid text)
-    → OnOk result (Traces number given text old new)
-calls result reply number old new actor c before mid text given is none leads replied behind =
-    answered (λ m. CallsTraced number m actor c) result reply number old new before mid text given (command.Do actor c) is
+    → OnOk result (Traces form number given text old new)
+calls result reply form number old new actor c before mid text given is none leads replied behind =
+    answered (λ m. CallsTraced form number m actor c) result reply form number old new before mid text given (command.Do actor c) is
     (λ m n acts. acts) none leads replied behind
 
-pub starts : {T E F : Type 0} (result : Result T E) (reply : Result Reply F) (number : ℕ) (old new : WorldState) (actor : ℕ) (c : Call)
+pub starts : {T E F : Type 0} (result : Result T E) (reply : Result Reply F) (form : Trace) (number : ℕ) (old new : WorldState) (actor : ℕ) (c : Call)
     (before mid text : List ℕ) (given : Command) → given ≡ command.Start actor c → before ≡ []
     → IfOk reply (λ told. (m : machine.World) → Shows old m → IsStep m (event.Start actor c) told new)
-    → IfOk reply (λ told. mid ≡ before ++ start_lines number actor (call_name c) (reply_of told)) → OnOk result (Behind reply mid text)
-    → OnOk result (Traces number given text old new)
-starts (Err why) reply number old new actor c before mid text given is none steps begun behind = tt
-starts (Ok done) (Err why) number old new actor c before mid text given is none steps begun behind = absurd behind
-starts (Ok done) (Ok told) number old new actor c before mid text given is none steps begun behind =
-    subst (λ (d : Command). Traces number d text old new) (sym is) (λ m shows.
+    → IfOk reply (λ told. mid ≡ before ++ start_lines form number actor (call_name c) (reply_of told)) → OnOk result (Behind reply mid text)
+    → OnOk result (Traces form number given text old new)
+starts (Err why) reply form number old new actor c before mid text given is none steps begun behind = tt
+starts (Ok done) (Err why) form number old new actor c before mid text given is none steps begun behind = absurd behind
+starts (Ok done) (Ok told) form number old new actor c before mid text given is none steps begun behind =
+    subst (λ (d : Command). Traces form number d text old new) (sym is) (λ m shows.
     let it = steps m shows in
     let began = step m (machine.Start actor c) in
     let same : reply_of told ≡ began.reply = start_reply m actor c told new it in
-    let mid_is : mid ≡ start_lines number actor (call_name c) began.reply =
-    begun ∙ ap (λ (front : List ℕ). front ++ start_lines number actor (call_name c) (reply_of told)) none
-    ∙ ap (λ (r : machine.Reply). start_lines number actor (call_name c) r) same in
-    let text_is : text ≡ start_lines number actor (call_name c) began.reply ++ reply_line began.reply =
+    let mid_is : mid ≡ start_lines form number actor (call_name c) began.reply =
+    begun ∙ ap (λ (front : List ℕ). front ++ start_lines form number actor (call_name c) (reply_of told)) none
+    ∙ ap (λ (r : machine.Reply). start_lines form number actor (call_name c) r) same in
+    let text_is : text ≡ start_lines form number actor (call_name c) began.reply ++ reply_line began.reply =
     behind ∙ ap (λ (front : List ℕ). front ++ told_line (told_by told)) mid_is
-    ∙ ap (λ t. start_lines number actor (call_name c) began.reply ++ told_line t) it.told_is in
+    ∙ ap (λ t. start_lines form number actor (call_name c) began.reply ++ told_line t) it.told_is in
     (began.world, (text_is, refl), it.shows))
 
 -- a command that makes no event
-pub other_told : {T E : Type 0} (result : Result T E) (number : ℕ) (old new : WorldState) (c : Command) (text : List ℕ)
+pub other_told : {T E : Type 0} (result : Result T E) (form : Trace) (number : ℕ) (old new : WorldState) (c : Command) (text : List ℕ)
     → ((actor : ℕ) (started : Call) → c ≡ command.Start actor started → ⊥) → ((actor more : ℕ) → c ≡ command.Go actor more → ⊥)
     → ((actor : ℕ) → c ≡ command.Run actor → ⊥) → ((actor : ℕ) (made : Call) → c ≡ command.Do actor made → ⊥)
-    → OnOk result (Leads (λ m n. ActsBy (reports_of m) m c text n) old new) → OnOk result (Traces number c text old new)
-other_told result number old new (command.Start actor started) text no_start no_go no_run no_do leads = absurd (no_start actor started refl)
-other_told result number old new (command.Go actor more) text no_start no_go no_run no_do leads = absurd (no_go actor more refl)
-other_told result number old new (command.Run actor) text no_start no_go no_run no_do leads = absurd (no_run actor refl)
-other_told result number old new (command.Do actor made) text no_start no_go no_run no_do leads = absurd (no_do actor made refl)
-other_told result number old new command.Stop text no_start no_go no_run no_do leads = leads
-other_told result number old new command.Tree text no_start no_go no_run no_do leads = leads
-other_told result number old new (command.SnapTree snapshot) text no_start no_go no_run no_do leads = leads
-other_told result number old new command.Snaps text no_start no_go no_run no_do leads = leads
-other_told result number old new command.Space text no_start no_go no_run no_do leads = leads
-other_told result number old new command.Lists text no_start no_go no_run no_do leads = leads
-other_told result number old new (command.Log ino) text no_start no_go no_run no_do leads = leads
-other_told result number old new command.Audit text no_start no_go no_run no_do leads = leads
+    → OnOk result (Leads (λ m n. ActsBy (reports_of m) m c text n) old new) → OnOk result (Traces form number c text old new)
+other_told result form number old new (command.Start actor started) text no_start no_go no_run no_do leads = absurd (no_start actor started refl)
+other_told result form number old new (command.Go actor more) text no_start no_go no_run no_do leads = absurd (no_go actor more refl)
+other_told result form number old new (command.Run actor) text no_start no_go no_run no_do leads = absurd (no_run actor refl)
+other_told result form number old new (command.Do actor made) text no_start no_go no_run no_do leads = absurd (no_do actor made refl)
+other_told result form number old new command.Stop text no_start no_go no_run no_do leads = leads
+other_told result form number old new command.Tree text no_start no_go no_run no_do leads = leads
+other_told result form number old new (command.SnapTree snapshot) text no_start no_go no_run no_do leads = leads
+other_told result form number old new command.Snaps text no_start no_go no_run no_do leads = leads
+other_told result form number old new command.Space text no_start no_go no_run no_do leads = leads
+other_told result form number old new command.Lists text no_start no_go no_run no_do leads = leads
+other_told result form number old new (command.Log ino) text no_start no_go no_run no_do leads = leads
+other_told result form number old new command.Audit text no_start no_go no_run no_do leads = leads

@@ -158,7 +158,7 @@ step_traced number actor call n reply holder commit =
     (labelled_clean (codes " commit ") commit (clean_text (codes " commit ") refl)))
     refl
 
-pub start_traced : (number actor : ℕ) (call : CallName) (reply : Reply) → IsTraced (start_lines number actor call reply) []
+pub start_traced : (number actor : ℕ) (call : CallName) (reply : Reply) → IsTraced (start_lines trace.Text number actor call reply) []
 start_traced number actor call Started = line_traced (event_head number actor call ++ codes "start")
     (HasNoEnd-append (event_head number actor call) (codes "start") (head_clean number actor call) (clean_text (codes "start") refl)) refl
 start_traced number actor call Moved = none_traced
@@ -166,13 +166,13 @@ start_traced number actor call Waiting = none_traced
 start_traced number actor call (Done answer) = none_traced
 start_traced number actor call (Refused why) = none_traced
 
-go_traced : (number : ℕ) (m : World) (actor : ℕ) (granted : Bool) (o : Option Running) → IsTraced (go_line number m actor granted o) []
+go_traced : (number : ℕ) (m : World) (actor : ℕ) (granted : Bool) (o : Option Running) → IsTraced (go_line trace.Text number m actor granted o) []
 go_traced number m actor granted None = none_traced
 go_traced number m actor granted (Some r) = step_traced number actor _ _ _ _ _
 
-pub goes_traced : (number : ℕ) (m : World) (actor : ℕ) (grants : List Bool) → IsTraced (go_lines number m actor grants) []
+pub goes_traced : (number : ℕ) (m : World) (actor : ℕ) (grants : List Bool) → IsTraced (go_lines trace.Text number m actor grants) []
 goes_traced number m actor [] = none_traced
 goes_traced number m actor (granted ∷ grants) =
     let next = (step m (machine.Go actor granted)).world in
-    both_traced (go_line number m actor granted (actor_at m actor).running) [] (go_lines number next actor grants) []
+    both_traced (go_line trace.Text number m actor granted (actor_at m actor).running) [] (go_lines trace.Text number next actor grants) []
     (go_traced number m actor granted (actor_at m actor).running) (goes_traced number next actor grants)

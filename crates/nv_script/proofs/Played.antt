@@ -52,9 +52,9 @@ acts_listed old _ text lists is = absurd (false≢true lists)
 lists_told : (events : Trace) (number : ℕ) (old : machine.World) (c : Command) (text : List ℕ) → is_list c ≡ true
     → ListsText (machine_player.listed old c) text → ActsTold events number old c text old
 lists_told trace.Off number old c text lists is = acts_listed old c text lists is
-lists_told trace.On number old command.Tree text lists is = (is, refl)
-lists_told trace.On number old (command.SnapTree snapshot) text lists is = acts_tree (nodes_at old (Some snapshot)) old text is
-lists_told trace.On number old _ text lists is = absurd (false≢true lists)
+lists_told trace.Text number old command.Tree text lists is = (is, refl)
+lists_told trace.Text number old (command.SnapTree snapshot) text lists is = acts_tree (nodes_at old (Some snapshot)) old text is
+lists_told trace.Text number old _ text lists is = absurd (false≢true lists)
 
 plays_words : (events : Trace) (number : ℕ) (old new : Option machine.World) (line text : List ℕ) → is_skipped line ≡ false
     → PlaysWords (player_by events no_head) number old (words_of line) text new → Plays (player_by events no_head) number old line text new

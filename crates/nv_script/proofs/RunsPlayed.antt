@@ -233,15 +233,15 @@ acts_scanned m command.Audit text n has acts = acts
 pub told_scanned : (events : Trace) (number : ℕ) (m : World) (c : Command) (text : List ℕ) (n : World) → HasRun m
     → ActsToldBy (reports_of m) events number m c text n → ActsTold events number m c text n
 told_scanned trace.Off number m c text n has acts = acts_scanned m c text n has acts
-told_scanned trace.On number m (command.Start actor call) text n has acts = acts
-told_scanned trace.On number m (command.Go actor more) text n has acts = acts
-told_scanned trace.On number m (command.Run actor) text n has acts = acts
-told_scanned trace.On number m (command.Do actor call) text n has acts = acts
-told_scanned trace.On number m command.Space text n has acts = acts_scanned m command.Space text n has acts
-told_scanned trace.On number m command.Lists text n has acts = acts_scanned m command.Lists text n has acts
-told_scanned trace.On number m command.Snaps text n has acts = acts_scanned m command.Snaps text n has acts
-told_scanned trace.On number m (command.Log ino) text n has acts = acts_scanned m (command.Log ino) text n has acts
-told_scanned trace.On number m command.Stop text n has acts = acts
-told_scanned trace.On number m command.Tree text n has acts = acts
-told_scanned trace.On number m (command.SnapTree snapshot) text n has acts = acts
-told_scanned trace.On number m command.Audit text n has acts = acts
+told_scanned trace.Text number m (command.Start actor call) text n has acts = acts
+told_scanned trace.Text number m (command.Go actor more) text n has acts = acts
+told_scanned trace.Text number m (command.Run actor) text n has acts = acts
+told_scanned trace.Text number m (command.Do actor call) text n has acts = acts
+told_scanned trace.Text number m command.Space text n has acts = acts_scanned m command.Space text n has acts
+told_scanned trace.Text number m command.Lists text n has acts = acts_scanned m command.Lists text n has acts
+told_scanned trace.Text number m command.Snaps text n has acts = acts_scanned m command.Snaps text n has acts
+told_scanned trace.Text number m (command.Log ino) text n has acts = acts_scanned m (command.Log ino) text n has acts
+told_scanned trace.Text number m command.Stop text n has acts = acts
+told_scanned trace.Text number m command.Tree text n has acts = acts
+told_scanned trace.Text number m (command.SnapTree snapshot) text n has acts = acts
+told_scanned trace.Text number m command.Audit text n has acts = acts

@@ -15,28 +15,29 @@ use Rattle.nv_core.specs.declared.event.Event.TheVariants.{Go}
 use Rattle.nv_core.specs.declared.event.Reply.{Reply}
 use Rattle.nv_core.specs.declared.next_step.NextStep.{NextStep}
 use Rattle.nv_core.proofs.Replies.{go_reply}
-use Rattle.nv_script.specs.Trace.{go_line, step_text}
+use Rattle.nv_script.specs.declared.trace.Trace.{Trace}
+use Rattle.nv_script.specs.Trace.{go_line, step_by}
 use Rattle.nv_script.specs.Traced.{IsTracedStep}
 
-module _ (number actor : ℕ) (m : machine.World) (answer : Reply) (new : WorldState) (made : IsStep m (Go actor) answer new) where
+module _ (form : Trace) (number actor : ℕ) (m : machine.World) (answer : Reply) (new : WorldState) (made : IsStep m (Go actor) answer new) where
   -- an actor that runs no call
-  pub none_told : (out : List ℕ) → (actor_at m actor).running ≡ None → IsTracedStep number m actor answer out out new
+  pub none_told : (out : List ℕ) → (actor_at m actor).running ≡ None → IsTracedStep form number m actor answer out out new
   none_told out idle = record {
     granted = made.granted;
     reply_is = go_reply m actor answer new made;
     shows = made.shows;
     text_is = sym (append-nil out)
-        ∙ ap (λ (r : Option machine.Running). out ++ go_line number m actor made.granted r) (sym idle);
+        ∙ ap (λ (r : Option machine.Running). out ++ go_line form number m actor made.granted r) (sym idle);
   }
 
   -- one that runs this call, of which this was told
   pub step_told : (call : CallName) (next : NextStep) (before out : List ℕ)
       → Some call ≡ option_map (λ r. call_name r.call) (actor_at m actor).running → IsNext m actor (actor_at m actor).running (Some next)
-      → out ≡ before ++ step_text number actor call (name_in next.name) (reply_of answer) next.waits_for next.commits
-      → IsTracedStep number m actor answer before out new
+      → out ≡ before ++ step_by form number actor call (name_in next.name) (reply_of answer) next.waits_for next.commits
+      → IsTracedStep form number m actor answer before out new
   step_told call next before out names told text = by (actor_at m actor).running refl names told where
     by : (o : Option machine.Running) → (actor_at m actor).running ≡ o → Some call ≡ option_map (λ r. call_name r.call) o
-        → IsNext m actor o (Some next) → IsTracedStep number m actor answer before out new
+        → IsNext m actor o (Some next) → IsTracedStep form number m actor answer before out new
     by None e named told = cc
     by (Some r) e named told =
         let same : call ≡ call_name r.call = cc in
@@ -47,15 +48,15 @@ module _ (number actor : ℕ) (m : machine.World) (answer : Reply) (new : WorldS
           reply_is = replied;
           shows = made.shows;
           text_is = text ∙ ap (λ (t : List ℕ). before ++ t)
-              (ap (λ (c : CallName). step_text number actor c (name_in next.name) (reply_of answer) next.waits_for next.commits) same
-              ∙ ap (λ (n : named.StepName). step_text number actor (call_name r.call) n (reply_of answer) next.waits_for next.commits) told.name
-              ∙ ap (λ (a : machine.Reply). step_text number actor (call_name r.call) (name_of r.next m.numbers.cpus actor r) a next.waits_for
+              (ap (λ (c : CallName). step_by form number actor c (name_in next.name) (reply_of answer) next.waits_for next.commits) same
+              ∙ ap (λ (n : named.StepName). step_by form number actor (call_name r.call) n (reply_of answer) next.waits_for next.commits) told.name
+              ∙ ap (λ (a : machine.Reply). step_by form number actor (call_name r.call) (name_of r.next m.numbers.cpus actor r) a next.waits_for
               next.commits) replied
-              ∙ ap (λ (h : Option ℕ). step_text number actor (call_name r.call) (name_of r.next m.numbers.cpus actor r)
+              ∙ ap (λ (h : Option ℕ). step_by form number actor (call_name r.call) (name_of r.next m.numbers.cpus actor r)
               ((step m (machine.Go actor granted)).reply) h next.commits) told.holder
-              ∙ ap (λ (n : Option ℕ). step_text number actor (call_name r.call) (name_of r.next m.numbers.cpus actor r)
+              ∙ ap (λ (n : Option ℕ). step_by form number actor (call_name r.call) (name_of r.next m.numbers.cpus actor r)
               ((step m (machine.Go actor granted)).reply) (holder_for m.shared r r.next) n) (told.commits granted))
-              ∙ ap (λ (o : Option machine.Running). before ++ go_line number m actor granted o) (sym e);
+              ∙ ap (λ (o : Option machine.Running). before ++ go_line form number m actor granted o) (sym e);
         }
 
 -- no call has a name, or no step: there is none

@@ -25,12 +25,12 @@ pub record Untraced (m : World) (c : Command) (text : List ℕ) (n : World) : Ty
   pub told : IsTraced events []
 
 runs_untraced : (first : Reply) (number : ℕ) (m : World) (actor : ℕ) (events : List ℕ) (last : Reply) (n : World)
-    → RunsTracedFrom first number m actor events last n → RunsFrom first m actor last n
+    → RunsTracedFrom first trace.Text number m actor events last n → RunsFrom first m actor last n
 runs_untraced Started number m actor events last n runs = runs.0
 runs_untraced _ number m actor events last n runs = (runs.0, runs.1)
 
 from_traced : (first : Reply) (number : ℕ) (m : World) (actor : ℕ) (events : List ℕ) (last : Reply) (n : World)
-    → RunsTracedFrom first number m actor events last n → IsTraced events []
+    → RunsTracedFrom first trace.Text number m actor events last n → IsTraced events []
 from_traced Started number m actor events last n runs =
     subst (λ (t : List ℕ). IsTraced t []) (sym runs.1) (goes_traced number m actor runs.0.goes.grants)
 from_traced _ number m actor events last n runs = subst (λ (t : List ℕ). IsTraced t []) (sym runs.2) none_traced
@@ -41,16 +41,16 @@ untold m c text n acts = record { events = []; plain = text; acts = acts; text_i
 pub acts_untraced : (told : Trace) (number : ℕ) (m : World) (c : Command) (text : List ℕ) (n : World) → ActsTold told number m c text n
     → Untraced m c text n
 acts_untraced trace.Off number m c text n acts = untold m c text n acts
-acts_untraced trace.On number m (command.Start actor call) text n acts =
+acts_untraced trace.Text number m (command.Start actor call) text n acts =
     let start = step m (Start actor call) in
     record {
-      events = start_lines number actor (call_name call) start.reply;
+      events = start_lines trace.Text number actor (call_name call) start.reply;
       plain = reply_line start.reply;
       acts = (refl, acts.1);
       text_is = acts.0;
       told = start_traced number actor (call_name call) start.reply;
     }
-acts_untraced trace.On number m (command.Go actor more) text n acts =
+acts_untraced trace.Text number m (command.Go actor more) text n acts =
     let traced = acts.2 in
     record {
       events = acts.0;
@@ -59,7 +59,7 @@ acts_untraced trace.On number m (command.Go actor more) text n acts =
       text_is = acts.3;
       told = subst (λ (t : List ℕ). IsTraced t []) (sym traced.1) (goes_traced number m actor traced.0.grants);
     }
-acts_untraced trace.On number m (command.Run actor) text n acts =
+acts_untraced trace.Text number m (command.Run actor) text n acts =
     let traced = acts.2 in
     record {
       events = acts.0;
@@ -68,7 +68,7 @@ acts_untraced trace.On number m (command.Run actor) text n acts =
       text_is = acts.3;
       told = subst (λ (t : List ℕ). IsTraced t []) (sym traced.1) (goes_traced number m actor traced.0.goes.grants);
     }
-acts_untraced trace.On number m (command.Do actor call) text n acts =
+acts_untraced trace.Text number m (command.Do actor call) text n acts =
     let start = step m (Start actor call) in
     let calls = acts.2 in
     record {
@@ -77,18 +77,18 @@ acts_untraced trace.On number m (command.Do actor call) text n acts =
       acts = (acts.1, runs_untraced start.reply number start.world actor calls.0 acts.1 n calls.1, refl);
       text_is = acts.3;
       told = subst (λ (t : List ℕ). IsTraced t []) (sym calls.2)
-          (both_traced (start_lines number actor (call_name call) start.reply) [] calls.0 []
+          (both_traced (start_lines trace.Text number actor (call_name call) start.reply) [] calls.0 []
           (start_traced number actor (call_name call) start.reply)
           (from_traced start.reply number start.world actor calls.0 acts.1 n calls.1));
     }
-acts_untraced trace.On number m command.Stop text n acts = untold m command.Stop text n acts
-acts_untraced trace.On number m command.Tree text n acts = untold m command.Tree text n acts
-acts_untraced trace.On number m (command.SnapTree snapshot) text n acts = untold m (command.SnapTree snapshot) text n acts
-acts_untraced trace.On number m command.Snaps text n acts = untold m command.Snaps text n acts
-acts_untraced trace.On number m command.Space text n acts = untold m command.Space text n acts
-acts_untraced trace.On number m command.Lists text n acts = untold m command.Lists text n acts
-acts_untraced trace.On number m (command.Log ino) text n acts = untold m (command.Log ino) text n acts
-acts_untraced trace.On number m command.Audit text n acts = untold m command.Audit text n acts
+acts_untraced trace.Text number m command.Stop text n acts = untold m command.Stop text n acts
+acts_untraced trace.Text number m command.Tree text n acts = untold m command.Tree text n acts
+acts_untraced trace.Text number m (command.SnapTree snapshot) text n acts = untold m (command.SnapTree snapshot) text n acts
+acts_untraced trace.Text number m command.Snaps text n acts = untold m command.Snaps text n acts
+acts_untraced trace.Text number m command.Space text n acts = untold m command.Space text n acts
+acts_untraced trace.Text number m command.Lists text n acts = untold m command.Lists text n acts
+acts_untraced trace.Text number m (command.Log ino) text n acts = untold m (command.Log ino) text n acts
+acts_untraced trace.Text number m command.Audit text n acts = untold m command.Audit text n acts
 
 -- a text is that of events, and then this
 pub record IsBehind (text plain : List ℕ) : Type 0 where

@@ -134,10 +134,15 @@ abbrev pub event_head : ℕ → ℕ → CallName → List ℕ
 event_head number actor call =
     codes "  " ++ decimal number ++ codes " " ++ decimal actor ++ codes " " ++ call_text call ++ codes " "
 
--- a call that starts; one that is refused is no event
-abbrev pub start_lines : ℕ → ℕ → CallName → Reply → List ℕ
-start_lines number actor call Started = line_of (event_head number actor call ++ codes "start")
-start_lines number actor call other = []
+-- a call that starts, where events are told in this form
+abbrev pub start_line : Trace → (number actor : ℕ) → CallName → List ℕ
+start_line trace.Off number actor call = []
+start_line trace.Text number actor call = line_of (event_head number actor call ++ codes "start")
+
+-- one that is refused is no event
+abbrev pub start_lines : Trace → (number actor : ℕ) → CallName → Reply → List ℕ
+start_lines form number actor call Started = start_line form number actor call
+start_lines form number actor call other = []
 
 -- a step by its name, its reply, who holds the lock that it needs, and the number of the commit where it is the commit point
 abbrev pub step_text : ℕ → ℕ → CallName → named.StepName → Reply → (holder commit : Option ℕ) → List ℕ
@@ -145,47 +150,52 @@ step_text number actor call name reply holder commit =
     line_of (event_head number actor call ++ step_word name ++ labelled (codes " ") (step_place name) ++ codes " "
     ++ reply_text reply holder ++ labelled (codes " commit ") commit)
 
+-- the same where events are told in this form
+abbrev pub step_by : Trace → (number actor : ℕ) → CallName → named.StepName → Reply → (holder commit : Option ℕ) → List ℕ
+step_by trace.Off number actor call name reply holder commit = []
+step_by trace.Text number actor call name reply holder commit = step_text number actor call name reply holder commit
+
 -- a step of a running call
-abbrev pub step_line : ℕ → World → ℕ → Bool → Running → List ℕ
-step_line number m actor granted r =
-    step_text number actor (call_name r.call) (name_of r.next m.numbers.cpus actor r) ((step m (Go actor granted)).reply)
+abbrev pub step_line : Trace → (number : ℕ) → World → ℕ → Bool → Running → List ℕ
+step_line form number m actor granted r =
+    step_by form number actor (call_name r.call) (name_of r.next m.numbers.cpus actor r) ((step m (Go actor granted)).reply)
     (holder_for m.shared r r.next) (number_at (plain_change_of m (Go actor granted)) r.commit)
 
 -- an event of an actor that runs no call has no line
-abbrev pub go_line : ℕ → World → ℕ → Bool → Option Running → List ℕ
-go_line number m actor granted None = []
-go_line number m actor granted (Some r) = step_line number m actor granted r
+abbrev pub go_line : Trace → (number : ℕ) → World → ℕ → Bool → Option Running → List ℕ
+go_line form number m actor granted None = []
+go_line form number m actor granted (Some r) = step_line form number m actor granted r
 
 -- events of an actor's call one after another, each told of the world before it
-abbrev pub go_lines : ℕ → World → ℕ → List Bool → List ℕ
-go_lines number m actor [] = []
-go_lines number m actor (granted ∷ grants) =
-    go_line number m actor granted (actor_at m actor).running ++ go_lines number (step m (Go actor granted)).world actor grants
+abbrev pub go_lines : Trace → (number : ℕ) → World → ℕ → List Bool → List ℕ
+go_lines form number m actor [] = []
+go_lines form number m actor (granted ∷ grants) =
+    go_line form number m actor granted (actor_at m actor).running ++ go_lines form number (step m (Go actor granted)).world actor grants
 
 -- ---- commands, told event by event. Example: `do 0 mode 1.1 384` in line 9 writes ten lines of events, from `  9 0 mode start` to
 -- `  9 0 mode unlock 1 done`, among them `  9 0 mode publish 1 moved commit 3`, and then `done`.
 
 -- a call goes on, and THE VERY GRANTS THAT GIVE ITS LAST REPLY give the lines of its events
-abbrev pub GoesTraced : (number most : ℕ) → World → ℕ → (events : List ℕ) → Reply → World → Type 0
-GoesTraced number most old actor events last new =
-    (goes : GoesOn most old actor last new) × (events ≡ go_lines number old actor goes.grants)
+abbrev pub GoesTraced : Trace → (number most : ℕ) → World → ℕ → (events : List ℕ) → Reply → World → Type 0
+GoesTraced form number most old actor events last new =
+    (goes : GoesOn most old actor last new) × (events ≡ go_lines form number old actor goes.grants)
 
 -- it goes on until it did not move
-abbrev pub RunsTraced : (number : ℕ) → World → ℕ → (events : List ℕ) → Reply → World → Type 0
-RunsTraced number old actor events last new =
-    (runs : Runs old actor last new) × (events ≡ go_lines number old actor runs.goes.grants)
+abbrev pub RunsTraced : Trace → (number : ℕ) → World → ℕ → (events : List ℕ) → Reply → World → Type 0
+RunsTraced form number old actor events last new =
+    (runs : Runs old actor last new) × (events ≡ go_lines form number old actor runs.goes.grants)
 
 -- one that was started runs, and one that was refused does not
-abbrev pub RunsTracedFrom : Reply → (number : ℕ) → World → ℕ → (events : List ℕ) → Reply → World → Type 0
-RunsTracedFrom Started number old actor events last new = RunsTraced number old actor events last new
-RunsTracedFrom first number old actor events last new = (last ≡ first) × (new ≡ old) × (events ≡ [])
+abbrev pub RunsTracedFrom : Reply → Trace → (number : ℕ) → World → ℕ → (events : List ℕ) → Reply → World → Type 0
+RunsTracedFrom Started form number old actor events last new = RunsTraced form number old actor events last new
+RunsTracedFrom first form number old actor events last new = (last ≡ first) × (new ≡ old) × (events ≡ [])
 
 -- a whole call: its start, and the steps of one that was started
-abbrev pub CallsTraced : (number : ℕ) → World → ℕ → Call → (events : List ℕ) → Reply → World → Type 0
-CallsTraced number old actor c events last new =
+abbrev pub CallsTraced : Trace → (number : ℕ) → World → ℕ → Call → (events : List ℕ) → Reply → World → Type 0
+CallsTraced form number old actor c events last new =
     let start = step old (Start actor c) in
-    (steps : List ℕ) × RunsTracedFrom start.reply number start.world actor steps last new
-    × (events ≡ start_lines number actor (call_name c) start.reply ++ steps)
+    (steps : List ℕ) × RunsTracedFrom start.reply form number start.world actor steps last new
+    × (events ≡ start_lines form number actor (call_name c) start.reply ++ steps)
 
 -- the events are written, and then the last reply
 abbrev pub AnswersTraced : (List ℕ → Reply → World → Type 0) → List ℕ → World → Type 0
@@ -193,21 +203,21 @@ AnswersTraced Traced text new =
     (events : List ℕ) × (last : Reply) × Traced events last new × (text ≡ events ++ reply_line last)
 
 -- WHAT A TRACED COMMAND WRITES AND LEAVES, in the line with a number, where the world reports this
-abbrev pub ActsTracedBy : WorldReports → ℕ → World → Command → List ℕ → World → Type 0
-ActsTracedBy told number old (command.Start actor c) text new =
+abbrev pub ActsTracedBy : WorldReports → Trace → ℕ → World → Command → List ℕ → World → Type 0
+ActsTracedBy told form number old (command.Start actor c) text new =
     let start = step old (Start actor c) in
-    (text ≡ start_lines number actor (call_name c) start.reply ++ reply_line start.reply) × (new ≡ start.world)
-ActsTracedBy told number old (command.Go actor more) text new = AnswersTraced (GoesTraced number (more + 1) old actor) text new
-ActsTracedBy told number old (command.Run actor) text new = AnswersTraced (RunsTraced number old actor) text new
-ActsTracedBy told number old (command.Do actor c) text new = AnswersTraced (CallsTraced number old actor c) text new
-ActsTracedBy told number old other text new = ActsBy told old other text new
+    (text ≡ start_lines form number actor (call_name c) start.reply ++ reply_line start.reply) × (new ≡ start.world)
+ActsTracedBy told form number old (command.Go actor more) text new = AnswersTraced (GoesTraced form number (more + 1) old actor) text new
+ActsTracedBy told form number old (command.Run actor) text new = AnswersTraced (RunsTraced form number old actor) text new
+ActsTracedBy told form number old (command.Do actor c) text new = AnswersTraced (CallsTraced form number old actor c) text new
+ActsTracedBy told form number old other text new = ActsBy told old other text new
 
 -- ---- players
 
 -- a command, with its events or without, where the world reports this
 abbrev pub ActsToldBy : WorldReports → Trace → ℕ → World → Command → List ℕ → World → Type 0
 ActsToldBy told trace.Off number old c text new = ActsBy told old c text new
-ActsToldBy told trace.On number old c text new = ActsTracedBy told number old c text new
+ActsToldBy told trace.Text number old c text new = ActsTracedBy told trace.Text number old c text new
 
 -- reports are those of a scan
 abbrev pub ActsTold : Trace → ℕ → World → Command → List ℕ → World → Type 0
@@ -225,7 +235,7 @@ player_by told head = record {
 
 -- THE TRACING PLAYER
 abbrev pub tracing_player : Player
-tracing_player = player_by trace.On no_head
+tracing_player = player_by trace.Text no_head
 
 -- HOW A TRACED SCRIPT ENDS: as one that is played, by a player that tells events
 abbrev pub TracesScript : Result (Unit {0}) Fault → (input left old new : Option (List ℕ)) → Type 0

@@ -238,7 +238,7 @@ pub fn trace_counted_and_leave<R: CountedRead, W: CountedWrite>(
     ensures same_writer { W.place writer.new ≡ W.place writer.old }
 {
     let mut player = Player::new(alloc)?;
-    let outcome = player.play(alloc, Echo::Off, Trace::On, reader, writer);
+    let outcome = player.play(alloc, Echo::Off, Trace::Text, reader, writer);
     mem::forget(player);
     outcome
 }

@@ -10,7 +10,7 @@ use Rattle.nv_script.proofs.script.trace_counted_and_leave.Goals as goal
 pub returns-in_err-player-clause-script : goal.returns-in_err-player-clause-script
 returns-in_err-player-clause-script g c =
     let p = err_from_is_err_and c.from_residual.result c.from_residual.ensures.1 in
-    rw (p.1, p.2) (no_room trace.On no_head (g.R.CountedRead.remaining c.args.reader.now) (g.R.CountedRead.remaining c.args.reader.now)
+    rw (p.1, p.2) (no_room trace.Text no_head (g.R.CountedRead.remaining c.args.reader.now) (g.R.CountedRead.remaining c.args.reader.now)
     (g.W.CountedWrite.contents c.args.writer.now))
 
 pub returns-in_err-player-clause-plain : goal.returns-in_err-player-clause-plain
@@ -18,7 +18,7 @@ returns-in_err-player-clause-plain g c =
     let p = err_from_is_err_and c.from_residual.result c.from_residual.ensures.1 in
     let input = g.R.CountedRead.remaining c.args.reader.now in
     let written = g.W.CountedWrite.contents c.args.writer.now in
-    rw (p.1, p.2) (traces_plain input input written written (Err out_of_memory) (no_room trace.On no_head input input written))
+    rw (p.1, p.2) (traces_plain input input written written (Err out_of_memory) (no_room trace.Text no_head input input written))
 
 pub returns-clause-plain : goal.returns-clause-plain
 returns-clause-plain g c =

@@ -9,14 +9,14 @@ use Rattle.nv_script.proofs.trace.call.Goals as goal
 
 pub returns-in-Started-clause-calls : goal.returns-in-Started-clause-calls
 returns-in-Started-clause-calls c =
-    called c.args.number c.args.actor c.args.call c.args.world.now c.start.new.world c.finish.new.world c.args.out.now.items
+    called c.args.trace c.args.number c.args.actor c.args.call c.args.world.now c.start.new.world c.finish.new.world c.args.out.now.items
     c.start.new.out.items c.finish.new.out.items c.finish.result
     (λ m shows. rw c.in-Started.is at (c.in_ok-reply.ensures.step m shows)) (rw c.in-Started.is at c.in_ok-reply.ensures.event)
     c.finish.ensures.runs
 
 pub returns-in_default-clause-calls : goal.returns-in_default-clause-calls
 returns-in_default-clause-calls c =
-    traced_refused c.args.number c.args.actor c.args.call c.args.world.now c.start.new.world c.start.new.world c.args.out.now.items
+    traced_refused c.args.trace c.args.number c.args.actor c.args.call c.args.world.now c.start.new.world c.start.new.world c.args.out.now.items
     c.start.new.out.items c.start.new.out.items c.in_ok-reply.reply c.in_default.not-Started c.in_ok-reply.ensures.step
     c.in_ok-reply.ensures.event
 

@@ -8,5 +8,5 @@ step_of-requires c = λ m shows. sym c.in-Some.is ∙ c.running_call.ensures m s
 
 pub returns-in-None-clause-step : goal.returns-in-None-clause-step
 returns-in-None-clause-step c = λ m shows.
-    none_told c.args.number c.args.actor m c.go.result c.go.new.self (c.go.ensures.step m shows) c.args.out.now.items
+    none_told c.args.trace c.args.number c.args.actor m c.go.result c.go.new.self (c.go.ensures.step m shows) c.args.out.now.items
     (no_call (actor_at m c.args.actor).running (sym c.in-None.is ∙ c.running_call.ensures m shows))
