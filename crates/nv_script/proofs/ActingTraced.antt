@@ -24,10 +24,10 @@ abbrev pub Traces : Trace → ℕ → Command → List ℕ → (old new : WorldS
 Traces form number c text old new = Leads (λ m n. ActsTracedBy (reports_of m) form number m c text n) old new
 
 -- a command, whose events are told so
-pub told_as : {T E : Type 0} (result : Result T E) (told as : Trace) (number : ℕ) (old new : WorldState) (c : Command) (text : List ℕ)
-    → told ≡ as → OnOk result (Leads (λ m n. ActsToldBy (reports_of m) as number m c text n) old new)
+pub told_as : {T E : Type 0} (result : Result T E) (told meant : Trace) (number : ℕ) (old new : WorldState) (c : Command) (text : List ℕ)
+    → told ≡ meant → OnOk result (Leads (λ m n. ActsToldBy (reports_of m) meant number m c text n) old new)
     → OnOk result (Leads (λ m n. ActsToldBy (reports_of m) told number m c text n) old new)
-told_as result told as number old new c text is leads =
+told_as result told meant number old new c text is leads =
     subst (λ (t : Trace). OnOk result (Leads (λ m n. ActsToldBy (reports_of m) t number m c text n) old new)) (sym is) leads
 
 -- what holds of a reply holds of it in each world that is shown

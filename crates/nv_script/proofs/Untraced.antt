@@ -108,8 +108,7 @@ line_untraced told number m line text n plays = go (is_skipped line) plays where
       → (plain : List ℕ) × PlaysWords machine_player 0 m (words_of line) plain n × IsBehind text plain
   words None formats = (text, formats, all_behind text)
   words (Some old) plays =
-      let one = acts_untraced told number old plays.0 text plays.1 plays.3 in
-      (
+      let one = acts_untraced told number old plays.0 text plays.1 plays.3 in (
         one.plain,
         (plays.0, plays.1, plays.2, one.acts, plays.4),
         record { events = one.events; text_is = one.text_is; told = one.told },

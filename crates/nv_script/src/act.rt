@@ -187,10 +187,19 @@ fn tell_traced(
         out.new.items n) world.old world.new) }
 {
     match command {
-        Command::Start(actor, call) => answer(trace::start(world, trace, number, actor, call, out), out),
-        Command::Go(actor, more) => answer(trace::go_on(world, trace, number, actor, more, out), out),
+        Command::Start(actor, call) => answer(
+            trace::start(world, trace, number, actor, call, out),
+            out,
+        ),
+        Command::Go(actor, more) => answer(
+            trace::go_on(world, trace, number, actor, more, out),
+            out,
+        ),
         Command::Run(actor) => answer(trace::finish(world, trace, number, actor, out), out),
-        Command::Do(actor, call) => answer(trace::call(world, trace, number, actor, call, out), out),
+        Command::Do(actor, call) => answer(
+            trace::call(world, trace, number, actor, call, out),
+            out,
+        ),
         _ => tell(world, command, out),
     }
 }

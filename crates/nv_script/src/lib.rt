@@ -35,4 +35,3 @@ pub use script::{
     play_echoed_and_leave, trace_and_leave, trace_counted_and_leave,
 };
 pub use text::fault_text;
-

@@ -218,15 +218,7 @@ impl Player {
             trace,
             head: head.as_slice(),
         };
-        answer_line(
-            alloc,
-            world,
-            line.as_slice(),
-            telling,
-            text,
-            outbox,
-            writer,
-        )
+        answer_line(alloc, world, line.as_slice(), telling, text, outbox, writer)
     }
 
     /// Plays the line that was taken last, and gathers its text.
@@ -252,15 +244,7 @@ impl Player {
             ..
         } = self;
         let telling = Telling::answers();
-        answer_line(
-            alloc,
-            world,
-            line.as_slice(),
-            telling,
-            text,
-            outbox,
-            writer,
-        )
+        answer_line(alloc, world, line.as_slice(), telling, text, outbox, writer)
     }
 
     /// Plays the line that was taken last, and gathers its text, where it has no fault. Else its fault is told, and nothing has changed.

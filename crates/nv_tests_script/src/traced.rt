@@ -142,12 +142,22 @@ fn the_first_script(rt: HostRuntime) {
 fn a_reader_that_waits(rt: HostRuntime) {
     let (ended, written) = traced(rt.alloc(), WAITING);
     same(&rt, ended, Ok(()));
-    same(&rt, written.as_slice().ends_with(WAITING_TRACED.as_bytes()), true);
+    same(
+        &rt,
+        written.as_slice().ends_with(WAITING_TRACED.as_bytes()),
+        true,
+    );
 }
 
 #[test]
 fn without_events_a_trace_is_a_play(rt: HostRuntime) -> Result<(), AllocError> {
-    for rows in [WORKED.as_slice(), &SCRIPTS, OF_SNAPSHOTS, OF_CLEANERS, OF_STOPS] {
+    for rows in [
+        WORKED.as_slice(),
+        &SCRIPTS,
+        OF_SNAPSHOTS,
+        OF_CLEANERS,
+        OF_STOPS,
+    ] {
         check_all(&rt, rows)?;
     }
     Ok(())

@@ -197,7 +197,9 @@ pub(crate) enum Task<'a> {
         manner: Manner,
     },
     /// To play a script as well, and tell each step.
-    Trace { file: Option<&'a str> },
+    Trace {
+        file: Option<&'a str>,
+    },
     /// To have so many threads make the calls of a script, beside so many cleaners.
     Work {
         file: Option<&'a str>,
