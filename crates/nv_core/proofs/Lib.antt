@@ -47,7 +47,6 @@ pub mod Maintains
 pub mod MountedWorlds
 pub mod NextSteps
 pub mod NextWaits
-pub mod RunningCalls
 pub mod Nodes
 pub mod Opens
 pub mod Others
@@ -71,6 +70,7 @@ pub mod RetirePhase
 pub mod Retires
 pub mod RoomsAfter
 pub mod RoomsMade
+pub mod RunningCalls
 pub mod Runs
 pub mod SameCells
 pub mod ScannedParts

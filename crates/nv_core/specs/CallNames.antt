@@ -3,7 +3,7 @@ use Rattle.std.specs.Prelude.{◌≡◌}
 use Rattle.nv_calls.specs.declared.call.Call.{Call}
 use Rattle.nv_calls.specs.declared.call.Call.TheVariants as call
 use Rattle.nv_calls.specs.declared.snapshot_or_cleaner_call.SnapshotOrCleanerCall.{SnapshotOrCleanerCall}
-use Rattle.nv_calls.specs.declared.snapshot_or_cleaner_call.SnapshotOrCleanerCall.TheVariants as snapshot_or_cleaner
+use Rattle.nv_calls.specs.declared.snapshot_or_cleaner_call.SnapshotOrCleanerCall.TheVariants as on_call
 use Rattle.nv_core.specs.declared.call_name.CallName.{CallName}
 use Rattle.nv_core.specs.declared.call_name.CallName.TheVariants as name
 use Rattle.nv_core.specs.declared.request.PendingAnswer.{PendingAnswer}
@@ -11,13 +11,13 @@ use Rattle.nv_core.specs.declared.request.PendingAnswer.TheVariants as owed
 
 -- the name of a call on snapshots, or of a cleaner
 abbrev pub name_on : SnapshotOrCleanerCall → CallName
-name_on snapshot_or_cleaner.Snap = name.Snap
-name_on (snapshot_or_cleaner.Drop snapshot) = name.Drop
-name_on (snapshot_or_cleaner.Show snapshot) = name.Show
-name_on (snapshot_or_cleaner.Drain most) = name.Drain
-name_on (snapshot_or_cleaner.Fast ino) = name.Fast
-name_on (snapshot_or_cleaner.Thorough ino) = name.Thorough
-name_on (snapshot_or_cleaner.Auto ino) = name.Auto
+name_on on_call.Snap = name.Snap
+name_on (on_call.Drop snapshot) = name.Drop
+name_on (on_call.Show snapshot) = name.Show
+name_on (on_call.Drain most) = name.Drain
+name_on (on_call.Fast ino) = name.Fast
+name_on (on_call.Thorough ino) = name.Thorough
+name_on (on_call.Auto ino) = name.Auto
 
 -- the name of a call
 abbrev pub call_name : Call → CallName
@@ -35,7 +35,7 @@ call_name (call.Rmdir dir bytes) = name.Rmdir
 call_name (call.Rename from old to new) = name.Rename
 call_name (call.SnapshotOrCleaner on) = name_on on
 
--- what is owed keeps the name of its call, once its commit has the rest: what is counted is a write's bytes
+-- the name that what is owed to a call keeps; what is counted are the bytes of a write
 abbrev pub name_owed : PendingAnswer → CallName
 name_owed (owed.Made by) = by
 name_owed (owed.Count count) = name.Write

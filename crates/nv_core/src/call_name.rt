@@ -92,7 +92,7 @@ impl World {
     }
 }
 
-/// The name of the call that an actor runs which is there.
+/// The name of the call that an actor runs, if it runs one.
 fn call_of(state: &Actor) -> Option<CallName>
     ensures none { state.now.running ≡ None → result ≡ None }
     ensures some { (running : Running) (r : machine.Running) → state.now.running ≡ Some running
@@ -104,7 +104,7 @@ fn call_of(state: &Actor) -> Option<CallName>
     }
 }
 
-/// The name of the call that this is left of.
+/// The name of a call, by what is left of it.
 fn name_of(request: &Request, owed: PendingAnswer) -> CallName
     ensures { (c : Call) → IsRequestOf request.now owed c → result ≡ call_name c }
 {

@@ -26,8 +26,8 @@ pub(crate) enum Request {
     Taken,
 }
 
-/// What a call is answered, apart from the handle of the inode that it makes, and by its name which call it is: a write alone is
-/// answered by a count.
+/// What a call is answered, apart from the handle of the inode that it makes. With it stays the name of the call, as a
+/// commit uses up the rest: a write alone is answered by a count.
 #[derive(Clone, Copy, Debug, PartialEq, Eq)]
 pub(crate) enum PendingAnswer {
     Made(CallName),
