@@ -1,5 +1,5 @@
 -- What a command with a reply writes whose events are told, and where it leads.
-use Rattle.std.proofs.Common.{◌≡◌, ◌∙◌, ℕ, ◌+◌, ◌++◌, List, [], Result, Ok, Err, ap, refl, subst, sym}
+use Rattle.std.proofs.Common.{◌≡◌, ◌∙◌, ℕ, ◌+◌, ◌++◌, List, [], Option, Some, None, Result, Ok, Err, ap, inl, inr, refl, subst, sym}
 use Rattle.std.specs.Prelude.{IfOk, MatchResult, OnOk}
 use Rattle.nv_calls.specs.declared.call.Call.{Call}
 use Rattle.nv_machine.specs.Step.{step}
@@ -10,11 +10,13 @@ use Rattle.nv_core.specs.declared.event.Event.TheVariants as event
 use Rattle.nv_core.specs.declared.event.Reply.{Reply}
 use Rattle.nv_core.proofs.Replies.{start_reply}
 use Rattle.nv_restart.specs.Happenings.{Replied}
+use Rattle.nv_script.specs.declared.asked.Asked.{Asked}
 use Rattle.nv_script.specs.declared.command.Command.{Command}
 use Rattle.nv_script.specs.declared.command.Command.TheVariants as command
 use Rattle.nv_script.specs.declared.trace.Trace.{Trace}
 use Rattle.nv_script.specs.declared.trace.Trace.TheVariants as trace
 use Rattle.nv_script.specs.Play.{ActsBy, reports_of}
+use Rattle.nv_script.specs.Results.{TellsAudit}
 use Rattle.nv_script.specs.Texts.{reply_line, told_line}
 use Rattle.nv_script.specs.Trace.{ActsToldBy, ActsTracedBy, AnswersTraced, CallsTraced, GoesTraced, RunsTraced, start_lines}
 use Rattle.nv_script.specs.Traced.{Adds}
@@ -29,6 +31,22 @@ pub told_as : {T E : Type 0} (result : Result T E) (told meant : Trace) (number 
     → OnOk result (Leads (λ m n. ActsToldBy (reports_of m) told number m c text n) old new)
 told_as result told meant number old new c text is leads =
     subst (λ (t : Trace). OnOk result (Leads (λ m n. ActsToldBy (reports_of m) t number m c text n) old new)) (sym is) leads
+
+-- an audit makes no event
+pub audited : {E : Type 0} (result : Result (Option Asked) E) (form : Trace) (number : ℕ) (w : WorldState) (c : Command) (text : List ℕ)
+    → c ≡ command.Audit → IfOk result (λ asked. TellsAudit asked text)
+    → OnOk result (Leads (λ m n. ActsToldBy (reports_of m) form number m c text n) w w)
+audited (Err why) form number w c text is tells = tt
+audited (Ok asked) form number w c text is tells =
+    subst (λ (d : Command). Leads (λ m n. ActsToldBy (reports_of m) form number m d text n) w w) (sym is)
+    (λ m shows. (m, by form asked tells m, shows))
+  where
+    by : (form : Trace) (asked : Option Asked) → TellsAudit asked text → (m : machine.World)
+        → ActsToldBy (reports_of m) form number m command.Audit text m
+    by trace.Off None told m = (inr told, refl)
+    by trace.Off (Some asked) told m = (inl told, refl)
+    by trace.Text None told m = (inr told, refl)
+    by trace.Text (Some asked) told m = (inl told, refl)
 
 -- what holds of a reply holds of it in each world that is shown
 pub always : {F : Type 0} (X : Reply → Type 0) (old : WorldState) (reply : Result Reply F) → IfOk reply X

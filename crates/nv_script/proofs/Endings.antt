@@ -17,6 +17,7 @@ use Rattle.nv_script.specs.Lines.{IsCutOff, IsLine, LineResultIs, WritesFront, W
 use Rattle.nv_script.specs.Play.{Ends, EndsBy, EndsWell, IsFault, LineFails, ListsWords, Played, Plays, PlaysAll, PlaysFrom, Stops, StopsAt, machine_player, most_lines, no_head}
 use Rattle.nv_script.specs.Trace.{player_by}
 use Rattle.nv_script.specs.declared.trace.Trace.{Trace}
+use Rattle.nv_script.specs.declared.trace.Trace.TheVariants as trace
 use Rattle.nv_script.specs.Grammar.{is_skipped}
 use Rattle.nv_script.specs.Texts.{line_of, node_line, tree_lines}
 use Rattle.nv_script.specs.Words.{words_of}
@@ -465,3 +466,12 @@ pub answers_at : {A : Type 0} (events : Trace) (number : ℕ) (head : List ℕ) 
     → AnswersBehind events number head r from to world line world'
 answers_at events number head r from to world slice line world' same is =
     subst (λ (bytes : List ℕ). AnswersBehind events number head r from to world bytes world') same is
+
+-- a line whose events are not told, and that has nothing before its answers
+pub told_off : {A : Type 0} (events : Trace) (number : ℕ) (head : List ℕ) (r : Result A LineFault) (from to : Sent)
+    (world : Option WorldState) (line : List ℕ) (world' : Option WorldState) → events ≡ trace.Off → number ≡ 0 → head ≡ []
+    → AnswersBehind events number head r from to world line world' → AnswersBehind trace.Off 0 [] r from to world line world'
+told_off events number head r from to world line world' off zero none is =
+    subst (λ (h : List ℕ). AnswersBehind trace.Off 0 h r from to world line world') none
+    (subst (λ (n : ℕ). AnswersBehind trace.Off n head r from to world line world') zero
+    (subst (λ (t : Trace). AnswersBehind t number head r from to world line world') off is))

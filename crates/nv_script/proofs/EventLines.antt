@@ -1,13 +1,17 @@
 -- The lines of events: whole lines, each of which begins with two spaces.
-use Rattle.std.proofs.Common.{◌≡◌, ◌∙◌, ℕ, Bool, true, false, not, cond, List, [], ◌∷◌, ◌++◌, Option, Some, None, ap, append-nil, append_assoc, refl, sym}
+use Rattle.std.proofs.Common.{◌≡◌, ◌∙◌, ℕ, Bool, true, false, not, cond, List, [], ◌∷◌, ◌++◌, Option, Some, None, ap, append-nil, refl, sym}
 use Rattle.std.specs.Prelude.{codes, decimal}
+use Rattle.nv_machine.specs.PlainRun.{plain_change_of}
 use Rattle.nv_machine.specs.Step.{step}
 use Rattle.nv_machine.specs.StepNames as named
+use Rattle.nv_machine.specs.StepRows.{name_of}
 use Rattle.nv_machine.specs.World as machine
 use Rattle.nv_machine.specs.World.{Done, Moved, Refused, Reply, Running, Started, Waiting, World, actor_at}
+use Rattle.nv_core.specs.CallNames.{call_name}
+use Rattle.nv_core.specs.NextSteps.{holder_for, number_at}
 use Rattle.nv_core.specs.declared.call_name.CallName.{CallName}
 use Rattle.nv_core.specs.declared.call_name.CallName.TheVariants as called
-use Rattle.nv_script.specs.Echo.{AreClean}
+use Rattle.nv_script.specs.declared.trace.Trace.TheVariants as trace
 use Rattle.nv_script.specs.Lines.{HasNoEnd, ended}
 use Rattle.nv_script.specs.Trace.{IsTraced, call_text, event_head, go_line, go_lines, is_event, labelled, reply_text, start_lines, step_place, step_text, step_word, without_events}
 use Rattle.nv_script.proofs.Answering.{AreAnswers, IsAnswer, answers_clean, clean_lines, no_event}
@@ -168,7 +172,9 @@ start_traced number actor call (Refused why) = none_traced
 
 go_traced : (number : ℕ) (m : World) (actor : ℕ) (granted : Bool) (o : Option Running) → IsTraced (go_line trace.Text number m actor granted o) []
 go_traced number m actor granted None = none_traced
-go_traced number m actor granted (Some r) = step_traced number actor _ _ _ _ _
+go_traced number m actor granted (Some r) =
+    step_traced number actor (call_name r.call) (name_of r.next m.numbers.cpus actor r) ((step m (machine.Go actor granted)).reply)
+    (holder_for m.shared r r.next) (number_at (plain_change_of m (machine.Go actor granted)) r.commit)
 
 pub goes_traced : (number : ℕ) (m : World) (actor : ℕ) (grants : List Bool) → IsTraced (go_lines trace.Text number m actor grants) []
 goes_traced number m actor [] = none_traced

@@ -109,6 +109,6 @@ other_event byte (next ∷ line) other = rw other refl
 -- two words are none, where the first may have no byte
 pub two_words_event : (a rest : List ℕ) → IsSolid a → IsSolid rest → is_event (a ++ (32 ∷ [] ++ rest)) ≡ false
 two_words_event [] [] solid none = refl
-two_words_event [] (byte ∷ rest) solid none = rw (not_space byte none.0) refl
+two_words_event [] (byte ∷ rest) solid none = not_space byte none.0
 two_words_event (a ∷ []) rest solid none = other_event a (32 ∷ rest) (not_space a solid.0)
 two_words_event (a ∷ b ∷ more) rest solid none = other_event a ((b ∷ more) ++ 32 ∷ rest) (not_space a solid.0)

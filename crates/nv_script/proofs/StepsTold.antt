@@ -1,23 +1,29 @@
 -- The line of a step, by what the world told before it.
-use Rattle.std.proofs.Common.{◌≡◌, ◌∙◌, ℕ, List, [], ◌++◌, Option, Some, None, ap, append-nil, refl, subst, sym}
+use Rattle.std.proofs.Common.{◌≡◌, ◌≢◌, ◌∙◌, ℕ, List, ◌++◌, Option, Some, None, ap, append-nil, refl, sym}
 use Rattle.std.specs.Prelude.{option_map}
-use Rattle.nv_machine.specs.PlainRun.{plain_change_of}
 use Rattle.nv_machine.specs.Step.{step}
 use Rattle.nv_machine.specs.StepNames as named
 use Rattle.nv_machine.specs.StepRows.{name_of}
 use Rattle.nv_machine.specs.World as machine
 use Rattle.nv_machine.specs.World.{actor_at}
 use Rattle.nv_core.specs.CallNames.{call_name}
-use Rattle.nv_core.specs.NextSteps.{IsNext, holder_for, name_in, number_at}
+use Rattle.nv_core.specs.NextSteps.{IsNext, holder_for, name_in}
 use Rattle.nv_core.specs.Worlds.{IsStep, WorldState, reply_of}
 use Rattle.nv_core.specs.declared.call_name.CallName.{CallName}
 use Rattle.nv_core.specs.declared.event.Event.TheVariants.{Go}
 use Rattle.nv_core.specs.declared.event.Reply.{Reply}
+use Rattle.nv_core.specs.declared.event.Reply.TheVariants as reply
 use Rattle.nv_core.specs.declared.next_step.NextStep.{NextStep}
 use Rattle.nv_core.proofs.Replies.{go_reply}
 use Rattle.nv_script.specs.declared.trace.Trace.{Trace}
-use Rattle.nv_script.specs.Trace.{go_line, step_by}
+use Rattle.nv_script.specs.Trace.{go_line, start_lines, step_by}
 use Rattle.nv_script.specs.Traced.{IsTracedStep}
+
+same_name : (a b : CallName) → Some a ≡ Some b → a ≡ b
+same_name a b is = cc
+
+no_name : (a : CallName) → Some a ≡ None → ⊥
+no_name a is = cc
 
 module _ (form : Trace) (number actor : ℕ) (m : machine.World) (answer : Reply) (new : WorldState) (made : IsStep m (Go actor) answer new) where
   -- an actor that runs no call
@@ -38,9 +44,9 @@ module _ (form : Trace) (number actor : ℕ) (m : machine.World) (answer : Reply
   step_told call next before out names told text = by (actor_at m actor).running refl names told where
     by : (o : Option machine.Running) → (actor_at m actor).running ≡ o → Some call ≡ option_map (λ r. call_name r.call) o
         → IsNext m actor o (Some next) → IsTracedStep form number m actor answer before out new
-    by None e named told = cc
+    by None e named told = absurd (no_name call named)
     by (Some r) e named told =
-        let same : call ≡ call_name r.call = cc in
+        let same : call ≡ call_name r.call = same_name call (call_name r.call) named in
         let granted = made.granted in
         let replied = go_reply m actor answer new made in
         record {
@@ -62,8 +68,18 @@ module _ (form : Trace) (number actor : ℕ) (m : machine.World) (answer : Reply
 -- no call has a name, or no step: there is none
 pub no_call : (o : Option machine.Running) → None ≡ option_map (λ r. call_name r.call) o → o ≡ None
 no_call None is = refl
-no_call (Some r) is = cc
+no_call (Some r) is = absurd (no_name (call_name r.call) (sym is))
 
 pub no_next : (m : machine.World) (actor : ℕ) (o : Option machine.Running) → IsNext m actor o None → o ≡ None
 no_next m actor None is = refl
 no_next m actor (Some r) is = absurd is
+
+-- no call was started: there is no line
+pub unstarted : (form : Trace) (number actor : ℕ) (call : CallName) (answer : Reply) (out : List ℕ) → answer ≢ reply.Started
+    → out ≡ out ++ start_lines form number actor call (reply_of answer)
+unstarted form number actor call reply.Started out not = absurd (not refl)
+unstarted form number actor call reply.Moved out not = sym (append-nil out)
+unstarted form number actor call reply.Waits out not = sym (append-nil out)
+unstarted form number actor call (reply.Done found) out not = sym (append-nil out)
+unstarted form number actor call reply.Stopped out not = sym (append-nil out)
+unstarted form number actor call (reply.Refused why) out not = sym (append-nil out)

@@ -131,7 +131,8 @@ bound_other bound =
     let solid = solid_append (decimal to.ino ++ codes ".") (decimal to.generation)
     (solid_append (decimal to.ino) (codes ".") (decimal_solid to.ino) (omega arith, tt)) (decimal_solid to.generation) in
     rw (append_assoc (escaped bound.name) (codes " ") (handle_text to))
-    (neither _ (two_words (escaped bound.name) (handle_text to) (escaped_solid bound.name) solid)
+    (neither (escaped bound.name ++ (codes " " ++ handle_text to))
+    (two_words (escaped bound.name) (handle_text to) (escaped_solid bound.name) solid)
     (two_words_event (escaped bound.name) (handle_text to) (escaped_solid bound.name) solid))
 
 -- names behind a line, each on a line of its own

@@ -175,7 +175,7 @@ fn tell_by(
 /// Acts on a command that lists no tree and asks for no audit, and tells its events before the answer.
 fn tell_traced(
     world: &mut World,
-    trace: Trace,
+    form: Trace,
     number: u64,
     command: Command,
     out: &mut Vec<u8>,
@@ -183,23 +183,20 @@ fn tell_traced(
     requires other { is_list command ≡ false }
     requires no_audit { command ≢ Audit }
     requires empty { out.old.items ≡ [] }
-    ensures { OnOk result (Leads (λ m n. ActsTracedBy (reports_of m) trace number m command
+    ensures { OnOk result (Leads (λ m n. ActsTracedBy (reports_of m) form number m command
         out.new.items n) world.old world.new) }
 {
     match command {
         Command::Start(actor, call) => answer(
-            trace::start(world, trace, number, actor, call, out),
+            trace::start(world, form, number, actor, call, out),
             out,
         ),
         Command::Go(actor, more) => answer(
-            trace::go_on(world, trace, number, actor, more, out),
+            trace::go_on(world, form, number, actor, more, out),
             out,
         ),
-        Command::Run(actor) => answer(trace::finish(world, trace, number, actor, out), out),
-        Command::Do(actor, call) => answer(
-            trace::call(world, trace, number, actor, call, out),
-            out,
-        ),
+        Command::Run(actor) => answer(trace::finish(world, form, number, actor, out), out),
+        Command::Do(actor, call) => answer(trace::call(world, form, number, actor, call, out), out),
         _ => tell(world, command, out),
     }
 }

@@ -24,3 +24,6 @@ pub returns-clause-serial : goal.returns-clause-serial
 returns-clause-serial g c =
     plays_alone c.play.result (g.R.CountedRead.remaining c.args.reader.now) (g.R.CountedRead.remaining c.play.new.reader)
     (g.W.CountedWrite.contents c.args.writer.now) (g.W.CountedWrite.contents c.play.new.writer) c.play.ensures.script
+
+pub returns-clause-script : goal.returns-clause-script
+returns-clause-script g c = c.play.ensures.script

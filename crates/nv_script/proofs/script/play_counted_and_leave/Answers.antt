@@ -24,3 +24,6 @@ pub returns-clause-serial : goal.returns-clause-serial
 returns-clause-serial g c =
     plays_alone c.play-outcome.result (g.R.CountedRead.remaining c.args.reader.now) (g.R.CountedRead.remaining c.play-outcome.new.reader)
     (g.W.CountedWrite.contents c.args.writer.now) (g.W.CountedWrite.contents c.play-outcome.new.writer) c.play-outcome.ensures.script
+
+pub returns-clause-script : goal.returns-clause-script
+returns-clause-script g c = c.play-outcome.ensures.script

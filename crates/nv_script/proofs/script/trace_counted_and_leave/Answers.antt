@@ -25,3 +25,6 @@ returns-clause-plain g c =
     traces_plain (g.R.CountedRead.remaining c.args.reader.now) (g.R.CountedRead.remaining c.play-outcome.new.reader)
     (g.W.CountedWrite.contents c.args.writer.now) (g.W.CountedWrite.contents c.play-outcome.new.writer) c.play-outcome.result
     c.play-outcome.ensures.script
+
+pub returns-clause-script : goal.returns-clause-script
+returns-clause-script g c = c.play-outcome.ensures.script

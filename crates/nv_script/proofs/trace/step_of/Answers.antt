@@ -7,7 +7,7 @@ use Rattle.nv_script.proofs.trace.step_of.Goals as goal
 
 pub returns-in-Some-clause-step : goal.returns-in-Some-clause-step
 returns-in-Some-clause-step c = λ m shows.
-    step_told c.args.trace c.args.number c.args.actor m c.go.result c.go.new.self (c.go.ensures.step m shows) c.args.call c.in-Some.next
+    step_told c.args.trace c.args.number c.args.actor m c.go-reply.result c.go-reply.new.self (c.go-reply.ensures.step m shows) c.args.call c.in-Some.next
     c.args.out.now.items c.push_step.new.out.items (c.requires m shows)
     (subst (λ (o : Option NextStep). IsNext m c.args.actor (actor_at m c.args.actor).running o) c.in-Some.is
     (c.next_step.ensures m shows))
@@ -15,7 +15,7 @@ returns-in-Some-clause-step c = λ m shows.
 
 pub returns-in-None-clause-step : goal.returns-in-None-clause-step
 returns-in-None-clause-step c = λ m shows.
-    none_told c.args.trace c.args.number c.args.actor m c.go-in-None.result c.go-in-None.new.self (c.go-in-None.ensures.step m shows)
+    none_told c.args.trace c.args.number c.args.actor m c.go.result c.go.new.self (c.go.ensures.step m shows)
     c.args.out.now.items
     (no_next m c.args.actor (actor_at m c.args.actor).running
     (subst (λ (o : Option NextStep). IsNext m c.args.actor (actor_at m c.args.actor).running o) c.in-None.is
