@@ -70,6 +70,11 @@ pub no_call : (o : Option machine.Running) → None ≡ option_map (λ r. call_n
 no_call None is = refl
 no_call (Some r) is = absurd (no_name (call_name r.call) (sym is))
 
+-- none was told, whatever would have been
+pub none_next : (o : Option NextStep) → ((next : NextStep) → o ≡ Some next → ⊥) → o ≡ None
+none_next None not = refl
+none_next (Some next) not = absurd (not next refl)
+
 pub no_next : (m : machine.World) (actor : ℕ) (o : Option machine.Running) → IsNext m actor o None → o ≡ None
 no_next m actor None is = refl
 no_next m actor (Some r) is = absurd is

@@ -185,14 +185,12 @@ fn step_of(
         → IsTracedStep trace number m actor reply out.old.items out.new.items world.new) }
     ensures replied { IfOk result (λ reply. told_by reply ≡ Replied (reply_of reply)) }
 {
-    match world.next_step(actor) {
-        Some(next) => {
-            let reply = world.go(actor);
-            push_step(out, trace, number, actor, call, &next, &reply)?;
-            Ok(reply)
-        }
-        None => Ok(world.go(actor)),
-    }
+    let Some(next) = world.next_step(actor) else {
+        return Ok(world.go(actor));
+    };
+    let reply = world.go(actor);
+    push_step(out, trace, number, actor, call, &next, &reply)?;
+    Ok(reply)
 }
 
 /// Makes one step of an actor's call and `more` at most, up to the first reply that it did not move, and adds the lines of their
