@@ -61,7 +61,7 @@ impl CallName {
     }
 
     /// The name of a call on snapshots, or of a cleaner.
-    fn on(call: &SnapshotOrCleanerCall) -> CallName
+    pub(crate) fn on(call: &SnapshotOrCleanerCall) -> CallName
         ensures { result ≡ name_on call.now }
     {
         match call {

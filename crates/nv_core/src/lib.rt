@@ -44,6 +44,7 @@ pub use call_name::CallName;
 pub use calls_end::MOST_STEPS;
 pub use event::{Event, Reply};
 pub use fill::Text;
+pub use next_step::{NextStep, StepName};
 pub use nv_audit::{Audited, DataBlocks, Image, SlotImage};
 pub use nv_base::{
     Bytes, CommitNo, Epoch, Fault, Gen, Geometry, GeometryField, GeometryNumbers, Handle, Ino,
@@ -52,7 +53,6 @@ pub use nv_base::{
 pub use nv_calls::{Answer, Call, SnapshotOrCleanerCall};
 pub use nv_entry::{NodeCopy, Path, Tree, TreeNode};
 pub use nv_log::ChainImage;
-pub use next_step::{NextStep, StepName};
 pub use nv_reader::root;
 pub use parts::Parts;
 pub use reports::{Lists, LogCounts, Space};

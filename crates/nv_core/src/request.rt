@@ -63,22 +63,59 @@ pub(crate) fn request_of(alloc: Global, call: Call) -> (Request, PendingAnswer)
     ensures of { IsRequestOf result.0 result.1 call }
     ensures kind { IsAtStart result.0 }
 {
-    let call_name = CallName::of(&call);
-    let made = PendingAnswer::Made(call_name);
-    let nothing = PendingAnswer::Nothing(call_name);
     let (update, owed) = match call {
         Call::Write { file, offset, text } => return request_of_write(file, offset, text),
-        Call::Create { dir, name, mode } => (Update::Create { dir, name, mode }, made),
-        Call::Mkdir { dir, name, mode } => (Update::Mkdir { dir, name, mode }, made),
-        Call::Size { file, size } => (Update::Size { file, size }, nothing),
-        Call::Mode { handle, mode } => (Update::Mode { handle, mode }, nothing),
-        Call::Unlink { dir, name } => (Update::Unlink { dir, name }, nothing),
-        Call::Rmdir { dir, name } => (Update::Rmdir { dir, name }, nothing),
-        Call::Rename { from, old, to, new } => (Update::Rename { from, old, to, new }, nothing),
-        Call::SnapshotOrCleaner(call) => return (Request::SnapshotOrCleaner(call), nothing),
-        visit => return (Request::Visit(visit), nothing),
+        Call::Create { dir, name, mode } => (
+            Update::Create { dir, name, mode },
+            PendingAnswer::Made(CallName::Create),
+        ),
+        Call::Mkdir { dir, name, mode } => (
+            Update::Mkdir { dir, name, mode },
+            PendingAnswer::Made(CallName::Mkdir),
+        ),
+        Call::Size { file, size } => (
+            Update::Size { file, size },
+            PendingAnswer::Nothing(CallName::Size),
+        ),
+        Call::Mode { handle, mode } => (
+            Update::Mode { handle, mode },
+            PendingAnswer::Nothing(CallName::Mode),
+        ),
+        Call::Unlink { dir, name } => (
+            Update::Unlink { dir, name },
+            PendingAnswer::Nothing(CallName::Unlink),
+        ),
+        Call::Rmdir { dir, name } => (
+            Update::Rmdir { dir, name },
+            PendingAnswer::Nothing(CallName::Rmdir),
+        ),
+        Call::Rename { from, old, to, new } => {
+            (
+                Update::Rename { from, old, to, new },
+                PendingAnswer::Nothing(CallName::Rename),
+            )
+        }
+        Call::SnapshotOrCleaner(call) => return request_of_snapshot_or_cleaner(call),
+        visit => return request_of_visit(visit),
     };
     (Request::Change(update, Bytes::empty(alloc)), owed)
+}
+
+fn request_of_snapshot_or_cleaner(call: SnapshotOrCleanerCall) -> (Request, PendingAnswer)
+    ensures of { IsRequestOf result.0 result.1 (Call.SnapshotOrCleaner call) }
+    ensures kind { IsAtStart result.0 }
+{
+    let owed = PendingAnswer::Nothing(CallName::on(&call));
+    (Request::SnapshotOrCleaner(call), owed)
+}
+
+fn request_of_visit(visit: Call) -> (Request, PendingAnswer)
+    requires { IsVisit visit }
+    ensures of { IsRequestOf result.0 result.1 visit }
+    ensures kind { IsAtStart result.0 }
+{
+    let owed = PendingAnswer::Nothing(CallName::of(&visit));
+    (Request::Visit(visit), owed)
 }
 
 fn request_of_write(file: Handle, offset: u64, text: Bytes) -> (Request, PendingAnswer)
