@@ -41,7 +41,7 @@ pub(crate) fn play_line<W: CountedWrite>(
 ) -> Result<Option<Asked>, LineFault>
     requires skipped { is_skipped line.now ≡ true → telling.head.now ≡ [] }
     requires failures { W.failed writer.old < 2 ^ 64 - 1 }
-    ensures line { LineIs telling.trace telling.number telling.head.now result (record { written = W.contents writer.old; gathered = outbox.old })
+    ensures line { LineIs telling.entry.trace telling.entry.number telling.entry.head.now result (record { written = W.contents writer.old; gathered = outbox.old })
         (record { written = W.contents writer.new; gathered = outbox.new })
         world.old line.now out.new.items world.new }
     // It hands on what stands for an audit, so that no line `audit` is told around it.
@@ -123,7 +123,7 @@ fn act(
     requires other { is_list command ≡ false }
     requires empty { out.old.items ≡ [] }
     ensures acts { OnOk result
-        (Leads (λ m n. ActsToldBy (reports_of m) telling.trace telling.number m command
+        (Leads (λ m n. ActsToldBy (reports_of m) telling.entry.trace telling.entry.number m command
         out.new.items n) world.old world.new) }
     // A line `audit` says that nothing differs only with what stands for an audit.
     ensures asked { IfOk result (λ asked. command ≡ Audit → TellsAudit asked out.new.items) }
@@ -163,7 +163,7 @@ fn tell_by(
     requires no_audit { command ≢ Audit }
     requires empty { out.old.items ≡ [] }
     ensures { OnOk result
-        (Leads (λ m n. ActsToldBy (reports_of m) telling.trace telling.number m command
+        (Leads (λ m n. ActsToldBy (reports_of m) telling.entry.trace telling.entry.number m command
         out.new.items n) world.old world.new) }
 {
     match telling.trace {

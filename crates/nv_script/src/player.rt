@@ -317,7 +317,7 @@ fn answer_line<W: CountedWrite>(
 ) -> Result<(), LineFault>
     requires skipped { is_skipped line.now ≡ true → telling.head.now ≡ [] }
     requires failures { W.failed writer.old < 2 ^ 64 - 1 }
-    ensures line { AnswersBehind telling.trace telling.number telling.head.now result
+    ensures line { AnswersBehind telling.entry.trace telling.entry.number telling.entry.head.now result
         (record { written = W.contents writer.old; gathered = outbox.old })
         (record { written = W.contents writer.new; gathered = outbox.new })
         world.old line.now world.new }
