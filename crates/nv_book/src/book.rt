@@ -343,6 +343,21 @@ impl Book {
         self.store.pick()
     }
 
+    /// How many blocks a drop of the snapshot `s` puts on the deferred list. It takes time by the runs of its manifest.
+    pub fn gain(&self, s: Epoch) -> u64
+        // The gain of a snapshot is how many blocks dropping it defers.
+        ensures { result ≡
+            gain_of s (next_older (ids self.now.state.snaps) s) self.now.state.manifests }
+    {
+        laws::pins_stay_with_their_snapshot();
+        self.snaps.rises();
+        let older = self.snaps.older(s);
+        let Some(place) = self.snaps.place(s) else {
+            return 0;
+        };
+        self.store.gain_at(place, s, &older)
+    }
+
     /// Opens the CPU's journal with these inodes and old tails.
     pub fn open_journal(&mut self, cpu: u64, tails: &SmallVec<OldTail, 4>)
         requires cpu { cpu < length self.old.state.journals }

@@ -24,6 +24,13 @@ impl Commit {
         &self.hand
     }
 
+    /// Of how many cells the entries are appended.
+    pub fn appended(&self) -> usize
+        ensures { result ≡ self.now.appended }
+    {
+        self.appended
+    }
+
     /// Of how many cells the entries are published.
     pub fn published(&self) -> usize
         ensures { result ≡ self.now.published }

@@ -1,20 +1,14 @@
 -- What is told of the next step of a call is the machine's.
-use Rattle.std.proofs.Common.{◌≡◌, ℕ, ◌+◌, ◌<◌, ◌≤◌, ◌==◌, ◌∙◌, Bool, true, false, List, Option, Some, None, ap, arith, filter, if◌then◌else◌, length, nat_lt, refl, subst, sym}
+use Rattle.std.proofs.Common.{◌≡◌, ℕ, ◌<◌, ◌∙◌, Bool, true, false, List, Option, Some, None, ap, arith, filter, if◌then◌else◌, length, nat_lt, refl, subst, sym}
 use Rattle.std.specs.Prelude.{◌≢◌, Ok, Err, slice_index_or}
-use Rattle.std.proofs.lemmas.Bool.{eq-eqb, eqb-true, lt-ltb, ltb-false, ltb-true, true≢false}
+use Rattle.std.proofs.lemmas.Bool.{lt-ltb}
 use Rattle.std.proofs.lemmas.List.{get_or-map, length-map}
 use Rattle.nv_alloc.specs.declared.hand.Hand.{Hand}
-use Rattle.nv_calls.specs.Cells.{state_at, value_at}
 use Rattle.nv_calls.specs.Commit.{CommitValue}
-use Rattle.nv_calls.specs.Committed.{cell_place_of, hand_before, place_before}
 use Rattle.nv_calls.specs.Progress.{step_of}
 use Rattle.nv_calls.specs.Ready.{CellCommitValue, no_plan, plan_at}
-use Rattle.nv_calls.specs.SlotCells.{lent_cells}
 use Rattle.nv_calls.specs.declared.progress.CommitStep.{CommitStep}
 use Rattle.nv_calls.specs.declared.progress.CommitStep.TheVariants as step
-use Rattle.nv_calls.proofs.Grown.{is_grown}
-use Rattle.nv_calls.proofs.LentSlots.{lent_length}
-use Rattle.nv_cell.specs.Cell.{CellState, CellValue}
 use Rattle.nv_machine.specs.PlainRun.{Nothing, Numbers, PlainChange, done_on, entered, plain_change, plain_change_by, plain_change_of}
 use Rattle.nv_machine.specs.Locks.{IsHeldByOther, WaitsFor, WaitsOn, commits_at}
 use Rattle.nv_machine.specs.SnapshotOrCleaner.{snapshot_or_cleaner_turn}
@@ -23,13 +17,11 @@ use Rattle.nv_machine.specs.Step as machine_step
 use Rattle.nv_machine.specs.Step.{kind_turn, turned}
 use Rattle.nv_machine.specs.StepRows.{name_of}
 use Rattle.nv_machine.specs.World as machine
-use Rattle.nv_machine.specs.World.{actor_at, cell_at}
+use Rattle.nv_machine.specs.World.{actor_at}
 use Rattle.nv_machine.proofs.LocksOverEvents.{waits}
 use Rattle.nv_machine.proofs.SingleEvents.{go_is_turn}
-use Rattle.nv_core.specs.Committing.{IsAppending, IsCommitting, first_of}
 use Rattle.nv_core.specs.GhostCalls.{IsCommitOf, IsShownCallOf}
-use Rattle.nv_core.specs.NextSteps.{AreAppendedTo, IsAwaited, IsNext, IsOf, IsTold, TellsStep, cell_for, holder_for, holder_on, name_in, number_at}
-use Rattle.nv_core.specs.Rooms.{HasRooms, committing_cpu}
+use Rattle.nv_core.specs.NextSteps.{IsAwaited, IsNext, IsOf, IsTold, TellsStep, holder_for, holder_on, name_in, number_at}
 use Rattle.nv_core.specs.Shown.{ShownCall, commit_next, machine_step as step_in, next_of, shared_of, shown, shown_commit, slots_in, step_on}
 use Rattle.nv_core.specs.Steps.{CanStep}
 use Rattle.nv_core.specs.Turns.{CanGo}
@@ -40,11 +32,7 @@ use Rattle.nv_core.specs.declared.next_step.NextStep.{NextStep}
 use Rattle.nv_core.specs.declared.next_step.StepName.{StepName}
 use Rattle.nv_core.specs.declared.reservation.Reservation.TheVariants as reserved
 use Rattle.nv_core.specs.declared.running.Running.{Running}
-use Rattle.nv_core.specs.declared.shared.Shared.{Shared}
 use Rattle.nv_core.specs.declared.world.Actor.{Actor}
-use Rattle.nv_core.proofs.Appends.{lent_value}
-use Rattle.nv_core.proofs.Phases.{appending}
-use Rattle.nv_core.proofs.Publishes.{state_there}
 use Rattle.nv_core.proofs.WorldKept.{can_go, locks_of}
 use Rattle.nv_core.proofs.WorldSteps.{shows_none, shows_some}
 
@@ -142,96 +130,6 @@ alone_told s cpus actor hand running r result it names holders none =
       waits = holders told it.request;
     } in
     subst (λ (q : machine.Running). TellsStep s cpus actor q result) it.shown told_of
-
--- ---- how far the appends have come
-
-module _ (shared : Shared) (running : Running) (commit : CommitValue) (actor : ℕ)
-    (can : CanStep shared (reserved.Commit commit) running actor) (rooms : HasRooms shared (reserved.Commit commit) running)
-    (lt : commit.appended < length commit.plans) where
-  abbrev slots : List ℕ
-  slots = slots_in running.slots
-
-  abbrev cells : List CellValue
-  cells = shared.cells.items
-
-  abbrev now : List (ℕ × CellValue)
-  now = lent_cells slots cells
-
-  going : IsCommitting (committing_cpu shared) now shared.book commit
-  going = rooms.3
-
-  phase : IsAppending going.begin now shared.book commit
-  phase = appending (committing_cpu shared) now shared.book commit going lt
-
-  -- each plan is of one of the slots
-  pub all_within : (j : ℕ) → j < length commit.plans → (plan_at commit.plans j).at < length slots
-  all_within j lj =
-      let li : j < length going.begin.ready.plans = omega (arith, lj, phase.to.plans.same.count) in
-      omega (
-        arith,
-        phase.to.plans.same.places j,
-        going.can.placed.within j li,
-        phase.to.changed.count,
-        lent_length slots cells,
-      )
-
-  cell_is : (j : ℕ) → j < length commit.plans
-      → cell_at (shared_of shared) (cell_for (shared_of shared) slots commit j) ≡ state_at now (cell_place_of (first_of going.begin).plans j)
-  cell_is j lj =
-      let k = (plan_at commit.plans j).at in
-      let inside = all_within j lj in
-      state_there cells (slot_at slots k) (can.slots k inside)
-      ∙ sym (ap (λ (v : CellValue). v.state) (lent_value slots cells k inside))
-      ∙ ap (λ (n : ℕ). state_at now n) (phase.to.plans.same.places j)
-
-  pub are_appended : AreAppendedTo (shared_of shared) slots commit
-  are_appended = record {
-    done = λ j less.
-        let start = first_of going.begin in
-        let lj : j < length commit.plans = omega (arith, less, lt) in
-        let li : j < length going.begin.ready.plans = omega (arith, lj, phase.to.plans.same.count) in
-        let settled = going.can.settled j li in
-        let grown =
-        is_grown start.stamp (place_before start.plans j) (plan_at start.plans j).items (hand_before going.begin.cells start j)
-        (value_at going.begin.cells (cell_place_of start.plans j)) settled.some settled.settled in
-        subst (λ (c : CellState). c.chain.tail < length c.chain.entries)
-        (sym (cell_is j lj ∙ phase.to.changed.done j less)) grown.some;
-    next =
-        let li : commit.appended < length going.begin.ready.plans = omega (arith, lt, phase.to.plans.same.count) in
-        subst (λ (c : CellState). c.chain.tail ≡ length c.chain.entries)
-        (sym (cell_is commit.appended lt
-        ∙ ap (λ (v : CellValue). v.state) (phase.to.changed.waiting commit.appended (omega arith) li)))
-        (going.can.settled commit.appended li).settled;
-  }
-
--- the cell at a place of those that are looked at
-module _ (s : machine.Shared) (slots : List ℕ) (commit : CommitValue) (are : AreAppendedTo s slots commit) (j ino : ℕ) (b : Bool)
-    (small : j ≤ commit.appended) (at : ino ≡ cell_for s slots commit j)
-    (is : b ≡ ((cell_at s ino).chain.tail == length (cell_at s ino).chain.entries)) where
-  -- where it has entries past its tail, the next one is looked at
-  pub passed : b ≡ false → j + 1 ≤ commit.appended
-  passed past = go (nat_lt j commit.appended) refl where
-    go : (x : Bool) → nat_lt j commit.appended ≡ x → j + 1 ≤ commit.appended
-    go true e = let less = ltb-true j commit.appended e in omega (arith, less)
-    go false e =
-        let most = ltb-false j commit.appended e in
-        let same : j ≡ commit.appended = omega (arith, small, most) in
-        let there : ino ≡ cell_for s slots commit commit.appended = at ∙ ap (cell_for s slots commit) same in
-        let settled : (cell_at s ino).chain.tail ≡ length (cell_at s ino).chain.entries =
-        subst (λ (n : ℕ). (cell_at s n).chain.tail ≡ length (cell_at s n).chain.entries) (sym there) are.next in
-        absurd (true≢false (sym (is ∙ eq-eqb (cell_at s ino).chain.tail (length (cell_at s ino).chain.entries) settled) ∙ past))
-
-  -- where it has none there, it is the next one
-  pub found : b ≡ true → j ≡ commit.appended
-  found here = go (nat_lt j commit.appended) refl where
-    go : (x : Bool) → nat_lt j commit.appended ≡ x → j ≡ commit.appended
-    go true e =
-        let more : (cell_at s ino).chain.tail < length (cell_at s ino).chain.entries =
-        subst (λ (n : ℕ). (cell_at s n).chain.tail < length (cell_at s n).chain.entries) (sym at)
-        (are.done j (ltb-true j commit.appended e)) in
-        let none = eqb-true (cell_at s ino).chain.tail (length (cell_at s ino).chain.entries) (sym is ∙ here) in
-        absurd (omega (arith, more, none))
-    go false e = let most = ltb-false j commit.appended e in omega (arith, small, most)
 
 -- ---- who waits
 

@@ -1,8 +1,6 @@
 -- What is told of the step that a call makes next.
-use Rattle.std.specs.Prelude.{◌≡◌, ℕ, ◌<◌, Bool, List, length, Option, Some, None}
-use Rattle.nv_calls.specs.Commit.{CommitValue}
+use Rattle.std.specs.Prelude.{◌≡◌, ℕ, Bool, Option, Some, None}
 use Rattle.nv_calls.specs.Locked.{handles}
-use Rattle.nv_calls.specs.Ready.{plan_at}
 use Rattle.nv_machine.specs.Locks.{WaitsFor}
 use Rattle.nv_machine.specs.SnapshotOrCleaner.{visited}
 use Rattle.nv_machine.specs.PlainRun.{Commits, PlainChange, plain_change, plain_change_of}
@@ -11,7 +9,7 @@ use Rattle.nv_machine.specs.Sequence.{directories, nothing_looked}
 use Rattle.nv_machine.specs.Step.{handle_at}
 use Rattle.nv_machine.specs.StepNames as named
 use Rattle.nv_machine.specs.StepRows.{name_of}
-use Rattle.nv_machine.specs.World.{Compact, Enter, Fresh, Go, PlanCleaning, Lock, LockCleaned, LockPicked, Look, SnapshotOrCleaner, SnapshotOrCleanerStep, Next, Release, Running, Shared, Show, Turn, Unlink, Visit, World, cell_at, owner_at}
+use Rattle.nv_machine.specs.World.{Compact, Enter, Fresh, Go, PlanCleaning, Lock, LockCleaned, LockPicked, Look, SnapshotOrCleaner, SnapshotOrCleanerStep, Next, Release, Running, Shared, Show, Turn, Unlink, Visit, World, owner_at}
 use Rattle.nv_core.specs.declared.next_step.NextStep.{NextStep}
 use Rattle.nv_core.specs.declared.next_step.StepName.{StepName}
 use Rattle.nv_core.specs.declared.next_step.StepName.TheVariants as step
@@ -121,13 +119,3 @@ pub record TellsStep (s : Shared) (cpus actor : ℕ) (r : Running) (told : NextS
 abbrev pub IsOf : (NextStep → Type 0) → Option NextStep → Type 0
 IsOf P None = ⊥
 IsOf P (Some told) = P told
-
--- the cell of a plan's inode, and whether it has entries past its tail
-abbrev pub cell_for : Shared → List ℕ → CommitValue → ℕ → ℕ
-cell_for s slots commit j = slot_at slots (plan_at commit.plans j).at
-
--- the first inodes of a commit have their entries past the tail, and the next one has none there
-pub record AreAppendedTo (s : Shared) (slots : List ℕ) (commit : CommitValue) : Type 0 where
-  pub done : (j : ℕ) → j < commit.appended → let cell = cell_at s (cell_for s slots commit j) in
-      cell.chain.tail < length cell.chain.entries
-  pub next : let cell = cell_at s (cell_for s slots commit commit.appended) in cell.chain.tail ≡ length cell.chain.entries

@@ -1,6 +1,6 @@
 //! The step that an actor's call makes next, told before it is made.
 
-ghost use Rattle.std.specs.Prelude.{◌≡◌, ◌<◌, ◌+◌, ◌^◌, ◌==◌, ℕ, List, None, Some, length};
+ghost use Rattle.std.specs.Prelude.{◌≡◌, ◌<◌, ◌+◌, ◌^◌, ℕ, List, None, Some, length};
 ghost use Rattle.nv_calls.specs.Locked.{handles};
 ghost use Rattle.nv_calls.specs.Ready.{plan_at};
 ghost use Rattle.nv_calls.specs.declared.call.Call.{Call};
@@ -10,9 +10,9 @@ ghost use Rattle.nv_machine.specs.Sequence.{directories, nothing_looked};
 ghost use Rattle.nv_machine.specs.Step.{handle_at};
 ghost use Rattle.nv_machine.specs.StepRows.{name_of, name_on};
 ghost use Rattle.nv_machine.specs.World as machine;
-ghost use Rattle.nv_machine.specs.World.{actor_at, cell_at, owner_at};
+ghost use Rattle.nv_machine.specs.World.{actor_at, owner_at};
 ghost use Rattle.nv_core.specs.GhostCalls.{IsCommitOf, IsLookAt, IsRequestOf, IsShownCallOf, IsVisitOf};
-ghost use Rattle.nv_core.specs.NextSteps.{AreAppendedTo, IsNext, IsOf, TellsStep, holder_for, holder_on, name_in, number_at};
+ghost use Rattle.nv_core.specs.NextSteps.{IsNext, IsOf, TellsStep, holder_for, holder_on, name_in, number_at};
 ghost use Rattle.nv_core.specs.Rooms.{HasActorRooms, HasRooms};
 ghost use Rattle.nv_core.specs.Shown.{ShownCall, commit_next, next_of, shared_of, shown, shown_commit, slots_in, step_on};
 ghost use Rattle.nv_core.specs.Steps.{CanStep};
@@ -83,7 +83,7 @@ impl World {
     /// The step that an actor's call makes next: what [`World::go`] does, if it is called now. `None` where there is no
     /// such actor, or where it runs no call.
     ///
-    /// Takes no memory; the time is that of at most four cells.
+    /// Takes no memory; the time is constant.
     pub fn next_step(&self, actor: u64) -> Option<NextStep>
         // The step is told by the machine's name, with its commit's number at its commit point alone, and
         // with the holder of the lock that it waits for; nothing is told where no call runs.
@@ -275,9 +275,7 @@ fn name_in(shared: &Shared, running: &Running, commit: &Commit, actor: u64) -> S
         (shown_commit commit.now told running.now) }
 {
     match commit.step() {
-        CommitStep::Append => {
-            StepName::Append(written(running, commit, appended(shared, running, commit)))
-        }
+        CommitStep::Append => StepName::Append(written(running, commit, commit.appended())),
         CommitStep::Open => StepName::Open(shared.cpu_of(actor)),
         CommitStep::Publish => StepName::Publish(written(running, commit, commit.published())),
         CommitStep::Close => StepName::Close(shared.cpu_of(actor)),
@@ -293,33 +291,6 @@ fn written(running: &Running, commit: &Commit, j: usize) -> Ino
     ensures { result ≡ slot_at (slots_in running.now.slots) (plan_at commit.now.plans j).at }
 {
     running.slots.at(commit.place_of(j))
-}
-
-/// Of how many inodes the entries are appended, where others wait: the next one has no entry past its tail.
-fn appended(shared: &Shared, running: &Running, commit: &Commit) -> usize
-    requires more { commit.now.appended < length commit.now.plans }
-    requires places { (j : ℕ) → j < length commit.now.plans
-        → (plan_at commit.now.plans j).at < length (slots_in running.now.slots) }
-    requires appended { AreAppendedTo (shared_of shared.now) (slots_in running.now.slots) commit.now }
-    ensures { result ≡ commit.now.appended }
-{
-    for j in 0..commit.planned() {
-        if is_settled(shared, written(running, commit, j)) {
-            return j;
-        }
-    }
-    unreachable!()
-}
-
-/// Whether a slot has no entry past its tail.
-fn is_settled(shared: &Shared, ino: Ino) -> bool
-    ensures { result ≡ ((cell_at (shared_of shared.now) ino).chain.tail
-        == length (cell_at (shared_of shared.now) ino).chain.entries) }
-{
-    match shared.cell(ino) {
-        Some(cell) => cell.log().tail() == cell.log().len(),
-        None => true,
-    }
 }
 
 /// The number of a commit whose next step is its commit point: the publish of one inode alone, or else the close.

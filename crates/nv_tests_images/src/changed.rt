@@ -1,7 +1,7 @@
 //! Changes of one field of an image, by a seed.
 
 use crate::compare::push;
-use crate::made::{NUMBERS, block, dismantle_place, dismantle_slot, empty_slot, journal};
+use crate::made::{NUMBERS, block, empty_slot, journal};
 use nv_alloc::Block;
 use nv_audit::{DataBlocks, Image, SlotImage};
 use nv_base::{CommitNo, Epoch, Gen};
@@ -10,6 +10,7 @@ use nv_journal::Journal;
 use nv_log::ChainImage;
 use nv_scenes::logs::{Says, item};
 use nv_scenes::{below, id};
+use nv_scenes_worlds::images::{dismantle_place, dismantle_slot};
 use std::alloc::Global;
 use std::process::Abort;
 use std::test::Fail;

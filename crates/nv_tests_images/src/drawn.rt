@@ -3,7 +3,7 @@
 mod rows;
 
 use crate::compare::{push, same_for};
-use crate::made::{block, dismantle, journal};
+use crate::made::{block, journal};
 use nv_alloc::Block;
 use nv_audit::{DataBlocks, Image, SlotImage, judge};
 use nv_base::{CommitNo, Epoch, Fault, Gen, ImageFault};
@@ -12,6 +12,7 @@ use nv_journal::Journal;
 use nv_log::ChainImage;
 use nv_scenes::geometry;
 use nv_scenes::logs::{epochs, log_of};
+use nv_scenes_worlds::images::dismantle;
 use rows::{Blocks, DEVICE, Drawn, Noted, Slot};
 use std::alloc::Global;
 use std::process::Abort;

@@ -1,7 +1,7 @@
 //! Images that are made of plain values, and let go with their blocks.
 
 use nv_alloc::{Block, BlockQueue, FreeList};
-use nv_audit::{DataBlocks, Image, SlotImage};
+use nv_audit::{DataBlocks, SlotImage};
 use nv_base::{Gen, Ino};
 use nv_journal::{Journal, OldTail, are_distinct};
 use nv_log::ChainImage;
@@ -74,65 +74,5 @@ fn old_tail((ino, tail): (u64, u64)) -> OldTail {
     OldTail {
         ino: Ino::new(ino),
         tail,
-    }
-}
-
-/// Lets an image go, with its blocks.
-pub fn dismantle(image: Image) {
-    let Image {
-        geometry: _,
-        slots,
-        journals: _,
-        snapshots: _,
-        epoch: _,
-        commit: _,
-    } = image;
-    dismantle_slots(slots);
-}
-
-fn dismantle_slots(mut slots: Vec<SlotImage>) {
-    while let Some(slot) = slots.pop() {
-        dismantle_slot(slot);
-    }
-    slots.destroy_empty();
-}
-
-pub fn dismantle_slot(slot: SlotImage) {
-    let SlotImage {
-        generation: _,
-        chain,
-        blocks,
-    } = slot;
-    dismantle_chain(chain);
-    dismantle_data(blocks);
-}
-
-fn dismantle_chain(chain: ChainImage) {
-    let ChainImage {
-        mut pages,
-        ends: _,
-        entries: _,
-        tail: _,
-    } = chain;
-    while let Some(page) = pages.pop() {
-        let _bytes = page.into_bytes();
-    }
-    pages.destroy_empty();
-}
-
-fn dismantle_data(blocks: DataBlocks) {
-    let DataBlocks { mut places } = blocks;
-    while let Some(place) = places.pop() {
-        dismantle_place(place);
-    }
-    places.destroy_empty();
-}
-
-pub fn dismantle_place(place: Option<Block>) {
-    match place {
-        Some(block) => {
-            let _bytes = block.into_bytes();
-        }
-        None => {}
     }
 }

@@ -2,12 +2,12 @@
 
 use crate::changed::change;
 use crate::compare::same_for;
-use crate::made::dismantle;
 use crate::played::{image_of, played};
 use crate::slow::first_fault;
 use nv_audit::{Image, judge};
 use nv_base::ImageFault;
 use nv_core::Parts;
+use nv_scenes_worlds::images::dismantle;
 use std::alloc::Global;
 use std::process::Abort;
 use std::test::Fail;

@@ -1,12 +1,12 @@
 //! Images of worked rows at their ends: they have no fault.
 
 use crate::compare::same_for;
-use crate::made::dismantle;
 use crate::played::{image_of, played_of};
 use crate::random::told_by_both;
 use nv_scenes::Row;
 use nv_scenes_calls::words::Words;
 use nv_scenes_calls::words::Words::{Create, Drain, Snap, Thorough, Unlink, Write};
+use nv_scenes_worlds::images::dismantle;
 use std::alloc::Global;
 use std::process::Abort;
 use std::test::Fail;

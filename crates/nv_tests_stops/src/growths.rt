@@ -2,13 +2,13 @@
 //! event is made again, and the very image is mounted again.
 
 use crate::compare::{same, same_for};
-use crate::images::dismantle;
 use crate::playing::{prepared, start, step};
 use Words::{Create, Rename, Snap, Unlink, Write};
 use nv_base::Fault;
 use nv_core::{Event, Image, Reply, World};
 use nv_scenes::{Row, wants_memory};
 use nv_scenes_calls::words::{At, Words};
+use nv_scenes_worlds::images::dismantle;
 use nv_scenes_worlds::reports::Reports;
 use std::alloc::Global;
 use std::process::Abort;

@@ -5,9 +5,10 @@ use crate::playing::{goes_on, prepared, start};
 use Words::{Create, Drop as Dropped, Mkdir, Rename, Snap, Unlink, Write};
 use nv_alloc::Block;
 use nv_base::{Epoch, Fault, ImageFault};
-use nv_core::{ChainImage, DataBlocks, Image, SlotImage, World};
+use nv_core::{Image, SlotImage, World};
 use nv_scenes::Row;
 use nv_scenes_calls::words::{At, Words};
+use nv_scenes_worlds::images::dismantle;
 use std::alloc::Global;
 use std::process::Abort;
 use std::test::Fail;
@@ -31,66 +32,6 @@ const BEFORE: &[Words] = &[
 
 /// Calls after which an inode is gone that no snapshot holds.
 const GONE: &[Words] = &[Create(ROOT, b"a"), Snap, Unlink(ROOT, b"a"), Dropped(1)];
-
-/// Lets an image go.
-pub fn dismantle(image: Image) {
-    let Image {
-        geometry: _,
-        slots,
-        journals: _,
-        snapshots: _,
-        epoch: _,
-        commit: _,
-    } = image;
-    dismantle_slots(slots);
-}
-
-fn dismantle_slots(mut slots: Vec<SlotImage>) {
-    while let Some(slot) = slots.pop() {
-        dismantle_slot(slot);
-    }
-    slots.destroy_empty();
-}
-
-fn dismantle_slot(slot: SlotImage) {
-    let SlotImage {
-        generation: _,
-        chain,
-        blocks,
-    } = slot;
-    dismantle_chain(chain);
-    dismantle_data(blocks);
-}
-
-fn dismantle_chain(chain: ChainImage) {
-    let ChainImage {
-        mut pages,
-        ends: _,
-        entries: _,
-        tail: _,
-    } = chain;
-    while let Some(page) = pages.pop() {
-        let _bytes = page.into_bytes();
-    }
-    pages.destroy_empty();
-}
-
-fn dismantle_data(blocks: DataBlocks) {
-    let DataBlocks { mut places } = blocks;
-    while let Some(place) = places.pop() {
-        dismantle_place(place);
-    }
-    places.destroy_empty();
-}
-
-fn dismantle_place(place: Option<Block>) {
-    match place {
-        Some(block) => {
-            let _bytes = block.into_bytes();
-        }
-        None => {}
-    }
-}
 
 /// The world that goes on from an image.
 pub fn mounted(rt: &impl Abort, alloc: Global, image: Image) -> World {

@@ -1,14 +1,13 @@
 //! What a book tells: its lists, counts and history. Nothing here changes a book.
 
-ghost use Rattle.std.specs.Prelude.{◌≡◌, ◌+◌, ◌<◌, ◌≤◌, ◌↔◌, length, map, slice_index_or, IfOk, IsTrue};
+ghost use Rattle.std.specs.Prelude.{◌≡◌, ◌+◌, ◌<◌, ◌≤◌, ◌↔◌, [], length, map, slice_index_or, IfOk, IsTrue};
 ghost use Rattle.nv_base.specs.declared.limits.TheConstants.{NUMBER};
 ghost use Rattle.nv_base.specs.Refusals.{FailsOnly};
 ghost use Rattle.nv_base.specs.Memory.{out_of_memory};
-ghost use Rattle.nv_epoch.specs.Holders.{next_older};
 ghost use Rattle.nv_epoch.specs.SnapList.{ids};
 ghost use Rattle.nv_book.specs.Book.{IsBookOf};
 ghost use Rattle.nv_book.specs.History.{IsLegal, now_of, state_now};
-ghost use Rattle.nv_book.specs.Manifests.{AreDead, AreFiled, gain_of, held_of, run_total};
+ghost use Rattle.nv_book.specs.Manifests.{AreDead, AreFiled, held_of, run_total};
 ghost use Rattle.nv_book.specs.Records.{block_count, run_count_of};
 
 use super::Book;
@@ -17,7 +16,7 @@ use crate::history::History;
 use crate::manifest::Manifest;
 use crate::records::Records;
 use nv_base::{CommitNo, Epoch, Fault, Geometry};
-use nv_epoch::{SnapList, laws};
+use nv_epoch::SnapList;
 use nv_journal::Journal;
 use std::alloc::Global;
 
@@ -70,21 +69,6 @@ impl Book {
     {
         self.snaps.rises();
         self.store.held_by_each(alloc)
-    }
-
-    /// How many blocks a drop of the snapshot `s` puts on the deferred list. It takes time by the runs of its manifest.
-    pub fn gain(&self, s: Epoch) -> u64
-        // The gain of a snapshot is how many blocks dropping it defers.
-        ensures { result ≡
-            gain_of s (next_older (ids self.now.state.snaps) s) self.now.state.manifests }
-    {
-        laws::pins_stay_with_their_snapshot();
-        self.snaps.rises();
-        let older = self.snaps.older(s);
-        let Some(place) = self.snaps.place(s) else {
-            return 0;
-        };
-        self.store.gain_at(place, s, &older)
     }
 
     /// How many blocks the deferred records have. It takes time by their runs.

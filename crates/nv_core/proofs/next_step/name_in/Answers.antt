@@ -5,23 +5,23 @@ use Rattle.nv_calls.proofs.LentSlots.{lent_length}
 use Rattle.nv_machine.specs.Reads.{slot_at}
 use Rattle.nv_machine.specs.StepNames as named
 use Rattle.nv_core.specs.Shown.{slots_in}
-use Rattle.nv_core.proofs.NextSteps.{all_within, are_appended, name_at, slot_written}
+use Rattle.nv_core.proofs.NextSteps.{name_at, slot_written}
+use Rattle.nv_core.proofs.Phases.{append_within}
 use Rattle.nv_core.proofs.PublishPhase.{publish_within}
 use Rattle.nv_core.proofs.RetirePhase.{retire_within}
 use Rattle.nv_core.proofs.Stages.{append_due, publish_due, retire_due}
 use Rattle.nv_core.proofs.next_step.name_in.Goals as goal
 
-pub appended-requires-clause-appended : goal.appended-requires-clause-appended
-appended-requires-clause-appended c =
-    are_appended c.args.shared.now c.args.running.now c.args.commit.now c.args.actor c.requires.can c.requires.rooms
-    (append_due c.args.commit.now (sym c.in-Append.ensures))
-
 pub written-requires-clause-place : goal.written-requires-clause-place
 written-requires-clause-place c =
     let commit = c.args.commit.now in
-    let due = append_due commit (sym c.in-Append.ensures) in
-    subst (λ (n : ℕ). (plan_at commit.plans n).at < length (slots_in c.args.running.now.slots)) (sym c.appended.ensures)
-    (all_within c.args.shared.now c.args.running.now commit c.args.actor c.requires.can c.requires.rooms due commit.appended due)
+    let slots = slots_in c.args.running.now.slots in
+    subst (λ (n : ℕ). (plan_at commit.plans n).at < length slots) (sym c.appended.ensures)
+    (omega (
+      arith,
+      append_within _ _ _ commit c.requires.rooms.3 (append_due commit (sym c.in-Append.ensures)),
+      lent_length slots c.args.shared.now.cells.items,
+    ))
 
 pub written-requires-in-Publish-clause-place : goal.written-requires-in-Publish-clause-place
 written-requires-in-Publish-clause-place c =

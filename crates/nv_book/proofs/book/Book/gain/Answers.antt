@@ -14,3 +14,6 @@ returns-in_default c =
     let none = records-absent c.self.inside.store.manifests c.args.s
     (subst (λ l. Contains l c.args.s → ⊥) (sym c.self.invariant.filed.all) no) in
     rw (← c.self.view_is, none) refl
+
+pub returns : goal.returns
+returns c = rw (← c.self.view_is, c.gain_at.ensures, c.older-older.ensures) refl

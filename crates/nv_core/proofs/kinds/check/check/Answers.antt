@@ -1,4 +1,4 @@
-use Rattle.std.proofs.Common.{◌≡◌, ◌<◌, ◌∙◌, None, Some, inl, inr, ap, arith, refl, subst, sym}
+use Rattle.std.proofs.Common.{◌<◌, ◌∙◌, None, Some, inl, inr, ap, arith, refl, subst, sym}
 use Rattle.std.specs.Prelude.{is_some}
 use Rattle.std.proofs.lemmas.List.{length-take}
 use Rattle.nv_alloc.specs.declared.hand.Hand.{Hand}
