@@ -1,5 +1,5 @@
 -- The line of a step, by what the world told before it.
-use Rattle.std.proofs.Common.{◌≡◌, ◌≢◌, ◌∙◌, ℕ, List, ◌++◌, Option, Some, None, ap, append-nil, refl, sym}
+use Rattle.std.proofs.Common.{◌≡◌, ◌≢◌, ◌∙◌, ℕ, List, [], ◌∷◌, ◌++◌, Option, Some, None, ap, append-nil, append_assoc, refl, sym}
 use Rattle.std.specs.Prelude.{option_map}
 use Rattle.nv_machine.specs.Step.{step}
 use Rattle.nv_machine.specs.StepNames as named
@@ -44,9 +44,9 @@ module _ (form : Trace) (number actor : ℕ) (m : machine.World) (answer : Reply
   step_told call next before out names told text = by (actor_at m actor).running refl names told where
     by : (o : Option machine.Running) → (actor_at m actor).running ≡ o → Some call ≡ option_map (λ r. call_name r.call) o
         → IsNext m actor o (Some next) → IsTracedStep form number m actor answer before out new
-    by None e named told = absurd (no_name call named)
-    by (Some r) e named told =
-        let same : call ≡ call_name r.call = same_name call (call_name r.call) named in
+    by None e called told = absurd (no_name call called)
+    by (Some r) e called told =
+        let same : call ≡ call_name r.call = same_name call (call_name r.call) called in
         let granted = made.granted in
         let replied = go_reply m actor answer new made in
         record {
@@ -88,3 +88,19 @@ unstarted form number actor call reply.Waits out not = sym (append-nil out)
 unstarted form number actor call (reply.Done found) out not = sym (append-nil out)
 unstarted form number actor call reply.Stopped out not = sym (append-nil out)
 unstarted form number actor call (reply.Refused why) out not = sym (append-nil out)
+
+-- ---- a line that is built part by part
+
+grown : (a b out front more : List ℕ) → a ≡ out ++ front → b ≡ a ++ more → b ≡ out ++ (front ++ more)
+grown a b out front more is then_ = then_ ∙ ap (λ (t : List ℕ). t ++ more) is ∙ append_assoc out front more
+
+pub built : (out head word place reply commit : List ℕ) (a b c d e f g : List ℕ) → a ≡ out ++ head → b ≡ a ++ word → c ≡ b ++ place
+    → d ≡ c ++ (32 ∷ []) → e ≡ d ++ reply → f ≡ e ++ commit → g ≡ f ++ (10 ∷ [])
+    → g ≡ out ++ ((((((head ++ word) ++ place) ++ (32 ∷ [])) ++ reply) ++ commit) ++ (10 ∷ []))
+built out head word place reply commit a b c d e f g first second third fourth fifth sixth last =
+    let two = grown a b out head word first second in
+    let three = grown b c out (head ++ word) place two third in
+    let four = grown c d out ((head ++ word) ++ place) (32 ∷ []) three fourth in
+    let five = grown d e out (((head ++ word) ++ place) ++ (32 ∷ [])) reply four fifth in
+    let six = grown e f out ((((head ++ word) ++ place) ++ (32 ∷ [])) ++ reply) commit five sixth in
+    grown f g out (((((head ++ word) ++ place) ++ (32 ∷ [])) ++ reply) ++ commit) (10 ∷ []) six last

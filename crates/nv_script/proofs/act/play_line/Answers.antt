@@ -1,11 +1,13 @@
-use Rattle.std.proofs.Common.{◌≡◌, ◌∙◌, [], None, Err, Ok, Some, ap, refl, rules, sym}
+use Rattle.std.proofs.Common.{◌≡◌, ◌∙◌, [], Option, None, Err, Ok, Some, ap, is_some, refl, rules, subst, sym}
 use Rattle.std.proofs.lemmas.Result.{err_from_is_err_and}
 use Rattle.nv_script.specs.declared.command.Command.TheVariants as command
+use Rattle.nv_core.specs.Worlds.{WorldState}
 use Rattle.nv_script.specs.Grammar.{command_of, format_of, texts}
+use Rattle.nv_script.specs.Play.{WordsFail}
 use Rattle.nv_script.specs.Results.{Sent}
 use Rattle.nv_script.specs.Words.{words_of}
 use Rattle.nv_script.proofs.Asking.{asks_by, no_world_asks, other_asks, skipped_asks}
-use Rattle.nv_script.proofs.Played.{formats, headed, lists_line, played, starved, unheaded}
+use Rattle.nv_script.proofs.Played.{formats, headed, lists_line, played, starved, unheaded, unread}
 use Rattle.nv_script.proofs.act.play_line.Goals as goal
 
 pub returns-in_err-format-in-None-clause-line : goal.returns-in_err-format-in-None-clause-line
@@ -129,3 +131,13 @@ returns-in-None-clause-asked g c = λ asks. no_world_asks c.args.world.now c.arg
 pub returns-then-is_skipped-clause-asked : goal.returns-then-is_skipped-clause-asked
 returns-then-is_skipped-clause-asked g c = λ asks.
     skipped_asks c.args.world.now c.args.line.now (sym c.is_skipped.ensures ∙ c.if-is_skipped.true) asks
+
+pub returns-in_err-command-in-Some-clause-line : goal.returns-in_err-command-in-Some-clause-line
+returns-in_err-command-in-Some-clause-line g c =
+    let words : texts c.as_slice-in-Some.result.now ≡ words_of c.args.line.now = search (rules) in
+    let p = err_from_is_err_and c.from_residual-in_err-command-in-Some.result c.from_residual-in_err-command-in-Some.ensures.1 in
+    rw (p.1, p.2) (unread c.args.telling.trace c.args.telling.number c.args.telling.head.now c.in_err-command-in-Some.field-0.0 _
+    c.args.world.now c.args.line.now c.clear.new.self.items (Some c.in-Some.world) (command_of (texts c.as_slice-in-Some.result.now))
+    (sym c.is_skipped.ensures ∙ c.if-is_skipped.false) c.in_err-command-in-Some.ensures
+    (λ kind is. subst (λ (w : Option WorldState). WordsFail (is_some w) (words_of c.args.line.now) kind) (sym c.in-Some.is)
+    (ap command_of (sym words) ∙ is)))
