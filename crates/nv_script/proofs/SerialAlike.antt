@@ -12,7 +12,7 @@ use Rattle.nv_machine.specs.Needed.{IsAtRest}
 use Rattle.nv_machine.specs.Recorded.{records_after}
 use Rattle.nv_machine.specs.Starts.{IsStart}
 use Rattle.nv_machine.specs.Step.{after, replies, step}
-use Rattle.nv_machine.specs.World.{Event, Reply, Start, Started, World}
+use Rattle.nv_machine.specs.World.{Reply, Start, Started, World}
 use Rattle.nv_machine.proofs.WorldsAtRest.{start_again}
 use Rattle.nv_core.specs.Whole.{Calls, RunsFrom}
 use Rattle.nv_core.specs.Worlds.{gos}

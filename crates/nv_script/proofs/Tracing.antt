@@ -1,18 +1,16 @@
 -- Traced calls: the line of one event more, at the end of those of an actor's call, up to its last.
-use Rattle.std.proofs.Common.{◌≡◌, ◌≢◌, ℕ, ◌+◌, ◌≤◌, ◌∙◌, arith, Bool, List, [], ◌∷◌, ◌++◌, Option, Some, None, Result, Ok, Err, ap, append-nil, append_assoc, replicate, refl, suc, subst, sym}
+use Rattle.std.proofs.Common.{◌≡◌, ◌≢◌, ℕ, ◌+◌, ◌≤◌, ◌∙◌, arith, Bool, List, [], ◌∷◌, ◌++◌, ap, append-nil, append_assoc, replicate, refl, suc, subst, sym}
 use Rattle.nv_calls.specs.declared.call.Call.{Call}
 use Rattle.nv_machine.specs.Step.{after, replies, step}
 use Rattle.nv_machine.specs.World as machine
 use Rattle.nv_machine.specs.World.{actor_at}
 use Rattle.nv_core.specs.CallNames.{call_name}
-use Rattle.nv_core.specs.Whole.{GoesOn, HasMoved, Runs}
-use Rattle.nv_core.specs.Worlds.{IsBounded, IsStep, Leads, Shows, WorldState, gos, most_goes, reply_of, told_by}
+use Rattle.nv_core.specs.Worlds.{IsBounded, IsStep, Leads, Shows, WorldState, gos, most_goes, reply_of}
 use Rattle.nv_core.specs.declared.event.Event.TheVariants as event
 use Rattle.nv_core.specs.declared.event.Reply.{Reply}
 use Rattle.nv_core.specs.declared.event.Reply.TheVariants as reply
 use Rattle.nv_core.proofs.Replies.{start_reply}
 use Rattle.nv_core.proofs.WholeCalls.{after-more, gos-more, replicate-more, replies-more}
-use Rattle.nv_restart.specs.Happenings.{Replied}
 use Rattle.nv_script.specs.declared.trace.Trace.{Trace}
 use Rattle.nv_script.specs.Trace.{CallsTraced, GoesTraced, RunsTraced, RunsTracedFrom, go_line, go_lines, start_lines}
 use Rattle.nv_script.specs.Traced.{Adds, HasMovedTraced, IsTracedStep}

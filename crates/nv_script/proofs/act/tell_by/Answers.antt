@@ -1,4 +1,3 @@
-use Rattle.std.proofs.Common.{sym}
 use Rattle.nv_script.specs.declared.trace.Trace.TheVariants as trace
 use Rattle.nv_script.proofs.ActingTraced.{told_as}
 use Rattle.nv_script.proofs.act.tell_by.Goals as goal

@@ -1,4 +1,3 @@
-use Rattle.std.proofs.Common.{Ok, Result, Err}
 use Rattle.nv_script.proofs.TracedEnds.{finished}
 use Rattle.nv_script.proofs.trace.finish.Goals as goal
 
