@@ -3,7 +3,7 @@
 #
 #     LC_ALL=C awk -f tools/command-line.awk -- WORD..
 #
-# Prints `play` or `work` where a script is to be played, and a line with the FILE if there is one; `help` and the subcommand
+# Prints `play`, `trace` or `work` where a script is to be played, and a line with the FILE if there is one; `help` and the subcommand
 # that it is of, `version`, or `nothing` where no word stands there; or the text of the refusal, which begins with `error: `.
 
 # The command line. The program itself is the command with the empty name. A command without subcommands takes one FILE.
@@ -13,12 +13,14 @@ BEGIN {
     add_option("play", "summary")
     add_option("play", "quiet")
     add_command("play")
+    add_command("trace")
     add_option("work", "threads", "<N>", 1, 32)
     add_option("work", "cleaners", "<M>", 0, 32)
     add_option("work", "summary")
     add_command("work")
     add_option("", "version")
     subcommands[++subcommand_count] = "play"
+    subcommands[++subcommand_count] = "trace"
     subcommands[++subcommand_count] = "work"
     subcommands[++subcommand_count] = "help"
     printf "%s\n", are_texts() ? walk("", 1) : refused("an argument is not valid UTF-8", usage("", ""))

@@ -24,8 +24,8 @@ IsWhole line = (c : Command) → command_of (words_of line) ≡ Ok c → makes_s
 -- as one world goes, so does the other: from the start, and by each command that makes no step; and the same stands before answers
 pub record GoAlike (P Q : Player) (Like : P.World → Q.World → Type 0) : Type 0 where
   pub start : (numbers : GeometryNumbers) → first_bad_field numbers ≡ None → Like (P.empty numbers) (Q.empty numbers)
-  pub acts : (m : P.World) (s : Q.World) (c : Command) (text : List ℕ) (n : P.World) → Like m s → makes_steps c ≡ false
-      → P.Acts m c text n → (t : Q.World) × Q.Acts s c text t × Like n t
+  pub acts : (number : ℕ) (m : P.World) (s : Q.World) (c : Command) (text : List ℕ) (n : P.World) → Like m s → makes_steps c ≡ false
+      → P.Acts number m c text n → (t : Q.World) × Q.Acts number s c text t × Like n t
   pub lists : (m : P.World) (s : Q.World) (c : Command) → Like m s → P.listed m c ≡ Q.listed s c
   pub heads : (number : ℕ) (line : List ℕ) → P.head number line ≡ Q.head number line
 
@@ -76,8 +76,8 @@ module _ (P Q : Player) (Like : P.World → Q.World → Type 0) (alike : GoAlike
   AreLike m s = ⊥
 
   -- what a line of the first player is of the second one
-  abbrev Follows : Option Q.World → List ℕ → List ℕ → Option P.World → Type 0
-  Follows s line text n = (t : Option Q.World) × Plays Q s line text t × AreLike n t
+  abbrev Follows : ℕ → Option Q.World → List ℕ → List ℕ → Option P.World → Type 0
+  Follows number s line text n = (t : Option Q.World) × Plays Q number s line text t × AreLike n t
 
   formats_alike : (field : Option GeometryField) (numbers : GeometryNumbers) (text : List ℕ) (n : Option P.World)
       → first_bad_field numbers ≡ field → Formats P field numbers text n
@@ -92,27 +92,27 @@ module _ (P Q : Player) (Like : P.World → Q.World → Type 0) (alike : GoAlike
   formats_alike None numbers text n is (inr none) =
       (None, inr (none.0, refl), subst (λ (w : Option P.World). AreLike w None) (sym none.1) tt)
 
-  words_alike : (m : Option P.World) (s : Option Q.World) (line text : List ℕ) (n : Option P.World) → AreLike m s → IsWhole line
-      → PlaysWords P m (words_of line) text n → (t : Option Q.World) × PlaysWords Q s (words_of line) text t × AreLike n t
-  words_alike None None line text n like whole plays =
+  words_alike : (number : ℕ) (m : Option P.World) (s : Option Q.World) (line text : List ℕ) (n : Option P.World) → AreLike m s → IsWhole line
+      → PlaysWords P number m (words_of line) text n → (t : Option Q.World) × PlaysWords Q number s (words_of line) text t × AreLike n t
+  words_alike number None None line text n like whole plays =
       let made = formats_alike (first_bad_field plays.0) plays.0 text n refl plays.2 in
       (made.0, (plays.0, plays.1, made.1), made.2)
-  words_alike (Some m) (Some s) line text n like whole plays =
-      let acts = alike.acts m s plays.0 text plays.1 like (whole plays.0 plays.2) plays.3 in (
+  words_alike number (Some m) (Some s) line text n like whole plays =
+      let acts = alike.acts number m s plays.0 text plays.1 like (whole plays.0 plays.2) plays.3 in (
         Some acts.0,
         (plays.0, acts.0, plays.2, acts.1, refl),
         subst (λ (w : Option P.World). AreLike w (Some acts.0)) (sym plays.4) acts.2,
       )
-  words_alike None (Some s) line text n like whole plays = absurd like
-  words_alike (Some m) None line text n like whole plays = absurd like
+  words_alike number None (Some s) line text n like whole plays = absurd like
+  words_alike number (Some m) None line text n like whole plays = absurd like
 
-  line_alike : (m : Option P.World) (s : Option Q.World) (line text : List ℕ) (n : Option P.World) → AreLike m s → IsWhole line
-      → Plays P m line text n → Follows s line text n
-  line_alike m s line text n like whole plays = go (is_skipped line) plays where
-    go : (b : Bool) → MatchBool b ((text ≡ []) × (n ≡ m)) (PlaysWords P m (words_of line) text n)
-        → (t : Option Q.World) × MatchBool b ((text ≡ []) × (t ≡ s)) (PlaysWords Q s (words_of line) text t) × AreLike n t
+  line_alike : (number : ℕ) (m : Option P.World) (s : Option Q.World) (line text : List ℕ) (n : Option P.World) → AreLike m s → IsWhole line
+      → Plays P number m line text n → Follows number s line text n
+  line_alike number m s line text n like whole plays = go (is_skipped line) plays where
+    go : (b : Bool) → MatchBool b ((text ≡ []) × (n ≡ m)) (PlaysWords P number m (words_of line) text n)
+        → (t : Option Q.World) × MatchBool b ((text ≡ []) × (t ≡ s)) (PlaysWords Q number s (words_of line) text t) × AreLike n t
     go true skips = (s, (skips.0, refl), subst (λ (w : Option P.World). AreLike w s) (sym skips.1) like)
-    go false words = words_alike m s line text n like whole words
+    go false words = words_alike number m s line text n like whole words
 
   -- each of some lines makes no step
   abbrev AreWhole : List (List ℕ) → Type 0
@@ -125,7 +125,7 @@ module _ (P Q : Player) (Like : P.World → Q.World → Type 0) (alike : GoAlike
   lines_alike number m s [] text n like whole plays =
       (s, (plays.0, refl), subst (λ (w : Option P.World). AreLike w s) (sym plays.1) like)
   lines_alike number m s (line ∷ lines) text n like whole plays =
-      let one = line_alike m s line plays.0 plays.2 like (whole.0 plays.3) plays.4 in
+      let one = line_alike number m s line plays.0 plays.2 like (whole.0 plays.3) plays.4 in
       let more = lines_alike (number + 1) plays.2 one.0 lines plays.1 n one.2 whole.1 plays.5 in
       let text_is = plays.6 ∙ ap (λ (h : List ℕ). (h ++ plays.0) ++ plays.1) (alike.heads number line) in
       (more.0, (plays.0, plays.1, one.0, plays.3, one.1, more.1, text_is), more.2)
@@ -211,7 +211,7 @@ module _ (P Q : Player) (Like : P.World → Q.World → Type 0) (alike : GoAlike
       let q = played_alike bytes e.0 e.1 e.2 e.4 none e.5 in
       let off = e.6 in
       let whole = line_whole bytes e.0 off.0 e.1 off.1 none e.5.split off.5 off.4 in
-      let next = line_alike e.4 q.world' off.0 off.2 off.3 q.like whole off.6 in
+      let next = line_alike (length e.0 + 1) e.4 q.world' off.0 off.2 off.3 q.like whole off.6 in
       let cut = subst (λ (h : List ℕ). IsCutOff e.3 (h ++ off.2)) (alike.heads (length e.0 + 1) off.0) off.7 in
       (e.0, e.1, e.2, e.3, q.world', q.played, (off.0, off.1, off.2, next.0, off.4, off.5, next.1, cut), e.7)
   ends_by_alike _ bytes left Writes none e = absurd e

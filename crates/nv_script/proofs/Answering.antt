@@ -1,16 +1,36 @@
 -- Texts of whole lines, with and without echoes among them.
-use Rattle.std.proofs.Common.{◌≡◌, ℕ, ◌==◌, ◌||◌, true, false, not, cond, List, [], ◌∷◌, ◌++◌, refl, ap, ◌∙◌, append_assoc, append-nil, sym}
+use Rattle.std.proofs.Common.{◌≡◌, ℕ, ◌==◌, ◌||◌, Bool, true, false, not, cond, List, [], ◌∷◌, ◌++◌, refl, ap, ◌∙◌, append_assoc, append-nil, sym}
 use Rattle.std.specs.Prelude.{codes, decimal}
 use Rattle.std.specs.List.{flat_map, list_any}
 use Rattle.nv_script.specs.Echo.{AreClean, IsEchoed, echo_line, is_echo, without_echoes}
 use Rattle.nv_script.specs.Lines.{HasNoEnd, ended}
+use Rattle.nv_script.specs.Trace.{is_event}
 use Rattle.nv_script.proofs.Lines.{HasNoEnd-append, ended-append}
 use Rattle.nv_script.proofs.Solid.{clean_text, decimal_solid, solid_clean}
 
--- lines, none of which is an echo
+-- a line is an echo, or one of an event
+abbrev pub is_beside : List ℕ → Bool
+is_beside line = is_echo line || is_event line
+
+pub no_echo : (line : List ℕ) → is_beside line ≡ false → is_echo line ≡ false
+no_echo line is = go (is_echo line) (is_event line) is where
+  go : (a b : Bool) → (a || b) ≡ false → a ≡ false
+  go true b is = is
+  go false b is = refl
+
+pub no_event : (line : List ℕ) → is_beside line ≡ false → is_event line ≡ false
+no_event line is = go (is_echo line) (is_event line) is where
+  go : (a b : Bool) → (a || b) ≡ false → b ≡ false
+  go true b is = cc
+  go false b is = is
+
+pub neither : (line : List ℕ) → is_echo line ≡ false → is_event line ≡ false → is_beside line ≡ false
+neither line echo event = ap (λ (b : Bool). b || is_event line) echo ∙ event
+
+-- lines, none of which is one
 abbrev pub AreAnswers : List (List ℕ) → Type 0
 AreAnswers [] = Unit {0}
-AreAnswers (line ∷ lines) = HasNoEnd line × (is_echo line ≡ false) × AreAnswers lines
+AreAnswers (line ∷ lines) = HasNoEnd line × (is_beside line ≡ false) × AreAnswers lines
 
 -- a text of such lines
 abbrev pub IsAnswer : List ℕ → Type 0
@@ -23,7 +43,7 @@ answers_append (line ∷ a) b first then_ = (first.0, first.1, answers_append a 
 pub none_told : IsAnswer []
 none_told = ([], tt, refl)
 
-pub line_told : (line : List ℕ) → HasNoEnd line → is_echo line ≡ false → IsAnswer (line ++ 10 ∷ [])
+pub line_told : (line : List ℕ) → HasNoEnd line → is_beside line ≡ false → IsAnswer (line ++ 10 ∷ [])
 line_told line clean other = (line ∷ [], (clean, other, tt), sym (append-nil (line ++ 10 ∷ [])))
 
 pub both_told : (a b : List ℕ) → IsAnswer a → IsAnswer b → IsAnswer (a ++ b)
@@ -39,7 +59,7 @@ all_told text (x ∷ xs) each = both_told (text x) (flat_map text xs) (each x) (
 
 -- ---- with echoes
 
-clean_lines : (a b : List (List ℕ)) → AreClean a → AreClean b → AreClean (a ++ b)
+pub clean_lines : (a b : List (List ℕ)) → AreClean a → AreClean b → AreClean (a ++ b)
 clean_lines [] b first then_ = then_
 clean_lines (line ∷ a) b first then_ = (first.0, clean_lines a b first.1 then_)
 
@@ -53,14 +73,14 @@ without-append (line ∷ a) b =
       | false ↦ more
     ]
 
-answers_clean : (lines : List (List ℕ)) → AreAnswers lines → AreClean lines
+pub answers_clean : (lines : List (List ℕ)) → AreAnswers lines → AreClean lines
 answers_clean [] answers = tt
 answers_clean (line ∷ lines) answers = (answers.0, answers_clean lines answers.2)
 
 without-answers : (lines : List (List ℕ)) → AreAnswers lines → without_echoes lines ≡ lines
 without-answers [] answers = refl
 without-answers (line ∷ lines) answers =
-    rw answers.1 (ap (λ (more : List (List ℕ)). line ∷ more) (without-answers lines answers.2))
+    rw (no_echo line answers.1) (ap (λ (more : List (List ℕ)). line ∷ more) (without-answers lines answers.2))
 
 pub none_shown : IsEchoed [] []
 none_shown = ([], tt, refl, refl)

@@ -1,5 +1,5 @@
 -- A line that asks for an audit.
-use Rattle.std.proofs.Common.{◌≡◌, ◌∙◌, ℕ, true, List, Option, None, IsSome, Result, Ok, subst, sym}
+use Rattle.std.proofs.Common.{◌≡◌, ◌∙◌, ℕ, true, List, Option, None, IsSome, Ok, subst, sym}
 use Rattle.std.proofs.lemmas.Bool.{false≢true}
 use Rattle.nv_core.specs.Worlds.{WorldState}
 use Rattle.nv_script.specs.declared.command.Command.{Command}

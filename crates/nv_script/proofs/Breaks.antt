@@ -3,7 +3,9 @@ use Rattle.std.proofs.Common.{◌≡◌, ℕ, ◌+◌, ◌<◌, ◌≤◌, inl, 
 use Rattle.std.proofs.lemmas.Bool.{cases_lt}
 use Rattle.nv_machine.specs.World.{World}
 use Rattle.nv_script.specs.Lines.{IsCutOff, IsLine}
-use Rattle.nv_script.specs.Play.{Plays, PlaysFrom, machine_player, machine_player_with}
+use Rattle.nv_script.specs.Play.{Plays, PlaysFrom, no_head}
+use Rattle.nv_script.specs.Trace.{player_by}
+use Rattle.nv_script.specs.declared.trace.Trace.{Trace}
 
 -- where two splits of a text are, the one that ends first is a front of the other's front
 pub shorter : (a b c d : List ℕ) → a ++ b ≡ c ++ d → length c < length a → IsCutOff c a
@@ -25,7 +27,7 @@ longer (x ∷ a) b (y ∷ c) d same most =
     (rest.0, (let more = rest.1 in cc), rest.2)
 
 -- the lines before it, it, which has this number, and those after it; the text before its own, and what is there of its own
-pub record BreaksAt (head : ℕ → List ℕ → List ℕ) (number : ℕ) (old : Option World) (lines : List (List ℕ)) (front : List ℕ) : Type 0 where
+pub record BreaksAt (events : Trace) (head : ℕ → List ℕ → List ℕ) (number : ℕ) (old : Option World) (lines : List (List ℕ)) (front : List ℕ) : Type 0 where
   pub before : List (List ℕ)
   pub line : List ℕ
   pub after : List (List ℕ)
@@ -38,20 +40,20 @@ pub record BreaksAt (head : ℕ → List ℕ → List ℕ) (number : ℕ) (old :
   pub place_is : place ≡ number + length before
   pub split : lines ≡ before ++ line ∷ after
   pub front_is : front ≡ text ++ sent
-  pub played : PlaysFrom (machine_player_with head) number old before text world
+  pub played : PlaysFrom (player_by events head) number old before text world
   pub lawful : IsLine line
-  pub plays : Plays machine_player world line own new
+  pub plays : Plays (player_by events no_head) place world line own new
   pub cut_off : IsCutOff sent (head place line ++ own)
 
 none_of : (front : List ℕ) → IsCutOff front [] → ⊥
 none_of [] cut = let same = cut.1 in let some = cut.2 in omega (arith, ap length same)
 none_of (byte ∷ front) cut = let same = cut.1 in cc
 
-pub breaks_at : (head : ℕ → List ℕ → List ℕ) (number : ℕ) (old : Option World) (lines : List (List ℕ)) (text front : List ℕ)
-    (new : Option World) → PlaysFrom (machine_player_with head) number old lines text new → IsCutOff front text
-    → BreaksAt head number old lines front
-breaks_at head number old [] text front new all cut = absurd (none_of front (cut.0, sym all.0 ∙ cut.1, cut.2))
-breaks_at head number old (line ∷ lines) text front new all cut =
+pub breaks_at : (events : Trace) (head : ℕ → List ℕ → List ℕ) (number : ℕ) (old : Option World) (lines : List (List ℕ)) (text front : List ℕ)
+    (new : Option World) → PlaysFrom (player_by events head) number old lines text new → IsCutOff front text
+    → BreaksAt events head number old lines front
+breaks_at events head number old [] text front new all cut = absurd (none_of front (cut.0, sym all.0 ∙ cut.1, cut.2))
+breaks_at events head number old (line ∷ lines) text front new all cut =
     let own = head number line ++ all.0 in
     let same : own ++ all.1 ≡ front ++ cut.0 = sym all.6 ∙ cut.1 in
     elim (cases_lt (length front) (length own)) [
@@ -75,7 +77,7 @@ breaks_at head number old (line ∷ lines) text front new all cut =
       }
       | inr most ↦
           let more = longer own all.1 front cut.0 same most in
-          let at = breaks_at head (number + 1) all.2 lines all.1 more.0 new all.5 (cut.0, more.2, cut.2) in
+          let at = breaks_at events head (number + 1) all.2 lines all.1 more.0 new all.5 (cut.0, more.2, cut.2) in
           record {
             before = line ∷ at.before;
             line = at.line;

@@ -13,6 +13,7 @@ use Rattle.nv_script.specs.declared.fault.LineFault.TheVariants as line_fault
 use Rattle.nv_script.specs.declared.feed.LineResult.{LineResult}
 use Rattle.nv_script.specs.declared.feed.LineResult.TheVariants as taken
 use Rattle.nv_script.specs.Play.{most_lines}
+use Rattle.nv_script.specs.declared.trace.Trace.{Trace}
 use Rattle.nv_script.specs.Lines.{IsLine, LineResultIs, WritesFront}
 use Rattle.nv_script.specs.Results.{HoldsNone, LineFaultBehind, Sent, TakesLine, ending_of, is_line}
 use Rattle.nv_script.proofs.Taken.{end_taken, line_taken, no_line}
@@ -38,11 +39,11 @@ not_line_held number t why gathered is = subst (λ (r : Result Bool Fault). Hold
   held taken.Unended = within (nat_lt most_lines number) (Err (fault.ScriptFault kind.Unended number)) tt
 
 -- a line's fault is a failed write where its end is one
-pub line_held : (head : List ℕ) (number : ℕ) (why : LineFault) (from to : Sent) (m : Option World) (line : List ℕ)
-    → LineFaultBehind head why from to m line → HoldsNone {A = Bool} (Err (ending_of number why)) to.gathered
-line_held head number (line_fault.OutOfMemory _) from to m line is = tt
-line_held head number line_fault.Write from to m line is = is.3.1
-line_held head number (line_fault.Faulty kind) from to m line is = tt
+pub line_held : (events : Trace) (head : List ℕ) (number : ℕ) (why : LineFault) (from to : Sent) (m : Option World) (line : List ℕ)
+    → LineFaultBehind events number head why from to m line → HoldsNone {A = Bool} (Err (ending_of number why)) to.gathered
+line_held events head number (line_fault.OutOfMemory _) from to m line is = tt
+line_held events head number line_fault.Write from to m line is = is.3.1
+line_held events head number (line_fault.Faulty kind) from to m line is = tt
 
 -- what was taken for a line that is to be played, at the end, or in place of a line
 pub takes_line : (told : Result Bool Fault) (number : ℕ) (t : LineResult) (known left : Option (List ℕ)) (ahead line : List ℕ)

@@ -29,3 +29,10 @@ pub mod Solid
 pub mod Taken
 pub mod Told
 pub mod Spelled
+pub mod ActingTraced
+pub mod EventLines
+pub mod Events
+pub mod StepsTold
+pub mod TracedEnds
+pub mod Tracing
+pub mod Untraced

@@ -16,16 +16,19 @@ use Rattle.nv_script.specs.declared.command.Command.TheVariants as command
 use Rattle.nv_script.specs.declared.fault.LineFault.{LineFault}
 use Rattle.nv_script.specs.declared.fault.LineFault.TheVariants as line_fault
 use Rattle.nv_script.specs.Grammar.{IsLineFault, Parsed, command_of, format_of, is_skipped}
-use Rattle.nv_script.specs.Play.{Acts, ActsBy, LineFails, Plays, PlaysWords, ShowsTree, WordsFail, is_list, machine_player, nodes_at, reports_of}
+use Rattle.nv_script.specs.Play.{Acts, LineFails, Plays, PlaysWords, ShowsTree, WordsFail, is_list, machine_player, no_head, nodes_at, reports_of}
+use Rattle.nv_script.specs.Trace.{ActsTold, ActsToldBy, player_by}
+use Rattle.nv_script.specs.declared.trace.Trace.{Trace}
+use Rattle.nv_script.specs.declared.trace.Trace.TheVariants as trace
 use Rattle.nv_script.specs.Lines.{WritesFront, WritesSome}
-use Rattle.nv_script.specs.Results.{AnswersBehind, HasAnyRun, IsNewWorld, LineFaultBehind, LineIs, ListBehind, ListIs, ListsText, MakesWorld, PlaysShown, SendsBut, Sent}
+use Rattle.nv_script.specs.Results.{AnswersBehind, HasAnyRun, IsNewWorld, LineFaultBehind, LineIs, ListBehind, ListIs, ListsText, MakesWorld, PlaysTold, SendsBut, Sent}
 use Rattle.nv_script.specs.Texts.{line_of, refused_line, tree_lines}
 use Rattle.nv_script.specs.Words.{words_of}
 use Rattle.nv_core.specs.Worlds.{WorldState}
 use Rattle.nv_core.specs.Worlds.{Leads, Shows, ShowsAny}
 use Rattle.nv_script.proofs.Handed.{sends_none}
 use Rattle.nv_script.proofs.Known.{writes_behind, writes_none, writes_some_behind, writes_some_first}
-use Rattle.nv_script.proofs.RunsPlayed.{acts_scanned}
+use Rattle.nv_script.proofs.RunsPlayed.{told_scanned}
 
 -- a world that was made
 pub made : (field : Option GeometryField) (numbers : GeometryNumbers) (text : List ℕ) (world : WorldState)
@@ -45,23 +48,32 @@ acts_listed old command.Tree text lists is = (is, refl)
 acts_listed old (command.SnapTree snapshot) text lists is = acts_tree (nodes_at old (Some snapshot)) old text is
 acts_listed old _ text lists is = absurd (false≢true lists)
 
-plays_words : (old new : Option machine.World) (line text : List ℕ) → is_skipped line ≡ false
-    → PlaysWords machine_player old (words_of line) text new → Plays machine_player old line text new
-plays_words old new line text skipped plays =
-    subst (λ (b : Bool). MatchBool b ((text ≡ []) × (new ≡ old)) (PlaysWords machine_player old (words_of line) text new))
+-- the same where events are told: a tree has none
+lists_told : (events : Trace) (number : ℕ) (old : machine.World) (c : Command) (text : List ℕ) → is_list c ≡ true
+    → ListsText (machine_player.listed old c) text → ActsTold events number old c text old
+lists_told trace.Off number old c text lists is = acts_listed old c text lists is
+lists_told trace.Text number old command.Tree text lists is = (is, refl)
+lists_told trace.Text number old (command.SnapTree snapshot) text lists is = acts_tree (nodes_at old (Some snapshot)) old text is
+lists_told trace.Text number old _ text lists is = absurd (false≢true lists)
+
+plays_words : (events : Trace) (number : ℕ) (old new : Option machine.World) (line text : List ℕ) → is_skipped line ≡ false
+    → PlaysWords (player_by events no_head) number old (words_of line) text new → Plays (player_by events no_head) number old line text new
+plays_words events number old new line text skipped plays =
+    subst (λ (b : Bool). MatchBool b ((text ≡ []) × (new ≡ old)) (PlaysWords (player_by events no_head) number old (words_of line) text new))
     (sym skipped) plays
 
-pub plays_listed : (old : machine.World) (line text : List ℕ) (c : Command) → is_skipped line ≡ false → command_of (words_of line) ≡ Ok c
-    → is_list c ≡ true → ListsText (machine_player.listed old c) text → Plays machine_player (Some old) line text (Some old)
-plays_listed old line text c skipped read lists is =
-    plays_words (Some old) (Some old) line text skipped (c, old, read, acts_listed old c text lists is, refl)
+pub plays_listed : (events : Trace) (number : ℕ) (old : machine.World) (line text : List ℕ) (c : Command) → is_skipped line ≡ false
+    → command_of (words_of line) ≡ Ok c → is_list c ≡ true → ListsText (machine_player.listed old c) text
+    → Plays (player_by events no_head) number (Some old) line text (Some old)
+plays_listed events number old line text c skipped read lists is =
+    plays_words events number (Some old) (Some old) line text skipped (c, old, read, lists_told events number old c text lists is, refl)
 
 -- what a tree's line is answered, behind a head, is the answer of the line
-pub lists_line : (head : List ℕ) (result : Result (Unit {0}) LineFault) (from to : Sent) (old : Option WorldState) (world : WorldState)
+pub lists_line : (events : Trace) (number : ℕ) (head : List ℕ) (result : Result (Unit {0}) LineFault) (from to : Sent) (old : Option WorldState) (world : WorldState)
     (line rest : List ℕ) (c : Command) → old ≡ Some world → is_skipped line ≡ false → command_of (words_of line) ≡ Ok c → is_list c ≡ true
     → ((m : machine.World) → Shows world m → ListBehind head result from to rest (machine_player.listed m c))
-    → LineIs head result from to old line rest (Some world)
-lists_line head result from to old world line rest c there skipped read lists given = by result given where
+    → LineIs events number head result from to old line rest (Some world)
+lists_line events number head result from to old world line rest c there skipped read lists given = by result given where
   shown_at : (P : Option machine.World → Type 0) → ((m : machine.World) → Shows world m → P (Some m))
       → (m : Option machine.World) → ShowsAny old m → HasAnyRun m → P m
   shown_at P each m shows run = go m (subst (λ (w : Option WorldState). ShowsAny w m) there shows) where
@@ -71,39 +83,39 @@ lists_line head result from to old world line rest c there skipped read lists gi
 
   by : (r : Result (Unit {0}) LineFault)
       → ((m : machine.World) → Shows world m → ListBehind head r from to rest (machine_player.listed m c))
-      → LineIs head r from to old line rest (Some world)
+      → LineIs events number head r from to old line rest (Some world)
   by (Ok done) given =
       shown_at
-      (λ m. (n : Option machine.World) × (text : List ℕ) × Plays machine_player m line text n × ShowsAny (Some world) n
+      (λ m. (n : Option machine.World) × (text : List ℕ) × Plays (player_by events no_head) number m line text n × ShowsAny (Some world) n
       × SendsBut rest from to (head ++ text))
-      (λ m shown. let it = given m shown in (Some m, it.0, plays_listed m line it.0 c skipped read lists it.1, shown, it.2))
+      (λ m shown. let it = given m shown in (Some m, it.0, plays_listed events number m line it.0 c skipped read lists it.1, shown, it.2))
   by (Err (line_fault.OutOfMemory witness)) given =
-      shown_at (λ m. LineFaultBehind head (line_fault.OutOfMemory witness) from to m line)
+      shown_at (λ m. LineFaultBehind events number head (line_fault.OutOfMemory witness) from to m line)
       (λ m shown. let it = given m shown in
       (head ++ it.0, (skipped, inr (it.0, (c, read, lists, it.1), refl)), it.2))
   by (Err line_fault.Write) given =
-      shown_at (λ m. LineFaultBehind head line_fault.Write from to m line)
-      (λ m shown. let it = given m shown in (it.0, Some m, plays_listed m line it.0 c skipped read lists it.1, it.2))
+      shown_at (λ m. LineFaultBehind events number head line_fault.Write from to m line)
+      (λ m shown. let it = given m shown in (it.0, Some m, plays_listed events number m line it.0 c skipped read lists it.1, it.2))
   by (Err (line_fault.Faulty why)) given =
-      shown_at (λ m. LineFaultBehind head (line_fault.Faulty why) from to m line) (λ m shown. absurd (given m shown))
+      shown_at (λ m. LineFaultBehind events number head (line_fault.Faulty why) from to m line) (λ m shown. absurd (given m shown))
 
 -- memory is refused before anything of a line is sent
-pub starved : (head : List ℕ) (from : Sent) (world : Option WorldState) (line rest : List ℕ) (new : Option WorldState)
-    → is_skipped line ≡ false → LineIs {A = Unit {0}} head (Err (line_fault.OutOfMemory no_memory)) from from world line rest new
-starved head from world line rest new skipped m shown run = ([], (skipped, inl refl), sends_none from)
+pub starved : (events : Trace) (number : ℕ) (head : List ℕ) (from : Sent) (world : Option WorldState) (line rest : List ℕ) (new : Option WorldState)
+    → is_skipped line ≡ false → LineIs {A = Unit {0}} events number head (Err (line_fault.OutOfMemory no_memory)) from from world line rest new
+starved events number head from world line rest new skipped m shown run = ([], (skipped, inl refl), sends_none from)
 
-pub starved_answer : (head : List ℕ) (from : Sent) (world : Option WorldState) (line : List ℕ) (new : Option WorldState)
-    → is_skipped line ≡ false → AnswersBehind {A = Unit {0}} head (Err (line_fault.OutOfMemory no_memory)) from from world line new
-starved_answer head from world line new skipped m shown run = ([], (skipped, inl refl), sends_none from)
+pub starved_answer : (events : Trace) (number : ℕ) (head : List ℕ) (from : Sent) (world : Option WorldState) (line : List ℕ) (new : Option WorldState)
+    → is_skipped line ≡ false → AnswersBehind {A = Unit {0}} events number head (Err (line_fault.OutOfMemory no_memory)) from from world line new
+starved_answer events number head from world line new skipped m shown run = ([], (skipped, inl refl), sends_none from)
 
 -- a line has a fault, or memory is refused while it is read
-pub unread : {A : Type 0} (head : List ℕ) (why : LineFault) (from : Sent) (old : Option WorldState) (line rest : List ℕ) (new : Option WorldState)
+pub unread : {A : Type 0} (events : Trace) (number : ℕ) (head : List ℕ) (why : LineFault) (from : Sent) (old : Option WorldState) (line rest : List ℕ) (new : Option WorldState)
     (parsed : Parsed A) → is_skipped line ≡ false → IsLineFault why parsed
     → ((kind : ScriptFaultKind) → parsed ≡ Err kind → WordsFail (is_some old) (words_of line) kind)
-    → LineIs {A = Unit {0}} head (Err why) from from old line rest new
-unread head (line_fault.OutOfMemory _) from old line rest new parsed skipped is fails = starved head from old line rest new skipped
-unread head line_fault.Write from old line rest new parsed skipped is fails = absurd is
-unread head (line_fault.Faulty kind) from old line rest new parsed skipped is fails = λ m shown run.
+    → LineIs {A = Unit {0}} events number head (Err why) from from old line rest new
+unread events number head (line_fault.OutOfMemory _) from old line rest new parsed skipped is fails = starved events number head from old line rest new skipped
+unread events number head line_fault.Write from old line rest new parsed skipped is fails = absurd is
+unread events number head (line_fault.Faulty kind) from old line rest new parsed skipped is fails = λ m shown run.
     (subst (λ (made : Bool). LineFails made line kind) (as_many old m shown) (skipped, fails kind is), refl)
   where
     as_many : (old : Option WorldState) (m : Option machine.World) → ShowsAny old m → is_some old ≡ is_some m
@@ -113,41 +125,42 @@ unread head (line_fault.Faulty kind) from old line rest new parsed skipped is fa
     as_many (Some w) (Some m) shown = refl
 
 -- a line is played on the worlds that are shown, and answered this
-abbrev pub PlaysTo : Option WorldState → List ℕ → List ℕ → Option WorldState → Type 0
-PlaysTo old line text new = (m : Option machine.World) → ShowsAny old m → HasAnyRun m
-    → (n : Option machine.World) × Plays machine_player m line text n × ShowsAny new n
+abbrev pub PlaysTo : Trace → ℕ → Option WorldState → List ℕ → List ℕ → Option WorldState → Type 0
+PlaysTo events number old line text new = (m : Option machine.World) → ShowsAny old m → HasAnyRun m
+    → (n : Option machine.World) × Plays (player_by events no_head) number m line text n × ShowsAny new n
 
 -- a command on a world
-pub played : (old : Option WorldState) (world new : WorldState) (line text : List ℕ) (command : Command) → old ≡ Some world
+pub played : (events : Trace) (number : ℕ) (old : Option WorldState) (world new : WorldState) (line text : List ℕ) (command : Command) → old ≡ Some world
     → is_skipped line ≡ false → command_of (words_of line) ≡ Ok command
-    → Leads (λ m n. ActsBy (reports_of m) m command text n) world new → PlaysTo old line text (Some new)
-played old world new line text command there skipped read leads m shows has =
+    → Leads (λ m n. ActsToldBy (reports_of m) events number m command text n) world new → PlaysTo events number old line text (Some new)
+played events number old world new line text command there skipped read leads m shows has =
     go m (subst (λ (w : Option WorldState). ShowsAny w m) there shows) has where
       go : (m : Option machine.World) → ShowsAny (Some world) m → HasAnyRun m
-          → (n : Option machine.World) × Plays machine_player m line text n × ShowsAny (Some new) n
+          → (n : Option machine.World) × Plays (player_by events no_head) number m line text n × ShowsAny (Some new) n
       go None shown has = absurd shown
       go (Some m) shown has =
           let by = leads m shown in (
             Some by.0,
-            plays_words (Some m) (Some by.0) line text skipped (command, by.0, read, acts_scanned m command text by.0 has by.1, refl),
+            plays_words events number (Some m) (Some by.0) line text skipped
+                (command, by.0, read, told_scanned events number m command text by.0 has by.1, refl),
             by.2,
           )
 
 -- a line that makes a world
-pub formats : (old new : Option WorldState) (line text : List ℕ) (numbers : GeometryNumbers) → old ≡ None
+pub formats : (events : Trace) (number : ℕ) (old new : Option WorldState) (line text : List ℕ) (numbers : GeometryNumbers) → old ≡ None
     → is_skipped line ≡ false → format_of (words_of line) ≡ Ok numbers → MakesWorld (first_bad_field numbers) numbers text new
-    → PlaysTo old line text new
-formats old new line text numbers none skipped read makes m shown run =
+    → PlaysTo events number old line text new
+formats events number old new line text numbers none skipped read makes m shown run =
     go m (subst (λ (w : Option WorldState). ShowsAny w m) none shown) where
-      go : (m : Option machine.World) → ShowsAny None m → (n : Option machine.World) × Plays machine_player m line text n × ShowsAny new n
-      go None shown = (makes.0, plays_words None makes.0 line text skipped (numbers, read, makes.1), makes.2)
+      go : (m : Option machine.World) → ShowsAny None m → (n : Option machine.World) × Plays (player_by events no_head) number m line text n × ShowsAny new n
+      go None shown = (makes.0, plays_words events number None makes.0 line text skipped (numbers, read, makes.1), makes.2)
       go (Some m) shown = absurd shown
 
 -- what stands before the answers to a line was sent, and these are to be sent
-pub headed : (head : List ℕ) (from to : Sent) (old new : Option WorldState) (line text : List ℕ) → PlaysTo old line text new
+pub headed : (events : Trace) (number : ℕ) (head : List ℕ) (from to : Sent) (old new : Option WorldState) (line text : List ℕ) → PlaysTo events number old line text new
     → WritesFront from.written to.written (from.gathered ++ head) to.gathered
-    → LineIs {A = Unit {0}} head (Ok tt) from to old line text new
-headed head from to old new line text plays sent m shown run =
+    → LineIs {A = Unit {0}} events number head (Ok tt) from to old line text new
+headed events number head from to old new line text plays sent m shown run =
     let p = plays m shown run in (
       p.0,
       text,
@@ -158,20 +171,20 @@ headed head from to old new line text plays sent m shown run =
     )
 
 -- or a write of it failed
-pub unheaded : (head : List ℕ) (from to : Sent) (old new : Option WorldState) (line text rest : List ℕ) (world : Option WorldState)
-    → PlaysTo old line text new → WritesSome from.written to.written (from.gathered ++ head) × (to.gathered ≡ [])
-    → LineIs {A = Unit {0}} head (Err line_fault.Write) from to old line rest world
-unheaded head from to old new line text rest world plays some m shown run =
+pub unheaded : (events : Trace) (number : ℕ) (head : List ℕ) (from to : Sent) (old new : Option WorldState) (line text rest : List ℕ) (world : Option WorldState)
+    → PlaysTo events number old line text new → WritesSome from.written to.written (from.gathered ++ head) × (to.gathered ≡ [])
+    → LineIs {A = Unit {0}} events number head (Err line_fault.Write) from to old line rest world
+unheaded events number head from to old new line text rest world plays some m shown run =
     let p = plays m shown run in
     (text, p.0, p.1, (writes_some_first from.written to.written from.gathered head text some.0, some.1))
 
 -- a line that is skipped
-pub skips : (head : List ℕ) (old : Option WorldState) (line rest : List ℕ) (from : Sent) → is_skipped line ≡ true → head ≡ [] → rest ≡ []
-    → PlaysShown old line (λ text. SendsBut rest from from (head ++ text)) old
-skips head old line rest from skipped none empty m shown run = (
+pub skips : (events : Trace) (number : ℕ) (head : List ℕ) (old : Option WorldState) (line rest : List ℕ) (from : Sent) → is_skipped line ≡ true → head ≡ [] → rest ≡ []
+    → PlaysTold events number old line (λ text. SendsBut rest from from (head ++ text)) old
+skips events number head old line rest from skipped none empty m shown run = (
   m,
   rest,
-  subst (λ (b : Bool). MatchBool b ((rest ≡ []) × (m ≡ m)) (PlaysWords machine_player m (words_of line) rest m))
+  subst (λ (b : Bool). MatchBool b ((rest ≡ []) × (m ≡ m)) (PlaysWords (player_by events no_head) number m (words_of line) rest m))
       (sym skipped) (empty, refl),
   shown,
   subst (λ (h : List ℕ). SendsBut rest from from (h ++ rest)) (sym none) (writes_none from.written (from.gathered ++ rest)),

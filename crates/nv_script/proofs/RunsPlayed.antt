@@ -27,7 +27,11 @@ use Rattle.nv_restart.specs.Restarted.{restarted}
 use Rattle.nv_script.specs.declared.command.Command.{Command}
 use Rattle.nv_script.specs.declared.command.Command.TheVariants as command
 use Rattle.nv_script.specs.Grammar.{command_of, is_skipped}
-use Rattle.nv_script.specs.Play.{Acts, ActsBy, Formats, Plays, PlaysAll, PlaysFrom, PlaysWords, Reports, ShowsLog, ShowsTree, machine_player, machine_player_with, no_head, nodes_at, reports_by_scan, reports_of}
+use Rattle.nv_script.specs.Play.{Acts, ActsBy, Formats, Plays, PlaysAll, PlaysFrom, PlaysWords, Reports, ShowsLog, ShowsTree, machine_player, no_head, nodes_at, reports_by_scan, reports_of}
+use Rattle.nv_script.specs.Trace.{ActsTold, ActsToldBy, player_by}
+use Rattle.nv_script.specs.declared.trace.Trace.{Trace}
+use Rattle.nv_script.specs.declared.trace.Trace.TheVariants as trace
+use Rattle.nv_script.proofs.Untraced.{line_untraced}
 use Rattle.nv_script.specs.Results.{HasAnyRun}
 use Rattle.nv_script.specs.Texts.{lists_lines, log_line, snaps_lines, space_line}
 use Rattle.nv_script.specs.Words.{words_of}
@@ -151,9 +155,9 @@ within numbers e =
 
 -- a line that is no stop keeps that events lead to a world
 pub run_line : (m : World) (line text : List ℕ) (n : Option World) → is_skipped line ≡ false
-    → command_of (words_of line) ≢ Ok command.Stop → Plays machine_player (Some m) line text n → HasRun m → HasAnyRun n
+    → command_of (words_of line) ≢ Ok command.Stop → Plays machine_player 0 (Some m) line text n → HasRun m → HasAnyRun n
 run_line m line text n skipped other plays has = kept (rw skipped at plays) where
-  kept : PlaysWords machine_player (Some m) (words_of line) text n → HasAnyRun n
+  kept : PlaysWords machine_player 0 (Some m) (words_of line) text n → HasAnyRun n
   kept words =
       subst HasAnyRun (sym words.4)
       (acts_by HasRun run_more m words.0 text words.1
@@ -175,31 +179,32 @@ reached_formats None numbers text n is (inl made) = subst IsAnyReached (sym made
 reached_formats None numbers text n is (inr none) = subst IsAnyReached (sym none.1) tt
 
 reached_words : (m : Option World) (words : List (List ℕ)) (text : List ℕ) (n : Option World)
-    → PlaysWords machine_player m words text n → IsAnyReached m → IsAnyReached n
+    → PlaysWords machine_player 0 m words text n → IsAnyReached m → IsAnyReached n
 reached_words None words text n plays is = reached_formats (first_bad_field plays.0) plays.0 text n refl plays.2
 reached_words (Some m) words text n plays is =
     subst IsAnyReached (sym plays.4)
     (acts_by IsReachedHere reached_more m plays.0 text plays.1 (λ stop. one m.numbers m (Stop true) is) plays.3 is)
 
-reached_line : (m : Option World) (line text : List ℕ) (n : Option World) → Plays machine_player m line text n
+reached_line : (m : Option World) (line text : List ℕ) (n : Option World) → Plays machine_player 0 m line text n
     → IsAnyReached m → IsAnyReached n
 reached_line m line text n plays is = go (is_skipped line) plays where
-  go : (b : Bool) → MatchBool b ((text ≡ []) × (n ≡ m)) (PlaysWords machine_player m (words_of line) text n) → IsAnyReached n
+  go : (b : Bool) → MatchBool b ((text ≡ []) × (n ≡ m)) (PlaysWords machine_player 0 m (words_of line) text n) → IsAnyReached n
   go true skips = subst IsAnyReached (sym skips.1) is
   go false words = reached_words m (words_of line) text n words is
 
-reached_lines : (head : ℕ → List ℕ → List ℕ) (number : ℕ) (m : Option World) (lines : List (List ℕ)) (text : List ℕ) (n : Option World)
-    → PlaysFrom (machine_player_with head) number m lines text n → IsAnyReached m → IsAnyReached n
-reached_lines head number m [] text n plays is = subst IsAnyReached (sym plays.1) is
-reached_lines head number m (line ∷ lines) text n plays is =
-    reached_lines head (number + 1) plays.2 lines plays.1 n plays.5 (reached_line m line plays.0 plays.2 plays.4 is)
+reached_lines : (events : Trace) (head : ℕ → List ℕ → List ℕ) (number : ℕ) (m : Option World) (lines : List (List ℕ)) (text : List ℕ) (n : Option World)
+    → PlaysFrom (player_by events head) number m lines text n → IsAnyReached m → IsAnyReached n
+reached_lines events head number m [] text n plays is = subst IsAnyReached (sym plays.1) is
+reached_lines events head number m (line ∷ lines) text n plays is =
+    let one = line_untraced events number m line plays.0 plays.2 plays.4 in
+    reached_lines events head (number + 1) plays.2 lines plays.1 n plays.5 (reached_line m line one.0 plays.2 one.1 is)
 
-pub plays_run_by : (head : ℕ → List ℕ → List ℕ) (lines : List (List ℕ)) (text : List ℕ) (n : Option World)
-    → PlaysAll (machine_player_with head) None lines text n → HasAnyRun n
-plays_run_by head lines text n plays = has_any n (reached_lines head 1 None lines text n plays tt)
+pub plays_run_by : (events : Trace) (head : ℕ → List ℕ → List ℕ) (lines : List (List ℕ)) (text : List ℕ) (n : Option World)
+    → PlaysAll (player_by events head) None lines text n → HasAnyRun n
+plays_run_by events head lines text n plays = has_any n (reached_lines events head 1 None lines text n plays tt)
 
 pub plays_run : (lines : List (List ℕ)) (text : List ℕ) (n : Option World) → PlaysAll machine_player None lines text n → HasAnyRun n
-plays_run lines text n plays = plays_run_by no_head lines text n plays
+plays_run lines text n plays = plays_run_by trace.Off no_head lines text n plays
 
 -- ---- reports
 
@@ -223,3 +228,20 @@ acts_scanned m command.Stop text n has acts = acts
 acts_scanned m command.Tree text n has acts = acts
 acts_scanned m (command.SnapTree snapshot) text n has acts = acts
 acts_scanned m command.Audit text n has acts = acts
+
+-- the same of a command whose events are told, or not
+pub told_scanned : (events : Trace) (number : ℕ) (m : World) (c : Command) (text : List ℕ) (n : World) → HasRun m
+    → ActsToldBy (reports_of m) events number m c text n → ActsTold events number m c text n
+told_scanned trace.Off number m c text n has acts = acts_scanned m c text n has acts
+told_scanned trace.Text number m (command.Start actor call) text n has acts = acts
+told_scanned trace.Text number m (command.Go actor more) text n has acts = acts
+told_scanned trace.Text number m (command.Run actor) text n has acts = acts
+told_scanned trace.Text number m (command.Do actor call) text n has acts = acts
+told_scanned trace.Text number m command.Space text n has acts = acts_scanned m command.Space text n has acts
+told_scanned trace.Text number m command.Lists text n has acts = acts_scanned m command.Lists text n has acts
+told_scanned trace.Text number m command.Snaps text n has acts = acts_scanned m command.Snaps text n has acts
+told_scanned trace.Text number m (command.Log ino) text n has acts = acts_scanned m (command.Log ino) text n has acts
+told_scanned trace.Text number m command.Stop text n has acts = acts
+told_scanned trace.Text number m command.Tree text n has acts = acts
+told_scanned trace.Text number m (command.SnapTree snapshot) text n has acts = acts
+told_scanned trace.Text number m command.Audit text n has acts = acts

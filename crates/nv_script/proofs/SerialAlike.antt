@@ -12,7 +12,7 @@ use Rattle.nv_machine.specs.Needed.{IsAtRest}
 use Rattle.nv_machine.specs.Recorded.{records_after}
 use Rattle.nv_machine.specs.Starts.{IsStart}
 use Rattle.nv_machine.specs.Step.{after, replies, step}
-use Rattle.nv_machine.specs.World.{Event, Reply, Start, Started, World}
+use Rattle.nv_machine.specs.World.{Reply, Start, Started, World}
 use Rattle.nv_machine.proofs.WorldsAtRest.{start_again}
 use Rattle.nv_core.specs.Whole.{Calls, RunsFrom}
 use Rattle.nv_core.specs.Worlds.{gos}
@@ -112,7 +112,7 @@ stop_told : (m : World) (s : Serial) → Stands m s → Stands (restarted m) (se
 stop_told m s (g, stands) = (g, stop_stands g m s stands)
 
 acts_told : (m : World) (s : Serial) (c : Command) (text : List ℕ) (n : World) → Stands m s → makes_steps c ≡ false
-    → Acts m c text n → (t : Serial) × serial_player.Acts s c text t × Stands n t
+    → Acts m c text n → (t : Serial) × serial_player.Acts 0 s c text t × Stands n t
 acts_told m s (command.Start actor call) text n stands whole acts = no_step whole
 acts_told m s (command.Go actor more) text n stands whole acts = no_step whole
 acts_told m s (command.Run actor) text n stands whole acts = no_step whole
@@ -126,7 +126,7 @@ acts_told m s report text n stands whole acts =
 
 -- THE PLAYERS GO ALIKE
 pub go_alike : GoAlike machine_player serial_player Stands
-go_alike = record { start = new_stands; acts = acts_told; lists = lists_told; heads = λ number line. refl }
+go_alike = record { start = new_stands; acts = λ number. acts_told; lists = lists_told; heads = λ number line. refl }
 
 -- THE LAW of scripts whose lines make no step
 pub plays_alone : (result : Result (Unit {0}) Fault) (input left old new : Option (List ℕ)) → PlaysScript result input left old new

@@ -6,6 +6,7 @@ use Rattle.std.specs.Fmt.{decimal, digit_glyph, digits, digits_onto}
 use Rattle.std.proofs.lemmas.Bool.Decides.{nat_tests}
 use Rattle.std.proofs.lemmas.Bool.{and_parts}
 use Rattle.nv_script.specs.Echo.{is_echo}
+use Rattle.nv_script.specs.Trace.{is_event}
 use Rattle.nv_script.specs.Lines.{HasNoEnd}
 use Rattle.nv_script.specs.Words.{escaped, escaped_byte, is_plain}
 
@@ -97,3 +98,17 @@ spaceless_head (a ∷ b ∷ more) rest solid none = go (a == 62) where
 -- two words are no echo
 pub two_words : (a rest : List ℕ) → IsSolid a → IsSolid rest → is_echo (a ++ (32 ∷ [] ++ rest)) ≡ false
 two_words a rest solid none = spaceless_head a rest solid none
+
+-- ---- lines of events
+
+-- a line that begins with another byte is none of an event
+pub other_event : (byte : ℕ) (line : List ℕ) → (byte == 32) ≡ false → is_event (byte ∷ line) ≡ false
+other_event byte [] other = refl
+other_event byte (next ∷ line) other = rw other refl
+
+-- two words are none, where the first may have no byte
+pub two_words_event : (a rest : List ℕ) → IsSolid a → IsSolid rest → is_event (a ++ (32 ∷ [] ++ rest)) ≡ false
+two_words_event [] [] solid none = refl
+two_words_event [] (byte ∷ rest) solid none = not_space byte none.0
+two_words_event (a ∷ []) rest solid none = other_event a (32 ∷ rest) (not_space a solid.0)
+two_words_event (a ∷ b ∷ more) rest solid none = other_event a ((b ∷ more) ++ 32 ∷ rest) (not_space a solid.0)

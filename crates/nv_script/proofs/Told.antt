@@ -32,15 +32,14 @@ use Rattle.nv_entry.specs.declared.tree.TreeNode.{TreeNode}
 use Rattle.nv_machine.specs.World.{Done, Moved, Refused, Reply, Started, Waiting, World}
 use Rattle.nv_script.specs.declared.command.Command.{Command}
 use Rattle.nv_script.specs.declared.command.Command.TheVariants as command
-use Rattle.nv_script.specs.Echo.{is_echo}
 use Rattle.nv_script.specs.Grammar.{is_skipped}
 use Rattle.nv_script.specs.Lines.{HasNoEnd}
 use Rattle.nv_script.specs.Play.{Acts, Formats, ListsFront, Plays, PlaysWords, Reports, ShowsLog, ShowsTree, machine_player, nodes_at, reports_by_scan}
 use Rattle.nv_script.specs.Texts.{answer_text, bound_text, cleaning_name, counted_bytes, counts_text, handle_text, kind_text, letter, line_of, lists_from, lists_lines, log_line, node_line, path_text, refused_line, reply_line, run_text, runs_text, snap_line, snaps_lines, space_line, tree_lines}
 use Rattle.nv_script.specs.Words.{escaped, words_of}
-use Rattle.nv_script.proofs.Answering.{IsAnswer, all_told, both_told, line_told, none_told}
+use Rattle.nv_script.proofs.Answering.{IsAnswer, all_told, both_told, is_beside, line_told, neither, none_told}
 use Rattle.nv_script.proofs.Lines.{HasNoEnd-append}
-use Rattle.nv_script.proofs.Solid.{clean_text, decimal_solid, escaped_solid, other_line, solid_append, solid_clean, two_words}
+use Rattle.nv_script.proofs.Solid.{clean_text, decimal_solid, escaped_solid, other_event, other_line, solid_append, solid_clean, two_words, two_words_event}
 
 -- ---- no line end stands in a part of a line
 
@@ -126,16 +125,18 @@ bound_clean : (bound : BoundName) → HasNoEnd (escaped bound.name ++ codes " " 
 bound_clean bound = HasNoEnd-append (escaped bound.name ++ codes " ") (handle_text bound.to)
     (HasNoEnd-append (escaped bound.name) (codes " ") (escaped_clean bound.name) (clean_text (codes " ") refl)) (handle_solid bound.to)
 
-bound_other : (bound : BoundName) → is_echo (escaped bound.name ++ codes " " ++ handle_text bound.to) ≡ false
+bound_other : (bound : BoundName) → is_beside (escaped bound.name ++ codes " " ++ handle_text bound.to) ≡ false
 bound_other bound =
     let to = bound.to in
     let solid = solid_append (decimal to.ino ++ codes ".") (decimal to.generation)
     (solid_append (decimal to.ino) (codes ".") (decimal_solid to.ino) (omega arith, tt)) (decimal_solid to.generation) in
     rw (append_assoc (escaped bound.name) (codes " ") (handle_text to))
+    (neither (escaped bound.name ++ (codes " " ++ handle_text to))
     (two_words (escaped bound.name) (handle_text to) (escaped_solid bound.name) solid)
+    (two_words_event (escaped bound.name) (handle_text to) (escaped_solid bound.name) solid))
 
 -- names behind a line, each on a line of its own
-names_told : (line : List ℕ) (names : List BoundName) → HasNoEnd line → is_echo line ≡ false
+names_told : (line : List ℕ) (names : List BoundName) → HasNoEnd line → is_beside line ≡ false
     → IsAnswer ((line ++ flat_map bound_text names) ++ 10 ∷ [])
 names_told line [] clean other = subst (λ (t : List ℕ). IsAnswer (t ++ 10 ∷ [])) (sym (append-nil line)) (line_told line clean other)
 names_told line (bound ∷ names) clean other =
@@ -151,10 +152,11 @@ path_clean [] = clean_text (codes "/") refl
 path_clean (name ∷ names) = all_clean (λ n. codes "/" ++ escaped n) (name ∷ names)
     (λ n. HasNoEnd-append (codes "/") (escaped n) (clean_text (codes "/") refl) (escaped_clean n))
 
-path_other : (path : List (List ℕ)) (rest : List ℕ) → is_echo (path_text path ++ codes " " ++ rest) ≡ false
+path_other : (path : List (List ℕ)) (rest : List ℕ) → is_beside (path_text path ++ codes " " ++ rest) ≡ false
 path_other [] rest = refl
 path_other (name ∷ names) rest =
-    other_line 47 (((escaped name ++ flat_map (λ n. codes "/" ++ escaped n) names) ++ codes " ") ++ rest) refl
+    let more = ((escaped name ++ flat_map (λ n. codes "/" ++ escaped n) names) ++ codes " ") ++ rest in
+    neither (47 ∷ more) (other_line 47 more refl) (other_event 47 more refl)
 
 kind_clean : (kind : Kind) (mode : ℕ) (bytes : List ℕ) → HasNoEnd (kind_text kind mode bytes)
 kind_clean File mode bytes =
@@ -331,15 +333,15 @@ formats_told None numbers text n (inl made) =
     subst IsAnswer (sym made.0) (line_told (codes "formatted") (clean_text (codes "formatted") refl) refl)
 formats_told None numbers text n (inr refused) = subst IsAnswer (sym refused.0) (refused_told out_of_memory)
 
-words_told : (m : Option World) (words : List (List ℕ)) (text : List ℕ) (n : Option World) → PlaysWords machine_player m words text n
+words_told : (m : Option World) (words : List (List ℕ)) (text : List ℕ) (n : Option World) → PlaysWords machine_player 0 m words text n
     → IsAnswer text
 words_told None words text n plays = formats_told (first_bad_field plays.0) plays.0 text n plays.2
 words_told (Some m) words text n plays = acts_told m plays.0 text plays.1 plays.3
 
 -- THE LAW of one line
-pub line_answers : (m : Option World) (line text : List ℕ) (n : Option World) → Plays machine_player m line text n → IsAnswer text
+pub line_answers : (m : Option World) (line text : List ℕ) (n : Option World) → Plays machine_player 0 m line text n → IsAnswer text
 line_answers m line text n plays = go (is_skipped line) plays where
-  go : (b : Bool) → MatchBool b ((text ≡ []) × (n ≡ m)) (PlaysWords machine_player m (words_of line) text n) → IsAnswer text
+  go : (b : Bool) → MatchBool b ((text ≡ []) × (n ≡ m)) (PlaysWords machine_player 0 m (words_of line) text n) → IsAnswer text
   go true skips = subst IsAnswer (sym skips.0) none_told
   go false words = words_told m (words_of line) text n words
 

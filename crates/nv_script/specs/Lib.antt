@@ -9,4 +9,6 @@ pub mod Words
 pub mod Outcomes
 pub mod Serially
 pub mod SerialPlayer
+pub mod Trace
+pub mod Traced
 pub mod Sound

@@ -31,15 +31,15 @@ use Rattle.nv_script.specs.Texts.{line_of, lists_lines, log_line, node_line, ref
 use Rattle.nv_script.specs.Words.{words_of}
 use Rattle.nv_base.specs.Memory.{out_of_memory}
 
--- WHO PLAYS A SCRIPT: the kind of its worlds, the empty one of a geometry, what a command on a world is answered and leaves,
+-- WHO PLAYS A SCRIPT: the kind of its worlds, the empty one of a geometry, what the command of a line with a number is answered and leaves,
 -- the nodes of the tree that a command lists, and what is written before the answers to the line with a number.
--- Player: a kind of world, and the empty one of a geometry. It tells what a command on a world is answered and
--- leaves, and which nodes of a tree a command lists. It also tells what is written before the answers to a line of
+-- Player: a kind of world, and the empty one of a geometry. It tells what the command of a line with a number is answered
+-- and leaves, and which nodes of a tree a command lists. It also tells what is written before the answers to a line of
 -- some number. The rows below hold of any player.
 pub record Player : Type 1 where
   pub World : Type 0
   pub empty : GeometryNumbers → World
-  pub Acts : World → Command → List ℕ → World → Type 0
+  pub Acts : ℕ → World → Command → List ℕ → World → Type 0
   pub listed : World → Command → Option (List TreeNode)
   pub head : ℕ → List ℕ → List ℕ
 
@@ -157,25 +157,25 @@ Formats player None numbers text new =
     ⊎ ((text ≡ refused_line out_of_memory) × (new ≡ None))
 
 -- the words of a line without a fault: a `format` where no world is made, and else a command on the world
-abbrev pub PlaysWords : (player : Player) → Option player.World → List (List ℕ) → List ℕ → Option player.World → Type 0
-PlaysWords player None words text new =
+abbrev pub PlaysWords : (player : Player) → (number : ℕ) → Option player.World → List (List ℕ) → List ℕ → Option player.World → Type 0
+PlaysWords player number None words text new =
     (numbers : GeometryNumbers) × (format_of words ≡ Ok numbers) × Formats player (first_bad_field numbers) numbers text new
-PlaysWords player (Some old) words text new =
-    (command : Command) × (world : player.World) × (command_of words ≡ Ok command) × player.Acts old command text world
+PlaysWords player number (Some old) words text new =
+    (command : Command) × (world : player.World) × (command_of words ≡ Ok command) × player.Acts number old command text world
     × (new ≡ Some world)
 
--- one line without a fault, and its answers; one that is skipped has none and changes nothing.
+-- one line without a fault, which has this number, and its answers; one that is skipped has none and changes nothing.
 -- What a line is answered and leaves: nothing where it is skipped. Else it is what its command does to the player's
 -- world. Where no world is made, a `format` makes the empty one.
-abbrev pub Plays : (player : Player) → Option player.World → List ℕ → List ℕ → Option player.World → Type 0
-Plays player old line text new =
-    MatchBool (is_skipped line) ((text ≡ []) × (new ≡ old)) (PlaysWords player old (words_of line) text new)
+abbrev pub Plays : (player : Player) → (number : ℕ) → Option player.World → List ℕ → List ℕ → Option player.World → Type 0
+Plays player number old line text new =
+    MatchBool (is_skipped line) ((text ≡ []) × (new ≡ old)) (PlaysWords player number old (words_of line) text new)
 
 -- some lines, one after another, of which the first has this number
 abbrev pub PlaysFrom : (player : Player) → ℕ → Option player.World → List (List ℕ) → List ℕ → Option player.World → Type 0
 PlaysFrom player number old [] text new = (text ≡ []) × (new ≡ old)
 PlaysFrom player number old (line ∷ lines) text new =
-    (first rest : List ℕ) × (mid : Option player.World) × IsLine line × Plays player old line first mid
+    (first rest : List ℕ) × (mid : Option player.World) × IsLine line × Plays player number old line first mid
     × PlaysFrom player (number + 1) mid lines rest new × (text ≡ (player.head number line ++ first) ++ rest)
 
 -- the same of the first lines of a script
@@ -198,7 +198,7 @@ ListsWords player (Some old) words sent = (command : Command) × (command_of wor
 -- the next line, which has this number, was played, and of its text these bytes alone were written
 abbrev pub BreaksOff : (player : Player) → ℕ → List ℕ → Option player.World → List ℕ → Type 0
 BreaksOff player number bytes world sent = (line rest text : List ℕ) × (new : Option player.World) × IsLine line
-    × (bytes ≡ (line ++ 10 ∷ []) ++ rest) × Plays player world line text new × IsCutOff sent (player.head number line ++ text)
+    × (bytes ≡ (line ++ 10 ∷ []) ++ rest) × Plays player number world line text new × IsCutOff sent (player.head number line ++ text)
 
 -- memory is refused at a command: nothing of its text is written, or what stands before its answers and whole lines of a tree
 abbrev pub StopsAt : (player : Player) → (head : List ℕ) → Option player.World → (line sent : List ℕ) → Type 0
@@ -308,7 +308,7 @@ abbrev pub machine_player_with : (ℕ → List ℕ → List ℕ) → Player
 machine_player_with head = record {
   World = World;
   empty = formatted;
-  Acts = Acts;
+  Acts = λ number old command text new. Acts old command text new;
   listed = λ w. nodes_listed (reports_by_scan w);
   head = head;
 }

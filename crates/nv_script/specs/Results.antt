@@ -18,10 +18,13 @@ use Rattle.nv_script.specs.declared.fault.LineFault.{LineFault}
 use Rattle.nv_script.specs.declared.fault.LineFault.TheVariants as line_fault
 use Rattle.nv_script.specs.declared.feed.LineResult.{LineResult}
 use Rattle.nv_script.specs.declared.feed.LineResult.TheVariants as taken
+use Rattle.nv_script.specs.declared.trace.Trace.{Trace}
+use Rattle.nv_script.specs.declared.trace.Trace.TheVariants as trace
 use Rattle.nv_script.specs.Grammar.{command_of, is_skipped}
 use Rattle.nv_script.specs.Lines.{IsLine, LineResultIs, WritesFront, WritesSome, ended}
-use Rattle.nv_script.specs.Play.{EndsBy, EndsWell, Formats, LineFails, ListsFront, Plays, PlaysAll, StopsAt, machine_player, machine_player_with, most_lines, no_head}
+use Rattle.nv_script.specs.Play.{EndsBy, EndsWell, Formats, LineFails, ListsFront, Plays, PlaysAll, StopsAt, machine_player, most_lines, no_head}
 use Rattle.nv_script.specs.Texts.{line_of, node_line, refused_line, tree_lines}
+use Rattle.nv_script.specs.Trace.{player_by}
 use Rattle.nv_script.specs.Words.{words_of}
 use Rattle.nv_base.specs.Memory.{out_of_memory}
 
@@ -30,11 +33,15 @@ abbrev pub HasAnyRun : Option machine.World → Type 0
 HasAnyRun None = Unit {0}
 HasAnyRun (Some m) = HasRun m
 
--- a line is played on the worlds that are shown, to which events lead
-abbrev pub PlaysShown : Option WorldState → List ℕ → (List ℕ → Type 0) → Option WorldState → Type 0
-PlaysShown old line Writes new =
+-- a line is played on the worlds that are shown, to which events lead; its events are told, by its number, or not
+abbrev pub PlaysTold : Trace → ℕ → Option WorldState → List ℕ → (List ℕ → Type 0) → Option WorldState → Type 0
+PlaysTold told number old line Writes new =
     (m : Option machine.World) → ShowsAny old m → HasAnyRun m
-    → (n : Option machine.World) × (text : List ℕ) × Plays machine_player m line text n × ShowsAny new n × Writes text
+    → (n : Option machine.World) × (text : List ℕ) × Plays (player_by told no_head) number m line text n × ShowsAny new n × Writes text
+
+-- the same where events are not told: of answers alone the number is nothing to them
+abbrev pub PlaysShown : Option WorldState → List ℕ → (List ℕ → Type 0) → Option WorldState → Type 0
+PlaysShown old line Writes new = PlaysTold trace.Off 0 old line Writes new
 
 -- where a text goes: the writer's bytes and what is gathered
 pub record Sent : Type 0 where
@@ -55,34 +62,36 @@ Fails old new text = WritesSome old.written new.written (old.gathered ++ text) �
 
 -- what became of one line that was not played to its end, where this stands before its answers: memory was refused at a
 -- command, a write failed, or the line has a fault, and then nothing has changed
-abbrev pub LineFaultBehind : (head : List ℕ) → LineFault → Sent → Sent → Option machine.World → List ℕ → Type 0
-LineFaultBehind head (line_fault.OutOfMemory _) old new m line =
+abbrev pub LineFaultBehind : Trace → (number : ℕ) → (head : List ℕ) → LineFault → Sent → Sent → Option machine.World → List ℕ → Type 0
+LineFaultBehind told number head (line_fault.OutOfMemory _) old new m line =
     (text : List ℕ) × StopsAt machine_player head m line text × Sends old new text
-LineFaultBehind head line_fault.Write old new m line =
-    (text : List ℕ) × (n : Option machine.World) × Plays machine_player m line text n × Fails old new (head ++ text)
-LineFaultBehind head (line_fault.Faulty fault) old new m line = LineFails (is_some m) line fault × (new ≡ old)
+LineFaultBehind told number head line_fault.Write old new m line =
+    (text : List ℕ) × (n : Option machine.World) × Plays (player_by told no_head) number m line text n × Fails old new (head ++ text)
+LineFaultBehind told number head (line_fault.Faulty fault) old new m line = LineFails (is_some m) line fault × (new ≡ old)
 
--- the same where nothing stands before them
+-- the same of answers alone
 abbrev pub LineFaultIs : LineFault → Sent → Sent → Option machine.World → List ℕ → Type 0
-LineFaultIs fault old new m line = LineFaultBehind [] fault old new m line
+LineFaultIs fault old new m line = LineFaultBehind trace.Off 0 [] fault old new m line
 
 -- what became of one line, and of the text that it writes
-abbrev pub LineIs : {A : Type 0} → (head : List ℕ) → Result A LineFault → Sent → Sent → Option WorldState → List ℕ → List ℕ
-    → Option WorldState → Type 0
-LineIs head (Ok done) old new world line rest world' = PlaysShown world line (λ text. SendsBut rest old new (head ++ text)) world'
-LineIs head (Err fault) old new world line rest world' =
-    (m : Option machine.World) → ShowsAny world m → HasAnyRun m → LineFaultBehind head fault old new m line
+abbrev pub LineIs : {A : Type 0} → Trace → (number : ℕ) → (head : List ℕ) → Result A LineFault → Sent → Sent → Option WorldState
+    → List ℕ → List ℕ → Option WorldState → Type 0
+LineIs told number head (Ok done) old new world line rest world' =
+    PlaysTold told number world line (λ text. SendsBut rest old new (head ++ text)) world'
+LineIs told number head (Err fault) old new world line rest world' =
+    (m : Option machine.World) → ShowsAny world m → HasAnyRun m → LineFaultBehind told number head fault old new m line
 
 -- the same where all of its text was sent
-abbrev pub AnswersBehind : {A : Type 0} → (head : List ℕ) → Result A LineFault → Sent → Sent → Option WorldState → List ℕ
-    → Option WorldState → Type 0
-AnswersBehind head (Ok done) old new world line world' = PlaysShown world line (λ text. Sends old new (head ++ text)) world'
-AnswersBehind head (Err fault) old new world line world' =
-    (m : Option machine.World) → ShowsAny world m → HasAnyRun m → LineFaultBehind head fault old new m line
+abbrev pub AnswersBehind : {A : Type 0} → Trace → (number : ℕ) → (head : List ℕ) → Result A LineFault → Sent → Sent → Option WorldState
+    → List ℕ → Option WorldState → Type 0
+AnswersBehind told number head (Ok done) old new world line world' =
+    PlaysTold told number world line (λ text. Sends old new (head ++ text)) world'
+AnswersBehind told number head (Err fault) old new world line world' =
+    (m : Option machine.World) → ShowsAny world m → HasAnyRun m → LineFaultBehind told number head fault old new m line
 
--- and where nothing stands before its answers
+-- and where neither events nor anything else stands before its answers
 abbrev pub AnswersLine : {A : Type 0} → Result A LineFault → Sent → Sent → Option WorldState → List ℕ → Option WorldState → Type 0
-AnswersLine {A = A} result old new world line world' = AnswersBehind {A = A} [] result old new world line world'
+AnswersLine {A = A} result old new world line world' = AnswersBehind {A = A} trace.Off 0 [] result old new world line world'
 
 -- why a text was not sent
 abbrev pub IsNotSent : LineFault → Sent → Sent → List ℕ → Type 0
@@ -198,18 +207,18 @@ TakesLine (Err _) number known left ahead line old new = ⊥
 
 -- what holds before the line with a number, where this stands before answers: the lines before it were taken and played, and
 -- their text was written but for its end, which is gathered
-pub record AtLineBy (head : ℕ → List ℕ → List ℕ) (input known old new : Option (List ℕ)) (gathered : List ℕ) (number : ℕ)
+pub record AtLineBy (told : Trace) (head : ℕ → List ℕ → List ℕ) (input known old new : Option (List ℕ)) (gathered : List ℕ) (number : ℕ)
     (world : Option machine.World) : Type 0 where
   pub lines : List (List ℕ)
   pub text : List ℕ
   pub count : length lines + 1 ≡ number
   pub taken : Consumes input known (ended lines)
-  pub plays : PlaysAll (machine_player_with head) None lines text world
+  pub plays : PlaysAll (player_by told head) None lines text world
   pub written : WritesFront old new text gathered
 
--- a player is at a line, with nothing written before its answers
+-- a player is at a line, with answers alone written
 abbrev pub AtLine : (input known old new : Option (List ℕ)) → List ℕ → ℕ → Option machine.World → Type 0
-AtLine input known old new gathered number world = AtLineBy no_head input known old new gathered number world
+AtLine input known old new gathered number world = AtLineBy trace.Off no_head input known old new gathered number world
 
 -- once a read or a write failed, nothing is gathered
 abbrev pub HoldsNone : {A : Type 0} → Result A Fault → List ℕ → Type 0
@@ -225,12 +234,12 @@ EndsText outcome result old new = ((result ≡ outcome) × Appends old.written n
     ⊎ ((result ≡ Err fault.Write) × WritesSome old.written new.written old.gathered)
 
 -- after the line with a number, which is one of the allowed: the script goes on, or this is its end
-abbrev pub TurnIs : (head : ℕ → List ℕ → List ℕ) → Result Bool Fault → (input left known old new : Option (List ℕ)) → List ℕ → ℕ
+abbrev pub TurnIs : Trace → (head : ℕ → List ℕ → List ℕ) → Result Bool Fault → (input left known old new : Option (List ℕ)) → List ℕ → ℕ
     → Option WorldState → Type 0
-TurnIs head (Ok true) input left known old new gathered number world =
-    (number ≤ most_lines) × (n : Option machine.World) × AtLineBy head input known old new gathered (number + 1) n × ShowsAny world n
-TurnIs head (Ok false) input left known old new gathered number world =
-    EndsWell (machine_player_with head) input left (λ text. WritesFront old new text gathered)
-TurnIs head (Err why) input left known old new gathered number world =
-    EndsBy (machine_player_with head) why input left (λ text. WritesFront old new text gathered)
+TurnIs told head (Ok true) input left known old new gathered number world =
+    (number ≤ most_lines) × (n : Option machine.World) × AtLineBy told head input known old new gathered (number + 1) n × ShowsAny world n
+TurnIs told head (Ok false) input left known old new gathered number world =
+    EndsWell (player_by told head) input left (λ text. WritesFront old new text gathered)
+TurnIs told head (Err why) input left known old new gathered number world =
+    EndsBy (player_by told head) why input left (λ text. WritesFront old new text gathered)
     × HoldsNone {A = Bool} (Err why) gathered

@@ -1,28 +1,32 @@
 //! What lines do to a world, and what they write.
 
-ghost use Rattle.std.specs.Prelude.{◌≡◌, ◌≢◌, ◌<◌, ◌+◌, ◌-◌, ◌^◌, [], None, IfOk, OnOk, false, true};
+ghost use Rattle.std.specs.Prelude.{◌≡◌, ◌≢◌, ◌<◌, ◌+◌, ◌-◌, ◌^◌, ◌++◌, [], None, IfOk, MatchResult, OnOk, false, true};
 ghost use Rattle.nv_script.specs.Grammar.{is_skipped};
 ghost use Rattle.nv_base.specs.Limits.{first_bad_field};
 ghost use Rattle.nv_script.specs.declared.command.Command.TheVariants.{Audit};
 ghost use Rattle.nv_script.specs.Play.{ActsBy, is_list, reports_of};
 ghost use Rattle.nv_script.specs.Results.{AsksAudit, IsNewWorld, LineIs, MakesWorld, TellsAudit, failed_in_line};
-ghost use Rattle.nv_core.specs.Worlds.{Leads};
+ghost use Rattle.nv_script.specs.Trace.{ActsToldBy, ActsTracedBy};
+ghost use Rattle.nv_core.specs.Worlds.{Leads, told_by};
+ghost use Rattle.nv_script.specs.Texts.{told_line};
 
 use crate::asked::Asked;
 use crate::command::{Command, is_skipped, read_command, read_format};
 use crate::counted::CountedWrite;
+use crate::echo::Telling;
 use crate::fault::LineFault;
 use crate::outbox::Outbox;
 use crate::text::{
     push_lists, push_log, push_refused, push_reply, push_snaps, push_space, push_told,
 };
+use crate::trace::{self, Trace};
 use crate::trees::write_tree_behind;
 use crate::word::words;
 use nv_base::{Epoch, Fault, Geometry, GeometryNumbers, Ino};
-use nv_core::World;
+use nv_core::{Reply, World};
 use std::alloc::{AllocError, Global};
 
-/// Plays one line, which has no line end, with `head` before its answers. A line that is skipped has none.
+/// Plays one line, which has no line end, and tells it so. A line that is skipped has nothing before its answers.
 ///
 /// What it is answered is in `out` then, in place of what that held, except for the lines of a tree's nodes. These are sent before,
 /// and so is the head. What stands for an audit is handed on.
@@ -30,14 +34,14 @@ pub(crate) fn play_line<W: CountedWrite>(
     alloc: Global,
     world: &mut Option<World>,
     line: &[u8],
-    head: &[u8],
+    telling: Telling<'_>,
     out: &mut Vec<u8>,
     outbox: &mut Outbox,
     writer: &mut W,
 ) -> Result<Option<Asked>, LineFault>
-    requires skipped { is_skipped line.now ≡ true → head.now ≡ [] }
+    requires skipped { is_skipped line.now ≡ true → telling.head.now ≡ [] }
     requires failures { W.failed writer.old < 2 ^ 64 - 1 }
-    ensures line { LineIs head.now result (record { written = W.contents writer.old; gathered = outbox.old })
+    ensures line { LineIs telling.entry.trace telling.entry.number telling.entry.head.now result (record { written = W.contents writer.old; gathered = outbox.old })
         (record { written = W.contents writer.new; gathered = outbox.new })
         world.old line.now out.new.items world.new }
     // It hands on what stands for an audit, so that no line `audit` is told around it.
@@ -51,6 +55,7 @@ pub(crate) fn play_line<W: CountedWrite>(
         return Ok(None);
     }
     let words = words(alloc, line)?;
+    let head = telling.head;
     match world {
         None => {
             let numbers = read_format(words.as_slice())?;
@@ -70,7 +75,7 @@ pub(crate) fn play_line<W: CountedWrite>(
                     Ok(None)
                 }
                 _ => {
-                    let asked = act(world, command, out)?;
+                    let asked = act(world, telling, command, out)?;
                     outbox.add(writer, head)?;
                     Ok(asked)
                 }
@@ -109,18 +114,24 @@ fn new_world(alloc: Global, numbers: &GeometryNumbers) -> Result<World, Fault>
 }
 
 /// Acts on a command that lists no tree. What stands for an audit is handed on.
-fn act(world: &mut World, command: Command, out: &mut Vec<u8>) -> Result<Option<Asked>, AllocError>
+fn act(
+    world: &mut World,
+    telling: Telling<'_>,
+    command: Command,
+    out: &mut Vec<u8>,
+) -> Result<Option<Asked>, AllocError>
     requires other { is_list command ≡ false }
     requires empty { out.old.items ≡ [] }
     ensures acts { OnOk result
-        (Leads (λ m n. ActsBy (reports_of m) m command out.new.items n) world.old world.new) }
+        (Leads (λ m n. ActsToldBy (reports_of m) telling.entry.trace telling.entry.number m command
+        out.new.items n) world.old world.new) }
     // A line `audit` says that nothing differs only with what stands for an audit.
     ensures asked { IfOk result (λ asked. command ≡ Audit → TellsAudit asked out.new.items) }
 {
     if let Command::Audit = command {
         return audit(world, out);
     }
-    tell(world, command, out)?;
+    tell_by(world, telling, command, out)?;
     Ok(None)
 }
 
@@ -138,6 +149,66 @@ fn audit(world: &World, out: &mut Vec<u8>) -> Result<Option<Asked>, AllocError>
             push_refused(out, &fault)?;
             Ok(None)
         }
+    }
+}
+
+/// Acts on a command that lists no tree and asks for no audit, and tells its events or not.
+fn tell_by(
+    world: &mut World,
+    telling: Telling<'_>,
+    command: Command,
+    out: &mut Vec<u8>,
+) -> Result<(), AllocError>
+    requires other { is_list command ≡ false }
+    requires no_audit { command ≢ Audit }
+    requires empty { out.old.items ≡ [] }
+    ensures { OnOk result
+        (Leads (λ m n. ActsToldBy (reports_of m) telling.entry.trace telling.entry.number m command
+        out.new.items n) world.old world.new) }
+{
+    match telling.trace {
+        Trace::Off => tell(world, command, out),
+        Trace::Text => tell_traced(world, Trace::Text, telling.number, command, out),
+    }
+}
+
+/// Acts on a command that lists no tree and asks for no audit, and tells its events before the answer.
+fn tell_traced(
+    world: &mut World,
+    form: Trace,
+    number: u64,
+    command: Command,
+    out: &mut Vec<u8>,
+) -> Result<(), AllocError>
+    requires other { is_list command ≡ false }
+    requires no_audit { command ≢ Audit }
+    requires empty { out.old.items ≡ [] }
+    ensures { OnOk result (Leads (λ m n. ActsTracedBy (reports_of m) form number m command
+        out.new.items n) world.old world.new) }
+{
+    match command {
+        Command::Start(actor, call) => answer(
+            trace::start(world, form, number, actor, call, out),
+            out,
+        ),
+        Command::Go(actor, more) => answer(
+            trace::go_on(world, form, number, actor, more, out),
+            out,
+        ),
+        Command::Run(actor) => answer(trace::finish(world, form, number, actor, out), out),
+        Command::Do(actor, call) => answer(trace::call(world, form, number, actor, call, out), out),
+        _ => tell(world, command, out),
+    }
+}
+
+/// Adds the line of a reply behind its events, where memory was granted to these.
+fn answer(reply: Result<Reply, AllocError>, out: &mut Vec<u8>) -> Result<(), AllocError>
+    ensures { OnOk result (MatchResult reply
+        (λ told. out.new.items ≡ out.old.items ++ told_line (told_by told)) (λ _. ⊥)) }
+{
+    match reply {
+        Ok(reply) => push_reply(out, &reply),
+        Err(error) => Err(error),
     }
 }
 

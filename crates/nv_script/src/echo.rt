@@ -1,10 +1,11 @@
 //! What stands before the answers to a line.
 
-ghost use Rattle.std.specs.Prelude.{◌≡◌, ◌++◌, IsErr, OnOk, false};
+ghost use Rattle.std.specs.Prelude.{◌≡◌, ◌++◌, [], IsErr, OnOk, false};
 ghost use Rattle.nv_script.specs.Echo.{before_answers, echo_line};
 ghost use Rattle.nv_script.specs.Grammar.{is_skipped};
 
 use crate::command::is_skipped;
+use crate::trace::Trace;
 use crate::word::push_number;
 use std::alloc::AllocError;
 
@@ -15,6 +16,29 @@ pub enum Echo {
     Off,
     /// The number and the text of the line come first.
     On,
+}
+
+/// How a line is told: its number, whether its events are, and what stands before its answers.
+#[derive(Clone, Copy, Drop)]
+pub(crate) struct Telling<'a> {
+    pub(crate) number: u64,
+    pub(crate) trace: Trace,
+    pub(crate) head: &'a [u8],
+}
+
+impl<'a> Telling<'a> {
+    /// Answers alone: to them the number is nothing.
+    pub(crate) fn answers() -> Telling<'a>
+        ensures trace { result.trace ≡ Trace.Off }
+        ensures number { result.number ≡ 0 }
+        ensures head { result.head.now ≡ [] }
+    {
+        Telling {
+            number: 0,
+            trace: Trace::Off,
+            head: &[],
+        }
+    }
 }
 
 /// Makes what stands before the answers to the line with this number, in place of what `head` held.

@@ -22,6 +22,8 @@ pub mod player;
 mod script;
 mod send;
 pub mod text;
+mod trace;
+mod traced_words;
 mod trees;
 pub mod word;
 
@@ -30,6 +32,6 @@ pub use echo::Echo;
 pub use outcome::{Outcome, exit_code, fault_line};
 pub use script::{
     echo_counted_and_leave, play, play_and_leave, play_counted, play_counted_and_leave,
-    play_echoed_and_leave,
+    play_echoed_and_leave, trace_and_leave, trace_counted_and_leave,
 };
 pub use text::fault_text;

@@ -2,24 +2,26 @@
 
 ghost use Rattle.std.specs.Prelude.{◌≡◌, ℕ, ◌+◌, ◌-◌, ◌^◌, ◌<◌, ◌≤◌, ◌⊎◌, List, [], Option, IfOk, OnErr, OnOk, MatchResult, None, true};
 ghost use Rattle.std.specs.List.{Contains};
-ghost use Rattle.std.specs.Io.KnownBytes.{prepend_known};
+ghost use Rattle.std.specs.Io.KnownBytes.{Appends, prepend_known};
 ghost use Rattle.std.specs.Vec.{vec_capacity};
 ghost use Rattle.nv_machine.specs.World as machine;
 ghost use Rattle.nv_core.specs.Worlds.{ShowsAny};
 ghost use Rattle.nv_script.specs.Grammar.{is_skipped};
 ghost use Rattle.nv_script.specs.Sound.{AnswersSound, HasShown};
 ghost use Rattle.nv_script.specs.Lines.{WritesFront, WritesSome};
-ghost use Rattle.nv_script.specs.Echo.{PlaysEchoed, before_answers};
-ghost use Rattle.nv_script.specs.Play.{Ends, failed_reads, failed_writes, machine_player_with};
+ghost use Rattle.nv_script.specs.Echo.{before_answers};
+ghost use Rattle.nv_script.specs.Play.{Ends, failed_reads, failed_writes};
 ghost use Rattle.nv_script.specs.Results.{AnswersBehind, AnswersLine, AtLineBy, HoldsNone, TakesLine, TurnIs, ending_of, failed_in_line, is_line};
+ghost use Rattle.nv_script.specs.Trace.{player_by};
 
 use crate::act::play_line;
 use crate::counted::{CountedRead, CountedWrite, WriteFailed};
-use crate::echo::{Echo, make_head};
+use crate::echo::{Echo, Telling, make_head};
 use crate::fault::LineFault;
 use crate::feed::{Feed, LineResult, MAX_LINE_BYTES};
 use crate::look::look_at;
 use crate::outbox::Outbox;
+use crate::trace::Trace;
 use nv_base::{Fault, ScriptFaultKind};
 use nv_core::World;
 use std::alloc::{AllocError, Global};
@@ -66,6 +68,7 @@ impl Player {
         &mut self,
         alloc: Global,
         echo: Echo,
+        trace: Trace,
         reader: &mut R,
         writer: &mut W,
     ) -> Result<(), Fault>
@@ -74,14 +77,15 @@ impl Player {
         requires world { self.old.world ≡ None }
         requires reads { R.failed reader.old < 2 ^ 64 - 1 }
         requires writes { W.failed writer.old < 2 ^ 64 - 1 }
-        ensures script { PlaysEchoed echo result (R.remaining reader.old) (R.remaining reader.new)
-            (W.contents writer.old) (W.contents writer.new) }
+        ensures script { Ends (player_by trace (before_answers echo)) result
+            (R.remaining reader.old) (R.remaining reader.new)
+            (λ text. Appends (W.contents writer.old) (W.contents writer.new) text) }
         ensures reads { R.failed reader.new ≡ R.failed reader.old + failed_reads result }
         ensures writes { W.failed writer.new ≡ W.failed writer.old + failed_writes result }
         ensures same_reader { R.place reader.new ≡ R.place reader.old }
         ensures same_writer { W.place writer.new ≡ W.place writer.old }
     {
-        let outcome = self.play_lines(alloc, echo, reader, writer);
+        let outcome = self.play_lines(alloc, echo, trace, reader, writer);
         self.outbox.end(writer, outcome)
     }
 
@@ -90,6 +94,7 @@ impl Player {
         &mut self,
         alloc: Global,
         echo: Echo,
+        trace: Trace,
         reader: &mut R,
         writer: &mut W,
     ) -> Result<(), Fault>
@@ -98,7 +103,7 @@ impl Player {
         requires world { self.old.world ≡ None }
         requires reads { R.failed reader.old < 2 ^ 64 - 1 }
         requires writes { W.failed writer.old < 2 ^ 64 - 1 }
-        ensures script { Ends (machine_player_with (before_answers echo)) result
+        ensures script { Ends (player_by trace (before_answers echo)) result
             (R.remaining reader.old) (R.remaining reader.new) (λ text. WritesFront (W.contents writer.old) (W.contents writer.new)
             text self.new.outbox) }
         ensures unheld { HoldsNone result self.new.outbox }
@@ -108,7 +113,7 @@ impl Player {
         ensures same_writer { W.place writer.new ≡ W.place writer.old }
     {
         for number in 1..=MAX_LINES + 1 {
-            if !self.turn(alloc, echo, number, reader, writer)? {
+            if !self.turn(alloc, echo, trace, number, reader, writer)? {
                 return Ok(());
             }
         }
@@ -121,6 +126,7 @@ impl Player {
         &mut self,
         alloc: Global,
         echo: Echo,
+        trace: Trace,
         number: u64,
         reader: &mut R,
         writer: &mut W,
@@ -130,9 +136,9 @@ impl Player {
         requires writes { W.failed writer.old < 2 ^ 64 - 1 }
         ensures turn { (input old : Option (List ℕ)) (m : Option machine.World)
             → ShowsAny self.old.world m
-            → AtLineBy (before_answers echo) input (prepend_known self.old.feed (R.remaining reader.old))
+            → AtLineBy trace (before_answers echo) input (prepend_known self.old.feed (R.remaining reader.old))
             old (W.contents writer.old) self.old.outbox number m
-            → TurnIs (before_answers echo) result input (R.remaining reader.new)
+            → TurnIs trace (before_answers echo) result input (R.remaining reader.new)
             (prepend_known self.new.feed (R.remaining reader.new))
             old (W.contents writer.new) self.new.outbox number self.new.world }
         ensures reads { R.failed reader.new ≡ R.failed reader.old + failed_reads result }
@@ -143,7 +149,7 @@ impl Player {
         if !self.take(number, reader, writer)? {
             return Ok(false);
         }
-        match self.play_echoed(alloc, echo, number, writer) {
+        match self.play_told(alloc, echo, trace, number, writer) {
             Ok(()) => Ok(true),
             Err(fault) => Err(ending_of(number, fault)),
         }
@@ -181,15 +187,16 @@ impl Player {
     }
 
     /// Plays the line that was taken last, which has this number, and gathers its text.
-    fn play_echoed<W: CountedWrite>(
+    fn play_told<W: CountedWrite>(
         &mut self,
         alloc: Global,
         echo: Echo,
+        trace: Trace,
         number: u64,
         writer: &mut W,
     ) -> Result<(), LineFault>
         requires { W.failed writer.old < 2 ^ 64 - 1 }
-        ensures line { AnswersBehind (before_answers echo number self.old.line.items) result
+        ensures line { AnswersBehind trace number (before_answers echo number self.old.line.items) result
             (record { written = W.contents writer.old; gathered = self.old.outbox })
             (record { written = W.contents writer.new; gathered = self.new.outbox })
             self.old.world self.old.line.items self.new.world }
@@ -206,15 +213,12 @@ impl Player {
             ..
         } = self;
         make_head(echo, number, line.as_slice(), head)?;
-        answer_line(
-            alloc,
-            world,
-            line.as_slice(),
-            head.as_slice(),
-            text,
-            outbox,
-            writer,
-        )
+        let telling = Telling {
+            number,
+            trace,
+            head: head.as_slice(),
+        };
+        answer_line(alloc, world, line.as_slice(), telling, text, outbox, writer)
     }
 
     /// Plays the line that was taken last, and gathers its text.
@@ -239,7 +243,8 @@ impl Player {
             world,
             ..
         } = self;
-        answer_line(alloc, world, line.as_slice(), &[], text, outbox, writer)
+        let telling = Telling::answers();
+        answer_line(alloc, world, line.as_slice(), telling, text, outbox, writer)
     }
 
     /// Plays the line that was taken last, and gathers its text, where it has no fault. Else its fault is told, and nothing has changed.
@@ -294,30 +299,32 @@ impl Player {
             world,
             ..
         } = self;
-        answer_line(alloc, world, line, &[], text, outbox, writer)
+        let telling = Telling::answers();
+        answer_line(alloc, world, line, telling, text, outbox, writer)
     }
 }
 
-/// Plays a line, and gathers a head, which a line that is skipped has none of, and its answers, for which there is room in `text`.
+/// Plays a line, and gathers what stands before its answers, which a line that is skipped has none of, and its answers, for which
+/// there is room in `text`.
 fn answer_line<W: CountedWrite>(
     alloc: Global,
     world: &mut Option<World>,
     line: &[u8],
-    head: &[u8],
+    telling: Telling<'_>,
     text: &mut Vec<u8>,
     outbox: &mut Outbox,
     writer: &mut W,
 ) -> Result<(), LineFault>
-    requires skipped { is_skipped line.now ≡ true → head.now ≡ [] }
+    requires skipped { is_skipped line.now ≡ true → telling.head.now ≡ [] }
     requires failures { W.failed writer.old < 2 ^ 64 - 1 }
-    ensures line { AnswersBehind head.now result
+    ensures line { AnswersBehind telling.entry.trace telling.entry.number telling.entry.head.now result
         (record { written = W.contents writer.old; gathered = outbox.old })
         (record { written = W.contents writer.new; gathered = outbox.new })
         world.old line.now world.new }
     ensures failed { W.failed writer.new ≡ W.failed writer.old + failed_in_line result }
     ensures same_writer { W.place writer.new ≡ W.place writer.old }
 {
-    play_line(alloc, world, line, head, text, outbox, writer)?;
+    play_line(alloc, world, line, telling, text, outbox, writer)?;
     let Ok(()) = outbox.add(writer, text.as_slice()) else {
         return Err(LineFault::Write);
     };

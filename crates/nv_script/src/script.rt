@@ -5,10 +5,12 @@ ghost use Rattle.nv_script.specs.Echo.{PlaysEchoed, PlaysWithoutEchoes};
 ghost use Rattle.nv_script.specs.Play.{PlaysScript, failed_reads, failed_writes};
 ghost use Rattle.nv_script.specs.SerialPlayer.{serial_player};
 ghost use Rattle.nv_script.specs.Serially.{PlaysAlone};
+ghost use Rattle.nv_script.specs.Trace.{PlaysWithoutEvents, TracesScript};
 
 use crate::counted::{CountedRead, CountedWrite, ReadCounter, WriteCounter};
 use crate::echo::Echo;
 use crate::player::Player;
+use crate::trace::Trace;
 use nv_base::Fault;
 use std::alloc::Global;
 use std::io::{Read, Write};
@@ -127,7 +129,7 @@ pub fn play_counted<R: CountedRead, W: CountedWrite>(
     ensures same_writer { W.place writer.new ≡ W.place writer.old }
 {
     let mut player = Player::new(alloc)?;
-    player.play(alloc, Echo::Off, reader, writer)
+    player.play(alloc, Echo::Off, Trace::Off, reader, writer)
 }
 
 /// Plays a script as [`play_counted`] does, and does not take its world apart.
@@ -148,7 +150,7 @@ pub fn play_counted_and_leave<R: CountedRead, W: CountedWrite>(
     ensures same_writer { W.place writer.new ≡ W.place writer.old }
 {
     let mut player = Player::new(alloc)?;
-    let outcome = player.play(alloc, Echo::Off, reader, writer);
+    let outcome = player.play(alloc, Echo::Off, Trace::Off, reader, writer);
     mem::forget(player);
     outcome
 }
@@ -192,7 +194,51 @@ pub fn echo_counted_and_leave<R: CountedRead, W: CountedWrite>(
     ensures same_writer { W.place writer.new ≡ W.place writer.old }
 {
     let mut player = Player::new(alloc)?;
-    let outcome = player.play(alloc, Echo::On, reader, writer);
+    let outcome = player.play(alloc, Echo::On, Trace::Off, reader, writer);
+    mem::forget(player);
+    outcome
+}
+
+/// Plays a script as [`play_and_leave`] does, and writes a line for each event before the answer to the line that makes it: for a
+/// call that starts `  LINE ACTOR CALL start`, and for a step `  LINE ACTOR CALL STEP [AT] REPLY`.
+///
+/// `STEP` is the step's name, and `AT` its inode slot, CPU or directory. `REPLY` is `moved`, `done`, `refused` or `waits OTHER`, by
+/// the actor that is waited for. A commit point ends in ` commit N`. An event of no step has no line: where there is no such actor,
+/// where it is busy or where it is idle. Without these lines the output is that of [`play`]: no line of an answer begins with two spaces.
+pub fn trace_and_leave<R: Read, W: Write>(
+    alloc: Global,
+    reader: &mut R,
+    writer: &mut W,
+) -> Result<(), Fault>
+    // Each event has its line, of the world before it, for the very grants that give the answer.
+    ensures script { TracesScript result (R.remaining reader.old) (R.remaining reader.new)
+        (W.contents writer.old) (W.contents writer.new) }
+    // Without the lines of events its output is that of `play`, with every end other than a failed write.
+    ensures plain { PlaysWithoutEvents result (R.remaining reader.old) (R.remaining reader.new)
+        (W.contents writer.old) (W.contents writer.new) }
+{
+    let mut reader = ReadCounter::new(reader);
+    let mut writer = WriteCounter::new(writer);
+    trace_counted_and_leave(alloc, &mut reader, &mut writer)
+}
+
+/// Plays a script as [`trace_and_leave`] does, from a reader and to a writer that count their failures.
+pub fn trace_counted_and_leave<R: CountedRead, W: CountedWrite>(
+    alloc: Global,
+    reader: &mut R,
+    writer: &mut W,
+) -> Result<(), Fault>
+    requires reads { R.failed reader.old < 2 ^ 64 - 1 }
+    requires writes { W.failed writer.old < 2 ^ 64 - 1 }
+    ensures script { TracesScript result (R.remaining reader.old) (R.remaining reader.new)
+        (W.contents writer.old) (W.contents writer.new) }
+    ensures plain { PlaysWithoutEvents result (R.remaining reader.old) (R.remaining reader.new)
+        (W.contents writer.old) (W.contents writer.new) }
+    ensures same_reader { R.place reader.new ≡ R.place reader.old }
+    ensures same_writer { W.place writer.new ≡ W.place writer.old }
+{
+    let mut player = Player::new(alloc)?;
+    let outcome = player.play(alloc, Echo::Off, Trace::Text, reader, writer);
     mem::forget(player);
     outcome
 }

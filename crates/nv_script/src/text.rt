@@ -68,7 +68,7 @@ pub(crate) fn push_refused(out: &mut Vec<u8>, fault: &Fault) -> Result<(), Alloc
 }
 
 /// Adds a number behind a label.
-fn push_labelled(out: &mut Vec<u8>, label: &[u8], number: u64) -> Result<(), AllocError>
+pub(crate) fn push_labelled(out: &mut Vec<u8>, label: &[u8], number: u64) -> Result<(), AllocError>
     ensures { OnOk result (out.new.items ≡ out.old.items ++ (label.now ++ decimal number)) }
 {
     out.extend_from_slice(label)?;

@@ -38,6 +38,8 @@ mod stops;
 #[cfg(test)]
 mod told;
 #[cfg(test)]
+mod traced;
+#[cfg(test)]
 mod twins;
 #[cfg(test)]
 mod words;

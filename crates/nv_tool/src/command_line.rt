@@ -16,8 +16,9 @@ const VERSION: &str = "0.1.0";
 const ABOUT: &str = "The core of a file system for persistent memory, driven by scripts";
 
 pub(crate) const AFTER_HELP: &str = "\
-Try 'novacore play --help' for what a script is, with one of three lines to begin with, and
-'novacore work --help' for scripts that threads play.
+Try 'novacore play --help' for what a script is, with one of three lines to begin with,
+'novacore trace --help' for the steps that it makes, and 'novacore work --help' for scripts that
+threads play.
 
 Exit status: 0 if all was done, 1 after a fault, 2 for a command line that is refused.";
 
@@ -69,6 +70,42 @@ line 2 that is unknown. Behind it stands what is wrong with the line, as
 
 A FILE that can't be opened is the fault 'E28 Read'. '--summary' lists all refusals on standard
 error, each behind the number of lines that had it.
+
+Exit status: 0 if the whole script was played, 1 after a fault, 2 for a command line that is refused.";
+
+const TRACE: &str = "trace";
+
+const TRACE_ABOUT: &str = "Play a script, and print each step that its calls make";
+
+pub(crate) const TRACE_AFTER_HELP: &str = "\
+A script is played as by 'novacore play', and before the answer to a line stands a line for each
+event that it makes, behind two spaces. A call that starts is '  LINE ACTOR CALL start', and a step
+of it '  LINE ACTOR CALL STEP [AT] REPLY': the step's name, its inode slot, CPU or directory, and
+'moved', 'done', 'refused' or 'waits OTHER'. A commit point ends in ' commit N'. To begin with, save
+these two lines as steps.nova:
+
+  format blocks=16 cpus=2 block=4 page=4 inodes=8 snaps=4 actors=3
+  do 0 mode 0.1 448
+
+They give the root directory another mode. 'novacore trace steps.nova' prints:
+
+  formatted
+    2 0 mode start
+    2 0 mode lock 0 moved
+    2 0 mode check moved
+    2 0 mode ready moved
+    2 0 mode enter moved
+    2 0 mode append 0 moved
+    2 0 mode publish 0 moved commit 1
+    2 0 mode retire 0 moved
+    2 0 mode leave moved
+    2 0 mode unlock 0 done
+  done
+
+'do', 'start', 'go' and 'run' make events. Where an actor is busy or has no call, there is none.
+Without the lines that begin with a space the output is that of 'novacore play'.
+
+Faults are those of 'novacore play', and what is wrong stands behind them.
 
 Exit status: 0 if the whole script was played, 1 after a fault, 2 for a command line that is refused.";
 
@@ -159,6 +196,10 @@ pub(crate) enum Task<'a> {
         file: Option<&'a str>,
         manner: Manner,
     },
+    /// To play a script as well, and tell each step.
+    Trace {
+        file: Option<&'a str>,
+    },
     /// To have so many threads make the calls of a script, beside so many cleaners.
     Work {
         file: Option<&'a str>,
@@ -178,6 +219,9 @@ impl<'a> Task<'a> {
             Some((PLAY, play)) => Ok(Task::Play {
                 file: file_of(play),
                 manner: manner_of(play),
+            }),
+            Some((TRACE, trace)) => Ok(Task::Trace {
+                file: file_of(trace),
             }),
             Some((WORK, work)) => Ok(Task::Work {
                 file: file_of(work),
@@ -231,6 +275,7 @@ fn described<'a>(alloc: Global) -> Result<Command<'a>, AllocError> {
         .subcommand_required(true)
         .arg_required_else_help(true)
         .subcommand(play(alloc)?)?
+        .subcommand(trace(alloc)?)?
         .subcommand(work(alloc)?)
 }
 
@@ -243,6 +288,14 @@ fn play<'a>(alloc: Global) -> Result<Command<'a>, AllocError> {
         .arg(flag(alloc, ECHO, ECHO_HELP))?
         .arg(flag(alloc, SUMMARY, SUMMARY_HELP))?
         .arg(flag(alloc, QUIET, QUIET_HELP))
+}
+
+/// The subcommand that plays a script and tells each step.
+fn trace<'a>(alloc: Global) -> Result<Command<'a>, AllocError> {
+    Command::new(alloc, TRACE)
+        .about(TRACE_ABOUT)
+        .after_help(TRACE_AFTER_HELP)
+        .arg(Arg::new(alloc, FILE).help(FILE_HELP))
 }
 
 /// An option that is given or not.

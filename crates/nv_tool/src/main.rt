@@ -28,7 +28,7 @@ use std::thread::Threads;
 use std::time::Clock;
 use std::{env, fs, io};
 use terminal::converse;
-use told::{STANDARD_INPUT, Told, echo_told, play_told, work_told};
+use told::{STANDARD_INPUT, Told, echo_told, play_told, trace_told, work_told};
 
 /// The line that tells of want of memory. It takes none.
 const OUT_OF_MEMORY: &str = "novacore: E1 OutOfMemory\n";
@@ -166,6 +166,21 @@ fn play_script<R: AllocGlobal + Clock + Eprint + Files + Input + Print>(
     told
 }
 
+/// Plays a script from a file, or from standard input where none is named, and tells each step. It asks for no line at a terminal,
+/// and does not tell how far it has come: lines of events do.
+fn trace_script<R: AllocGlobal + Files + Input + Print>(rt: &R, file: Option<&str>) -> Told {
+    let mut writer = io::writer(rt);
+    match file {
+        None => trace_told(rt.alloc(), STANDARD_INPUT, &mut rt.reader(), &mut writer),
+        Some(path) => {
+            let Ok(mut file) = fs::open(rt, path) else {
+                return Told::unread();
+            };
+            trace_told(rt.alloc(), path, &mut file, &mut writer)
+        }
+    }
+}
+
 /// Has threads play a script from a file, or from standard input where none is named.
 fn work_script<R: AllocGlobal + Files + Input + Print + Threads + Wait + Sync>(
     rt: &R,
@@ -210,6 +225,7 @@ fn perform<R: AllocGlobal + Clock + Env + Files + Input + Print + Eprint + Threa
         Ok(Task::Play { file, manner }) => {
             Ok(play_script(rt, file, manner, terminals).into_outcome())
         }
+        Ok(Task::Trace { file }) => Ok(trace_script(rt, file).into_outcome()),
         Ok(
             Task::Work {
                 file,

@@ -6,11 +6,14 @@ mod help;
 mod hints;
 mod refusals;
 mod terminal;
+mod trace;
 mod work;
 
-use crate::command_line::{AFTER_HELP, Manner, PLAY_AFTER_HELP, Task, WORK_AFTER_HELP};
+use crate::command_line::{
+    AFTER_HELP, Manner, PLAY_AFTER_HELP, TRACE_AFTER_HELP, Task, WORK_AFTER_HELP,
+};
 use crate::{Terminals, play_script};
-use help::{HELP, HELP_OF_HELP, PLAY_HELP, WORK_HELP};
+use help::{HELP, HELP_OF_HELP, PLAY_HELP, TRACE_HELP, WORK_HELP};
 use nv_base::Fault;
 use nv_script::{Echo, play};
 use refusals::REFUSALS;
@@ -98,7 +101,7 @@ fn whole_help(alloc: Global, head: &str, after: &str) -> Result<String, AllocErr
 #[test]
 fn help_and_the_version_are_shown(rt: HostRuntime) -> Result<(), AllocError> {
     let alloc = rt.alloc();
-    let helps: [(&[&str], i32, &str, &str); 7] = [
+    let helps: [(&[&str], i32, &str, &str); 8] = [
         (&["novacore"], 2, HELP, AFTER_HELP),
         (&["novacore", "--"], 2, HELP, AFTER_HELP),
         (&["novacore", "--help"], 0, HELP, AFTER_HELP),
@@ -108,6 +111,12 @@ fn help_and_the_version_are_shown(rt: HostRuntime) -> Result<(), AllocError> {
             0,
             PLAY_HELP,
             PLAY_AFTER_HELP,
+        ),
+        (
+            &["novacore", "trace", "--help"],
+            0,
+            TRACE_HELP,
+            TRACE_AFTER_HELP,
         ),
         (&["novacore", "work", "-h"], 0, WORK_HELP, WORK_AFTER_HELP),
         (&["novacore", "help", "work"], 0, WORK_HELP, WORK_AFTER_HELP),

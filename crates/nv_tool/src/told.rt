@@ -5,6 +5,7 @@ ghost use Rattle.nv_script.specs.Echo.{PlaysEchoed, PlaysWithoutEchoes};
 ghost use Rattle.nv_script.specs.Play.{PlaysScript};
 ghost use Rattle.nv_script.specs.SerialPlayer.{serial_player};
 ghost use Rattle.nv_script.specs.Serially.{PlaysAlone};
+ghost use Rattle.nv_script.specs.Trace.{PlaysWithoutEvents, TracesScript};
 ghost use Rattle.nv_work.specs.Work.{WorksScript};
 
 use crate::crowd::Crowd;
@@ -12,7 +13,10 @@ use crate::progress::Progress;
 use crate::watched::{WatchedReader, WatchedWriter};
 use nv_base::Fault;
 use nv_hints::{By, KeptReader, Recent, Tally, TallyWriter, hint_line, push_summary};
-use nv_script::{Echo, Outcome, echo_counted_and_leave, play_counted_and_leave};
+use nv_script::{
+    Echo, Outcome, WriteCounter, echo_counted_and_leave, play_counted_and_leave,
+    trace_counted_and_leave,
+};
 use nv_work::{OpenGate, work_counted};
 use std::alloc::{AllocError, Global};
 use std::io::{Read, Write};
@@ -149,6 +153,43 @@ fn echo_kept<'p, R: Read, W: Write, T: Clock + Eprint>(
     let mut reader = WatchedReader::new(alloc, reader, recent, progress);
     let mut writer = WatchedWriter::new(alloc, writer, tally, progress);
     echo_counted_and_leave(alloc, &mut reader, &mut writer)
+}
+
+/// Plays a script of this name, and writes the events of each line before its answer. The writer gets what
+/// [`trace_counted_and_leave`] writes, and nothing of what is told of it.
+pub(crate) fn trace_told<R: Read, W: Write>(
+    alloc: Global,
+    script: &str,
+    reader: &mut R,
+    writer: &mut W,
+) -> Told
+    // The writer gets events and answers alone.
+    ensures script { TracesScript result.ended (R.remaining reader.old)
+        (R.remaining reader.new) (W.contents writer.old) (W.contents writer.new) }
+    ensures plain { PlaysWithoutEvents result.ended (R.remaining reader.old)
+        (R.remaining reader.new) (W.contents writer.old) (W.contents writer.new) }
+{
+    let mut recent = Recent::new(alloc);
+    let tally = Tally::new(alloc, false);
+    let ended = trace_kept(alloc, reader, writer, &mut recent);
+    Told::of(alloc, script, By::Play, ended, &recent, &tally)
+}
+
+/// Plays a script with its events, where the lines that are read last are kept.
+fn trace_kept<R: Read, W: Write>(
+    alloc: Global,
+    reader: &mut R,
+    writer: &mut W,
+    recent: &mut Recent,
+) -> Result<(), Fault>
+    ensures script { TracesScript result (R.remaining reader.old) (R.remaining reader.new)
+        (W.contents writer.old) (W.contents writer.new) }
+    ensures plain { PlaysWithoutEvents result (R.remaining reader.old) (R.remaining reader.new)
+        (W.contents writer.old) (W.contents writer.new) }
+{
+    let mut reader = KeptReader::new(alloc, reader, recent);
+    let mut writer = WriteCounter::new(writer);
+    trace_counted_and_leave(alloc, &mut reader, &mut writer)
 }
 
 /// Has threads play a script of this name. The writer gets what [`work_counted`] writes, and nothing of what is told of it.

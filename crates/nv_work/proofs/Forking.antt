@@ -14,6 +14,7 @@ use Rattle.nv_script.specs.declared.feed.LineResult.{LineResult}
 use Rattle.nv_script.specs.declared.feed.LineResult.TheVariants as taken
 use Rattle.nv_script.specs.Lines.{IsLine, LineResultIs, WritesFront, WritesSome, ended}
 use Rattle.nv_script.specs.Play.{EndsBy, PlaysAll, machine_player, most_lines, no_head}
+use Rattle.nv_script.specs.declared.trace.Trace.TheVariants as trace
 use Rattle.nv_script.specs.Results.{AtLine, HoldsNone, Sent, TakesLine, ending_of, is_line}
 use Rattle.nv_work.specs.Taken.{AllTaken, lists_of}
 use Rattle.nv_work.specs.Threads.{calls_in, forked_of, shares_of}
@@ -153,7 +154,7 @@ front_not_taken input known old new gathered number world few at fault.Read left
     (inl (reads_fail input known old to.written to.gathered number world few now left ahead line t.4 t.3 t.2), t.1)
 front_not_taken input known old new gathered number world few at fault.Write left ahead line to t =
     let part = written_some input known old new gathered number world few at left to.written t.0 in
-    (none_gathered no_head input left old to.written to.gathered t.1 part, t.1)
+    (none_gathered trace.Off no_head input left old to.written to.gathered t.1 part, t.1)
 front_not_taken input known old new gathered number world few at (fault.ScriptFault why n) left ahead line to t =
     let now = written_on input known old new gathered number world few at to.written to.gathered t.0 in (
       no_front_line input known old to.written to.gathered number world few now t.1 (fault.ScriptFault why n) (prepend_known ahead left)
@@ -184,7 +185,7 @@ broken_fork input left old new f rest forks some =
     let more = ended (f.line ∷ f.behind) ++ rest in
     let same : ended (lines_in f) ++ rest ≡ ended f.front ++ more = ap (λ bytes. bytes ++ rest) (ended-append f.front (f.line ∷ f.behind))
     ∙ append_assoc (ended f.front) (ended (f.line ∷ f.behind)) rest in
-    broken no_head input left old new f.front more f.text (Some f.world) (if_same input _ _ same forks.split)
+    broken trace.Off no_head input left old new f.front more f.text (Some f.world) (if_same input _ _ same forks.split)
     (omega (arith, few, length-append f.front (f.line ∷ f.behind))) forks.is.plays some
 
 module _ (input known old new : Option (List ℕ)) (gathered : List ℕ) (number : ℕ) (f : Fork)
@@ -199,7 +200,7 @@ module _ (input known old new : Option (List ℕ)) (gathered : List ℕ) (number
       → EndsBy machine_player fault.Write input left (λ text. WritesFront old new' text gathered')
   fork_broken left new' gathered' some none =
       let p = forks_on known [] (Consumes-nil known) in
-      none_gathered no_head input left old new' gathered' none
+      none_gathered trace.Off no_head input left old new' gathered' none
       (broken_fork input left old new' f ([] ++ p.0) p.1 (writes_some old new new' f.text gathered at.written some))
 
   fork_reads_fail : (left : Option (List ℕ)) (ahead piece : List ℕ) → Consumes known (prepend_known ahead left) piece → IsLine piece

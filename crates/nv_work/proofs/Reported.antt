@@ -62,21 +62,21 @@ front_fault_at why from to m slice line same is = subst (λ (bytes : List ℕ). 
 
 -- a command leaves a world
 world_left : (m : machine.World) (line text : List ℕ) (n : Option machine.World) → is_skipped line ≡ false
-    → Plays machine_player (Some m) line text n → (w : machine.World) × (n ≡ Some w)
+    → Plays machine_player 0 (Some m) line text n → (w : machine.World) × (n ≡ Some w)
 world_left m line text n skipped plays = led (rw skipped at plays) where
-  led : PlaysWords machine_player (Some m) (words_of line) text n → (w : machine.World) × (n ≡ Some w)
+  led : PlaysWords machine_player 0 (Some m) (words_of line) text n → (w : machine.World) × (n ≡ Some w)
   led (command, world, read, acts, same) = (world, same)
 
 -- a report was sent
 pub reported : (m : machine.World) (line : List ℕ) (from to : Sent) (new : Option WorldState) → is_skipped line ≡ false
     → command_of (words_of line) ≢ Ok command.Stop → HasRun m → (n : Option machine.World) (text : List ℕ)
-    → Plays machine_player (Some m) line text n → ShowsAny new n → Sends from to text
+    → Plays machine_player 0 (Some m) line text n → ShowsAny new n → Sends from to text
     → ReportIs (Ok tt) line m from to new
 reported m line from to new skipped other has n text plays shown sends =
     let left = world_left m line text n skipped plays in (
       left.0,
       text,
-      subst (λ (w : Option machine.World). Plays machine_player (Some m) line text w) left.1 plays,
+      subst (λ (w : Option machine.World). Plays machine_player 0 (Some m) line text w) left.1 plays,
       subst (λ (w : Option machine.World). ShowsAny new w) left.1 shown,
       subst (λ (w : Option machine.World). HasAnyRun w) left.1 (run_line m line text n skipped other plays has),
       sends,

@@ -21,6 +21,7 @@ use Rattle.nv_work.specs.Threads.{AreThreadTexts, calls_in, shares_of}
 use Rattle.nv_work.specs.Work.{AreAnswersTo, BeginAlike, EndsAmong, EndsBefore, EndsForked, EndsReported, EndsThreads, FollowsFork, Fork, Forks, Works, WorksBy}
 use Rattle.nv_work.specs.Working.{AddsText, ClosesAfter, RefusesThreads, ReportIs, TellsAll}
 use Rattle.nv_script.proofs.Breaks.{longer, shorter}
+use Rattle.nv_script.specs.declared.trace.Trace.TheVariants as trace
 use Rattle.nv_script.proofs.Endings.{broken_off, broken_played, ends_on}
 use Rattle.nv_work.proofs.Forking.{broken_fork}
 use Rattle.nv_script.proofs.Known.{writes_all, writes_end, writes_grown, writes_rest, writes_some}
@@ -43,8 +44,8 @@ module _ (input : Option (List ℕ)) (Old New : List ℕ → Type 0) (turn : (te
   before_on fault.Read left (inr e) = inr (forked_on _ e)
   before_on fault.ActorBusy left e = forked_on _ e
   before_on (fault.Mismatch part) left e = forked_on _ e
-  before_on fault.Write left e = ends_on no_head (Err fault.Write) input left Old New turn e
-  before_on (fault.OutOfMemory witness) left (inl e) = inl (ends_on no_head (Err (fault.OutOfMemory witness)) input left Old New turn e)
+  before_on fault.Write left e = ends_on trace.Off no_head (Err fault.Write) input left Old New turn e
+  before_on (fault.OutOfMemory witness) left (inl e) = inl (ends_on trace.Off no_head (Err (fault.OutOfMemory witness)) input left Old New turn e)
   before_on (fault.OutOfMemory witness) left (inr e) = inr (forked_on _ e)
   before_on _ left e = absurd e
 
@@ -107,7 +108,7 @@ module _ (threads : ℕ) where
     Broken = WorksBy threads fault.Write input left (λ text. Appends old new text)
 
     after_off : (Also : List (List ℕ) → List ℕ → Option World → Type 0) → EndsAfter machine_player input Before Also → Broken
-    after_off Also e = inl (broken_played no_head input left old mid new gathered e.0 e.1 e.2 e.3 e.4 e.6 some)
+    after_off Also e = inl (broken_played trace.Off no_head input left old mid new gathered e.0 e.1 e.2 e.3 e.4 e.6 some)
 
     forked_off : (Also : Fork → List ℕ → Type 0) → EndsForked input Before Also → Broken
     forked_off Also e = inl (broken_fork input left old new e.0 e.1 e.2 (writes_some old mid new e.0.text gathered e.4 some))
@@ -120,9 +121,9 @@ module _ (threads : ℕ) where
     before_off fault.Read (inr e) = forked_off _ e
     before_off fault.ActorBusy e = forked_off _ e
     before_off (fault.Mismatch part) e = forked_off _ e
-    before_off fault.Write e = inl (broken_off no_head (Err fault.Write) input left old mid new gathered e some)
+    before_off fault.Write e = inl (broken_off trace.Off no_head (Err fault.Write) input left old mid new gathered e some)
     before_off (fault.OutOfMemory witness) (inl e) =
-        inl (broken_off no_head (Err (fault.OutOfMemory witness)) input left old mid new gathered e some)
+        inl (broken_off trace.Off no_head (Err (fault.OutOfMemory witness)) input left old mid new gathered e some)
     before_off (fault.OutOfMemory witness) (inr e) = forked_off _ e
     before_off _ e = absurd e
 
@@ -345,7 +346,7 @@ audit_is_line = (
 -- the answers of threads and the reports were sent
 pub tells_all : (a b c d e : Sent) (texts : List (List ℕ)) → Sends a b (concat texts) → (shown : Option WorldState) (m n o : World)
     → ShowsAny shown (Some m) → HasRun m → (tree snaps : List ℕ)
-    → Plays machine_player (Some m) (codes "tree") tree (Some n) → Plays machine_player (Some n) (codes "snaps") snaps (Some o)
+    → Plays machine_player 0 (Some m) (codes "tree") tree (Some n) → Plays machine_player 0 (Some n) (codes "snaps") snaps (Some o)
     → Sends b c tree → Sends c d snaps → (r : Result (Unit {0}) Fault) (world : Option WorldState)
     → ReportIs r (codes "audit") o d e world → TellsAll r texts shown a e
 tells_all a b c d e texts first shown m n o shows run tree snaps plays more second third r world is = by r is where

@@ -94,7 +94,7 @@ AddsText (Err _) old new text = ⊥
 
 -- a report on the world was sent, or not
 abbrev pub ReportIs : Result (Unit {0}) Fault → List ℕ → machine.World → Sent → Sent → Option WorldState → Type 0
-ReportIs (Ok done) line m old new world = (n : machine.World) × (text : List ℕ) × Plays machine_player (Some m) line text (Some n)
+ReportIs (Ok done) line m old new world = (n : machine.World) × (text : List ℕ) × Plays machine_player 0 (Some m) line text (Some n)
     × ShowsAny world (Some n) × HasRun n × Sends old new text
 ReportIs (Err why) line m old new world = AddsText (Err why) old new []
 

@@ -7,9 +7,10 @@ The core of a file system for persistent memory, driven by scripts
 Usage: novacore <COMMAND>
 
 Commands:
-  play  Play a script, and print what each of its lines is answered
-  work  Play a script whose calls threads make, and print what they are answered
-  help  Print this message or the help of the given subcommand(s)
+  play   Play a script, and print what each of its lines is answered
+  trace  Play a script, and print each step that its calls make
+  work   Play a script whose calls threads make, and print what they are answered
+  help   Print this message or the help of the given subcommand(s)
 
 Options:
   -h, --help     Print help
@@ -29,6 +30,18 @@ Options:
       --summary  Tell on standard error how many lines had each refusal
       --quiet    Don't tell at a terminal how far a FILE has been played
   -h, --help     Print help
+";
+
+pub(crate) const TRACE_HELP: &str = "\
+Play a script, and print each step that its calls make
+
+Usage: novacore trace [FILE]
+
+Arguments:
+  [FILE]  The script; without FILE, or where it is -, from standard input
+
+Options:
+  -h, --help  Print help
 ";
 
 pub(crate) const WORK_HELP: &str = "\

@@ -1,6 +1,12 @@
 use Rattle.std.proofs.Common.{[]}
-use Rattle.nv_script.proofs.Endings.{answers_at}
+use Rattle.nv_script.specs.declared.trace.Trace.TheVariants as trace
+use Rattle.nv_script.proofs.Endings.{answers_at, told_off}
 use Rattle.nv_script.proofs.player.Player.play_taken.Goals as goal
 
 pub returns-clause-line : goal.returns-clause-line
-returns-clause-line g c = answers_at [] c.answer_line.result _ _ _ _ _ _ c.as_slice.ensures.value c.answer_line.ensures.line
+returns-clause-line g c =
+    let telling = c.answers-telling.result in
+    let told = c.answers-telling.ensures in
+    answers_at trace.Off 0 [] c.answer_line.result _ _ _ _ _ _ c.as_slice.ensures.value
+    (told_off telling.trace telling.number telling.head.now c.answer_line.result _ _ _ _ _ told.trace told.number told.head
+    c.answer_line.ensures.line)

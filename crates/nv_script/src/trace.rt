@@ -1,0 +1,261 @@
+//! Commands whose events are told: a line for each start and each step, before the answer.
+
+ghost use Rattle.std.specs.Prelude.{◌≡◌, ◌++◌, ◌+◌, IfOk, OnOk, Some, option_map};
+ghost use Rattle.nv_core.specs.CallNames.{call_name};
+ghost use Rattle.nv_core.specs.NextSteps.{name_in};
+ghost use Rattle.nv_core.specs.Worlds.{IsStep, Leads, Shows, reply_of, told_by};
+ghost use Rattle.nv_core.specs.declared.event.Event.{Event};
+ghost use Rattle.nv_machine.specs.World as machine;
+ghost use Rattle.nv_machine.specs.World.{actor_at};
+ghost use Rattle.nv_restart.specs.Happenings.{Replied};
+ghost use Rattle.nv_script.specs.Trace.{CallsTraced, GoesTraced, RunsTraced, event_head, start_line, start_lines, step_by, step_text};
+ghost use Rattle.nv_script.specs.Traced.{Adds, IsTracedStep};
+
+use crate::text::push_labelled;
+use crate::traced_words::{call_text, push_optional, push_replied, step_place, step_word};
+use nv_base::CommitNo;
+use nv_core::{Call, CallName, MOST_STEPS, NextStep, Reply, World};
+use std::alloc::AllocError;
+
+/// Whether a line for each event stands before the answer to a line, and in which form.
+#[derive(Clone, Copy, Debug, PartialEq, Eq, Drop)]
+pub enum Trace {
+    /// Answers alone are written.
+    Off,
+    /// Lines of words come first.
+    Text,
+}
+
+/// Adds what the line of an event begins with.
+fn push_event_head(
+    out: &mut Vec<u8>,
+    number: u64,
+    actor: u64,
+    call: CallName,
+) -> Result<(), AllocError>
+    ensures { OnOk result (out.new.items ≡ out.old.items ++ event_head number actor call) }
+{
+    push_labelled(out, b"  ", number)?;
+    push_labelled(out, b" ", actor)?;
+    out.push(b' ')?;
+    out.extend_from_slice(call_text(call))?;
+    Ok(out.push(b' ')?)
+}
+
+/// Adds the line of a start, where the call was started.
+fn push_start(
+    out: &mut Vec<u8>,
+    trace: Trace,
+    number: u64,
+    actor: u64,
+    call: CallName,
+    reply: &Reply,
+) -> Result<(), AllocError>
+    ensures { OnOk result (out.new.items
+        ≡ out.old.items ++ start_lines trace number actor call (reply_of reply.now)) }
+{
+    match reply {
+        Reply::Started => push_start_line(out, trace, number, actor, call),
+        _ => Ok(()),
+    }
+}
+
+/// Adds the line of a start.
+fn push_start_line(
+    out: &mut Vec<u8>,
+    trace: Trace,
+    number: u64,
+    actor: u64,
+    call: CallName,
+) -> Result<(), AllocError>
+    ensures { OnOk result (out.new.items
+        ≡ out.old.items ++ start_line trace number actor call) }
+{
+    match trace {
+        Trace::Off => Ok(()),
+        Trace::Text => {
+            push_event_head(out, number, actor, call)?;
+            out.extend_from_slice(b"start\n")
+        }
+    }
+}
+
+/// Adds the line of a step, of which this was told before it was made.
+fn push_step(
+    out: &mut Vec<u8>,
+    trace: Trace,
+    number: u64,
+    actor: u64,
+    call: CallName,
+    next: &NextStep,
+    reply: &Reply,
+) -> Result<(), AllocError>
+    ensures { OnOk result (out.new.items ≡ out.old.items
+        ++ step_by trace number actor call (name_in next.now.name) (reply_of reply.now)
+        next.now.waits_for next.now.commits) }
+{
+    match trace {
+        Trace::Off => Ok(()),
+        Trace::Text => push_step_text(out, number, actor, call, next, reply),
+    }
+}
+
+/// Adds the line of a step, as words.
+fn push_step_text(
+    out: &mut Vec<u8>,
+    number: u64,
+    actor: u64,
+    call: CallName,
+    next: &NextStep,
+    reply: &Reply,
+) -> Result<(), AllocError>
+    ensures { OnOk result (out.new.items ≡ out.old.items
+        ++ step_text number actor call (name_in next.now.name) (reply_of reply.now)
+        next.now.waits_for next.now.commits) }
+{
+    push_event_head(out, number, actor, call)?;
+    out.extend_from_slice(step_word(next.name))?;
+    push_optional(out, b" ", step_place(next.name))?;
+    out.push(b' ')?;
+    push_replied(out, reply, next.waits_for)?;
+    push_optional(out, b" commit ", number_of(next.commits))?;
+    Ok(out.push(b'\n')?)
+}
+
+/// The number of a commit, where there is one.
+fn number_of(commit: Option<CommitNo>) -> Option<u64>
+    ensures { result ≡ commit }
+{
+    match commit {
+        Some(commit) => Some(commit.number()),
+        None => None,
+    }
+}
+
+/// Starts a call of an actor, and adds the line of that event.
+pub(crate) fn start(
+    world: &mut World,
+    trace: Trace,
+    number: u64,
+    actor: u64,
+    call: Call,
+    out: &mut Vec<u8>,
+) -> Result<Reply, AllocError>
+    ensures step { IfOk result (λ reply. (m : machine.World) → Shows world.old m
+        → IsStep m (Event.Start actor call) reply world.new) }
+    ensures event { IfOk result (λ reply. out.new.items
+        ≡ out.old.items ++ start_lines trace number actor (call_name call) (reply_of reply)) }
+{
+    let name = CallName::of(&call);
+    let reply = world.start(actor, call);
+    push_start(out, trace, number, actor, name, &reply)?;
+    Ok(reply)
+}
+
+/// Makes one step of an actor's call, and adds the line of that event. An event of an actor that runs no call has none.
+fn step(
+    world: &mut World,
+    trace: Trace,
+    number: u64,
+    actor: u64,
+    out: &mut Vec<u8>,
+) -> Result<Reply, AllocError>
+    ensures step { IfOk result (λ reply. (m : machine.World) → Shows world.old m
+        → IsTracedStep trace number m actor reply out.old.items out.new.items world.new) }
+    ensures replied { IfOk result (λ reply. told_by reply ≡ Replied (reply_of reply)) }
+{
+    match world.running_call(actor) {
+        Some(call) => step_of(world, trace, number, actor, call, out),
+        None => Ok(world.go(actor)),
+    }
+}
+
+/// Makes one step of the call that an actor runs, and adds its line. The world is asked before the step what it will be.
+fn step_of(
+    world: &mut World,
+    trace: Trace,
+    number: u64,
+    actor: u64,
+    call: CallName,
+    out: &mut Vec<u8>,
+) -> Result<Reply, AllocError>
+    requires { (m : machine.World) → Shows world.old m
+        → Some call ≡ option_map (λ r. call_name r.call) (actor_at m actor).running }
+    ensures step { IfOk result (λ reply. (m : machine.World) → Shows world.old m
+        → IsTracedStep trace number m actor reply out.old.items out.new.items world.new) }
+    ensures replied { IfOk result (λ reply. told_by reply ≡ Replied (reply_of reply)) }
+{
+    let Some(next) = world.next_step(actor) else {
+        return Ok(world.go(actor));
+    };
+    let reply = world.go(actor);
+    push_step(out, trace, number, actor, call, &next, &reply)?;
+    Ok(reply)
+}
+
+/// Makes one step of an actor's call and `more` at most, up to the first reply that it did not move, and adds the lines of their
+/// events.
+pub(crate) fn go_on(
+    world: &mut World,
+    trace: Trace,
+    number: u64,
+    actor: u64,
+    more: u64,
+    out: &mut Vec<u8>,
+) -> Result<Reply, AllocError>
+    // Each event that is made has its line, and the last step has one too.
+    ensures goes { IfOk result (λ reply. Leads (λ m n. Adds out.old.items out.new.items (λ events.
+        GoesTraced trace number (more + 1) m actor events (reply_of reply) n)) world.old world.new) }
+    ensures replied { IfOk result (λ reply. told_by reply ≡ Replied (reply_of reply)) }
+{
+    let mut left = more;
+    loop {
+        let reply = step(world, trace, number, actor, out)?;
+        match reply {
+            Reply::Moved => {}
+            reply => return Ok(reply),
+        }
+        if left == 0 {
+            return Ok(Reply::Moved);
+        }
+        left -= 1;
+    }
+}
+
+/// Makes the steps of an actor's call up to its end, and adds the lines of their events.
+pub(crate) fn finish(
+    world: &mut World,
+    trace: Trace,
+    number: u64,
+    actor: u64,
+    out: &mut Vec<u8>,
+) -> Result<Reply, AllocError>
+    ensures runs { IfOk result (λ reply. Leads (λ m n. Adds out.old.items out.new.items (λ events.
+        RunsTraced trace number m actor events (reply_of reply) n)) world.old world.new) }
+    ensures replied { IfOk result (λ reply. told_by reply ≡ Replied (reply_of reply)) }
+{
+    // No call has so many steps.
+    world.calls_end();
+    go_on(world, trace, number, actor, MOST_STEPS - 1, out)
+}
+
+/// Makes a whole call of an actor, and adds the lines of its events: its start, and its steps up to its end.
+pub(crate) fn call(
+    world: &mut World,
+    trace: Trace,
+    number: u64,
+    actor: u64,
+    call: Call,
+    out: &mut Vec<u8>,
+) -> Result<Reply, AllocError>
+    ensures calls { IfOk result (λ reply. Leads (λ m n. Adds out.old.items out.new.items (λ events.
+        CallsTraced trace number m actor call events (reply_of reply) n)) world.old world.new) }
+    ensures replied { IfOk result (λ reply. (m : machine.World) → Shows world.old m
+        → told_by reply ≡ Replied (reply_of reply)) }
+{
+    let reply = start(world, trace, number, actor, call, out)?;
+    match reply {
+        Reply::Started => finish(world, trace, number, actor, out),
+        refused => Ok(refused),
+    }
+}
