@@ -8,7 +8,7 @@ use Rattle.nv_calls.specs.declared.call.Call.TheVariants as call
 use Rattle.nv_calls.specs.declared.snapshot_or_cleaner_call.SnapshotOrCleanerCall.{SnapshotOrCleanerCall}
 use Rattle.nv_calls.specs.declared.snapshot_or_cleaner_call.SnapshotOrCleanerCall.TheVariants as snapshot_or_cleaner
 use Rattle.nv_calls.specs.declared.update.Update.TheVariants as update
-use Rattle.nv_service.specs.Sessions.{IsChangedBy, IsCommittedBy, IsViewedBy, SessionValue}
+use Rattle.nv_service.specs.Sessions.{HeldValue, IsChangedBy, IsCommittedBy, IsViewedBy, SessionValue, with_held}
 use Rattle.nv_service.specs.declared.seen.Seen.{Seen}
 use Rattle.nv_service.specs.declared.seen.Seen.TheVariants.{Other}
 
@@ -30,11 +30,12 @@ IsAnswerTo (snapshot_or_cleaner.Auto ino) seen = HasCleaned seen
 abbrev pub once_snapped : SessionValue → SessionValue
 once_snapped before = record before { snapped = before.snapped + 1 }
 
--- what a call on snapshots or of a cleaner leaves of a session
-abbrev pub after_snapshot_or_cleaner : SnapshotOrCleanerCall → SessionValue → SessionValue
-after_snapshot_or_cleaner snapshot_or_cleaner.Snap before = once_snapped before
-after_snapshot_or_cleaner (snapshot_or_cleaner.Drop snapshot) before = once_snapped before
-after_snapshot_or_cleaner other before = before
+-- what a call on snapshots or of a cleaner leaves of a session, whose hand holds that at its end. One on snapshots has no hand
+abbrev pub after_snapshot_or_cleaner : SnapshotOrCleanerCall → HeldValue → SessionValue → SessionValue
+after_snapshot_or_cleaner snapshot_or_cleaner.Snap held before = once_snapped before
+after_snapshot_or_cleaner (snapshot_or_cleaner.Drop snapshot) held before = once_snapped before
+after_snapshot_or_cleaner (snapshot_or_cleaner.Show snapshot) held before = before
+after_snapshot_or_cleaner cleaner held before = with_held held before
 
 -- it is what the method of its name leaves
 abbrev pub IsMadeAs : ℕ → List ℕ → SessionValue → SessionValue → Call → Seen → Type 0
@@ -62,4 +63,4 @@ IsMadeAs opening opened before after (call.List dir) seen =
     IsViewedBy opened before after dir.ino (call.List dir) seen
 IsMadeAs opening opened before after (call.Lookup dir name) seen =
     IsViewedBy opened before after dir.ino (call.Lookup dir name) seen
-IsMadeAs opening opened before after (call.SnapshotOrCleaner c) seen = (after ≡ after_snapshot_or_cleaner c before) × IsAnswerTo c seen
+IsMadeAs opening opened before after (call.SnapshotOrCleaner c) seen = (after ≡ after_snapshot_or_cleaner c after.held before) × IsAnswerTo c seen

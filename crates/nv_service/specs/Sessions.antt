@@ -1,5 +1,7 @@
 -- A session to its contracts, and what its calls leave of it.
-use Rattle.std.specs.Prelude.{◌≡◌, ◌≢◌, ◌≤◌, ℕ, ◌+◌, true, false, List, Option, Some, None, is_some, slice_index}
+use Rattle.std.specs.Prelude.{◌≡◌, ◌≢◌, ◌≤◌, ℕ, ◌+◌, Bool, true, false, List, Option, Some, None, is_some, length, slice_index}
+use Rattle.nv_alloc.specs.Hand.{blocks_of}
+use Rattle.nv_alloc.specs.declared.hand.Hand.{Hand}
 use Rattle.nv_base.specs.declared.numbers.Handle.{Handle}
 use Rattle.nv_calls.specs.AllCalls.{is_nothing}
 use Rattle.nv_calls.specs.Commit.{ReceiptValue}
@@ -13,22 +15,45 @@ use Rattle.nv_calls.specs.declared.update.Update.TheVariants as update
 use Rattle.nv_calls.specs.declared.view.View.{View}
 use Rattle.nv_service.specs.Changing.{SeesPublished}
 use Rattle.nv_service.specs.Locked.{version_at}
+use Rattle.nv_service.specs.declared.giving_back.Giving.{Giving}
 use Rattle.nv_service.specs.declared.seen.Seen.{Seen}
 use Rattle.nv_service.specs.declared.seen.Seen.TheVariants as seen
+
+-- what a hand holds: how many blocks, and whether an inode number; and whether a list or the pool, which was asked for what is
+-- left of it, has not taken that
+pub record HeldValue : Type 0 where
+  pub blocks : ℕ
+  pub number : Bool
+  pub refused : Bool
+
+abbrev pub held_by : Hand → Giving → HeldValue
+held_by hand giving = record { blocks = length (blocks_of hand); number = is_some hand.ino; refused = giving.refused }
+
+abbrev pub nothing_held : HeldValue
+nothing_held = record { blocks = 0; number = false; refused = false }
+
+-- the hand holds nothing, except where it was refused
+abbrev pub IsGivenBack : HeldValue → Type 0
+IsGivenBack held = held.refused ≡ false → (held.blocks ≡ 0) × (held.number ≡ false)
 
 -- the number of its seat, its commits since the opening, its makings and drops of snapshots since, and the versions that it
 -- has seen, by inode, counted from the opening on.
 -- A session has the number of its seat, how many commits it has made since the opening, how many snapshots it has
--- made and dropped since, and the versions that it has seen.
+-- made and dropped since, the versions that it has seen, and what its hand holds.
 pub record SessionValue : Type 0 where
   pub number : ℕ
   pub commits : ℕ
   pub snapped : ℕ
   pub seen : List ℕ
+  pub held : HeldValue
 
--- that of a seat with so many commits, which has seen these versions and made and dropped no snapshot
+-- the same, but for what its hand holds
+abbrev pub with_held : HeldValue → SessionValue → SessionValue
+with_held held session = record session { held = held }
+
+-- that of a seat with so many commits, which has seen these versions, made and dropped no snapshot and holds nothing
 abbrev pub at_seat : ℕ → ℕ → List ℕ → SessionValue
-at_seat number commits seen = record { number = number; commits = commits; snapped = 0; seen = seen }
+at_seat number commits seen = record { number = number; commits = commits; snapped = 0; seen = seen; held = nothing_held }
 
 -- ---- what a call has seen
 
@@ -74,13 +99,13 @@ abbrev pub IsCommittedBy : ℕ → SessionValue → SessionValue → Update → 
 IsCommittedBy opening before after u (seen.Committed receipt) = HasReceipt opening before after u receipt
 IsCommittedBy opening before after u other = ⊥
 
--- a call that commits nothing is answered, and leaves the session as it was; any other is committed
+-- a call that commits nothing is answered, and leaves the session as it was, but for what its hand holds; any other is committed
 abbrev pub IsChangedBy : ℕ → SessionValue → SessionValue → Update → Seen → Type 0
 IsChangedBy opening before after u (seen.Viewed view) = ⊥
 IsChangedBy opening before after u (seen.Committed receipt) =
     (is_nothing (blank_call u) ≡ false) × HasReceipt opening before after u receipt
 IsChangedBy opening before after u (seen.Other answer) =
-    (is_nothing (blank_call u) ≡ true) × (answer ≡ answered None u) × (after ≡ before)
+    (is_nothing (blank_call u) ≡ true) × (answer ≡ answered None u) × (after ≡ with_held after.held before)
 
 -- ---- calls that read a node
 
@@ -98,6 +123,7 @@ pub record HasView (opened : List ℕ) (before after : SessionValue) (ino : ℕ)
   pub commits : after.commits ≡ before.commits
   pub snapped : after.snapped ≡ before.snapped
   pub seat : after.number ≡ before.number
+  pub held : after.held ≡ before.held
 
 -- the session has read this very call's inode.
 -- Viewed by a session: its call gave a view of that very call. The view is of no older version than was seen, and

@@ -7,9 +7,11 @@ ghost use Rattle.nv_base.specs.declared.fault.Fault.TheVariants as fault;
 ghost use Rattle.nv_base.specs.declared.fault.MismatchPart.TheVariants as part;
 ghost use Rattle.nv_service.specs.Cleaning.{CanRelease};
 ghost use Rattle.nv_service.specs.Refusing.{IsMisfit};
+ghost use Rattle.nv_service.specs.Sessions.{IsGivenBack, held_by};
 
 use crate::clean::can_release;
 use crate::ending::give_back;
+use crate::giving_back::Giving;
 use crate::guards::hold_at;
 use crate::names::{Blocks, Commits};
 use crate::service::Service;
@@ -30,14 +32,17 @@ pub(crate) fn drain_deferred<C: Commits, B: Blocks, R: Wait>(
     service: &Service<C, B>,
     hand: &mut Hand,
     mine: &mut Share<B>,
+    giving: &mut Giving,
     most: u64,
 ) -> Result<u64, Fault>
     requires part { 0 < mine.old.parts }
     requires amount { mine.old.amount ≡ length (blocks_of hand.old) }
+    requires back { IsGivenBack (held_by hand.old giving.old) }
     ensures few { IfOk result (λ n. n ≤ most) }
     ensures err { IfErr result IsMisfit }
     ensures parts { mine.new.parts ≡ mine.old.parts }
     ensures amount { mine.new.amount ≡ length (blocks_of hand.new) }
+    ensures back { IsGivenBack (held_by hand.new giving.new) }
 {
     let mut released = 0;
     // A turn that releases none is one whose record another drain took.
@@ -49,7 +54,7 @@ pub(crate) fn drain_deferred<C: Commits, B: Blocks, R: Wait>(
             break;
         };
         let end = release(rt, service, hand, mine, first);
-        give_back(rt, service, hand, mine);
+        give_back(rt, service, hand, mine, giving);
         match end {
             Ok(true) => released += 1,
             Ok(false) => {}

@@ -42,6 +42,7 @@ pub(crate) fn gather_sessions<C: Commits, B: Blocks>(
             blocks: held,
             notes: seen,
             asking: _,
+            giving: _,
         } = seat;
         commits.merge(made);
         snapped.merge(counted);

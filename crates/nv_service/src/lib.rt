@@ -21,6 +21,7 @@ mod ending;
 mod first_locks;
 mod fresh;
 mod gather;
+mod giving_back;
 mod guards;
 mod held;
 mod judge;

@@ -9,7 +9,7 @@ ghost use Rattle.nv_base.specs.declared.limits.TheConstants.{LOCK_ROUNDS};
 ghost use Rattle.nv_service.specs.Asking.{turned_end, turned_in, turned_round};
 ghost use Rattle.nv_service.specs.Refusing.{MayGiveUp, failed_by, failed_in, failed_round};
 ghost use Rattle.nv_service.specs.Rounds.{IsEndedBy, IsRoundOf};
-ghost use Rattle.nv_service.specs.Sessions.{IsChangedBy, SessionValue, answered, at_seat};
+ghost use Rattle.nv_service.specs.Sessions.{IsChangedBy, IsGivenBack, SessionValue, answered, at_seat, with_held};
 
 use crate::change::{Change, ChangeEnd};
 use crate::ending::{empty_hand, give_back};
@@ -183,11 +183,13 @@ impl<C: Commits, B: Blocks> Session<C, B> {
     ) -> Result<Seen, Fault>
         requires failures { S.failed source.old < 2 ^ 64 - 1 }
         ensures ok { IfOk result (IsChangedBy C.commit self.old self.new update) }
-        ensures same { KeepsOnErr result self.old self.new }
+        ensures same { KeepsOnErr result (with_held self.new.held self.old) self.new }
+        ensures held { IsGivenBack self.new.held }
         ensures err { IfErr result (MayGiveUp update) }
         ensures reads { S.failed source.new ≡ S.failed source.old + failed_in result }
     {
-        empty_hand(rt, service, &mut self.hand, &mut self.seat.blocks)?;
+        let mine = &mut self.seat.blocks;
+        empty_hand(rt, service, &mut self.hand, mine, &mut self.seat.giving)?;
         let spare = Hand::new(self.alloc, &service.geometry);
         let mut hand = mem::replace(&mut self.hand, spare);
         let number = take_number(rt, service, &update, &mut hand);
@@ -201,7 +203,8 @@ impl<C: Commits, B: Blocks> Session<C, B> {
             hand,
             source,
         );
-        give_back(rt, service, &mut hand, &mut self.seat.blocks);
+        let mine = &mut self.seat.blocks;
+        give_back(rt, service, &mut hand, mine, &mut self.seat.giving);
         mem::replace(&mut self.hand, hand).dismantle();
         result
     }

@@ -1,6 +1,7 @@
 //! A seat at the service.
 
 use crate::asking::Asking;
+use crate::giving_back::Giving;
 use crate::names::{Blocks, Commits};
 use crate::passes::Notes;
 use std::sync::ledger::Share;
@@ -14,4 +15,5 @@ pub(crate) struct Seat<C: Commits, B: Blocks> {
     pub(crate) blocks: Share<B>,
     pub(crate) notes: Notes<C>,
     pub(crate) asking: Asking,
+    pub(crate) giving: Giving,
 }

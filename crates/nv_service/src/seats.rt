@@ -11,6 +11,7 @@ ghost use Rattle.nv_alloc.specs.Numbers.{times};
 ghost use Rattle.nv_service.specs.Seats.{AreSeats, new_session};
 
 use crate::asking::Asking;
+use crate::giving_back::Giving;
 use crate::names::{Blocks, Commits, Cut, SnapLedger};
 use crate::passes::{Fresh, Maker, Notes};
 use crate::seat::Seat;
@@ -80,6 +81,7 @@ impl<C: Commits, B: Blocks> FreeSeat<C, B> {
             blocks,
             notes,
             asking: Asking::new(),
+            giving: Giving::new(),
         };
         Session {
             alloc,

@@ -1,6 +1,7 @@
 //! A session: a seat at the service, with its hand.
 
 ghost use Rattle.std.specs.Prelude.{◌≡◌};
+ghost use Rattle.nv_service.specs.Sessions.{IsGivenBack};
 
 use crate::names::{Blocks, Commits, SnapLedger};
 use crate::seat::Seat;
@@ -21,7 +22,7 @@ pub struct Session<C: Commits, B: Blocks> {
 impl<C: Commits, B: Blocks> Model for Session<C, B> {
     ghost use Rattle.std.specs.Prelude.{◌≡◌, length};
     ghost use Rattle.nv_alloc.specs.Hand.{blocks_of};
-    ghost use Rattle.nv_service.specs.Sessions.{SessionValue};
+    ghost use Rattle.nv_service.specs.Sessions.{IsGivenBack, SessionValue, held_by};
 
     ghost Value = { SessionValue };
 
@@ -30,16 +31,26 @@ impl<C: Commits, B: Blocks> Model for Session<C, B> {
       commits = s.seat.commits.amount;
       snapped = s.snapped.amount;
       seen = s.seat.notes;
+      held = held_by s.hand s.seat.giving;
     } };
 
-    // It has one part of each ledger, and as many blocks as its hand.
+    // It has one part of each ledger, and as many blocks as its hand. Nothing is in the hand, except where a list or the
+    // pool has refused some of it.
     ghost invariant = { λ s. (s.seat.commits.parts ≡ 1)
         × (s.seat.blocks.parts ≡ 1)
         × (s.snapped.parts ≡ 1)
-        × (s.seat.blocks.amount ≡ length (blocks_of s.hand)) };
+        × (s.seat.blocks.amount ≡ length (blocks_of s.hand))
+        × IsGivenBack (held_by s.hand s.seat.giving) };
 }
 
 impl<C: Commits, B: Blocks> Session<C, B> {
+    /// What holds of each session: its hand is empty, except where a list or the pool refused what is left. Costs nothing.
+    pub(crate) fn keeps_only_what_was_refused(&self)
+        ensures { IsGivenBack self.now.held }
+    {
+        let _ = &self.hand;
+    }
+
     /// The seat, and the share of makings and drops of snapshots. What the hand holds ends here.
     pub(crate) fn into_seat(self) -> (Seat<C, B>, Share<SnapLedger<C>>)
         ensures parts { (result.0.commits.parts ≡ 1) × (result.0.blocks.parts ≡ 1) }

@@ -3,7 +3,7 @@
 ghost use Rattle.std.specs.Prelude.{◌≡◌, ℕ, Err, IfErr, IfOk};
 ghost use Rattle.nv_base.specs.Refusals.{KeepsOnErr};
 ghost use Rattle.nv_calls.specs.declared.call.Call.{Call};
-ghost use Rattle.nv_service.specs.Sessions.{IsFoundAt, IsViewedBy};
+ghost use Rattle.nv_service.specs.Sessions.{IsFoundAt, IsGivenBack, IsViewedBy};
 
 use crate::cell::LockedCell;
 use crate::names::{Blocks, Commits};
@@ -28,8 +28,10 @@ impl<C: Commits, B: Blocks> Session<C, B> {
             → IfOk found (IsFoundAt cell.old.cell.state.version call)
             → IfOk result (IsViewedBy C.opened self.old self.new ino call) }
         ensures same { KeepsOnErr result self.old self.new }
+        ensures held { IsGivenBack self.new.held }
         ensures refused { IfErr result (λ why. found ≡ Err why) }
     {
+        self.keeps_only_what_was_refused();
         let view = found?;
         cell.check_seen(rt, &service.fresh, &mut self.seat.notes);
         cell.note_seen(&service.fresh, &mut self.seat.notes);

@@ -134,16 +134,23 @@ of_jobs g f Gives js rs met same each = all_zip Gives js rs same there where
       subst (λ j. Gives j (get_or rs k b)) (sym (it.job_is a)) (met it.job _ it.call.met)
 
 -- a slice of which each element is left as it was
-pub kept_each : {F T : Type 0} (g : Shared F (ℕ × (MutBor T × Unit {0})) ((Unit {0}) × (MutBor T × Unit {0}))) (f : F) (xs ys : List T)
-    → length ys ≡ length xs → ((i : ℕ) (p q : MutBor T) → g.post f (i, (p, tt)) (tt, (q, tt)) → q.now ≡ p.now)
-    → ChangesEach g f xs ys → ys ≡ xs
-kept_each g f [] [] same kept each = refl
-kept_each g f [] (y ∷ ys) same kept each = absurd (omega (arith, same))
-kept_each g f (x ∷ xs) ys same kept each = ext_get_or x ys (x ∷ xs) same there where
-  there : (i : ℕ) → i < length ys → get_or ys i x ≡ get_or (x ∷ xs) i x
-  there i lt =
-      let it = (each i x (omega (arith, lt, same))).1 in
-      sym it.left ∙ kept i it.argument it.after_call it.call ∙ it.argument_is
+pub kept_each : {F T V : Type 0} (g : Shared F (ℕ × (MutBor T × Unit {0})) ((Unit {0}) × (MutBor T × Unit {0}))) (f : F) (by : T → V)
+    (xs ys : List T) → length ys ≡ length xs
+    → ((i : ℕ) (p q : MutBor T) → g.post f (i, (p, tt)) (tt, (q, tt)) → by q.now ≡ by p.now)
+    → ChangesEach g f xs ys → map by ys ≡ map by xs
+kept_each g f by [] [] same kept each = refl
+kept_each g f by [] (y ∷ ys) same kept each = absurd (omega (arith, same))
+kept_each g f by (x ∷ xs) ys same kept each =
+    ext_get_or (by x) (map by ys) (map by (x ∷ xs)) (length-map ys by ∙ (same ∙ sym (length-map (x ∷ xs) by))) there where
+      there : (i : ℕ) → i < length (map by ys) → get_or (map by ys) i (by x) ≡ get_or (map by (x ∷ xs)) i (by x)
+      there i lt =
+          let many = length-map ys by in
+          let within : i < length ys = omega (arith, lt, many) in
+          let before : i < length (x ∷ xs) = omega (arith, within, same) in
+          let it = (each i x before).1 in
+          get_or-map by ys i x (by x) within
+          ∙ (ap by (sym it.left) ∙ (kept i it.argument it.after_call it.call ∙ ap by it.argument_is))
+          ∙ sym (get_or-map by (x ∷ xs) i x (by x) before)
 
 -- where each thread has its text, the texts are those
 told_all : {S V X : Type 0} (E : Type 0) (R : S → X → Type 0) (f : V → X) (ss : List S) (vs : List V)
@@ -176,10 +183,11 @@ answered_more actors thread calls text forked told so is = (
 -- ---- a slice that was lent
 
 -- a vector has its elements again
-pub put_back : {A : Type 0} (n : ℕ) (xs items : List A) → xs ≡ items → n ≡ length items
-    → take n (xs ++ drop (length xs) items) ≡ items
-put_back n xs items same all =
-    ap (λ m. take m (xs ++ drop (length xs) items)) (all ∙ ap length (sym same)) ∙ take-append_seam xs _ ∙ same
+pub put_back : {A B : Type 0} (by : A → B) (n : ℕ) (xs items : List A) → map by xs ≡ map by items → n ≡ length items
+    → map by (take n (xs ++ drop (length xs) items)) ≡ map by items
+put_back by n xs items same all =
+    let as_many : length xs ≡ length items = sym (length-map xs by) ∙ (ap length same ∙ length-map items by) in
+    ap (map by) (ap (λ m. take m (xs ++ drop (length xs) items)) (all ∙ sym as_many) ∙ take-append_seam xs _) ∙ same
 
 -- ---- the calls of each thread
 

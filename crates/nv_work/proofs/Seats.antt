@@ -21,7 +21,7 @@ use Rattle.nv_service.specs.ByValue.{IsMadeAs, after_snapshot_or_cleaner}
 use Rattle.nv_service.specs.Closing.{IsDifference}
 use Rattle.nv_service.specs.UnlockedParts.{BesideCellValue}
 use Rattle.nv_service.specs.Seats.{AreSeats, new_session}
-use Rattle.nv_service.specs.Sessions.{IsChangedBy, IsCommittedBy, IsViewedBy, SessionValue}
+use Rattle.nv_service.specs.Sessions.{HeldValue, IsChangedBy, IsCommittedBy, IsViewedBy, SessionValue, with_held}
 use Rattle.nv_service.specs.declared.seen.Seen.{Seen}
 use Rattle.nv_service.specs.declared.seen.Seen.TheVariants as seen
 use Rattle.nv_work.specs.Working.{RefusesThreads}
@@ -81,14 +81,15 @@ viewed_seat opened before after ino c (seen.Viewed view) is = is.seat
 viewed_seat opened before after ino c (seen.Committed receipt) is = absurd is
 viewed_seat opened before after ino c (seen.Other answer) is = absurd is
 
-maintained_seat : (c : SnapshotOrCleanerCall) (before : SessionValue) → (after_snapshot_or_cleaner c before).number ≡ before.number
-maintained_seat snapshot_or_cleaner.Snap before = refl
-maintained_seat (snapshot_or_cleaner.Drop snapshot) before = refl
-maintained_seat (snapshot_or_cleaner.Show snapshot) before = refl
-maintained_seat (snapshot_or_cleaner.Drain number) before = refl
-maintained_seat (snapshot_or_cleaner.Fast ino) before = refl
-maintained_seat (snapshot_or_cleaner.Thorough ino) before = refl
-maintained_seat (snapshot_or_cleaner.Auto ino) before = refl
+maintained_seat : (c : SnapshotOrCleanerCall) (held : HeldValue) (before : SessionValue)
+    → (after_snapshot_or_cleaner c held before).number ≡ before.number
+maintained_seat snapshot_or_cleaner.Snap held before = refl
+maintained_seat (snapshot_or_cleaner.Drop snapshot) held before = refl
+maintained_seat (snapshot_or_cleaner.Show snapshot) held before = refl
+maintained_seat (snapshot_or_cleaner.Drain number) held before = refl
+maintained_seat (snapshot_or_cleaner.Fast ino) held before = refl
+maintained_seat (snapshot_or_cleaner.Thorough ino) held before = refl
+maintained_seat (snapshot_or_cleaner.Auto ino) held before = refl
 
 pub made_seat : (opening : ℕ) (opened : List ℕ) (before after : SessionValue) (c : Call) (s : Seen)
     → IsMadeAs opening opened before after c s → after.number ≡ before.number
@@ -106,7 +107,12 @@ made_seat opening opened before after (call.Read file offset count) s is = viewe
 made_seat opening opened before after (call.Stat handle) s is = viewed_seat opened before after _ _ s is
 made_seat opening opened before after (call.List dir) s is = viewed_seat opened before after _ _ s is
 made_seat opening opened before after (call.Lookup dir name) s is = viewed_seat opened before after _ _ s is
-made_seat opening opened before after (call.SnapshotOrCleaner c) s is = ap (λ (s : SessionValue). s.number) is.0 ∙ maintained_seat c before
+made_seat opening opened before after (call.SnapshotOrCleaner c) s is = ap (λ (s : SessionValue). s.number) is.0 ∙ maintained_seat c after.held before
+
+-- what a hand holds may change twice
+pub held_again : (first then last : SessionValue) → then ≡ with_held then.held first → last ≡ with_held last.held then
+    → last ≡ with_held last.held first
+held_again first then last one two = two ∙ ap (with_held last.held) one
 
 -- ---- a service that does not close
 

@@ -2,6 +2,7 @@
 
 ghost use Rattle.std.specs.Prelude.{◌≡◌, ◌+◌, ◌≤◌, ◌++◌, Ok, IfOk, OnOk, map, vec_len};
 ghost use Rattle.std.specs.List.{AllZip, enumerate_from};
+ghost use Rattle.nv_service.specs.Sessions.{with_held};
 ghost use Rattle.nv_work.specs.Threads.{IsAnswered, IsThreadText, answer_line};
 
 use crate::forked::ForkedCall;
@@ -210,7 +211,8 @@ fn clean<C: Commits, B: Blocks, R: Wait>(
     session: &mut Session<C, B>,
     ended: &AtomicBool,
 )
-    ensures { session.new ≡ session.old }
+    ensures same { session.new ≡ with_held session.new.held session.old }
+    ensures seat { session.new.number ≡ session.old.number }
 {
     for _ in rt.forever() {
         let has_cleaned = clean_round(rt, service, session, ended);
@@ -230,7 +232,8 @@ fn clean_round<C: Commits, B: Blocks, R: Wait>(
     session: &mut Session<C, B>,
     ended: &AtomicBool,
 ) -> bool
-    ensures { session.new ≡ session.old }
+    ensures same { session.new ≡ with_held session.new.held session.old }
+    ensures seat { session.new.number ≡ session.old.number }
 {
     let mut has_cleaned = false;
     for number in 0..service.geometry().numbers.inodes {

@@ -4,6 +4,7 @@ ghost use Rattle.std.specs.Prelude.{◌≡◌, IfErr, IfOk, OnOk};
 ghost use Rattle.nv_base.specs.Refusals.{KeepsOnErr};
 ghost use Rattle.nv_service.specs.ByValue.{IsAnswerTo, IsMadeAs, after_snapshot_or_cleaner};
 ghost use Rattle.nv_service.specs.Refusing.{MayRefuse, MayRefuseSnapshotOrCleaner};
+ghost use Rattle.nv_service.specs.Sessions.{IsGivenBack, with_held};
 
 use crate::names::{Blocks, Commits};
 use crate::seen::Seen;
@@ -25,7 +26,9 @@ impl<C: Commits, B: Blocks> Session<C, B> {
         // A call as a value leaves what the method of its name leaves.
         // A call on snapshots or of a cleaner is answered by its kind.
         ensures ok { IfOk result (IsMadeAs C.commit C.opened self.old self.new call) }
-        ensures same { KeepsOnErr result self.old self.new }
+        ensures same { KeepsOnErr result (with_held self.new.held self.old) self.new }
+        // The hand is empty afterwards, except where a list or the pool refused what is left.
+        ensures held { IsGivenBack self.new.held }
         // It is refused as that method is.
         ensures err { IfErr result (MayRefuse call) }
     {
@@ -63,8 +66,10 @@ impl<C: Commits, B: Blocks> Session<C, B> {
         call: SnapshotOrCleanerCall,
     ) -> Result<Seen, Fault>
         ensures other { IfOk result (IsAnswerTo call) }
-        ensures left { OnOk result (self.new ≡ after_snapshot_or_cleaner call self.old) }
-        ensures same { KeepsOnErr result self.old self.new }
+        ensures left { OnOk result
+            (self.new ≡ after_snapshot_or_cleaner call self.new.held self.old) }
+        ensures same { KeepsOnErr result (with_held self.new.held self.old) self.new }
+        ensures held { IsGivenBack self.new.held }
         ensures err { IfErr result (MayRefuseSnapshotOrCleaner call) }
     {
         match call {

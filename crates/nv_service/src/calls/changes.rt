@@ -3,7 +3,7 @@
 ghost use Rattle.std.specs.Prelude.{◌≡◌, ◌+◌, ◌-◌, ◌<◌, ◌^◌, IfErr, IfOk};
 ghost use Rattle.nv_base.specs.Refusals.{KeepsOnErr};
 ghost use Rattle.nv_service.specs.Refusing.{MayRefuseChange, failed_in};
-ghost use Rattle.nv_service.specs.Sessions.{IsChangedBy, IsCommittedBy};
+ghost use Rattle.nv_service.specs.Sessions.{IsChangedBy, IsCommittedBy, IsGivenBack, with_held};
 
 use crate::names::{Blocks, Commits};
 use crate::no_text::NoText;
@@ -28,7 +28,9 @@ impl<C: Commits, B: Blocks> Session<C, B> {
         // An answer is a commit.
         ensures ok { IfOk result (IsCommittedBy C.commit self.old self.new
             (Update.Create dir name mode)) }
-        ensures same { KeepsOnErr result self.old self.new }
+        ensures same { KeepsOnErr result (with_held self.new.held self.old) self.new }
+        // The hand is empty afterwards, except where a list or the pool refused what is left.
+        ensures held { IsGivenBack self.new.held }
         ensures err { IfErr result (MayRefuseChange (Update.Create dir name mode)) }
     {
         self.change(rt, service, Update::Create { dir, name, mode }, &mut NoText)
@@ -45,7 +47,8 @@ impl<C: Commits, B: Blocks> Session<C, B> {
     ) -> Result<Seen, Fault>
         ensures ok { IfOk result (IsCommittedBy C.commit self.old self.new
             (Update.Mkdir dir name mode)) }
-        ensures same { KeepsOnErr result self.old self.new }
+        ensures same { KeepsOnErr result (with_held self.new.held self.old) self.new }
+        ensures held { IsGivenBack self.new.held }
         ensures err { IfErr result (MayRefuseChange (Update.Mkdir dir name mode)) }
     {
         self.change(rt, service, Update::Mkdir { dir, name, mode }, &mut NoText)
@@ -72,7 +75,8 @@ impl<C: Commits, B: Blocks> Session<C, B> {
         // Other ones are answered, and leave what the session has.
         ensures ok { IfOk result (IsChangedBy C.commit self.old self.new
             (Update.Write file offset count)) }
-        ensures same { KeepsOnErr result self.old self.new }
+        ensures same { KeepsOnErr result (with_held self.new.held self.old) self.new }
+        ensures held { IsGivenBack self.new.held }
         ensures err { IfErr result (MayRefuseChange (Update.Write file offset count)) }
         // On Ok no read of the source failed.
         // It is refused by `Read` only where one read failed.
@@ -97,7 +101,8 @@ impl<C: Commits, B: Blocks> Session<C, B> {
     ) -> Result<Seen, Fault>
         ensures ok { IfOk result (IsCommittedBy C.commit self.old self.new
             (Update.Size file size)) }
-        ensures same { KeepsOnErr result self.old self.new }
+        ensures same { KeepsOnErr result (with_held self.new.held self.old) self.new }
+        ensures held { IsGivenBack self.new.held }
         ensures err { IfErr result (MayRefuseChange (Update.Size file size)) }
     {
         self.change(rt, service, Update::Size { file, size }, &mut NoText)
@@ -113,7 +118,8 @@ impl<C: Commits, B: Blocks> Session<C, B> {
     ) -> Result<Seen, Fault>
         ensures ok { IfOk result (IsCommittedBy C.commit self.old self.new
             (Update.Mode handle mode)) }
-        ensures same { KeepsOnErr result self.old self.new }
+        ensures same { KeepsOnErr result (with_held self.new.held self.old) self.new }
+        ensures held { IsGivenBack self.new.held }
         ensures err { IfErr result (MayRefuseChange (Update.Mode handle mode)) }
     {
         self.change(rt, service, Update::Mode { handle, mode }, &mut NoText)
@@ -130,7 +136,8 @@ impl<C: Commits, B: Blocks> Session<C, B> {
     ) -> Result<Seen, Fault>
         ensures ok { IfOk result (IsCommittedBy C.commit self.old self.new
             (Update.Unlink dir name)) }
-        ensures same { KeepsOnErr result self.old self.new }
+        ensures same { KeepsOnErr result (with_held self.new.held self.old) self.new }
+        ensures held { IsGivenBack self.new.held }
         ensures err { IfErr result (MayRefuseChange (Update.Unlink dir name)) }
     {
         self.change(rt, service, Update::Unlink { dir, name }, &mut NoText)
@@ -147,7 +154,8 @@ impl<C: Commits, B: Blocks> Session<C, B> {
     ) -> Result<Seen, Fault>
         ensures ok { IfOk result (IsCommittedBy C.commit self.old self.new
             (Update.Rmdir dir name)) }
-        ensures same { KeepsOnErr result self.old self.new }
+        ensures same { KeepsOnErr result (with_held self.new.held self.old) self.new }
+        ensures held { IsGivenBack self.new.held }
         ensures err { IfErr result (MayRefuseChange (Update.Rmdir dir name)) }
     {
         self.change(rt, service, Update::Rmdir { dir, name }, &mut NoText)
@@ -167,7 +175,8 @@ impl<C: Commits, B: Blocks> Session<C, B> {
     ) -> Result<Seen, Fault>
         ensures ok { IfOk result (IsChangedBy C.commit self.old self.new
             (Update.Rename from old to new)) }
-        ensures same { KeepsOnErr result self.old self.new }
+        ensures same { KeepsOnErr result (with_held self.new.held self.old) self.new }
+        ensures held { IsGivenBack self.new.held }
         ensures err { IfErr result (MayRefuseChange (Update.Rename from old to new)) }
     {
         let update = Update::Rename { from, old, to, new };

@@ -4,6 +4,7 @@ ghost use Rattle.std.specs.Prelude.{◌≡◌, ◌≤◌, ℕ, Bool, IfErr, IfOk
 ghost use Rattle.nv_base.specs.declared.limits.TheConstants.{DRAIN};
 ghost use Rattle.nv_service.specs.Ending.{cleaner_of};
 ghost use Rattle.nv_service.specs.Refusing.{MayRefuseSnapshotOrCleaner};
+ghost use Rattle.nv_service.specs.Sessions.{IsGivenBack, with_held};
 
 use crate::cleaners::{Manner, clean_log};
 use crate::drain::drain_deferred;
@@ -30,7 +31,9 @@ impl<C: Commits, B: Blocks> Session<C, B> {
         ensures answer { IfOk result (λ seen. (thorough : Bool) × (entries pages : ℕ)
             × (seen ≡ Seen.Other (Answer.Cleaned thorough entries pages))) }
         ensures err { IfErr result (MayRefuseSnapshotOrCleaner (SnapshotOrCleanerCall.Fast ino)) }
-        ensures same { self.new ≡ self.old }
+        ensures same { self.new ≡ with_held self.new.held self.old }
+        // The hand is empty afterwards, except where a list or the pool refused what is left.
+        ensures held { IsGivenBack self.new.held }
     {
         self.clean(rt, service, Manner::Fast, ino)
     }
@@ -48,7 +51,8 @@ impl<C: Commits, B: Blocks> Session<C, B> {
             × (seen ≡ Seen.Other (Answer.Cleaned thorough entries pages))) }
         ensures err { IfErr result
             (MayRefuseSnapshotOrCleaner (SnapshotOrCleanerCall.Thorough ino)) }
-        ensures same { self.new ≡ self.old }
+        ensures same { self.new ≡ with_held self.new.held self.old }
+        ensures held { IsGivenBack self.new.held }
     {
         self.clean(rt, service, Manner::Thorough, ino)
     }
@@ -64,7 +68,8 @@ impl<C: Commits, B: Blocks> Session<C, B> {
         ensures answer { IfOk result (λ seen. (thorough : Bool) × (entries pages : ℕ)
             × (seen ≡ Seen.Other (Answer.Cleaned thorough entries pages))) }
         ensures err { IfErr result (MayRefuseSnapshotOrCleaner (SnapshotOrCleanerCall.Auto ino)) }
-        ensures same { self.new ≡ self.old }
+        ensures same { self.new ≡ with_held self.new.held self.old }
+        ensures held { IsGivenBack self.new.held }
     {
         self.clean(rt, service, Manner::Auto, ino)
     }
@@ -79,10 +84,11 @@ impl<C: Commits, B: Blocks> Session<C, B> {
         ensures answer { IfOk result (λ seen. (thorough : Bool) × (entries pages : ℕ)
             × (seen ≡ Seen.Other (Answer.Cleaned thorough entries pages))) }
         ensures err { IfErr result (MayRefuseSnapshotOrCleaner (cleaner_of manner ino)) }
-        ensures same { self.new ≡ self.old }
+        ensures same { self.new ≡ with_held self.new.held self.old }
+        ensures held { IsGivenBack self.new.held }
     {
         let mine = &mut self.seat.blocks;
-        empty_hand(rt, service, &mut self.hand, mine)?;
+        empty_hand(rt, service, &mut self.hand, mine, &mut self.seat.giving)?;
         let cleaned = clean_log(
             rt,
             service,
@@ -93,7 +99,7 @@ impl<C: Commits, B: Blocks> Session<C, B> {
             manner,
             ino,
         );
-        give_back(rt, service, &mut self.hand, mine);
+        give_back(rt, service, &mut self.hand, mine, &mut self.seat.giving);
         let Cleaned {
             thorough,
             entries,
@@ -120,13 +126,15 @@ impl<C: Commits, B: Blocks> Session<C, B> {
             × (seen ≡ Seen.Other (Answer.Count n))) }
         ensures err { IfErr result
             (MayRefuseSnapshotOrCleaner (SnapshotOrCleanerCall.Drain number)) }
-        ensures same { self.new ≡ self.old }
+        ensures same { self.new ≡ with_held self.new.held self.old }
+        ensures held { IsGivenBack self.new.held }
     {
         let mine = &mut self.seat.blocks;
-        empty_hand(rt, service, &mut self.hand, mine)?;
+        empty_hand(rt, service, &mut self.hand, mine, &mut self.seat.giving)?;
         self.hand.data.reserve(1)?;
         let most = limits::most_drained(number);
-        let released = drain_deferred(rt, service, &mut self.hand, mine, most)?;
+        let giving = &mut self.seat.giving;
+        let released = drain_deferred(rt, service, &mut self.hand, mine, giving, most)?;
         Ok(Seen::Other(Answer::Count(released)))
     }
 }

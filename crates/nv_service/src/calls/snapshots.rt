@@ -4,6 +4,7 @@ ghost use Rattle.std.specs.Prelude.{◌≡◌, ℕ, IfErr, IfOk, List, OnOk};
 ghost use Rattle.nv_base.specs.Refusals.{KeepsOnErr};
 ghost use Rattle.nv_service.specs.ByValue.{once_snapped};
 ghost use Rattle.nv_service.specs.Refusing.{MayRefuseSnapshotOrCleaner};
+ghost use Rattle.nv_service.specs.Sessions.{IsGivenBack};
 ghost use Rattle.nv_entry.specs.declared.tree.TreeNode.{TreeNode};
 
 use crate::names::{Blocks, Commits};
@@ -26,6 +27,8 @@ impl<C: Commits, B: Blocks> Session<C, B> {
         // Each counts in the session, where it is not refused.
         ensures counted { OnOk result (self.new ≡ once_snapped self.old) }
         ensures same { KeepsOnErr result self.old self.new }
+        // The hand is empty afterwards, except where a list or the pool refused what is left.
+        ensures held { IsGivenBack self.new.held }
     {
         let mine = &mut self.snapped;
         let snapshot = service.book_lock().lock(rt).make_snapshot(mine)?;
@@ -44,6 +47,7 @@ impl<C: Commits, B: Blocks> Session<C, B> {
             (MayRefuseSnapshotOrCleaner (SnapshotOrCleanerCall.Drop snapshot)) }
         ensures counted { OnOk result (self.new ≡ once_snapped self.old) }
         ensures same { KeepsOnErr result self.old self.new }
+        ensures held { IsGivenBack self.new.held }
     {
         let mine = &mut self.snapped;
         service.book_lock().lock(rt).drop_snapshot(snapshot, mine)?;
@@ -64,7 +68,9 @@ impl<C: Commits, B: Blocks> Session<C, B> {
         ensures err { IfErr result
             (MayRefuseSnapshotOrCleaner (SnapshotOrCleanerCall.Show snapshot)) }
         ensures same { self.new ≡ self.old }
+        ensures held { IsGivenBack self.new.held }
     {
+        self.keeps_only_what_was_refused();
         pin(rt, service, snapshot)?;
         let shown = show_tree(rt, service, snapshot);
         let unpinned = unpin(rt, service, snapshot);

@@ -3,7 +3,7 @@
 ghost use Rattle.std.specs.Prelude.{IfErr, IfOk};
 ghost use Rattle.nv_base.specs.Refusals.{KeepsOnErr};
 ghost use Rattle.nv_service.specs.Refusing.{MayRefuseView};
-ghost use Rattle.nv_service.specs.Sessions.{IsViewedBy};
+ghost use Rattle.nv_service.specs.Sessions.{IsGivenBack, IsViewedBy};
 
 use crate::guards::hold;
 use crate::names::{Blocks, Commits};
@@ -30,9 +30,12 @@ impl<C: Commits, B: Blocks> Session<C, B> {
         ensures ok { IfOk result (IsViewedBy C.opened self.old self.new file.ino
             (Call.Read file offset count)) }
         ensures same { KeepsOnErr result self.old self.new }
+        // The hand is empty afterwards, except where a list or the pool refused what is left.
+        ensures held { IsGivenBack self.new.held }
         // Each refusal is one of the call's list, or a part that does not fit.
         ensures err { IfErr result (MayRefuseView (Call.Read file offset count)) }
     {
+        self.keeps_only_what_was_refused();
         let mut cell = hold(rt, service, file.ino)?;
         let found = read_on(
             file.ino,
@@ -56,8 +59,10 @@ impl<C: Commits, B: Blocks> Session<C, B> {
         ensures ok { IfOk result (IsViewedBy C.opened self.old self.new handle.ino
             (Call.Stat handle)) }
         ensures same { KeepsOnErr result self.old self.new }
+        ensures held { IsGivenBack self.new.held }
         ensures err { IfErr result (MayRefuseView (Call.Stat handle)) }
     {
+        self.keeps_only_what_was_refused();
         let mut cell = hold(rt, service, handle.ino)?;
         let found = stat_on(handle.ino, cell.part(), Call::Stat { handle });
         self.see(rt, service, &mut *cell, found)
@@ -73,8 +78,10 @@ impl<C: Commits, B: Blocks> Session<C, B> {
     ) -> Result<Seen, Fault>
         ensures ok { IfOk result (IsViewedBy C.opened self.old self.new dir.ino (Call.List dir)) }
         ensures same { KeepsOnErr result self.old self.new }
+        ensures held { IsGivenBack self.new.held }
         ensures err { IfErr result (MayRefuseView (Call.List dir)) }
     {
+        self.keeps_only_what_was_refused();
         let mut cell = hold(rt, service, dir.ino)?;
         let found = list_on(dir.ino, cell.part(), Call::List { dir });
         self.see(rt, service, &mut *cell, found)
@@ -91,8 +98,10 @@ impl<C: Commits, B: Blocks> Session<C, B> {
         ensures ok { IfOk result (IsViewedBy C.opened self.old self.new dir.ino
             (Call.Lookup dir name)) }
         ensures same { KeepsOnErr result self.old self.new }
+        ensures held { IsGivenBack self.new.held }
         ensures err { IfErr result (MayRefuseView (Call.Lookup dir name)) }
     {
+        self.keeps_only_what_was_refused();
         let mut cell = hold(rt, service, dir.ino)?;
         let found = lookup_on(dir.ino, cell.part(), Call::Lookup { dir, name });
         self.see(rt, service, &mut *cell, found)

@@ -1,5 +1,6 @@
 use Rattle.std.proofs.Common.{◌≡◌}
+use Rattle.nv_service.specs.Sessions.{with_held}
 use Rattle.nv_work.proofs.crew.clean_round.Given as goal
 
 abbrev pub invariant-loop-number : goal.invariant-loop-number
-invariant-loop-number g l = record { same : l.session ≡ l.fn.session }
+invariant-loop-number g l = record { same : l.session ≡ with_held l.session.held l.fn.session }
