@@ -4,7 +4,7 @@ pub mod Shelves
 pub mod AllLists
 pub mod ZeroBlocks
 pub mod GivingLemmas
-pub mod Trees
+pub mod WordBits
 pub mod RunLemmas
 pub mod FromScratch
 pub mod Lowest

@@ -21,8 +21,8 @@ use std::marker::Model;
 use std::mem;
 
 /// The free blocks of one CPU. Contracts see the home range, from `start` to before `end`, the bytes of each
-/// block, and the blocks by rising number. Its memory is all taken when it is made, and taking or giving a
-/// block costs the logarithm of the number of blocks of the home range.
+/// block, and the blocks by rising number. Its memory is all taken when it is made. Giving a block costs a look at three
+/// words of bits, and taking the lowest at as many and at one for each 262,144 blocks before it.
 /// Only tested: a list is `Send` and `Sync`.
 pub struct FreeList {
     // Slot `k` has the block of number `start + k` while it is free.

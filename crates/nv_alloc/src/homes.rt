@@ -8,8 +8,8 @@ ghost use Rattle.nv_alloc.specs.Numbers.{has};
 use crate::{Block, FreeList};
 use nv_base::{BlockNo, Geometry};
 
-/// Takes the block of a number out of the list of its home, where it is free. The time is the logarithm of the number of
-/// blocks of the home range, and no memory is taken.
+/// Takes the block of a number out of the list of its home, where it is free. The time is the same at any number of
+/// blocks, and no memory is taken.
 pub fn take_from_home(
     lists: &mut Vec<FreeList>,
     geometry: &Geometry,

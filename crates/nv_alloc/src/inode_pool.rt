@@ -53,7 +53,7 @@ impl InodePool {
     }
 
     /// The pool of a geometry's inodes in which these numbers are free: `OutOfMemory` where there is no room for all
-    /// inodes. The time is that of the inodes, and for each free number the logarithm of them.
+    /// inodes. The time is that of the inodes and of the free numbers.
     pub fn rebuild(alloc: Global, geometry: &Geometry, numbers: &[Ino]) -> Result<InodePool, Fault>
         // Callers give rising numbers of inodes that there are.
         requires { IsPool

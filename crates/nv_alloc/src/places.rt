@@ -1,31 +1,33 @@
-//! A set of places of which the lowest is always known.
+//! A set of places of which the lowest is soon known.
 
-ghost use Rattle.std.specs.Prelude.{◌≡◌, ◌≢◌, ℕ, ◌+◌, ◌*◌, ◌/◌, ◌<◌, ◌≤◌, Bool, true, false, min, IfOk, length, drop, replicate, slice_index, slice_index_or, slice_set};
-ghost use Rattle.nv_alloc.specs.Places.{IsLowest, IsNode};
+ghost use Rattle.std.specs.Prelude.{◌≡◌, ℕ, ◌/◌, ◌<◌, ◌≤◌, ◌^◌, true, false, IfOk, IfSome, IfNone, length, replicate, slice_index, slice_index_or, slice_set};
+ghost use Rattle.nv_alloc.specs.Places.{IsLowest, bit_of, word_count, AreFirst, AreMarks, AreMarksElsewhere, ShrinksWord, WritesBit};
 
 use std::alloc::{AllocError, Global};
 use std::marker::Model;
 
-/// A set of places from 0 on. The lowest is known at once, and a change costs the logarithm of the number
-/// of places. Contracts see, for each place, whether it is in the set.
+/// A set of places from 0 on. A change costs three words, and the lowest place as many and one for each 262,144
+/// places before it. Contracts see, for each place, whether it is in the set.
 #[derive(Drop)]
 pub(crate) struct PlaceSet {
-    // The root is node 1, the children of node `i` are `2 * i` and `2 * i + 1`, and the leaf of a place is
-    // `len` plus the place. Each has the lowest place of the set below it, or `len` where there is none.
-    tree: Vec<u32>,
+    // A bit for each place, 64 in a word, the lowest first.
+    bits: Vec<u64>,
+    // A bit for each word of `bits`, and one for each word of `words`: it tells whether that word has a bit.
+    words: Vec<u64>,
+    groups: Vec<u64>,
     len: u32,
 }
 
 impl Model for PlaceSet {
     ghost use Rattle.std.specs.Prelude.{List, Bool};
-    ghost use Rattle.nv_alloc.specs.Places.{flags_of, IsTree};
+    ghost use Rattle.nv_alloc.specs.Places.{flags_of, IsPlaceSet};
 
     ghost Value = { List Bool };
 
-    ghost view = { λ s. flags_of s.len s.tree.items };
+    ghost view = { λ s. flags_of s.len s.bits.items };
 
-    // Each leaf of the tree has its own place or none, and each node the lowest place below it.
-    ghost invariant = { λ s. IsTree s.len s.tree.items };
+    // No bit stands past the last place, and a bit above each word tells whether the word has one.
+    ghost invariant = { λ s. IsPlaceSet s.len s.bits.items s.words.items s.groups.items };
 }
 
 impl PlaceSet {
@@ -33,17 +35,30 @@ impl PlaceSet {
     pub(crate) fn full(alloc: Global, len: u32) -> Result<PlaceSet, AllocError>
         ensures { IfOk result (λ set. set ≡ replicate len true) }
     {
-        let mut tree = vec![in alloc; len; 2 * len as usize]?;
-        fill(&mut tree, len);
-        Ok(PlaceSet { tree, len })
+        let bits = ones(alloc, len as usize)?;
+        let words = ones(alloc, bits.len())?;
+        let groups = ones(alloc, words.len())?;
+        Ok(PlaceSet {
+            bits,
+            words,
+            groups,
+            len,
+        })
     }
 
     /// The set of none of the places below `len`.
     pub(crate) fn empty(alloc: Global, len: u32) -> Result<PlaceSet, AllocError>
         ensures { IfOk result (λ set. set ≡ replicate len false) }
     {
-        let tree = vec![in alloc; len; 2 * len as usize]?;
-        Ok(PlaceSet { tree, len })
+        let bits = zeros(alloc, len as usize)?;
+        let words = zeros(alloc, bits.len())?;
+        let groups = zeros(alloc, words.len())?;
+        Ok(PlaceSet {
+            bits,
+            words,
+            groups,
+            len,
+        })
     }
 
     /// Whether the place is in the set.
@@ -51,117 +66,134 @@ impl PlaceSet {
         requires { place < length self.now }
         ensures { result ≡ slice_index_or self.now place false }
     {
-        self.tree[self.len as usize + place as usize] < self.len
+        let word = self.bits[(place / 64) as usize];
+        (word >> (place % 64)) & 1 == 1
     }
 
     /// The lowest place of the set.
     pub(crate) fn lowest(&self) -> Option<u32>
         ensures { IsLowest self.now result }
     {
-        if self.len == 0 {
+        let Some(group) = first_word(&self.groups) else {
             return None;
-        }
-        let lowest = self.tree[1];
-        if lowest < self.len {
-            return Some(lowest);
-        }
-        None
+        };
+        let outer = lowest_in(&self.groups, group);
+        let word = lowest_in(&self.words, outer);
+        let bit = lowest_in(&self.bits, word);
+        let place = bit as u32;
+        Some(place)
     }
 
     pub(crate) fn insert(&mut self, place: u32)
         requires { place < length self.old }
         ensures { self.new ≡ slice_set self.old place true }
     {
-        write_leaf(&mut self.tree, self.len, place, place);
+        let bit = place as usize;
+        set_bit(&mut self.bits, bit);
+        set_bit(&mut self.words, bit / 64);
+        set_bit(&mut self.groups, bit / 64 / 64);
     }
 
     pub(crate) fn remove(&mut self, place: u32)
         requires { place < length self.old }
         ensures { self.new ≡ slice_set self.old place false }
     {
-        write_leaf(&mut self.tree, self.len, place, self.len);
+        let bit = place as usize;
+        clear_bit(&mut self.bits, bit);
+        unmark(&mut self.words, &self.bits, bit / 64);
+        unmark(&mut self.groups, &self.words, bit / 64 / 64);
     }
 }
 
-/// Writes the tree of all places.
-fn fill(tree: &mut [u32], len: u32)
-    requires size { length tree.old ≡ 2 * len }
-    ensures size { length tree.new ≡ 2 * len }
-    ensures leaves { (k : ℕ) → k < len → slice_index tree.new (len + k) ≡ k }
-    ensures nodes { (i : ℕ) → 1 ≤ i → i < len → IsNode tree.new i }
+/// How many words so many bits take.
+fn word_count(bits: usize) -> usize
+    requires { bits ≤ 2 ^ 32 }
+    ensures { result ≡ word_count bits }
 {
-    fill_leaves(tree, len);
-    fill_nodes(tree, len);
+    (bits + 63) / 64
 }
 
-/// Gives each leaf its own place.
-fn fill_leaves(tree: &mut [u32], len: u32)
-    requires size { length tree.old ≡ 2 * len }
-    ensures { (k : ℕ) → k < len → slice_index tree.new (len + k) ≡ k }
+/// Words with room for some bits, and without a bit.
+fn zeros(alloc: Global, bits: usize) -> Result<Vec<u64>, AllocError>
+    requires { bits ≤ 2 ^ 32 }
+    ensures { IfOk result (λ words. words.items ≡ replicate (word_count bits) 0) }
 {
-    for place in 0..len {
-        tree[len as usize + place as usize] = place;
+    let count = word_count(bits);
+    let words = vec![in alloc; 0; count]?;
+    Ok(words)
+}
+
+/// Words with the first bits alone.
+fn ones(alloc: Global, bits: usize) -> Result<Vec<u64>, AllocError>
+    requires { bits ≤ 2 ^ 32 }
+    ensures len { IfOk result (λ words. length words.items ≡ word_count bits) }
+    ensures bits { IfOk result (λ words. AreFirst bits words.items) }
+{
+    let count = word_count(bits);
+    let mut words = vec![in alloc; u64::MAX; count]?;
+    let rest = bits % 64;
+    if rest == 0 {
+        return Ok(words);
     }
+    words[bits / 64] = u64::MAX >> (64 - rest);
+    Ok(words)
 }
 
-/// Gives each node the lower of its children's places, from the last node to the root.
-fn fill_nodes(tree: &mut [u32], len: u32)
-    requires size { length tree.old ≡ 2 * len }
-    ensures leaves { drop len tree.new ≡ drop len tree.old }
-    ensures nodes { (i : ℕ) → 1 ≤ i → i < len → IsNode tree.new i }
+/// The first word that has a bit.
+fn first_word(words: &[u64]) -> Option<usize>
+    ensures some { IfSome result (λ at. (at < length words.now) × ((0 < slice_index words.now at)
+        × ((i : ℕ) → i < at → slice_index words.now i ≡ 0))) }
+    ensures none { IfNone result ((i : ℕ) → slice_index words.now i ≡ 0) }
 {
-    for node in (1..len as usize).rev() {
-        fill_node(tree, node);
-    }
-}
-
-/// Gives a node the lower of its children's places.
-fn fill_node(tree: &mut [u32], node: usize)
-    requires { 2 * node + 1 < length tree.old }
-    ensures { tree.new ≡ slice_set tree.old node
-        (min (slice_index tree.old (2 * node)) (slice_index tree.old (2 * node + 1))) }
-{
-    tree[node] = lower_child(tree, node);
-}
-
-/// The lower of the places of a node's children.
-fn lower_child(tree: &[u32], node: usize) -> u32
-    requires { 2 * node + 1 < length tree.now }
-    ensures { result ≡ min (slice_index tree.now (2 * node)) (slice_index tree.now (2 * node + 1)) }
-{
-    tree[2 * node].min(tree[2 * node + 1])
-}
-
-/// Writes the leaf of a place, and then the nodes above it.
-fn write_leaf(tree: &mut [u32], len: u32, place: u32, lowest: u32)
-    requires size { length tree.old ≡ 2 * len }
-    requires within { place < len }
-    requires nodes { (i : ℕ) → 1 ≤ i → i < len → IsNode tree.old i }
-    ensures leaves { drop len tree.new ≡ slice_set (drop len tree.old) place lowest }
-    ensures nodes { (i : ℕ) → 1 ≤ i → i < len → IsNode tree.new i }
-{
-    let leaf = len as usize + place as usize;
-    tree[leaf] = lowest;
-    fill_above(tree, len, leaf);
-}
-
-/// Gives the nodes above a leaf the lower of their children's places, up to the first that has it. Where the place that
-/// came is not the lowest of its neighbours, that is soon.
-fn fill_above(tree: &mut [u32], len: u32, leaf: usize)
-    requires size { length tree.old ≡ 2 * len }
-    requires within { leaf < 2 * len }
-    requires nodes { (i : ℕ) → 1 ≤ i → i < len → i ≢ leaf / 2 → IsNode tree.old i }
-    ensures leaves { drop len tree.new ≡ drop len tree.old }
-    ensures nodes { (i : ℕ) → 1 ≤ i → i < len → IsNode tree.new i }
-{
-    let mut node = leaf / 2;
-    while node > 0 {
-        let lower = lower_child(tree, node);
-        // Where a node has its place already, so have all above it.
-        if tree[node] == lower {
-            return;
+    for at in 0..words.len() {
+        let word = words[at];
+        if word != 0 {
+            return Some(at);
         }
-        tree[node] = lower;
-        node /= 2;
     }
+    None
+}
+
+/// The lowest bit of a word that has one.
+fn lowest_in(words: &[u64], at: usize) -> usize
+    requires some { 0 < slice_index words.now at }
+    requires small { at < 2 ^ 32 }
+    ensures word { result / 64 ≡ at }
+    ensures found { bit_of words.now result ≡ 1 }
+    ensures lowest { (k : ℕ) → k / 64 ≡ at → k < result → bit_of words.now k ≡ 0 }
+{
+    let bit = words[at].trailing_zeros() as usize;
+    at * 64 + bit
+}
+
+fn set_bit(words: &mut Vec<u64>, at: usize)
+    requires { at / 64 < length words.old.items }
+    ensures { WritesBit words.old.items at 1 words.new.items }
+{
+    let word = words[at / 64];
+    words[at / 64] = word | (1 << (at % 64));
+}
+
+fn clear_bit(words: &mut Vec<u64>, at: usize)
+    requires { at / 64 < length words.old.items }
+    ensures bit { WritesBit words.old.items at 0 words.new.items }
+    ensures shrinks { ShrinksWord words.old.items (at / 64) words.new.items }
+{
+    let word = words[at / 64];
+    words[at / 64] = word & !(1 << (at % 64));
+}
+
+/// Clears the mark of a word that has no bit any more.
+fn unmark(marks: &mut Vec<u64>, words: &[u64], word: usize)
+    requires within { word < length words.now }
+    requires marked { word / 64 < length marks.old.items }
+    requires marks { AreMarksElsewhere word marks.old.items words.now }
+    ensures marks { AreMarks marks.new.items words.now }
+    ensures shrinks { ShrinksWord marks.old.items (word / 64) marks.new.items }
+{
+    let bits = words[word];
+    if bits != 0 {
+        return;
+    }
+    clear_bit(marks, word);
 }

@@ -1,11 +1,12 @@
 -- The blocks that a cell has for its parts are those that its log says of the parts in use.
-use Rattle.std.proofs.Common.{◌≡◌, ℕ, zero, suc, ◌+◌, ◌-◌, ◌<◌, ◌≤◌, Bool, true, false, cond, List, [], ◌∷◌, ◌++◌, length, Option, Some, None, arith, refl, ap, ap₂, sym, ◌∙◌, slice_index_or, nat_lt, flat_map}
+use Rattle.std.proofs.Common.{◌≡◌, ℕ, zero, suc, ◌+◌, ◌-◌, ◌<◌, ◌≤◌, Bool, true, false, cond, List, [], ◌∷◌, ◌++◌, length, take, drop, Option, Some, None, arith, refl, ap, ap₂, sym, ◌∙◌, slice_index_or, nat_lt, flat_map}
 use Rattle.std.specs.Prelude.{option_to_list, slice_get}
 use Rattle.std.specs.List.{range_with_len}
 use Rattle.std.specs.Option.{option_map}
 use Rattle.std.proofs.lemmas.Bool.Decides.{nat_tests}
 use Rattle.std.proofs.lemmas.Grind.{flat_map-append}
-use Rattle.std.proofs.lemmas.List.{append_assoc, get_or-map, get_or_default, get_or_past, length-map, take-append-drop}
+use Rattle.std.proofs.Math.Seq.{take-nil, drop-nil}
+use Rattle.std.proofs.lemmas.List.{append-nil, append_assoc, get_or-map, get_or_default, get_or_past, length-map, nil_from_length, take-append-drop}
 use Rattle.std.proofs.lemmas.Option.{slice_get-get_or, slice_get_within}
 use Rattle.nv_alloc.specs.Block.{BlockValue, number_of, numbers_of}
 use Rattle.nv_entry.specs.Covered.{part_count, part_total}
@@ -182,3 +183,16 @@ blocks_are_used r cell is are =
     ∙ ap₂ (λ (a b : List ℕ). a ++ b) kept said in
     append_assoc (numbers_of cell.chain.blocks) (blocks_kept r log) (blocks_said r.block fresh)
     ∙ ap (λ (xs : List ℕ). numbers_of cell.chain.blocks ++ xs) (sym (had ∙ split))
+
+-- a log without an entry uses its pages alone
+pub used_by_nothing : (r : Retention) (cell : CellState) → length cell.chain.entries ≡ 0
+    → used_by r cell ≡ numbers_of cell.chain.blocks
+used_by_nothing r cell e =
+    let bs = numbers_of cell.chain.blocks in
+    let tail = cell.chain.tail in
+    let none : cell.chain.entries ≡ [] = nil_from_length cell.chain.entries e in
+    let log : log_of cell ≡ [] = ap (λ (es : List Entry). take tail es) none ∙ take-nil tail in
+    let fresh : fresh_of cell ≡ [] = ap (λ (es : List Entry). drop tail es) none ∙ drop-nil tail in
+    let kept : blocks_kept r (log_of cell) ≡ [] = ap (λ (es : List Entry). blocks_kept r es) log in
+    let said : blocks_said r.block (fresh_of cell) ≡ [] = ap (λ (es : List Entry). blocks_said r.block es) fresh in
+    ap₂ (λ (a b : List ℕ). bs ++ a ++ b) kept said ∙ append-nil (bs ++ []) ∙ append-nil bs

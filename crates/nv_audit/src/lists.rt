@@ -106,9 +106,13 @@ fn push_used(
         ≡ used.old.items ++ used_by (retention_of retention.now) cell.now.state) }
     ensures err { FailsOnly out_of_memory result }
 {
-    let kept = retained_parts(alloc, retention, cell)?;
     let chain = cell.log();
     push_pages(used, chain.blocks())?;
+    // A log without an entry says no other block.
+    if chain.is_empty() {
+        return Ok(());
+    }
+    let kept = retained_parts(alloc, retention, cell)?;
     push_kept(used, retention, chain.log(), &kept)?;
     push_said(used, retention.block, &chain.entries()[chain.tail()..])?;
     Ok(())

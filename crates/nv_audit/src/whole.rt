@@ -142,6 +142,10 @@ fn inode_differs(
         × (¬ IsCountedWith snapshots.now pending.now cell.now.state))) }
     ensures err { FailsOnly out_of_memory result }
 {
+    // Where no log page has an entry, there is nothing to count.
+    if cell.log().ends().is_empty() {
+        return Ok(None);
+    }
     let indexed = is_indexed(alloc, cell)?;
     if !indexed {
         return Ok(Some(MismatchPart::Index));

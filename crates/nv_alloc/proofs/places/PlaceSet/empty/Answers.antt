@@ -1,13 +1,17 @@
-use Rattle.std.proofs.Common.{◌≡◌, ◌*◌, arith, replicate}
-use Rattle.nv_alloc.proofs.Trees.{flags_of-empty, tree-empty}
+use Rattle.std.proofs.Common.{◌≡◌, ℕ, ap, arith, length, replicate, ◌∙◌}
+use Rattle.nv_alloc.specs.Places.{word_count}
+use Rattle.nv_alloc.proofs.WordBits.{empty_set, flags_of-empty}
 use Rattle.nv_alloc.proofs.places.PlaceSet.empty.Goals as goal
-use Rattle.nv_alloc.proofs.places.PlaceSet.empty.Goals.{In_ok-tree}
-
-all : (c : In_ok-tree) → c.in_ok-tree.tree.items ≡ replicate (2 * c.args.len) c.args.len
-all c = c.in_ok-tree.ensures.items_if_clones_equal (λ y same. same)
 
 pub invariant_of-result : goal.invariant_of-result
-invariant_of-result c = rw (all (goal.at.invariant_of-result c).In_ok-tree) (tree-empty c.args.len (omega arith))
+invariant_of-result c =
+    let bits = c.in_ok-bits.bits.items in
+    let words = c.in_ok-words.words.items in
+    let low : c.len.result ≡ length bits = omega arith in
+    let mid : c.len-2.result ≡ length words = omega arith in
+    empty_set c.args.len bits words c.in_ok-groups.groups.items (omega arith) c.in_ok-bits.ensures
+    (c.in_ok-words.ensures ∙ ap (λ (n : ℕ). replicate (word_count n) 0) low)
+    (c.in_ok-groups.ensures ∙ ap (λ (n : ℕ). replicate (word_count n) 0) mid)
 
 pub returns : goal.returns
-returns c = rw (all (goal.at.returns c).In_ok-tree) (flags_of-empty c.args.len)
+returns c = flags_of-empty c.args.len c.in_ok-bits.bits.items c.in_ok-bits.ensures

@@ -1,14 +1,42 @@
-use Rattle.std.proofs.Common.{true, arith, ap, ◌∙◌, drop, set}
-use Rattle.std.proofs.lemmas.Bool.{lt-ltb}
-use Rattle.nv_alloc.proofs.Trees.{flags_of-whole, length-flags_of}
+use Rattle.std.proofs.Common.{◌<◌, arith}
+use Rattle.nv_alloc.proofs.WordBits.{flags_of-written, length-flags_of, set_inserted, words_within}
 use Rattle.nv_alloc.proofs.places.PlaceSet.insert.Goals as goal
+
+pub set_bit-requires : goal.set_bit-requires
+set_bit-requires c =
+    let s = c.self.inside in
+    let asked = rw (← c.self.view_is) at c.requires in
+    let within : c.args.place < s.len = omega (arith, asked, length-flags_of s.len s.bits.items) in
+    let words = words_within s.len c.args.place s.bits.items s.words.items s.groups.items c.self.invariant within in
+    omega (arith, words.0)
+
+pub set_bit-requires-2 : goal.set_bit-requires-2
+set_bit-requires-2 c =
+    let s = c.self.inside in
+    let asked = rw (← c.self.view_is) at c.requires in
+    let within : c.args.place < s.len = omega (arith, asked, length-flags_of s.len s.bits.items) in
+    let words = words_within s.len c.args.place s.bits.items s.words.items s.groups.items c.self.invariant within in
+    omega (arith, words.1.0)
+
+pub set_bit-requires-3 : goal.set_bit-requires-3
+set_bit-requires-3 c =
+    let s = c.self.inside in
+    let asked = rw (← c.self.view_is) at c.requires in
+    let within : c.args.place < s.len = omega (arith, asked, length-flags_of s.len s.bits.items) in
+    let words = words_within s.len c.args.place s.bits.items s.words.items s.groups.items c.self.invariant within in
+    omega (arith, words.1.1)
+
+pub invariant_of-self : goal.invariant_of-self
+invariant_of-self c =
+    let s = c.self.inside in
+    let asked = rw (← c.self.view_is) at c.requires in
+    let within : c.args.place < s.len = omega (arith, asked, length-flags_of s.len s.bits.items) in
+    set_inserted s.len c.args.place s.bits.items s.words.items s.groups.items _ _ _ c.self.invariant within
+    c.set_bit.ensures c.set_bit-2.ensures c.set_bit-3.ensures
 
 pub returns : goal.returns
 returns c =
-    let within = rw (← c.self.view_is) at c.requires in
-    let count = length-flags_of c.self.inside.len c.self.inside.tree.items c.self.invariant.size in
-    rw (← c.self.view_is)
-    (flags_of-whole c.self.inside.len c.self.inside.tree.len c.self.inside.tree.items c.write_leaf.new.tree c.args.place c.args.place true
-    (omega arith) (omega arith)
-    (c.write_leaf.ensures.leaves ∙ ap (λ tree. set (drop c.self.inside.len tree) c.args.place c.args.place) c.deref_mut.ensures.value)
-    (lt-ltb c.args.place c.self.inside.len (omega (arith, within, count))))
+    let s = c.self.inside in
+    let asked = rw (← c.self.view_is) at c.requires in
+    let within : c.args.place < s.len = omega (arith, asked, length-flags_of s.len s.bits.items) in
+    rw (← c.self.view_is) (flags_of-written s.len s.bits.items c.set_bit.new.words.items c.args.place 1 within c.set_bit.ensures)
