@@ -6,3 +6,6 @@ use Rattle.nv_service.proofs.judge.in_place.Goals as goal
 pub unreachable-requires : goal.unreachable-requires
 unreachable-requires g c =
     none_busy c.args.parts (c.in-Err-into_parts.ensures.err (at_rest c.args.parts) c.in-Ok.ensures.ok).1
+
+pub returns-then-are_in_place-clause-placed : goal.returns-then-are_in_place-clause-placed
+returns-then-are_in_place-clause-placed g c = c.are_in_place.ensures.0 c.if-are_in_place.true
