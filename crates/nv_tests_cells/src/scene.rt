@@ -77,24 +77,22 @@ impl Scene {
             first: Some(handle(said)),
             second: None,
         };
-        let cells = LastCell {
+        let cells: &mut [InodeCell] = &mut self.cells;
+        let lent = LastCell {
             ino: Ino::new(0),
-            cell: &mut self.cells[0],
+            cell: &mut cells[0],
         };
-        assert!(rt; cells.cell(0).block_bytes() <= BLOCK_BYTES);
+        assert!(rt; lent.cell(0).block_bytes() <= BLOCK_BYTES);
         let call = update(rt, self.stock.alloc, says);
-        refused_at_check(&cells, &before, false, &call).err()
+        refused_at_check(&lent, &before, false, &call).err()
     }
 
     /// The cell of an inode that is said.
     pub fn cell(&self, rt: &impl Abort, said: u64) -> &InodeCell {
-        match said % 10 {
-            0 => &self.cells[0],
-            1 => &self.cells[1],
-            2 => &self.cells[2],
-            3 => &self.cells[3],
-            _ => panic!(rt; "no inode {said}"),
-        }
+        let cells: &[InodeCell] = &self.cells;
+        let at = (said % 10) as usize;
+        assert!(rt; at < cells.len());
+        &cells[at]
     }
 
     /// The cells by their numbers, and what calls share.

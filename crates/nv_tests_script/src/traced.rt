@@ -188,7 +188,7 @@ fn an_output_without_room(rt: HostRuntime) {
 /// the events of the line that was refused there is none.
 fn sweep(rt: &impl Abort, alloc: Global, tally: &mut Tally) -> Result<(), AllocError> {
     for growth in 1..u64::MAX {
-        let mut written = Vec::with_capacity(alloc, 2 * FIRST_TRACED.len())?;
+        let mut written = Vec::with_capacity(alloc, FIRST_TRACED.len().saturating_mul(2))?;
         let mut reader = FIRST.as_bytes();
         refuse(alloc, growth);
         let ended = trace_and_leave(alloc, &mut reader, &mut written);

@@ -21,5 +21,5 @@ passed block nodes before number u same is =
 pub returns-clause-passed : goal.returns-clause-passed
 returns-clause-passed g c =
     let lent = g.C.Cells.cells c.args.cells.now in
-    passed (block_in lent) (nodes_in lent) c.look_all.result c.args.number c.args.update (search rules)
+    passed (block_in lent) (nodes_in lent) c.look_all-before.result c.args.number c.args.update (search rules)
     (rw c.is_some.ensures at c.in_ok-refused_at_check.ensures)
