@@ -281,8 +281,10 @@ fn double(rt: &impl Abort, alloc: Global, lists: &mut Vec<FreeList>, number: Blo
     let block = lowest(rt, alloc, &mut others);
     others.dismantle();
     same(rt, block.number(), number);
-    assert!(rt; place < lists.len() && lists[place].takes(&block));
-    lists[place].give(block);
+    assert!(rt; place < lists.len());
+    let list = &mut lists[place];
+    assert!(rt; list.takes(&block));
+    list.give(block);
 }
 
 // ---- the book
