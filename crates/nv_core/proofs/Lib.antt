@@ -37,6 +37,7 @@ pub mod Gives
 pub mod GoingSeveral
 pub mod HeldPages
 pub mod Homes
+pub mod Insides
 pub mod Kept
 pub mod LastTurns
 pub mod LawsHold

@@ -90,7 +90,7 @@ fn blocks_in_hands(alloc: Global, actors: &[Actor]) -> Result<Vec<BlockNo>, Allo
 }
 
 /// The hand, whoever has it.
-fn hand_of(reserved: &Reservation) -> &Hand
+pub(crate) fn hand_of(reserved: &Reservation) -> &Hand
     ensures { result.now ≡ hand_held reserved.now }
 {
     match reserved {

@@ -14,6 +14,7 @@ mod event;
 mod fill;
 mod format;
 mod image_room;
+mod inside;
 mod kinds;
 pub mod laws;
 mod lent;
