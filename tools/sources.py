@@ -113,12 +113,7 @@ class Edit:
 
     @property
     def name(self):
-        return name_of_edit(self.path)
-
-
-def name_of_edit(path):
-    """The name of a wrong body, without the number by which the gate tries those of a crate in turn."""
-    return re.sub(r"^\d+_", "", pathlib.PurePath(path).stem)
+        return pathlib.PurePath(self.path).stem
 
 
 def first_sentence(comment):
