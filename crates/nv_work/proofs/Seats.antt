@@ -131,3 +131,8 @@ not_closed why m Back Of idle back none (inr (inl starved)) = subst (λ (f : Fau
 not_closed why m Back Of idle back none (inr (inr (parts, cells, of, inl is))) = mismatch why parts m idle is
 not_closed why m Back Of idle back none (inr (inr (parts, cells, of, inr is))) =
     subst (λ (f : Fault). RefusesThreads f m) (sym is.0) idle
+
+-- a service that does not open: memory was refused, or an actor has a call
+pub not_opened : (why : Fault) (m : World) → (why ≡ out_of_memory) ⊎ ((why ≡ fault.ActorBusy) × IsBusy m) → RefusesThreads why m
+not_opened why m (inl starved) = subst (λ (f : Fault). RefusesThreads f m) (sym starved) tt
+not_opened why m (inr busy) = subst (λ (f : Fault). RefusesThreads f m) (sym busy.0) busy.1

@@ -13,7 +13,7 @@ use Rattle.nv_machine.specs.World.{Shared, World}
 use Rattle.nv_core.specs.AtRest.{IsBusy}
 use Rattle.nv_core.specs.Worlds.{HasRun, Shows, ShowsAny, WorldState}
 use Rattle.nv_script.specs.Lines.{IsLine, WritesFront, WritesSome}
-use Rattle.nv_script.specs.Play.{EndsAfter, Plays, machine_player, no_head}
+use Rattle.nv_script.specs.Play.{EndsAfter, Plays, failed_reads, failed_writes, machine_player, no_head}
 use Rattle.nv_script.specs.Results.{EndsText, Fails, HoldsNone, Sends, Sent}
 use Rattle.nv_base.specs.declared.geometry.GeometryNumbers.{GeometryNumbers}
 use Rattle.nv_work.specs.declared.forked.ForkedCall.{ForkedCall}
@@ -208,6 +208,22 @@ no_threads threads input left old new gathered f forks end written (fault.Mismat
 no_threads threads input left old new gathered f forks end written (fault.OutOfMemory witness) is =
     (inl (inr (f, [], forks, tt, written)), tt)
 no_threads threads input left old new gathered f forks end written _ is = absurd is
+
+-- no read and no write has failed then
+pub no_failures : (why : Fault) (m : World) → RefusesThreads why m
+    → (failed_reads {A = Unit {0}} (Err why) ≡ 0) × (failed_writes {A = Unit {0}} (Err why) ≡ 0)
+no_failures fault.ActorBusy m is = (refl, refl)
+no_failures (fault.Mismatch part) m is = (refl, refl)
+no_failures (fault.OutOfMemory witness) m is = (refl, refl)
+no_failures _ m is = absurd is
+
+-- no read fails where texts and reports are gathered
+pub reads_nothing : (r : Result (Unit {0}) Fault) (texts : List (List ℕ)) (world : Option WorldState) (old new : Sent)
+    → TellsAll r texts world old new → failed_reads r ≡ 0
+reads_nothing (Ok done) texts world old new is = refl
+reads_nothing (Err fault.Write) texts world old new is = refl
+reads_nothing (Err (fault.OutOfMemory witness)) texts world old new is = refl
+reads_nothing (Err _) texts world old new is = absurd is
 
 -- the world after threads
 pub follows : (opened closed : WorldState) (fork m : World) → Shows opened fork → ClosesAfter opened closed → Shows closed m → HasRun m

@@ -5,8 +5,11 @@ use Rattle.nv_base.specs.declared.geometry.Geometry.{Geometry}
 use Rattle.nv_work.specs.Taken.{lists_of}
 use Rattle.nv_work.specs.Threads.{AreThreadTexts, IsThreadText}
 use Rattle.nv_work.proofs.Crews.{texts_told}
-use Rattle.nv_work.proofs.Seats.{are_in_a_row, not_closed}
+use Rattle.nv_work.proofs.Seats.{are_in_a_row, not_closed, not_opened}
 use Rattle.nv_work.proofs.serving.serve.Goals as goal
+
+pub returns-in-Err-clause-err : goal.returns-in-Err-clause-err
+returns-in-Err-clause-err g c = λ m shown. not_opened c.in-Err.fault m (c.in-Err.ensures.err m shown)
 
 pub returns-in-Ok-close-clause-texts : goal.returns-in-Ok-close-clause-texts
 returns-in-Ok-close-clause-texts g c =
