@@ -1,7 +1,8 @@
 -- Two players whose worlds go alike play a script alike, where none of its lines makes a single step.
 use Rattle.std.proofs.Common.{◌≡◌, ◌∙◌, ◌⊎◌, inl, inr, ℕ, ◌+◌, ◌++◌, length, Bool, true, false, List, [], ◌∷◌, Option, Some, None, Result, Ok, Err, is_some, ap, append_assoc, refl, subst, sym}
-use Rattle.std.specs.Prelude.{MatchBool, nat_lt}
+use Rattle.std.specs.Prelude.{MatchBool, codes, nat_lt}
 use Rattle.nv_base.specs.Limits.{first_bad_field}
+use Rattle.nv_base.specs.Memory.{out_of_memory}
 use Rattle.nv_base.specs.declared.fault.Fault.{Fault}
 use Rattle.nv_base.specs.declared.fault.Fault.TheVariants as fault
 use Rattle.nv_base.specs.declared.fault.GeometryField.{GeometryField}
@@ -13,7 +14,7 @@ use Rattle.nv_script.specs.Grammar.{command_of, is_skipped}
 use Rattle.nv_script.specs.Lines.{IsCutOff, IsLine, ended}
 use Rattle.nv_script.specs.Play.{Ends, EndsBy, Formats, IsFault, ListsFront, ListsWords, Played, Player, Plays, PlaysFrom, PlaysWords, Reports, ShowsLog, ShowsTree, Stops, StopsAt, Tells, WorldReports}
 use Rattle.nv_script.specs.Serially.{HasNoSteps, makes_steps}
-use Rattle.nv_script.specs.Texts.{lists_lines, log_line, snaps_lines, space_line}
+use Rattle.nv_script.specs.Texts.{line_of, lists_lines, log_line, refused_line, snaps_lines, space_line}
 use Rattle.nv_script.specs.Words.{words_of}
 use Rattle.nv_script.proofs.Lines.{ended-push}
 
@@ -21,13 +22,15 @@ use Rattle.nv_script.proofs.Lines.{ended-push}
 abbrev pub IsWhole : List ℕ → Type 0
 IsWhole line = (c : Command) → command_of (words_of line) ≡ Ok c → makes_steps c ≡ false
 
--- as one world goes, so does the other: from the start, and by each command that makes no step; and the same stands before answers
+-- as one world goes, so does the other: from the start, and by each command that makes no step; the same stands before answers, and a
+-- `format` is told the same
 pub record GoAlike (P Q : Player) (Like : P.World → Q.World → Type 0) : Type 0 where
   pub start : (numbers : GeometryNumbers) → first_bad_field numbers ≡ None → Like (P.empty numbers) (Q.empty numbers)
   pub acts : (number : ℕ) (m : P.World) (s : Q.World) (c : Command) (text : List ℕ) (n : P.World) → Like m s → makes_steps c ≡ false
       → P.Acts number m c text n → (t : Q.World) × Q.Acts number s c text t × Like n t
   pub lists : (m : P.World) (s : Q.World) (c : Command) → Like m s → P.listed m c ≡ Q.listed s c
   pub heads : (number : ℕ) (line : List ℕ) → P.head number line ≡ Q.head number line
+  pub made : (number : ℕ) (m : Option P.World) (s : Option Q.World) (answer : List ℕ) → P.made number m answer ≡ Q.made number s answer
 
 -- two worlds report the same
 pub record ReportAlike (a b : WorldReports) : Type 0 where
@@ -79,23 +82,29 @@ module _ (P Q : Player) (Like : P.World → Q.World → Type 0) (alike : GoAlike
   abbrev Follows : ℕ → Option Q.World → List ℕ → List ℕ → Option P.World → Type 0
   Follows number s line text n = (t : Option Q.World) × Plays Q number s line text t × AreLike n t
 
-  formats_alike : (field : Option GeometryField) (numbers : GeometryNumbers) (text : List ℕ) (n : Option P.World)
-      → first_bad_field numbers ≡ field → Formats P field numbers text n
-      → (t : Option Q.World) × Formats Q field numbers text t × AreLike n t
-  formats_alike (Some field) numbers text n is formats =
-      (None, (formats.0, refl), subst (λ (w : Option P.World). AreLike w None) (sym formats.1) tt)
-  formats_alike None numbers text n is (inl made) = (
+  formats_alike : (number : ℕ) (field : Option GeometryField) (numbers : GeometryNumbers) (text : List ℕ) (n : Option P.World)
+      → first_bad_field numbers ≡ field → Formats P number field numbers text n
+      → (t : Option Q.World) × Formats Q number field numbers text t × AreLike n t
+  formats_alike number (Some field) numbers text n is formats = (
+    None,
+    (formats.0 ∙ alike.made number None None (refused_line (fault.BadGeometry field)), refl),
+    subst (λ (w : Option P.World). AreLike w None) (sym formats.1) tt,
+  )
+  formats_alike number None numbers text n is (inl made) = (
     Some (Q.empty numbers),
-    inl (made.0, refl),
+    inl (made.0 ∙ alike.made number (Some (P.empty numbers)) (Some (Q.empty numbers)) (line_of (codes "formatted")), refl),
     subst (λ (w : Option P.World). AreLike w (Some (Q.empty numbers))) (sym made.1) (alike.start numbers is),
   )
-  formats_alike None numbers text n is (inr none) =
-      (None, inr (none.0, refl), subst (λ (w : Option P.World). AreLike w None) (sym none.1) tt)
+  formats_alike number None numbers text n is (inr none) = (
+    None,
+    inr (none.0 ∙ alike.made number None None (refused_line out_of_memory), refl),
+    subst (λ (w : Option P.World). AreLike w None) (sym none.1) tt,
+  )
 
   words_alike : (number : ℕ) (m : Option P.World) (s : Option Q.World) (line text : List ℕ) (n : Option P.World) → AreLike m s → IsWhole line
       → PlaysWords P number m (words_of line) text n → (t : Option Q.World) × PlaysWords Q number s (words_of line) text t × AreLike n t
   words_alike number None None line text n like whole plays =
-      let made = formats_alike (first_bad_field plays.0) plays.0 text n refl plays.2 in
+      let made = formats_alike number (first_bad_field plays.0) plays.0 text n refl plays.2 in
       (made.0, (plays.0, plays.1, made.1), made.2)
   words_alike number (Some m) (Some s) line text n like whole plays =
       let acts = alike.acts number m s plays.0 text plays.1 like (whole plays.0 plays.2) plays.3 in (

@@ -1,31 +1,34 @@
 -- How a script ends, from what holds before each of its lines.
-use Rattle.std.proofs.Common.{◌≡◌, ℕ, ◌+◌, ◌≤◌, ◌⊎◌, inl, inr, Bool, false, List, [], ◌∷◌, ◌++◌, length, length-append, Option, Some, None, IfSome, is_some, Result, Ok, Err, refl, sym, ap, subst, ◌∙◌, append_assoc, append-nil, arith}
+use Rattle.std.proofs.Common.{◌≡◌, ℕ, ◌+◌, ◌≤◌, ◌⊎◌, inl, inr, Bool, false, true, List, [], ◌∷◌, ◌++◌, length, length-append, Option, Some, None, IfSome, is_some, Result, Ok, Err, refl, sym, ap, subst, ◌∙◌, append_assoc, append-nil, arith}
 use Rattle.std.proofs.KnownBytes.{Appends-nil, Consumes-nil, Consumes-trans}
 use Rattle.std.proofs.lemmas.Grind.{flat_map-append}
 use Rattle.std.specs.List.{flat_map}
-use Rattle.std.specs.Prelude.{codes}
+use Rattle.std.specs.Prelude.{◌≢◌, codes}
 use Rattle.std.specs.Io.KnownBytes.{Appends, Consumes, IsAtEnd, prepend_known}
 use Rattle.nv_base.specs.declared.fault.Fault.{Fault}
 use Rattle.nv_base.specs.declared.fault.Fault.TheVariants as fault
 use Rattle.nv_base.specs.declared.fault.ScriptFaultKind.{ScriptFaultKind}
+use Rattle.nv_entry.specs.declared.tree.TreeNode.{TreeNode}
 use Rattle.nv_machine.specs.World.{World}
+use Rattle.nv_script.specs.declared.command.Command.{Command}
 use Rattle.nv_script.specs.declared.fault.LineFault.{LineFault}
 use Rattle.nv_script.specs.declared.fault.LineFault.TheVariants as line_fault
 use Rattle.nv_script.specs.declared.feed.LineResult.{LineResult}
 use Rattle.nv_script.specs.declared.feed.LineResult.TheVariants as taken
 use Rattle.nv_script.specs.Lines.{IsCutOff, IsLine, LineResultIs, WritesFront, WritesSome, ended}
-use Rattle.nv_script.specs.Play.{Ends, EndsBy, EndsWell, IsFault, LineFails, ListsWords, Played, Plays, PlaysAll, PlaysFrom, Stops, StopsAt, machine_player, most_lines, no_head}
+use Rattle.nv_script.specs.Play.{Ends, EndsBy, EndsWell, IsFault, LineFails, ListsFront, ListsWords, Played, Plays, PlaysAll, PlaysFrom, Stops, StopsAt, is_list, machine_player, most_lines, no_head}
 use Rattle.nv_script.specs.Trace.{player_by}
 use Rattle.nv_script.specs.declared.trace.Trace.{Trace}
 use Rattle.nv_script.specs.declared.trace.Trace.TheVariants as trace
-use Rattle.nv_script.specs.Grammar.{is_skipped}
+use Rattle.nv_script.specs.Grammar.{command_of, is_skipped}
 use Rattle.nv_script.specs.Texts.{line_of, node_line, tree_lines}
 use Rattle.nv_script.specs.Words.{words_of}
 use Rattle.nv_core.specs.Worlds.{WorldState}
 use Rattle.nv_script.specs.Results.{AnswersBehind, AtLineBy, EndsText, HoldsNone, LineFaultBehind, ListsText, Sent, TakesLine, ending_of, is_line}
 use Rattle.nv_script.proofs.Breaks.{breaks_at}
 use Rattle.nv_script.proofs.Handed.{lists_text}
-use Rattle.nv_script.proofs.Played.{plays_listed, some_list}
+use Rattle.nv_script.proofs.Played.{plays_in_json, plays_listed, some_list}
+use Rattle.nv_script.proofs.Untraced.{off_no_json, text_no_json}
 use Rattle.nv_script.proofs.Known.{writes_all, writes_end, writes_grown, writes_none, writes_rest, writes_some, writes_some_of}
 use Rattle.nv_script.proofs.Lines.{ended-append, ended-push}
 use Rattle.nv_script.proofs.Taken.{cut, cut_end, if_same, no_line, within}
@@ -108,25 +111,51 @@ split-push input lines line rest is =
     if_same input _ _ same is
 
 -- a tree of which lines were sent is the text of the line that asks for it
-lists_plays : (events : Trace) (number : ℕ) (world : Option World) (line sent : List ℕ) → is_skipped line ≡ false → ListsWords machine_player world (words_of line) sent
-    → (own : List ℕ) × Plays (player_by events no_head) number world line (sent ++ own) world
-lists_plays events number None line sent skipped lists = absurd lists
-lists_plays events number (Some old) line sent skipped (c, read, is, inl none) =
+front_plays : (events : Trace) (number : ℕ) (old : World) (line sent : List ℕ) (c : Command) → events ≢ trace.Json
+    → is_skipped line ≡ false → command_of (words_of line) ≡ Ok c → is_list c ≡ true
+    → (sent ≡ []) ⊎ ListsFront (machine_player.listed old c) sent
+    → (own : List ℕ) × Plays (player_by events no_head) number (Some old) line (sent ++ own) (Some old)
+front_plays events number old line sent c plain skipped read is (inl none) =
     let text = some_list (machine_player.listed old c) in
     let same : sent ++ text.0 ≡ text.0 = ap (λ t. t ++ text.0) none in (
       text.0,
-      plays_listed events number old line (sent ++ text.0) c skipped read is
+      plays_listed events number old line (sent ++ text.0) c plain skipped read is
           (subst (λ (t : List ℕ). ListsText (machine_player.listed old c) t) (sym same) text.1),
     )
-lists_plays events number (Some old) line sent skipped (c, read, is, inr front) =
+front_plays events number old line sent c plain skipped read is (inr front) =
     let own = flat_map node_line front.1 ++ line_of (codes "end") in
     let text : sent ++ own ≡ tree_lines (front.0 ++ front.1) =
     ap (λ t. t ++ own) front.3 ∙ sym (append_assoc (flat_map node_line front.0) (flat_map node_line front.1) (line_of (codes "end")))
     ∙ ap (λ t. t ++ line_of (codes "end")) (sym (flat_map-append node_line front.0 front.1)) in (
       own,
-      plays_listed events number old line (sent ++ own) c skipped read is
+      plays_listed events number old line (sent ++ own) c plain skipped read is
           (lists_text (machine_player.listed old c) (front.0 ++ front.1) (sent ++ own) front.2 text),
     )
+
+-- as JSON no line of it was
+whole_plays : (number : ℕ) (old : World) (line sent : List ℕ) (c : Command) → is_skipped line ≡ false
+    → command_of (words_of line) ≡ Ok c → is_list c ≡ true → (sent ≡ []) ⊎ ListsFront None sent
+    → (own : List ℕ) × Plays (player_by trace.Json no_head) number (Some old) line (sent ++ own) (Some old)
+whole_plays number old line sent c skipped read is (inl none) =
+    let told = plays_in_json number old line c skipped read is in
+    let same : sent ++ told.0 ≡ told.0 = ap (λ t. t ++ told.0) none in (
+      told.0,
+      subst (λ (t : List ℕ). Plays (player_by trace.Json no_head) number (Some old) line t (Some old)) (sym same) told.1,
+    )
+whole_plays number old line sent c skipped read is (inr front) = absurd (no_nodes (front.0 ++ front.1) front.2) where
+  no_nodes : (nodes : List TreeNode) → None ≡ Some nodes → ⊥
+  no_nodes nodes same = cc
+
+lists_plays : (events : Trace) (number : ℕ) (world : Option World) (line sent : List ℕ) → is_skipped line ≡ false
+    → ListsWords (player_by events no_head) world (words_of line) sent
+    → (own : List ℕ) × Plays (player_by events no_head) number world line (sent ++ own) world
+lists_plays events number None line sent skipped lists = absurd lists
+lists_plays trace.Off number (Some old) line sent skipped (c, read, is, listed) =
+    front_plays trace.Off number old line sent c off_no_json skipped read is listed
+lists_plays trace.Text number (Some old) line sent skipped (c, read, is, listed) =
+    front_plays trace.Text number old line sent c text_no_json skipped read is listed
+lists_plays trace.Json number (Some old) line sent skipped (c, read, is, listed) =
+    whole_plays number old line sent c skipped read is listed
 
 -- the fault of the next line where not all of the text of some lines was written
 pub broken : (events : Trace) (head : ℕ → List ℕ → List ℕ) (input left old new : Option (List ℕ)) (lines : List (List ℕ)) (rest text : List ℕ) (world : Option World)
@@ -381,7 +410,7 @@ module _ {events : Trace} {head : ℕ → List ℕ → List ℕ} (input known ol
         → EndsBy (player_by events head) (ending_of number why) input left (λ text. WritesFront old to.written text to.gathered)
     not_played left (line_fault.OutOfMemory _) to last why =
         let p = played after (line ++ 10 ∷ []) here in
-        let stops = subst (λ (n : ℕ). StopsAt machine_player (head n line) world line why.0) (sym at.count) why.1 in (
+        let stops = subst (λ (n : ℕ). StopsAt (player_by events no_head) (head n line) world line why.0) (sym at.count) why.1 in (
           at.lines,
           (line ++ 10 ∷ []) ++ p.0,
           at.text,

@@ -7,7 +7,6 @@ use Rattle.nv_machine.specs.World.{World}
 use Rattle.nv_script.specs.Play.{Ends, EndsBy, ListsWords, Played, PlaysFrom, Stops, machine_player}
 use Rattle.nv_script.specs.Trace.{IsTraced, PlaysWithoutEvents, tracing_player}
 use Rattle.nv_script.specs.Words.{words_of}
-use Rattle.nv_script.specs.declared.trace.Trace.TheVariants as trace
 use Rattle.nv_script.proofs.Answering.{IsAnswer}
 use Rattle.nv_script.proofs.EventLines.{answer_traced, both_traced, none_traced}
 use Rattle.nv_script.proofs.Told.{front_answers, line_answers}
@@ -20,7 +19,7 @@ lines_plain : (number : ℕ) (m : Option World) (lines : List (List ℕ)) (text 
 lines_plain number m [] text n plays = ([], (refl, plays.1), subst (λ (t : List ℕ). IsTraced t []) (sym plays.0) none_traced)
 lines_plain number m (line ∷ lines) text n plays =
     let more = lines_plain (number + 1) plays.2 lines plays.1 n plays.5 in
-    let one = line_untraced trace.Text number m line plays.0 plays.2 plays.4 in
+    let one = line_untraced number m line plays.0 plays.2 plays.4 in
     let behind = one.2 in
     let own = subst (λ (t : List ℕ). IsTraced t one.0) (sym behind.text_is)
     (both_traced behind.events [] one.0 one.0 behind.told (answer_traced one.0 (line_answers m line one.0 plays.2 one.1))) in (

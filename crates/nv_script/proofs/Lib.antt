@@ -2,6 +2,7 @@ pub mod Acting
 pub mod Ahead
 pub mod Alike
 pub mod Answering
+pub mod AnswerLines
 pub mod Asking
 pub mod Breaks
 pub mod Commands
@@ -12,12 +13,16 @@ pub mod Failures
 pub mod Firsts
 pub mod Handed
 pub mod Handles
+pub mod JsonActs
+pub mod JsonParts
+pub mod JsonWorlds
 pub mod Known
 pub mod Lines
 pub mod Looked
 pub mod Numbers
 pub mod Plain
 pub mod Played
+pub mod PlayedTold
 pub mod Printed
 pub mod RunsPlayed
 pub mod SerialAlike
@@ -36,3 +41,5 @@ pub mod StepsTold
 pub mod TracedEnds
 pub mod Tracing
 pub mod Untraced
+pub mod Pushes
+pub mod LeftParts

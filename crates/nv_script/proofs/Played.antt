@@ -1,7 +1,7 @@
 -- A line that is played on what a world shows.
-use Rattle.std.proofs.Common.{◌≡◌, ℕ, ◌++◌, Bool, false, true, List, [], Option, Some, None, Result, Ok, Err, inl, inr, is_some, refl, subst, sym}
+use Rattle.std.proofs.Common.{◌≡◌, ◌⊎◌, ℕ, ◌++◌, Bool, false, true, List, [], Option, Some, None, Result, Ok, Err, inl, inr, is_some, refl, subst, sym}
 use Rattle.std.proofs.lemmas.Bool.{false≢true}
-use Rattle.std.specs.Prelude.{MatchBool, codes}
+use Rattle.std.specs.Prelude.{◌≢◌, MatchBool, codes}
 use Rattle.nv_base.specs.Limits.{first_bad_field}
 use Rattle.nv_base.specs.Memory.{no_memory}
 use Rattle.nv_base.specs.declared.fault.Fault.TheVariants as fault
@@ -16,12 +16,13 @@ use Rattle.nv_script.specs.declared.command.Command.TheVariants as command
 use Rattle.nv_script.specs.declared.fault.LineFault.{LineFault}
 use Rattle.nv_script.specs.declared.fault.LineFault.TheVariants as line_fault
 use Rattle.nv_script.specs.Grammar.{IsLineFault, Parsed, command_of, format_of, is_skipped}
-use Rattle.nv_script.specs.Play.{Acts, LineFails, Plays, PlaysWords, ShowsTree, WordsFail, is_list, machine_player, no_head, nodes_at, reports_of}
+use Rattle.nv_script.specs.Play.{Acts, Formats, LineFails, ListsFront, Plays, PlaysWords, ShowsTree, WordsFail, is_list, machine_player, no_head, nodes_at, reports_of}
+use Rattle.nv_script.specs.Json.{answer_lines}
 use Rattle.nv_script.specs.Trace.{ActsTold, ActsToldBy, player_by}
 use Rattle.nv_script.specs.declared.trace.Trace.{Trace}
 use Rattle.nv_script.specs.declared.trace.Trace.TheVariants as trace
 use Rattle.nv_script.specs.Lines.{WritesFront, WritesSome}
-use Rattle.nv_script.specs.Results.{AnswersBehind, HasAnyRun, IsNewWorld, LineFaultBehind, LineIs, ListBehind, ListIs, ListsText, MakesWorld, PlaysTold, SendsBut, Sent}
+use Rattle.nv_script.specs.Results.{AnswersBehind, HasAnyRun, IsNewWorld, LineFaultBehind, LineIs, ListBehind, ListIs, ListsText, MakesTold, MakesWorld, PlaysTold, SendsBut, Sent}
 use Rattle.nv_script.specs.Texts.{line_of, refused_line, tree_lines}
 use Rattle.nv_script.specs.Words.{words_of}
 use Rattle.nv_core.specs.Worlds.{WorldState}
@@ -49,12 +50,13 @@ acts_listed old (command.SnapTree snapshot) text lists is = acts_tree (nodes_at 
 acts_listed old _ text lists is = absurd (false≢true lists)
 
 -- the same where events are told: a tree has none
-lists_told : (events : Trace) (number : ℕ) (old : machine.World) (c : Command) (text : List ℕ) → is_list c ≡ true
+lists_told : (events : Trace) (number : ℕ) (old : machine.World) (c : Command) (text : List ℕ) → events ≢ trace.Json → is_list c ≡ true
     → ListsText (machine_player.listed old c) text → ActsTold events number old c text old
-lists_told trace.Off number old c text lists is = acts_listed old c text lists is
-lists_told trace.Text number old command.Tree text lists is = (is, refl)
-lists_told trace.Text number old (command.SnapTree snapshot) text lists is = acts_tree (nodes_at old (Some snapshot)) old text is
-lists_told trace.Text number old _ text lists is = absurd (false≢true lists)
+lists_told trace.Off number old c text plain lists is = acts_listed old c text lists is
+lists_told trace.Text number old command.Tree text plain lists is = (is, refl)
+lists_told trace.Text number old (command.SnapTree snapshot) text plain lists is = acts_tree (nodes_at old (Some snapshot)) old text is
+lists_told trace.Text number old _ text plain lists is = absurd (false≢true lists)
+lists_told trace.Json number old c text plain lists is = absurd (plain refl)
 
 plays_words : (events : Trace) (number : ℕ) (old new : Option machine.World) (line text : List ℕ) → is_skipped line ≡ false
     → PlaysWords (player_by events no_head) number old (words_of line) text new → Plays (player_by events no_head) number old line text new
@@ -62,18 +64,26 @@ plays_words events number old new line text skipped plays =
     subst (λ (b : Bool). MatchBool b ((text ≡ []) × (new ≡ old)) (PlaysWords (player_by events no_head) number old (words_of line) text new))
     (sym skipped) plays
 
-pub plays_listed : (events : Trace) (number : ℕ) (old : machine.World) (line text : List ℕ) (c : Command) → is_skipped line ≡ false
+pub plays_listed : (events : Trace) (number : ℕ) (old : machine.World) (line text : List ℕ) (c : Command) → events ≢ trace.Json → is_skipped line ≡ false
     → command_of (words_of line) ≡ Ok c → is_list c ≡ true → ListsText (machine_player.listed old c) text
     → Plays (player_by events no_head) number (Some old) line text (Some old)
-plays_listed events number old line text c skipped read lists is =
-    plays_words events number (Some old) (Some old) line text skipped (c, old, read, lists_told events number old c text lists is, refl)
+plays_listed events number old line text c plain skipped read lists is =
+    plays_words events number (Some old) (Some old) line text skipped (c, old, read, lists_told events number old c text plain lists is, refl)
+
+-- its first nodes may stand alone
+fronts_told : (events : Trace) (m : machine.World) (c : Command) (sent : List ℕ) → events ≢ trace.Json
+    → (sent ≡ []) ⊎ ListsFront (machine_player.listed m c) sent
+    → (sent ≡ []) ⊎ ListsFront ((player_by events no_head).listed m c) sent
+fronts_told trace.Off m c sent plain front = front
+fronts_told trace.Text m c sent plain front = front
+fronts_told trace.Json m c sent plain front = absurd (plain refl)
 
 -- what a tree's line is answered, behind a head, is the answer of the line
 pub lists_line : (events : Trace) (number : ℕ) (head : List ℕ) (result : Result (Unit {0}) LineFault) (from to : Sent) (old : Option WorldState) (world : WorldState)
-    (line rest : List ℕ) (c : Command) → old ≡ Some world → is_skipped line ≡ false → command_of (words_of line) ≡ Ok c → is_list c ≡ true
+    (line rest : List ℕ) (c : Command) → events ≢ trace.Json → old ≡ Some world → is_skipped line ≡ false → command_of (words_of line) ≡ Ok c → is_list c ≡ true
     → ((m : machine.World) → Shows world m → ListBehind head result from to rest (machine_player.listed m c))
     → LineIs events number head result from to old line rest (Some world)
-lists_line events number head result from to old world line rest c there skipped read lists given = by result given where
+lists_line events number head result from to old world line rest c plain there skipped read lists given = by result given where
   shown_at : (P : Option machine.World → Type 0) → ((m : machine.World) → Shows world m → P (Some m))
       → (m : Option machine.World) → ShowsAny old m → HasAnyRun m → P m
   shown_at P each m shows run = go m (subst (λ (w : Option WorldState). ShowsAny w m) there shows) where
@@ -88,14 +98,14 @@ lists_line events number head result from to old world line rest c there skipped
       shown_at
       (λ m. (n : Option machine.World) × (text : List ℕ) × Plays (player_by events no_head) number m line text n × ShowsAny (Some world) n
       × SendsBut rest from to (head ++ text))
-      (λ m shown. let it = given m shown in (Some m, it.0, plays_listed events number m line it.0 c skipped read lists it.1, shown, it.2))
+      (λ m shown. let it = given m shown in (Some m, it.0, plays_listed events number m line it.0 c plain skipped read lists it.1, shown, it.2))
   by (Err (line_fault.OutOfMemory witness)) given =
       shown_at (λ m. LineFaultBehind events number head (line_fault.OutOfMemory witness) from to m line)
       (λ m shown. let it = given m shown in
-      (head ++ it.0, (skipped, inr (it.0, (c, read, lists, it.1), refl)), it.2))
+      (head ++ it.0, (skipped, inr (it.0, (c, read, lists, fronts_told events m c it.0 plain it.1), refl)), it.2))
   by (Err line_fault.Write) given =
       shown_at (λ m. LineFaultBehind events number head line_fault.Write from to m line)
-      (λ m shown. let it = given m shown in (it.0, Some m, plays_listed events number m line it.0 c skipped read lists it.1, it.2))
+      (λ m shown. let it = given m shown in (it.0, Some m, plays_listed events number m line it.0 c plain skipped read lists it.1, it.2))
   by (Err (line_fault.Faulty why)) given =
       shown_at (λ m. LineFaultBehind events number head (line_fault.Faulty why) from to m line) (λ m shown. absurd (given m shown))
 
@@ -146,15 +156,33 @@ played events number old world new line text command there skipped read leads m 
             by.2,
           )
 
--- a line that makes a world
-pub formats : (events : Trace) (number : ℕ) (old new : Option WorldState) (line text : List ℕ) (numbers : GeometryNumbers) → old ≡ None
-    → is_skipped line ≡ false → format_of (words_of line) ≡ Ok numbers → MakesWorld (first_bad_field numbers) numbers text new
+-- a `format` is told as it is played, except as JSON
+formats_told : (events : Trace) (number : ℕ) (field : Option GeometryField) (numbers : GeometryNumbers) (text : List ℕ)
+    (n : Option machine.World) → events ≢ trace.Json → Formats machine_player 0 field numbers text n
+    → Formats (player_by events no_head) number field numbers text n
+formats_told trace.Off number (Some field) numbers text n plain formats = formats
+formats_told trace.Off number None numbers text n plain formats = formats
+formats_told trace.Text number (Some field) numbers text n plain formats = formats
+formats_told trace.Text number None numbers text n plain formats = formats
+formats_told trace.Json number field numbers text n plain formats = absurd (plain refl)
+
+-- a line that makes a world, and its world is told so
+pub makes : (events : Trace) (number : ℕ) (old new : Option WorldState) (line text : List ℕ) (numbers : GeometryNumbers) → old ≡ None
+    → is_skipped line ≡ false → format_of (words_of line) ≡ Ok numbers → MakesTold events number (first_bad_field numbers) numbers text new
     → PlaysTo events number old line text new
-formats events number old new line text numbers none skipped read makes m shown run =
+makes events number old new line text numbers none skipped read made m shown run =
     go m (subst (λ (w : Option WorldState). ShowsAny w m) none shown) where
       go : (m : Option machine.World) → ShowsAny None m → (n : Option machine.World) × Plays (player_by events no_head) number m line text n × ShowsAny new n
-      go None shown = (makes.0, plays_words events number None makes.0 line text skipped (numbers, read, makes.1), makes.2)
+      go None shown = (made.0, plays_words events number None made.0 line text skipped (numbers, read, made.1), made.2)
       go (Some m) shown = absurd shown
+
+-- and one that is not told as JSON
+pub formats : (events : Trace) (number : ℕ) (old new : Option WorldState) (line text : List ℕ) (numbers : GeometryNumbers) → events ≢ trace.Json → old ≡ None
+    → is_skipped line ≡ false → format_of (words_of line) ≡ Ok numbers → MakesWorld (first_bad_field numbers) numbers text new
+    → PlaysTo events number old line text new
+formats events number old new line text numbers plain none skipped read is =
+    makes events number old new line text numbers none skipped read
+    (is.0, formats_told events number (first_bad_field numbers) numbers text is.0 plain is.1, is.2)
 
 -- what stands before the answers to a line was sent, and these are to be sent
 pub headed : (events : Trace) (number : ℕ) (head : List ℕ) (from to : Sent) (old new : Option WorldState) (line text : List ℕ) → PlaysTo events number old line text new
@@ -214,6 +242,24 @@ pub lists_unheaded : (head : List ℕ) (from to : Sent) (rest : List ℕ) (nodes
 lists_unheaded head from to rest nodes some =
     let text = some_list nodes in
     (text.0, text.1, (writes_some_first from.written to.written from.gathered head text.0 some.0, some.1))
+
+-- as JSON some text of a tree is told as a whole
+json_told : (number : ℕ) (old : machine.World) (c : Command) → is_list c ≡ true
+    → (text : List ℕ) × ActsTold trace.Json number old c text old
+json_told number old command.Tree lists =
+    let tree = some_list (machine_player.listed old command.Tree) in
+    (answer_lines number tree.0, (tree.0, acts_listed old command.Tree tree.0 lists tree.1, refl))
+json_told number old (command.SnapTree snapshot) lists =
+    let tree = some_list (machine_player.listed old (command.SnapTree snapshot)) in
+    (answer_lines number tree.0, (tree.0, acts_listed old (command.SnapTree snapshot) tree.0 lists tree.1, refl))
+json_told number old _ lists = absurd (false≢true lists)
+
+pub plays_in_json : (number : ℕ) (old : machine.World) (line : List ℕ) (c : Command) → is_skipped line ≡ false
+    → command_of (words_of line) ≡ Ok c → is_list c ≡ true
+    → (text : List ℕ) × Plays (player_by trace.Json no_head) number (Some old) line text (Some old)
+plays_in_json number old line c skipped read lists =
+    let told = json_told number old c lists in
+    (told.0, plays_words trace.Json number (Some old) (Some old) line told.0 skipped (c, old, read, told.1, refl))
 
 -- a command that lists no tree
 pub no_list : (c : Command) → (c ≡ command.Tree → ⊥) → ((s : ℕ) → c ≡ command.SnapTree s → ⊥) → is_list c ≡ false

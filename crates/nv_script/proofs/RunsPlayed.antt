@@ -31,7 +31,7 @@ use Rattle.nv_script.specs.Play.{Acts, ActsBy, Formats, Plays, PlaysAll, PlaysFr
 use Rattle.nv_script.specs.Trace.{ActsTold, ActsToldBy, player_by}
 use Rattle.nv_script.specs.declared.trace.Trace.{Trace}
 use Rattle.nv_script.specs.declared.trace.Trace.TheVariants as trace
-use Rattle.nv_script.proofs.Untraced.{line_untraced}
+use Rattle.nv_script.proofs.PlayedTold.{line_played}
 use Rattle.nv_script.specs.Results.{HasAnyRun}
 use Rattle.nv_script.specs.Texts.{lists_lines, log_line, snaps_lines, space_line}
 use Rattle.nv_script.specs.Words.{words_of}
@@ -173,7 +173,7 @@ has_any None is = tt
 has_any (Some m) is = (record { start = is.start; records = is.records; events = is.events }, is.is_start, sym is.leads)
 
 reached_formats : (field : Option GeometryField) (numbers : GeometryNumbers) (text : List ℕ) (n : Option World)
-    → first_bad_field numbers ≡ field → Formats machine_player field numbers text n → IsAnyReached n
+    → first_bad_field numbers ≡ field → Formats machine_player 0 field numbers text n → IsAnyReached n
 reached_formats (Some field) numbers text n is formats = subst IsAnyReached (sym formats.1) tt
 reached_formats None numbers text n is (inl made) = subst IsAnyReached (sym made.1) (new_reached numbers (within numbers is))
 reached_formats None numbers text n is (inr none) = subst IsAnyReached (sym none.1) tt
@@ -196,7 +196,7 @@ reached_lines : (events : Trace) (head : ℕ → List ℕ → List ℕ) (number 
     → PlaysFrom (player_by events head) number m lines text n → IsAnyReached m → IsAnyReached n
 reached_lines events head number m [] text n plays is = subst IsAnyReached (sym plays.1) is
 reached_lines events head number m (line ∷ lines) text n plays is =
-    let one = line_untraced events number m line plays.0 plays.2 plays.4 in
+    let one = line_played events number m line plays.0 plays.2 plays.4 in
     reached_lines events head (number + 1) plays.2 lines plays.1 n plays.5 (reached_line m line one.0 plays.2 one.1 is)
 
 pub plays_run_by : (events : Trace) (head : ℕ → List ℕ → List ℕ) (lines : List (List ℕ)) (text : List ℕ) (n : Option World)
@@ -245,3 +245,15 @@ told_scanned trace.Text number m command.Stop text n has acts = acts
 told_scanned trace.Text number m command.Tree text n has acts = acts
 told_scanned trace.Text number m (command.SnapTree snapshot) text n has acts = acts
 told_scanned trace.Text number m command.Audit text n has acts = acts
+told_scanned trace.Json number m (command.Start actor call) text n has acts = acts
+told_scanned trace.Json number m (command.Go actor more) text n has acts = acts
+told_scanned trace.Json number m (command.Run actor) text n has acts = acts
+told_scanned trace.Json number m (command.Do actor call) text n has acts = acts
+told_scanned trace.Json number m command.Stop text n has acts = acts
+told_scanned trace.Json number m command.Space text n has acts = (acts.0, acts_scanned m command.Space acts.0 n has acts.1, acts.2)
+told_scanned trace.Json number m command.Lists text n has acts = (acts.0, acts_scanned m command.Lists acts.0 n has acts.1, acts.2)
+told_scanned trace.Json number m command.Snaps text n has acts = (acts.0, acts_scanned m command.Snaps acts.0 n has acts.1, acts.2)
+told_scanned trace.Json number m (command.Log ino) text n has acts = (acts.0, acts_scanned m (command.Log ino) acts.0 n has acts.1, acts.2)
+told_scanned trace.Json number m command.Tree text n has acts = acts
+told_scanned trace.Json number m (command.SnapTree snapshot) text n has acts = acts
+told_scanned trace.Json number m command.Audit text n has acts = acts

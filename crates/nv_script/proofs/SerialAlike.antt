@@ -126,7 +126,13 @@ acts_told m s report text n stands whole acts =
 
 -- THE PLAYERS GO ALIKE
 pub go_alike : GoAlike machine_player serial_player Stands
-go_alike = record { start = new_stands; acts = λ number. acts_told; lists = lists_told; heads = λ number line. refl }
+go_alike = record {
+  start = new_stands;
+  acts = λ number. acts_told;
+  lists = lists_told;
+  heads = λ number line. refl;
+  made = λ number m s answer. refl;
+}
 
 -- THE LAW of scripts whose lines make no step
 pub plays_alone : (result : Result (Unit {0}) Fault) (input left old new : Option (List ℕ)) → PlaysScript result input left old new

@@ -327,7 +327,7 @@ acts_told m command.Audit text n acts = reports_told (line_of (codes "audit ok")
     (line_told (codes "audit ok") (clean_text (codes "audit ok") refl) refl) acts
 
 formats_told : (bad : Option GeometryField) (numbers : GeometryNumbers) (text : List ℕ) (n : Option World)
-    → Formats machine_player bad numbers text n → IsAnswer text
+    → Formats machine_player 0 bad numbers text n → IsAnswer text
 formats_told (Some f) numbers text n formats = subst IsAnswer (sym formats.0) (refused_told (fault.BadGeometry f))
 formats_told None numbers text n (inl made) =
     subst IsAnswer (sym made.0) (line_told (codes "formatted") (clean_text (codes "formatted") refl) refl)

@@ -1,5 +1,7 @@
 pub mod Echo
 pub mod Grammar
+pub mod Json
+pub mod JsonWorld
 pub mod Lines
 pub mod Play
 pub mod Printed

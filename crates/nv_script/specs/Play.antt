@@ -32,7 +32,8 @@ use Rattle.nv_script.specs.Words.{words_of}
 use Rattle.nv_base.specs.Memory.{out_of_memory}
 
 -- WHO PLAYS A SCRIPT: the kind of its worlds, the empty one of a geometry, what the command of a line with a number is answered and leaves,
--- the nodes of the tree that a command lists, and what is written before the answers to the line with a number.
+-- the nodes of the tree that a command lists, what is written before the answers to the line with a number, and what a `format` there
+-- with such an answer writes.
 -- Player: a kind of world, and the empty one of a geometry. It tells what the command of a line with a number is answered
 -- and leaves, and which nodes of a tree a command lists. It also tells what is written before the answers to a line of
 -- some number. The rows below hold of any player.
@@ -42,6 +43,7 @@ pub record Player : Type 1 where
   pub Acts : ℕ → World → Command → List ℕ → World → Type 0
   pub listed : World → Command → Option (List TreeNode)
   pub head : ℕ → List ℕ → List ℕ
+  pub made : ℕ → Option World → List ℕ → List ℕ
 
 -- ---- commands on a world of any kind
 
@@ -150,16 +152,17 @@ abbrev pub IsFault : ℕ → Bool → List ℕ → ScriptFaultKind → Type 0
 IsFault number made bytes fault = IsFaultBy (LineFails made) number bytes fault
 
 -- a `format` makes an empty world; or it is refused, for a number or for want of memory, and there is still none
-abbrev pub Formats : (player : Player) → Option GeometryField → GeometryNumbers → List ℕ → Option player.World → Type 0
-Formats player (Some field) numbers text new = (text ≡ refused_line (fault.BadGeometry field)) × (new ≡ None)
-Formats player None numbers text new =
-    ((text ≡ line_of (codes "formatted")) × (new ≡ Some (player.empty numbers)))
-    ⊎ ((text ≡ refused_line out_of_memory) × (new ≡ None))
+abbrev pub Formats : (player : Player) → (number : ℕ) → Option GeometryField → GeometryNumbers → List ℕ → Option player.World → Type 0
+Formats player number (Some field) numbers text new =
+    (text ≡ player.made number None (refused_line (fault.BadGeometry field))) × (new ≡ None)
+Formats player number None numbers text new =
+    ((text ≡ player.made number (Some (player.empty numbers)) (line_of (codes "formatted"))) × (new ≡ Some (player.empty numbers)))
+    ⊎ ((text ≡ player.made number None (refused_line out_of_memory)) × (new ≡ None))
 
 -- the words of a line without a fault: a `format` where no world is made, and else a command on the world
 abbrev pub PlaysWords : (player : Player) → (number : ℕ) → Option player.World → List (List ℕ) → List ℕ → Option player.World → Type 0
 PlaysWords player number None words text new =
-    (numbers : GeometryNumbers) × (format_of words ≡ Ok numbers) × Formats player (first_bad_field numbers) numbers text new
+    (numbers : GeometryNumbers) × (format_of words ≡ Ok numbers) × Formats player number (first_bad_field numbers) numbers text new
 PlaysWords player number (Some old) words text new =
     (command : Command) × (world : player.World) × (command_of words ≡ Ok command) × player.Acts number old command text world
     × (new ≡ Some world)
@@ -311,6 +314,7 @@ machine_player_with head = record {
   Acts = λ number old command text new. Acts old command text new;
   listed = λ w. nodes_listed (reports_by_scan w);
   head = head;
+  made = λ number new answer. answer;
 }
 
 -- nothing stands before answers

@@ -64,7 +64,7 @@ Fails old new text = WritesSome old.written new.written (old.gathered ++ text) �
 -- command, a write failed, or the line has a fault, and then nothing has changed
 abbrev pub LineFaultBehind : Trace → (number : ℕ) → (head : List ℕ) → LineFault → Sent → Sent → Option machine.World → List ℕ → Type 0
 LineFaultBehind told number head (line_fault.OutOfMemory _) old new m line =
-    (text : List ℕ) × StopsAt machine_player head m line text × Sends old new text
+    (text : List ℕ) × StopsAt (player_by told no_head) head m line text × Sends old new text
 LineFaultBehind told number head line_fault.Write old new m line =
     (text : List ℕ) × (n : Option machine.World) × Plays (player_by told no_head) number m line text n × Fails old new (head ++ text)
 LineFaultBehind told number head (line_fault.Faulty fault) old new m line = LineFails (is_some m) line fault × (new ≡ old)
@@ -104,6 +104,11 @@ abbrev pub ListsText : Option (List TreeNode) → List ℕ → Type 0
 ListsText None text = text ≡ refused_line fault.NoSnapshot
 ListsText (Some nodes) text = (text ≡ tree_lines nodes) ⊎ (text ≡ refused_line out_of_memory)
 
+-- a tree, none where its snapshot does not live, or want of memory
+abbrev pub IsTree : Option (List TreeNode) → Result (List TreeNode) Fault → Type 0
+IsTree None result = result ≡ Err fault.NoSnapshot
+IsTree (Some nodes) result = MatchResult result (λ tree. tree ≡ nodes) (λ why. why ≡ out_of_memory)
+
 -- what became of a tree's text, behind this
 abbrev pub ListBehind : (head : List ℕ) → Result (Unit {0}) LineFault → Sent → Sent → List ℕ → Option (List TreeNode) → Type 0
 ListBehind head (Ok done) old new rest nodes = (text : List ℕ) × ListsText nodes text × SendsBut rest old new (head ++ text)
@@ -137,7 +142,12 @@ HandsLines result begun why nodes old new = MatchResult result
 
 -- a world is made, or there is none
 abbrev pub MakesWorld : Option GeometryField → GeometryNumbers → List ℕ → Option WorldState → Type 0
-MakesWorld field numbers text new = (n : Option machine.World) × Formats machine_player field numbers text n × ShowsAny new n
+MakesWorld field numbers text new = (n : Option machine.World) × Formats machine_player 0 field numbers text n × ShowsAny new n
+
+-- the same where this form tells it
+abbrev pub MakesTold : Trace → ℕ → Option GeometryField → GeometryNumbers → List ℕ → Option WorldState → Type 0
+MakesTold told number field numbers text new =
+    (n : Option machine.World) × Formats (player_by told no_head) number field numbers text n × ShowsAny new n
 
 -- a test holds, or words are miscounted
 abbrev pub Counts : Result (Unit {0}) ScriptFaultKind → Bool → Type 0

@@ -34,7 +34,7 @@ module _ {W : Type 0} (empty : GeometryNumbers → W) (reports : W → WorldRepo
   ActsAlone old report text new = Tells (reports old) old report text new
 
   abbrev pub player_of_calls : Player
-  player_of_calls = record { World = W; empty = empty; Acts = λ number. ActsAlone; listed = λ w. nodes_listed (reports w); head = no_head }
+  player_of_calls = record { World = W; empty = empty; Acts = λ number. ActsAlone; listed = λ w. nodes_listed (reports w); head = no_head; made = λ number new answer. answer }
 
 -- HOW A SCRIPT ENDS, where the reader's bytes are known and no line of them makes single steps: as this player plays it.
 -- Played alone: where the reader's bytes are known and have no steps, a script ends as a player of whole calls

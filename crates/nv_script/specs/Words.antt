@@ -112,3 +112,7 @@ escaped_byte byte = if is_plain byte then byte ∷ [] else 37 ∷ digit_glyph fa
 -- a text as answers show it
 abbrev pub escaped : List ℕ → List ℕ
 escaped bytes = flat_map escaped_byte bytes
+
+-- the lines of a text, and what stands behind the last line end
+abbrev pub lines_of : List ℕ → List (List ℕ)
+lines_of text = slice_split (λ byte. byte == 10) text

@@ -4,9 +4,10 @@ ghost use Rattle.std.specs.Prelude.{◌≡◌, ◌≢◌, ◌<◌, ◌+◌, ◌-
 ghost use Rattle.nv_script.specs.Grammar.{is_skipped};
 ghost use Rattle.nv_base.specs.Limits.{first_bad_field};
 ghost use Rattle.nv_script.specs.declared.command.Command.TheVariants.{Audit};
+ghost use Rattle.nv_script.specs.declared.trace.Trace.TheVariants as trace;
 ghost use Rattle.nv_script.specs.Play.{ActsBy, is_list, reports_of};
 ghost use Rattle.nv_script.specs.Results.{AsksAudit, IsNewWorld, LineIs, MakesWorld, TellsAudit, failed_in_line};
-ghost use Rattle.nv_script.specs.Trace.{ActsToldBy, ActsTracedBy};
+ghost use Rattle.nv_script.specs.Trace.{ActsToldBy, ActsTracedBy, answer_by};
 ghost use Rattle.nv_core.specs.Worlds.{Leads, told_by};
 ghost use Rattle.nv_script.specs.Texts.{told_line};
 
@@ -15,6 +16,7 @@ use crate::command::{Command, is_skipped, read_command, read_format};
 use crate::counted::CountedWrite;
 use crate::echo::Telling;
 use crate::fault::LineFault;
+use crate::json_act::{self, push_reply_lines};
 use crate::outbox::Outbox;
 use crate::text::{
     push_lists, push_log, push_refused, push_reply, push_snaps, push_space, push_told,
@@ -28,6 +30,36 @@ use std::alloc::{AllocError, Global};
 
 /// Plays one line, which has no line end, and tells it so. A line that is skipped has nothing before its answers.
 ///
+/// What it writes is in `out` then, as [`play_line`] and [`json_act::play_line`] leave it there.
+pub(crate) fn play_in_form<W: CountedWrite>(
+    alloc: Global,
+    world: &mut Option<World>,
+    line: &[u8],
+    telling: Telling<'_>,
+    out: &mut Vec<u8>,
+    outbox: &mut Outbox,
+    writer: &mut W,
+) -> Result<(), LineFault>
+    requires skipped { is_skipped line.now ≡ true → telling.head.now ≡ [] }
+    requires failures { W.failed writer.old < 2 ^ 64 - 1 }
+    ensures line { LineIs telling.entry.trace telling.entry.number telling.entry.head.now result
+        (record { written = W.contents writer.old; gathered = outbox.old })
+        (record { written = W.contents writer.new; gathered = outbox.new })
+        world.old line.now out.new.items world.new }
+    ensures failed { W.failed writer.new ≡ W.failed writer.old + failed_in_line result }
+    ensures same_writer { W.place writer.new ≡ W.place writer.old }
+{
+    if let Trace::Json = telling.trace {
+        return json_act::play_line(alloc, world, line, telling, out, outbox, writer);
+    }
+    match play_line(alloc, world, line, telling, out, outbox, writer) {
+        Ok(_asked) => Ok(()),
+        Err(fault) => Err(fault),
+    }
+}
+
+/// Plays one line, which has no line end, and tells it so, except as JSON. A line that is skipped has nothing before its answers.
+///
 /// What it is answered is in `out` then, in place of what that held, except for the lines of a tree's nodes. These are sent before,
 /// and so is the head. What stands for an audit is handed on.
 pub(crate) fn play_line<W: CountedWrite>(
@@ -39,6 +71,7 @@ pub(crate) fn play_line<W: CountedWrite>(
     outbox: &mut Outbox,
     writer: &mut W,
 ) -> Result<Option<Asked>, LineFault>
+    requires form { telling.trace ≢ trace.Json }
     requires skipped { is_skipped line.now ≡ true → telling.head.now ≡ [] }
     requires failures { W.failed writer.old < 2 ^ 64 - 1 }
     ensures line { LineIs telling.entry.trace telling.entry.number telling.entry.head.now result (record { written = W.contents writer.old; gathered = outbox.old })
@@ -85,7 +118,7 @@ pub(crate) fn play_line<W: CountedWrite>(
 }
 
 /// Makes the world. Where that is refused there is still none.
-fn format(
+pub(crate) fn format(
     alloc: Global,
     world: &mut Option<World>,
     numbers: &GeometryNumbers,
@@ -120,6 +153,7 @@ fn act(
     command: Command,
     out: &mut Vec<u8>,
 ) -> Result<Option<Asked>, AllocError>
+    requires form { telling.trace ≢ trace.Json }
     requires other { is_list command ≡ false }
     requires empty { out.old.items ≡ [] }
     ensures acts { OnOk result
@@ -136,7 +170,7 @@ fn act(
 }
 
 /// Adds what an audit of the world tells. That nothing differs it says only with what stands for an audit.
-fn audit(world: &World, out: &mut Vec<u8>) -> Result<Option<Asked>, AllocError>
+pub(crate) fn audit(world: &World, out: &mut Vec<u8>) -> Result<Option<Asked>, AllocError>
     requires { out.old.items ≡ [] }
     ensures { IfOk result (λ asked. TellsAudit asked out.new.items) }
 {
@@ -159,6 +193,7 @@ fn tell_by(
     command: Command,
     out: &mut Vec<u8>,
 ) -> Result<(), AllocError>
+    requires form { telling.trace ≢ trace.Json }
     requires other { is_list command ≡ false }
     requires no_audit { command ≢ Audit }
     requires empty { out.old.items ≡ [] }
@@ -168,14 +203,14 @@ fn tell_by(
 {
     match telling.trace {
         Trace::Off => tell(world, command, out),
-        Trace::Text => tell_traced(world, Trace::Text, telling.number, command, out),
+        Trace::Text => tell_traced(world, telling.number, command, out),
+        Trace::Json => unreachable!(),
     }
 }
 
 /// Acts on a command that lists no tree and asks for no audit, and tells its events before the answer.
 fn tell_traced(
     world: &mut World,
-    form: Trace,
     number: u64,
     command: Command,
     out: &mut Vec<u8>,
@@ -183,37 +218,80 @@ fn tell_traced(
     requires other { is_list command ≡ false }
     requires no_audit { command ≢ Audit }
     requires empty { out.old.items ≡ [] }
-    ensures { OnOk result (Leads (λ m n. ActsTracedBy (reports_of m) form number m command
+    ensures { OnOk result (Leads (λ m n. ActsTracedBy (reports_of m) trace.Text number m command
         out.new.items n) world.old world.new) }
 {
+    let form = Trace::Text;
+    let alloc = world.alloc();
     match command {
         Command::Start(actor, call) => answer(
             trace::start(world, form, number, actor, call, out),
+            form,
+            alloc,
+            number,
             out,
         ),
         Command::Go(actor, more) => answer(
             trace::go_on(world, form, number, actor, more, out),
+            form,
+            alloc,
+            number,
             out,
         ),
-        Command::Run(actor) => answer(trace::finish(world, form, number, actor, out), out),
-        Command::Do(actor, call) => answer(trace::call(world, form, number, actor, call, out), out),
+        Command::Run(actor) => answer(
+            trace::finish(world, form, number, actor, out),
+            form,
+            alloc,
+            number,
+            out,
+        ),
+        Command::Do(actor, call) => answer(
+            trace::call(world, form, number, actor, call, out),
+            form,
+            alloc,
+            number,
+            out,
+        ),
         _ => tell(world, command, out),
     }
 }
 
-/// Adds the line of a reply behind its events, where memory was granted to these.
-fn answer(reply: Result<Reply, AllocError>, out: &mut Vec<u8>) -> Result<(), AllocError>
-    ensures { OnOk result (MatchResult reply
-        (λ told. out.new.items ≡ out.old.items ++ told_line (told_by told)) (λ _. ⊥)) }
+/// Adds a reply behind its events, as this form tells it, where memory was granted to these.
+pub(crate) fn answer(
+    reply: Result<Reply, AllocError>,
+    form: Trace,
+    alloc: Global,
+    number: u64,
+    out: &mut Vec<u8>,
+) -> Result<(), AllocError>
+    ensures { OnOk result (MatchResult reply (λ told. out.new.items
+        ≡ out.old.items ++ answer_by form number (told_line (told_by told))) (λ _. ⊥)) }
 {
     match reply {
-        Ok(reply) => push_reply(out, &reply),
+        Ok(reply) => push_reply_by(out, form, alloc, number, &reply),
         Err(error) => Err(error),
     }
 }
 
+/// Adds a reply as this form tells it.
+fn push_reply_by(
+    out: &mut Vec<u8>,
+    form: Trace,
+    alloc: Global,
+    number: u64,
+    reply: &Reply,
+) -> Result<(), AllocError>
+    ensures { OnOk result (out.new.items
+        ≡ out.old.items ++ answer_by form number (told_line (told_by reply.now))) }
+{
+    match form {
+        Trace::Off | Trace::Text => push_reply(out, reply),
+        Trace::Json => push_reply_lines(out, alloc, number, reply),
+    }
+}
+
 /// Acts on a command that lists no tree and asks for no audit.
-fn tell(world: &mut World, command: Command, out: &mut Vec<u8>) -> Result<(), AllocError>
+pub(crate) fn tell(world: &mut World, command: Command, out: &mut Vec<u8>) -> Result<(), AllocError>
     requires other { is_list command ≡ false }
     requires no_audit { command ≢ Audit }
     requires empty { out.old.items ≡ [] }

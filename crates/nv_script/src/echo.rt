@@ -1,10 +1,12 @@
 //! What stands before the answers to a line.
 
 ghost use Rattle.std.specs.Prelude.{◌≡◌, ◌++◌, [], IsErr, OnOk, false};
-ghost use Rattle.nv_script.specs.Echo.{before_answers, echo_line};
+ghost use Rattle.nv_script.specs.Echo.{echo_line};
 ghost use Rattle.nv_script.specs.Grammar.{is_skipped};
+ghost use Rattle.nv_script.specs.Trace.{head_by};
 
 use crate::command::is_skipped;
+use crate::json::push_text_line;
 use crate::trace::Trace;
 use crate::word::push_number;
 use std::alloc::AllocError;
@@ -43,19 +45,23 @@ impl<'a> Telling<'a> {
 
 /// Makes what stands before the answers to the line with this number, in place of what `head` held.
 pub(crate) fn make_head(
+    trace: Trace,
     echo: Echo,
     number: u64,
     line: &[u8],
     head: &mut Vec<u8>,
 ) -> Result<(), AllocError>
-    ensures made { OnOk result (head.new.items ≡ before_answers echo number line.now) }
+    ensures made { OnOk result (head.new.items ≡ head_by trace echo number line.now) }
     ensures command { IsErr result → is_skipped line.now ≡ false }
 {
     head.clear();
-    match echo {
-        Echo::Off => Ok(()),
-        Echo::On if is_skipped(line) => Ok(()),
-        Echo::On => push_echo(head, number, line),
+    if is_skipped(line) {
+        return Ok(());
+    }
+    match (trace, echo) {
+        (Trace::Json, _) => push_text_line(head, number, line),
+        (_, Echo::On) => push_echo(head, number, line),
+        (_, Echo::Off) => Ok(()),
     }
 }
 

@@ -15,6 +15,11 @@ pub mod fault;
 pub mod feed;
 mod field;
 mod format;
+mod json;
+mod json_act;
+mod json_book;
+mod json_log;
+mod json_world;
 pub mod look;
 pub mod outbox;
 mod outcome;
@@ -32,6 +37,7 @@ pub use echo::Echo;
 pub use outcome::{Outcome, exit_code, fault_line};
 pub use script::{
     echo_counted_and_leave, play, play_and_leave, play_counted, play_counted_and_leave,
-    play_echoed_and_leave, trace_and_leave, trace_counted_and_leave,
+    play_echoed_and_leave, trace_and_leave, trace_counted_and_leave, trace_json_and_leave,
+    trace_json_counted_and_leave,
 };
 pub use text::fault_text;

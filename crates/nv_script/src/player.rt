@@ -9,12 +9,11 @@ ghost use Rattle.nv_core.specs.Worlds.{ShowsAny};
 ghost use Rattle.nv_script.specs.Grammar.{is_skipped};
 ghost use Rattle.nv_script.specs.Sound.{AnswersSound, HasShown};
 ghost use Rattle.nv_script.specs.Lines.{WritesFront, WritesSome};
-ghost use Rattle.nv_script.specs.Echo.{before_answers};
 ghost use Rattle.nv_script.specs.Play.{Ends, failed_reads, failed_writes};
 ghost use Rattle.nv_script.specs.Results.{AnswersBehind, AnswersLine, AtLineBy, HoldsNone, TakesLine, TurnIs, ending_of, failed_in_line, is_line};
-ghost use Rattle.nv_script.specs.Trace.{player_by};
+ghost use Rattle.nv_script.specs.Trace.{head_by, player_by};
 
-use crate::act::play_line;
+use crate::act::play_in_form;
 use crate::counted::{CountedRead, CountedWrite, WriteFailed};
 use crate::echo::{Echo, Telling, make_head};
 use crate::fault::LineFault;
@@ -77,7 +76,7 @@ impl Player {
         requires world { self.old.world ≡ None }
         requires reads { R.failed reader.old < 2 ^ 64 - 1 }
         requires writes { W.failed writer.old < 2 ^ 64 - 1 }
-        ensures script { Ends (player_by trace (before_answers echo)) result
+        ensures script { Ends (player_by trace (head_by trace echo)) result
             (R.remaining reader.old) (R.remaining reader.new)
             (λ text. Appends (W.contents writer.old) (W.contents writer.new) text) }
         ensures reads { R.failed reader.new ≡ R.failed reader.old + failed_reads result }
@@ -103,7 +102,7 @@ impl Player {
         requires world { self.old.world ≡ None }
         requires reads { R.failed reader.old < 2 ^ 64 - 1 }
         requires writes { W.failed writer.old < 2 ^ 64 - 1 }
-        ensures script { Ends (player_by trace (before_answers echo)) result
+        ensures script { Ends (player_by trace (head_by trace echo)) result
             (R.remaining reader.old) (R.remaining reader.new) (λ text. WritesFront (W.contents writer.old) (W.contents writer.new)
             text self.new.outbox) }
         ensures unheld { HoldsNone result self.new.outbox }
@@ -136,9 +135,9 @@ impl Player {
         requires writes { W.failed writer.old < 2 ^ 64 - 1 }
         ensures turn { (input old : Option (List ℕ)) (m : Option machine.World)
             → ShowsAny self.old.world m
-            → AtLineBy trace (before_answers echo) input (prepend_known self.old.feed (R.remaining reader.old))
+            → AtLineBy trace (head_by trace echo) input (prepend_known self.old.feed (R.remaining reader.old))
             old (W.contents writer.old) self.old.outbox number m
-            → TurnIs trace (before_answers echo) result input (R.remaining reader.new)
+            → TurnIs trace (head_by trace echo) result input (R.remaining reader.new)
             (prepend_known self.new.feed (R.remaining reader.new))
             old (W.contents writer.new) self.new.outbox number self.new.world }
         ensures reads { R.failed reader.new ≡ R.failed reader.old + failed_reads result }
@@ -196,7 +195,7 @@ impl Player {
         writer: &mut W,
     ) -> Result<(), LineFault>
         requires { W.failed writer.old < 2 ^ 64 - 1 }
-        ensures line { AnswersBehind trace number (before_answers echo number self.old.line.items) result
+        ensures line { AnswersBehind trace number (head_by trace echo number self.old.line.items) result
             (record { written = W.contents writer.old; gathered = self.old.outbox })
             (record { written = W.contents writer.new; gathered = self.new.outbox })
             self.old.world self.old.line.items self.new.world }
@@ -212,7 +211,7 @@ impl Player {
             world,
             ..
         } = self;
-        make_head(echo, number, line.as_slice(), head)?;
+        make_head(trace, echo, number, line.as_slice(), head)?;
         let telling = Telling {
             number,
             trace,
@@ -324,7 +323,7 @@ fn answer_line<W: CountedWrite>(
     ensures failed { W.failed writer.new ≡ W.failed writer.old + failed_in_line result }
     ensures same_writer { W.place writer.new ≡ W.place writer.old }
 {
-    play_line(alloc, world, line, telling, text, outbox, writer)?;
+    play_in_form(alloc, world, line, telling, text, outbox, writer)?;
     let Ok(()) = outbox.add(writer, text.as_slice()) else {
         return Err(LineFault::Write);
     };

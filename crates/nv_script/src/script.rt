@@ -5,7 +5,7 @@ ghost use Rattle.nv_script.specs.Echo.{PlaysEchoed, PlaysWithoutEchoes};
 ghost use Rattle.nv_script.specs.Play.{PlaysScript, failed_reads, failed_writes};
 ghost use Rattle.nv_script.specs.SerialPlayer.{serial_player};
 ghost use Rattle.nv_script.specs.Serially.{PlaysAlone};
-ghost use Rattle.nv_script.specs.Trace.{PlaysWithoutEvents, TracesScript};
+ghost use Rattle.nv_script.specs.Trace.{PlaysWithoutEvents, TracesInJson, TracesScript};
 
 use crate::counted::{CountedRead, CountedWrite, ReadCounter, WriteCounter};
 use crate::echo::Echo;
@@ -239,6 +239,44 @@ pub fn trace_counted_and_leave<R: CountedRead, W: CountedWrite>(
 {
     let mut player = Player::new(alloc)?;
     let outcome = player.play(alloc, Echo::Off, Trace::Text, reader, writer);
+    mem::forget(player);
+    outcome
+}
+
+/// Plays a script as [`play_and_leave`] does, and writes JSON: an object a line. Before a command stands the line of the script, and
+/// behind it its events and each line of its answer. A `format` and a `stop` tell the world that they make.
+///
+/// A step that is made tells its actor's hand after it, and the parts that it was lent. By `IsOneStep` of `nv_machine` nothing else
+/// changes, so that who replaces these parts has the world after each step.
+pub fn trace_json_and_leave<R: Read, W: Write>(
+    alloc: Global,
+    reader: &mut R,
+    writer: &mut W,
+) -> Result<(), Fault>
+    // Each event has its object, of the worlds before and after it, for the very grants that give the answer.
+    ensures { TracesInJson result (R.remaining reader.old) (R.remaining reader.new)
+        (W.contents writer.old) (W.contents writer.new) }
+{
+    let mut reader = ReadCounter::new(reader);
+    let mut writer = WriteCounter::new(writer);
+    trace_json_counted_and_leave(alloc, &mut reader, &mut writer)
+}
+
+/// Plays a script as [`trace_json_and_leave`] does, from a reader and to a writer that count their failures.
+pub fn trace_json_counted_and_leave<R: CountedRead, W: CountedWrite>(
+    alloc: Global,
+    reader: &mut R,
+    writer: &mut W,
+) -> Result<(), Fault>
+    requires reads { R.failed reader.old < 2 ^ 64 - 1 }
+    requires writes { W.failed writer.old < 2 ^ 64 - 1 }
+    ensures script { TracesInJson result (R.remaining reader.old) (R.remaining reader.new)
+        (W.contents writer.old) (W.contents writer.new) }
+    ensures same_reader { R.place reader.new ≡ R.place reader.old }
+    ensures same_writer { W.place writer.new ≡ W.place writer.old }
+{
+    let mut player = Player::new(alloc)?;
+    let outcome = player.play(alloc, Echo::Off, Trace::Json, reader, writer);
     mem::forget(player);
     outcome
 }

@@ -89,7 +89,7 @@ fn push_counted_bytes(out: &mut Vec<u8>, bytes: &[u8]) -> Result<(), AllocError>
 }
 
 /// Adds a handle.
-fn push_handle(out: &mut Vec<u8>, handle: &Handle) -> Result<(), AllocError>
+pub(crate) fn push_handle(out: &mut Vec<u8>, handle: &Handle) -> Result<(), AllocError>
     ensures { OnOk result (out.new.items ≡ out.old.items ++ handle_text handle.now) }
 {
     push_number(out, handle.ino.number())?;
@@ -281,7 +281,7 @@ pub(crate) fn push_node(out: &mut Vec<u8>, path: &[Name], node: &NodeCopy) -> Re
 }
 
 /// Adds the lines of nodes.
-fn push_nodes(out: &mut Vec<u8>, nodes: &[TreeNode]) -> Result<(), AllocError>
+pub(crate) fn push_nodes(out: &mut Vec<u8>, nodes: &[TreeNode]) -> Result<(), AllocError>
     ensures { OnOk result (out.new.items ≡ out.old.items ++ flat_map node_line nodes.now) }
 {
     for node in nodes {

@@ -8,13 +8,16 @@ ghost use Rattle.nv_core.specs.declared.event.Event.{Event};
 ghost use Rattle.nv_machine.specs.World as machine;
 ghost use Rattle.nv_machine.specs.World.{actor_at};
 ghost use Rattle.nv_restart.specs.Happenings.{Replied};
-ghost use Rattle.nv_script.specs.Trace.{CallsTraced, GoesTraced, RunsTraced, event_head, start_line, start_lines, step_by, step_text};
-ghost use Rattle.nv_script.specs.Traced.{Adds, IsTracedStep};
+ghost use Rattle.nv_script.specs.Trace.{CallsTraced, GoesTraced, RunsTraced, awaited_member, event_head, left_members, made_members, object_head, replied_members, start_line, start_lines, step_by, step_head, step_object, step_text};
+ghost use Rattle.nv_script.specs.Traced.{Adds, IsTracedStep, lent_named};
 
+use crate::json_world::{push_hand_of, push_lent};
 use crate::text::push_labelled;
-use crate::traced_words::{call_text, push_optional, push_replied, step_place, step_word};
+use crate::traced_words::{
+    call_text, push_optional, push_replied, reply_word, step_place, step_word,
+};
 use nv_base::CommitNo;
-use nv_core::{Call, CallName, MOST_STEPS, NextStep, Reply, World};
+use nv_core::{Call, CallName, MOST_STEPS, NextStep, Reply, StepName, World};
 use std::alloc::AllocError;
 
 /// Whether a line for each event stands before the answer to a line, and in which form.
@@ -24,6 +27,8 @@ pub enum Trace {
     Off,
     /// Lines of words come first.
     Text,
+    /// Each line is an object, and so is each line of an answer.
+    Json,
 }
 
 /// Adds what the line of an event begins with.
@@ -40,6 +45,22 @@ fn push_event_head(
     out.push(b' ')?;
     out.extend_from_slice(call_text(call))?;
     Ok(out.push(b' ')?)
+}
+
+/// Adds what the object of an event begins with.
+fn push_object_head(
+    out: &mut Vec<u8>,
+    number: u64,
+    actor: u64,
+    call: CallName,
+) -> Result<(), AllocError>
+    ensures { OnOk result (out.new.items ≡ out.old.items ++ object_head number actor call) }
+{
+    push_labelled(out, b"{\"line\":", number)?;
+    push_labelled(out, b",\"actor\":", actor)?;
+    out.extend_from_slice(b",\"call\":\"")?;
+    out.extend_from_slice(call_text(call))?;
+    out.extend_from_slice(b"\",\"step\":\"")
 }
 
 /// Adds the line of a start, where the call was started.
@@ -77,10 +98,14 @@ fn push_start_line(
             push_event_head(out, number, actor, call)?;
             out.extend_from_slice(b"start\n")
         }
+        Trace::Json => {
+            push_object_head(out, number, actor, call)?;
+            out.extend_from_slice(b"start\",\"reply\":\"started\"}\n")
+        }
     }
 }
 
-/// Adds the line of a step, of which this was told before it was made.
+/// Adds the line of a step, of which this was told before it was made, and which left this world.
 fn push_step(
     out: &mut Vec<u8>,
     trace: Trace,
@@ -89,15 +114,105 @@ fn push_step(
     call: CallName,
     next: &NextStep,
     reply: &Reply,
+    world: &World,
 ) -> Result<(), AllocError>
-    ensures { OnOk result (out.new.items ≡ out.old.items
+    ensures { OnOk result ((m : machine.World) → Shows world.now m → out.new.items ≡ out.old.items
         ++ step_by trace number actor call (name_in next.now.name) (reply_of reply.now)
-        next.now.waits_for next.now.commits) }
+        next.now.waits_for next.now.commits (lent_named (name_in next.now.name)) m) }
 {
     match trace {
         Trace::Off => Ok(()),
         Trace::Text => push_step_text(out, number, actor, call, next, reply),
+        Trace::Json => push_step_object(out, number, actor, call, next, reply, world),
     }
+}
+
+/// Adds the line of a step, as an object.
+fn push_step_object(
+    out: &mut Vec<u8>,
+    number: u64,
+    actor: u64,
+    call: CallName,
+    next: &NextStep,
+    reply: &Reply,
+    world: &World,
+) -> Result<(), AllocError>
+    ensures { OnOk result ((m : machine.World) → Shows world.now m → out.new.items ≡ out.old.items
+        ++ step_object number actor call (name_in next.now.name) (reply_of reply.now)
+        next.now.waits_for next.now.commits (lent_named (name_in next.now.name)) m) }
+{
+    push_step_head(out, number, actor, call, next)?;
+    push_replied_members(out, reply, next)?;
+    push_left(out, reply, actor, next.name, world)?;
+    out.extend_from_slice(b"}\n")
+}
+
+/// Adds what the object of a step begins with.
+fn push_step_head(
+    out: &mut Vec<u8>,
+    number: u64,
+    actor: u64,
+    call: CallName,
+    next: &NextStep,
+) -> Result<(), AllocError>
+    ensures { OnOk result (out.new.items
+        ≡ out.old.items ++ step_head number actor call (name_in next.now.name)) }
+{
+    push_object_head(out, number, actor, call)?;
+    out.extend_from_slice(step_word(next.name))?;
+    out.push(b'"')?;
+    push_optional(out, b",\"at\":", step_place(next.name))
+}
+
+/// Adds the reply to a step, and what was told of it before: whom it waits for, and its commit.
+fn push_replied_members(out: &mut Vec<u8>, reply: &Reply, next: &NextStep) -> Result<(), AllocError>
+    ensures { OnOk result (out.new.items ≡ out.old.items
+        ++ replied_members (reply_of reply.now) next.now.waits_for next.now.commits) }
+{
+    out.extend_from_slice(b",\"reply\":\"")?;
+    out.extend_from_slice(reply_word(reply))?;
+    out.push(b'"')?;
+    push_awaited(out, reply, next.waits_for)?;
+    push_optional(out, b",\"commit\":", number_of(next.commits))
+}
+
+/// Adds the actor that a step waits for, where it waits.
+fn push_awaited(out: &mut Vec<u8>, reply: &Reply, holder: Option<u64>) -> Result<(), AllocError>
+    ensures { OnOk result (out.new.items
+        ≡ out.old.items ++ awaited_member (reply_of reply.now) holder) }
+{
+    match reply {
+        Reply::Waits | Reply::Stopped => push_optional(out, b",\"for\":", holder),
+        Reply::Started | Reply::Moved | Reply::Done(_) | Reply::Refused(_) => Ok(()),
+    }
+}
+
+/// Adds what a step has left, where it was made.
+fn push_left(
+    out: &mut Vec<u8>,
+    reply: &Reply,
+    actor: u64,
+    name: StepName,
+    world: &World,
+) -> Result<(), AllocError>
+    ensures { OnOk result ((m : machine.World) → Shows world.now m → out.new.items ≡ out.old.items
+        ++ left_members (reply_of reply.now) actor (lent_named (name_in name)) m) }
+{
+    match reply {
+        Reply::Started | Reply::Waits | Reply::Stopped => Ok(()),
+        Reply::Moved | Reply::Done(_) | Reply::Refused(_) => push_made(out, actor, name, world),
+    }
+}
+
+/// Adds its actor's hand, and the parts that a step with this name is lent.
+fn push_made(out: &mut Vec<u8>, actor: u64, name: StepName, world: &World) -> Result<(), AllocError>
+    ensures { OnOk result ((m : machine.World) → Shows world.now m → out.new.items
+        ≡ out.old.items ++ made_members actor (lent_named (name_in name)) m) }
+{
+    out.extend_from_slice(b",\"hand\":")?;
+    push_hand_of(out, world, actor)?;
+    out.extend_from_slice(b",\"lent\":")?;
+    push_lent(out, world, name)
 }
 
 /// Adds the line of a step, as words.
@@ -189,7 +304,7 @@ fn step_of(
         return Ok(world.go(actor));
     };
     let reply = world.go(actor);
-    push_step(out, trace, number, actor, call, &next, &reply)?;
+    push_step(out, trace, number, actor, call, &next, &reply, world)?;
     Ok(reply)
 }
 

@@ -3,7 +3,7 @@
 ghost use Rattle.std.specs.Prelude.{◌≡◌, ◌++◌, OnOk};
 ghost use Rattle.nv_core.specs.NextSteps.{name_in};
 ghost use Rattle.nv_core.specs.Worlds.{reply_of};
-ghost use Rattle.nv_script.specs.Trace.{call_text, labelled, reply_text, step_place, step_word, word_of};
+ghost use Rattle.nv_script.specs.Trace.{call_text, labelled, reply_text, reply_word, step_place, step_word, word_of};
 
 use crate::call::CallWord;
 use crate::text::push_labelled;
@@ -136,13 +136,27 @@ pub(crate) fn push_optional(
     }
 }
 
+/// The word of a reply to a step.
+pub(crate) fn reply_word(reply: &Reply) -> &'static [u8]
+    ensures { result.now ≡ reply_word (reply_of reply.now) }
+{
+    match reply {
+        Reply::Started => b"started",
+        Reply::Moved => b"moved",
+        Reply::Waits | Reply::Stopped => b"waits",
+        Reply::Done(_) => b"done",
+        Reply::Refused(_) => b"refused",
+    }
+}
+
 /// Adds the reply to a step, and the actor that a waiting one waits for.
 pub(crate) fn push_replied(
     out: &mut Vec<u8>,
     reply: &Reply,
     holder: Option<u64>,
 ) -> Result<(), AllocError>
-    ensures { OnOk result (out.new.items ≡ out.old.items ++ reply_text (reply_of reply.now) holder) }
+    ensures { OnOk result (out.new.items
+        ≡ out.old.items ++ reply_text (reply_of reply.now) holder) }
 {
     match reply {
         Reply::Started => out.extend_from_slice(b"start"),

@@ -21,7 +21,7 @@ returns-in_err-add-in-None-clause-line g c =
     let words : texts c.as_slice.result.now ≡ words_of c.args.line.now = search (rules) in
     let p = err_from_is_err_and c.from_residual-in_err-add-in-None.result c.from_residual-in_err-add-in-None.ensures.1 in
     let plays = formats c.args.telling.trace c.args.telling.number c.args.world.now c.format.new.world c.args.line.now c.format.new.out.items c.in_ok-numbers-in-None.numbers
-    c.in-None.is (sym c.is_skipped.ensures ∙ c.if-is_skipped.false)
+    c.requires.form c.in-None.is (sym c.is_skipped.ensures ∙ c.if-is_skipped.false)
     (ap format_of (sym words) ∙ sym c.in_ok-numbers-in-None.ensures) c.in_ok-format-in-None.ensures in
     rw (p.1, p.2) (unheaded c.args.telling.trace c.args.telling.number c.args.telling.head.now _ _ c.args.world.now c.format.new.world c.args.line.now c.format.new.out.items [] None plays
     c.in_err-add-in-None.ensures.sent)
@@ -30,7 +30,7 @@ pub returns-in-None-clause-line : goal.returns-in-None-clause-line
 returns-in-None-clause-line g c =
     let words : texts c.as_slice.result.now ≡ words_of c.args.line.now = search (rules) in
     let plays = formats c.args.telling.trace c.args.telling.number c.args.world.now c.format.new.world c.args.line.now c.format.new.out.items c.in_ok-numbers-in-None.numbers
-    c.in-None.is (sym c.is_skipped.ensures ∙ c.if-is_skipped.false)
+    c.requires.form c.in-None.is (sym c.is_skipped.ensures ∙ c.if-is_skipped.false)
     (ap format_of (sym words) ∙ sym c.in_ok-numbers-in-None.ensures) c.in_ok-format-in-None.ensures in
     headed c.args.telling.trace c.args.telling.number c.args.telling.head.now _ _ c.args.world.now c.format.new.world c.args.line.now c.format.new.out.items plays c.in_ok-add-in-None.ensures.sent
 
@@ -41,7 +41,7 @@ returns-in_err-write_tree_behind-in-Tree-clause-line g c =
     let p = err_from_is_err_and c.from_residual-in_err-write_tree_behind-in-Tree.result
     c.from_residual-in_err-write_tree_behind-in-Tree.ensures.1 in
     rw (p.1, p.2) (lists_line c.args.telling.trace c.args.telling.number c.args.telling.head.now (Err c.in_err-write_tree_behind-in-Tree.field-0.0) _ _ c.args.world.now c.in-Some.world
-    c.args.line.now c.write_tree_behind.new.out.items command.Tree c.in-Some.is (sym c.is_skipped.ensures ∙ c.if-is_skipped.false)
+    c.args.line.now c.write_tree_behind.new.out.items command.Tree c.requires.form c.in-Some.is (sym c.is_skipped.ensures ∙ c.if-is_skipped.false)
     (ap command_of (sym words) ∙ read ∙ ap Ok c.in-Tree.is) refl c.in_err-write_tree_behind-in-Tree.ensures.lines)
 
 pub returns-in-Tree-clause-line : goal.returns-in-Tree-clause-line
@@ -53,7 +53,7 @@ returns-in-Tree-clause-line g c =
       gathered = c.write_tree_behind.new.outbox;
     } in
     lists_line c.args.telling.trace c.args.telling.number c.args.telling.head.now (Ok tt) _ to c.args.world.now c.in-Some.world c.args.line.now c.write_tree_behind.new.out.items command.Tree
-    c.in-Some.is (sym c.is_skipped.ensures ∙ c.if-is_skipped.false) (ap command_of (sym words) ∙ read ∙ ap Ok c.in-Tree.is) refl
+    c.requires.form c.in-Some.is (sym c.is_skipped.ensures ∙ c.if-is_skipped.false) (ap command_of (sym words) ∙ read ∙ ap Ok c.in-Tree.is) refl
     c.in_ok-write_tree_behind-in-Tree.ensures.lines
 
 pub returns-in-Tree-clause-asked : goal.returns-in-Tree-clause-asked
@@ -69,7 +69,7 @@ returns-in_err-write_tree_behind-in-SnapTree-clause-line g c =
     let p = err_from_is_err_and c.from_residual-in_err-write_tree_behind-in-SnapTree.result
     c.from_residual-in_err-write_tree_behind-in-SnapTree.ensures.1 in
     rw (p.1, p.2) (lists_line c.args.telling.trace c.args.telling.number c.args.telling.head.now (Err c.in_err-write_tree_behind-in-SnapTree.field-0.0) _ _ c.args.world.now c.in-Some.world
-    c.args.line.now c.write_tree_behind-in-SnapTree.new.out.items (command.SnapTree c.in-SnapTree.s) c.in-Some.is
+    c.args.line.now c.write_tree_behind-in-SnapTree.new.out.items (command.SnapTree c.in-SnapTree.s) c.requires.form c.in-Some.is
     (sym c.is_skipped.ensures ∙ c.if-is_skipped.false) (ap command_of (sym words) ∙ read ∙ ap Ok c.in-SnapTree.is) refl
     (λ m shown. rw c.new.ensures at (c.in_err-write_tree_behind-in-SnapTree.ensures.lines m shown)))
 
@@ -83,7 +83,7 @@ returns-in-SnapTree-clause-line g c =
     } in
     lists_line c.args.telling.trace c.args.telling.number c.args.telling.head.now (Ok tt) _ to c.args.world.now c.in-Some.world c.args.line.now c.write_tree_behind-in-SnapTree.new.out.items
     (command.SnapTree c.in-SnapTree.s)
-    c.in-Some.is (sym c.is_skipped.ensures ∙ c.if-is_skipped.false) (ap command_of (sym words) ∙ read ∙ ap Ok c.in-SnapTree.is) refl
+    c.requires.form c.in-Some.is (sym c.is_skipped.ensures ∙ c.if-is_skipped.false) (ap command_of (sym words) ∙ read ∙ ap Ok c.in-SnapTree.is) refl
     (λ m shown. rw c.new.ensures at (c.in_ok-write_tree_behind-in-SnapTree.ensures.lines m shown))
 
 pub returns-in-SnapTree-clause-asked : goal.returns-in-SnapTree-clause-asked

@@ -2,7 +2,7 @@ use Rattle.std.proofs.Common.{◌∙◌, None, Option, arith, refl, subst, sym}
 use Rattle.nv_core.specs.Worlds.{WorldState}
 use Rattle.nv_core.specs.Worlds.{ShowsAny}
 use Rattle.std.proofs.lemmas.Result.{err_from_is_err_and}
-use Rattle.nv_script.specs.Echo.{before_answers}
+use Rattle.nv_script.specs.Trace.{head_by}
 use Rattle.nv_script.proofs.Endings.{at_first, none_ahead}
 use Rattle.nv_script.proofs.player.Player.play_lines.Goals as goal
 
@@ -11,7 +11,7 @@ loop-number-init g c = record {
   number = omega arith;
   line = (
     None,
-    at_first c.args.trace (before_answers c.args.echo) _ _ _ _ _ (none_ahead _ _ c.requires.ahead) c.requires.gathered refl,
+    at_first c.args.trace (head_by c.args.trace c.args.echo) _ _ _ _ _ (none_ahead _ _ c.requires.ahead) c.requires.gathered refl,
     subst (λ (w : Option WorldState). ShowsAny w None) (sym c.requires.world) tt,
   );
   reads = refl;

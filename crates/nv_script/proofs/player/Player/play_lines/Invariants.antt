@@ -2,15 +2,15 @@ use Rattle.std.proofs.Common.{◌≡◌, ◌≤◌, Option}
 use Rattle.nv_machine.specs.World.{World}
 use Rattle.nv_core.specs.Worlds.{ShowsAny}
 use Rattle.std.specs.Io.KnownBytes.{prepend_known}
-use Rattle.nv_script.specs.Echo.{before_answers}
 use Rattle.nv_script.specs.Results.{AtLineBy}
+use Rattle.nv_script.specs.Trace.{head_by}
 use Rattle.nv_script.proofs.player.Player.play_lines.Given as goal
 
 abbrev pub invariant-loop-number : goal.invariant-loop-number
 invariant-loop-number g l = record {
   number : l.number ≤ 1048577;
   line : (m : Option World)
-      × AtLineBy l.trace (before_answers l.echo) (g.R.CountedRead.remaining l.fn.reader) (prepend_known l.self.feed (g.R.CountedRead.remaining l.reader))
+      × AtLineBy l.trace (head_by l.trace l.echo) (g.R.CountedRead.remaining l.fn.reader) (prepend_known l.self.feed (g.R.CountedRead.remaining l.reader))
       (g.W.CountedWrite.contents l.fn.writer) (g.W.CountedWrite.contents l.writer) l.self.outbox l.number m
       × ShowsAny l.self.world m;
   reads : g.R.CountedRead.failed l.reader ≡ g.R.CountedRead.failed l.fn.reader;
