@@ -13,6 +13,7 @@ BEGIN {
     add_option("play", "summary")
     add_option("play", "quiet")
     add_command("play")
+    add_option("trace", "json")
     add_command("trace")
     add_option("work", "threads", "<N>", 1, 32)
     add_option("work", "cleaners", "<M>", 0, 32)

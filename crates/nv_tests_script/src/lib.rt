@@ -18,6 +18,8 @@ mod faults;
 #[cfg(test)]
 mod growths;
 #[cfg(test)]
+mod json;
+#[cfg(test)]
 mod lines;
 #[cfg(test)]
 mod looked;
@@ -25,6 +27,8 @@ mod looked;
 mod pieces;
 #[cfg(test)]
 mod playing;
+#[cfg(test)]
+mod replayed;
 #[cfg(test)]
 mod reports;
 #[cfg(test)]

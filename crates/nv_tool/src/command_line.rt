@@ -105,6 +105,11 @@ They give the root directory another mode. 'novacore trace steps.nova' prints:
 'do', 'start', 'go' and 'run' make events. Where an actor is busy or has no call, there is none.
 Without the lines that begin with a space the output is that of 'novacore play'.
 
+By '--json' each line is a JSON object: a line of the script, the world that 'format' and 'stop'
+make, an event, or a line of an answer. A step that is made tells its actor's hand and the parts of
+the world that it was lent, as they are after it. './novacore draw steps.nova >steps.html' makes a
+page of these lines, which a browser draws.
+
 Faults are those of 'novacore play', and what is wrong stands behind them.
 
 Exit status: 0 if the whole script was played, 1 after a fault, 2 for a command line that is refused.";
@@ -156,6 +161,10 @@ const ECHO: &str = "echo";
 
 const ECHO_HELP: &str = "Write '> NUMBER TEXT' before the answers to each line that is a command";
 
+const JSON: &str = "json";
+
+const JSON_HELP: &str = "Write an object a line, with what each step has left";
+
 const QUIET: &str = "quiet";
 
 const QUIET_HELP: &str = "Don't tell at a terminal how far a FILE has been played";
@@ -196,9 +205,10 @@ pub(crate) enum Task<'a> {
         file: Option<&'a str>,
         manner: Manner,
     },
-    /// To play a script as well, and tell each step.
+    /// To play a script as well, and tell each step, as JSON or not.
     Trace {
         file: Option<&'a str>,
+        json: bool,
     },
     /// To have so many threads make the calls of a script, beside so many cleaners.
     Work {
@@ -222,6 +232,7 @@ impl<'a> Task<'a> {
             }),
             Some((TRACE, trace)) => Ok(Task::Trace {
                 file: file_of(trace),
+                json: trace.get_flag(JSON),
             }),
             Some((WORK, work)) => Ok(Task::Work {
                 file: file_of(work),
@@ -295,7 +306,8 @@ fn trace<'a>(alloc: Global) -> Result<Command<'a>, AllocError> {
     Command::new(alloc, TRACE)
         .about(TRACE_ABOUT)
         .after_help(TRACE_AFTER_HELP)
-        .arg(Arg::new(alloc, FILE).help(FILE_HELP))
+        .arg(Arg::new(alloc, FILE).help(FILE_HELP))?
+        .arg(flag(alloc, JSON, JSON_HELP))
 }
 
 /// An option that is given or not.

@@ -19,6 +19,7 @@ use crowd::Crowd;
 use nv_base::Fault;
 use nv_script::{Echo, Outcome, exit_code, fault_line};
 use progress::{Progress, lines_of};
+use std::alloc::Global;
 use std::env::Env;
 use std::io::{IsTerminal, Read, Write};
 use std::process::ExitCode;
@@ -28,7 +29,7 @@ use std::thread::Threads;
 use std::time::Clock;
 use std::{env, fs, io};
 use terminal::converse;
-use told::{STANDARD_INPUT, Told, echo_told, play_told, trace_told, work_told};
+use told::{STANDARD_INPUT, Told, echo_told, play_told, trace_json_told, trace_told, work_told};
 
 /// The line that tells of want of memory. It takes none.
 const OUT_OF_MEMORY: &str = "novacore: E1 OutOfMemory\n";
@@ -168,17 +169,41 @@ fn play_script<R: AllocGlobal + Clock + Eprint + Files + Input + Print>(
 
 /// Plays a script from a file, or from standard input where none is named, and tells each step. It asks for no line at a terminal,
 /// and does not tell how far it has come: lines of events do.
-fn trace_script<R: AllocGlobal + Files + Input + Print>(rt: &R, file: Option<&str>) -> Told {
+fn trace_script<R: AllocGlobal + Files + Input + Print>(
+    rt: &R,
+    file: Option<&str>,
+    json: bool,
+) -> Told {
     let mut writer = io::writer(rt);
     match file {
-        None => trace_told(rt.alloc(), STANDARD_INPUT, &mut rt.reader(), &mut writer),
+        None => trace_by(
+            rt.alloc(),
+            STANDARD_INPUT,
+            json,
+            &mut rt.reader(),
+            &mut writer,
+        ),
         Some(path) => {
             let Ok(mut file) = fs::open(rt, path) else {
                 return Told::unread();
             };
-            trace_told(rt.alloc(), path, &mut file, &mut writer)
+            trace_by(rt.alloc(), path, json, &mut file, &mut writer)
         }
     }
+}
+
+/// Plays a script of this name, and tells each step as it is asked for.
+fn trace_by<S: Read, W: Write>(
+    alloc: Global,
+    script: &str,
+    json: bool,
+    reader: &mut S,
+    writer: &mut W,
+) -> Told {
+    if json {
+        return trace_json_told(alloc, script, reader, writer);
+    }
+    trace_told(alloc, script, reader, writer)
 }
 
 /// Has threads play a script from a file, or from standard input where none is named.
@@ -225,7 +250,7 @@ fn perform<R: AllocGlobal + Clock + Env + Files + Input + Print + Eprint + Threa
         Ok(Task::Play { file, manner }) => {
             Ok(play_script(rt, file, manner, terminals).into_outcome())
         }
-        Ok(Task::Trace { file }) => Ok(trace_script(rt, file).into_outcome()),
+        Ok(Task::Trace { file, json }) => Ok(trace_script(rt, file, json).into_outcome()),
         Ok(
             Task::Work {
                 file,

@@ -5,7 +5,7 @@ ghost use Rattle.nv_script.specs.Echo.{PlaysEchoed, PlaysWithoutEchoes};
 ghost use Rattle.nv_script.specs.Play.{PlaysScript};
 ghost use Rattle.nv_script.specs.SerialPlayer.{serial_player};
 ghost use Rattle.nv_script.specs.Serially.{PlaysAlone};
-ghost use Rattle.nv_script.specs.Trace.{PlaysWithoutEvents, TracesScript};
+ghost use Rattle.nv_script.specs.Trace.{PlaysWithoutEvents, TracesInJson, TracesScript};
 ghost use Rattle.nv_work.specs.Work.{WorksScript};
 
 use crate::crowd::Crowd;
@@ -15,7 +15,7 @@ use nv_base::Fault;
 use nv_hints::{By, KeptReader, Recent, Tally, TallyWriter, hint_line, push_summary};
 use nv_script::{
     Echo, Outcome, WriteCounter, echo_counted_and_leave, play_counted_and_leave,
-    trace_counted_and_leave,
+    trace_counted_and_leave, trace_json_counted_and_leave,
 };
 use nv_work::{OpenGate, work_counted};
 use std::alloc::{AllocError, Global};
@@ -190,6 +190,39 @@ fn trace_kept<R: Read, W: Write>(
     let mut reader = KeptReader::new(alloc, reader, recent);
     let mut writer = WriteCounter::new(writer);
     trace_counted_and_leave(alloc, &mut reader, &mut writer)
+}
+
+/// Plays a script of this name, and writes it as JSON. The writer gets what [`trace_json_counted_and_leave`] writes, and nothing of
+/// what is told of it.
+pub(crate) fn trace_json_told<R: Read, W: Write>(
+    alloc: Global,
+    script: &str,
+    reader: &mut R,
+    writer: &mut W,
+) -> Told
+    // The writer gets objects alone.
+    ensures { TracesInJson result.ended (R.remaining reader.old) (R.remaining reader.new)
+        (W.contents writer.old) (W.contents writer.new) }
+{
+    let mut recent = Recent::new(alloc);
+    let tally = Tally::new(alloc, false);
+    let ended = trace_json_kept(alloc, reader, writer, &mut recent);
+    Told::of(alloc, script, By::Play, ended, &recent, &tally)
+}
+
+/// Plays a script as JSON, where the lines that are read last are kept.
+fn trace_json_kept<R: Read, W: Write>(
+    alloc: Global,
+    reader: &mut R,
+    writer: &mut W,
+    recent: &mut Recent,
+) -> Result<(), Fault>
+    ensures { TracesInJson result (R.remaining reader.old) (R.remaining reader.new)
+        (W.contents writer.old) (W.contents writer.new) }
+{
+    let mut reader = KeptReader::new(alloc, reader, recent);
+    let mut writer = WriteCounter::new(writer);
+    trace_json_counted_and_leave(alloc, &mut reader, &mut writer)
 }
 
 /// Has threads play a script of this name. The writer gets what [`work_counted`] writes, and nothing of what is told of it.

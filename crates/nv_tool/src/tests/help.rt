@@ -35,12 +35,13 @@ Options:
 pub(crate) const TRACE_HELP: &str = "\
 Play a script, and print each step that its calls make
 
-Usage: novacore trace [FILE]
+Usage: novacore trace [OPTIONS] [FILE]
 
 Arguments:
   [FILE]  The script; without FILE, or where it is -, from standard input
 
 Options:
+      --json  Write an object a line, with what each step has left
   -h, --help  Print help
 ";
 

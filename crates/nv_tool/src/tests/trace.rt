@@ -2,7 +2,7 @@
 
 use super::lines;
 use crate::command_line::{TRACE_AFTER_HELP, Task};
-use crate::told::trace_told;
+use crate::told::{trace_json_told, trace_told};
 use crate::trace_script;
 use nv_base::{Fault, ScriptFaultKind};
 use std::alloc::AllocError;
@@ -45,14 +45,23 @@ fn help_of_trace_shows_what_a_script_prints(rt: HostRuntime) -> Result<(), Alloc
 
 #[test]
 fn trace_takes_one_file_or_none(rt: HostRuntime) {
-    let cases: [(&[&str], Option<&str>); 3] = [
-        (&["novacore", "trace"], None),
-        (&["novacore", "trace", "-"], None),
-        (&["novacore", "trace", "first.nova"], Some("first.nova")),
+    let cases: [(&[&str], Option<&str>, bool); 4] = [
+        (&["novacore", "trace"], None, false),
+        (&["novacore", "trace", "-"], None, false),
+        (
+            &["novacore", "trace", "first.nova"],
+            Some("first.nova"),
+            false,
+        ),
+        (
+            &["novacore", "trace", "--json", "first.nova"],
+            Some("first.nova"),
+            true,
+        ),
     ];
-    for (words, file) in cases {
+    for (words, file, json) in cases {
         let task = Task::read(rt.alloc(), words).ok();
-        assert!(rt; task == Some(Task::Trace { file }), "at {words:?}");
+        assert!(rt; task == Some(Task::Trace { file, json }), "at {words:?}");
     }
 }
 
@@ -80,7 +89,25 @@ done d 493 0 0
 }
 
 #[test]
+fn a_fault_is_told_behind_the_objects_before_it(rt: HostRuntime) {
+    let mut reader: &[u8] = b"\
+format blocks=0 cpus=2 block=4 page=4 inodes=8 snaps=4 actors=3
+staart
+";
+    let mut written = Vec::new(rt.alloc());
+    let told = trace_json_told(rt.alloc(), "s.nova", &mut reader, &mut written);
+    let wanted: &[u8] = b"\
+{\"line\":1,\"text\":\"format blocks=0 cpus=2 block=4 page=4 inodes=8 snaps=4 actors=3\"}
+{\"line\":1,\"answer\":\"refused E2 BadGeometry(blocks)\"}
+";
+    assert!(rt; told.ended == Err(Fault::ScriptFault(ScriptFaultKind::Word, 2)));
+    assert!(rt; written.as_slice() == wanted);
+}
+
+#[test]
 fn a_file_that_is_missing_is_a_failed_read(rt: HostRuntime) {
-    let told = trace_script(&rt, Some("no such folder/first.nova"));
-    assert!(rt; told.ended == Err(Fault::Read));
+    for json in [false, true] {
+        let told = trace_script(&rt, Some("no such folder/first.nova"), json);
+        assert!(rt; told.ended == Err(Fault::Read));
+    }
 }
