@@ -29,7 +29,7 @@ abbrev pub put_by : {X : Type 0} → (X → ℕ) → X → List X → List X
 put_by number x [] = x ∷ []
 put_by number x (y ∷ ys) = if nat_lt (number x) (number y) then x ∷ y ∷ ys else y ∷ put_by number x ys
 
--- the lower of a number that may be known and of another
+-- the lower of two numbers, the first of which may be unknown
 abbrev pub lower : Option ℕ → ℕ → Option ℕ
 lower None n = Some n
 lower (Some low) n = Some (if nat_le low n then low else n)

@@ -29,7 +29,7 @@ source_of e setting = None
 abbrev pub page_source : ℕ → List Entry → ℕ → Option PageSource
 page_source block log page = option_and_then (λ e. source_of e (sets block e.item (PageKey page))) (last_cover block log (PageKey page))
 
--- a binding that has not died
+-- the name that an item binds, if the binding has not died
 abbrev pub bound_name : Item → Option ℕ → List BoundName
 bound_name (Bind name to) None = record { name = name; to = to } ∷ []
 bound_name (Bind name to) (Some death) = []
