@@ -19,8 +19,7 @@ abbrev pub IsRising : List ℕ → Type 0
 IsRising [] = Unit {0}
 IsRising (n ∷ numbers) = AllByRecursion (λ m. n < m) numbers × IsRising numbers
 
--- the numbers from `low` on, `len` of them, that a test does
--- not mark as used: a free list from scratch
+-- a free list from scratch: the numbers from `low` on, `len` of them, without those in use
 abbrev pub unused : (ℕ → Bool) → ℕ → ℕ → List ℕ
 unused is_used low len = filter (λ n. not (is_used n)) (range_with_len low len)
 

@@ -48,8 +48,7 @@ is_born_by (Some s) r = nat_le r.birth s
 abbrev pub moved_down : Option ℕ → List Record → List Record
 moved_down older rs = filter (λ r. is_born_by older r) rs
 
--- of the records of a dropped snapshot, those that the next
--- older one does not hold: they are deferred
+-- of the records of a dropped snapshot, those that the next older one does not hold
 abbrev pub let_go : Option ℕ → List Record → List Record
 let_go older rs = filter (λ r. not (is_born_by older r)) rs
 

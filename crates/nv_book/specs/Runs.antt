@@ -23,8 +23,7 @@ unfoldable pub series : ℕ → Record → List Record
 series zero r = r ∷ []
 series (suc n) r = r ∷ series n (record_on 1 r)
 
--- so many more parts may follow one in a run: none follows a part
--- that is no page, and pages stay below 2^32
+-- so many more parts may follow one in a run: pages follow a page, each below 2^32, and else none
 abbrev pub PageRun : ℕ → Part → Type 0
 PageRun more (Page p) = p + more < 2 ^ 32
 PageRun more Kind = more ≡ 0

@@ -24,8 +24,7 @@ mark_by living pair = if is_current pair then Current else if is_held living pai
 abbrev pub marks_anew : List ℕ → ℕ → List Entry → List Mark
 marks_anew living block log = map (mark_by living) (pairs block log)
 
--- the mark of a part that lived from a birth to a death: kept
--- where a living snapshot holds it, else out
+-- the mark of a part that has died: kept where a living snapshot holds it, else out
 abbrev pub mark_ended : List ℕ → ℕ → ℕ → Mark
 mark_ended living birth death = if list_any (λ s. nat_le birth s && nat_lt s death) living then Kept else Out
 
@@ -34,8 +33,7 @@ abbrev pub birth_at : List Entry → ℕ → ℕ
 birth_at [] n = 0
 birth_at (e ∷ later) n = if nat_lt n (part_count e) then e.epoch else birth_at later (n - part_count e)
 
--- the block of the part `n` of a log: that of a page which is
--- not out is the one that its entry says
+-- the block of the part `n` of a log: a page that is not out has the one that its entry says
 abbrev pub block_anew : List BlockValue → ℕ → List Entry → List Mark → ℕ → Option BlockValue
 block_anew blocks block log marks n =
     if is_there (mark_at marks n) then option_and_then (block_by blocks) (page_block block log n) else None
@@ -50,8 +48,7 @@ AreThere block living blocks log =
     (n number : ℕ) → is_there (mark_at (marks_anew living block log) n) ≡ true → page_block block log n ≡ Some number
     → option_map number_of (block_by blocks number) ≡ Some number
 
--- the cell that is made anew of a chain, all of whose entries
--- count, with what it needs of these blocks
+-- the cell made anew of a chain, all of whose entries count, with what it needs of these blocks
 abbrev pub cell_by : ℕ → ℕ → List ℕ → ChainState → List BlockValue → CellState
 cell_by block generation living chain blocks = record {
   block = block;

@@ -81,20 +81,20 @@ pub record WasPair (living : List ℕ) (block : ℕ) (log : List Entry) (n : ℕ
     (pair : Pair) : Type 0 where
   -- the pair that it was
   pub old : Pair
-  -- the log has that pair under the number `n`
+  -- the log has the old pair under the number `n`
   pub is : slice_get (pairs block log) n ≡ Some old
-  -- it has the same name
+  -- the pair has the name of the old one
   pub name : pair_name old ≡ pair_name pair
-  -- it was born in the same epoch
+  -- the pair was born in the epoch of the old one
   pub birth : old.birth ≡ pair.birth
-  -- it is current exactly where that was
+  -- the pair is current exactly where the old one is
   pub current : is_current pair ≡ is_current old
-  -- the same living snapshots hold it
+  -- the same living snapshots hold both
   pub holders : AllByRecursion (λ s. holds s pair ≡ holds s old) living
 
 -- one of the items that are left had the number `was`
 pub record HasNumber (flags : List Bool) (was : ℕ) : Type 0 where
-  -- its number now
+  -- the number of that item now
   pub n : ℕ
   -- the item of that number had the number `was` before
   pub is : source flags n ≡ was

@@ -124,8 +124,7 @@ pub record Pushes (es : List Entry) (index : IndexValue) (test : Key → Bool) (
   -- the list has the room in all that it had
   pub capacity : vec_capacity new ≡ vec_capacity old
 
--- the entries from `tail` on kill the part `n`: all entries
--- together cover it, and those before do not
+-- the entries from `tail` on kill the part `n`: all entries cover it, and those before do not
 abbrev pub dies : ℕ → List Entry → ℕ → ℕ → Bool
 dies block es tail n = (nat_lt n (part_total es) && is_covered block es n) && not (is_covered block (take tail es) n)
 

@@ -36,8 +36,7 @@ page_now block slots numbers page = slot_bytes block (block_of slots numbers pag
 abbrev pub pages_now : ℕ → List (Option BlockValue) → (ℕ → Option ℕ) → ℕ → List ℕ
 pages_now block slots numbers count = flat_map (page_now block slots numbers) (range_with_len 0 count)
 
--- these are the bytes of a file from one place up to another, as far
--- as they stand on the pages before `page`
+-- these are the bytes of a file between two places, as far as the pages before `page` have them
 abbrev pub AreReadTo : ℕ → List (Option BlockValue) → (ℕ → Option ℕ) → ℕ → ℕ → ℕ → ℕ → List ℕ → Type 0
 AreReadTo block slots numbers count start end page bytes =
     bytes ≡ read_at start (min end (page * block) - start) (pages_now block slots numbers count)
@@ -52,8 +51,7 @@ abbrev pub own_bytes : CellState → List ℕ
 own_bytes cell =
     let size = size_now cell.block (log_of cell) in take size (flat_map (own_page cell) (range_with_len 0 (pages_for cell.block size)))
 
--- a stretch is the next one of present pages, from the page `from`
--- on; `numbers` gives the slot of each page
+-- the next stretch of present pages from the page `from` on; `numbers` gives the slot of each page
 pub record IsStretch (numbers : ℕ → Option ℕ) (from : ℕ) (s : Stretch) : Type 0 where
   -- the stretch ends behind `from`
   pub ahead : from < s.end

@@ -35,8 +35,7 @@ pub record HaveEnds (chain : ChainValue) (marks : Marks) : Type 0 where
   -- there is room for the counts of all log pages, those to add too
   pub pages_room : page_room chain ≤ vec_capacity marks.pages
 
--- a scan of a chain has gone over its first `t` entries; of
--- its entries the first `tail` are to count
+-- a scan of a chain, of which the first `tail` entries are to count, has gone over the first `t`
 pub record IsScanned (block : ℕ) (living : List ℕ) (chain : ChainValue) (tail t : ℕ) (scan : Scan) : Type 0 where
   -- the index names at each key the part that these entries give
   pub refs : IsIndexOf block (take t chain.state.entries) scan.index
@@ -50,8 +49,7 @@ pub record IsScanned (block : ℕ) (living : List ℕ) (chain : ChainValue) (tai
   pub marks : (n : ℕ) → n < part_base chain.state.entries tail
       → mark_at scan.marks.marks.items n ≡ mark_or_fresh (marks_anew living block (take t chain.state.entries)) n
 
--- a plan has the index and the marks of a log, and room for
--- what follows from them on so many log pages
+-- a plan has the index and the marks of a log, and room for what follows on so many log pages
 pub record IsPlan (block : ℕ) (living : List ℕ) (log : List Entry) (pages : ℕ) (plan : CellPlan) : Type 0 where
   -- the index names at each key the part that one scan of the log finds
   pub refs : IsIndexOf block log plan.index

@@ -25,8 +25,7 @@ names_there (pair ∷ later) [] = []
 names_there (pair ∷ later) (mark ∷ marks) =
     if is_there mark then pair_name pair ∷ names_there later marks else names_there later marks
 
--- what the marks of a cell keep, as a retention: no snapshot,
--- and each part by name that is not out
+-- what the marks of a cell keep, as a retention: no snapshot, and the name of each part not out
 abbrev pub retention_by_marks : CellState → Retention
 retention_by_marks cell =
     record { block = cell.block; snapshots = []; pending = names_there (pairs cell.block (log_of cell)) cell.marks }

@@ -15,8 +15,7 @@ use Rattle.nv_entry.specs.Node.{node_at, node_now}
 use Rattle.nv_entry.specs.declared.held.Pair.{Pair}
 use Rattle.nv_log.specs.Chain.{compacted, gone_of, with_pages_left}
 
--- the cell after a thorough cleaning: the entries that stay,
--- on fresh pages; as it was where all stay
+-- the cell after a thorough cleaning: the entries that stay, on fresh pages, unless all stay
 abbrev pub with_entries : WantedValue → List BlockValue → CellState → CellState
 with_entries wanted pages cell =
     if wanted.dropped == 0 then cell else left_in wanted.stays (compacted wanted.stays pages cell.chain) cell
@@ -79,8 +78,7 @@ pub record NodesStay (old new : CellState) : Type 0 where
   pub at : (epoch : ℕ) → SpansAreThere epoch old → (bytes : ℕ → List ℕ)
       → node_at bytes new.block epoch (log_of new) ≡ node_at bytes old.block epoch (log_of old)
 
--- what is read of a log that is cleaned stays, for each
--- retention that the marks of its parts are of
+-- what is read of a cleaned log stays, for each retention that the marks of its parts are of
 abbrev pub KeepsValues : CellState → CellState → Type 0
 KeepsValues old new = (r : Retention) → AreMarksOf r old → KeepsReads r (log_of old) (log_of new)
 

@@ -40,8 +40,7 @@ all_go_by block (flag ∷ flags) kept (e ∷ page) later =
 abbrev pub page_goes_by : ℕ → List Bool → List Entry → List Entry → List Entry → Bool
 page_goes_by block flags kept page later = not (is_empty page) && all_go_by block flags kept page later
 
--- which of the pages to come stay after a walk by whole pages;
--- `kept` are the earlier entries that stay
+-- which of the pages to come stay, by a walk by whole pages; `kept` are the earlier entries left
 abbrev pub pages_stay_by : ℕ → List Bool → List Entry → List (List Entry) → List Bool
 pages_stay_by block flags kept [] = []
 pages_stay_by block flags kept (page ∷ pages) =

@@ -86,8 +86,7 @@ all_go r kept (e ∷ page) later = is_droppable r kept e (page ++ later) && all_
 abbrev pub page_goes : Retention → List Entry → List Entry → List Entry → Bool
 page_goes r kept page later = not (is_empty page) && all_go r kept page later
 
--- which of the pages to come stay after a walk by whole pages;
--- `kept` are the earlier entries that stay
+-- which of the pages to come stay, by a walk by whole pages; `kept` are the earlier entries left
 abbrev pub pages_stay : Retention → List Entry → List (List Entry) → List Bool
 pages_stay r kept [] = []
 pages_stay r kept (page ∷ pages) =

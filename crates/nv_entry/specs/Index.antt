@@ -24,8 +24,7 @@ abbrev pub source_of : Entry → Setting → Option PageSource
 source_of e (Present (datum.Block block)) = Some (record { entry = e.id; block = block })
 source_of e setting = None
 
--- the index from scratch: the entry and the block that a
--- page's current value stands in, if it has one
+-- the index from scratch: the entry and block that a page's current value stands in, if it has one
 abbrev pub page_source : ℕ → List Entry → ℕ → Option PageSource
 page_source block log page = option_and_then (λ e. source_of e (sets block e.item (PageKey page))) (last_cover block log (PageKey page))
 

@@ -47,8 +47,7 @@ abbrev pub Tied : (ℕ → List ℕ) → ℕ → Stored → Option NodeCopy → 
 Tied bytes block s None = s ≡ nothing
 Tied bytes block s (Some node) = Stands bytes block s node
 
--- a log is sound: what it has stored is the node that it gives,
--- and where it gives none, nothing is stored
+-- a log is sound: what it has stored is the node that it gives, and nothing where it gives none
 abbrev pub IsSound : (ℕ → List ℕ) → ℕ → List Entry → Type 0
 IsSound bytes block log = Tied bytes block (stored block log) (node_now bytes block log)
 

@@ -33,8 +33,7 @@ SetsRun first len entry old new =
 abbrev pub CutsFrom : ℕ → (ℕ → Option PageRef) → (ℕ → Option PageRef) → Type 0
 CutsFrom from old new = (page : ℕ) → new page ≡ (if nat_lt page from then old page else None)
 
--- the least present page that is not below `from`, with where
--- it lies; none where there is no such page
+-- the least present page that is not below `from`, with where it lies; none where there is none
 abbrev pub IsNextFrom : ℕ → (ℕ → Option PageRef) → Option (ℕ × PageRef) → Type 0
 IsNextFrom from pages None = (page : ℕ) → from ≤ page → pages page ≡ None
 IsNextFrom from pages (Some found) =

@@ -31,8 +31,7 @@ abbrev pub noted_or : Option ℕ → ℕ → ℕ
 noted_or (Some tail) other = tail
 noted_or None other = other
 
--- the tail up to which a log is settled: the one that an open
--- journal notes of its inode, else its own
+-- the tail up to which a log is settled: the one that an open journal has noted, else its own
 abbrev pub settled_tail : List (List OldTail) → ℕ → ℕ → ℕ
 settled_tail [] ino tail = tail
 settled_tail (tails ∷ journals) ino tail = noted_or (tail_noted tails ino) (settled_tail journals ino tail)

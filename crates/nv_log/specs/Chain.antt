@@ -96,8 +96,7 @@ log_pages chain = parts_from 0 chain.ends (log chain)
 abbrev pub page_entries : ChainState → ℕ → List Entry
 page_entries chain k = slice_index_or (pages_of chain) k []
 
--- the page that gets the next entry: that of the last entry while
--- it has a free place, then the one after it
+-- the page that gets the next entry: that of the last entry, or once it is full the one after it
 abbrev pub open_page : ℕ → List ℕ → ℕ → ℕ
 open_page page ends len = if nat_lt (len - start_in ends len (length ends - 1)) page then length ends - 1 else length ends
 
@@ -133,8 +132,7 @@ pages_for chain n = pages_in n chain.page (length chain.blocks) (room_of chain) 
 abbrev pub with_page : BlockValue → ChainState → ChainState
 with_page block chain = record chain { blocks = chain.blocks ++ block ∷ [] }
 
--- the chain with one more entry: the page that gets it is the
--- last with entries, and ends behind the entry
+-- the chain with one more entry, which stands last on the open page
 abbrev pub appended : Entry → ChainState → ChainState
 appended e chain = record chain {
   ends = take (open_of chain) chain.ends ++ (length chain.entries + 1) ∷ [];
@@ -205,8 +203,7 @@ pub record KeepsPages (stays : List Bool) (old new : ChainState) : Type 0 where
   -- the log keeps what the pages that stay had of it
   pub log_is : log new ≡ joined (left_of stays (log_pages old))
 
--- where pages of one to `most` items each end, of which the first
--- begins at `start` and the last ends at `len`
+-- where pages of one to `most` items end; the first begins at `start`, and the last ends at `len`
 abbrev pub AreEnds : ℕ → ℕ → List ℕ → ℕ → Type 0
 AreEnds most start [] len = start ≡ len
 AreEnds most start (end ∷ ends) len = (start < end) × (end ≤ start + most) × AreEnds most end ends len

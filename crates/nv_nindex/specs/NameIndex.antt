@@ -24,8 +24,7 @@ binding_of name names = lookup (same_name name) names
 abbrev pub HaveSameBindings : List (List ℕ × Binding) → List (List ℕ × Binding) → Type 0
 HaveSameBindings old new = (name : List ℕ) → binding_of name new ≡ binding_of name old
 
--- one name is bound to this now, or unbound where that is
--- `None`, and each other name is bound as before
+-- one name is bound to this now, or unbound at `None`, and each other name is bound as before
 abbrev pub Rebinds : List (List ℕ × Binding) → List (List ℕ × Binding) → List ℕ → Option Binding → Type 0
 Rebinds old new name to = (other : List ℕ) → binding_of other new ≡ (if same_name name other then to else binding_of other old)
 

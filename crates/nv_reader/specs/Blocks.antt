@@ -27,8 +27,7 @@ page_text block page = unwrap_or page (replicate block 0)
 abbrev pub shown_page : (PartId → Option (List ℕ)) → ℕ → List Entry → ℕ → List ℕ
 shown_page parts block log page = page_text block (option_and_then (λ entry. parts (page_part page entry)) (page_writer block log page))
 
--- the bytes of a file by the blocks of the parts that hold its
--- pages: page by page, cut at the size
+-- the bytes of a file by the blocks of the parts that hold its pages, page by page, up to the size
 abbrev pub shown_bytes : (PartId → Option (List ℕ)) → ℕ → List Entry → List ℕ
 shown_bytes parts block log =
     let size = size_now block log in take size (flat_map (shown_page parts block log) (range_with_len 0 (pages_for block size)))

@@ -36,8 +36,7 @@ abbrev pub visited : List Visit → Handle
 visited [] = root
 visited (visit ∷ visits) = visit.handle
 
--- a show after its next visit: the node that was found is
--- seen, and what its names lead to comes next
+-- a show after its next visit: the node that was found is seen, and its names are visited next
 abbrev pub seen_on : Option NodeCopy → Showing → Showing
 seen_on found showing = record {
   left = showing.left - 1;
