@@ -116,8 +116,7 @@ pub record IsRunGood (image : ImageValue) (ino : ℕ) : Type 0 where
   -- the file ends at its size
   pub ends : EndsAtSize (cell_of image ino)
 
--- `run`: each page of a cell that is not out has its block among the data blocks of its slot, no two pages have one
--- block, and the file of the cell ends at its size.
+-- `run`: each slot has the blocks of its file
 abbrev pub AreRunsGood : ImageValue → Type 0
 AreRunsGood image = (ino : ℕ) → ino < length image.slots → IsRunGood image ino
 

@@ -23,8 +23,8 @@ use Rattle.nv_audit.specs.Records.{AreRecorded, states_of}
 use Rattle.nv_audit.specs.declared.part_list.InodePart.{InodePart}
 use Rattle.nv_audit.specs.declared.pending.InHands.{InHands}
 
--- the numbers of its geometry, the cell of each inode, the free list of each CPU and the book; and of the hands of all
--- calls the blocks, and the parts that are killed or picked
+-- a device between two steps: what an audit compares.
+-- Room and reserves are not in it.
 pub record Device : Type 0 where
   -- the numbers of its geometry
   pub numbers : GeometryNumbers
