@@ -26,8 +26,9 @@ same_found (Some handle) (Some other) = same_handle handle other
 abbrev pub same_looked : LookupResult → LookupResult → Bool
 same_looked now before = same_found now.first before.first && same_found now.second before.second
 
--- how a check ends a call, if it does: by the tests before the names are compared with what the looks found; by a name
--- that was bound anew; by the other tests; for want of a number; or since there is nothing to commit
+-- how a check ends a call, if it does.
+-- The tests before the names are compared come first, then a name that was bound anew, and then
+-- the other tests. Want of an inode number comes next, and last that there is nothing to commit.
 abbrev pub check_ends : Check → Bool → Check → Bool → Bool → Option CheckEnd
 check_ends (Err fault) same tests numbered nothing = Some (ends.Refuses fault)
 check_ends (Ok passed) false tests numbered nothing = Some ends.BoundAnew

@@ -75,7 +75,7 @@ plans_by cells hand u = cell_plans (planned_by cells hand u) 0 cells
 
 -- ---- room
 
--- the same cells, with no less room
+-- two lists of the same cells, of which the second has no less room
 pub record HaveNoLessRoom (old new : List (ℕ × CellValue)) : Type 0 where
   -- there are as many cells
   pub count : length new ≡ length old
@@ -86,7 +86,7 @@ pub record HaveNoLessRoom (old new : List (ℕ × CellValue)) : Type 0 where
   -- no cell has less room; the name that is reserved may be another
   pub rooms : (k : ℕ) → HasNoLess (value_at old k).room (value_at new k).room
 
--- the same hand, with no less room for data blocks
+-- two hands that hold the same, of which the second has no less room for data blocks
 pub record HasNoLessRoom (old new : Hand) : Type 0 where
   -- the hands differ at most in the room for data blocks
   pub same : new ≡ record old { «data» = record old.data { room = new.data.room } }
