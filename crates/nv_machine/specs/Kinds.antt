@@ -50,7 +50,8 @@ drained_turn zero released s h r = Ends (Ok (answers.Count released)) s h
 drained_turn (suc left) released s h r =
     Moves s h (record r { ending = Answers; slots = []; next = SnapshotOrCleaner (Pick (record { released = released; left = left })) })
 
--- nothing is locked, and nothing in the hand
+-- what comes once nothing is locked and the hand is empty: the reply, or the next record of a
+-- drain
 abbrev pub last_turn : Ending → Shared → HandState → Running → Turn
 last_turn Answers s h r = Ends (result_by Answers r) s h
 last_turn (Refuses fault) s h r = Ends (Err fault) s h
@@ -87,13 +88,13 @@ end_turn (slot ∷ slots) ending s h r = Moves s h (record r { ending = ending; 
 abbrev pub refuse : Fault → Shared → HandState → Running → Turn
 refuse fault s h r = end_turn r.slots (Refuses fault) s h r
 
--- a step that grows anything goes on where the memory is granted.
--- `granted` says whether memory is there where the step asks for some.
+-- a step that grows anything: where `granted` it goes on, and else it refuses its call for want of
+-- memory
 abbrev pub grown : Bool → Turn → Shared → HandState → Running → Turn
 grown true turn s h r = turn
 grown false turn s h r = refuse out_of_memory s h r
 
--- the step has done its work
+-- the call goes on to what comes behind a step that has done its work
 abbrev pub moves_past : Next → Shared → HandState → Running → Turn
 moves_past done s h r = Moves s h (go_to (sequel r done) r)
 
@@ -163,13 +164,15 @@ asked_list cpus actor asked = (actor + asked) % cpus
 abbrev pub less_list : ℕ → ℕ → Shared → Shared
 less_list cpu n s = with_list cpu (record (list_at s cpu) { blocks = drop n (list_at s cpu).blocks }) s
 
--- so many blocks are wanted yet, and there is another list to ask or not
+-- a taking of data blocks with so many still wanted, and with another list to ask or not: it asks
+-- that one, goes on to log pages, or is refused
 abbrev pub blocks_turn : ℕ → Bool → ℕ → ℕ → Shared → HandState → Running → Turn
 blocks_turn zero more asked block s h r = wants_pages (pages_wanted s r.slots (plan_by block s h r)) s h r
 blocks_turn (suc n) true asked block s h r = Moves s h (record r { wanted = suc n; next = TakeBlocks (asked + 1) })
 blocks_turn (suc n) false asked block s h r = refuse NoSpace s h r
 
--- a call is ready once no log page is wanted, else it asks the next list, or is refused
+-- a taking of log pages with so many still wanted: the call is ready, asks the next list, or is
+-- refused
 abbrev pub pages_turn : ℕ → Bool → ℕ → Shared → HandState → Running → Turn
 pages_turn zero more asked s h r = Moves s h (record r { wanted = 0; next = Ready })
 pages_turn (suc n) true asked s h r = Moves s h (record r { wanted = suc n; next = TakeLogPages (asked + 1) })
