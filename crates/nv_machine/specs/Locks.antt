@@ -133,7 +133,9 @@ WaitsOn s actor other = IsHeldByOther actor s.holder
 
 -- WHAT A STEP WAITS FOR: that another actor holds the lock which it needs. `look`, `lock`,
 -- `visit`, `show`, `lock picked` and `lock cleaned` need that of an inode slot. `enter`, `make`,
--- `drop`, `pin`, `unpin` and `pick` need the commit lock. Every other step needs none.
+-- `drop`, `pin`, `unpin` and `pick` need the commit lock. Every other step needs none. Example: a
+-- `create` call has made its `number` step and one `lock` step. A second one that has its number
+-- waits at the lock of the root.
 abbrev pub WaitsFor : Shared → ℕ → Running → Next → Type 0
 WaitsFor s actor r (Look place) = IsHeldByOther actor (owner_at s (handle_at (directories r.call) place).ino)
 WaitsFor s actor r (Lock place) = IsHeldByOther actor (owner_at s (slot_at r.slots place))
