@@ -107,6 +107,7 @@ IsRow row = (call_made row.call (after_calls row.before (formatted device))).ste
 
 -- ---- THE ROWS: the root is in slot 0, and new inodes get slots 1, 2, 3, 4
 
+-- the handle of the first inode in a slot
 abbrev handle : ℕ → Handle
 handle ino = record { ino = ino; generation = 1 }
 

@@ -74,7 +74,7 @@ pub data SnapshotOrCleanerStep : Type 0 where
   Drop : (snapshot : ℕ) → SnapshotOrCleanerStep
   -- the snapshot has one more pin, which keeps it from being dropped
   Pin : (snapshot : ℕ) → SnapshotOrCleanerStep
-  -- one cell is read as it was at the snapshot, by a walk that goes on
+  -- one cell is read as it was at the snapshot, while nobody has its lock
   Show : (snapshot : ℕ) (showing : Showing) → SnapshotOrCleanerStep
   -- the pin goes, and the nodes that were seen are the answer
   Unpin : (snapshot : ℕ) (seen : List TreeNode) → SnapshotOrCleanerStep
@@ -99,7 +99,7 @@ pub data SnapshotOrCleanerStep : Type 0 where
 pub data Next : Type 0 where
   -- the lowest free inode number goes to the hand
   Number : Next
-  -- names are looked up in the directory at this place, which is not locked
+  -- names are looked up in the directory at this place, while nobody has its lock
   Look : (place : ℕ) → Next
   -- the slot at this place is locked
   Lock : (place : ℕ) → Next
@@ -131,7 +131,7 @@ pub data Next : Type 0 where
   Give : (cpu : ℕ) → Next
   -- the number in the hand goes back to the pool
   ReturnNumber : Next
-  -- one cell is read, which is not locked, and the call ends
+  -- one cell is read, while nobody has its lock, and the call ends
   Visit : Next
   -- a step of a call on snapshots, or of a cleaner
   SnapshotOrCleaner : (step : SnapshotOrCleanerStep) → Next
@@ -142,7 +142,7 @@ pub data Ending : Type 0 where
   Answers : Ending
   -- refused, for this fault
   Refuses : (fault : Fault) → Ending
-  -- not yet: a name was bound anew after the looks, which are made again
+  -- not yet: a name was bound anew, so the looks are made again, as long as rounds are left
   BoundAnew : Ending
   -- with how many records were released; it goes on to the next as long as it may
   Drains : (draining : Draining) → Ending
