@@ -174,7 +174,7 @@ pub record AreLogsKept (s : Shared) : Type 0 where
   pub pages : (ino : ℕ) → HasPages (settled s ino) (cell_at s ino)
   -- no journal notes anything while the commit lock is free
   pub closed : s.holder ≡ None → AreClosed s.book.journals
-  -- each CPU has its journal and its list
+  -- there are as many journals as lists, one for each CPU
   pub wide : length s.book.journals ≡ length s.lists
   -- there is a list
   pub some : 0 < length s.lists

@@ -36,7 +36,7 @@ held_at Visit slots = []
 held_at (SnapshotOrCleaner step) slots = held_on step slots
 held_at other slots = slots
 
--- whether it holds the commit lock: from its enter to its leave
+-- the call holds the commit lock before this step: from its `enter` to its `leave`
 abbrev pub commits_at : Next → Bool
 commits_at (Append place) = true
 commits_at Open = true
@@ -68,7 +68,7 @@ pub record AreSlots (slots : ℕ) (list : List ℕ) : Type 0 where
   -- each is a slot of the world
   pub inside : AllByRecursion (λ ino. ino < slots) list
 
--- a loop stands at one of those that it goes over; a visit has no slots
+-- a loop stands at one of the places that it goes over; a visit has no slots
 abbrev pub IsInside : Next → Running → Type 0
 IsInside (Lock place) r = place < length r.slots
 IsInside (Unlock place) r = place < length r.slots

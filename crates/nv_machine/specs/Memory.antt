@@ -62,8 +62,8 @@ abbrev pub moves_unrefused : Turn → Bool
 moves_unrefused (Moves t after q) = is_maintaining q.next || is_unrefused q.ending
 moves_unrefused other = false
 
--- what a step does where nothing stops its call: a visit answers, a planning answers or moves on unless it refuses, a step on
--- snapshots answers or moves on, and any other goes on towards the commit
+-- the turn does the work of this step: a visit answers, a planning answers or moves on unless it
+-- refuses, a step on snapshots answers or moves on, and any other goes on towards the commit
 abbrev pub does_its_work : Next → Turn → Bool
 does_its_work Visit turn = is_answered turn
 does_its_work (SnapshotOrCleaner (PlanCleaning manner slot)) turn = is_answered turn || moves_unrefused turn
