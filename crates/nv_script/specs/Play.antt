@@ -188,7 +188,7 @@ PlaysAll player old lines text new = PlaysFrom player 1 old lines text new
 -- the first lines of a script were played
 pub record Played (player : Player) (input : Option (List ℕ)) (lines : List (List ℕ)) (rest text : List ℕ)
     (world : Option player.World) : Type 0 where
-  -- the reader had these lines, each with its end, and then the rest
+  -- where the reader's bytes are known, they are these lines, each with its end, and the rest
   pub split : IfSome input (λ bytes. bytes ≡ ended lines ++ rest)
   -- they are no more than a script may have
   pub few : length lines ≤ most_lines

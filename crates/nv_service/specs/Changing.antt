@@ -142,9 +142,9 @@ KeepVersions old new = (k : ℕ) → (state_at new k).version ≡ (state_at old 
 pub record IsRaised (old new : List (ℕ × CellValue)) (ino : ℕ) : Type 0 where
   -- its place among the cells
   pub at : ℕ
-  -- it is there
+  -- that place is one of theirs
   pub within : at < length old
-  -- it is that of the inode
+  -- the cell there is that of the inode
   pub ino_is : ino_at old at ≡ ino
   -- it has seen one commit more
   pub version : (state_at new at).version ≡ (state_at old at).version + 1

@@ -63,7 +63,7 @@ pub record IsFork (f : Fork) : Type 0 where
   pub lawful : IsLine f.line
   -- its first word is `fork`
   pub is : is_fork f.line ≡ true
-  -- a world is made there, and the line has no other word
+  -- the line has no other word
   pub right : fork_fault true f.line ≡ None
   -- each line behind it is skipped, or a `do` without a fault
   pub forked : All IsForked f.behind
@@ -72,7 +72,7 @@ pub record IsFork (f : Fork) : Type 0 where
 pub record Forks (input : Option (List ℕ)) (f : Fork) (rest : List ℕ) : Type 0 where
   -- they have no fault
   pub is : IsFork f
-  -- the reader had these lines, each with its end, and then the rest
+  -- where the reader's bytes are known, they are these lines, each with its end, and the rest
   pub split : IfSome input (λ bytes. bytes ≡ ended (lines_in f) ++ rest)
   -- they are no more than a script may have
   pub few : length (lines_in f) ≤ most_lines
