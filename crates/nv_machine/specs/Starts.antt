@@ -38,9 +38,10 @@ AreIdle w = (actor : ℕ) → actor_at w actor ≡ idle
 
 -- WHERE A RUN MAY START: a world at rest, in which no call runs and nothing is held, and the list
 -- of its records. Each line names the law by which the field holds of every world that events lead
--- to. Example: a new world with no records is a start. So is one in which a file was written,
--- snapshot 1 was made, the file was written again, and all calls have ended: its records are the
--- Size and the page of the first write. While the second write holds the commit lock it is none.
+-- to, or of every such world at rest. Example: a new world with no records is a start. So is one
+-- in which a file was written, snapshot 1 was made, the file was written again, and all calls have
+-- ended: its records are the Size and the page of the first write. While the second write holds
+-- the commit lock it is none.
 pub record IsStart (g : GeometryNumbers) (w : World) (records : List Record) : Type 0 where
   -- the device's numbers are within their limits; of every world: by definition
   pub limits : IsWithinLimits g
@@ -52,11 +53,11 @@ pub record IsStart (g : GeometryNumbers) (w : World) (records : List Record) : T
   pub slots : length w.shared.cells ≡ g.inodes
   -- each inode slot has its lock; of every world: `one_step`
   pub owners : length w.shared.owners ≡ g.inodes
-  -- the pool is one of as many numbers as there are slots; of every world: `one_step`
+  -- the pool is of as many numbers as slots; at rest: `runs_may_start_where_nothing_runs`
   pub inodes : w.shared.pool.inodes ≡ g.inodes
-  -- each CPU has its journal; of every world: `one_step`
+  -- each CPU has its journal; at rest: `runs_may_start_where_nothing_runs`
   pub journals : length w.shared.book.journals ≡ g.cpus
-  -- as many snapshots may live as the device says; of every world: `one_step`
+  -- the device says how many snapshots may live; at rest: `runs_may_start_where_nothing_runs`
   pub most : w.shared.book.snaps.most ≡ g.snaps
   -- no call runs, and every hand is empty; of every world: `idle_hands_are_empty`
   pub idle_all : AreIdle w
