@@ -139,7 +139,7 @@ abbrev pub start_line : Trace → (number actor : ℕ) → CallName → List ℕ
 start_line trace.Off number actor call = []
 start_line trace.Text number actor call = line_of (event_head number actor call ++ codes "start")
 
--- one that is refused is no event
+-- the line of a start; one that is refused is no event, and has none
 abbrev pub start_lines : Trace → (number actor : ℕ) → CallName → Reply → List ℕ
 start_lines form number actor call Started = start_line form number actor call
 start_lines form number actor call other = []
@@ -150,7 +150,7 @@ step_text number actor call name reply holder commit =
     line_of (event_head number actor call ++ step_word name ++ labelled (codes " ") (step_place name) ++ codes " "
     ++ reply_text reply holder ++ labelled (codes " commit ") commit)
 
--- the same where events are told in this form
+-- the line of a step, where events are told in this form
 abbrev pub step_by : Trace → (number actor : ℕ) → CallName → named.StepName → Reply → (holder commit : Option ℕ) → List ℕ
 step_by trace.Off number actor call name reply holder commit = []
 step_by trace.Text number actor call name reply holder commit = step_text number actor call name reply holder commit
@@ -180,12 +180,12 @@ abbrev pub GoesTraced : Trace → (number most : ℕ) → World → ℕ → (eve
 GoesTraced form number most old actor events last new =
     (goes : GoesOn most old actor last new) × (events ≡ go_lines form number old actor goes.grants)
 
--- it goes on until it did not move
+-- a call goes on until it does not move, and its events have these lines
 abbrev pub RunsTraced : Trace → (number : ℕ) → World → ℕ → (events : List ℕ) → Reply → World → Type 0
 RunsTraced form number old actor events last new =
     (runs : Runs old actor last new) × (events ≡ go_lines form number old actor runs.goes.grants)
 
--- one that was started runs, and one that was refused does not
+-- a call that was started runs, and one that was refused has no events
 abbrev pub RunsTracedFrom : Reply → Trace → (number : ℕ) → World → ℕ → (events : List ℕ) → Reply → World → Type 0
 RunsTracedFrom Started form number old actor events last new = RunsTraced form number old actor events last new
 RunsTracedFrom first form number old actor events last new = (last ≡ first) × (new ≡ old) × (events ≡ [])
@@ -219,7 +219,7 @@ abbrev pub ActsToldBy : WorldReports → Trace → ℕ → World → Command →
 ActsToldBy told trace.Off number old c text new = ActsBy told old c text new
 ActsToldBy told trace.Text number old c text new = ActsTracedBy told trace.Text number old c text new
 
--- reports are those of a scan
+-- a command, with its events or without, where reports are those of one scan
 abbrev pub ActsTold : Trace → ℕ → World → Command → List ℕ → World → Type 0
 ActsTold events number old c text new = ActsToldBy (reports_by_scan old) events number old c text new
 
@@ -233,7 +233,7 @@ player_by told head = record {
   head = head;
 }
 
--- THE TRACING PLAYER
+-- THE TRACING PLAYER: the machine, with the lines of its events
 abbrev pub tracing_player : Player
 tracing_player = player_by trace.Text no_head
 
