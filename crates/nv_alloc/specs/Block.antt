@@ -5,7 +5,9 @@ use Rattle.nv_alloc.specs.Numbers.{put_by}
 
 -- what clauses see of a block
 pub record BlockValue : Type 0 where
+  -- its number on the device, from 0
   pub number : ℕ
+  -- the bytes that are written in it
   pub bytes : List ℕ
 
 -- the number of a block
@@ -16,12 +18,12 @@ number_of block = block.number
 abbrev pub numbers_of : List BlockValue → List ℕ
 numbers_of blocks = map number_of blocks
 
--- the block of a number
+-- the first block of that number, if the list has one
 abbrev pub block_by : List BlockValue → ℕ → Option BlockValue
 block_by [] number = None
 block_by (b ∷ blocks) number = if b.number == number then Some b else block_by blocks number
 
--- the blocks but that of a number
+-- the blocks except those of a number
 abbrev pub without_block : ℕ → List BlockValue → List BlockValue
 without_block number blocks = filter (λ block. not (block.number == number)) blocks
 
@@ -45,7 +47,7 @@ zero_blocks size low len = map (zero_block size) (range_with_len low len)
 abbrev pub put_block : BlockValue → List BlockValue → List BlockValue
 put_block block blocks = put_by number_of block blocks
 
--- the list with each of the blocks put in
+-- the list with each of the blocks put in, one after the other
 abbrev pub put_blocks : List BlockValue → List BlockValue → List BlockValue
 put_blocks [] blocks = blocks
 put_blocks (given ∷ rest) blocks = put_blocks rest (put_block given blocks)

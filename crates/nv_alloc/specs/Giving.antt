@@ -4,7 +4,7 @@ use Rattle.nv_alloc.specs.Block.{BlockValue, numbers_of, put_block}
 use Rattle.nv_alloc.specs.FreeList.{FreeBlocks, is_home}
 use Rattle.nv_alloc.specs.Numbers.{has}
 
--- the list takes a block that is at home there, is absent, and has as many bytes as the list's blocks
+-- the list takes a block that is at home there, is absent, and has as many bytes as its own blocks
 abbrev pub takes : FreeBlocks → BlockValue → Bool
 takes list block = is_home list block.number && not (has (numbers_of list.blocks) block.number) && (length block.bytes == list.size)
 

@@ -19,9 +19,7 @@ abbrev pub IsRising : List ℕ → Type 0
 IsRising [] = Unit {0}
 IsRising (n ∷ numbers) = AllByRecursion (λ m. n < m) numbers × IsRising numbers
 
--- the numbers from `low` on, `len` of them, that are not used: a free list from scratch.
--- Free list from scratch: the numbers of a range that a test does not mark used. A rising list of exactly those
--- numbers is that list.
+-- a free list from scratch: the numbers from `low` on, `len` of them, without those in use
 abbrev pub unused : (ℕ → Bool) → ℕ → ℕ → List ℕ
 unused is_used low len = filter (λ n. not (is_used n)) (range_with_len low len)
 
@@ -30,7 +28,7 @@ abbrev pub put_by : {X : Type 0} → (X → ℕ) → X → List X → List X
 put_by number x [] = x ∷ []
 put_by number x (y ∷ ys) = if nat_lt (number x) (number y) then x ∷ y ∷ ys else y ∷ put_by number x ys
 
--- the lower of a number that may be known and of another
+-- the lower of two numbers, the first of which may be unknown
 abbrev pub lower : Option ℕ → ℕ → Option ℕ
 lower None n = Some n
 lower (Some low) n = Some (if nat_le low n then low else n)

@@ -3,7 +3,7 @@ use Rattle.std.specs.Prelude.{◌≡◌, ℕ, ◌+◌, ◌/◌, ◌%◌, ◌^◌
 use Rattle.std.specs.Int.{bit_at}
 use Rattle.std.specs.List.{range_with_len}
 
--- the places that are in the set, in rising order, counted from `low`
+-- the places that are in the set, rising, where the first flag is that of the place `low`
 abbrev pub places : ℕ → List Bool → List ℕ
 places low [] = []
 places low (true ∷ flags) = low ∷ places (low + 1) flags
@@ -20,7 +20,7 @@ abbrev pub IsLowest : List Bool → Option ℕ → Type 0
 IsLowest flags None = (k : ℕ) → slice_index_or flags k false ≡ false
 IsLowest flags (Some place) = (slice_index_or flags place false ≡ true) × ((k : ℕ) → k < place → slice_index_or flags k false ≡ false)
 
--- bit `k` of some words, 64 in a word, the lowest first
+-- bit `k` of some words: a word has 64 bits, of which the lowest counts first
 abbrev pub bit_of : List ℕ → ℕ → ℕ
 bit_of words k = bit_at (slice_index words (k / 64)) (k % 64)
 
@@ -28,41 +28,59 @@ bit_of words k = bit_at (slice_index words (k / 64)) (k % 64)
 abbrev pub word_count : ℕ → ℕ
 word_count bits = (bits + 63) / 64
 
--- the first bits are set, and no other
+-- the first bits of some words are set, and no other
 pub record AreFirst (count : ℕ) (words : List ℕ) : Type 0 where
+  -- each of the first `count` bits is set
   pub set : (k : ℕ) → k < count → bit_of words k ≡ 1
+  -- no bit behind them is set
   pub clear : (k : ℕ) → count ≤ k → bit_of words k ≡ 0
 
--- bit `i` of the marks tells whether word `i` has a bit
+-- bit `i` of the marks is set exactly where word `i` has a bit
 abbrev pub AreMarks : List ℕ → List ℕ → Type 0
 AreMarks marks words = (i : ℕ) → bit_of marks i ≡ min 1 (slice_index words i)
 
--- so it is of each word but one, which may have a mark and no bit
+-- the marks are right, except that this word may have a mark and no bit
 pub record AreMarksElsewhere (word : ℕ) (marks words : List ℕ) : Type 0 where
+  -- of each other word the mark tells whether it has a bit
   pub others : (i : ℕ) → i ≢ word → bit_of marks i ≡ min 1 (slice_index words i)
+  -- this word has a mark if it has a bit
   pub here : 0 < slice_index words word → bit_of marks word ≡ 1
 
--- one bit is written, and all others stay
+-- one bit of some words is written
 pub record WritesBit (old : List ℕ) (at b : ℕ) (new : List ℕ) : Type 0 where
+  -- there are as many words as before
   pub count : length new ≡ length old
+  -- the bit is the one that was written
   pub here : bit_of new at ≡ b
+  -- each other bit stays
   pub others : (k : ℕ) → k ≢ at → bit_of new k ≡ bit_of old k
+  -- each word except that of the bit stays
   pub words : (i : ℕ) → i ≢ at / 64 → slice_index new i ≡ slice_index old i
 
--- one word has no bit that it had not, and all others stay
+-- one word is no greater than it was, and all others stay
 pub record ShrinksWord (old : List ℕ) (word : ℕ) (new : List ℕ) : Type 0 where
+  -- there are as many words as before
   pub count : length new ≡ length old
+  -- the word is no greater than it was
   pub here : slice_index new word ≤ slice_index old word
+  -- each other word stays
   pub others : (i : ℕ) → i ≢ word → slice_index new i ≡ slice_index old i
 
--- words with a bit for each place below `len`, and two levels of marks over them
+-- words have a bit for each place below `len`, with two levels of marks over them
 pub record IsPlaceSet (len : ℕ) (bits words groups : List ℕ) : Type 0 where
+  -- there are fewer than 2^32 places
   pub small : len < 2 ^ 32
+  -- there are as many words of bits as the places take
   pub bits_len : length bits ≡ word_count len
+  -- the first level of marks has a bit for each word of bits
   pub words_len : length words ≡ word_count (length bits)
+  -- the second level of marks has a bit for each word of the first
   pub groups_len : length groups ≡ word_count (length words)
+  -- no bit is set past the last place
   pub past : (k : ℕ) → len ≤ k → bit_of bits k ≡ 0
+  -- a mark of the first level tells whether its word of bits has a bit
   pub words_marked : AreMarks words bits
+  -- a mark of the second level tells whether its word of the first has a mark
   pub groups_marked : AreMarks groups words
 
 -- for each place, whether its bit is set

@@ -4,10 +4,13 @@ use Rattle.nv_alloc.specs.Block.{BlockValue}
 use Rattle.nv_alloc.specs.FreeList.{FreeBlocks}
 use Rattle.nv_alloc.specs.Giving.{not_taken}
 
--- blocks in the order taken, the bytes of each, and how many more blocks there is room for
+-- what clauses see of a queue of blocks
 pub record QueueValue : Type 0 where
+  -- the blocks, of which the first is taken out next
   pub blocks : List BlockValue
+  -- how many bytes a block has
   pub size : ℕ
+  -- how many more blocks fit without memory
   pub room : ℕ
 
 -- the queue once its blocks were offered to the list

@@ -9,9 +9,8 @@ join n [] = record { first = n; last = n } ∷ []
 join n (run ∷ runs) =
     if run.first == n + 1 then record { first = n; last = run.last } ∷ runs else record { first = n; last = n } ∷ run ∷ runs
 
--- the maximal runs of a rising list, in rising order.
--- Block runs: the maximal runs of consecutive numbers of a rising list. Example: 3, 5, 6, 7 has the block runs 3
--- and 5 to 7.
+-- the maximal runs of consecutive numbers of a rising list, in rising order.
+-- Example: 3, 5, 6, 7 has the runs 3 and 5 to 7.
 abbrev pub free_runs_of : List ℕ → List FreeRun
 free_runs_of [] = []
 free_runs_of (n ∷ numbers) = join n (free_runs_of numbers)
@@ -27,7 +26,9 @@ HaveGaps [] = Unit {0}
 HaveGaps (run ∷ []) = run.first ≤ run.last
 HaveGaps (run ∷ next ∷ runs) = (run.first ≤ run.last) × (run.last + 1 < next.first) × HaveGaps (next ∷ runs)
 
--- the runs have exactly these numbers, and none could be longer
+-- a list of numbers is cut into runs
 pub record IsCutInto (numbers : List ℕ) (runs : List FreeRun) : Type 0 where
+  -- the runs have exactly the numbers of the list, in their order
   pub all : numbers_in runs ≡ numbers
+  -- no run is empty, and none could be longer
   pub maximal : HaveGaps runs

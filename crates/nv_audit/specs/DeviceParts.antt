@@ -6,23 +6,29 @@ pub use Rattle.nv_alloc.specs.FreeList.{AreListsOf}
 use Rattle.nv_cell.specs.Cell.{CellState}
 use Rattle.nv_cell.specs.Readers.{IsCellOf, has_inode, is_erased}
 
--- a generation is in its range, and a slot of the last one has no page
+-- the generation of a slot is in its range
 pub record IsInRange (cell : CellState) : Type 0 where
+  -- the generation is at least 1
   pub some : 1 ≤ cell.generation
+  -- the generation is at most the greatest
   pub most : cell.generation ≤ NUMBER
+  -- a slot of the last generation has no log page
   pub last : cell.generation ≡ NUMBER → cell.chain.blocks ≡ []
 
--- a slot between two calls: its cell has the device's sizes, its generation is in its range, an inode is not of the last
--- one, and one that is gone keeps something
+-- an inode slot of a device, as it stands while no call runs
 pub record IsSlotOf (g : GeometryNumbers) (cell : CellState) : Type 0 where
+  -- blocks and log pages of the cell have the device's sizes
   pub sizes : IsCellOf g cell
+  -- the generation is in its range
   pub range : IsInRange cell
+  -- a slot with an inode is not of the last generation
   pub early : has_inode cell ≡ true → cell.generation < NUMBER
+  -- an inode that is gone keeps something
   pub erased : is_erased cell ≡ false
 
--- a cell for each slot.
--- It has a cell for each inode slot: a cell of the device's sizes, whose inode is not of the last generation and
--- keeps something if it is gone.
+-- the cells of a device's inode slots
 pub record AreSlotsOf (g : GeometryNumbers) (cells : List CellState) : Type 0 where
+  -- there is a cell for each inode slot
   pub count : length cells ≡ g.inodes
+  -- each cell is a slot of the device
   pub each : All (IsSlotOf g) cells

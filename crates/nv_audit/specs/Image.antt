@@ -6,9 +6,8 @@ use Rattle.nv_base.specs.declared.geometry.GeometryNumbers.{GeometryNumbers}
 use Rattle.nv_journal.specs.declared.old_tail.OldTail.{OldTail}
 use Rattle.nv_log.specs.Image.{ChainImageValue, no_chain}
 
--- a slot: its generation, the chain of its log, and its data blocks.
--- A slot has a generation, a chain image and data blocks. Indexes, counts, free lists, records, pins and hands are
--- not in it.
+-- an inode slot of an image.
+-- Indexes, counts, free lists, records, pins and hands are not in it.
 pub record SlotImageValue : Type 0 where
   -- the slot's generation
   pub generation : ℕ
@@ -17,8 +16,7 @@ pub record SlotImageValue : Type 0 where
   -- its data blocks
   pub blocks : List BlockValue
 
--- AN IMAGE: what the device was made for, its slots, what the journal of each CPU has noted, the numbers of the living
--- snapshots, the epoch, and the number of the last commit
+-- AN IMAGE of a device that has stopped
 pub record ImageValue : Type 0 where
   -- the numbers of its geometry
   pub numbers : GeometryNumbers
@@ -33,7 +31,7 @@ pub record ImageValue : Type 0 where
   -- the number of the last commit
   pub commit : ℕ
 
--- the slot of an inode; one without anything where there is none
+-- a slot without anything, for a number that has none
 abbrev pub no_slot : SlotImageValue
 no_slot = record { generation = 0; chain = no_chain; blocks = [] }
 
@@ -41,7 +39,7 @@ no_slot = record { generation = 0; chain = no_chain; blocks = [] }
 abbrev pub slot_of : ImageValue → ℕ → SlotImageValue
 slot_of image ino = slice_index_or image.slots ino no_slot
 
--- the blocks of a slot and of all, and their numbers
+-- the blocks of a slot: its log pages, and then its data blocks
 abbrev pub slot_blocks : SlotImageValue → List BlockValue
 slot_blocks slot = slot.chain.pages ++ slot.blocks
 

@@ -13,8 +13,7 @@ use Rattle.nv_cell.specs.Index.{page_part}
 abbrev pub IsPageOf : ℕ → List Entry → PageMap → ℕ → Type 0
 IsPageOf block log index page = option_map page_part (ref_at index.pages page) ≡ scan_ref block log (PageKey page)
 
--- so for each page.
--- Index: for each page it names the part that holds the page now, if any does.
+-- the index names for each page the part of the log that holds the page now, if any does
 abbrev pub ArePagesOf : ℕ → List Entry → PageMap → Type 0
 ArePagesOf block log index = (page : ℕ) → IsPageOf block log index page
 

@@ -28,7 +28,7 @@ use Rattle.nv_audit.specs.declared.part_list.InodePart.{InodePart}
 abbrev pub block_said : ℕ → Item → Part → Option ℕ
 block_said block item part = option_and_then block_in (value_of (sets block item (key_of item part)))
 
--- the blocks that an item says of its pages, and those of several entries
+-- the block that an item says of one of its parts, as a list
 abbrev pub said_part : ℕ → Item → Part → List ℕ
 said_part block item part = option_to_list (block_said block item part)
 
@@ -40,20 +40,19 @@ said_of block item = flat_map (said_part block item) (parts_of item)
 abbrev pub blocks_said : ℕ → List Entry → List ℕ
 blocks_said block entries = flat_map (λ (e : Entry). said_of block e.item) entries
 
--- the block of a part if it is kept, and the blocks of the pairs of an entry that are kept, where `later` are the entries
--- behind it
+-- the block that an item says of a part, as a list; none where the part is not kept
 abbrev pub said_if : Bool → ℕ → Item → Part → List ℕ
 said_if is_kept block item part = if is_kept then said_part block item part else []
 
--- the block that a pair's item says, where the pair is kept
+-- the block that an item says of a pair's part, as a list; none where the pair is not kept
 abbrev pub kept_pair : Retention → Item → Pair → List ℕ
 kept_pair r item pair = said_if (keeps r pair) r.block item pair.part
 
--- the blocks that an entry says of pairs that are kept
+-- the blocks that an entry says of pairs that are kept, where `later` are the entries behind it
 abbrev pub blocks_kept_of : Retention → Entry → List Entry → List ℕ
 blocks_kept_of r e later = flat_map (kept_pair r e.item) (pairs_of r.block e later)
 
--- the same of a log
+-- the blocks that a log says of pairs that are kept
 abbrev pub blocks_kept : Retention → List Entry → List ℕ
 blocks_kept r [] = []
 blocks_kept r (e ∷ later) = blocks_kept_of r e later ++ blocks_kept r later
@@ -67,7 +66,7 @@ used_by r cell = numbers_of cell.chain.blocks ++ blocks_kept r (log_of cell) ++ 
 abbrev pub blocks_had : CellState → List ℕ
 blocks_had cell = flat_map of_part cell.blocks
 
--- the same of all inodes from one on, where calls have some parts in their hands
+-- the blocks that all inodes from one on use, where calls have some parts in their hands
 abbrev pub used_from : List ℕ → List Record → List InodePart → ℕ → List CellState → List ℕ
 used_from snapshots deferred in_hands ino [] = []
 used_from snapshots deferred in_hands ino (cell ∷ cells) =
@@ -99,11 +98,13 @@ AreAllFree g lists is_used =
 abbrev pub AreFree : GeometryNumbers → List FreeBlocks → List ℕ → Type 0
 AreFree g lists used = AreAllFree g lists (has used)
 
--- these are the marks of the first numbers that stand in a list
+-- the mark of a number; one past the marks counts as not set
 abbrev pub mark_at : List Bool → ℕ → Bool
 mark_at marks n = slice_index_or marks n false
 
--- a number is marked exactly where it is used
+-- the marks of the numbers that are used
 pub record AreMarked (blocks : ℕ) (used : List ℕ) (marks : List Bool) : Type 0 where
+  -- there is a mark for each number below `blocks`
   pub len : length marks ≡ blocks
+  -- a number below `blocks` is marked exactly where it is used
   pub marked : (n : ℕ) → n < blocks → mark_at marks n ≡ has used n

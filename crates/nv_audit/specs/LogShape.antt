@@ -7,8 +7,7 @@ use Rattle.nv_entry.specs.Log.{pairs}
 use Rattle.nv_entry.specs.Shape.{AreLawful, items_of}
 use Rattle.nv_entry.specs.declared.item.Entry.{Entry}
 
--- the items are lawful one after another from some kind on, or from nothing on.
--- Lawful from some kind on: the items of a log are lawful one after another from some kind on, or from nothing on.
+-- the items of a log are lawful one after another from some kind on, or from nothing on.
 -- So are those of a gone inode whose first entries a cleaner took out.
 abbrev pub AreLawfulFromSome : ℕ → List Entry → Type 0
 AreLawfulFromSome block log = (before : Option Kind) × AreLawful block (items_of log) before
@@ -22,8 +21,8 @@ IsHeldLawful block living log =
 abbrev pub IsNoLater : ℕ → ℕ → Entry → Type 0
 IsNoLater commit epoch e = (e.id.commit ≤ commit) × (e.epoch ≤ epoch)
 
--- so is each of a log.
--- No later than a commit and an epoch: no entry of a log is of a later commit or a later epoch. Example: entries of
--- commits 1 and 2 in epoch 1 are no later than commit 2 and epoch 1, and not so than commit 1.
+-- no entry of a log is of a later commit or a later epoch.
+-- Example: entries of commits 1 and 2 in epoch 1 are no later than commit 2 and epoch 1, and not
+-- so than commit 1.
 abbrev pub AreNoLater : ℕ → ℕ → List Entry → Type 0
 AreNoLater commit epoch log = All (IsNoLater commit epoch) log

@@ -24,24 +24,24 @@ use Rattle.nv_audit.specs.Pool.{is_used}
 
 -- ---- cut logs
 
--- what a journal has noted is good where the inode has a page, and the noted tail is not past its own
+-- a note of a journal is good: its inode has a log page, and its tail is not past the inode's own
 abbrev pub is_note_good : ImageValue → OldTail → Bool
 is_note_good image note =
     nat_lt 0 (length (slot_of image note.ino).chain.pages) && nat_le note.tail (slot_of image note.ino).chain.tail
 
--- no two are of one inode
+-- no two notes are of one inode
 abbrev pub are_apart : List OldTail → Bool
 are_apart [] = true
 are_apart (note ∷ notes) = list_all (λ (other : OldTail). not (other.ino == note.ino)) notes && are_apart notes
 
--- so are all that the open journals have noted, and no inode stands there twice.
--- They are good where no inode stands twice in what all of them have noted, each has a page, and each noted tail is
--- not past the inode's own. Example: a rename from one directory to another has moved the first tail when the
--- device stops. Its journal is open, so both logs are cut at their old tails.
+-- all notes of journals are good, and no inode is noted twice.
+-- Example: a rename from one directory to another has moved the first tail when the device stops.
+-- Its journal is open, so both logs are cut at their old tails.
 abbrev pub are_journals_good : ImageValue → Bool
 are_journals_good image = list_all (is_note_good image) (all_notes image.journals) && are_apart (all_notes image.journals)
 
--- a log is cut at the tail that an open journal has noted for it, else at its own; where a journal is bad, each at its own
+-- where a log is cut: at the tail that an open journal has noted for it, else at its own.
+-- Where the journals are bad, each log is cut at its own tail.
 abbrev pub cut_tail : Bool → ImageValue → ℕ → ℕ
 cut_tail good image ino =
     if good then settled_tail image.journals ino (slot_of image ino).chain.tail else (slot_of image ino).chain.tail
@@ -50,15 +50,13 @@ cut_tail good image ino =
 abbrev pub tail_of : ImageValue → ℕ → ℕ
 tail_of image ino = cut_tail (are_journals_good image) image ino
 
--- THE CUT LOG of a slot.
--- Cut log: the entries of a slot up to the tail that an open journal has noted for it, else up to its own. Where
--- the journals are bad, each log is cut at its own tail.
+-- THE CUT LOG of a slot: its entries up to the tail where it is cut
 abbrev pub cut_log : ImageValue → ℕ → List Entry
 cut_log image ino = take (tail_of image ino) (slot_of image ino).chain.entries
 
 -- ---- records
 
--- those that are kept have records, in the order of the log and of the parts of an entry
+-- a mount makes a record of the pair: it is not current, and a living snapshot holds it
 abbrev pub is_recorded : List ℕ → Pair → Bool
 is_recorded living pair = not (is_current pair) && is_held living pair
 
@@ -76,8 +74,8 @@ log_records block living ino log = map (record_by ino) (filter (is_recorded livi
 abbrev pub cell_with : GeometryNumbers → List ℕ → ℕ → SlotImageValue → CellState
 cell_with g living n slot = cell_by g.block slot.generation living (cut_chain g.page n slot.chain) slot.blocks
 
--- an inode is erased that is gone and of which no living snapshot holds a pair.
--- A gone inode of which no living snapshot holds a pair is erased: its cell is empty, and of the next generation.
+-- the inode of a log is over: it is gone, and no living snapshot holds a pair of it.
+-- A mount erases it: its cell is empty, and of the next generation.
 abbrev pub is_over : List ℕ → ℕ → List Entry → Bool
 is_over living block log = is_gone log && not (list_any (is_held living) (pairs block log))
 
@@ -87,9 +85,8 @@ cell_anew g living n slot =
     if is_over living g.block (take n slot.chain.entries) then empty_cell g.block g.page (slot.generation + 1) 0
     else cell_with g living n slot
 
--- THE CELL OF A SLOT, and the cells of all.
--- The cell of a slot: its cut log on its pages, the marks anew, and for each page that is not out the block of the
--- number that its entry says. Its version is 0.
+-- THE CELL OF A SLOT: its cut log on its pages, with the marks anew, and of version 0.
+-- Each page that is not out has the block of the number that its entry says.
 abbrev pub cell_of : ImageValue → ℕ → CellState
 cell_of image ino = cell_anew image.numbers image.snapshots (tail_of image ino) (slot_of image ino)
 
@@ -99,17 +96,16 @@ cells_of image = map (cell_of image) (range_with_len 0 (length image.slots))
 
 -- ---- the book
 
--- THE RECORDS ANEW, by rising inode number
+-- the records that a mount makes of one slot, in the order of its cut log
 abbrev pub slot_records : ImageValue → ℕ → List Record
 slot_records image ino = log_records image.numbers.block image.snapshots ino (cut_log image ino)
 
--- Records anew are those of the kept parts, by rising inode number and in each log by entry and part.
+-- THE RECORDS ANEW: those of the kept parts, by rising inode number and then in log order
 abbrev pub records_anew : ImageValue → List Record
 records_anew image = flat_map (slot_records image) (range_with_len 0 (length image.slots))
 
--- THE BOOK: no snapshot is pinned, nothing is deferred, no journal is open, and the history begins here.
--- The book anew has no pin, no open journal and no deferred record. Its history begins with the image's epoch and
--- commit number.
+-- THE BOOK: no snapshot is pinned, nothing is deferred, no journal is open, and the history begins
+-- with the image's epoch and commit number
 abbrev pub book_anew : ImageValue → BookState
 book_anew image = book_told image.numbers image.snapshots image.epoch image.commit (records_anew image)
 

@@ -21,7 +21,7 @@ name_in table name = lookup (λ (k : Bor (List ℕ)). same_name name k.now) tabl
 abbrev pub NameTable : Type 0
 NameTable = List (Bor (List ℕ) × Binding)
 
--- it has of each name what a log binds it to
+-- a table has of each name what a log binds it to
 abbrev pub TellsNames : List Entry → NameTable → Type 0
 TellsNames log bound = (name : List ℕ) → name_in bound name ≡ binding_of name (bindings_of log)
 
@@ -29,16 +29,16 @@ TellsNames log bound = (name : List ℕ) → name_in bound name ≡ binding_of n
 abbrev pub IsNameOf : NameTable → List (List ℕ × Binding) → List ℕ → Type 0
 IsNameOf bound names name = binding_of name names ≡ name_in bound name
 
--- so is the name that an item binds, if it is such an item
+-- the name that an item binds, if it binds one, is bound among these as the table tells
 abbrev pub IsItemName : NameTable → List (List ℕ × Binding) → Item → Type 0
 IsItemName bound names (Bind name to) = IsNameOf bound names name
 IsItemName bound names item = Unit {0}
 
--- so are the names that these entries bind, and those that stand among these bindings
+-- the names that entries bind are bound among these as the table tells
 abbrev pub AreLogNames : NameTable → List (List ℕ × Binding) → List Entry → Type 0
 AreLogNames bound names entries = All (λ e. IsItemName bound names e.item) entries
 
--- the index binds each of these names as the log does
+-- the listed names are bound among these as the table tells
 abbrev pub AreIndexNames : NameTable → List (List ℕ × Binding) → List (List ℕ × Binding) → Type 0
 AreIndexNames bound names listed = All (λ b. IsNameOf bound names b.0) listed
 

@@ -24,13 +24,15 @@ node_by cell log = option_map (named cell.generation log) (stored cell.block log
 abbrev pub node_when : When → CellState → Option NamedNode
 node_when when cell = node_by cell (seen when (log_of cell))
 
--- Which nodes the slots have is told by the logs of their cells, now or at an epoch.
+-- the nodes that the logs of all cells give, now or at an epoch
 abbrev pub slots_when : When → List CellState → Slots
 slots_when when cells = map (node_when when) cells
 
--- THE NODES FORM A TREE now, and at each of these snapshots
+-- THE NODES OF CELLS FORM TREES
 pub record AreTrees (snapshots : List ℕ) (cells : List CellState) : Type 0 where
+  -- the nodes of now form a tree
   pub now : IsTree (slots_when Now cells)
+  -- the nodes at each of these snapshots form a tree
   pub at : All (λ (snapshot : ℕ). IsTree (slots_when (At snapshot) cells)) snapshots
 
 -- the logs of these cells have no entries

@@ -29,7 +29,7 @@ abbrev pub owed_record : List ℕ → List PartId → ℕ → Pair → Option Re
 owed_record living named ino pair =
     option_and_then (λ (death : ℕ). if has_owner living named pair death then Some (record_of ino pair death) else None) pair.death
 
--- those of several pairs, and those of an inode's log
+-- the records that several pairs are to have for these snapshots, in order
 abbrev pub owed_records : List ℕ → List PartId → ℕ → List Pair → List Record
 owed_records living named ino ps = flat_map (λ (p : Pair). option_to_list (owed_record living named ino p)) ps
 
@@ -37,8 +37,8 @@ owed_records living named ino ps = flat_map (λ (p : Pair). option_to_list (owed
 abbrev pub owed_records_by : List ℕ → List PartId → ℕ → CellState → List Record
 owed_records_by living named ino cell = owed_records living named ino (pairs cell.block (log_of cell))
 
--- those of all inodes from one on, where calls have some parts in their hands.
--- Owed records: one for each dead pair that some living snapshot holds and no hand has, with the death that the log
+-- the records that all inodes from one on owe, where calls have some parts in their hands.
+-- Each dead pair has one that a living snapshot holds and no hand has, with the death that the log
 -- tells.
 abbrev pub owed_records_from : List ℕ → List InodePart → ℕ → List CellState → List Record
 owed_records_from living in_hands ino [] = []

@@ -19,7 +19,7 @@ of_inode ino parts = map (λ (p : InodePart). p.part) (filter (λ (p : InodePart
 abbrev pub deferred_of : ℕ → List Record → List PartId
 deferred_of ino deferred = map part_of (filter (λ (r : Record). r.ino == ino) deferred)
 
--- those of an inode that are deferred or in hands
+-- the parts of an inode that are deferred or in hands, by name
 abbrev pub pending_of : ℕ → List Record → List InodePart → List PartId
 pending_of ino deferred parts = deferred_of ino deferred ++ of_inode ino parts
 
@@ -34,16 +34,20 @@ retention_by snapshots deferred in_hands ino cell = record {
 
 -- ---- by slot
 
--- the list of a slot
+-- the names in the list of a slot
 abbrev pub parts_at : List (Vec PartId) → ℕ → List PartId
 parts_at lists ino = slice_index_or (map (λ (v : Vec PartId). v.items) lists) ino []
 
--- each list has more at its end: that of a slot these parts
+-- lists of names by slot, with more at their ends
 pub record HaveMore (more : ℕ → List PartId) (old new : List (Vec PartId)) : Type 0 where
+  -- there are as many lists as before
   pub len : length new ≡ length old
+  -- the list of a slot has the names that `more` gives for it behind the others
   pub each : (ino : ℕ) → ino < length old → parts_at new ino ≡ parts_at old ino ++ more ino
 
--- the pending parts of each of so many slots
+-- lists of the pending parts, by slot
 pub record ArePendingOf (slots : ℕ) (deferred : List Record) (in_hands : List InodePart) (lists : List (Vec PartId)) : Type 0 where
+  -- there is a list for each slot
   pub len : length lists ≡ slots
+  -- the list of a slot names the parts of its inode that are deferred or in hands
   pub each : (ino : ℕ) → ino < slots → parts_at lists ino ≡ pending_of ino deferred in_hands

@@ -22,8 +22,9 @@ cell_or_none cell = unwrap_or cell no_cell
 abbrev pub is_used : List CellState → ℕ → Bool
 is_used cells ino = is_in_use (slice_index_or cells ino no_cell)
 
--- THE POOL OF A DEVICE AT REST has just the numbers that are not in use, in rising order.
--- Its pool has the numbers of the slots that have no inode and are not withheld.
+-- THE POOL OF A DEVICE AT REST
 pub record IsPoolOf (g : GeometryNumbers) (cells : List CellState) (pool : FreeInodes) : Type 0 where
+  -- the pool is made for as many inode slots as the device has
   pub inodes : pool.inodes ≡ g.inodes
+  -- the free numbers are those of slots that are not in use, rising
   pub numbers : pool.numbers ≡ unused (is_used cells) 0 g.inodes

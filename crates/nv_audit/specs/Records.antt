@@ -22,15 +22,15 @@ states_of cells = map (λ (c : CellValue). c.state) cells
 
 -- ---- by the records
 
--- the parts of those of the records that a snapshot holds
+-- the part of a record, with its inode
 abbrev pub inode_part : Record → InodePart
 inode_part r = record { ino = r.ino; part = part_of r }
 
--- the parts that a snapshot holds by records
+-- the parts that a snapshot holds by some records
 abbrev pub recorded_in : ℕ → List Record → List InodePart
 recorded_in s records = map inode_part (filter (is_held_by s) records)
 
--- of all records: of the manifests and of the deferred list
+-- the parts that a snapshot holds by the records of a book, filed and deferred
 abbrev pub recorded_as : ℕ → BookState → List InodePart
 recorded_as s book = flat_map (λ (m : Manifest). recorded_in s m.records) book.manifests ++ recorded_in s book.deferred
 
@@ -48,7 +48,7 @@ part_in ino pair = record { ino = ino; part = pair_name pair }
 abbrev pub owed_pair : ℕ → List PartId → ℕ → Pair → List InodePart
 owed_pair s named ino pair = if is_owed s named pair then part_in ino pair ∷ [] else []
 
--- those of an inode's log
+-- the parts of an inode's log that a snapshot is owed records of
 abbrev pub owed_in : ℕ → List PartId → ℕ → ℕ → List Entry → List InodePart
 owed_in s named ino block log = flat_map (owed_pair s named ino) (pairs block log)
 
@@ -56,18 +56,18 @@ owed_in s named ino block log = flat_map (owed_pair s named ino) (pairs block lo
 abbrev pub owed_by : ℕ → List PartId → ℕ → CellState → List InodePart
 owed_by s named ino cell = owed_in s named ino cell.block (log_of cell)
 
--- those of all inodes from one on, where calls have some parts in their hands
+-- the parts of all inodes from one on that a snapshot is owed records of, where calls have some
+-- parts in their hands
 abbrev pub owed_from : ℕ → List InodePart → ℕ → List CellState → List InodePart
 owed_from s in_hands ino [] = []
 owed_from s in_hands ino (cell ∷ cells) = owed_by s (of_inode ino in_hands) ino cell ++ owed_from s in_hands (ino + 1) cells
 
--- a snapshot holds by the records just what it holds by the logs and is neither current nor in a hand
+-- a snapshot holds by the records just what the logs owe it
 abbrev pub IsRecorded : List CellState → BookState → List InodePart → ℕ → Type 0
 IsRecorded cells book in_hands s = HaveSameParts (recorded_as s book) (owed_from s in_hands 0 cells)
 
--- each living snapshot does.
--- Records: for each living snapshot, each part stands among the records that it holds as often as the logs say.
--- Manifests and the deferred list count together. That is once if the snapshot holds the pair and the pair is
--- neither current nor in a hand, and else never.
+-- each living snapshot holds by the records just what the logs owe it.
+-- Manifests and the deferred list count together. A part is owed once if the snapshot holds its
+-- pair and the pair is neither current nor in a hand. Else it is not owed.
 abbrev pub AreRecorded : List CellState → BookState → List InodePart → Type 0
 AreRecorded cells book in_hands = All (IsRecorded cells book in_hands) (ids book.snaps)

@@ -11,14 +11,15 @@ use Rattle.nv_entry.specs.declared.item.Entry.{Entry}
 use Rattle.nv_entry.specs.declared.part.PartId.{PartId}
 use Rattle.nv_log.specs.Chain.{start_of}
 
--- WHICH PARTS of a cell's log are needed or pending, by number, and which are needed
+-- WHICH PARTS of a cell's log are needed or pending, by number
 abbrev pub retained_in : Retention → CellState → List Bool
 retained_in r cell = map (keeps r) (pairs cell.block (log_of cell))
 
+-- of each part of a log whether its pair is current or held by one of these snapshots
 abbrev pub needed_by : List ℕ → ℕ → List Entry → List Bool
 needed_by snapshots block log = map (is_needed snapshots) (pairs block log)
 
--- of each part whether its pair is current or held by a snapshot
+-- of each part of a cell's log whether its pair is current or held by one of these snapshots
 abbrev pub needed_in : List ℕ → CellState → List Bool
 needed_in snapshots cell = needed_by snapshots cell.block (log_of cell)
 
@@ -27,7 +28,7 @@ abbrev pub is_needed_from : List ℕ → ℕ → Option ℕ → Bool
 is_needed_from snapshots birth None = true
 is_needed_from snapshots birth (Some death) = list_any (λ (s : ℕ). nat_le birth s && nat_lt s death) snapshots
 
--- the list in which the parts of these names are marked too; a name that no part has marks none
+-- the flags where that of a part is set too, if its number is given
 abbrev pub with_number : Option ℕ → List Bool → List Bool
 with_number None parts = parts
 with_number (Some n) parts = slice_set parts n true
@@ -37,8 +38,7 @@ abbrev pub with_named : List Entry → List PartId → List Bool → List Bool
 with_named log [] parts = parts
 with_named log (id ∷ names) parts = with_named log names (with_number (number_named log id) parts)
 
--- for each entry whether one of its parts is marked.
--- An entry with one of them is valid.
+-- for each entry whether one of its parts is marked: such an entry is valid
 abbrev pub marked_entries : List Entry → List Bool → List Bool
 marked_entries [] parts = []
 marked_entries (e ∷ later) parts =

@@ -10,11 +10,12 @@ use Rattle.nv_entry.specs.declared.item.Entry.{Entry}
 abbrev pub own_size : CellState → ℕ
 own_size cell = size_now cell.block (log_of cell)
 
--- no page of a log lies past the size that it gives, and so of a cell's
+-- no page of a log lies past the size that it gives
 abbrev pub AreLogPagesWithin : ℕ → List Entry → Type 0
 AreLogPagesWithin block log =
     (page number : ℕ) → block_now block log page ≡ Some number → page < pages_for block (size_now block log)
 
+-- no page of a cell's file lies past its size
 abbrev pub ArePagesWithin : CellState → Type 0
 ArePagesWithin cell = AreLogPagesWithin cell.block (log_of cell)
 
@@ -24,9 +25,10 @@ AreZerosPast cell =
     (page place : ℕ) → own_size cell ≤ page * cell.block + place → slice_index_or (own_page cell page) place 0 ≡ 0
 
 -- THE FILE ENDS AT ITS SIZE.
--- To end at its size: of the file of a cell no page lies past its size, and no byte past it is another than 0.
--- Example: with blocks of 4 bytes a file of 5 bytes has the pages 0 and 1 at most, and the last three bytes of page
--- 1 are 0.
+-- Example: with blocks of 4 bytes a file of 5 bytes has the pages 0 and 1 at most, and the last
+-- three bytes of page 1 are 0.
 pub record EndsAtSize (cell : CellState) : Type 0 where
+  -- no page of the file lies past its size
   pub pages : ArePagesWithin cell
+  -- each byte of a page past the size is 0
   pub zeros : AreZerosPast cell

@@ -49,7 +49,7 @@ abbrev pub names_of : Option NamedNode → List BoundName
 names_of None = []
 names_of (Some node) = node.names
 
--- the slots that names lead to, those of one slot's node, and those of all
+-- the slots that names lead to
 abbrev pub slots_named : List BoundName → List ℕ
 slots_named names = map (λ (b : BoundName). b.to.ino) names
 
@@ -71,9 +71,11 @@ HasRoot slots = (is_node slots root ≡ true) × (is_directory (slot_at slots ro
 abbrev pub AreInDirectory : Slots → ℕ → Type 0
 AreInDirectory slots n = is_directory (slot_at slots n) ≡ false → names_of (slot_at slots n) ≡ []
 
--- the names of a slot's node stand in a directory, and each leads to a node
+-- the names of a slot's node
 pub record AreNames (slots : Slots) (n : ℕ) : Type 0 where
+  -- a node that is no directory has no names
   pub placed : AreInDirectory slots n
+  -- each name leads to a node
   pub lead : All (λ (b : BoundName). is_node slots b.to ≡ true) (names_of (slot_at slots n))
 
 -- names lead from the root to a slot through these directories, the last one first
@@ -85,13 +87,17 @@ IsReachedBy slots (dir ∷ above) n = (1 ≤ times n (leads slots dir)) × IsRea
 abbrev pub IsReached : Slots → ℕ → Type 0
 IsReached slots n = (above : List ℕ) × IsReachedBy slots above n
 
--- THE NODES FORM A TREE OF DIRECTORIES: the root is a directory that no name leads to, each name stands in a directory
--- and leads to a node, no two names to one, and each node is reached from the root
+-- THE NODES FORM A TREE OF DIRECTORIES
 pub record IsTree (slots : Slots) : Type 0 where
+  -- the root is a node, and a directory
   pub top : HasRoot slots
+  -- names stand in directories alone, and each leads to a node
   pub names : (n : ℕ) → AreNames slots n
+  -- no name leads to the root
   pub unnamed : times root.ino (all_leads slots) ≡ 0
+  -- no two names lead to one slot
   pub one : (n : ℕ) → times n (all_leads slots) ≤ 1
+  -- names lead from the root to each node
   pub reached : (n : ℕ) → is_used (slot_at slots n) ≡ true → IsReached slots n
 
 -- ---- what is found on the way

@@ -23,8 +23,8 @@ use Rattle.nv_audit.specs.Records.{AreRecorded, states_of}
 use Rattle.nv_audit.specs.declared.part_list.InodePart.{InodePart}
 use Rattle.nv_audit.specs.declared.pending.InHands.{InHands}
 
--- the numbers of its geometry, the cell of each inode, the free list of each CPU and the book; and of the hands of all
--- calls the blocks, and the parts that are killed or picked
+-- a device between two steps: what an audit compares.
+-- Room and reserves are not in it.
 pub record Device : Type 0 where
   -- the numbers of its geometry
   pub numbers : GeometryNumbers
@@ -39,12 +39,12 @@ pub record Device : Type 0 where
   -- the numbers of the blocks in hands
   pub blocks : List ℕ
 
--- that of these parts.
--- The device: what an audit is handed, without room and reserves. An `Audited` is seen as the device that was
--- judged. Example: a file of block 2 on a log page in block 1 is overwritten by block 3 under snapshot 1. Snapshot
--- 1 holds the Size and the page of the first Write. They are two records of its manifest. Used are 0, 1, 2 and 3.
--- With one record gone the audit answers `records`. With block 2 in a free list too it would answer `lists`. In
--- `nv_core`:
+-- the device of these parts: what an audit is handed, without room and reserves.
+-- An `Audited` is seen as the device that was judged.
+-- Example: a file of block 2 on a log page in block 1 is overwritten by block 3 under snapshot 1.
+-- Snapshot 1 holds the Size and the page of the first Write. They are two records of its manifest.
+-- Used are 0, 1, 2 and 3. With one record gone the audit answers `records`. With block 2 in a free
+-- list too it would answer `lists`.
 abbrev pub device_with : GeometryNumbers → List CellValue → List FreeBlocks → BookState → InHands → Device
 device_with numbers cells lists book hands = record {
   numbers = numbers;
@@ -59,17 +59,17 @@ device_with numbers cells lists book hands = record {
 abbrev pub IsCountedWith : List ℕ → List PartId → CellState → Type 0
 IsCountedWith snapshots pending cell = AreCounted (record { block = cell.block; snapshots = snapshots; pending = pending }) cell
 
--- so are those of each inode, where each slot has such a list
+-- the counts of each inode are those of its log, where `pending` has a list for each slot
 abbrev pub CountsAgreeWith : List ℕ → List (Vec PartId) → List CellState → Type 0
 CountsAgreeWith snapshots pending cells =
     (ino : ℕ) (default : CellState) → ino < length cells
     → IsCountedWith snapshots (parts_at pending ino) (slice_index_or cells ino default)
 
--- so they are where these records are deferred, and calls have these parts in their hands
+-- the counts of an inode are those of its log, with what is deferred and what is in hands
 abbrev pub IsCountedBy : List ℕ → List Record → List InodePart → ℕ → CellState → Type 0
 IsCountedBy snapshots deferred in_hands ino cell = AreCounted (retention_by snapshots deferred in_hands ino cell) cell
 
--- so are those of each inode
+-- the counts of each inode are those of its log, with what is deferred and what is in hands
 abbrev pub CountsAgreeBy : List ℕ → List Record → List InodePart → List CellState → Type 0
 CountsAgreeBy snapshots deferred in_hands cells =
     (ino : ℕ) (default : CellState) → ino < length cells → IsCountedBy snapshots deferred in_hands ino (slice_index_or cells ino default)
@@ -90,8 +90,8 @@ HasRecords d = AreRecorded d.cells d.book d.in_hands
 abbrev pub HasLists : Device → Type 0
 HasLists d = AreFree d.numbers d.lists (used_of d.cells d.book d.in_hands d.blocks)
 
--- EACH PART IS THAT OF THE SCAN; the index and the names of a cell are at all times.
--- The whole: all of them agree, or the first that differs, inode by inode for the first three.
+-- EACH PART IS THAT OF THE SCAN.
+-- The index and the names of a cell are so at all times.
 pub record Agrees (d : Device) : Type 0 where
   -- each inode's counts are those of its log
   pub counts : HasCounts d

@@ -8,7 +8,7 @@ use Rattle.nv_base.specs.declared.limits.TheConstants.{NAME_BYTES}
 abbrev pub same_name : List ℕ → List ℕ → Bool
 same_name a b = pointwise nat_eq a b
 
--- neither `/` nor NUL
+-- the byte may stand in a name: it is neither `/` nor NUL
 abbrev pub is_name_byte : ℕ → Bool
 is_name_byte byte = not (byte == 47) && not (byte == 0)
 
@@ -16,8 +16,7 @@ is_name_byte byte = not (byte == 47) && not (byte == 0)
 abbrev pub is_dots : List ℕ → Bool
 is_dots bytes = same_name bytes (codes ".") || same_name bytes (codes "..")
 
--- 1 to 255 bytes without `/` and NUL, and neither `.` nor `..`.
--- 1 to 255 bytes, none of them `/` or NUL, and not `.` or `..`.
+-- 1 to 255 bytes, none of them `/` or NUL, and not `.` or `..`
 abbrev pub is_lawful_name : List ℕ → Bool
 is_lawful_name bytes =
     nat_le 1 (length bytes) && nat_le (length bytes) NAME_BYTES && list_all is_name_byte bytes && not (is_dots bytes)

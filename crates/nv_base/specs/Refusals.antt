@@ -1,5 +1,6 @@
--- How a call fails: by which fault, and what it leaves. The clauses of a call that may fail are `ok` (what an
--- answer means), `err` (which fault comes, and when) and `same` (what a refusal leaves as it was).
+-- How a call fails: by which fault, and what it leaves.
+-- The clauses of a call that may fail are `ok` (what an answer means), `err` (which fault comes,
+-- and when) and `same` (what a refusal leaves as it was).
 use Rattle.std.specs.Prelude.{◌≡◌, ◌⊎◌, Result, Ok, Err, IfErr, IsOkUnless, OnErr}
 use Rattle.nv_base.specs.declared.fault.Fault.{Fault}
 use Rattle.nv_base.specs.Memory.{out_of_memory}

@@ -96,7 +96,6 @@ fault_fields (fault.BadImage first) = bracketed (image_fault_name first)
 fault_fields (fault.ScriptFault first line) = bracketed (decimal line ++ codes ", " ++ script_fault_name first)
 fault_fields _ = []
 
--- number, name and fields.
--- its number and name, and its fields in brackets where it has any.
+-- the text of a fault: its number and name, and its fields in brackets where it has any
 abbrev pub fault_text : Fault → List ℕ
 fault_text why = fault_name why ++ fault_fields why

@@ -6,14 +6,17 @@ use Rattle.nv_book.specs.declared.event.Event.TheVariants.{Committed, Made, Drop
 use Rattle.nv_epoch.specs.Holders.{IsRising, without}
 use Rattle.nv_epoch.specs.SnapList.{Snapshots, ids}
 
--- the epoch, the number of the last commit, and the living snapshots
+-- what events change
 pub record State : Type 0 where
+  -- the current epoch
   pub epoch : ℕ
+  -- the number of the last commit
   pub commit : ℕ
+  -- the numbers of the living snapshots, oldest first
   pub living : List ℕ
 
--- the event may come next: a commit has the next number and this epoch; a making closes this epoch, within the limit of
--- epochs and of living snapshots; a drop is of a living snapshot
+-- the event may come next. A commit has the next number and this epoch. A making closes this
+-- epoch, within the limits of epochs and of living snapshots. A drop is of a living snapshot.
 abbrev pub IsNext : ℕ → State → Event → Type 0
 IsNext most now (Committed seat number epoch) = (number ≡ now.commit + 1) × (epoch ≡ now.epoch)
 IsNext most now (Made s) = (s ≡ now.epoch) × (s < NUMBER) × (length now.living < most)
@@ -25,12 +28,14 @@ after now (Committed seat number epoch) = record now { commit = number }
 after now (Made s) = record now { epoch = s + 1; living = now.living ++ s ∷ [] }
 after now (Dropped s) = record now { living = without s now.living }
 
--- the numbers of the living snapshots rise, and lie below the epoch
+-- the living snapshots of a state are in order
 pub record IsOrdered (now : State) : Type 0 where
+  -- the numbers of the living snapshots rise
   pub rising : IsRising now.living
+  -- each of these numbers is below the epoch
   pub below_epoch : All (λ s. s < now.epoch) now.living
 
--- the number before the first that is not below it
+-- the numbers with one more, which stands before the first that is not below it
 abbrev pub put_back : ℕ → List ℕ → List ℕ
 put_back s [] = s ∷ []
 put_back s (t ∷ ts) = if nat_lt t s then t ∷ put_back s ts else s ∷ t ∷ ts
@@ -41,34 +46,31 @@ before now (Committed seat number epoch) = record now { commit = number - 1 }
 before now (Made s) = record now { epoch = s; living = without s now.living }
 before now (Dropped s) = record now { living = put_back s now.living }
 
--- the state before some events that led to this one.
--- Undone: the state before some events, by the state after them. Before a commit the last number was one less.
--- Before a snapshot was made it did not live, and the epoch was its number. Before one was dropped it stood in its
--- order.
+-- the state before some events that led to this one
 unfoldable pub undone : State → List Event → State
 undone now [] = now
 undone now (e ∷ es) = before (undone now es) e
 
--- a legal history: each event may come after those before it.
--- Legal history: after a base of epoch, commit number and living snapshots, each commit has the number after the
--- last and the epoch of then. The number of a snapshot that is made is the epoch that it closes, which is below 2
--- to the power of 62, where there is room for a snapshot. A snapshot that is dropped lives.
+-- a legal history from a base on: each event may come after those before it
 unfoldable pub IsLegal : ℕ → State → List Event → Type 0
 IsLegal most base [] = Unit {0}
 IsLegal most base (e ∷ es) = IsNext most base e × IsLegal most (after base e) es
 
--- what the events lead to
+-- the state that the events lead to from a base on
 unfoldable pub replay : State → List Event → State
 replay base [] = base
 replay base (e ∷ es) = replay (after base e) es
 
--- the base, and the latest events after it
+-- what a book tells of its past.
+-- Example: after 300 commits and nothing else the base has
+-- commit 44, and 256 commits stand after it.
 pub record Account : Type 0 where
+  -- the state before the latest events
   pub base : State
+  -- the latest events, oldest first
   pub latest : List Event
 
--- What it leads to: the base after all events. Example: after 300 commits and nothing else the base has commit 44,
--- and 256 commits stand after it.
+-- the state that an account leads to: its base after all its events
 abbrev pub now_of : Account → State
 now_of a = replay a.base a.latest
 
@@ -85,7 +87,7 @@ folded a = fold_first a a.latest
 abbrev pub longer : Account → Event → Account
 longer a e = record a { latest = a.latest ++ e ∷ [] }
 
--- one event more, with at most n after the base
+-- an account with one event more, of which at most `n` stand after the base
 abbrev pub noted : ℕ → Account → Event → Account
 noted n a e = if nat_lt (length a.latest) n then longer a e else folded (longer a e)
 
@@ -93,13 +95,13 @@ noted n a e = if nat_lt (length a.latest) n then longer a e else folded (longer 
 abbrev pub told : State → List Event → Account
 told now latest = record { base = undone now latest; latest = latest }
 
--- the latest events are legal after that base, and lead to the present state
+-- the latest events are a history of the present state
 pub record IsHistory (most : ℕ) (now : State) (latest : List Event) : Type 0 where
   -- the latest events are legal after the base
   pub legal : IsLegal most (undone now latest) latest
-  -- the base's snapshots rise, and are below its epoch
+  -- the base's living snapshots rise, and are below its epoch
   pub ordered : IsOrdered (undone now latest)
-  -- they lead to what is now
+  -- the latest events lead from the base to what is now
   pub leads : now_of (told now latest) ≡ now
 
 -- the state of a book

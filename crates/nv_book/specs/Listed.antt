@@ -1,5 +1,5 @@
--- The record list: one list of all recorded parts, in the order in which they came to their present holders. It tells
--- the manifests and the deferred list.
+-- The record list: one list of all recorded parts, in the order in which they came to their
+-- present holders. It tells the manifests and the deferred list.
 use Rattle.std.specs.Prelude.{◌≡◌, ℕ, ◌==◌, Bool, false, not, if◌then◌else◌, is_none, List, [], ◌∷◌, ◌++◌, map, filter, Option, Some, None}
 use Rattle.nv_book.specs.declared.manifest.Manifest.{Manifest}
 use Rattle.nv_book.specs.declared.record.Record.{Record}
@@ -10,11 +10,11 @@ abbrev pub is_snapshot : ℕ → Option ℕ → Bool
 is_snapshot s None = false
 is_snapshot s (Some t) = s == t
 
--- the records whose youngest living holder is s, all others, and those without a living holder
+-- the records whose youngest living holder is `s`
 abbrev pub kept_by : ℕ → List ℕ → List Record → List Record
 kept_by s living rs = filter (λ r. is_snapshot s (holder_of living r)) rs
 
--- the records that have another youngest holder, or none
+-- the records that have another youngest living holder than `s`, or none
 abbrev pub not_kept_by : ℕ → List ℕ → List Record → List Record
 not_kept_by s living rs = filter (λ r. not (is_snapshot s (holder_of living r))) rs
 
@@ -30,18 +30,17 @@ manifest_of s rs = record { snapshot = s; records = rs }
 abbrev pub manifest_told : List ℕ → List Record → ℕ → Manifest
 manifest_told living rs s = manifest_of s (kept_by s living rs)
 
--- each manifest has the records of the list that its snapshot is the youngest to hold, and the deferred list those that
--- no living one holds, all in the order of the list.
--- Record list: one list of records that tells all of these. A manifest has those of its records whose youngest
--- living holder is the manifest's snapshot, in its order, and the deferred list those without one. To retire puts a
--- record to its end, to drop moves the records of the dropped snapshot there in order, and to pick takes out the
+-- one list of records tells the manifests and the deferred records. To retire puts a record to its
+-- end. To drop moves the records of the dropped snapshot there, in order. To pick takes out the
 -- first without a living holder.
 pub record IsRecordList (living : List ℕ) (manifests : List Manifest) (deferred rs : List Record) : Type 0 where
+  -- each manifest has those whose youngest living holder is its snapshot, in the list's order
   pub manifests_are : manifests ≡ map (manifest_told living rs) living
+  -- the deferred ones are those that no living snapshot holds, in the list's order
   pub deferred_is : deferred ≡ unheld living rs
 
--- the manifests' records, oldest snapshot first.
--- The manifests' records, oldest snapshot first, with the deferred ones after them are such a list.
+-- the manifests' records, oldest snapshot first. With the deferred
+-- ones behind them they are a record list.
 abbrev pub all_records : List Manifest → List Record
 all_records [] = []
 all_records (m ∷ ms) = m.records ++ all_records ms

@@ -13,19 +13,23 @@ snapshots manifests = map (λ (m : Manifest). m.snapshot) manifests
 abbrev pub IsFiled : List ℕ → Manifest → Type 0
 IsFiled living m = AllByRecursion (λ r. holder_of living r ≡ Some m.snapshot) m.records
 
--- a manifest for each living snapshot; each record in that of its youngest living holder, or deferred if it has none.
--- Deferred list: those that no living snapshot holds.
+-- each record stands with its youngest living holder, or is deferred
 pub record AreFiled (living : List ℕ) (manifests : List Manifest) (deferred : List Record) : Type 0 where
+  -- there is a manifest for each living snapshot, in their order
   pub all : snapshots manifests ≡ living
+  -- each record of a manifest has its snapshot as the youngest living holder
   pub filed : AllByRecursion (IsFiled living) manifests
+  -- no living snapshot holds a deferred record
   pub unheld : AllByRecursion (λ r. holder_of living r ≡ None) deferred
 
--- every record died by that epoch
+-- each record died in that epoch or before
 pub record AreDead (epoch : ℕ) (manifests : List Manifest) (deferred : List Record) : Type 0 where
+  -- each record of a manifest died in that epoch or before
   pub filed : AllByRecursion (λ (m : Manifest). AllByRecursion (λ r. r.death ≤ epoch) m.records) manifests
+  -- each deferred record died in that epoch or before
   pub others : AllByRecursion (λ r. r.death ≤ epoch) deferred
 
--- the manifest of the snapshot s
+-- the records of the manifest of the snapshot `s`
 abbrev pub records_at : ℕ → List Manifest → List Record
 records_at s [] = []
 records_at s (m ∷ ms) = if m.snapshot == s then m.records else records_at s ms
@@ -51,12 +55,12 @@ after_drop s older manifests = put_to older (moved_down older (records_at s mani
 abbrev pub after_make : ℕ → List Manifest → List Manifest
 after_make s manifests = manifests ++ (record { snapshot = s; records = [] }) ∷ []
 
--- how many blocks a drop of s puts on the deferred list.
--- Gain of a snapshot: the blocks among its manifest's records that the next older snapshot does not hold.
+-- the gain of a snapshot: how many blocks its drop defers. They are those of its records that the
+-- next older snapshot does not hold.
 abbrev pub gain_of : ℕ → Option ℕ → List Manifest → ℕ
 gain_of s older manifests = block_count (let_go older (records_at s manifests))
 
--- the sum of what f says of each manifest's records
+-- the sum of what `f` says of each manifest's records
 abbrev pub total : (List Record → ℕ) → List Manifest → ℕ
 total f manifests = sum_by (λ (m : Manifest). f m.records) manifests
 

@@ -32,9 +32,9 @@ abbrev pub goes_on_in : Record → List Record → Bool
 goes_on_in a [] = false
 goes_on_in a (b ∷ bs) = goes_on a b
 
--- how many runs the records make: each record that the next one doesn't go on ends a run.
--- `run_count_of` counts the record runs of a list of records: each record that the next one does not go on ends
--- one. Example: pages 0, 1, 2, 3, 5 of an entry are two record runs.
+-- how many record runs a list of records makes: each record
+-- that the next one does not go on ends one.
+-- Example: pages 0, 1, 2, 3, 5 of an entry are two record runs.
 abbrev pub run_count_of : List Record → ℕ
 run_count_of [] = 0
 run_count_of (r ∷ rs) = (if goes_on_in r rs then 0 else 1) + run_count_of rs
@@ -44,18 +44,15 @@ abbrev pub is_born_by : Option ℕ → Record → Bool
 is_born_by None r = false
 is_born_by (Some s) r = nat_le r.birth s
 
--- of the records of a dropped snapshot, those that the next older one holds, which move down to it, and the others,
--- which are let go
+-- of the records of a dropped snapshot, those that the next older one holds: they move down to it
 abbrev pub moved_down : Option ℕ → List Record → List Record
 moved_down older rs = filter (λ r. is_born_by older r) rs
 
--- the records that the next older snapshot does not hold
+-- of the records of a dropped snapshot, those that the next older one does not hold
 abbrev pub let_go : Option ℕ → List Record → List Record
 let_go older rs = filter (λ r. not (is_born_by older r)) rs
 
--- the snapshot s holds the record's part.
--- A snapshot holds it where birth <= s < death. Manifest of a living snapshot: the records that it is the youngest
--- to hold.
+-- the snapshot `s` holds the record's part: birth <= s < death
 abbrev pub is_held_by : ℕ → Record → Bool
 is_held_by s r = holds r.birth r.death s
 

@@ -18,12 +18,12 @@ part_on n Bound = Bound
 abbrev pub record_on : ℕ → Record → Record
 record_on n r = record r { part = part_on n r.part }
 
--- so many more records after r, each of the next page
+-- the record `r`, and so many more after it, each of the next page
 unfoldable pub series : ℕ → Record → List Record
 series zero r = r ∷ []
 series (suc n) r = r ∷ series n (record_on 1 r)
 
--- a part that isn't a page stands alone, and the greatest page is below 2 ^ 32
+-- so many more parts may follow one in a run: pages follow a page, each below 2^32, and else none
 abbrev pub PageRun : ℕ → Part → Type 0
 PageRun more (Page p) = p + more < 2 ^ 32
 PageRun more Kind = more ≡ 0
@@ -31,8 +31,9 @@ PageRun more Mode = more ≡ 0
 PageRun more Size = more ≡ 0
 PageRun more Bound = more ≡ 0
 
--- Record run: neighbours of one inode, entry, birth and death with rising consecutive pages are stored as one.
+-- records of one inode, entry, birth and death with rising consecutive pages, stored as one run
 pub record IsRun (r : RecordRun) : Type 0 where
+  -- a part that is no page stands alone, and each page is below 2^32
   pub pages : PageRun r.more r.first.part
 
 -- the records of a run, in order
@@ -66,12 +67,12 @@ abbrev pub joins_in : RecordRun → List RecordRun → Bool
 joins_in r [] = false
 joins_in r (s ∷ rs) = joins r s
 
--- runs, of which no two neighbours are one
+-- runs of which no two neighbours are one
 unfoldable pub AreRuns : List RecordRun → Type 0
 AreRuns [] = Unit {0}
 AreRuns (r ∷ rs) = IsRun r × (joins_in r rs ≡ false) × AreRuns rs
 
--- the same of runs that follow one that was begun, if there is one
+-- the run that was begun, if there is one, and runs behind it of which no two neighbours are one
 abbrev pub AreLeft : Option RecordRun → List RecordRun → Type 0
 AreLeft None runs = AreRuns runs
 AreLeft (Some run) runs = IsRun run × AreRuns runs
@@ -92,7 +93,7 @@ joins_last (r ∷ q ∷ rs) s = joins_last (q ∷ rs) s
 abbrev pub rest_of : RecordRun → RecordRun
 rest_of r = record { first = record_on 1 r.first; more = r.more - 1 }
 
--- how many blocks a run has
+-- how many blocks the records of a run have
 abbrev pub pages_of : RecordRun → ℕ
 pages_of r = if is_page r.first.part then r.more + 1 else 0
 

@@ -39,9 +39,7 @@ looked nodes (call.Rmdir dir name) = record { first = found nodes dir name; seco
 looked nodes (call.Rename from old to new) = record { first = found nodes from old; second = found nodes to new }
 looked nodes other = record { first = None; second = None }
 
--- why a call is refused at a look: the tests of its first name.
--- The tests of the first name are those of `look` too. That numbers, blocks or commit numbers run out is decided
--- elsewhere.
+-- why a call is refused at its first look: by the tests of its first name
 abbrev pub look_refusal : (Handle → Option NodeCopy) → Call → Check
 look_refusal nodes (call.Unlink dir name) = lookup_refusal nodes dir name
 look_refusal nodes (call.Rmdir dir name) = lookup_refusal nodes dir name
@@ -50,16 +48,14 @@ look_refusal nodes other = passes
 
 -- ---- the check
 
--- the tests that stand before names are compared with what the looks found.
--- First come those that stand before names are compared with what `look` found, then those of what the names lead
--- to.
+-- the tests of a check that stand before its names are compared with what the looks found
 abbrev pub early : (Handle → Option NodeCopy) → Call → Check
 early nodes (call.Unlink dir name) = lookup_refusal nodes dir name
 early nodes (call.Rmdir dir name) = lookup_refusal nodes dir name
 early nodes (call.Rename from old to new) = rename_early nodes from old to new
 early nodes other = passes
 
--- and those behind it, by what the names lead to
+-- the tests of a check that stand behind that comparison, by what the names lead to
 abbrev pub late : ℕ → (Handle → Option NodeCopy) → LookupResult → Call → Check
 late block nodes looked (call.Create dir name mode) = create_refusal nodes dir name
 late block nodes looked (call.Mkdir dir name mode) = mkdir_refusal nodes dir name
@@ -75,15 +71,15 @@ late block nodes looked (call.Unlink dir name) = unlink_late nodes looked.first
 late block nodes looked (call.Rmdir dir name) = rmdir_late nodes looked.first
 late block nodes looked (call.Rename from old to new) = rename_late nodes from old to new looked
 
--- why a call is refused.
--- Refusal: the first of its tests that fails, by the nodes at `check`.
+-- why a call is refused: the first of its tests that fails, by the nodes at `check`.
+-- That inode numbers, blocks or commit numbers run out is decided elsewhere.
 abbrev pub refusal : ℕ → (Handle → Option NodeCopy) → Call → Check
 refusal block nodes c = and_then (early nodes c) (late block nodes (looked nodes c) c)
 
 -- ---- effect and answer
 
--- what a commit changes, where a new inode has the handle `made`.
--- Effect: a list of changes, each of the node under a handle. No changes make no commit.
+-- what a commit changes, where a new inode has the handle `made`: each change is of one handle.
+-- A call without a change makes no commit.
 abbrev pub effect : (Handle → Option NodeCopy) → Handle → Call → List Change
 effect nodes made (call.Create dir name mode) = create_effect dir name mode made
 effect nodes made (call.Mkdir dir name mode) = mkdir_effect dir name mode made
@@ -114,8 +110,8 @@ is_empty [] = true
 is_empty (byte ∷ rest) = false
 
 -- a call that commits nothing, where it is not refused.
--- A call of nothing has neither effect nor plan: a read, a write of no bytes, a rename onto its own place. Of
--- plans:
+-- Such are a call that only reads, a write of no bytes, and a rename onto its own place. So are
+-- calls on snapshots and cleaners, which have no effect on nodes.
 abbrev pub is_nothing : Call → Bool
 is_nothing (call.Create dir name mode) = false
 is_nothing (call.Mkdir dir name mode) = false
@@ -127,12 +123,12 @@ is_nothing (call.Rmdir dir name) = false
 is_nothing (call.Rename from old to new) = own_place from old to new
 is_nothing other = true
 
--- for a size whether the page that it ends in is present
+-- whether a file has the page that its new size ends in; false for other calls
 abbrev pub ends_in_page : (Handle → ℕ → Bool) → ℕ → Call → Bool
 ends_in_page has_page block (call.Size file size) = nat_lt (size / block) FILE_PAGES && has_page file (size / block)
 ends_in_page has_page block other = false
 
--- the same by the logs of slots
+-- whether a file's log has a block for the page that its new size ends in; false for other calls
 abbrev pub present_in : ℕ → (ℕ → InodeSlot) → Call → Bool
 present_in block slots (call.Size file size) = is_some (block_now block (slots file.ino).log (size / block))
 present_in block slots other = false
@@ -144,8 +140,7 @@ blocks_wanted block nodes present (call.Size file size) = size_blocks block node
 blocks_wanted block nodes present other = 0
 
 -- the items that a call appends, inode by inode.
--- Plan: the same inodes with the items that are appended to their logs. `Allocation` has what was taken: the handle
--- of a new inode and the fresh block runs.
+-- `Allocation` has what was taken for it: the handle of a new inode, and the fresh block runs.
 abbrev pub plan : ℕ → (Handle → Option NodeCopy) → Allocation → Call → List InodePlan
 plan block nodes taken (call.Create dir name mode) = create_plan dir name mode taken.made
 plan block nodes taken (call.Mkdir dir name mode) = mkdir_plan dir name mode taken.made
@@ -157,22 +152,27 @@ plan block nodes taken (call.Rmdir dir name) = leave_plan dir name (found nodes 
 plan block nodes taken (call.Rename from old to new) = rename_plan from old to new (looked nodes (call.Rename from old to new))
 plan block nodes taken other = []
 
--- a call that commits nothing has no effect and no plan, and any other has both
+-- `is_nothing` tells whether a call commits something
 pub record IsToldNothing (block : ℕ) (nodes : Handle → Option NodeCopy) (taken : Allocation) (c : Call) : Type 0 where
+  -- a call of nothing changes no node
   pub no_effect : is_nothing c ≡ true → effect nodes taken.made c ≡ []
+  -- a call of nothing appends to no log
   pub no_plan : is_nothing c ≡ true → plan block nodes taken c ≡ []
+  -- any other call changes a node
   pub some_effect : is_nothing c ≡ false → 0 < length (effect nodes taken.made c)
+  -- any other call appends to a log
   pub some_plan : is_nothing c ≡ false → 0 < length (plan block nodes taken c)
 
--- maximal runs of blocks, which have the pages that a text touches after the write
+-- the block runs that a write has taken and filled
 pub record HasPages (bytes : ℕ → List ℕ) (block : ℕ) (taken : Allocation) (offset : ℕ) (text before : List ℕ) : Type 0 where
+  -- each run has a block, and none goes on where the one before it ends
   pub maximal : AreMaximal taken.runs
+  -- where the text has a byte, the blocks have its pages as they are after the write
   pub filled : 0 < length text → HaveText bytes block offset text before (blocks_of taken.runs)
 
 -- what was taken is what the call needs, and the fresh blocks are filled.
--- What a call needs taken: an empty inode slot for a new inode; for a write maximal block runs that are filled with
--- the pages after it; for a size that cuts a page a block with it after the cut, where the log tells whether there
--- is a page.
+-- A new inode needs an empty inode slot. A write needs maximal block runs, filled with its pages
+-- as they are afterwards. A size that cuts a page needs a block with what is left of it.
 abbrev pub IsReady : (ℕ → List ℕ) → ℕ → (ℕ → InodeSlot) → (Handle → Option NodeCopy) → Allocation → Call → Type 0
 IsReady bytes block slots nodes taken (call.Create dir name mode) = IsFree slots taken.made
 IsReady bytes block slots nodes taken (call.Mkdir dir name mode) = IsFree slots taken.made

@@ -26,8 +26,9 @@ same_found (Some handle) (Some other) = same_handle handle other
 abbrev pub same_looked : LookupResult → LookupResult → Bool
 same_looked now before = same_found now.first before.first && same_found now.second before.second
 
--- how a check ends a call, if it does: by the tests before the names are compared with what the looks found; by a name
--- that was bound anew; by the other tests; for want of a number; or since there is nothing to commit
+-- how a check ends a call, if it does.
+-- The tests before the names are compared come first, then a name that was bound anew, and then
+-- the other tests. Want of an inode number comes next, and last that there is nothing to commit.
 abbrev pub check_ends : Check → Bool → Check → Bool → Bool → Option CheckEnd
 check_ends (Err fault) same tests numbered nothing = Some (ends.Refuses fault)
 check_ends (Ok passed) false tests numbered nothing = Some ends.BoundAnew
@@ -42,7 +43,7 @@ ends_over block nodes before numbered u =
     check_ends (early nodes (blank_call u)) (same_looked (looked nodes (blank_call u)) before) (late block nodes before (blank_call u))
     (numbered || not (makes u)) (is_nothing (blank_call u))
 
--- the refusal that this is, where a call that is overtaken may not look again
+-- the refusal by which a check ends, where a name that was bound anew is refused `Contended`
 abbrev pub refusal_by : Option CheckEnd → Check
 refusal_by None = passes
 refusal_by (Some (ends.Refuses fault)) = Err fault
@@ -51,9 +52,8 @@ refusal_by (Some ends.Answers) = passes
 
 -- ---- its refusals
 
--- why a call is refused, by its nodes and for want of a number, where its names lead to what its looks found.
--- How `check` ends: where the names of a call lead to what `look` found, by `check_refusal`. That is the plain
--- world's refusal, then `NoInode` for a call that makes an inode and has no number.
+-- why a call is refused at its check, where its names lead to what its looks found.
+-- The plain world's refusal comes first, then `NoInode` for a new inode without a number.
 abbrev pub check_refusal : ℕ → (Handle → Option NodeCopy) → Option ℕ → Update → Check
 check_refusal block nodes number u =
     and_then (refusal block nodes (blank_call u)) (refuse_if (makes u && not (is_some number)) fault.NoInode passes)

@@ -48,7 +48,7 @@ page_with block offset text page old =
 abbrev pub cut_page : ℕ → ℕ → List ℕ → List ℕ
 cut_page block place old = take place old ++ replicate (block - place) 0
 
--- the same pages by those of the file before
+-- the bytes of a call's fresh pages, each made of the page that the file had before
 abbrev pub pages_over : ℕ → (Handle → ℕ → List ℕ) → Call → List (List ℕ)
 pages_over block old (call.Write file offset text) =
     map (λ page. page_with block offset text page (old file page))
@@ -56,11 +56,11 @@ pages_over block old (call.Write file offset text) =
 pages_over block old (call.Size file size) = cut_page block (size % block) (old file (size / block)) ∷ []
 pages_over block old other = []
 
--- the block that a cell has for a page of a file, and its bytes: zeros where there is none
+-- the block that the cells have for a page of a file, if they have one
 abbrev pub block_for : List (ℕ × CellValue) → Handle → ℕ → Option BlockValue
 block_for cells file page = option_and_then (λ c. block_at_page c.state page) (cell_of cells file.ino)
 
--- the bytes of a file's page, by the block that the cells have for it
+-- the bytes of a file's page by the block that the cells have for it; zeros where they have none
 abbrev pub page_in : List (ℕ × CellValue) → ℕ → Handle → ℕ → List ℕ
 page_in cells block file page = slot_bytes block (block_for cells file page)
 
@@ -74,15 +74,15 @@ filled_by cells byte_at u queue = filled (pages_over queue.size (page_in cells q
 
 -- ---- what a source is asked
 
--- for one page: the place in the text of the part that lies in it, and its bytes
+-- what a source is asked for one page: from which place of the text on, and how many bytes
 abbrev pub ask_for : ℕ → ℕ → ℕ → ℕ → ℕ × ℕ
 ask_for block offset count page = let at = page * block - offset in (at, min (block - (offset - page * block)) (count - at))
 
--- for the first pages that a text touches, one after another
+-- what a source is asked for the first pages that a text touches, one after another
 abbrev pub asks_of : ℕ → ℕ → ℕ → ℕ → List (ℕ × ℕ)
 asks_of block offset count pages = map (ask_for block offset count) (range_with_len (offset / block) pages)
 
--- by a call that fills so many blocks
+-- what a source is asked by a call that fills so many blocks
 abbrev pub asks_by : ℕ → Update → ℕ → List (ℕ × ℕ)
 asks_by block (update.Write file offset count) pages = asks_of block offset count pages
 asks_by block other pages = []
@@ -91,19 +91,28 @@ asks_by block other pages = []
 
 -- a call passed its check over these cells, and these are the blocks that it takes
 pub record CanFill (cells : List (ℕ × CellValue)) (u : Update) (blocks : QueueValue) : Type 0 where
+  -- there are at most four cells
   pub few : length cells ≤ 4
+  -- a block has at least one byte
   pub some_bytes : 0 < blocks.size
+  -- a block has at most `BLOCK_BYTES` bytes
   pub few_bytes : blocks.size ≤ BLOCK_BYTES
+  -- the blocks of each cell are of that size
   pub sizes : AllByRecursion (λ c. c.1.state.block ≡ blocks.size) cells
+  -- the call passes its check over the nodes of the cells
   pub passed : refusal blocks.size (nodes_in cells) (blank_call u) ≡ passes
+  -- there are as many blocks as the call takes
   pub count : length blocks.blocks ≡ blocks_taken blocks.size (nodes_in cells) (has_page_in cells) u
 
--- the same queue but for the bytes of its blocks
+-- two queues whose blocks may differ in their bytes, and in nothing else
 pub record HasOtherBytes (old new : QueueValue) : Type 0 where
+  -- the blocks have the same numbers, in the same order
   pub numbers : numbers_of new.blocks ≡ numbers_of old.blocks
+  -- the blocks are of the same size as before
   pub size : new.size ≡ old.size
+  -- there is as much room for more blocks
   pub room : new.room ≡ old.room
 
--- what is ready, with other blocks for its pages
+-- what is ready, with these data blocks in its hand
 abbrev pub with_blocks : QueueValue → ReadyValue → ReadyValue
 with_blocks queue ready = record ready { hand = record ready.hand { «data» = queue } }

@@ -9,13 +9,15 @@ use Rattle.nv_cell.specs.Effects.{BindOne}
 use Rattle.nv_calls.specs.declared.plan.InodePlan.{InodePlan}
 use Rattle.nv_calls.specs.Refusals.{kind_of}
 
--- a plan has lawful items for each inode, no more than a write can have pages, which bind no more than one name
+-- the log of an inode can take the items of its plan
 pub record IsLawfulFor (block : ℕ) (nodes : Handle → Option NodeCopy) (p : InodePlan) : Type 0 where
+  -- each item is lawful for the kind that the node and the items before it give
   pub lawful : AreLawful block p.items (kind_of (nodes p.handle))
+  -- the items bind at most one name, which none of them takes out before
   pub one : BindOne p.items
+  -- there are at most as many items as a write can have pages
   pub few : length p.items ≤ WRITE_PAGES
 
--- A plan is lawful where the log of each inode can take its items, one after another, by the kind of its node and
--- within the limits of a file. They bind one name at most.
+-- the log of each inode can take the items that a plan has for it
 abbrev pub IsLawfulPlan : ℕ → (Handle → Option NodeCopy) → List InodePlan → Type 0
 IsLawfulPlan block nodes plan = AllByRecursion (IsLawfulFor block nodes) plan

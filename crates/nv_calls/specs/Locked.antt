@@ -40,8 +40,7 @@ handles looked (call.Unlink dir name) = dir ∷ if_any looked.first
 handles looked (call.Rmdir dir name) = dir ∷ if_any looked.first
 handles looked (call.Rename from old to new) = from ∷ to ∷ if_any looked.first ++ if_any looked.second
 
--- the handles that a call locks.
--- It locks these and that of a new inode, whose number is taken before.
+-- the handles that a call locks: those that it reads, and that of a new inode
 abbrev pub locks : LookupResult → Handle → Call → List Handle
 locks looked made c = handles_made_by made c ++ handles looked c
 
@@ -56,31 +55,42 @@ first_look other = []
 abbrev pub Agree : {A : Type 0} → (Handle → A) → (Handle → A) → List Handle → Type 0
 Agree nodes other list = AllByRecursion (λ (handle : Handle). other handle ≡ nodes handle) list
 
--- a call is the same in both
+-- a call is the same in two plain worlds
 pub record SameCall (block : ℕ) (nodes other : Handle → Option PlainNode) (taken : Allocation) (c : Call) : Type 0 where
+  -- its looks find the same
   pub found : looked (node_in other) c ≡ looked (node_in nodes) c
+  -- its tests before the comparison of names say the same
   pub early : early (node_in other) c ≡ early (node_in nodes) c
+  -- it is refused alike, or passes in both
   pub refusal : refusal block (node_in other) c ≡ refusal block (node_in nodes) c
+  -- it changes the same
   pub effect : effect (node_in other) taken.made c ≡ effect (node_in nodes) taken.made c
+  -- it appends the same items
   pub plan : plan block (node_in other) taken c ≡ plan block (node_in nodes) taken c
+  -- it is answered the same
   pub answer : answer other taken.made c ≡ answer nodes taken.made c
+  -- it reads under the same handles
   pub handles : handles (looked (node_in other) c) c ≡ handles (looked (node_in nodes) c) c
+  -- it takes the same number of data blocks
   pub wanted : (present : Bool) → blocks_wanted block (node_in other) present c ≡ blocks_wanted block (node_in nodes) present c
 
--- a plan is of handles that the call locks, and uses the blocks taken alone; none where it is of several inodes
+-- a plan keeps to what its call locks and takes
 pub record KeepsToIts (nodes : Handle → Option NodeCopy) (c : Call) (taken : Allocation) (plan : List InodePlan) : Type 0 where
+  -- each plan is of a handle that the call locks
   pub handles : AllByRecursion (λ (p : InodePlan). Contains (locks (looked nodes c) taken.made c) p.handle) plan
+  -- the items put pages in all blocks that were taken, or in none
   pub blocks : (plan_blocks plan ≡ blocks_of taken.runs) ⊎ (plan_blocks plan ≡ [])
+  -- a plan of two inodes or more uses no block
   pub several : 1 < length plan → plan_blocks plan ≡ []
 
 -- ---- slots
 
--- numbers in rising order, each once
+-- a rising list of numbers with one more, which stands there once
 abbrev pub with_slot : ℕ → List ℕ → List ℕ
 with_slot n [] = n ∷ []
 with_slot n (m ∷ slots) = if n == m then m ∷ slots else if nat_lt n m then n ∷ m ∷ slots else m ∷ with_slot n slots
 
--- the slots of these inode numbers, of which there are so many; a number out of range has none
+-- the inode slots of these numbers, where so many are there; a number out of range has none
 abbrev pub slots_in : ℕ → List ℕ → List ℕ
 slots_in inodes [] = []
 slots_in inodes (ino ∷ rest) = if nat_lt ino inodes then with_slot ino (slots_in inodes rest) else slots_in inodes rest

@@ -18,7 +18,7 @@ directories (call.Rmdir dir name) = dir ∷ []
 directories (call.Rename from old to new) = if same_handle from to then from ∷ [] else from ∷ to ∷ []
 directories other = []
 
--- the directory of a look, and the node that a visit reads
+-- the handle at a place of a list: the directory of a look, or the node that a visit reads
 abbrev pub handle_at : List Handle → ℕ → Handle
 handle_at list place = slice_index_or list place root
 
@@ -26,7 +26,8 @@ handle_at list place = slice_index_or list place root
 abbrev pub nothing_looked : LookupResult
 nothing_looked = record { first = None; second = None }
 
--- one directory's look finds both names; of two, each its own
+-- what the looks have found after one more. A look at the only directory finds both names, and of
+-- two directories each finds its own.
 abbrev pub seen_at : List Handle → ℕ → LookupResult → LookupResult → LookupResult
 seen_at (dir ∷ other ∷ rest) zero now before = record { first = now.first; second = None }
 seen_at (dir ∷ other ∷ rest) (suc place) now before = record { first = before.first; second = now.second }

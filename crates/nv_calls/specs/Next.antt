@@ -7,16 +7,17 @@ use Rattle.nv_cell.specs.Cell.{CellState, CellValue}
 use Rattle.nv_calls.specs.declared.stamp.Stamp.{Stamp}
 use Rattle.nv_calls.specs.Cells.{ino_at, state_at}
 
--- no entry of a cell is of a later commit or epoch than these; each commit published it once at most, and it was
--- published so often before the first of them; and the generation of an inode is not the last.
--- Between two calls a cell is up to a commit: no entry is of a later commit or epoch, and its version is at most
--- that commit's number, and what it was before the first.
+-- a cell is up to a commit and an epoch; `before` is its version before the first commit
 pub record IsUpTo (stamp : Stamp) (before : ℕ) (cell : CellState) : Type 0 where
+  -- the last entry is of no later commit
   pub commit : ForSome (last_id cell.chain) (λ last. last.commit ≤ stamp.commit)
+  -- the last entry is of no later epoch
   pub epoch : ForSome (last_epoch cell.chain) (λ last. last ≤ stamp.epoch)
+  -- the version rose by one a commit at most, from `before` on
   pub version : cell.version ≤ stamp.commit + before
+  -- a slot with an entry is not of the last generation
   pub generation : 0 < length cell.chain.entries → cell.generation < NUMBER
 
--- so are all cells, each by how often the slot of that number was published before the first commit
+-- each cell is up to that commit and epoch; `before` gives each slot's version before the first
 abbrev pub AreUpTo : Stamp → (ℕ → ℕ) → List (ℕ × CellValue) → Type 0
 AreUpTo stamp before cells = (k : ℕ) → k < length cells → IsUpTo stamp (before (ino_at cells k)) (state_at cells k)

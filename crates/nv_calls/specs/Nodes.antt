@@ -66,23 +66,23 @@ copies_by bytes cells = node_in (nodes_by bytes cells)
 abbrev pub view_refusal : (ℕ → List ℕ) → ℕ → CellValue → Call → Check
 view_refusal bytes ino cell c = refusal cell.state.block (copies_by bytes (alone ino cell)) c
 
--- a view of a call that passes, over these nodes: it has the call, what they answer, and the version of the cell
+-- a view of a call that passes, over these nodes
 pub record IsViewOver (nodes : Handle → Option PlainNode) (cell : CellState) (c : Call) (view : View) : Type 0 where
+  -- the call passes its tests by these nodes
   pub passes : refusal cell.block (node_in nodes) c ≡ passes
+  -- the view has the call
   pub call : view.call ≡ c
+  -- the view has what these nodes answer
   pub found : (made : Handle) → view.found ≡ answer nodes made c
+  -- the view has the version of the cell: how many of its commits were published
   pub version : view.version ≡ cell.version
 
--- What a call that only reads finds is told by one cell with its number: a handle of another number has no node
--- there. Examples, with a root 0.1: A rename of `x` in 1.1 to `x` in the root, bound to 2.1, changes 1.1, where the
--- name leaves, and then the root, where the name goes last. Its plan is Unbind{x} for 1.1 and Bind{x, 2.1} for 0.1.
--- A size of 5 for a file of 10 bytes takes one block for page 1, which gets the byte at 4 and three zeros. It plans
--- Write{first 1, that block, size 5} and then SetSize{5}. A size of 12 afterwards plans SetSize{12} alone. Blocks
--- 3, 4, 7, 8, 2 are the block runs 3 to 4, 7 to 8 and 2.
+-- a view of a call over one cell with its inode number, where `bytes` gives those of a block.
+-- A handle of another number has no node there.
 abbrev pub IsView : (ℕ → List ℕ) → ℕ → CellValue → Call → View → Type 0
 IsView bytes ino cell c view = IsViewOver (nodes_by bytes (alone ino cell)) cell.state c view
 
--- by the bytes of the cell's own blocks
+-- a view of a call over one cell with its inode number, by the bytes of the cell's own blocks
 abbrev pub IsOwnView : ℕ → CellValue → Call → View → Type 0
 IsOwnView ino cell c view = IsViewOver (plain_nodes (alone ino cell)) cell.state c view
 
@@ -97,10 +97,13 @@ slot_by (Some c) = slot_of c.state
 abbrev pub slots_by : List (ℕ × CellValue) → ℕ → InodeSlot
 slots_by cells ino = slot_by (cell_of cells ino)
 
--- a cell has blocks of that size, with these bytes
+-- a cell whose blocks have these bytes
 pub record HasBytes (bytes : ℕ → List ℕ) (block : ℕ) (cell : CellState) : Type 0 where
+  -- the cell is whole, as each cell is at all times
   pub is : IsCell cell
+  -- its blocks have `block` bytes
   pub size : cell.block ≡ block
+  -- `bytes` gives for the number of each of its blocks what this block has
   pub are : AreBytesOf cell bytes
 
 -- each cell's blocks have these bytes

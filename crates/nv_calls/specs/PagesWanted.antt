@@ -16,13 +16,13 @@ pages_wanted cells plan = sum_by (pages_needed plan) cells
 
 -- ---- entries
 
--- how many each inode of a plan gets, at three places, of which those that are left have none
+-- how many entries each inode of a plan gets, at three places; those that are left have none
 abbrev pub entry_counts : List InodePlan → List (ℕ × ℕ)
 entry_counts plan = take 3 (map (λ p. (p.handle.ino, length p.items)) plan ++ replicate 3 (0, 0))
 
 -- ---- runs
 
--- whether a number goes on with a run that would go on with another
+-- a number goes on with a run, where that run would go on with this one
 abbrev pub goes_on : Option ℕ → ℕ → Bool
 goes_on None n = false
 goes_on (Some next) n = next == n

@@ -6,10 +6,11 @@ use Rattle.nv_entry.specs.declared.names.BoundName.{BoundName}
 use Rattle.nv_entry.specs.declared.node.NodeCopy.{NodeCopy}
 use Rattle.nv_entry.specs.Sound.{empty_node}
 
--- a node, and the commit that changed it last.
--- Plain node: kind, mode, size, bytes or list of names, and the commit that changed it last.
+-- a node of the plain world
 pub record PlainNode : Type 0 where
+  -- kind, mode, size, bytes and names
   pub node : NodeCopy
+  -- the number of the commit that changed it last
   pub changed : ℕ
 
 -- the two handles are one
@@ -44,12 +45,14 @@ with_names f before = option_map (λ (n : NodeCopy). record n { names = f n.name
 
 -- ---- effects
 
--- a change of the node under a handle
+-- what a commit does to one node
 pub record Change : Type 0 where
+  -- the handle of the node
   pub handle : Handle
+  -- what becomes of the node that stood there; `None` stands for no node
   pub becomes : Option NodeCopy → Option NodeCopy
 
--- a change of the node under a handle
+-- the change of the node under a handle
 abbrev pub change : Handle → (Option NodeCopy → Option NodeCopy) → Change
 change handle becomes = record { handle = handle; becomes = becomes }
 

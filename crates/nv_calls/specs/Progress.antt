@@ -4,15 +4,15 @@ use Rattle.nv_calls.specs.Commit.{CommitValue}
 use Rattle.nv_calls.specs.declared.progress.CommitStep.{CommitStep}
 use Rattle.nv_calls.specs.declared.progress.CommitStep.TheVariants.{Append, Close, Leave, Open, Publish, Retire}
 
--- its journal is open
+-- the commit has a journal open
 abbrev pub is_open : CommitValue → Bool
 is_open commit = is_some commit.journal
 
--- the journal is to be opened: two or more inodes get entries, and none of them is published
+-- the commit has yet to open its journal: it is of two inodes or more, and none is published
 abbrev pub opens : CommitValue → Bool
 opens commit = nat_lt 1 (length commit.plans) && (commit.published == 0) && not (is_open commit)
 
--- the step that comes next
+-- the step of a commit that comes next
 abbrev pub step_of : CommitValue → CommitStep
 step_of commit =
     if nat_lt commit.appended (length commit.plans) then Append

@@ -11,19 +11,26 @@ use Rattle.nv_journal.specs.declared.old_tail.OldTail.{OldTail}
 use Rattle.nv_calls.specs.declared.update.Update.{Update}
 use Rattle.nv_calls.specs.Cells.{ino_at, state_at}
 
--- for one of the call's cells, by its place: the items to append to its log, and the parts that their publish killed
+-- what a commit does to one of the call's cells
 pub record CellCommitValue : Type 0 where
+  -- the place of the cell among the call's cells
   pub at : ℕ
+  -- the items that are yet to be appended to its log
   pub items : List Item
+  -- the parts that their publish killed and that are yet to be retired
   pub killed : List KilledPart
 
--- the call; the handle of a new inode; the plans by rising place of their cells; what the call holds; and for how many
--- records its commit needs room
+-- a call that is ready: its growths are made, and its blocks are taken
 pub record ReadyValue : Type 0 where
+  -- the call
   pub update : Update
+  -- the handle of the inode that the call makes, if it makes one
   pub made : Option Handle
+  -- what is appended, cell by cell, by rising place of the cells
   pub plans : List CellCommitValue
+  -- the data blocks and log pages of the call, and the number of a new inode
   pub hand : Hand
+  -- for how many records the commit needs room in the book
   pub need : ℕ
 
 -- a plan of nothing
@@ -34,9 +41,11 @@ no_plan = record { at = 0; items = []; killed = [] }
 abbrev pub plan_at : List CellCommitValue → ℕ → CellCommitValue
 plan_at plans j = slice_index_or plans j no_plan
 
--- the plans are of cells of the call, by rising place
+-- where the cells of plans stand
 pub record ArePlaced (cells : List (ℕ × CellValue)) (plans : List CellCommitValue) : Type 0 where
+  -- each plan is of a cell of the call
   pub within : (j : ℕ) → j < length plans → (plan_at plans j).at < length cells
+  -- the plans stand by rising place, no two of one cell
   pub rising : AllPairs (λ a b. a.at < b.at) plans
 
 -- ---- what the journal notes
@@ -55,8 +64,6 @@ old_tails cells plans = map (old_tail cells) plans
 abbrev pub kills_of : List (ℕ × CellValue) → CellCommitValue → ℕ
 kills_of cells plan = weights_in (state_at cells plan.at).block (log_of (state_at cells plan.at)) plan.items
 
--- for how many records a commit needs room in the book.
--- Book and hand have room for as many parts as the commit may kill. A number in the hand is that of the inode that
--- is made, and then two inodes are written.
+-- for how many records a commit needs room in the book: one for each part that it may kill
 abbrev pub need_of : List (ℕ × CellValue) → List CellCommitValue → ℕ
 need_of cells plans = sum_by (kills_of cells) plans

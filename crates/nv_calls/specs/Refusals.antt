@@ -50,7 +50,7 @@ abbrev pub and_then_of : Result Handle Fault → (Handle → Check) → Check
 and_then_of (Ok to) next = next to
 and_then_of (Err fault) next = Err fault
 
--- the first of these tests that fails refuses
+-- a check that refuses where a test says so, and else goes on
 abbrev pub refuse_if : Bool → Fault → Check → Check
 refuse_if true fault next = Err fault
 refuse_if false fault next = next
@@ -76,7 +76,7 @@ want_directory (Some Dir) next = next
 abbrev pub want_lawful : List ℕ → Check → Check
 want_lawful name next = refuse_if (not (is_lawful_name name)) fault.BadName next
 
--- a name that is bound, and the tests of what it leads to
+-- a check that wants a bound name, and goes on with what it leads to
 abbrev pub want_bound : Option Handle → (Handle → Check) → Check
 want_bound None next = Err fault.Missing
 want_bound (Some to) next = next to
@@ -88,8 +88,7 @@ abbrev pub and_find : Check → Option Handle → Result (Option Handle) Fault
 and_find (Ok nothing) to = Ok to
 and_find (Err fault) to = Err fault
 
--- a look at a name: what it leads to, if anything, where there is a directory and the name is lawful.
--- It is nothing where the tests of `look` refuse it: no directory, or an unlawful name.
+-- a look at a name: what it leads to, where there is a directory and the name is lawful
 abbrev pub look : (Handle → Option NodeCopy) → Handle → List ℕ → Result (Option Handle) Fault
 look nodes dir name = and_find (want_directory (kind_of (nodes dir)) (want_lawful name passes)) (lookup nodes dir name)
 
@@ -98,6 +97,6 @@ abbrev pub found_by : Result (Option Handle) Fault → Option Handle
 found_by (Ok to) = to
 found_by (Err fault) = None
 
--- what a name of a directory leads to
+-- what a name of a directory leads to; nothing where its look is refused
 abbrev pub found : (Handle → Option NodeCopy) → Handle → List ℕ → Option Handle
 found nodes dir name = found_by (look nodes dir name)

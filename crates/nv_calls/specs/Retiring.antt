@@ -28,12 +28,12 @@ record_of ino epoch killed =
 abbrev pub keeper_of : List ℕ → ℕ → ℕ → KilledPart → Option ℕ
 keeper_of living ino epoch killed = holder_of living (record_of ino epoch killed)
 
--- the cell where a part is kept, or goes out
+-- the cell once a part is kept, where a snapshot is its keeper, or else is out
 abbrev pub settled : Option ℕ → ℕ → CellState → CellState
 settled (Some s) n cell = with_mark cell n Kept
 settled None n cell = without_part cell n
 
--- the block that this sets free
+-- the block that goes free there: that of a part that is out
 abbrev pub freed : Option ℕ → ℕ → CellState → List BlockValue
 freed (Some s) n cell = []
 freed None n cell = option_to_list (slice_index_or cell.blocks n None)
@@ -46,7 +46,7 @@ retired_one living ino epoch killed cell = settled (keeper_of living ino epoch k
 abbrev pub freed_one : List ℕ → ℕ → ℕ → KilledPart → CellState → List BlockValue
 freed_one living ino epoch killed cell = freed (keeper_of living ino epoch killed) (number_in cell killed.part) cell
 
--- the cell, the freed blocks and the manifests after several parts, one behind the other
+-- the cell once several killed parts are retired, one after another
 abbrev pub retired : List ℕ → ℕ → ℕ → List KilledPart → CellState → CellState
 retired living ino epoch [] cell = cell
 retired living ino epoch (killed ∷ later) cell = retired living ino epoch later (retired_one living ino epoch killed cell)
@@ -65,11 +65,11 @@ with_records living ino epoch (killed ∷ later) manifests =
 
 -- ---- releasing
 
--- a record's part
+-- the name of a record's part
 abbrev pub name_of : Record → PartId
 name_of d = record { entry = d.entry; part = d.part }
 
--- the cell once a record's part goes out, and the block that this sets free
+-- the cell once a record's part is out
 abbrev pub released : Record → CellState → CellState
 released d cell = settled None (number_in cell (name_of d)) cell
 
@@ -79,11 +79,11 @@ released_blocks d cell = freed None (number_in cell (name_of d)) cell
 
 -- ---- erasing
 
--- the cell, emptied where its inode is over and nothing of it is kept
+-- the cell, emptied where its inode is gone and nothing of it is kept
 abbrev pub erased : CellState → CellState
 erased cell = if is_erased cell then empty_cell cell.block cell.chain.page (cell.generation + 1) cell.version else cell
 
--- the room that this leaves: what is erased keeps none but that for killed parts
+-- the room of that cell: once emptied, it has room for killed parts alone
 abbrev pub room_erased : CellState → CellRoom → CellRoom
 room_erased cell room = if is_erased cell then record no_room { killed = room.killed } else room
 

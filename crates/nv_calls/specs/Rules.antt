@@ -16,9 +16,11 @@ use Rattle.nv_calls.specs.calls.Rename.{own_place}
 use Rattle.nv_calls.specs.declared.call.Call.{Call}
 use Rattle.nv_calls.specs.declared.call.Call.TheVariants as call
 
--- a fault, and whether it applies
+-- one rule of the order of refusals
 pub record Rule : Type 0 where
+  -- the fault that refuses a call
   pub fault : Fault
+  -- whether the call falls under the rule
   pub applies : Bool
 
 -- a rule: a fault, and whether it applies
@@ -88,13 +90,13 @@ second_name other = None
 
 -- ---- what its names lead to
 
--- it binds its name, so that the name has to be free
+-- the call binds its name, so that the name has to be free
 abbrev pub makes : Call → Bool
 makes (call.Create dir name mode) = true
 makes (call.Mkdir dir name mode) = true
 makes other = false
 
--- it follows its name, so that the name has to be bound
+-- the call follows its name, so that the name has to be bound
 abbrev pub follows : Call → Bool
 follows (call.Lookup dir name) = true
 follows (call.Unlink dir name) = true
@@ -102,7 +104,7 @@ follows (call.Rmdir dir name) = true
 follows (call.Rename from old to new) = true
 follows other = false
 
--- it looks names up before it locks
+-- the call looks names up before it locks
 abbrev pub looks_up : Call → Bool
 looks_up (call.Lookup dir name) = false
 looks_up other = follows other
@@ -112,19 +114,19 @@ abbrev pub bound_in : (Handle → Option NodeCopy) → Option Handle → Option 
 bound_in nodes (Some dir) (Some name) = is_some (lookup nodes dir name)
 bound_in nodes dir name = false
 
--- the node that it takes away from its name; a rename onto its own place takes none
+-- the node that the call takes away from its name; a rename onto its own place takes none
 abbrev pub taken : (Handle → Option NodeCopy) → Call → Option Handle
 taken nodes (call.Unlink dir name) = lookup nodes dir name
 taken nodes (call.Rmdir dir name) = lookup nodes dir name
 taken nodes (call.Rename from old to new) = if own_place from old to new then None else lookup nodes from old
 taken nodes other = None
 
--- and the one that it puts it in the place of
+-- the node whose name a rename takes over, if its second name is bound
 abbrev pub replaced : (Handle → Option NodeCopy) → Call → Option Handle
 replaced nodes (call.Rename from old to new) = if own_place from old to new then None else lookup nodes to new
 replaced nodes other = None
 
--- what it takes is to be a file, or an empty directory; or to stay in its directory where it is one
+-- the call takes a file away, and no directory
 abbrev pub takes_file : Call → Bool
 takes_file (call.Unlink dir name) = true
 takes_file other = false
@@ -186,7 +188,7 @@ is_unlawful (Some name) = not (is_lawful_name name)
 
 -- ---- THE RULES
 
--- of the first handle and its name, which a look goes by too
+-- the rules of the first handle and its name, which a look goes by too
 abbrev pub first_rules : (Handle → Option NodeCopy) → Call → List Rule
 first_rules nodes c =
     rule fault.Stale (is_at is_gone nodes (handle_of c))
@@ -196,7 +198,7 @@ first_rules nodes c =
     ∷ rule fault.Missing (follows c && not (bound_in nodes (directory_of c) (name_of c)))
     ∷ []
 
--- of the second, all except that its name is bound
+-- the rules of the second directory and its name, except that the name is bound
 abbrev pub second_rules : (Handle → Option NodeCopy) → Call → List Rule
 second_rules nodes c =
     rule fault.Stale (is_at is_gone nodes (second_directory c))
@@ -204,7 +206,7 @@ second_rules nodes c =
     ∷ rule fault.BadName (is_unlawful (second_name c))
     ∷ []
 
--- of what the names lead to, and of what is written
+-- the rules of what the names lead to, and of what is written
 abbrev pub late_rules : ℕ → (Handle → Option NodeCopy) → Call → List Rule
 late_rules block nodes c =
     rule fault.Exists (makes c && bound_in nodes (directory_of c) (name_of c))

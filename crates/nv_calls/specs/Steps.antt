@@ -27,7 +27,7 @@ with_new_pages pages cell = record {
   room = record cell.room { pages = cell.room.pages - length pages };
 }
 
--- one more entry past the tail, with its pages in the front ones of these blocks
+-- the cell with one more entry past the tail, whose pages are in the first of these blocks
 abbrev pub with_entry : Entry → List BlockValue → CellValue → CellValue
 with_entry e blocks cell = record { state = appended e (blocks_for e.item blocks) cell.state; room = after_append (part_count e) cell.room }
 
@@ -35,7 +35,7 @@ with_entry e blocks cell = record { state = appended e (blocks_for e.item blocks
 abbrev pub numbers_in : List Item → List ℕ
 numbers_in items = flat_map item_blocks items
 
--- several entries, one behind the other
+-- the cell with several more entries past the tail, one behind the other
 abbrev pub with_entries : List Entry → List BlockValue → CellValue → CellValue
 with_entries [] blocks cell = cell
 with_entries (e ∷ later) blocks cell = with_entries later (drop (length (item_blocks e.item)) blocks) (with_entry e blocks cell)
@@ -52,46 +52,58 @@ id_at stamp place = record { commit = stamp.commit; place = place }
 abbrev pub stamped_entry : Stamp → ℕ → Item → Entry
 stamped_entry stamp place item = record { id = id_at stamp place; epoch = stamp.epoch; item = item }
 
--- the entries of a cell are of earlier commits, and of no later epoch
+-- the commit of that number and epoch comes after all entries of a cell
 pub record IsLater (stamp : Stamp) (cell : CellValue) : Type 0 where
+  -- the last entry is of an earlier commit
   pub commit : ForSome (last_id cell.state.chain) (λ last. last.commit < stamp.commit)
+  -- the last entry is of no later epoch
   pub epoch : ForSome (last_epoch cell.state.chain) (λ last. last ≤ stamp.epoch)
 
--- entries of a commit may follow those of a cell, from a place in it on
+-- entries of a commit may follow those of a cell, from a place in the commit on
 pub record MayFollow (stamp : Stamp) (place : ℕ) (cell : CellValue) : Type 0 where
+  -- the id of the last entry is before that of the entry at this place
   pub id : ForSome (last_id cell.state.chain) (λ last. IsIdBefore last (id_at stamp place))
+  -- the last entry is of no later epoch
   pub epoch : ForSome (last_epoch cell.state.chain) (λ last. last ≤ stamp.epoch)
 
--- the front blocks of a queue are those of the items' pages
+-- a queue begins with the blocks of the items' pages
 pub record HaveBlocks (items : List Item) (block : ℕ) (queue : QueueValue) : Type 0 where
+  -- a block of the queue has `block` bytes
   pub size : queue.size ≡ block
+  -- the first blocks are those that the items name, in their order
   pub numbers : numbers_of (take (length (numbers_in items)) queue.blocks) ≡ numbers_in items
+  -- the pages of the items are pages that a file can have
   pub within : AllByRecursion IsWithinFile items
 
 -- a queue without so many blocks from the front
 abbrev pub without_front : ℕ → QueueValue → QueueValue
 without_front n queue = record queue { blocks = drop n queue.blocks; room = queue.room + n }
 
--- entries with these items can be appended to a cell in a commit, from a place in it on, with what a hand holds: the
--- cell is ready for them, and the hand has the pages that the log needs, and in front the blocks of the items' pages
+-- entries with these items can be appended to a cell from a place on, with what a hand holds
 pub record CanAppendPlan (stamp : Stamp) (place : ℕ) (items : List Item) (hand : Hand) (cell : CellValue) : Type 0 where
+  -- the cell has room to append and publish the items, and for the log pages that they take
   pub ready : IsReadyToAppend items cell
+  -- the last entry of the cell is of an earlier commit, and of no later epoch
   pub later : IsLater stamp cell
+  -- the hand has at least the log pages that the log takes
   pub pages : pages_for cell.state.chain (length items) ≤ length hand.pages.blocks
+  -- the hand's log pages have the block size of the cell
   pub page_size : hand.pages.size ≡ cell.state.block
+  -- the hand's first data blocks are those of the items
   pub blocks : HaveBlocks items cell.state.block hand.data
+  -- the places of the entries in the commit are below 2^32
   pub places : place + length items < 2 ^ 32
 
 -- the pages that a log takes from a hand for so many entries
 abbrev pub pages_from : Hand → ChainState → ℕ → List BlockValue
 pages_from hand chain entries = take (pages_for chain entries) hand.pages.blocks
 
--- the cell then
+-- the cell once the items of a plan are appended
 abbrev pub with_plan : Stamp → ℕ → List Item → Hand → CellValue → CellValue
 with_plan stamp place items hand cell =
     with_entries (stamped_entries stamp place items) hand.data.blocks (with_new_pages (pages_from hand cell.state.chain (length items)) cell)
 
--- and the hand
+-- the hand once the items of a plan are appended
 abbrev pub hand_after : List Item → ChainState → Hand → Hand
 hand_after items chain hand = record hand {
   «data» = without_front (length (numbers_in items)) hand.data;

@@ -34,14 +34,22 @@ blank_call u = call_of u (replicate (text_len u) 0)
 abbrev pub blocks_taken : ℕ → (Handle → Option NodeCopy) → (Handle → ℕ → Bool) → Update → ℕ
 blocks_taken block nodes has_page u = let c = blank_call u in blocks_wanted block nodes (ends_in_page has_page block c) c
 
--- two calls that look up the same, are refused alike, and plan alike
+-- two calls that are looked up, checked and planned alike
 pub record SamePlan (block : ℕ) (nodes : Handle → Option NodeCopy) (has_page : Handle → ℕ → Bool) (taken : Allocation) (one other : Call)
     : Type 0 where
+  -- their looks find the same
   pub found : looked nodes other ≡ looked nodes one
+  -- a look refuses both for the same fault, or neither
   pub look_refusal : look_refusal nodes other ≡ look_refusal nodes one
+  -- the check refuses both for the same fault, or neither
   pub refusal : refusal block nodes other ≡ refusal block nodes one
+  -- they read under the same handles
   pub handles : handles (looked nodes other) other ≡ handles (looked nodes one) one
+  -- both commit something, or neither
   pub nothing : is_nothing other ≡ is_nothing one
+  -- the page that they end in is present for both, or for neither
   pub ends : ends_in_page has_page block other ≡ ends_in_page has_page block one
+  -- they take the same number of data blocks
   pub wanted : (present : Bool) → blocks_wanted block nodes present other ≡ blocks_wanted block nodes present one
+  -- they append the same items
   pub plan : plan block nodes taken other ≡ plan block nodes taken one

@@ -65,7 +65,7 @@ is_visit (call.List dir) = true
 is_visit (call.Lookup dir name) = true
 is_visit other = false
 
--- of these a stat and a look-up take no memory
+-- a visit takes memory, except that of a `stat` or a `lookup`
 abbrev pub visit_grows : Call → Bool
 visit_grows (call.Stat handle) = false
 visit_grows (call.Lookup dir name) = false

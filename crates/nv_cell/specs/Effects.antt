@@ -13,12 +13,12 @@ use Rattle.nv_cell.specs.Index.{NameReady}
 abbrev pub items_of : List Entry → List Item
 items_of entries = map (λ e. e.item) entries
 
--- an item binds no name itself and leaves the one alone that another binds
+-- an item binds no name itself, and covers none that the other one binds
 abbrev pub LeavesName : Item → Item → Type 0
 LeavesName item (Bind name to) = (is_bind item || covers 1 item (NameKey name)) ≡ false
 LeavesName item other = Unit {0}
 
--- the items bind at most one name, and none before takes it out
+-- the items bind at most one name, and none before it covers that name
 abbrev pub BindOne : List Item → Type 0
 BindOne [] = Unit {0}
 BindOne (item ∷ later) = AllByRecursion (LeavesName item) later × BindOne later

@@ -16,13 +16,18 @@ use Rattle.nv_nindex.specs.NameIndex.{Names, Rebinds, binding_of}
 
 -- what contracts see of an index
 pub record IndexValue : Type 0 where
+  -- the part that holds the kind, if one does
   pub kind : Option PartRef
+  -- the part that holds the mode, if one does
   pub mode : Option PartRef
+  -- the part that holds the size, if one does
   pub size : Option PartRef
+  -- where each present page lies, and for how many more page runs there is room
   pub pages : PageMap
+  -- the bound names, each with its binding, and the reserved one
   pub names : Names
 
--- the pages of a Write stand behind its size among its parts; a name is the only part of a Bind
+-- the part that is a page of a Write: the pages stand behind the size among its parts
 abbrev pub page_part : PageRef → PartRef
 page_part at = part_ref at.entry (at.place + 1)
 
@@ -38,7 +43,7 @@ ref_of index SizeKey = index.size
 ref_of index (NameKey name) = option_map name_part (binding_of name index.names.names)
 ref_of index (PageKey page) = option_map page_part (ref_at index.pages.pages page)
 
--- the names that are bound now, each with its binding, in the order of the entries that bound them
+-- the name that an entry with that id and item binds, with its binding, if it binds one
 abbrev pub bound_by : EntryId → Item → List (List ℕ × Binding)
 bound_by id (Bind name to) = (name, record { to = to; entry = id }) ∷ []
 bound_by id item = []
@@ -59,7 +64,7 @@ NamesAfter id (Unbind name) old new = Rebinds old.names new.names name None × (
 NamesAfter id Gone old new = (new.names ≡ []) × (new.reserved ≡ old.reserved)
 NamesAfter id item old new = new ≡ old
 
--- the least page from `from` on that is named, with its part
+-- the least page from `from` on that has a part, with that part; none where there is no such page
 abbrev pub IsNextPart : ℕ → (ℕ → Option PartRef) → Option (ℕ × PartRef) → Type 0
 IsNextPart from parts None = (page : ℕ) → from ≤ page → parts page ≡ None
 IsNextPart from parts (Some found) =

@@ -1,4 +1,5 @@
--- The parts of a log by number, and which of them an index names.
+-- The parts of a log by number, and which of them an index names. Parts are numbered through from
+-- 0, by entry and then by place.
 use Rattle.std.specs.Prelude.{◌≡◌, ℕ, ◌+◌, ◌-◌, ◌<◌, if◌then◌else◌, filter, slice_get, ◌≤◌, ◌==◌, ◌&&◌, ◌^◌, Bool, true, false, not, nat_lt, nat_le, List, [], ◌∷◌, take, length, map, count_by, Option, Some, None, unwrap_or, vec_len, vec_capacity}
 use Rattle.std.specs.Global.{Vec}
 use Rattle.std.specs.List.{range_with_len}
@@ -19,16 +20,15 @@ use Rattle.nv_cell.specs.Index.{IndexValue, ref_of}
 use Rattle.nv_cell.specs.Marks.{mark_at}
 use Rattle.nv_cell.specs.Tallies.{start_at}
 
--- how many parts the first `t` entries have.
--- Number of a part: the parts of a log are counted through, by entry and then by place. Mark: a published part is
--- current, killed, kept or out. Killed is what is no longer current and not yet retired. Kept is what has a record.
--- Tally of an entry: how many of its parts are current, how many are not out, and where its part slots end.
+-- how many parts the first `t` entries have, which is the number of the next entry's first part
 abbrev pub part_base : List Entry → ℕ → ℕ
 part_base es t = part_total (take t es)
 
--- where each entry's parts end, by number; and there are so many that numbers are fit to be counted
+-- these are the places where the parts of each entry end, by number
 pub record AreEnds (ends : List ℕ) (es : List Entry) : Type 0 where
+  -- the parts of an entry begin behind those of the entries before it
   pub first : (i : ℕ) → i < length es → start_at ends i ≡ part_base es i
+  -- there are fewer than 2^64 parts
   pub small : part_total es < 2 ^ 64
 
 -- the number of a part
@@ -54,25 +54,32 @@ numbers_in parts = map (λ p. p.number) parts
 
 -- a part that an index names is one of the log
 pub record IsPart (es : List Entry) (r : PartRef) : Type 0 where
+  -- the log has its entry
   pub entry : IsSome (place_of_id es r.entry)
+  -- its number is below the number of parts
   pub within : number es r < part_total es
 
 -- a part stands in the entry that it comes with
 pub record StandsIn (es : List Entry) (p : NumberedPart) : Type 0 where
+  -- the log has that entry
   pub within : p.entry < length es
+  -- the part is not before the first part of the entry
   pub start : part_base es p.entry ≤ p.number
+  -- the part is before the first part of the next entry
   pub end : p.number < part_base es (p.entry + 1)
 
--- the index names parts of the log, at their keys
+-- the index names parts of the log at their keys
 pub record AreNamed (es : List Entry) (index : IndexValue) : Type 0 where
+  -- each part that the index names is one of the log
   pub parts : (key : Key) (r : PartRef) → ref_of index key ≡ Some r → IsPart es r
+  -- a part that the index names at a key is a part of that key
   pub keys : (key : Key) (m : ℕ) → number_at es index key ≡ Some m → key_at es m ≡ key
 
 -- the index names the part n
 abbrev pub is_named : List Entry → IndexValue → ℕ → Bool
 is_named es index n = is_number (number_at es index (key_at es n)) n
 
--- kinds of keys
+-- the key is a page, from `from` on and below `to`
 abbrev pub is_page_in : ℕ → ℕ → Key → Bool
 is_page_in from to (PageKey page) = nat_le from page && nat_lt page to
 is_page_in from to key = false
@@ -87,14 +94,14 @@ abbrev pub is_any_name : Key → Bool
 is_any_name (NameKey name) = true
 is_any_name key = false
 
--- kind, mode or size
+-- the key is kind, mode or size
 abbrev pub is_stat : Key → Bool
 is_stat KindKey = true
 is_stat ModeKey = true
 is_stat SizeKey = true
 is_stat key = false
 
--- the same key
+-- the two keys are one
 abbrev pub is_key : Key → Key → Bool
 is_key KindKey KindKey = true
 is_key ModeKey ModeKey = true
@@ -107,14 +114,17 @@ is_key key other = false
 abbrev pub HasRoomFor : ℕ → Vec NumberedPart → Type 0
 HasRoomFor count list = vec_len list + count ≤ vec_capacity list
 
--- the parts that the index names at the keys which pass a test, at most so many, are put on a list
+-- the parts that the index names at the keys which pass a test were put on a list
 pub record Pushes (es : List Entry) (index : IndexValue) (test : Key → Bool) (most : ℕ) (old new : Vec NumberedPart) : Type 0 where
+  -- each of these parts stands on the list once more, and no other part does
   pub numbers : (n : ℕ)
       → times n (numbers_in new.items) ≡ times n (numbers_in old.items) + (if is_named es index n && test (key_at es n) then 1 else 0)
+  -- the list has got at most `most` parts more
   pub len : vec_len new ≤ vec_len old + most
+  -- the list has the room in all that it had
   pub capacity : vec_capacity new ≡ vec_capacity old
 
--- the parts that the entries from `tail` on kill: covered by all, and not by those before
+-- the entries from `tail` on kill the part `n`: all entries cover it, and those before do not
 abbrev pub dies : ℕ → List Entry → ℕ → ℕ → Bool
 dies block es tail n = (nat_lt n (part_total es) && is_covered block es n) && not (is_covered block (take tail es) n)
 

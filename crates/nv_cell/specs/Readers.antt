@@ -14,9 +14,11 @@ use Rattle.nv_cell.specs.declared.tally.LogPageCounts.{LogPageCounts}
 use Rattle.nv_cell.specs.Cell.{CellState, log_of}
 use Rattle.nv_cell.specs.Marks.{is_current, is_killed, is_there}
 
--- a cell of a device: its blocks and its log pages have the device's sizes
+-- a cell is one of a device
 pub record IsCellOf (g : GeometryNumbers) (cell : CellState) : Type 0 where
+  -- its blocks have as many bytes as the device's
   pub block : cell.block ≡ g.block
+  -- its log pages hold as many entries as the device's
   pub page : cell.chain.page ≡ g.page
 
 -- the marks of a log, entry by entry
@@ -24,19 +26,16 @@ abbrev pub marks_by_entry : List Entry → List Mark → List (List Mark)
 marks_by_entry [] marks = []
 marks_by_entry (e ∷ later) marks = take (part_count e) marks ∷ marks_by_entry later (drop (part_count e) marks)
 
--- of each published entry whether one of its parts is not out.
--- There flags: for each published entry whether one of its parts is not out. By the marks of a retention they are
--- the retention's `kept_flags`.
+-- for each published entry, whether one of its parts is not out
 abbrev pub there_flags : CellState → List Bool
 there_flags cell = map (list_any is_there) (marks_by_entry (log_of cell) cell.marks)
 
--- the marks of the published entries of a page, entry by entry
+-- the marks of the published entries of a log page, entry by entry
 abbrev pub marks_of_page : CellState → ℕ → List (List Mark)
 marks_of_page cell page = slice_index_or (parts_from 0 cell.chain.ends (marks_by_entry (log_of cell) cell.marks)) page []
 
--- how many published entries of a page have a current part, and how many one that is not out.
--- Counts of a log page: its published entries with a current part (`live`), and with a part that is not out
--- (`valid`).
+-- the counts of a log page: how many of its published entries have a current part, and how many
+-- have one that is not out
 abbrev pub counts_of : CellState → ℕ → LogPageCounts
 counts_of cell page = record {
   live = count_by (list_any is_current) (marks_of_page cell page);
@@ -48,13 +47,11 @@ abbrev pub is_last_word : Item → Bool
 is_last_word Gone = true
 is_last_word item = false
 
--- the inode of a log is gone: the last entry says so.
--- Gone: the last published entry is a `Gone`.
+-- the inode of a log is gone: the last entry is a Gone
 abbrev pub is_gone : List Entry → Bool
 is_gone log = unwrap_or (option_map (λ e. is_last_word e.item) (last_of log)) false
 
--- every part of the log is out.
--- Nothing kept: every part is out.
+-- every published part of the cell is out
 abbrev pub keeps_nothing : CellState → Bool
 keeps_nothing cell = not (list_any is_there cell.marks)
 
@@ -75,6 +72,6 @@ has_inode cell = has_entry (log_of cell)
 abbrev pub is_withheld : CellState → Bool
 is_withheld cell = nat_le NUMBER cell.generation
 
--- a part is killed
+-- a part of the cell is marked killed
 abbrev pub has_killed : CellState → Bool
 has_killed cell = list_any is_killed cell.marks

@@ -17,11 +17,12 @@ use Rattle.nv_cell.specs.declared.stat.Stat.{Stat}
 abbrev pub IsIndexOf : ℕ → List Entry → IndexValue → Type 0
 IsIndexOf block log index = (key : Key) → ref_of index key ≡ scan_ref block log key
 
--- kind, mode, size, and the commit of the last entry
+-- what an inode of that kind tells of itself, where `last` is the last entry of its log
 abbrev pub stat_by : ℕ → List Entry → Kind → Entry → Stat
 stat_by block log kind last = record { kind = kind; mode = mode_now block log; size = size_now block log; commit = last.id.commit }
 
--- none where the inode has no kind: in an empty slot, or where it is gone
+-- what the inode of a log tells of itself; nothing where it has no kind,
+-- so in an empty slot, or where it is gone
 abbrev pub stat_now : ℕ → List Entry → Option Stat
 stat_now block log = option_and_then (λ kind. option_map (stat_by block log kind) (last_of log)) (stored block log).kind
 

@@ -11,10 +11,11 @@ use Rattle.nv_cell.specs.Marks.{is_there, mark_at}
 use Rattle.nv_cell.specs.declared.mark.Mark.{Mark}
 use Rattle.nv_cell.specs.Readers.{counts_of}
 
--- a part is current, killed or kept exactly where its pair is needed or pending.
--- Marks of a retention: a part is not out exactly where its pair is needed or pending.
+-- the marks of a cell are what a retention says
 pub record AreMarksOf (r : Retention) (cell : CellState) : Type 0 where
+  -- the retention has the size of the cell's blocks
   pub block : r.block ≡ cell.block
+  -- a part is not out exactly where its pair is needed or pending
   pub there : (n : ℕ) (pair : Pair) → slice_get (pairs r.block (log_of cell)) n ≡ Some pair → is_there (mark_at cell.marks n) ≡ keeps r pair
 
 -- the names of the pairs whose parts are not out
@@ -24,22 +25,22 @@ names_there (pair ∷ later) [] = []
 names_there (pair ∷ later) (mark ∷ marks) =
     if is_there mark then pair_name pair ∷ names_there later marks else names_there later marks
 
--- what the marks of a cell keep, as a retention: no snapshot, and by name each part that is not out
+-- what the marks of a cell keep, as a retention: no snapshot, and the name of each part not out
 abbrev pub retention_by_marks : CellState → Retention
 retention_by_marks cell =
     record { block = cell.block; snapshots = []; pending = names_there (pairs cell.block (log_of cell)) cell.marks }
 
--- how many published entries a page has
+-- how many published entries a log page has
 abbrev pub published_on : CellState → ℕ → ℕ
 published_on cell page = length (slice_index_or (log_pages cell.chain) page [])
 
--- the counts of a page are those that the log gives from scratch
+-- the `live` count of each log page is that of the log from scratch
 abbrev pub LiveIsScanned : CellState → Type 0
 LiveIsScanned cell =
     (page : ℕ) → page < length cell.chain.ends
     → (counts_of cell page).live ≡ live_of cell.block (published_on cell page) (drop (start_of cell.chain page) (log_of cell))
 
--- the other count of each log page is that of the log from scratch
+-- the `valid` count of each log page is that of the log from scratch
 abbrev pub ValidIsScanned : Retention → CellState → Type 0
 ValidIsScanned r cell =
     (page : ℕ) → page < length cell.chain.ends

@@ -42,24 +42,31 @@ is_of_name item other = is_name (named_by item) other
 abbrev pub has_name : Cover → List ℕ → Bool
 has_name c name = list_any (λ k. same_name name k.now) c.names.keys
 
--- a cover tells of these entries all that a later one may hide
+-- a cover tells of some entries what a later one may hide
 pub record Covers (block : ℕ) (kept : List Entry) (c : Cover) : Type 0 where
+  -- it tells whether there is an entry
   pub some : c.some ≡ not (is_empty kept)
+  -- a page is below its reach exactly where an entry covers a page from there on
   pub pages : (page : ℕ) → nat_lt page c.reach ≡ list_any (λ e. covers_from block page e.item) kept
+  -- the inode is gone, or a name is one of its names, exactly where an entry covers the name
   pub names : (name : List ℕ) → (c.gone || has_name c name) ≡ list_any (λ e. covers block e.item (NameKey name)) kept
 
--- an item sets a key to absent that is covered, by what is kept.
--- An item hides some of it where it sets a key to absent that one of them covers. Example: after a Write of pages 2
--- and 3 the reach is 4, so a cut to 3 pages stays and one to 4 may go.
+-- an item sets a key to absent that one of the entries covers, by their cover.
+-- Example: after a Write of pages 2 and 3 the reach is 4, so a
+-- cut to 3 pages stays and one to 4 may go.
 abbrev pub is_hidden : ℕ → Item → Cover → Bool
 is_hidden block (SetSize size) c = nat_lt (pages_for block size) c.reach
 is_hidden block (Unbind name) c = c.gone || has_name c name
 is_hidden block Gone c = c.some
 is_hidden block item c = false
 
--- one more item
+-- a cover has taken in one more item
 pub record AddsItem (block : ℕ) (item : Item) (old new : Cover) : Type 0 where
+  -- there is an entry
   pub some : new.some ≡ true
+  -- the inode is gone if it was, or if the item says so
   pub gone : new.gone ≡ (old.gone || ends_all item)
+  -- the reach is the greater of that of before and the item's
   pub reach : new.reach ≡ max old.reach (reach block item)
+  -- the names are those of before, with the one that the item binds or unbinds
   pub names : (name : List ℕ) → has_name new name ≡ (has_name old name || is_of_name item name)

@@ -7,8 +7,8 @@ use Rattle.nv_entry.specs.Clean.{entries_of}
 use Rattle.nv_cell.specs.Readers.{there_flags}
 use Rattle.nv_log.specs.Chain.{gone_of, left_of, log_pages}
 
--- which entries of the log stay in a thorough cleaning: those that something keeps, that hide an earlier one that stays,
--- and the last
+-- which entries of the log stay in a thorough cleaning: those that something keeps, those that
+-- hide an earlier one that stays, and the last
 abbrev pub entries_staying : CellState → List Bool
 entries_staying cell = stays_by cell.block (there_flags cell) [] (log_of cell)
 
@@ -16,23 +16,27 @@ entries_staying cell = stays_by cell.block (there_flags cell) [] (log_of cell)
 abbrev pub pages_staying : CellState → List Bool
 pages_staying cell = pages_stay_by cell.block (there_flags cell) [] (log_pages cell.chain)
 
--- a flag for each entry of the log, whether it stays; how many entries stay, how many pages these fill, and how many
--- entries go
+-- what the walk of a thorough cleaning finds
 pub record WantedValue : Type 0 where
+  -- for each entry of the log whether it stays
   pub stays : List Bool
+  -- how many entries stay, those past the tail too
   pub entries : ℕ
+  -- how many log pages these fill
   pub pages : ℕ
+  -- how many entries go
   pub dropped : ℕ
 
--- a flag for each page with entries, whether it stays; how many pages go, and how many entries these have
+-- what the walk of a fast cleaning finds
 pub record UnlinkableValue : Type 0 where
+  -- for each log page with entries whether it stays
   pub stays : List Bool
+  -- how many log pages go
   pub pages : ℕ
+  -- how many published entries these pages have
   pub entries : ℕ
 
--- the walk by entries.
--- Wanted: which entries stay in a thorough cleaning, how many, how many log pages they fill, and how many entries
--- go.
+-- what the walk of a thorough cleaning finds in a cell as it stands
 abbrev pub wanted_of : CellState → WantedValue
 wanted_of cell =
     let stays = entries_staying cell in
@@ -44,8 +48,7 @@ wanted_of cell =
       dropped = length cell.chain.entries - left;
     }
 
--- the walk by pages.
--- Unlinkable: which log pages stay in a fast cleaning, how many go, and how many entries these have.
+-- what the walk of a fast cleaning finds in a cell as it stands
 abbrev pub unlinkable_of : CellState → UnlinkableValue
 unlinkable_of cell =
     let stays = pages_staying cell in

@@ -9,12 +9,15 @@ use Rattle.nv_core.specs.declared.reservation.Reservation.TheVariants as reserve
 use Rattle.nv_core.specs.Shown.{ShownCall}
 use Rattle.nv_core.specs.GhostCalls.{IsPlaceOf}
 
--- a plan has entries for these slots alone, and their places are the numbers from 0 on
+-- a plan is of a call with these slots
 pub record IsPlanOf (slots : List ℕ) (plan : List InodePlan) : Type 0 where
+  -- the places of its entries, slot by slot, are the numbers from 0 on
   pub placed : ArePlaced plan
+  -- it has entries for these slots alone
   pub within : (ino : ℕ) → is_written plan ino ≡ true → has slots ino ≡ true
 
--- what is ready has a plan for the call's slots alone, and so has a commit, whose next entries have their place
+-- a plan that is ready or on its way is of the call's slots, and the next entries of a commit have
+-- their places
 abbrev pub IsPlacedBy : List ℕ → Reservation → ShownCall → Type 0
 IsPlacedBy slots (reserved.Hand hand) told = Unit {0}
 IsPlacedBy slots (reserved.Ready ready) told = IsPlanOf slots told.plan

@@ -43,11 +43,11 @@ IsBusy m = (actor : ℕ) × (is_some (machine.actor_at m actor).running ≡ true
 abbrev pub has_call : Actor → Bool
 has_call actor = is_some actor.running
 
--- the parts are at rest, and the first of them that is not
+-- the parts are those of a world at rest
 abbrev pub AreJudged : Parts → Type 0
 AreJudged parts = AreAtRest parts.geometry.numbers (states_of parts.cells) parts.lists parts.pool parts.book.state
 
--- the fault tells the first part that differs from a world at rest
+-- the fault tells the first of the parts that is not as in a world at rest
 abbrev pub IsMismatchOf : Parts → Fault → Type 0
 IsMismatchOf parts (Mismatch part) =
     IsFirstAtRest part parts.geometry.numbers (states_of parts.cells) parts.lists parts.pool parts.book.state

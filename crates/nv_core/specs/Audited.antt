@@ -29,10 +29,9 @@ use Rattle.nv_core.specs.declared.world.Actor.{Actor}
 abbrev pub killed_part : ℕ → KilledPart → InodePart
 killed_part ino killed = record { ino = ino; part = killed.part }
 
--- the parts of lists that belong to these slots one by one.
--- Parts are those of an inode slot that a call has published over and not yet retired, and that of a record which a
--- `drain` call has picked. In the example, between `publish` and `retire` the hand has the Size and the page of the
--- first Write, and no manifest has a record of them yet.
+-- the killed parts of lists that belong to these slots one by one. Example: snapshot 1 is made of
+-- a file, and its page is written again. Between `publish` and `retire` of that write the hand has
+-- the Size and the page of the first Write, and no manifest has a record of them yet.
 abbrev pub slot_parts : List ℕ → List (List KilledPart) → List InodePart
 slot_parts [] killed = []
 slot_parts (slot ∷ slots) [] = []
@@ -48,8 +47,8 @@ parts_by_call (Some r) h =
 abbrev pub parts_by_actor : machine.Actor → List InodePart
 parts_by_actor actor = parts_by_call actor.running actor.hand
 
--- A WORLD AS A DEVICE BETWEEN TWO STEPS.
--- A world as a device: what is shared as it stands, and of all actors the blocks of their hands and their parts.
+-- A WORLD AS A DEVICE BETWEEN TWO STEPS: what is shared as it stands, and of all actors the blocks
+-- of their hands, and the parts that they have killed or picked
 abbrev pub device_of : GeometryNumbers → machine.World → Device
 device_of g w = record {
   numbers = g;
@@ -77,7 +76,7 @@ abbrev pub picked_by : Next → List InodePart
 picked_by (next.SnapshotOrCleaner step) = picked_on step
 picked_by other = []
 
--- the killed parts of one plan, and of those that are published and not retired
+-- the parts that the publish of one plan has killed
 abbrev pub killed_by_plan : List ℕ → CellCommitValue → List InodePart
 killed_by_plan slots plan = map (killed_part (slot_at slots plan.at)) plan.killed
 
@@ -85,7 +84,7 @@ killed_by_plan slots plan = map (killed_part (slot_at slots plan.at)) plan.kille
 abbrev pub killed_by_plans : List ℕ → CommitValue → List InodePart
 killed_by_plans slots commit = flat_map (killed_by_plan slots) (drop commit.retired (take commit.published commit.plans))
 
--- the parts that a call with this hold has killed or picked
+-- the parts that a call with this reservation has killed or picked
 abbrev pub parts_with : Reservation → Option Running → List InodePart
 parts_with (reserved.Hand hand) (Some running) = picked_by running.next
 parts_with (reserved.Commit commit) (Some running) = killed_by_plans (slots_in running.slots) commit
@@ -95,7 +94,7 @@ parts_with other running = []
 abbrev pub parts_by : Actor → List InodePart
 parts_by actor = parts_with actor.reserved actor.running
 
--- no more plans are published than there are
+-- a commit has published no more plans than it has
 abbrev pub HasPlans : Reservation → Type 0
 HasPlans (reserved.Commit commit) = commit.published ≤ length commit.plans
 HasPlans other = Unit {0}

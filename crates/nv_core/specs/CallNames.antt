@@ -41,6 +41,6 @@ name_owed (owed.Made by) = by
 name_owed (owed.Count count) = name.Write
 name_owed (owed.Nothing by) = by
 
--- it is the name of this call
+-- what is owed has the name of this call
 abbrev pub IsNamed : PendingAnswer → Call → Type 0
 IsNamed owed c = name_owed owed ≡ call_name c

@@ -1,5 +1,5 @@
--- What of a cleaner the machine does not tell: its call, the walk that its planning made, and the room in its hand for the
--- pages that move.
+-- What of a cleaner the machine does not tell: its call, the walk that its planning made, and the
+-- room in its hand for the log pages that move.
 use Rattle.std.specs.Prelude.{◌≡◌, ℕ, ◌+◌, ◌<◌, ◌≤◌, ◌==◌, Bool, true, false, length}
 use Rattle.std.specs.List.{AllByRecursion}
 use Rattle.nv_alloc.specs.Block.{BlockValue}
@@ -21,9 +21,11 @@ use Rattle.nv_core.specs.declared.next.UnlinkPlan.{UnlinkPlan}
 use Rattle.nv_core.specs.declared.running.Running.{Running}
 use Rattle.nv_core.specs.declared.shared.Shared.{Shared}
 
--- a call that has steps of its own, whatever its next one is
+-- a running call has steps of its own, whatever its next one is
 pub record IsMaintaining (running : Running) : Type 0 where
+  -- it is a call on snapshots, or a cleaner
   pub request : IsSnapshotOrCleaner running.request
+  -- its names are never bound anew, since it looks none up
   pub overtaken : running.ending ≡ ending.BoundAnew → IsLookAt 0 running.request
 
 -- ---- what the planning chose
@@ -33,49 +35,65 @@ abbrev pub compacts : Choice → Bool
 compacts (choice.Unlinks plan) = false
 compacts (choice.Compacts plan) = true
 
--- what it chose is the walk of that cell
+-- the planning chose the walk of this cell
 abbrev pub IsFoundIn : CellState → Choice → Type 0
 IsFoundIn cell (choice.Unlinks plan) = plan ≡ unlinkable_of cell
 IsFoundIn cell (choice.Compacts plan) = plan ≡ wanted_of cell
 
--- there is room for the pages that move, if any entry goes
+-- there is room for the log pages that move, if any entry goes
 abbrev pub HasRoomFor : QueueValue → Choice → Type 0
 HasRoomFor queue (choice.Unlinks plan) = plan.pages ≤ queue.room
 HasRoomFor queue (choice.Compacts plan) = (plan.dropped == 0) ≡ false → plan.pages ≤ queue.room
 
--- the same blocks, with no less room
+-- a queue has lost no room
 pub record IsNoSmaller (old new : QueueValue) : Type 0 where
+  -- its blocks are the same
   pub same : new ≡ record old { room = new.room }
+  -- it has room for as many more blocks, or for more
   pub room : old.room ≤ new.room
 
 -- ---- the steps behind it
 
--- what is to be left is the walk of the cell as it stands, and some entry goes
+-- a plan to compact is of the cell as it stands
 pub record IsMove (shared : Shared) (plan : CompactPlan) : Type 0 where
+  -- what it leaves is what a walk of the log leaves
   pub walk : plan.walk ≡ wanted_of (cell_at (shared_of shared) plan.ino)
+  -- some entry goes
   pub some : (plan.walk.dropped == 0) ≡ false
 
--- as many pages are wanted yet as the entries that stay fill with those in the hand
+-- a cleaner takes fresh log pages, from the list that is asked next
 pub record TakesFresh (shared : Shared) (hand : Hand) (fresh : FreshPages) : Type 0 where
+  -- its plan is of the cell as it stands
   pub move : IsMove shared fresh.plan
+  -- those in the hand and those still wanted are as many as the entries that stay fill
   pub count : length hand.pages.blocks + fresh.left ≡ fresh.plan.walk.pages
+  -- there is room for those still wanted
   pub room : fresh.left ≤ hand.pages.room
+  -- the list that is asked next is there
   pub list : fresh.asked < length shared.lists.items
 
--- the hand has as many pages as these entries fill
+-- a cleaner has its fresh log pages
 pub record CanCompact (shared : Shared) (hand : Hand) (plan : CompactPlan) : Type 0 where
+  -- its plan is of the cell as it stands
   pub move : IsMove shared plan
+  -- the hand has as many as the entries that stay fill
   pub count : length hand.pages.blocks ≡ plan.walk.pages
 
--- the pages that go are those of the cell as it stands, and the hand has room for them
+-- a cleaner can unlink log pages
 pub record CanUnlink (shared : Shared) (hand : Hand) (plan : UnlinkPlan) : Type 0 where
+  -- its plan is what a walk by whole pages finds in the cell as it stands
   pub walk : plan.walk ≡ unlinkable_of (cell_at (shared_of shared) plan.ino)
+  -- the hand has room for the log pages that go
   pub room : plan.walk.pages ≤ hand.pages.room
 
--- the cell stands still, no part of it is killed and not yet retired, and its log pages are the device's
+-- what a cleaner is given before it changes a cell
 pub record CanClean (shared : Shared) (ino : ℕ) : Type 0 where
+  -- the slot has a cell
   pub slot : ino < length shared.cells.items
+  -- it has blocks of the device's size, and no entry past the tail
   pub still : IsStill shared.geometry.numbers.block (cell_at (shared_of shared) ino)
+  -- no part of it is killed and not yet retired
   pub retired : has_killed (cell_at (shared_of shared) ino) ≡ false
+  -- its log pages are of the device
   pub chain : AllByRecursion (λ (b : BlockValue). b.number < shared.geometry.numbers.blocks)
       (cell_at (shared_of shared) ino).chain.blocks

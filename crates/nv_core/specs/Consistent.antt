@@ -20,22 +20,13 @@ use Rattle.nv_machine.specs.World.{list_at}
 use Rattle.nv_core.specs.Audited.{device_of}
 use Rattle.nv_core.specs.Worlds.{EventRun, Shows, WorldState}
 
--- A WORLD BESIDE THE PLAIN WORLD AND THE LIST OF ITS RECORDS. Each inode's counts, the records that living
--- snapshots hold and each free list are what one scan of all logs and of the snapshots gives, where what hands have
--- and what is deferred are named apart, and so is the pool of inode numbers. Each free list is that scan's, number by
--- number. An actor without a call has an empty hand and no lock, and deferred are the records that no living snapshot
--- holds. The settled logs give the plain world's nodes, and so its tree. And each living snapshot reads as the plain
--- world's copy, which was taken when it was made: node by node, and so as a tree.
--- A consistent world: its device agrees, each free list is `free_by_logs` number by number, and its pool is what a
--- scan leaves. An idle actor has nothing. Deferred are the records that no living snapshot holds. Its settled logs
--- give the nodes and the tree of the plain world beside it, and its commit number and epoch are that world's. Each
--- living snapshot reads as that world's copy, node by node and as a tree.
+-- A CONSISTENT WORLD, beside the plain world and the list of its records
 pub record IsConsistent (g : GeometryNumbers) (w : machine.World) (plain : Plain) (records : List Record) : Type 0 where
-  -- counts, records and free lists are those of one scan
+  -- each log's counts, the records and the free lists are what one scan of all logs gives
   pub scan : Agrees (device_of g w)
   -- each free list is what logs, chains and hands leave, number by number
   pub free : (cpu : ℕ) → cpu < g.cpus → free_of (list_at w.shared cpu) ≡ free_by_logs g w cpu
-  -- the pool of inode numbers is what logs and hands leave
+  -- the pool of inode numbers is what logs and hands leave, in rising order
   pub pool : w.shared.pool.numbers ≡ pool_from_scratch g w
   -- an actor without a call has an empty hand and no lock
   pub idle : IdleHaveNothing w
@@ -43,7 +34,7 @@ pub record IsConsistent (g : GeometryNumbers) (w : machine.World) (plain : Plain
   pub deferred : w.shared.book.deferred ≡ unheld (ids w.shared.book.snaps) records
   -- the settled logs give the plain world's nodes
   pub nodes : (handle : Handle) → settled_nodes w.shared handle ≡ plain.nodes handle
-  -- so they give its tree
+  -- the settled logs give the plain world's tree
   pub tree : tree_of w ≡ plain_tree (length w.shared.cells) plain
   -- the number of the last commit is the plain world's
   pub commit : w.shared.book.commit ≡ plain.commit
@@ -55,17 +46,16 @@ pub record IsConsistent (g : GeometryNumbers) (w : machine.World) (plain : Plain
   pub snapshot_trees : (snapshot : ℕ) → Contains (ids w.shared.book.snaps) snapshot
       → copied_tree (length w.shared.cells) plain.copies snapshot ≡ Some (snapshot_tree w snapshot)
 
--- the same of the world to which events lead from where a run starts, beside the plain world and the record list to
--- which they lead from those of the start.
--- `IsConsistentAfter` says so after a run: where it starts, with which records, and the events that came.
+-- A RUN LEADS TO A CONSISTENT WORLD, beside the plain world and the record list to which its
+-- events lead from those of its start
 abbrev pub IsConsistentAfter : GeometryNumbers → EventRun → Type 0
 IsConsistentAfter g run =
     IsConsistent g (after run.start run.events) (plain_after run.start run.events (plain_of run.start))
     (records_after run.start run.events run.records)
 
--- A WORLD IS CONSISTENT: some events lead from some start to what it shows, and so it is after these.
--- `IsConsistentWorld` says of a world in memory that some run leads to what it shows. In the example, snapshot 1
--- reads as a file with the bytes of block 2, whatever is written later.
+-- A WORLD IN MEMORY IS CONSISTENT: events lead from some start to what it shows, which is
+-- consistent. Example: a file has its page in block 2, snapshot 1 is made, and the page is written
+-- again. Snapshot 1 reads as the file with the bytes of block 2, whatever is written later.
 abbrev pub IsConsistentWorld : WorldState → Type 0
 IsConsistentWorld w =
     let g = w.shared.geometry.numbers in

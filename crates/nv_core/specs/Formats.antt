@@ -25,7 +25,7 @@ rootless g = record {
   holder = None;
 }
 
--- an actor with an empty hand and no call
+-- an empty hand for blocks of the device's size
 abbrev pub empty_of : GeometryNumbers → Hand
 empty_of g = record {
   «data» = record { blocks = []; size = g.block; room = 0 };

@@ -87,18 +87,18 @@ number_at other commit = None
 
 -- ---- WHAT IS TOLD
 
--- of a call: the name of its step, the number of its commit where the step is its commit point, and who is waited for
+-- WHAT IS TOLD OF A CALL before its next step
 pub record IsTold (m : World) (actor : ℕ) (r : Running) (told : NextStep) : Type 0 where
-  -- the name is that of the machine's step
+  -- its name is that of the machine's step
   pub name : name_in told.name ≡ name_of r.next m.numbers.cpus actor r
-  -- whether memory is granted or not
+  -- where it is the commit point, whatever memory is granted, the number of the commit is told
   pub commits : (granted : Bool) → told.commits ≡ number_at (plain_change_of m (Go actor granted)) r.commit
-  -- the actor is told that the step waits for, or none where it doesn't wait
+  -- the actor that it waits for is told, and none where it doesn't wait
   pub waits : IsAwaited m.shared actor r told.waits_for
-  -- so it is the holder of the lock that the step needs, if that has one
+  -- that is the actor which holds the lock that the step needs
   pub holder : told.waits_for ≡ holder_for m.shared r r.next
 
--- of an actor: nothing where it runs no call
+-- what is told of an actor's next step: nothing where it runs no call
 abbrev pub IsNext : World → ℕ → Option Running → Option NextStep → Type 0
 IsNext m actor None None = Unit {0}
 IsNext m actor (Some r) (Some told) = IsTold m actor r told
@@ -106,13 +106,13 @@ IsNext m actor other told = ⊥
 
 -- ---- on the way there
 
--- the same of a call by what is shared alone
+-- what is told of a call before its next step, by what is shared alone
 pub record TellsStep (s : Shared) (cpus actor : ℕ) (r : Running) (told : NextStep) : Type 0 where
-  -- the name is that of the machine's step
+  -- its name is that of the machine's step
   pub name : name_in told.name ≡ name_of r.next cpus actor r
-  -- whatever its turn
+  -- where it is the commit point, whatever its turn, the number of the commit is told
   pub commits : (t : Turn) → told.commits ≡ number_at (plain_change r.next (written_slots r) t) r.commit
-  -- the holder of the lock that the step needs
+  -- the actor that holds the lock which the step needs is told
   pub waits : told.waits_for ≡ holder_for s r r.next
 
 -- something is told, and this holds of it

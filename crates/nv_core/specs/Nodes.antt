@@ -19,22 +19,25 @@ use Rattle.nv_machine.specs.World.{Answers, Ending, BoundAnew, Refuses}
 use Rattle.nv_core.specs.declared.shared.Shared.{Shared}
 use Rattle.nv_core.specs.Parts.{AreSlots}
 
--- a cell is one, with blocks of that size, each number once
+-- a cell has blocks of that size, each the only one of its number
 abbrev pub HasOwn : ℕ → CellState → Type 0
 HasOwn block cell = HasBytes (bytes_among cell.blocks) block cell
 
--- the slot of a number is one of these, if it is one of all
+-- a number has its slot among these, where it is in range
 abbrev pub HoldsSlot : List ℕ → ℕ → ℕ → Type 0
 HoldsSlot slots inodes ino = ino < inodes → has slots ino ≡ true
 
--- those of some handles are
+-- each of these handles has its slot among these, where it is in range
 abbrev pub HoldHandles : List ℕ → ℕ → List Handle → Type 0
 HoldHandles slots inodes list = AllByRecursion (λ (h : Handle). HoldsSlot slots inodes h.ino) list
 
 -- the nodes under some handles are read in the cells of these slots
 pub record CanRead (shared : Shared) (slots : List ℕ) (list : List Handle) : Type 0 where
+  -- each of these slots has a cell
   pub there : AreSlots shared slots
+  -- each has blocks of the device's size, each the only one of its number there
   pub own : AllByRecursion (λ (c : ℕ × CellValue). HasOwn shared.geometry.numbers.block c.1.state) (lent_cells slots shared.cells.items)
+  -- each handle in range is of one of these slots
   pub held : HoldHandles slots (length shared.cells.items) list
 
 -- ---- the check

@@ -13,15 +13,20 @@ use Rattle.nv_calls.specs.SlotCells.{cell_in, lent_cells}
 use Rattle.nv_cell.specs.Cell.{CellValue}
 use Rattle.nv_core.specs.declared.shared.Shared.{Shared}
 
--- the list of a CPU is of its home range, and of blocks of the device's size
+-- the list of a CPU
 pub record IsListOf (g : GeometryNumbers) (cpu : ℕ) (list : FreeBlocks) : Type 0 where
+  -- it begins where the CPU's home range begins
   pub start : list.start ≡ home_start g.blocks g.cpus cpu
+  -- it ends where the next CPU's begins
   pub end : list.end ≡ home_start g.blocks g.cpus (cpu + 1)
+  -- its blocks have the device's size
   pub size : list.size ≡ g.block
 
--- there is a list for each CPU, of its home range
+-- the lists of a device
 pub record AreListsOf (g : GeometryNumbers) (lists : List FreeBlocks) : Type 0 where
+  -- each CPU has its list
   pub count : length lists ≡ g.cpus
+  -- each is of its CPU's home range
   pub each : (cpu : ℕ) → cpu < g.cpus → IsListOf g cpu (slice_index_or lists cpu no_list)
 
 -- each list is that of its CPU
@@ -38,7 +43,7 @@ IsOfDevice g hand = AllByRecursion (λ (b : BlockValue). b.number < g.blocks) (b
 abbrev pub HaveSlots : List CellValue → List ℕ → Type 0
 HaveSlots cells slots = (k : ℕ) → k < length slots → slice_index_or slots k 0 < length cells
 
--- all cells but that of a slot are as they were
+-- all cells other than that of a slot are as they were
 abbrev pub IsOnlyAt : ℕ → List CellValue → List CellValue → Type 0
 IsOnlyAt ino old new = new ≡ slice_set old ino (cell_in new ino)
 
@@ -48,8 +53,10 @@ AreSlots shared slots = HaveSlots shared.cells.items slots
 
 -- ---- cells
 
--- the cells of these slots stand still: blocks of the device's size, and no entry past the tail
+-- the cells of these slots stand still
 pub record AreStill (shared : Shared) (slots : List ℕ) : Type 0 where
+  -- each of these slots has a cell
   pub there : AreSlots shared slots
+  -- each has blocks of the device's size, and no entry past the tail
   pub still : AllByRecursion (λ (c : ℕ × CellValue). IsStill shared.geometry.numbers.block c.1.state)
       (lent_cells slots shared.cells.items)

@@ -31,11 +31,11 @@ abbrev pub picked_by : Option Running → ℕ
 picked_by None = 0
 picked_by (Some running) = picked_at running.next
 
--- while its hand is with the actor alone
+-- the blocks of the record that an actor's call has picked, while its hand is in no commit
 abbrev pub picked_with : Reservation → Option Running → ℕ
 picked_with (reserved.Hand hand) running = picked_by running
 picked_with other running = 0
 
--- those of one actor: one or none
+-- the blocks of the record that an actor has picked: one or none
 abbrev pub picked_of : Actor → ℕ
 picked_of actor = picked_with actor.reserved actor.running

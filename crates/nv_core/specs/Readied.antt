@@ -11,7 +11,8 @@ use Rattle.nv_core.specs.declared.reservation.Reservation.{Reservation}
 use Rattle.nv_core.specs.declared.running.Running.{Running}
 use Rattle.nv_core.specs.declared.shared.Shared.{Shared}
 
--- its data blocks have the pages of the call, over these cells and with this text
+-- the hand of a call that is ready: its data blocks have the pages of the call, over these cells
+-- and with this text
 abbrev pub filled_hand : List (ℕ × CellValue) → List ℕ → Update → Hand → HandState
 filled_hand cells text u hand = record (hand_of hand) { blocks = filled_by cells (λ i. slice_index_or text i 0) u hand.«data» }
 

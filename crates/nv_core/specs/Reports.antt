@@ -25,8 +25,7 @@ use Rattle.nv_core.specs.declared.snaps.Snaps.{Snaps}
 use Rattle.nv_machine.specs.Held.{pending_in}
 use Rattle.nv_machine.specs.World.{Shared, World, cell_at}
 
--- the free lists, CPU by CPU, as maximal runs.
--- the block runs of each free list;
+-- the free lists, CPU by CPU, as maximal runs
 abbrev pub lists_of : Shared → List (List FreeRun)
 lists_of s = map (λ (list : FreeBlocks). free_runs_of (numbers_of list.blocks)) s.lists
 
@@ -34,7 +33,7 @@ lists_of s = map (λ (list : FreeBlocks). free_runs_of (numbers_of list.blocks))
 abbrev pub counts_in : CellState → LogCounts
 counts_in cell = record { entries = cell.chain.tail; pages = map (counts_of cell) (range_with_len 0 (length cell.chain.blocks)) }
 
--- the entries of a log up to its tail, and its log pages' counts;
+-- the entries of a log up to its tail, and the counts of its log pages
 abbrev pub log_at : Shared → ℕ → LogCounts
 log_at s ino = counts_in (cell_at s ino)
 
@@ -49,8 +48,8 @@ snap_counts book snapshot = record {
   pins = snapshot.pins;
 }
 
--- of each living snapshot the recorded blocks that it holds, those that a `drop` of it would defer, and its pins.
--- Reports by one scan: the same numbers, where no mark, tally, manifest or free list is asked.
+-- of each living snapshot the recorded blocks that it holds, those that a drop would defer, and
+-- its pins
 abbrev pub snaps_of : BookState → Snaps
 snaps_of book = record { epoch = book.snaps.epoch; commit = book.commit; living = map (snap_counts book) book.snaps.living }
 
@@ -84,7 +83,7 @@ kept_among book (birth ∷ births) (mark ∷ marks) (block ∷ blocks) =
 abbrev pub kept_in : BookState → CellState → ℕ
 kept_in book cell = kept_among book (births (log_of cell)) cell.marks cell.blocks
 
--- the same of the parts of one entry, and the mark and the block of one of them
+-- the data blocks of one entry's parts that a living snapshot holds or that are current
 abbrev pub kept_at : BookState → CellState → ℕ → Entry → ℕ
 kept_at book cell place e =
     kept_among book (replicate (part_count e) e.epoch) (drop (part_base (log_of cell) place) cell.marks)
@@ -129,11 +128,12 @@ space_in blocks pending s = record {
   hand = blocks - free_of s - chain_of s - data_kept s;
 }
 
--- where the blocks are: in free lists; in logs; as data of parts that are current, recorded, or killed just now and
--- held, less the pending ones; pending, with a record that is deferred or picked; and the rest;
+-- where the blocks are: in free lists; in logs; as data of parts that are current, recorded, or
+-- killed just now and held, less the pending ones; pending, with a record that is deferred or
+-- picked; and the rest
 abbrev pub space_of : World → Space
 space_of w = space_in w.numbers.blocks (block_count (pending_in w)) w.shared
 
--- no block is at two of these places
+-- free blocks, log pages and data together are no more than there are blocks
 abbrev pub AddsUp : ℕ → Shared → Type 0
 AddsUp blocks s = free_of s + chain_of s + data_kept s ≤ blocks

@@ -28,13 +28,14 @@ use Rattle.nv_core.specs.declared.world.Actor.{Actor}
 abbrev pub image_by : Shared → ImageValue
 image_by shared = image_of (world_of shared)
 
--- what a plan reads of a cell, and of what is shared
+-- what a plan of what goes on reads of a cell
 abbrev pub shown_cell : CellValue → SlotViewValue
 shown_cell cell = record {
   generation = cell.state.generation;
   chain = record { state = cell.state.chain; spare = cell.room.pages };
 }
 
+-- what a plan of what goes on reads of what is shared
 abbrev pub view_of : Shared → ViewValue
 view_of shared = record {
   numbers = shared.geometry.numbers;
@@ -45,12 +46,13 @@ view_of shared = record {
   commit = shared.book.state.commit;
 }
 
--- a plan of what goes on
+-- the plan is one of the world that goes on from what is shared
 abbrev pub IsPlanned : Shared → Plan → Type 0
 IsPlanned shared plan = IsPlanOf (image_by shared) (view_of shared) 0 plan
 
 -- ---- hands and lists
 
+-- the blocks in an actor's hand
 abbrev pub held : Actor → List BlockValue
 held actor = blocks_of (hand_held actor.reserved)
 
@@ -72,41 +74,64 @@ blocks_past count places = flat_map option_to_list (drop count places)
 abbrev pub fresh_blocks : CellState → List BlockValue
 fresh_blocks cell = blocks_past (part_total (log_of cell)) cell.blocks
 
--- the next cell is taken apart, whose blocks no cell has that is made or is to come
+-- the next cell can be taken apart, while blocks with the numbers `owed` are still to come from
+-- other cells
 pub record CanLeave (image : ImageValue) (ino : ℕ) (owed : List ℕ) (cell : CellState) (lists : List FreeBlocks) : Type 0 where
+  -- the image has the slot of this cell
   pub slot : slot_of image ino ≡ slot_image cell
+  -- its blocks have the image's size
   pub size : cell.block ≡ image.numbers.block
+  -- each of its blocks is of the device
   pub within : (n : ℕ) → has (stored_in cell) n ≡ true → n < image.numbers.blocks
+  -- no two of its blocks have one number
   pub once : (n : ℕ) → times n (stored_in cell) ≤ 1
+  -- no cell that is made has one of its blocks, and none that is to come
   pub apart : (n : ℕ) → has (stored_in cell) n ≡ true → (has (used_by image ino) n || has owed n) ≡ false
   -- the image has no block of a part that is not published
   pub unseen : (n : ℕ) → has (numbers_of (fresh_blocks cell)) n ≡ true → has (image_numbers image) n ≡ false
+  -- every block that is with no made cell, not here and not to come is in its home list
   pub free : AreFree image ino (stored_in cell ++ owed) lists
 
+-- a cell was taken apart, and its blocks without a place in the image are free
 pub record HasLeft (image : ImageValue) (view : ViewValue) (ino : ℕ) (owed : List ℕ) (bare : BareCell) (lists : List FreeBlocks) : Type 0 where
+  -- what is left is the image's slot: its generation, its chain and its blocks
   pub left : IsSlotLeft image view ino bare
+  -- no cell that is made has one of its blocks, and none that is to come
   pub apart : IsApart image ino owed
+  -- every block that is with no made cell, not in this slot and not to come is in its home list
   pub free : AreFree image ino (slot_numbers (slot_of image ino) ++ owed) lists
 
--- the cells of a device that stops, of which the image comes: no two blocks have one number
+-- the cells of a device that stops, of which the image comes
 pub record AreStopped (image : ImageValue) (cells : List CellValue) : Type 0 where
+  -- the image has no fault
   pub faultless : IsFaultless image
+  -- the image has the slots of these cells
   pub slots : image.slots ≡ map slot_image (states_of cells)
+  -- their blocks have the image's size
   pub sizes : (ino : ℕ) (d : CellValue) → ino < length cells → (slice_index_or cells ino d).state.block ≡ image.numbers.block
+  -- no two of their blocks have one number
   pub once : (n : ℕ) → times n (all_stored cells) ≤ 1
+  -- each of their blocks is of the device
   pub within : (n : ℕ) → has (all_stored cells) n ≡ true → n < image.numbers.blocks
 
--- all cells are taken apart
+-- all cells can be taken apart, and made anew by a plan
 pub record CanPutAll (image : ImageValue) (view : ViewValue) (cells : List CellValue) (plan : Plan) (lists : List FreeBlocks) : Type 0 where
+  -- the image comes of these cells
   pub stopped : AreStopped image cells
+  -- what is read is what is seen of the image
   pub sight : IsSeen image view
+  -- the plan is one of that image, of which no cell is made yet
   pub planned : IsPlanOf image view 0 plan
+  -- what is read is also what these cells show
   pub seen : view.slots ≡ map shown_cell cells
+  -- every block that no cell has is in its home list
   pub free : AreFree image 0 (all_stored cells) lists
 
 -- ---- the whole
 
 -- the parts are those of the world that goes on
 pub record IsRebuilt (old new : Shared) : Type 0 where
+  -- the device is the same
   pub geometry : new.geometry ≡ old.geometry
+  -- what is shared is what a mount makes of the image
   pub shared : shared_of new ≡ (mounted (image_by old)).shared

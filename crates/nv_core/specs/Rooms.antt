@@ -45,12 +45,12 @@ use Rattle.nv_core.specs.declared.turn.Turn.TheVariants as turn
 
 -- ---- the call
 
--- a request that changes nodes, or that its commit has
+-- the request is of a call that goes through its last steps, and no visit
 abbrev pub IsNoVisit : Request → Type 0
 IsNoVisit (request.Visit c) = ⊥
 IsNoVisit other = Unit {0}
 
--- the request that a call has before that step
+-- the request is of the kind that this step of a call wants
 abbrev pub FitsNext : Next → Request → Type 0
 FitsNext next.Number j = makes_inode j ≡ true
 FitsNext (next.Look place) j = IsLookAt place j
@@ -66,12 +66,12 @@ abbrev pub LooksAsTold : Request → LookupResult → Type 0
 LooksAsTold (request.Change plan text) looked = directories (blank_call plan) ≡ [] → looked ≡ nothing_looked
 LooksAsTold other looked = Unit {0}
 
--- the next step is one of a call on snapshots: of any, a visit of a show, or the end of one
+-- the step is of a call on snapshots, or of a cleaner
 abbrev pub IsSnapshotOrCleanerStep : Next → Type 0
 IsSnapshotOrCleanerStep (next.SnapshotOrCleaner step) = Unit {0}
 IsSnapshotOrCleanerStep other = ⊥
 
--- one that is lent the book
+-- the step is of a call on snapshots, and is lent the book
 abbrev pub IsOnBook : Next → Type 0
 IsOnBook (next.SnapshotOrCleaner (on.Show snapshot showing)) = ⊥
 IsOnBook (next.SnapshotOrCleaner (on.LockPicked draining picked)) = ⊥
@@ -84,7 +84,7 @@ IsOnBook (next.SnapshotOrCleaner (on.Compact plan)) = ⊥
 IsOnBook (next.SnapshotOrCleaner step) = Unit {0}
 IsOnBook other = ⊥
 
--- one of a cleaner behind its planning
+-- the step is of a cleaner, behind its planning
 abbrev pub IsCleaning : Next → Type 0
 IsCleaning (next.SnapshotOrCleaner (on.Fresh fresh)) = Unit {0}
 IsCleaning (next.SnapshotOrCleaner (on.Unlink plan)) = Unit {0}
@@ -101,26 +101,34 @@ abbrev pub IsUnpin : Next → Type 0
 IsUnpin (next.SnapshotOrCleaner (on.Unpin snapshot seen)) = Unit {0}
 IsUnpin other = ⊥
 
--- a call whose names were bound anew looks them up
+-- the next step of a call fits its request
 pub record FitsCall (running : Running) : Type 0 where
+  -- the request is of the kind that the next step wants
   pub before : FitsNext running.next running.request
+  -- a call that looks no name up has found nothing
   pub looks : LooksAsTold running.request running.looked
+  -- a call whose names were bound anew has a look to begin again with
   pub overtaken : running.ending ≡ ending.BoundAnew → IsLookAt 0 running.request
 
 -- a call can turn to its last steps, to end so
 pub record CanEnd (running : Running) (how : Ending) : Type 0 where
+  -- it is no visit, which has no last steps
   pub request : IsNoVisit running.request
+  -- a call that looks no name up has found nothing
   pub looks : LooksAsTold running.request running.looked
+  -- where its names were bound anew, it has a look to begin again with
   pub overtaken : how ≡ ending.BoundAnew → IsLookAt 0 running.request
 
 -- ---- hands
 
--- a hand is of blocks of the device's size
+-- a hand is for blocks of the device's size
 pub record IsHandOf (g : GeometryNumbers) (hand : Hand) : Type 0 where
+  -- its data blocks have the device's size
   pub blocks : hand.«data».size ≡ g.block
+  -- its log pages have the device's size
   pub pages : hand.pages.size ≡ g.block
 
--- the hand, whoever has it
+-- the hand of a reservation, in whichever phase that is
 abbrev pub hand_held : Reservation → Hand
 hand_held (reserved.Hand hand) = hand
 hand_held (reserved.Ready ready) = ready.hand
@@ -128,17 +136,25 @@ hand_held (reserved.Commit commit) = commit.hand
 
 -- ---- from the check to the growths
 
--- a call has passed its check over the cells of its slots, has something to commit, and the number of a
--- new inode in its hand
+-- a call has passed its check over the cells of its slots, and has something to commit
 pub record IsChecked (shared : Shared) (slots : List ℕ) (hand : Hand) (looked : LookupResult) (u : Update) : Type 0 where
+  -- the nodes that it reads are those of the cells that it holds
   pub read : CanRead shared slots (handles looked (blank_call u))
+  -- these cells are at most four, by rising number
   pub lent : AreCells (lent_cells slots shared.cells.items)
+  -- it holds at least one slot
   pub some : 0 < length slots
+  -- each of its cells has blocks of the device's size, and no entry past the tail
   pub still : AllByRecursion (λ (c : ℕ × CellValue). IsStill shared.geometry.numbers.block c.1.state) (lent_cells slots shared.cells.items)
+  -- the plain world does not refuse it over these nodes
   pub passed : refusal shared.geometry.numbers.block (nodes_in (lent_cells slots shared.cells.items)) (blank_call u) ≡ passes
+  -- it has something to commit
   pub something : is_nothing (blank_call u) ≡ false
+  -- its names lead to what its looks found
   pub same : found_in (nodes_in (lent_cells slots shared.cells.items)) (blank_call u) ≡ looked
+  -- a call that makes an inode has the number of an empty slot, and any other has none
   pub number : HasNumberFor (lent_cells slots shared.cells.items) (makes u) hand.ino
+  -- the hand has no chain of an erased inode
   pub chain : hand.chain ≡ []
 
 -- the handle of the inode that it makes is that of the number in its hand
@@ -146,7 +162,7 @@ abbrev pub HasMade : Shared → List ℕ → Hand → Handle → Update → Type
 HasMade shared slots hand made u =
     makes u ≡ true → made ≡ unwrap_or (handle_made_by (lent_cells slots shared.cells.items) hand.ino u) no_handle
 
--- how many blocks the call takes, and how many log pages with the blocks in its hand
+-- how many data blocks a call takes
 abbrev pub blocks_to_take : Shared → List ℕ → Update → ℕ
 blocks_to_take shared slots u = wanted_over shared.geometry.numbers.block (lent_cells slots shared.cells.items) u
 
@@ -155,34 +171,48 @@ abbrev pub pages_to_take : Shared → List ℕ → Hand → Update → ℕ
 pages_to_take shared slots hand u =
     pages_wanted (lent_cells slots shared.cells.items) (planned_by (lent_cells slots shared.cells.items) hand u)
 
--- it has its data blocks and no log page, and room for those that it takes, or for as many as it can need
+-- a call has all data blocks that it takes, and no log page yet
 pub record HasItsBlocks (shared : Shared) (slots : List ℕ) (hand : Hand) (u : Update) : Type 0 where
+  -- the hand has as many data blocks as it takes
   pub blocks : length hand.«data».blocks ≡ blocks_to_take shared slots u
+  -- the hand has no log page
   pub none : hand.pages.blocks ≡ []
+  -- there is room for the log pages that it takes, or for as many as it can need
   pub room : min (pages_to_take shared slots hand u) (length hand.«data».blocks + MORE_PAGES) ≤ hand.pages.room
 
--- it takes data blocks: so many are wanted yet, there is room for them, and for the log pages that they can need.
--- So many data blocks and log pages are taken, with room for those that are still wanted.
+-- a call takes data blocks, from the list that is asked next
 pub record TakesBlocks (shared : Shared) (slots : List ℕ) (hand : Hand) (asked wanted : ℕ) (u : Update) : Type 0 where
+  -- those in the hand and those still wanted are as many as it takes
   pub count : length hand.«data».blocks + wanted ≡ blocks_to_take shared slots u
+  -- the hand has no log page yet
   pub none : hand.pages.blocks ≡ []
+  -- there is room for the data blocks still wanted
   pub room : wanted ≤ hand.«data».room
+  -- there is room for as many log pages as it can need afterwards
   pub pages : length hand.«data».blocks + wanted + MORE_PAGES ≤ hand.pages.room
+  -- the list that is asked next is there
   pub list : asked < length shared.lists.items
 
--- it has all of them, and takes log pages
+-- a call takes log pages, from the list that is asked next
 pub record TakesPages (shared : Shared) (slots : List ℕ) (hand : Hand) (asked wanted : ℕ) (u : Update) : Type 0 where
+  -- the hand has as many data blocks as it takes
   pub blocks : length hand.«data».blocks ≡ blocks_to_take shared slots u
+  -- the log pages in the hand and those still wanted are as many as its plan needs
   pub count : length hand.pages.blocks + wanted ≡ pages_to_take shared slots hand u
+  -- there is room for the log pages still wanted
   pub room : wanted ≤ hand.pages.room
+  -- the list that is asked next is there
   pub list : asked < length shared.lists.items
 
--- it has all that it takes
+-- a call has all that it takes
 pub record HasTaken (shared : Shared) (slots : List ℕ) (hand : Hand) (u : Update) : Type 0 where
+  -- the hand has as many data blocks as it takes
   pub blocks : length hand.«data».blocks ≡ blocks_to_take shared slots u
+  -- the hand has as many log pages as its plan needs
   pub pages : length hand.pages.blocks ≡ pages_to_take shared slots hand u
 
--- a call that takes blocks has passed its check, and its hand has room
+-- a call that takes blocks, or has just taken them all, has passed its check, and its hand has
+-- room
 abbrev pub Takes : Next → Shared → List ℕ → Hand → ℕ → LookupResult → Update → Type 0
 Takes (next.TakeBlocks asked) shared slots hand wanted looked u =
     IsChecked shared slots hand looked u × TakesBlocks shared slots hand asked wanted u
@@ -191,14 +221,14 @@ Takes (next.TakeLogPages asked) shared slots hand wanted looked u =
 Takes next.Ready shared slots hand wanted looked u = IsChecked shared slots hand looked u × HasTaken shared slots hand u
 Takes other shared slots hand wanted looked u = Unit {0}
 
--- the same of a request: one that takes changes nodes
+-- the step takes blocks, or is the one behind the takings
 abbrev pub takes : Next → Bool
 takes (next.TakeBlocks asked) = true
 takes (next.TakeLogPages asked) = true
 takes next.Ready = true
 takes other = false
 
--- a call that took all has what it wants
+-- where the next step is such, the call of the request takes so
 abbrev pub TakesIf : Bool → Shared → Hand → Running → Type 0
 TakesIf false shared hand running = Unit {0}
 TakesIf true shared hand running =
@@ -211,7 +241,7 @@ CanCountPages shared hand running =
     IsChangeWith (λ u. IsChecked shared (slots_in running.slots) hand running.looked u
     × (length hand.«data».blocks ≡ blocks_to_take shared (slots_in running.slots) u)) running.request
 
--- it has room for log pages too
+-- the call of a request is checked, and has its data blocks and room for its log pages
 abbrev pub CanWantPages : Shared → Hand → Running → Type 0
 CanWantPages shared hand running =
     IsChangeWith (λ u. HasMade shared (slots_in running.slots) hand running.made u
@@ -226,8 +256,11 @@ WantsBlocks wanted shared hand running =
 
 -- the hand has room for so many data blocks, and for the log pages that the call takes after them
 pub record HasRoomFor (wanted : ℕ) (shared : Shared) (hand : Hand) (running : Running) : Type 0 where
+  -- there is room for the data blocks
   pub blocks : wanted ≤ hand.«data».room
+  -- where there are any, there is room for as many log pages as the call can need with them
   pub most : 0 < wanted → wanted + MORE_PAGES ≤ hand.pages.room
+  -- where there are none, there is room for the log pages of its plan
   pub own : wanted ≡ 0 → IsChangeWith (λ u. pages_to_take shared (slots_in running.slots) hand u ≤ hand.pages.room) running.request
 
 -- ---- calls on snapshots, and cleaners
@@ -236,8 +269,10 @@ pub record HasRoomFor (wanted : ℕ) (shared : Shared) (hand : Hand) (running : 
 abbrev pub HoldsOne : Hand → Type 0
 HoldsOne hand = 0 < hand.«data».room + length hand.«data».blocks
 
--- a show has another visit to make; a drain releases no more than it may, and behind its first pick it has room for
--- the block of a record; a cleaner has the walk of the cell that it holds, and room for the pages that move
+-- what the next step of a show, a drain or a cleaner asks of its hand: a show has another visit to
+-- make; a drain releases no more than it may, and behind its first pick it has room for the block
+-- of a record; a cleaner has the walk of the cell that it holds, and room for the log pages that
+-- move
 abbrev pub HasStepRoom : SnapshotOrCleanerStep → Shared → Hand → Type 0
 HasStepRoom (on.Show snapshot showing) shared hand = is_over showing ≡ false
 HasStepRoom (on.Pick draining) shared hand =
@@ -249,7 +284,8 @@ HasStepRoom (on.Unlink plan) shared hand = CanUnlink shared hand plan
 HasStepRoom (on.Compact plan) shared hand = CanCompact shared hand plan
 HasStepRoom other shared hand = Unit {0}
 
--- so has one that goes on to its next record, and it is a call on snapshots
+-- a drain that may go on to its next record is a call on snapshots, and has room for that record's
+-- block
 abbrev pub CanDrain : Ending → Request → Hand → Type 0
 CanDrain (ending.Drains draining) j hand = IsSnapshotOrCleaner j × (draining.released + draining.left ≤ DRAIN) × HoldsOne hand
 CanDrain other j hand = Unit {0}
@@ -262,21 +298,26 @@ HasNextRoom (next.Give cpu) how j shared hand = CanDrain how j hand
 HasNextRoom next.ReturnNumber how j shared hand = CanDrain how j hand
 HasNextRoom other how j shared hand = Unit {0}
 
--- what ends so is no drain that goes on
+-- this ending is not that of a drain, which may go on
 abbrev pub IsNoDrain : Ending → Type 0
 IsNoDrain (ending.Drains draining) = ⊥
 IsNoDrain other = Unit {0}
 
 -- ---- ready
 
--- these cells and this call were made ready with that hand: since then the cells have changed in their room alone.
--- Once the call is ready, it was made so over these cells, which have lost no room since.
+-- the call was made ready over its cells, which have lost no room since
 pub record IsReadyOver (now : List (ℕ × CellValue)) (ready : ReadyValue) : Type 0 where
+  -- the cells as they were when it was made ready
   pub cells : List (ℕ × CellValue)
+  -- the hand as it was then
   pub hand : Hand
+  -- the change that it makes
   pub update : Update
+  -- it could be made ready over these cells, with this hand
   pub can : CanReady cells hand update
+  -- the cells of now are these, with no less room
   pub more : HaveNoLessRoom cells now
+  -- what is ready was made of these
   pub is : IsReadyBy cells hand update now ready
 
 -- ---- what holds of a running call beside what is shown of it
@@ -285,7 +326,8 @@ pub record IsReadyOver (now : List (ℕ × CellValue)) (ready : ReadyValue) : Ty
 abbrev pub committing_cpu : Shared → ℕ
 committing_cpu shared = unwrap_or shared.holder 0 % length shared.lists.items
 
--- Rooms: what holds of a running call beside what is shown of it, so that its next step needs nothing else.
+-- ROOMS: what holds of a running call beside what is shown of it, so that its next step needs
+-- nothing else
 abbrev pub HasRooms : Shared → Reservation → Running → Type 0
 HasRooms shared (reserved.Hand hand) running =
     FitsCall running × IsHandOf shared.geometry.numbers hand × TakesIf (takes running.next) shared hand running
@@ -307,7 +349,8 @@ abbrev pub HasActorRooms : Shared → Reservation → Option Running → Type 0
 HasActorRooms shared reserved None = IsIdle shared reserved
 HasActorRooms shared reserved (Some running) = HasRooms shared reserved running
 
--- after a turn: the same of the call that goes on, and an actor whose call has ended has its hand alone
+-- what holds of an actor after a turn: of a call that goes on its rooms, and else of the hand
+-- alone
 abbrev pub HasRoomsAfter : Turn → Shared → Reservation → Running → Type 0
 HasRoomsAfter (turn.Ends result) shared reserved running = IsIdle shared reserved
 HasRoomsAfter other shared reserved running = HasRooms shared reserved running

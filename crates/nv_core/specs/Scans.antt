@@ -13,10 +13,9 @@ use Rattle.nv_core.specs.declared.reports.Space.{Space}
 use Rattle.nv_core.specs.declared.snaps.SnapCounts.{SnapCounts}
 use Rattle.nv_core.specs.declared.snaps.Snaps.{Snaps}
 
--- WHERE THE BLOCKS ARE: free; log pages; pages that are current or that a living snapshot holds; pages of pending
--- records; and all others.
--- `space_by_scan`: the blocks that logs leave free, the log pages of chains, the pages that are needed, the pages
--- of pending records, and the rest. What it sums stands in `Scanned` of `nv_machine`.
+-- WHERE THE BLOCKS ARE, by one scan: free; log pages; file pages that are current or that a living
+-- snapshot holds; file pages of pending records; and all others. What it sums stands in `Scanned`
+-- of `nv_machine`.
 abbrev pub space_by_scan : World → Space
 space_by_scan w = record {
   free = scanned_free w;
@@ -30,9 +29,8 @@ space_by_scan w = record {
 abbrev pub lists_by_scan : World → List (List FreeRun)
 lists_by_scan w = map (λ cpu. free_runs_of (free_by_logs w.numbers w cpu)) (range_with_len 0 w.numbers.cpus)
 
--- A LOG IN NUMBERS: its entries up to the tail, and of each page how many have a current pair, and how many one that
--- is needed, pending or killed.
--- `log_by_scan`: the counts from scratch, by what is needed, pending or killed.
+-- A LOG IN NUMBERS, by one scan: its entries up to the tail, and of each log page how many have a
+-- current pair, and how many one that is needed, pending or killed
 abbrev pub log_by_scan : World → ℕ → LogCounts
 log_by_scan w ino =
     let cell = cell_at w.shared ino in
@@ -41,7 +39,8 @@ log_by_scan w ino =
       pages = map (scanned_counts (retention_at w ino) cell) (range_with_len 0 (length cell.chain.blocks));
     }
 
--- A LIVING SNAPSHOT: the pages that it holds and that are no longer current, those that it alone holds, and its pins
+-- A LIVING SNAPSHOT, by one scan: the file pages that it holds and that are no longer current,
+-- those that it alone holds, and its pins
 abbrev pub snap_by_scan : World → Snapshot → SnapCounts
 snap_by_scan w snapshot = record {
   snapshot = snapshot.number;
@@ -50,8 +49,8 @@ snap_by_scan w snapshot = record {
   pins = snapshot.pins;
 }
 
--- `snaps_by_scan`: of each living snapshot the pages that it holds and that are no longer current, except for those
--- that are killed and not yet retired; and those of them that no other living snapshot holds.
+-- THE LIVING SNAPSHOTS, by one scan. File pages that are killed and not yet retired count for none
+-- of them.
 abbrev pub snaps_by_scan : World → Snaps
 snaps_by_scan w = record {
   epoch = w.shared.book.snaps.epoch;

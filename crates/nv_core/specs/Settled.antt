@@ -11,18 +11,21 @@ use Rattle.nv_machine.specs.World.{Shared, cell_at}
 use Rattle.nv_reader.specs.Cells.{NoneOut}
 use Rattle.nv_core.specs.Visits.{HasOwnBytes}
 
--- a noted tail is one of the log's, and each page of the settled log has its block, the only one of
--- its number in the cell
+-- the cell of a slot has what its settled log asks for
 pub record CanSettle (s : Shared) (ino : ℕ) : Type 0 where
+  -- the settled tail is not past the log's own
   pub tail : settled_tail s.book.journals ino (cell_at s ino).chain.tail ≤ (cell_at s ino).chain.tail
+  -- each block of the cell is the only one of its number there
   pub own : HasOwnBytes s ino
+  -- each file page of the settled log below its size has its block
   pub pages : NoneOut (cell_at s ino) (settled s ino)
 
--- each slot can be settled: its marks and blocks are those of its log
+-- each slot's cell has what its settled log asks for
 abbrev pub AreSettled : Shared → Type 0
 AreSettled s = (ino : ℕ) → ino < length s.cells → CanSettle s ino
 
--- a living snapshot is read by the logs up to their tails: at its epoch they have the nodes of the settled logs
+-- at this epoch the logs up to their tails give the nodes of the settled logs, so a snapshot is
+-- read by them
 abbrev pub AreSettledAt : ℕ → Shared → Type 0
 AreSettledAt epoch s = (handle : Handle) → copies_at s epoch handle ≡ settled_copies s epoch handle
 

@@ -75,9 +75,13 @@ hand_in commit = hand_with (killed_in commit) commit.hand
 
 -- what a running call of the machine has that the code has used up, or keeps in its commit
 pub record ShownCall : Type 0 where
+  -- the call, with all of its arguments
   pub call : Call
+  -- the items that it appends, inode by inode
   pub plan : List InodePlan
+  -- the number of its commit, once it has entered
   pub commit : ℕ
+  -- the epoch of its commit, once it has entered
   pub epoch : ℕ
 
 -- how far a drain is, in the machine's words
@@ -121,7 +125,7 @@ next_of next.ReturnNumber = machine.ReturnNumber
 next_of next.Visit = machine.Visit
 next_of (next.SnapshotOrCleaner step) = machine.SnapshotOrCleaner (step_on step)
 
--- the snapshot of a show that visits or ends, its state before a visit, and what it has seen at its end
+-- the snapshot of a show whose next step visits or takes the pin off, else 0
 abbrev pub snapshot_in : Next → ℕ
 snapshot_in (next.SnapshotOrCleaner (on.Show snapshot showing)) = snapshot
 snapshot_in (next.SnapshotOrCleaner (on.Unpin snapshot seen)) = snapshot
@@ -145,7 +149,7 @@ ending_of ending.BoundAnew = machine.BoundAnew
 ending_of (ending.Drains draining) = machine.Drains (draining_of draining)
 ending_of (ending.Cleans cleaned) = machine.Cleans cleaned
 
--- a running call before that step
+-- a running call of the machine before that step, by the code's and what is told beside
 abbrev pub shown_at : machine.Next → ShownCall → Running → machine.Running
 shown_at next told running = record {
   call = told.call;
@@ -161,11 +165,11 @@ shown_at next told running = record {
   epoch = told.epoch;
 }
 
--- one that is not made ready, or whose commit is over
+-- the running call that a call shows which is not yet ready, or whose commit is over
 abbrev pub shown : ShownCall → Running → machine.Running
 shown told running = shown_at (next_of running.next) told running
 
--- one that is ready
+-- the running call that a call shows which is ready
 abbrev pub shown_ready : ShownCall → Running → machine.Running
 shown_ready told running = shown_at machine.Enter told running
 
@@ -190,14 +194,14 @@ shown_commit commit told running = shown_at (commit_next commit) told running
 
 -- ---- what an actor holds
 
--- what is in the hand, whoever has it.
--- Of a hold its hand is shown, with the killed parts that its commit has yet to retire.
+-- the machine's hand that a reservation shows, with the killed parts that its commit has yet to
+-- retire
 abbrev pub held_by : Reservation → machine.HandState
 held_by (reserved.Hand hand) = hand_of hand
 held_by (reserved.Ready ready) = hand_of ready.hand
 held_by (reserved.Commit commit) = hand_in commit
 
--- the running call before its next step
+-- the machine's running call that a call with this reservation shows, before its next step
 abbrev pub shown_by : Reservation → ShownCall → Running → machine.Running
 shown_by (reserved.Hand hand) told running = shown told running
 shown_by (reserved.Ready ready) told running = shown_ready told running

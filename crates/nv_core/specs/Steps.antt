@@ -48,55 +48,78 @@ use Rattle.nv_core.specs.declared.next.SnapshotOrCleanerStep.TheVariants as on
 use Rattle.nv_core.specs.declared.running.Running.{Running}
 use Rattle.nv_core.specs.declared.shared.Shared.{Shared}
 
--- before its check a call holds all cells that it reads, none of which has entries past its tail, and has nothing in
--- its hand but the number of a new inode, whose slot is empty
+-- what a call is given before its check
 pub record CanBeChecked (shared : Shared) (hand : Hand) (running : Running) : Type 0 where
+  -- the cells that it holds have blocks of the device's size, and no entry past the tail
   pub still : AreStill shared (slots_in running.slots)
+  -- its hand has no block
   pub empty : blocks_of hand ≡ []
+  -- a number in its hand is that of a cell
   pub inside : ForSome hand.ino (λ ino. ino < length shared.cells.items)
+  -- the nodes that it reads are those of the cells that it holds
   pub read : IsChangeWith (λ u. CanRead shared (slots_in running.slots) (handles running.looked (blank_call u))) running.request
+  -- it makes an inode and found no number, or has that of an empty slot, or makes none
   pub number : IsChangeWith (λ u. (hand.ino ≡ None) × (makes u ≡ true)
       ⊎ HasNumberFor (lent_cells (slots_in running.slots) shared.cells.items) (makes u) hand.ino) running.request
 
--- the hand has no block that was at home on a lower CPU, and none that is free
+-- what a call is given before a `give` step to this CPU
 pub record CanGive (shared : Shared) (hand : Hand) (home : ℕ) : Type 0 where
+  -- the CPU is there
   pub cpu : home < shared.geometry.numbers.cpus
+  -- the hand has no block that is at home on a lower CPU
   pub given : AreGiven shared.geometry.numbers home (blocks_of hand)
+  -- each block in the hand has the device's size
   pub sized : AreSized shared.geometry.numbers.block (blocks_of hand)
+  -- no block of the hand is in that CPU's list, or twice in the hand
   pub once : (n : ℕ) → times n (numbers_of (blocks_of hand)) + times n (numbers_of (list_at (shared_of shared) home).blocks) ≤ 1
 
--- the number in the hand is that of a slot, and not in the pool
+-- what a call is given before a `return number` step
 pub record CanPutBack (shared : Shared) (hand : Hand) : Type 0 where
+  -- the number in the hand is that of a slot
   pub inode : ForSome hand.ino (λ ino. ino < shared.pool.inodes)
+  -- the pool has it not
   pub absent : ForSome hand.ino (λ ino. has shared.pool.numbers ino ≡ false)
 
--- where nobody commits, the cells take a commit of the next number, and no journal is open
+-- what a call that is ready is given at an `enter` which finds the commit lock free
 pub record CanEnter (shared : Shared) (running : Running) (ready : ReadyValue) (actor : ℕ) : Type 0 where
+  -- its cells have only entries older than the next commit, and not the last version or generation
   pub take : AllByRecursion (λ p. TakesCommit (stamp_of (after_enter actor shared.book.state))
       (value_at (lent_cells (slots_in running.slots) shared.cells.items) p.at)) ready.plans
+  -- the actor's CPU has a journal
   pub cpu : actor % length shared.lists.items < length shared.book.state.journals
+  -- that journal notes nothing
   pub closed : slice_index_or shared.book.state.journals (actor % length shared.lists.items) [] ≡ []
 
--- before it is made ready a call is to be answered, and the logs of the cells that it holds are sound
+-- what a call is given before it is made ready
 pub record CanGetReady (shared : Shared) (running : Running) : Type 0 where
+  -- it is to end with its answer
   pub answers : running.ending ≡ ending.Answers
+  -- the logs of the cells that it holds are sound
   pub sound : AllByRecursion (λ (c : ℕ × CellValue). IsSoundIn c.1.state (log_of c.1.state))
       (lent_cells (slots_in running.slots) shared.cells.items)
 
--- each page of a snapshot has its block, the only one of its number in its cell
+-- what a show is given before it reads a cell
 pub record CanShow (shared : Shared) (snapshot : ℕ) : Type 0 where
+  -- each block of a cell is the only one of its number there
   pub own : (ino : ℕ) → HasOwnBytes (shared_of shared) ino
+  -- each file page of the snapshot below its size has its block
   pub pages : (ino : ℕ) → let cell = cell_at (shared_of shared) ino in NoneOut cell (up_to snapshot (log_of cell))
 
--- the part of a picked record is kept in the cell of its inode, which the drain holds
+-- what a drain is given before it releases a record
 pub record CanRelease (shared : Shared) (picked : Record) : Type 0 where
+  -- the record's slot has a cell
   pub slot : picked.ino < length shared.cells.items
+  -- the record's part is marked kept there
   pub kept : mark_named (cell_at (shared_of shared) picked.ino) (name_of picked) ≡ Some Kept
+  -- the cell has blocks of the device's size, and no entry past the tail
   pub still : IsStill shared.geometry.numbers.block (cell_at (shared_of shared) picked.ino)
+  -- its log pages are of the device
   pub chain : AllByRecursion (λ (b : BlockValue). b.number < shared.geometry.numbers.blocks)
       (cell_at (shared_of shared) picked.ino).chain.blocks
+  -- the blocks of its parts are of the device
   pub parts : (n : ℕ) (b : BlockValue) → slice_index_or (cell_at (shared_of shared) picked.ino).blocks n None ≡ Some b
       → b.number < shared.geometry.numbers.blocks
+  -- where its inode is gone, the slot is not of the last generation
   pub generation : is_gone (log_of (cell_at (shared_of shared) picked.ino)) ≡ true
       → (cell_at (shared_of shared) picked.ino).generation < NUMBER
 
@@ -135,16 +158,21 @@ GivenBy shared (reserved.Ready ready) running actor = shared.holder ≡ None →
     → CanEnter shared running ready actor
 GivenBy shared (reserved.Commit commit) running actor = shared.holder ≡ Some actor
 
--- WHAT EVERY STEP OF AN ACTOR'S CALL IS GIVEN.
--- What a step is given by laws of the machine: that inode slots have cells, locks are held, cells before `check`
--- stand still, and logs are sound.
+-- WHAT EVERY STEP OF AN ACTOR'S CALL IS GIVEN by the laws of the machine
 pub record CanStep (shared : Shared) (reserved : Reservation) (running : Running) (actor : ℕ) : Type 0 where
+  -- the device's numbers are within their limits
   pub limits : IsWithinLimits shared.geometry.numbers
+  -- the actor is one of the device
   pub actors : actor < shared.geometry.numbers.actors
+  -- each list is of its CPU's home range
   pub home : AreHome shared
+  -- all blocks in the hand are of the device
   pub device : IsOfDevice shared.geometry.numbers (hand_held reserved)
+  -- each slot of the call has a cell
   pub slots : AreSlots shared (slots_in running.slots)
+  -- each cell has its lock
   pub wide : length shared.owners.items ≡ length shared.cells.items
+  -- what the step that comes next asks for holds
   pub own : GivenBy shared reserved running actor
 
 -- the next step passes the hand on: the call is made ready, it enters, or its commit leaves

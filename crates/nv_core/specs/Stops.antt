@@ -13,27 +13,35 @@ use Rattle.nv_core.specs.declared.beside.Beside.{Beside}
 use Rattle.nv_core.specs.declared.image_room.ImageRoom.{ImageRoom}
 use Rattle.nv_core.specs.declared.shared.Shared.{Shared}
 
--- empty lists with room for the slots and the living snapshots of a device.
--- And there are rooms, and room for the image of the world.
+-- room for the image of a world, so that a stop takes no memory
 pub record HasImageRoom (g : GeometryNumbers) (room : ImageRoom) : Type 0 where
+  -- no slot is in it yet
   pub no_slots : room.slots.items ≡ []
+  -- no snapshot is in it yet
   pub no_snapshots : room.snapshots.items ≡ []
+  -- each slot of the device has a place in it
   pub slots : g.inodes ≤ vec_capacity room.slots
+  -- each snapshot that may live has a place in it
   pub snapshots : g.snaps ≤ vec_capacity room.snapshots
 
--- there are no more slots and living snapshots
+-- what is shared fits into that room
 pub record FitsRoom (shared : Shared) : Type 0 where
+  -- there are no more cells than the device has slots
   pub slots : length shared.cells.items ≤ shared.geometry.numbers.inodes
+  -- no more snapshots live than the device says
   pub snapshots : length (ids shared.book.state.snaps) ≤ shared.geometry.numbers.snaps
 
 -- a world of the machine that shares this
 abbrev pub world_of : Shared → machine.World
 world_of shared = record { numbers = shared.geometry.numbers; shared = shared_of shared; actors = [] }
 
--- the locks of so many slots, which nobody holds, actors without calls, and room for the image
+-- what a world at rest has beside its parts, with so many slots
 pub record IsBeside (g : GeometryNumbers) (slots : ℕ) (beside : Beside) : Type 0 where
+  -- each slot has its lock, which nobody holds
   pub owners : beside.owners.items ≡ replicate slots None
+  -- each actor has an empty hand and no call
   pub actors : beside.actors.items ≡ replicate g.actors (idle_actor g)
+  -- there is room for the image of the world
   pub room : HasImageRoom g beside.room
 
 -- the image has this fault first

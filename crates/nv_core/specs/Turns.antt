@@ -21,24 +21,27 @@ abbrev pub ShowsAfter : Turn → Reservation → Running → machine.Running →
 ShowsAfter (turn.Ends result) reserved running r = Unit {0}
 ShowsAfter other reserved running r = ShowsCall reserved running r
 
--- the turn of a call is the machine's, where the memory that it asked for was granted or refused.
--- The turn of a call is the machine's of what it shows. Reports tell these:
+-- the turn of a call is the machine's
 pub record IsTurn (actor : ℕ) (old : Shared) (before : Reservation) (r : machine.Running) (result : Turn) (new : Shared) (reserved : Reservation)
     (running : Running)
     : Type 0 where
+  -- whether the memory that the step asked for was granted
   pub granted : Bool
+  -- the machine's call after the turn
   pub after : machine.Running
+  -- the machine's turn on what the old parts show is this one, with what the new parts show
   pub is : machine_step.turn old.geometry.numbers.block actor granted (shared_of old) (held_by before) r
       ≡ turn_of result (shared_of new) (held_by reserved) after
+  -- the call that goes on shows the machine's
   pub shows : ShowsAfter result reserved running after
 
--- what it leaves to the other actors
+-- what the step of a call leaves to the other actors
 abbrev pub LeavesOthers : ℕ → machine.Running → Shared → Shared → Type 0
 LeavesOthers actor r old new = LeavesRest actor (held_at r.next r.slots) old new
 
 -- ---- an actor's call goes on
 
--- the call that still runs after a turn, and the reply
+-- the call that still runs after a turn
 abbrev pub still : Turn → Running → Option Running
 still (turn.Ends result) running = None
 still other running = Some running
@@ -50,14 +53,20 @@ replied turn.Waits = reply.Waits
 replied (turn.Ends (Ok answer)) = reply.Done answer
 replied (turn.Ends (Err fault)) = reply.Refused fault
 
--- the call of an actor has gone on by one turn
+-- an actor's call has gone on by one turn
 pub record HasTurned (actor : ℕ) (old : Shared) (before : Reservation) (running : Running) (r : machine.Running) (answer : Reply) (new : Shared)
     (state : Actor) : Type 0 where
+  -- the turn
   pub result : Turn
+  -- the call after it
   pub after : Running
+  -- it is the machine's turn
   pub is : IsTurn actor old before r result new state.reserved after
+  -- where it waits, nothing has changed
   pub waits : result ≡ turn.Waits → (new ≡ old) × (state.reserved ≡ before) × (after ≡ running)
+  -- the actor has the call that goes on, or none where the turn was the last
   pub still_is : state.running ≡ still result after
+  -- the reply is the turn's
   pub reply_is : answer ≡ replied result
 
 -- what an actor is given for its next step, if it has a call

@@ -9,7 +9,8 @@ use Rattle.nv_cell.specs.Pages.{AreBytesOf}
 use Rattle.nv_machine.specs.Reads.{bytes_among}
 use Rattle.nv_machine.specs.World.{Shared, cell_at}
 
--- an answer where the check passes, its fault where it doesn't; one that grows may want memory in vain
+-- an answer where the check passes, and its fault where it doesn't; a visit that grows may be
+-- refused memory
 abbrev pub IsFoundBy : Check → (Handle → Answer) → Bool → Result Answer Fault → Type 0
 IsFoundBy check answer grows (Ok found) = (check ≡ passes) × ((made : Handle) → found ≡ answer made)
 IsFoundBy check answer grows (Err fault) = IsVisitRefusal check grows fault

@@ -28,50 +28,49 @@ use Rattle.nv_core.specs.GhostCalls.{IsReservationOf, IsShownCallOf}
 abbrev pub shown_call_of : machine.Running → ShownCall
 shown_call_of r = record { call = r.call; plan = r.plan; commit = r.commit; epoch = r.epoch }
 
--- a running call: but for these, it is what is shown of the code's.
--- A running call shows one of the machine whose call, plan, commit number and epoch are told beside. The code uses
--- the text and the plan up, or keeps them in its commit.
+-- A RUNNING CALL SHOWS one of the machine, whose call, plan, commit number and epoch are told
+-- beside: the code uses text and plan up, or keeps them in its commit
 pub record ShowsCall (reserved : Reservation) (running : Running) (r : machine.Running) : Type 0 where
-  -- the call and its hold are the machine's running call
+  -- what the code has of the call, with what is told beside, is the machine's running call
   pub shown : shown_by reserved (shown_call_of r) running ≡ r
-  -- what is left of the call is of that call
+  -- what the code has left of the request, and of the answer, is of that call
   pub request : IsShownCallOf running (shown_call_of r)
-  -- what is ready, or on its way, is of its plan
+  -- what is ready, or on its way, has the entries of the machine's plan
   pub plan : IsReservationOf (slots_in running.slots) reserved (shown_call_of r)
-  -- the place of its append is that of its commit
+  -- the next entries that its commit appends have the places that the plan says
   pub place : IsPlacedBy (slots_in running.slots) reserved (shown_call_of r)
 
--- a call shows a running call of the machine, or there is none on both sides
+-- a call shows a running call of the machine, or there is none on either side
 abbrev pub ShowsRunning : Reservation → Option Running → Option machine.Running → Type 0
 ShowsRunning reserved None None = Unit {0}
 ShowsRunning reserved (Some running) (Some r) = ShowsCall reserved running r
 ShowsRunning reserved other shown = ⊥
 
--- an actor shows one of the machine: its hand and its call
+-- an actor shows one of the machine
 pub record ShowsActor (actor : Actor) (shown : machine.Actor) : Type 0 where
-  -- its hand is the machine's
+  -- what it holds is the machine's hand
   pub hand : held_by actor.reserved ≡ shown.hand
-  -- its call is the machine's
+  -- its call shows the machine's, or neither has one
   pub running : ShowsRunning actor.reserved actor.running shown.running
 
 -- ---- the world
 
--- what actors share, and the actors
+-- what clauses see of a world in memory
 pub record WorldState : Type 0 where
+  -- what all actors share, with its rooms
   pub shared : Shared
+  -- what each actor holds, and the call that it runs
   pub actors : List Actor
 
--- A WORLD SHOWS ONE OF THE MACHINE: what is shared, and each actor.
--- A world shows one of the machine: the numbers of the geometry are the same, what is shared is the same without
--- the rooms, and each actor shows the machine's.
+-- A WORLD SHOWS ONE OF THE MACHINE
 pub record Shows (w : WorldState) (m : machine.World) : Type 0 where
-  -- the geometry is the machine's
+  -- the device has the numbers of the machine's
   pub numbers : w.shared.geometry.numbers ≡ m.numbers
-  -- what is shared is the machine's
+  -- what is shared is the machine's, once its rooms are left out
   pub shared : shared_of w.shared ≡ m.shared
-  -- there are as many actors
+  -- there are as many actors as the machine has
   pub count : length w.actors ≡ length m.actors
-  -- each actor shows the machine's
+  -- each actor shows the machine's in its place
   pub each : (k : ℕ) (d : Actor) → k < length w.actors → ShowsActor (slice_index_or w.actors k d) (machine.actor_at m k)
 
 -- ---- events and replies
@@ -82,7 +81,7 @@ happening_of (event.Start actor c) granted = On (machine.Start actor c)
 happening_of (event.Go actor) granted = On (machine.Go actor granted)
 happening_of event.Stop granted = Stop granted
 
--- the machine's reply to an event of an actor. It has none to a stop, which is told apart below
+-- the machine's reply to an event of an actor; a stop has none, and is told apart by `told_by`
 abbrev pub reply_of : Reply → machine.Reply
 reply_of reply.Started = machine.Started
 reply_of reply.Moved = machine.Moved
@@ -96,73 +95,67 @@ abbrev pub told_by : Reply → Told
 told_by reply.Stopped = Stopped
 told_by reply = Replied (reply_of reply)
 
--- an event is replied to as the machine replies, where its memory was granted or refused, and leads to
--- what shows its world.
--- One event: the reply is the machine's, and the world afterwards shows the machine's after that happening: a step
--- of the actor, or a stop.
+-- ONE EVENT: a step of an actor, or a stop, is replied as the machine replies
 pub record IsStep (m : machine.World) (e : Event) (reply : Reply) (after : WorldState) : Type 0 where
-  -- whether its memory was granted
+  -- whether the memory that it asks for was granted
   pub granted : Bool
-  -- what is told is what the machine tells
+  -- what is told is what the machine tells of that happening
   pub told_is : told_by reply ≡ restart.told_at m (happening_of e granted)
-  -- the world after it shows the machine's
+  -- the world after it shows the machine's after that happening
   pub shows : Shows after (happen m (happening_of e granted))
 
--- the same of several events
+-- the happenings of several events, each with its memory granted or not
 abbrev pub happenings_of : List Event → List Bool → List Happening
 happenings_of [] grants = []
 happenings_of (e ∷ events) [] = []
 happenings_of (e ∷ events) (granted ∷ grants) = happening_of e granted ∷ happenings_of events grants
 
--- Several: the same of the events one after another, each with memory granted or not.
+-- SEVERAL EVENTS, one after another, are replied as the machine replies
 pub record IsRun (m : machine.World) (events : List Event) (replies : List Reply) (after : WorldState) : Type 0 where
-  -- whether the memory of each was granted
+  -- of each event whether the memory that it asks for was granted
   pub grants : List Bool
-  -- there is one for each event
+  -- there are as many as events
   pub count : length grants ≡ length events
   -- what is told of each is what the machine tells
   pub all_are : map told_by replies ≡ all_told m (happenings_of events grants)
-  -- the world after them shows the machine's
+  -- the world after them shows the machine's after these happenings
   pub shows : Shows after (after_all m (happenings_of events grants))
 
 -- ---- the invariant
 
--- a run of the machine: where it starts, with which records, and the events that came
+-- A RUN OF THE MACHINE
 pub record EventRun : Type 0 where
-  -- where it starts
+  -- the world where it starts
   pub start : machine.World
-  -- the records of then
+  -- the records of that world
   pub records : List Record
-  -- the events that came
+  -- the events that came since, in order
   pub events : List machine.Event
 
--- a world of the machine has a run: some events lead to it from some start of its geometry.
--- Laws say that a world which has a run reports just these.
+-- a world of the machine has a run: some events lead to it from some start of its geometry
 abbrev pub HasRun : machine.World → Type 0
 HasRun m = (run : EventRun) × IsStart m.numbers run.start run.records × (m ≡ machine_step.after run.start run.events)
 
--- that of a new world before any event
+-- the run of a new world before any event
 abbrev pub new_run : GeometryNumbers → EventRun
 new_run g = record { start = formatted g; records = []; events = [] }
 
--- a world shows the machine's after a run, so that the machine's laws hold of it; and there is room for what its calls
--- are about to do
+-- a world shows the machine's behind a run, so that the machine's laws hold of it
 pub record IsWorldAfter (w : WorldState) (m : machine.World) (run : EventRun) : Type 0 where
-  -- the run began in a start
+  -- the run began in a start, with its records
   pub is_start : IsStart w.shared.geometry.numbers run.start run.records
   -- its events lead to the machine's world
   pub reached : m ≡ machine_step.after run.start run.events
-  -- the machine may stop where it began
+  -- the world where it began may stop
   pub may : MayStop w.shared.geometry.numbers.block run.start.shared
-  -- the world shows that one
+  -- the world shows the one to which they lead
   pub shows : Shows w m
-  -- each actor has the room that its next step asks for
+  -- each actor has the room that the next step of its call asks for
   pub rooms : (k : ℕ) (d : Actor) → k < length w.actors
       → HasActorRooms w.shared (slice_index_or w.actors k d).reserved (slice_index_or w.actors k d).running
 
--- WHAT HOLDS OF EVERY WORLD: there is one of the machine that it shows.
--- What holds of every world: there is a world of the machine that it shows, and events that lead to it from some
--- start of its geometry that may stop. After a stop that start is the world that goes on.
+-- WHAT HOLDS OF EVERY WORLD: it shows one of the machine, and events lead to that from some start
+-- of its geometry that may stop. After a stop that start is the world that goes on.
 abbrev pub IsWorld : WorldState → Type 0
 IsWorld w = (m : machine.World) × (run : EventRun) × IsWorldAfter w m run
 

@@ -15,7 +15,7 @@ abbrev pub item_blocks : Item → List ℕ
 item_blocks (Write first run size) = range_with_len run.start run.len
 item_blocks item = []
 
--- the block is one of an item's run
+-- the block is one of a Write's block run; no other item has one
 abbrev pub IsItemBlock : Item → ℕ → Type 0
 IsItemBlock (Write first run size) number = (run.start ≤ number) × (number < run.start + run.len)
 IsItemBlock item number = ⊥

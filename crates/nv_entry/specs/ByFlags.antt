@@ -1,5 +1,6 @@
--- The walks of the cleaners by flags: a flag for each entry says whether anything keeps one of its parts. An entry
--- without a flag stays.
+-- The walks of the cleaners by flags: a flag for each entry
+-- says whether anything keeps a part of it.
+-- An entry without a flag stays.
 use Rattle.std.specs.Prelude.{ℕ, ◌++◌, ◌&&◌, Bool, true, false, not, if◌then◌else◌, List, [], ◌∷◌, drop, length, map}
 use Rattle.std.specs.List.{list_any}
 use Rattle.nv_entry.specs.declared.item.Entry.{Entry}
@@ -7,19 +8,19 @@ use Rattle.nv_entry.specs.Clean.{entries_of, hides, is_empty}
 use Rattle.nv_entry.specs.Counts.{is_entry_kept}
 use Rattle.nv_entry.specs.Held.{Retention}
 
--- the flags of a retention.
--- `kept_flags` are those of a retention. An entry without a flag stays.
+-- for each entry of a log, whether one of its pairs is needed or pending
 abbrev pub kept_flags : Retention → List Entry → List Bool
 kept_flags r [] = []
 kept_flags r (e ∷ later) = is_entry_kept r e later ∷ kept_flags r later
 
--- an entry between others may go, by its flag
+-- an entry between others may go by its flag: it is not the last, nothing
+-- keeps it, and it hides none of those before
 abbrev pub goes_by : ℕ → Bool → List Entry → Entry → List Entry → Bool
 goes_by block flag before e later =
     not (is_empty later) && not flag && not (list_any (λ earlier. hides block e.item earlier.item) before)
 
--- which of the entries to come stay after a walk from the head, where `kept` are the earlier ones that stay.
--- A walk by flags: the same walks, where a flag for each entry says whether anything keeps a part of it.
+-- which of the entries to come stay after a walk from the head, where `kept` are the earlier ones
+-- that stay. An entry without a flag stays.
 abbrev pub stays_by : ℕ → List Bool → List Entry → List Entry → List Bool
 stays_by block [] kept log = map (λ e. true) log
 stays_by block (flag ∷ flags) kept [] = []
@@ -39,7 +40,7 @@ all_go_by block (flag ∷ flags) kept (e ∷ page) later =
 abbrev pub page_goes_by : ℕ → List Bool → List Entry → List Entry → List Entry → Bool
 page_goes_by block flags kept page later = not (is_empty page) && all_go_by block flags kept page later
 
--- which of the pages to come stay after a walk by whole pages, where `kept` are the earlier entries that stay
+-- which of the pages to come stay, by a walk by whole pages; `kept` are the earlier entries left
 abbrev pub pages_stay_by : ℕ → List Bool → List Entry → List (List Entry) → List Bool
 pages_stay_by block flags kept [] = []
 pages_stay_by block flags kept (page ∷ pages) =

@@ -10,10 +10,9 @@ use Rattle.nv_entry.specs.Counts.{is_entry_kept}
 use Rattle.nv_entry.specs.Held.{Retention}
 use Rattle.nv_entry.specs.Keys.{Key, NameKey, sets, covers, pages_for}
 
--- an entry between others may go: it is not the last of its log, none of its pairs is needed or pending,
--- and no earlier entry covers a key that it sets to absent
+-- a cleaner may remove an entry; `before` are the earlier entries that are still there
 pub record IsDroppable (r : Retention) (before : List Entry) (e : Entry) (later : List Entry) : Type 0 where
-  -- it is not the last entry of its log
+  -- the entry is not the last of its log
   pub not_last : 0 < length later
   -- none of its pairs is needed or pending
   pub unneeded : is_entry_kept r e later ≡ false
@@ -30,9 +29,7 @@ covers_from block page (Bind name to) = false
 covers_from block page (Unbind name) = false
 covers_from block page Gone = nat_lt page FILE_PAGES
 
--- the item sets a key to absent that an earlier item covers.
--- The others are definitions themselves: `hides` of a cleaner, `open_page` of a chain, `command_of` of a script.
--- The examples use blocks of 4 bytes, so `block` is 4. A page is a file page, unless it is called a log page.
+-- the item sets a key to absent that an earlier item covers
 abbrev pub hides : ℕ → Item → Item → Bool
 hides block (Init kind mode) earlier = false
 hides block (Write first run size) earlier = false
@@ -47,9 +44,7 @@ abbrev pub is_empty : List Entry → Bool
 is_empty [] = true
 is_empty (e ∷ log) = false
 
--- the test of a droppable entry.
--- Of `is_droppable` a contract says that it agrees with the definition that it stands for. The test that computes
--- it is `is_droppable`. The walk goes from the head and counts earlier removals as made.
+-- the test of `IsDroppable`
 abbrev pub is_droppable : Retention → List Entry → Entry → List Entry → Bool
 is_droppable r before e later =
     not (is_empty later) && not (is_entry_kept r e later) && not (list_any (λ earlier. hides r.block e.item earlier.item) before)
@@ -60,8 +55,8 @@ select [] xs = []
 select (stays ∷ flags) [] = []
 select (stays ∷ flags) (x ∷ xs) = if stays then x ∷ select flags xs else select flags xs
 
--- which of the entries to come stay after a walk from the head, where `kept` are the earlier ones that stay.
--- Both walks give flags, and what they leave is what the flags select.
+-- for each of the entries to come whether it stays, by a walk from the head that takes out each
+-- droppable one; `kept` are the earlier ones that stay
 abbrev pub entries_stay : Retention → List Entry → List Entry → List Bool
 entries_stay r kept [] = []
 entries_stay r kept (e ∷ later) =
@@ -69,8 +64,7 @@ entries_stay r kept (e ∷ later) =
     then false ∷ entries_stay r kept later
     else true ∷ entries_stay r (kept ++ e ∷ []) later
 
--- what thorough cleaning leaves of a log.
--- Thorough removes each droppable entry.
+-- what thorough cleaning leaves of a log: all entries except those that its walk takes out
 abbrev pub thorough_leaves : Retention → List Entry → List Entry
 thorough_leaves r log = select (entries_stay r [] log) log
 
@@ -92,7 +86,7 @@ all_go r kept (e ∷ page) later = is_droppable r kept e (page ++ later) && all_
 abbrev pub page_goes : Retention → List Entry → List Entry → List Entry → Bool
 page_goes r kept page later = not (is_empty page) && all_go r kept page later
 
--- which of the pages to come stay after a walk by whole pages, where `kept` are the earlier entries that stay
+-- which of the pages to come stay, by a walk by whole pages; `kept` are the earlier entries left
 abbrev pub pages_stay : Retention → List Entry → List (List Entry) → List Bool
 pages_stay r kept [] = []
 pages_stay r kept (page ∷ pages) =
@@ -100,8 +94,7 @@ pages_stay r kept (page ∷ pages) =
     then false ∷ pages_stay r kept pages
     else true ∷ pages_stay r (kept ++ page) pages
 
--- the pages that fast cleaning leaves of a log.
--- Fast removes a log page only where all its entries may go, with those before it in the page tried as removed. A
--- log page without entries stays.
+-- the log pages that fast cleaning leaves. A page goes only where each of its entries may go,
+-- those before it in the page tried as removed. A page without entries stays.
 abbrev pub pages_left : Retention → List (List Entry) → List (List Entry)
 pages_left r pages = select (pages_stay r [] pages) pages

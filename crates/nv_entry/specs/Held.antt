@@ -8,14 +8,14 @@ use Rattle.nv_entry.specs.declared.part.PartId.{PartId}
 use Rattle.nv_entry.specs.declared.held.Pair.{Pair}
 use Rattle.nv_entry.specs.declared.retention.Retention.{Retention as CodeRetention}
 
--- what keeps pairs that are no longer current: the living snapshots, and the pending pairs by name, among which
--- stand those that are killed and not yet retired where counts are asked; with the size of blocks in bytes
+-- what keeps pairs that are no longer current, and the size of blocks. Pending are the pairs whose
+-- record is deferred, or picked and not yet released.
 pub record Retention : Type 0 where
-  -- the bytes of a block
+  -- how many bytes a block has
   pub block : ℕ
-  -- the living snapshots
+  -- the living snapshots, in any order
   pub snapshots : List ℕ
-  -- the pending pairs, by name
+  -- the pending pairs by name; where counts are asked, the killed ones with them
   pub pending : List PartId
 
 -- the retention that the code names so
@@ -27,31 +27,26 @@ abbrev pub is_before_death : ℕ → Option ℕ → Bool
 is_before_death epoch None = true
 is_before_death epoch (Some death) = nat_lt epoch death
 
--- a snapshot holds a pair that was born by it and had not died
+-- a snapshot `s` holds a pair where birth <= s, and where it has no death or s < death
 abbrev pub holds : ℕ → Pair → Bool
 holds snapshot pair = nat_le pair.birth snapshot && is_before_death snapshot pair.death
 
--- Held: snapshot `s` holds a pair where birth <= s and either it has no death or s < death.
+-- one of these snapshots holds the pair
 abbrev pub is_held : List ℕ → Pair → Bool
 is_held snapshots pair = list_any (λ snapshot. holds snapshot pair) snapshots
 
--- no later entry covers its key.
--- Current: it has no death.
+-- no later entry covers the pair's key, so that it has no death
 abbrev pub is_current : Pair → Bool
 is_current pair = has_no_death pair.death where
   has_no_death : Option ℕ → Bool
   has_no_death None = true
   has_no_death (Some death) = false
 
--- current, or held by a living snapshot.
--- Needed: it is current, or a living snapshot holds it. Pending are pairs that are deferred, or picked and not yet
--- released. Killed are those that are no longer current and not yet retired. Both belong to crates above, and come
--- here as given lists of names: entry id and part. Retention: the living snapshots and the pending pairs, with the
--- size of blocks.
+-- a pair is needed: it is current, or a living snapshot holds it
 abbrev pub is_needed : List ℕ → Pair → Bool
 is_needed snapshots pair = is_current pair || is_held snapshots pair
 
--- the two parts are of one key
+-- the two parts are one
 abbrev pub same_part : Part → Part → Bool
 same_part part.Kind part.Kind = true
 same_part part.Mode part.Mode = true
@@ -72,9 +67,9 @@ has_name pair name = is_same_id name.entry pair.entry && same_part name.part pai
 abbrev pub is_named : List PartId → Pair → Bool
 is_named names pair = list_any (has_name pair) names
 
--- a pair is needed or pending.
--- It keeps a pair that is needed or pending. Example: above, snapshot 1 holds the pair of 2.0 and page 0, since 1
--- <= 1 < 2. A third write in epoch 2 gives the pair of 3.0 and page 0 birth 2 and death 2. No snapshot holds it,
--- whatever its number, and its block is free at once.
+-- a pair is needed or pending, so that its entry stays.
+-- Example: page 0 is written in epoch 1 and again in epoch 2, with snapshot 1 living. The snapshot
+-- holds the first pair, since 1 <= 1 < 2. A third write in epoch 2 gives the second pair birth 2
+-- and death 2. No snapshot holds it, whatever its number, and its block is free at once.
 abbrev pub keeps : Retention → Pair → Bool
 keeps r pair = is_needed r.snapshots pair || is_named r.pending pair

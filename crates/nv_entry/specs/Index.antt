@@ -24,11 +24,11 @@ abbrev pub source_of : Entry → Setting → Option PageSource
 source_of e (Present (datum.Block block)) = Some (record { entry = e.id; block = block })
 source_of e setting = None
 
--- the index from scratch: the entry and the block that a page's current value stands in, if it has one
+-- the index from scratch: the entry and block that a page's current value stands in, if it has one
 abbrev pub page_source : ℕ → List Entry → ℕ → Option PageSource
 page_source block log page = option_and_then (λ e. source_of e (sets block e.item (PageKey page))) (last_cover block log (PageKey page))
 
--- a binding that has not died
+-- the name that an item binds, if the binding has not died
 abbrev pub bound_name : Item → Option ℕ → List BoundName
 bound_name (Bind name to) None = record { name = name; to = to } ∷ []
 bound_name (Bind name to) (Some death) = []
@@ -39,18 +39,17 @@ bound_name (SetMode mode) death = []
 bound_name (Unbind name) death = []
 bound_name Gone death = []
 
--- the names from scratch: the current bindings in log order; the size of blocks says nothing of names, so
--- that any will do.
--- Names from scratch: the bindings that no later entry covers, in log order.
+-- the names from scratch: the bindings that no later entry covers, in log order. The size of
+-- blocks says nothing of names, so that 1 will do.
 abbrev pub names_of : List Entry → List BoundName
 names_of [] = []
 names_of (e ∷ later) = bound_name e.item (first_cover 1 later (NameKey (name_of e.item))) ++ names_of later
 
--- a name's place in a list closes up
+-- a list without a name, whose place closes up
 abbrev pub without : List ℕ → List BoundName → List BoundName
 without name list = filter (λ bound. not (same_name name bound.name)) list
 
--- a bound name goes last
+-- a list with this binding of a name as the last
 abbrev pub with_last : List ℕ → Handle → List BoundName → List BoundName
 with_last name to list = without name list ++ record { name = name; to = to } ∷ []
 
@@ -59,8 +58,8 @@ abbrev pub bound_to : List ℕ → List BoundName → Option Handle
 bound_to name [] = None
 bound_to name (bound ∷ list) = if same_name name bound.name then Some bound.to else bound_to name list
 
--- the names after one more item.
--- A bound name goes last, and an unbound name's place closes up. Example: Bind a, Bind b, Bind a again gives b, a.
+-- the names after one more item: a bound name goes last, and an unbound name's place closes up.
+-- Example: Bind a, Bind b, Bind a again gives b, a.
 abbrev pub names_after : Item → List BoundName → List BoundName
 names_after (Init kind mode) list = list
 names_after (Write first run size) list = list

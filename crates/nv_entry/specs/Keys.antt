@@ -1,4 +1,5 @@
 -- The keys of an inode, and what an item of its log does to each.
+-- A page is a file page, unless it is called a log page.
 use Rattle.std.specs.Prelude.{ℕ, ◌+◌, ◌-◌, ◌<◌, ◌&&◌, Bool, true, false, if◌then◌else◌, nat_lt, nat_le, min, List, [], ◌∷◌, map}
 use Rattle.std.specs.Int.{div_ceil}
 use Rattle.std.specs.List.{range_with_len}
@@ -15,13 +16,17 @@ use Rattle.nv_entry.specs.declared.key.Setting.TheVariants.{Untouched, Absent, P
 use Rattle.nv_entry.specs.declared.part.Part.{Part}
 use Rattle.nv_entry.specs.declared.part.Part.TheVariants as part
 
--- a key of an inode, by which its values are named.
--- Key: what of an inode can have a value. It is its kind, its mode, its size, a name, or a page below 65,536.
+-- what of an inode can have a value
 pub data Key : Type 0 where
+  -- whether it is a file or a directory
   KindKey : Key
+  -- its mode, 0 to 4,095
   ModeKey : Key
+  -- how many bytes a file has; 0 for a directory
   SizeKey : Key
+  -- the handle that a directory binds this name to
   NameKey : (name : List ℕ) → Key
+  -- the block that this page of a file stands in; a file has pages below 65,536
   PageKey : (page : ℕ) → Key
 
 -- the key that the code names so
@@ -57,12 +62,15 @@ pages_for block size = div_ceil size block
 abbrev pub in_run : ℕ → BlockRun → ℕ → Bool
 in_run first run page = nat_le first page && nat_lt page (first + run.len) && is_page page
 
--- the page is past a size
+-- the page is past a file's size, and one that a file can have
 abbrev pub is_past : ℕ → ℕ → ℕ → Bool
 is_past block size page = nat_le (pages_for block size) page && is_page page
 
--- what an item does to a key.
--- What an item sets: for each key one of three, untouched, absent, or present with a value.
+-- what an item sets a key to: untouched, absent, or present with a value.
+-- Example: with blocks of 4 bytes, `SetSize{5}` sets the size to 5 and the pages 2, 3,
+-- .. to absent. It leaves page 1 untouched, which has the byte at 4 and, after a
+-- write, bytes past the size. So to cut inside a block is a Write of that page with
+-- zeros from the size on, and then the SetSize.
 abbrev pub sets : ℕ → Item → Key → Setting
 sets block (Init kind mode) KindKey = Present (datum.Kind kind)
 sets block (Init kind mode) ModeKey = Present (datum.Mode mode)
@@ -84,13 +92,13 @@ sets block (Unbind name) key = Untouched
 sets block Gone (PageKey page) = if is_page page then Absent else Untouched
 sets block Gone key = Absent
 
--- an item covers the keys that it sets, to a value or to absent
+-- the setting is to a value or to absent
 abbrev pub touches : Setting → Bool
 touches Untouched = false
 touches Absent = true
 touches (Present value) = true
 
--- An item covers the keys that it does not leave untouched.
+-- an item covers the keys that it does not leave untouched
 abbrev pub covers : ℕ → Item → Key → Bool
 covers block item key = touches (sets block item key)
 
@@ -98,11 +106,8 @@ covers block item key = touches (sets block item key)
 abbrev pub run_pages : ℕ → BlockRun → List ℕ
 run_pages first run = range_with_len first (min run.len (FILE_PAGES - first))
 
--- the keys that an item sets to a value, as parts of its entry: kind, mode, size, name, pages rising.
--- Part: a key that an entry sets to a value, as `Kind`, `Mode`, `Size`, `Bound` or `Page(p)`. Parts stand in that
--- order, pages rising. Example: `SetSize{5}` sets the size to 5 and the pages 2, 3, .. to absent. It leaves page 1
--- untouched, which has the byte at 4 and, after a write, bytes past the size. So to cut inside a block is a Write
--- of that page with zeros from the size on, and then the SetSize.
+-- the parts of an entry with that item: the keys that it sets to a value, by kind, mode, size,
+-- name, and then pages rising
 abbrev pub parts_of : Item → List Part
 parts_of (Init kind mode) = part.Kind ∷ part.Mode ∷ part.Size ∷ []
 parts_of (Write first run size) = part.Size ∷ map part.Page (run_pages first run)
@@ -112,7 +117,7 @@ parts_of (Bind name to) = part.Bound ∷ []
 parts_of (Unbind name) = []
 parts_of Gone = []
 
--- the name that an item speaks of, if any; else no bytes
+-- the name that an item binds or unbinds; no bytes where it does neither
 abbrev pub name_of : Item → List ℕ
 name_of (Init kind mode) = []
 name_of (Write first run size) = []

@@ -10,7 +10,7 @@ use Rattle.nv_entry.specs.Held.{Retention, is_current, is_named}
 use Rattle.nv_entry.specs.Keys.{covers, key_of, parts_of}
 use Rattle.nv_entry.specs.Log.{pair_of, pairs, pairs_of}
 
--- the entry kills the pair of another one's part: it is current, and the entry covers its key
+-- an entry kills the pair of an earlier one's part, which is current and whose key it covers
 abbrev pub kills : ℕ → Entry → Entry → List Entry → Part → Bool
 kills block e x later part = is_current (pair_of block x later part) && covers block e.item (key_of x.item part)
 
@@ -40,13 +40,16 @@ died_of block e (suc count) [] = 0
 died_of block e (suc count) (x ∷ later) =
     (if is_live block x later && not (stays_live block e x later) then 1 else 0) + died_of block e count later
 
--- one more entry kills the current pairs whose keys it covers and no others, and its own parts are born
+-- what one more entry makes of the pairs of a log
 pub record OneMorePairs (block : ℕ) (log : List Entry) (e : Entry) : Type 0 where
+  -- the pairs are those of before, dead where the entry kills them, and then its own
   pub all : pairs block (log ++ e ∷ []) ≡ pairs_after block e log ++ pairs_of block e []
+  -- each of the entry's own pairs is current
   pub born : AllByRecursion (λ pair. is_current pair ≡ true) (pairs_of block e [])
+  -- the live entries of before are fewer by those whose last current pair died
   pub live : (count : ℕ) → count ≤ length log → live_of block count (log ++ e ∷ []) + died_of block e count log ≡ live_of block count log
 
--- the names of those that are pending and of the pairs that one more entry kills
+-- these names are those of a log's pending pairs, and of its pairs that one more entry kills
 abbrev pub NamesKilled : Retention → List PartId → Entry → List Entry → Type 0
 NamesKilled r names e [] = Unit {0}
 NamesKilled r names e (x ∷ later) =
@@ -54,6 +57,6 @@ NamesKilled r names e (x ∷ later) =
     ≡ (is_named r.pending (pair_of r.block x later part) || kills r.block e x later part)) (parts_of x.item)
     × NamesKilled r names e later
 
--- the same with other pairs pending
+-- a retention with other pairs pending
 abbrev pub with_pending : Retention → List PartId → Retention
 with_pending r names = record r { pending = names }

@@ -14,7 +14,9 @@ use Rattle.nv_entry.specs.Keys.{Key, sets, covers, parts_of, key_of}
 
 -- an entry may stand somewhere behind another in one log
 pub record MayFollow (earlier later : Entry) : Type 0 where
+  -- its id stands behind the earlier one's
   pub id_rises : IsIdBefore earlier.id later.id
+  -- its epoch is not below the earlier one's
   pub epoch_stays : earlier.epoch ≤ later.epoch
 
 -- along a log ids rise and epochs never fall
@@ -39,13 +41,12 @@ value_of Untouched = None
 value_of Absent = None
 value_of (Present value) = Some value
 
--- the value of a key now.
--- Value of a key now: what the last entry of the log that covers the key sets. There is none if that is absent or
--- no entry covers the key.
+-- the value of a key now: what the last entry that covers the key sets. There is none if that is
+-- absent, or if no entry covers the key.
 abbrev pub value_now : ℕ → List Entry → Key → Option Datum
 value_now block log key = value_of (last_setting block log key)
 
--- an entry of that epoch counts now, and at an epoch that is no earlier
+-- an entry of that epoch counts now, and at its own epoch and each later one
 abbrev pub sees : When → ℕ → Bool
 sees Now epoch = true
 sees (At last) epoch = nat_le epoch last
@@ -59,21 +60,20 @@ abbrev pub seen : When → List Entry → List Entry
 seen Now log = log
 seen (At last) log = up_to last log
 
--- the value of a key at an epoch.
--- At an epoch: the same, over the entries of that epoch and earlier ones.
+-- the value of a key at an epoch, by the entries of that epoch and of earlier ones
 abbrev pub value_at : ℕ → ℕ → List Entry → Key → Option Datum
 value_at block epoch log key = value_now block (up_to epoch log) key
 
--- the epoch of the first of these entries that covers the key.
--- Its death is the epoch of the first later entry that covers the key, if there is one. Example (a write across a
--- snapshot). The log of a file is Page 0 is block 4 now and block 3 at epoch 1. The pair of 2.0 and page 0 has
--- birth 1 and death 2.
+-- the epoch of the first of these entries that covers the key. It is the death of a pair of that
+-- key which stands before them.
+-- Example: entry 2.0 writes page 0 in epoch 1, and another entry does in epoch 2. The pair of 2.0
+-- and page 0 has birth 1 and death 2.
 abbrev pub first_cover : ℕ → List Entry → Key → Option ℕ
 first_cover block [] key = None
 first_cover block (e ∷ later) key = if covers block e.item key then Some e.epoch else first_cover block later key
 
--- the pair of an entry's part, where `later` are the entries behind the entry.
--- Pair: an entry with one of its parts. Its birth is the entry's epoch.
+-- the pair of an entry's part, where `later` are the entries behind the entry. Its birth is the
+-- entry's epoch, and its death that of the first later entry that covers its key.
 abbrev pub pair_of : ℕ → Entry → List Entry → Part → Pair
 pair_of block e later part = record { entry = e.id; part = part; birth = e.epoch; death = first_cover block later (key_of e.item part) }
 

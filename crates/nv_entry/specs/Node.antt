@@ -10,7 +10,7 @@ use Rattle.nv_entry.specs.Index.{names_of}
 use Rattle.nv_entry.specs.Keys.{KindKey, ModeKey, SizeKey, PageKey, pages_for}
 use Rattle.nv_entry.specs.Log.{value_now, up_to}
 
--- the bytes of a page by its block, where `bytes` gives those of a block: zeros where there is none
+-- the bytes of a page by its block, of which `bytes` tells them; zeros where there is no block
 abbrev pub page_bytes : (ℕ → List ℕ) → ℕ → Option ℕ → List ℕ
 page_bytes bytes block (Some number) = bytes number
 page_bytes bytes block None = replicate block 0
@@ -47,11 +47,11 @@ node_of_kind (Some (datum.Kind kind)) bytes block log =
     })
 node_of_kind value bytes block log = None
 
--- the node now: kind, mode, size, bytes and names; none where the kind is absent.
--- Node: kind, mode, size, bytes, and names. The bytes are those of the pages, with zeros where one is absent, cut
--- at the size. There is none where the kind is absent: before its Init or after it is Gone. Example (partial at
--- both ends): to write `abcdefghij` at 3 into an empty file makes pages 0 to 3 and size 13. The bytes are three
--- zeros and then `abcdefghij`.
+-- the node of a log now: kind, mode, size, bytes and names. There is none where the kind is
+-- absent: before its Init, or after its Gone.
+-- Example (partial at both ends): with blocks of 4 bytes, to write `abcdefghij` at 3 into an empty
+-- file makes pages 0 to 3 and size 13.
+-- The bytes are three zeros and then `abcdefghij`.
 abbrev pub node_now : (ℕ → List ℕ) → ℕ → List Entry → Option NodeCopy
 node_now bytes block log = node_of_kind (value_now block log KindKey) bytes block log
 

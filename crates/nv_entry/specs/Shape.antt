@@ -8,8 +8,9 @@ use Rattle.nv_entry.specs.declared.item.Entry.{Entry}
 use Rattle.nv_entry.specs.declared.item.Item.{Item}
 use Rattle.nv_entry.specs.declared.item.Item.TheVariants.{Init, Write, SetSize, SetMode, Bind, Unbind, Gone}
 
--- a log begins with its kind; bytes are a file's, in pages and up to sizes that a file can have; names are a
--- directory's, and lawful; nothing follows the end
+-- an item may come next in a log whose node has this kind so far, or none.
+-- Init begins an inode. Write and SetSize are a file's, within the greatest file. Bind and Unbind
+-- are a directory's, of lawful names. SetMode and Gone are of both.
 abbrev pub IsLawful : ℕ → Item → Option Kind → Type 0
 IsLawful block (Init kind mode) None = Unit {0}
 IsLawful block (Write first run size) (Some File) = (0 < run.len) × (first + run.len ≤ FILE_PAGES) × (size ≤ FILE_PAGES * block)
@@ -41,11 +42,11 @@ IsGoneLast [] = Unit {0}
 IsGoneLast (item ∷ []) = Unit {0}
 IsGoneLast (item ∷ next ∷ items) = (item ≢ Gone) × IsGoneLast (next ∷ items)
 
--- A LOG IS OF ITS SHAPE: from nothing on, each item is lawful for the kind that those before it give, and nothing stands
--- behind a Gone.
--- Shape of a log: each item is lawful for the kind that those before it give, from nothing on, and nothing stands
--- behind a Gone. Example: Init of a file, Write and SetSize are of the shape. A Bind behind them is not, and
+-- a log is of its shape.
+-- Example: Init of a file, Write and SetSize are of the shape. A Bind behind them is not, and
 -- neither is a SetMode behind a Gone.
 pub record IsShaped (block : ℕ) (log : List Entry) : Type 0 where
+  -- each item is lawful for the kind that those before it give, from none on
   pub lawful : AreLawful block (items_of log) None
+  -- nothing stands behind a Gone
   pub last : IsGoneLast (items_of log)

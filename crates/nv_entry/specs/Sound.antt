@@ -21,9 +21,7 @@ abbrev pub SuitsKind : Kind → ℕ → List BoundName → Type 0
 SuitsKind File size names = names ≡ []
 SuitsKind Dir size names = size ≡ 0
 
--- a node is stored, where `bytes` gives those of a block: its bytes are as many as its size says, page p of what is
--- stored is the p-th page of them, padded with zeros, and the rest is as it is; no page past the size is present,
--- so that a directory has none
+-- a node is stored, where `bytes` gives those of a block
 pub record Stands (bytes : ℕ → List ℕ) (block : ℕ) (s : Stored) (node : NodeCopy) : Type 0 where
   -- the kind is the node's
   pub kind : s.kind ≡ Some node.kind
@@ -33,15 +31,15 @@ pub record Stands (bytes : ℕ → List ℕ) (block : ℕ) (s : Stored) (node : 
   pub size : s.size ≡ node.size
   -- the node has as many bytes as its size says
   pub length : length node.bytes ≡ node.size
-  -- no file has more pages than the greatest
+  -- the node is no larger than the greatest file
   pub fits : node.size ≤ FILE_PAGES * block
-  -- each page's block has the node's bytes of that page, padded with zeros
+  -- each page has the node's bytes of that page, padded with zeros; an absent one is zeros
   pub pages : (page : ℕ) → page_bytes bytes block (s.blocks page) ≡ page_of block page node.bytes
-  -- no page past the size is present
+  -- no page past the size is present, so that a directory has none
   pub within : (page number : ℕ) → s.blocks page ≡ Some number → page < pages_for block node.size
-  -- the names are the node's
+  -- the names are the node's, in the same order
   pub names : s.names ≡ node.names
-  -- size and names suit the kind
+  -- a file has no names, and a directory the size 0
   pub suits : SuitsKind node.kind node.size node.names
 
 -- a node is stored, or nothing is
@@ -49,17 +47,15 @@ abbrev pub Tied : (ℕ → List ℕ) → ℕ → Stored → Option NodeCopy → 
 Tied bytes block s None = s ≡ nothing
 Tied bytes block s (Some node) = Stands bytes block s node
 
--- what a log has stored is the node that it gives.
--- Sound: what a log has stored is the node that it gives. The bytes of the block of page p are the p-th page of the
--- node's bytes, padded with zeros. They are zeros where the page is absent. The bytes are as many as the size says,
--- and no page past the size is present. A directory has the size 0, so no page, and a file has no names. Where
--- there is no node, nothing is stored.
+-- a log is sound: what it has stored is the node that it gives, and nothing where it gives none
 abbrev pub IsSound : (ℕ → List ℕ) → ℕ → List Entry → Type 0
 IsSound bytes block log = Tied bytes block (stored block log) (node_now bytes block log)
 
--- a sound log, and the node that it gives
+-- a log is sound and gives this node, or none
 pub record Gives (bytes : ℕ → List ℕ) (block : ℕ) (log : List Entry) (node : Option NodeCopy) : Type 0 where
+  -- the log's node is this one
   pub is : node_now bytes block log ≡ node
+  -- what the log has stored is that node
   pub sound : IsSound bytes block log
 
 -- a node of a kind and a mode without bytes and names
@@ -73,18 +69,21 @@ page_after bytes block (SetSize size) page before = if is_past block size page t
 page_after bytes block Gone page before = if is_page page then replicate block 0 else before
 page_after bytes block item page before = before
 
--- an item sets a file's size and some of its pages, the bytes after which are the file's
+-- an item makes of one file another, with other bytes
 pub record Rewrites (bytes : ℕ → List ℕ) (block : ℕ) (item : Item) (size : ℕ) (before after : NodeCopy) : Type 0 where
+  -- the node is a file
   pub file : before.kind ≡ File
+  -- all except size and bytes stays
   pub same : after ≡ record before { size = size; bytes = after.bytes }
+  -- there are as many bytes as the new size says
   pub length : length after.bytes ≡ size
+  -- the file is no larger than the greatest
   pub fits : size ≤ FILE_PAGES * block
+  -- each page of the new file is what the item makes of the old one's, padded with zeros
   pub pages : (page : ℕ) → page_of block page after.bytes ≡ page_after bytes block item page (page_of block page before.bytes)
 
--- one more item that is lawful, and what it makes of a node: bytes are a file's and names a directory's, and after
--- a write both its pages and those before it lie below the size.
--- Lawful item: what one more item may make of a node. A Write and a SetSize need a file, a Bind and an Unbind a
--- directory. A log that gets lawful items alone stays sound.
+-- a lawful item, and the node that it makes of another. A Write and a SetSize need a file, a Bind
+-- and an Unbind a directory. After a Write its pages and those of before lie below the size.
 abbrev pub Makes : (ℕ → List ℕ) → ℕ → Item → Option NodeCopy → Option NodeCopy → Type 0
 Makes bytes block (Init kind mode) None (Some after) = after ≡ empty_node kind mode
 Makes bytes block (Write first run size) (Some node) (Some after) =
@@ -98,11 +97,9 @@ Makes bytes block (Unbind name) (Some node) (Some after) = (node.kind ≡ Dir) �
 Makes bytes block Gone (Some node) None = Unit {0}
 Makes bytes block item before after = ⊥
 
--- several items that are lawful together, and what they make of a node: wherever the one is stored, the other is
--- after them.
--- Lawful together: several items after which a node is stored wherever another was before them, as the Write items
--- of one call, a block run each. Example: with blocks of 4 bytes, a node of the 6 bytes `abcdef` is stored as the
--- pages `abcd` and `ef` with two zeros. A SetSize to 5 is no lawful item there: it would leave the `f` past the
+-- several items that are lawful together: where the one node is stored, the other is after them.
+-- Example: with blocks of 4 bytes, a node of the 6 bytes `abcdef` is stored as the pages `abcd`
+-- and `ef` with two zeros. A SetSize to 5 is no lawful item there: it would leave the `f` past the
 -- size in page 1. A Write of page 1 as `e` and three zeros with size 5 is one.
 abbrev pub MakesAll : (ℕ → List ℕ) → ℕ → List Item → Option NodeCopy → Option NodeCopy → Type 0
 MakesAll bytes block items before after = (s : Stored) → Tied bytes block s before → Tied bytes block (stored_after_all block items s) after
@@ -116,18 +113,22 @@ abbrev pub write_items : ℕ → List BlockRun → ℕ → List Item
 write_items first [] size = []
 write_items first (run ∷ runs) size = Write first run size ∷ write_items (first + run.len) runs size
 
--- blocks, one for each page that a text touches, filled with the page's bytes after the write
+-- blocks have the pages that a text touches
 pub record HaveText (bytes : ℕ → List ℕ) (block offset : ℕ) (text before blocks : List ℕ) : Type 0 where
+  -- there is one block for each page that the text touches
   pub count : length blocks ≡ pages_touched block offset (length text)
+  -- each block has the bytes that its page has after the write
   pub filled : (place : ℕ) → place < length blocks
       → bytes (slice_index_or blocks place 0) ≡ page_of block (offset / block + place) (written offset text before)
 
--- a run of such blocks
+-- a block run has the pages that a text touches
 pub record HasText (bytes : ℕ → List ℕ) (block offset : ℕ) (text before : List ℕ) (run : BlockRun) : Type 0 where
+  -- the run has one block for each page that the text touches
   pub count : run.len ≡ pages_touched block offset (length text)
+  -- each block has the bytes that its page has after the write
   pub filled : (place : ℕ) → place < run.len
       → bytes (run.start + place) ≡ page_of block (offset / block + place) (written offset text before)
 
--- a node after a write
+-- a file after a text was written to it
 abbrev pub rewritten : ℕ → List ℕ → NodeCopy → NodeCopy
 rewritten offset text node = record node { size = length (written offset text node.bytes); bytes = written offset text node.bytes }

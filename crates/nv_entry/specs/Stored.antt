@@ -12,12 +12,17 @@ use Rattle.nv_entry.specs.Index.{names_after, names_of}
 use Rattle.nv_entry.specs.Keys.{Key, KindKey, ModeKey, SizeKey, PageKey, in_run, is_page, is_past}
 use Rattle.nv_entry.specs.Log.{value_now}
 
--- kind, mode, size in bytes, the block of each page that is present, and the names
+-- what a log has stored of its inode
 pub record Stored : Type 0 where
+  -- whether it is a file or a directory; none where there is no inode
   pub kind : Option Kind
+  -- its mode; 0 where none is set
   pub mode : ℕ
+  -- its size in bytes; 0 where none is set
   pub size : ℕ
+  -- the block of each page that is present
   pub blocks : ℕ → Option ℕ
+  -- the names that it binds, in log order
   pub names : List BoundName
 
 -- what an empty log has stored
@@ -39,8 +44,7 @@ stored_by value names = record {
   names = names;
 }
 
--- Stored: what the values of a log say of its inode: kind, mode, size, the block of each page that is present, and
--- the names.
+-- what the values of a log say of its inode
 abbrev pub stored : ℕ → List Entry → Stored
 stored block log = stored_by (value_now block log) (names_of log)
 
@@ -51,8 +55,7 @@ block_after block (SetSize size) page before = if is_past block size page then N
 block_after block Gone page before = if is_page page then None else before
 block_after block item page before = before
 
--- what is stored after one more item.
--- After one more item: the same with what that item sets, whatever the log.
+-- what is stored after one more item, whatever the log
 abbrev pub stored_after : ℕ → Item → Stored → Stored
 stored_after block (Init kind mode) s = record s { kind = Some kind; mode = mode; size = 0 }
 stored_after block (Write first run size) s =

@@ -4,10 +4,13 @@ use Rattle.nv_base.specs.declared.limits.TheConstants.{NUMBER, PINS}
 use Rattle.nv_epoch.specs.declared.snapshot.Snapshot.{Snapshot}
 use Rattle.nv_epoch.specs.Holders.{IsRising}
 
--- the living snapshots, oldest first, the current epoch, and the most snapshots that may live
+-- what clauses see of a snapshot list
 pub record Snapshots : Type 0 where
+  -- the living snapshots, oldest first, each with its pins
   pub living : List Snapshot
+  -- the current epoch
   pub epoch : ℕ
+  -- how many snapshots may live at a time
   pub most : ℕ
 
 -- the numbers of living snapshots
@@ -27,20 +30,19 @@ pins_at (t ∷ ts) s = if t.number == s then Some t.pins else pins_at ts s
 abbrev pub pins_of : Snapshots → ℕ → Option ℕ
 pins_of list s = pins_at list.living s
 
--- numbers rise and lie below the epoch, pins and snapshots are no more than allowed, epochs are 1
--- to the greatest number
+-- what holds of each snapshot list
 pub record IsSound (list : Snapshots) : Type 0 where
-  -- numbers rise
+  -- the numbers of the living snapshots rise
   pub rising : IsRising (ids list)
-  -- numbers are below the epoch
+  -- each of them is below the current epoch
   pub below_epoch : All (λ s. s < list.epoch) (ids list)
-  -- no snapshot has more pins than allowed
+  -- no snapshot has more than 64 pins
   pub pins_fit : All (λ (s : Snapshot). s.pins ≤ PINS) list.living
-  -- no more snapshots live than allowed
+  -- no more snapshots live than are allowed
   pub fits : length list.living ≤ list.most
   -- the epoch is at least 1
   pub some_epoch : 1 ≤ list.epoch
-  -- the epoch is at most the greatest
+  -- the epoch is at most 2^62
   pub epoch_fits : list.epoch ≤ NUMBER
 
 -- a snapshot that no call reads

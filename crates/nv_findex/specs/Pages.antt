@@ -15,29 +15,31 @@ unfoldable pub ref_at : List PageRun → ℕ → Option PageRef
 ref_at [] page = None
 ref_at (r ∷ rs) page = if nat_lt page r.end then (if nat_le r.first page then Some (run_ref r page) else None) else ref_at rs page
 
--- what contracts see of an index: the runs of its present pages, of which all but `new` speaks by
--- `ref_at` alone, and for how many more runs there is room
+-- what contracts see of a file index. All except that of `new` speak of it by `ref_at` alone.
 pub record PageMap : Type 0 where
+  -- the runs of the pages that are present
   pub pages : List PageRun
+  -- for how many more runs there is room
   pub room : ℕ
 
--- the pages first to first + len - 1 lie in the entry, from its place 0 on, and all others where they lay
+-- the pages from `first` on, `len` of them, lie in the entry from its
+-- place 0 on, and all others where they lay
 abbrev pub SetsRun : ℕ → ℕ → EntryId → (ℕ → Option PageRef) → (ℕ → Option PageRef) → Type 0
 SetsRun first len entry old new =
     (page : ℕ) → new page
     ≡ (if nat_le first page && nat_lt page (first + len) then Some (record { entry = entry; place = page - first }) else old page)
 
--- the pages below `from` lie where they lay, and no other is present
+-- the pages below `from` lie where they lay, and no other page is present
 abbrev pub CutsFrom : ℕ → (ℕ → Option PageRef) → (ℕ → Option PageRef) → Type 0
 CutsFrom from old new = (page : ℕ) → new page ≡ (if nat_lt page from then old page else None)
 
--- the least present page that isn't below `from`, and where it lies
+-- the least present page that is not below `from`, with where it lies; none where there is none
 abbrev pub IsNextFrom : ℕ → (ℕ → Option PageRef) → Option (ℕ × PageRef) → Type 0
 IsNextFrom from pages None = (page : ℕ) → from ≤ page → pages page ≡ None
 IsNextFrom from pages (Some found) =
     (from ≤ found.0) × (pages found.0 ≡ Some found.1) × ((page : ℕ) → from ≤ page → page < found.0 → pages page ≡ None)
 
--- pages and places are below the most pages of a file
+-- present pages, and the places that they lie at, are below the most pages of a file
 abbrev pub AreWithin : (ℕ → Option PageRef) → Type 0
 AreWithin pages = (page : ℕ) (at : PageRef) → pages page ≡ Some at → (page < FILE_PAGES) × (at.place < FILE_PAGES)
 
@@ -68,17 +70,24 @@ run_count_of pages = how_many (ends_run (ref_at pages)) 0 FILE_PAGES
 abbrev pub present_from : ℕ → List PageRun → ℕ
 present_from from pages = how_many (λ page. is_some (ref_at pages page)) from (FILE_PAGES - from)
 
--- a run has a page, and neither it nor its places go past the end of the greatest file
+-- what holds of each run of pages
 pub record IsRun (r : PageRun) : Type 0 where
+  -- the run has a page
   pub some : r.first < r.end
+  -- its pages are below the most pages of a file
   pub within : r.end ≤ FILE_PAGES
+  -- the places that its pages lie at are below the most pages of a file
   pub places : r.start.place + (r.end - r.first) ≤ FILE_PAGES
 
--- all of a run of these pages: it goes no further, neither before its first page nor behind its last
+-- all of a run of these pages, which could be longer on neither side
 pub record IsRunOf (at : ℕ → Option PageRef) (r : PageRun) : Type 0 where
+  -- the run has a page
   pub some : r.first < r.end
+  -- each of its pages lies where the run says
   pub pages : (page : ℕ) → r.first ≤ page → page < r.end → at page ≡ Some (run_ref r page)
+  -- the page before its first one, if any, does not go on in the run
   pub begins : (page : ℕ) → page + 1 ≡ r.first → goes_on_at at page ≡ false
+  -- its last page does not go on in the page behind it
   pub ends : (page : ℕ) → page + 1 ≡ r.end → goes_on_at at page ≡ false
 
 -- the run that has the page `from`, or else the first one behind it

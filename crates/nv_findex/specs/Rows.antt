@@ -3,9 +3,11 @@ use Rattle.std.specs.Prelude.{ℕ, ◌+◌, ◌-◌, ◌*◌, ◌/◌, ◌%◌, 
 use Rattle.nv_findex.specs.declared.run_rows.TheConstants.{ROW}
 use Rattle.nv_findex.specs.declared.page_run.PageRun.{PageRun}
 
--- what contracts see of runs in rows, and for how many runs there is room in all
+-- what contracts see of runs in rows
 pub record RunList : Type 0 where
+  -- the runs in their order
   pub items : List PageRun
+  -- for how many runs there is room in all
   pub capacity : ℕ
 
 -- a ring from its place s on
@@ -17,7 +19,7 @@ unfoldable pub in_rows : {A : Type 0} → List ℕ → List A → List A
 in_rows [] xs = xs
 in_rows (s ∷ ss) xs = turned s (take ROW xs) ++ in_rows ss (drop ROW xs)
 
--- the starts of the full rows of so many items
+-- the starts of the full rows of so many items, each within its row
 unfoldable pub AreStarts : List ℕ → ℕ → Type 0
 AreStarts [] len = len < ROW
 AreStarts (s ∷ ss) len = (s < ROW) × (ROW ≤ len) × AreStarts ss (len - ROW)

@@ -7,12 +7,12 @@ use Rattle.nv_findex.specs.declared.page_run.PageRun.{PageRun}
 use Rattle.nv_findex.specs.declared.page_ref.PageRef.{PageRef}
 use Rattle.nv_findex.specs.Pages.{IsRun, is_followed, ref_at, run_ref}
 
--- the two runs are one
+-- the second run goes on where the first ends, in the file and in the entry
 abbrev pub goes_on : PageRun → PageRun → Bool
 goes_on r s = (r.end == s.first) && (is_same_id r.start.entry s.start.entry && (r.start.place + (r.end - r.first) == s.start.place))
 
--- runs from p on, where the page before p lies at `last`: each lies behind the ones before it, and no page that
--- begins one follows in one entry on the page before
+-- runs from page `p` on, where the page before `p` lies at `last`. Each lies behind those before
+-- it, and no two neighbours are one run.
 unfoldable pub AreRunsFrom : ℕ → Option PageRef → List PageRun → Type 0
 AreRunsFrom p last [] = Unit {0}
 AreRunsFrom p last (r ∷ rs) =
@@ -22,41 +22,44 @@ AreRunsFrom p last (r ∷ rs) =
 abbrev pub AreRuns : List PageRun → Type 0
 AreRuns rs = AreRunsFrom 0 None rs
 
--- the first n of the runs end at p or before, and the next one behind it
+-- the first `n` of the runs end at page `p` or before, and the next one behind it
 unfoldable pub IsBorder : ℕ → ℕ → List PageRun → Type 0
 IsBorder p zero [] = Unit {0}
 IsBorder p zero (r ∷ rs) = p < r.end
 IsBorder p (suc n) [] = ⊥
 IsBorder p (suc n) (r ∷ rs) = (r.end ≤ p) × IsBorder p n rs
 
--- how many pages of the runs aren't below p
+-- how many pages of the runs are not below page `p`
 abbrev pub pages_past : ℕ → List PageRun → ℕ
 pages_past p rs = sum_by (λ r. r.end - max r.first p) rs
 
--- a run's pages below p, if there are any
+-- a run's pages below page `p`, if there are any
 abbrev pub front_of : ℕ → Option PageRun → List PageRun
 front_of p None = []
 front_of p (Some r) = if nat_lt r.first p then (record r { end = p }) ∷ [] else []
 
--- a run's pages from p on
+-- a run's pages from page `p` on
 abbrev pub rest_from : ℕ → PageRun → PageRun
 rest_from p r = record { first = max r.first p; end = r.end; start = run_ref r (max r.first p) }
 
--- the runs of the pages below p, and of those from p on, where the first n runs end at p or before
+-- the runs of the pages below page `p`, where the first `n` runs end at `p` or before
 abbrev pub before : ℕ → ℕ → List PageRun → List PageRun
 before p n rs = take n rs ++ front_of p (slice_get rs n)
 
--- what is left of a run behind a page, with the runs behind it
+-- the runs of the pages from page `p` on, where the first `n` runs end at `p` or before
 abbrev pub behind : ℕ → ℕ → List PageRun → List PageRun
 behind p n rs = option_to_list (option_map (rest_from p) (slice_get rs n)) ++ drop (suc n) rs
 
--- a run and those behind it, as one with the first of them where it goes on in that
+-- a run with those behind it: one with the first of them where it goes on in that one
 unfoldable pub join : PageRun → List PageRun → List PageRun
 join r [] = r ∷ []
 join r (s ∷ rs) = if goes_on r s then (record r { end = s.end }) ∷ rs else r ∷ s ∷ rs
 
--- runs with a run in place of what they had of its pages
+-- a run was put among runs, in the place of what they had of its pages
 pub record IsPut (r : PageRun) (old new : List PageRun) : Type 0 where
+  -- the runs lie one behind the other, and no two neighbours are one run
   pub runs : AreRuns new
+  -- the run's pages lie where the run says, and each other page where it lay
   pub pages : (page : ℕ) → ref_at new page ≡ (if nat_le r.first page && nat_lt page r.end then Some (run_ref r page) else ref_at old page)
+  -- there are at most two runs more
   pub count : length new ≤ length old + 2

@@ -8,13 +8,12 @@ use Rattle.strsim.specs.Edits.{levenshtein_row}
 abbrev pub edits : (word name : List ℕ) → ℕ
 edits word name = levenshtein_row nat_eq (map to_ascii_lowercase word) name (length name)
 
--- at most half as many edits as the name has bytes.
--- A name is near where these are at most half as many as it has bytes.
+-- a name is near where the edits that lead to it are at most half as many as it has bytes
 abbrev pub IsNear : (word name : List ℕ) → Type 0
 IsNear word name = edits word name ≤ length name / 2
 
--- none of the names is near, or this one is, and no near one takes fewer edits.
--- The nearest is near, and no near one takes fewer. Example: `wrte` takes one edit to `write`, and is near.
+-- none of the names is near; or this one is, and no near one takes fewer edits. Example: `wrte`
+-- takes one edit to `write`, and is near.
 abbrev pub IsNearest : (word : List ℕ) → List (List ℕ) → Option (List ℕ) → Type 0
 IsNearest word names None = All (λ name. ¬ IsNear word name) names
 IsNearest word names (Some name) =

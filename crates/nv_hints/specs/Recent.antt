@@ -2,9 +2,11 @@
 use Rattle.std.specs.Prelude.{◌≡◌, ◌==◌, ◌+◌, ◌⊎◌, ℕ, Bool, List, [], ◌∷◌, ◌++◌, count_by}
 use Rattle.nv_script.specs.Lines.{HasNoEnd}
 
--- what is kept of the bytes that were read: those from the beginning of a line on, and how many lines stand before them
+-- what is kept of the bytes that were read
 pub record Window : Type 0 where
+  -- how many lines stand before the bytes that are kept
   pub before : ℕ
+  -- the bytes from the beginning of a line on
   pub kept : List ℕ
   -- memory was refused for some of them
   pub lost : Bool
@@ -15,7 +17,7 @@ pub record Window : Type 0 where
 abbrev pub ends_in : List ℕ → ℕ
 ends_in bytes = count_by (λ byte. byte == 10) bytes
 
--- so many whole lines: no byte, or bytes that end in a line end
+-- these bytes are so many whole lines: there is none, or the last of them is a line end
 abbrev pub AreLines : List ℕ → ℕ → Type 0
 AreLines bytes lines = ((bytes ≡ []) ⊎ ((body : List ℕ) × (bytes ≡ body ++ 10 ∷ []))) × (ends_in bytes ≡ lines)
 
@@ -27,8 +29,8 @@ Keeps all w = (front : List ℕ) × (all ≡ front ++ w.kept) × AreLines front 
 abbrev pub IsBehindLine : List ℕ → Type 0
 IsBehindLine rest = (rest ≡ []) ⊎ ((more : List ℕ) × (rest ≡ 10 ∷ more))
 
--- the line of a number, counted from 1, without its end, as far as it was read.
--- The line of a number stands behind one line fewer, has no LF, and ends at one or where nothing more was read.
+-- the line of a number, counted from 1, without its end, as far as it was read: one line fewer
+-- stands before it
 abbrev pub IsLineOf : (all : List ℕ) → (number : ℕ) → (line : List ℕ) → Type 0
 IsLineOf all number line = (front : List ℕ) × (rest : List ℕ) × (lines : ℕ) × (all ≡ front ++ (line ++ rest)) × (number ≡ lines + 1)
     × AreLines front lines × HasNoEnd line × IsBehindLine rest

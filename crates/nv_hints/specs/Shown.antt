@@ -3,7 +3,7 @@ use Rattle.std.specs.Prelude.{ℕ, ◌/◌, ◌%◌, ◌==◌, ◌&&◌, ◌≤�
 use Rattle.std.specs.List.{flat_map}
 use Rattle.std.specs.Fmt.{digit_glyph}
 
--- a byte that is shown as itself: a visible one or the space, but for `\`
+-- a byte that is shown as itself: one from the space to `~`, except `\`
 abbrev pub is_shown : ℕ → Bool
 is_shown byte = nat_le 32 byte && nat_le byte 126 && not (byte == 92)
 
@@ -11,13 +11,13 @@ is_shown byte = nat_le 32 byte && nat_le byte 126 && not (byte == 92)
 abbrev pub shown_byte : ℕ → List ℕ
 shown_byte byte = if is_shown byte then byte ∷ [] else 92 ∷ 120 ∷ digit_glyph false (byte / 16) ∷ digit_glyph false (byte % 16) ∷ []
 
--- Shown bytes: a byte from the space to `~` except `\` as itself, and any other as `\x` and two digits.
+-- bytes as they are shown: one from the space to `~` except `\` as itself, and any other as `\x`
+-- and two digits
 abbrev pub shown : List ℕ → List ℕ
 shown bytes = flat_map shown_byte bytes
 
--- bytes in quotes, at most so many of them, and dots for those that are cut.
--- Quoted are the first of them between quotes, and dots stand for the rest. Example: of `a`, a tab and `b`, 2 at
--- most are `'a\x09...'`.
+-- bytes in quotes, at most so many of them, and dots for the rest. Example: of `a`, a tab and `b`,
+-- 2 at most are `'a\x09...'`.
 abbrev pub quoted : ℕ → List ℕ → List ℕ
 quoted most bytes = 39 ∷ (shown (take most bytes) ++ (if nat_lt most (length bytes) then codes "..." else [])) ++ 39 ∷ []
 

@@ -11,23 +11,24 @@ use Rattle.nv_entry.specs.Clean.{select}
 use Rattle.nv_entry.specs.declared.item.Entry.{Entry}
 use Rattle.nv_entry.specs.Log.{IsLog}
 
--- how many entries a page holds, the block of each page, where each page with entries ends (they stand first), all
--- entries in append order, and how many of them count
+-- what clauses see of a chain, except for its room
 pub record ChainState : Type 0 where
-  -- how many entries a page holds
+  -- how many entries a log page holds
   pub page : ℕ
-  -- the block of each page
+  -- the block of each log page
   pub blocks : List BlockValue
-  -- where each page with entries ends, as a number of entries
+  -- where each log page with entries ends, as a number of entries; these pages stand first
   pub ends : List ℕ
-  -- the entries in append order, those past the tail too
+  -- all entries in append order; those past the tail are not yet published
   pub entries : List Entry
-  -- how many of them count
+  -- how many of the entries count
   pub tail : ℕ
 
--- a chain, and how many more pages may be added without memory
+-- a chain with its room
 pub record ChainValue : Type 0 where
+  -- its log pages, its entries and its tail
   pub state : ChainState
+  -- how many more log pages may be added without memory
   pub spare : ℕ
 
 -- a chain without a page, of pages that hold so many entries
@@ -62,11 +63,11 @@ entry_of chain id = find (λ e. is_same_id e.id id) chain.entries
 abbrev pub place_of_id : List Entry → EntryId → Option ℕ
 place_of_id entries id = position (λ e. is_same_id e.id id) entries
 
--- where page `k` begins and ends among `len` items; one past those that have items, where all items end
+-- where page `k` begins among `len` items; a page past those with items begins where all items end
 abbrev pub start_in : List ℕ → ℕ → ℕ → ℕ
 start_in ends len k = slice_index_or (0 ∷ ends) k len
 
--- where page `k` ends: the number of all entries behind the last page with entries
+-- where page `k` ends among `len` items; a page past those with items ends where all items end
 abbrev pub end_in : List ℕ → ℕ → ℕ → ℕ
 end_in ends len k = slice_index_or ends k len
 
@@ -83,11 +84,11 @@ abbrev pub parts_from : {X : Type 0} → ℕ → List ℕ → List X → List (L
 parts_from start [] xs = []
 parts_from start (end ∷ ends) xs = take (end - start) xs ∷ parts_from end ends (drop (end - start) xs)
 
--- the entries of each page that has any, and those of them that count
+-- the entries of each log page that has any
 abbrev pub pages_of : ChainState → List (List Entry)
 pages_of chain = parts_from 0 chain.ends chain.entries
 
--- the entries of the log, page by page
+-- the entries that count, log page by log page
 abbrev pub log_pages : ChainState → List (List Entry)
 log_pages chain = parts_from 0 chain.ends (log chain)
 
@@ -95,7 +96,7 @@ log_pages chain = parts_from 0 chain.ends (log chain)
 abbrev pub page_entries : ChainState → ℕ → List Entry
 page_entries chain k = slice_index_or (pages_of chain) k []
 
--- the page that gets the next entry: that of the last entry while it has a free place, and then the one after it
+-- the page that gets the next entry: that of the last entry, or once it is full the one after it
 abbrev pub open_page : ℕ → List ℕ → ℕ → ℕ
 open_page page ends len = if nat_lt (len - start_in ends len (length ends - 1)) page then length ends - 1 else length ends
 
@@ -103,36 +104,35 @@ open_page page ends len = if nat_lt (len - start_in ends len (length ends - 1)) 
 abbrev pub open_of : ChainState → ℕ
 open_of chain = open_page chain.page chain.ends (length chain.entries)
 
--- how many more entries the pages that are there take.
--- Room: how many more entries the log pages of a chain take, with those that have no entry yet.
+-- how many more entries the log pages take that are there, those without an entry too
 abbrev pub room_of : ChainState → ℕ
 room_of chain = chain.page * (length chain.blocks - open_of chain) - (length chain.entries - start_of chain (open_of chain))
 
--- by how many pages a log with so many grows: it doubles up to eight, and then grows by eight.
--- Growth of a log: how many log pages it takes at once. A log without pages takes one. One with fewer than eight
--- doubles, up to eight. From there on it takes eight. Example: a log grows from 0 to 1, 2, 4, 8, 16 and 24 pages.
+-- how many log pages a log with so many takes at once: one where it has none, then as many again
+-- up to eight in all, and then eight.
+-- Example: a log grows from 0 to 1, 2, 4, 8, 16 and 24 log pages.
 abbrev pub growth : ℕ → ℕ
 growth pages = if pages == 0 then 1 else if nat_lt pages 8 then min pages (8 - pages) else 8
 
--- the pages of as many growths, one after the other, as make the room at least so many entries; `steps` bounds how many
+-- how many log pages a log takes, growth by growth, until there is room for so many entries; there
+-- are at most `steps` growths
 abbrev pub pages_in : ℕ → ℕ → ℕ → ℕ → ℕ → ℕ
 pages_in zero page pages room entries = 0
 pages_in (suc steps) page pages room entries =
     if nat_le entries room then 0
     else growth pages + pages_in steps page (pages + growth pages) (room + growth pages * page) entries
 
--- how many more pages it takes to append so many entries.
--- The log pages that a log takes for so many entries: those of as many growths, one after the other, as give room
--- for all. Example: a log with two full pages of two entries takes two pages for one to four entries, and six for
--- five.
+-- how many log pages a log takes, growth by growth, until there is room to append so many entries.
+-- Example: a log with two full pages of two entries takes two pages
+-- for one to four entries, and six for five.
 abbrev pub pages_for : ChainState → ℕ → ℕ
 pages_for chain n = pages_in n chain.page (length chain.blocks) (room_of chain) n
 
--- the chain with one more page, which has no entry
+-- the chain with one more log page, which has no entry
 abbrev pub with_page : BlockValue → ChainState → ChainState
 with_page block chain = record chain { blocks = chain.blocks ++ block ∷ [] }
 
--- the chain with one more entry: the page that gets it is the last with entries, and ends behind it
+-- the chain with one more entry, which stands last on the open page
 abbrev pub appended : Entry → ChainState → ChainState
 appended e chain = record chain {
   ends = take (open_of chain) chain.ends ++ (length chain.entries + 1) ∷ [];
@@ -151,16 +151,16 @@ gone_of stays xs = select (map not stays) xs
 abbrev pub flags_from : ℕ → List Bool → List Bool
 flags_from first stays = replicate first true ++ stays
 
--- lists one behind the other, and where each of them ends, from place `start` on
+-- lists one behind the other, as one
 abbrev pub joined : {X : Type 0} → List (List X) → List X
 joined parts = flat_map (λ part. part) parts
 
--- where each of these parts ends, the first of which starts at a place
+-- where each of some lists ends once they are joined, where the first begins at place `start`
 abbrev pub ends_from : {X : Type 0} → ℕ → List (List X) → List ℕ
 ends_from start [] = []
 ends_from start (part ∷ parts) = (start + length part) ∷ ends_from (start + length part) parts
 
--- the chain without the entries of the pages that go, and without these pages
+-- the chain without the entries of the pages that go; the log pages themselves stay
 abbrev pub with_entries_left : List Bool → ChainState → ChainState
 with_entries_left stays chain = record chain {
   ends = ends_from 0 (left_of stays (pages_of chain));
@@ -168,7 +168,7 @@ with_entries_left stays chain = record chain {
   tail = length (joined (left_of stays (log_pages chain)));
 }
 
--- the chain without the pages whose flags are not set
+-- the chain without the pages that go, and without their entries
 abbrev pub with_pages_left : List Bool → ChainState → ChainState
 with_pages_left stays chain = record (with_entries_left stays chain) { blocks = left_of stays chain.blocks }
 
@@ -176,7 +176,7 @@ with_pages_left stays chain = record (with_entries_left stays chain) { blocks = 
 abbrev pub packed : ℕ → ℕ → List ℕ
 packed page n = map (λ k. min ((k + 1) * page) n) (range_with_len 0 (div_ceil n page))
 
--- the chain with what is left of its entries on fresh pages
+-- the chain with what is left of its entries on fresh log pages
 abbrev pub compacted : List Bool → List BlockValue → ChainState → ChainState
 compacted stays pages chain = record chain {
   blocks = pages;
@@ -185,28 +185,40 @@ compacted stays pages chain = record chain {
   tail = length (left_of stays (log chain));
 }
 
--- the entry is the last, behind the others of its page, all else stays where it was, and the log stays
+-- one entry was appended to a chain
 pub record AppendsEntry (e : Entry) (old new : ChainState) : Type 0 where
+  -- there is room for one entry less
   pub room_falls : room_of new + 1 ≡ room_of old
+  -- the entry is the last
   pub last_is : last_entry new ≡ Some e
+  -- the entry stands behind those of its log page, and all others stand where they stood
   pub pages_are : pages_of new ≡ take (open_of old) (pages_of old) ++ (page_entries old (open_of old) ++ e ∷ []) ∷ []
+  -- the entries that count are those of before
   pub log_stays : log new ≡ log old
 
--- each page that stays keeps its entries, and the log keeps what such a page had of it
+-- some log pages left a chain
 pub record KeepsPages (stays : List Bool) (old new : ChainState) : Type 0 where
+  -- each log page that stays keeps its entries
   pub pages_are : pages_of new ≡ left_of stays (pages_of old)
+  -- the log keeps what the pages that stay had of it
   pub log_is : log new ≡ joined (left_of stays (log_pages old))
 
--- parts of one to `most` items, of which the first begins at `start` and the last ends at `len`
+-- where pages of one to `most` items end; the first begins at `start`, and the last ends at `len`
 abbrev pub AreEnds : ℕ → ℕ → List ℕ → ℕ → Type 0
 AreEnds most start [] len = start ≡ len
 AreEnds most start (end ∷ ends) len = (start < end) × (end ≤ start + most) × AreEnds most end ends len
 
 -- what holds of each chain
 pub record IsChain (chain : ChainState) : Type 0 where
+  -- a log page holds at least 2 entries
   pub least : LEAST_PAGE_ENTRIES ≤ chain.page
+  -- a log page holds at most 63 entries
   pub most : chain.page ≤ PAGE_ENTRIES
+  -- no more log pages have entries than there are
   pub paged : length chain.ends ≤ length chain.blocks
+  -- each log page with entries has 1 to `page` of them, and the last ends where all end
   pub parted : AreEnds chain.page 0 chain.ends (length chain.entries)
+  -- ids rise and epochs never fall along all entries, those past the tail too
   pub rising : IsLog chain.entries
+  -- the tail is within the entries
   pub within : chain.tail ≤ length chain.entries

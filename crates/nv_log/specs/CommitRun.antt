@@ -4,11 +4,11 @@ use Rattle.nv_base.specs.declared.numbers.EntryId.{EntryId}
 use Rattle.nv_entry.specs.declared.item.Entry.{Entry}
 use Rattle.nv_log.specs.declared.commit_run.CommitRun.{CommitRun}
 
--- the entry at place `n` of a run: the first of its commit
+-- the id that the entry at place `n` of a commit run has
 abbrev pub id_in : CommitRun → ℕ → EntryId
 id_in run n = record { commit = run.first + (n - run.from); place = 0 }
 
--- the entries from a place on are each the first of its commit, and their commits follow one another
+-- from the run on, each entry is the first of its commit, and the commits follow one another
 abbrev pub IsCommitRun : List Entry → CommitRun → Type 0
 IsCommitRun entries run = (n : ℕ) (none : Entry) → run.from ≤ n → n < length entries
     → (slice_index_or entries n none).id ≡ id_in run n

@@ -10,20 +10,26 @@ use Rattle.nv_calls.specs.declared.answer.Answer.{Answer}
 use Rattle.nv_calls.specs.declared.call.Call.{Call}
 use Rattle.nv_machine.specs.World.{Event, Go}
 
--- steps of one actor, of which each is granted the memory that it asks for or not
+-- `Go` events of one actor, each with whether memory is granted to its step
 abbrev pub goes : ℕ → List Bool → List Event
 goes actor grants = map (Go actor) grants
 
--- a call is told what the plain world answers on these nodes, which do not refuse it, and `after` are those with its
--- effect; `made` is the handle of a new inode, and `commit` the number of the commit, if it makes one
+-- A CALL IS ANSWERED as the plain world answers it on these nodes, and `after` are those with its
+-- effect
 pub record IsAnsweredOn (block : ℕ) (nodes after : Handle → Option PlainNode) (c : Call) (told : Answer) : Type 0 where
+  -- the handle of a new inode, where the call makes one
   pub made : Handle
+  -- the number of its commit, where it makes one
   pub commit : ℕ
+  -- these nodes do not refuse it
   pub passes_is : refusal block (node_in nodes) c ≡ passes
+  -- it is told what the plain world answers
   pub told_is : told ≡ answer nodes made c
+  -- the nodes after it have its effect, under that commit
   pub becomes : (handle : Handle) → after handle ≡ nodes_after commit (effect (node_in nodes) made c) nodes handle
 
--- for want of a number, of blocks, of a commit number or of memory, which no node tells
+-- the fault is for want of a number, of blocks, of a commit number or of memory, which no node
+-- tells
 abbrev pub is_want : Fault → Bool
 is_want NoInode = true
 is_want NoSpace = true
@@ -31,7 +37,7 @@ is_want CommitLimit = true
 is_want (OutOfMemory _) = true
 is_want other = false
 
--- a call is refused for what these nodes refuse it for; or, where they do not, for want
+-- A CALL IS REFUSED for what these nodes refuse it for, or, where they do not, for such a want
 abbrev pub IsRefusedOn : ℕ → (Handle → Option PlainNode) → Call → Fault → Type 0
 IsRefusedOn block nodes c fault =
     (refusal block (node_in nodes) c ≡ Err fault) ⊎ ((refusal block (node_in nodes) c ≡ passes) × (is_want fault ≡ true))

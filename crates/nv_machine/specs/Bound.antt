@@ -12,7 +12,8 @@ use Rattle.nv_machine.specs.World.{Append, ReturnNumber, Check, Close, Compact, 
 abbrev pub round : ℕ → ℕ
 round cpus = 44 + 3 * cpus
 
--- the steps left of a call on snapshots, of a drain with the records that it may still release
+-- the steps left in one round of a call on snapshots or of a cleaner; of a drain also the rounds
+-- of records to come
 abbrev pub rank_on : ℕ → ℕ → SnapshotOrCleanerStep → ℕ
 rank_on cpus slots Make = 4 + cpus + slots
 rank_on cpus slots (Drop snapshot) = 4 + cpus + slots
@@ -50,31 +51,31 @@ rank cpus slots Number = 41 + 3 * cpus
 rank cpus slots (Look place) = 41 + 3 * cpus + (2 - place)
 rank cpus slots (SnapshotOrCleaner step) = rank_on cpus slots step
 
--- and behind a record that a drain has released, those of the records that it may still release
+-- the steps that may come behind the record that a drain has released: a round for each that may
+-- follow
 abbrev pub rank_behind : ℕ → Ending → ℕ
 rank_behind cpus (Drains draining) = draining.left * round cpus
 rank_behind cpus other = 0
 
--- the steps left of a call, with the rounds that it may still make.
--- Steps left: the rank of the next step in its round, and a whole round for each that is left, or for each record
--- that a `drain` call may yet release.
+-- THE BOUND of a call: the rank of the step that comes next, and a whole round for each that is
+-- left, or for each record that a drain may yet release
 abbrev pub bound : ℕ → Running → ℕ
 bound cpus r = rank_behind cpus r.ending + r.rounds * round cpus + rank cpus (length r.slots) r.next
 
--- the steps of a call: eight rounds, a visit for each inode that there can be, or a round for each
--- record that it may release.
--- At a start it is at most 8 * (44 + 3 * CPUs), for a `show` call as many more as inodes are allowed, and for a
--- `drain` call at most (8 + 1,048,576) * (44 + 3 * CPUs).
+-- the steps of a call at most: eight rounds; for a `drain` a round more for each record that it
+-- may release, and for other calls on snapshots and cleaners a visit more for each inode that
+-- there can be. That is 8 * (44 + 3 * CPUs), for a `show` call as many more as inodes are allowed,
+-- and for a `drain` call (8 + 1,048,576) * (44 + 3 * CPUs).
 abbrev pub most_steps_of : Call → ℕ → ℕ
 most_steps_of (call.SnapshotOrCleaner (on.Drain count)) cpus = (8 + DRAIN) * round cpus
 most_steps_of (call.SnapshotOrCleaner c) cpus = 8 * round cpus + INODES
 most_steps_of c cpus = 8 * round cpus
 
--- and of any call
+-- the steps of any call at most
 abbrev pub most_steps : ℕ → ℕ
 most_steps cpus = (8 + DRAIN) * round cpus
 
--- what is moved on to has fewer steps left than so many
+-- where the turn moves on, the call has a bound below this
 abbrev pub Falls : ℕ → ℕ → Turn → Type 0
 Falls cpus n (Moves s h r) = bound cpus r < n
 Falls cpus n Waits = Unit {0}
@@ -91,26 +92,26 @@ bound_of cpus (Some r) = bound cpus r
 abbrev pub bound_at : World → ℕ → ℕ
 bound_at w actor = bound_of (length w.shared.lists) (actor_at w actor).running
 
--- one where an event moves the actor's call
+-- 1 for a reply that moved the call, else 0
 abbrev pub moves_by : Reply → ℕ
 moves_by Moved = 1
 moves_by other = 0
 
--- how often an event moved the call of an actor
+-- 1 where an event moved the call of an actor, else 0
 abbrev pub moves_in : ℕ → Event → Reply → ℕ
 moves_in actor (Start other c) reply = 0
 moves_in actor (Go other granted) reply = if other == actor then moves_by reply else 0
 
--- how many of the events do so
+-- HOW OFTEN these events moved the calls of an actor
 abbrev pub moves : ℕ → World → List Event → ℕ
 moves actor w [] = 0
 moves actor w (e ∷ events) = moves_in actor e (step w e).reply + moves actor (step w e).world events
 
--- no call of the actor is started
+-- the event starts no call of the actor
 abbrev pub IsNoStart : ℕ → Event → Type 0
 IsNoStart actor (Start other c) = other ≢ actor
 IsNoStart actor (Go other granted) = Unit {0}
 
--- so in all of them
+-- none of the events starts a call of the actor
 abbrev pub AreNoStarts : ℕ → List Event → Type 0
 AreNoStarts actor events = AllByRecursion (IsNoStart actor) events

@@ -20,7 +20,7 @@ use Rattle.nv_machine.specs.World.{Answers, Check, Cleans, Drains, Drop, Ending,
 
 -- ---- causes
 
--- the call is one that the plain world refuses, over these nodes
+-- the plain world refuses the call with this fault, over these nodes
 abbrev pub IsRefusal : ℕ → (Handle → Option NodeCopy) → Running → Fault → Type 0
 IsRefusal block nodes r fault = refusal block nodes r.call ≡ Err fault
 
@@ -28,7 +28,7 @@ IsRefusal block nodes r fault = refusal block nodes r.call ≡ Err fault
 abbrev pub IsDenied : Bool → Fault → Type 0
 IsDenied granted fault = (fault ≡ out_of_memory) × (granted ≡ false)
 
--- the plain world does not refuse it
+-- the plain world does not refuse the call, over these nodes
 abbrev pub Passes : ℕ → (Handle → Option NodeCopy) → Running → Type 0
 Passes block nodes r = refusal block nodes r.call ≡ passes
 
@@ -36,10 +36,13 @@ Passes block nodes r = refusal block nodes r.call ≡ passes
 abbrev pub IsWithoutNumber : HandState → Running → Fault → Type 0
 IsWithoutNumber h r fault = (fault ≡ NoInode) × (is_numbered (beginning r.call) h.ino ≡ false)
 
--- the last list is asked, and has fewer blocks than are wanted yet
+-- the last list is asked, and too few blocks are there
 pub record IsShort (s : Shared) (cpu asked wanted : ℕ) (fault : Fault) : Type 0 where
+  -- the fault is `NoSpace`
   pub is : fault ≡ NoSpace
+  -- no list is left to ask
   pub last : length s.lists ≤ asked + 1
+  -- this one has fewer blocks than are still wanted
   pub short : length (list_at s cpu).blocks < wanted
 
 -- no further commit number is there
@@ -50,7 +53,7 @@ IsAtLimit s fault = (fault ≡ CommitLimit) × (NUMBER ≤ s.book.commit)
 abbrev pub IsOvertaken : (Handle → Option NodeCopy) → Running → Type 0
 IsOvertaken nodes r = (early nodes r.call ≡ passes) × (same_looked (looked nodes r.call) r.looked ≡ false)
 
--- that is so, nothing is locked, and no round of looks is left
+-- a name is bound anew, nothing is locked, and no round of looks is left
 abbrev pub IsLastRound : (Handle → Option NodeCopy) → Running → Fault → Type 0
 IsLastRound nodes r fault = (fault ≡ Contended) × IsOvertaken nodes r × (r.slots ≡ []) × (r.rounds ≡ 0)
 
@@ -63,9 +66,7 @@ abbrev pub is_cleanable : Option ℕ → Shared → Bool
 is_cleanable None s = false
 is_cleanable (Some ino) s = has_inode (cell_at s ino)
 
--- for what a step of a call on snapshots refuses it: no further epoch or no room for one more snapshot, no such
--- snapshot, one that has a pin, or memory that a show or a first pick asks for; and a cleaner: no inode of its number, the
--- memory of its walk where there is one, or too few blocks
+-- for what a step of a call on snapshots or of a cleaner may refuse its call, and when
 abbrev pub IsCauseOn : SnapshotOrCleanerStep → ℕ → Bool → Shared → Fault → Type 0
 IsCauseOn Make actor granted s fault = make_tests s.book.snaps ≡ Err fault
 IsCauseOn (Drop snapshot) actor granted s fault = drop_tests (pins_of s.book.snaps snapshot) ≡ Err fault
@@ -78,8 +79,7 @@ IsCauseOn (Fresh ino asked wanted) actor granted s fault =
     IsShort s (asked_list (length s.lists) actor asked) asked wanted fault
 IsCauseOn other actor granted s fault = ⊥
 
--- for what each step refuses its call, where it reads these nodes; the others refuse nothing.
--- A cause: for what each step may refuse its call, and when.
+-- A CAUSE: for what each step may refuse its call, and when, where it reads these nodes
 abbrev pub IsCause : Next → ℕ → ℕ → Bool → (Handle → Option NodeCopy) → Shared → HandState → Running → Fault → Type 0
 IsCause (Look place) block actor granted nodes s h r fault = look_refusal nodes r.call ≡ Err fault
 IsCause Check block actor granted nodes s h r fault =
@@ -104,8 +104,8 @@ MayBeOvertaken other nodes r = ⊥
 
 -- ---- a step that refuses its call
 
--- whatever fault a call is to end with meets this, and the call has only its last steps left; and this holds
--- where it is overtaken
+-- where a call is to end with a fault, the fault meets `P` and only last steps are left; where a
+-- name was bound anew, `Q` holds
 abbrev pub EndsFor : (Fault → Type 0) → Type 0 → Next → Ending → Type 0
 EndsFor P Q next (Refuses fault) = P fault × IsEnding next
 EndsFor P Q next Answers = Unit {0}
@@ -118,7 +118,8 @@ abbrev pub ResultFor : (Fault → Type 0) → Result Answer Fault → Type 0
 ResultFor P (Ok found) = Unit {0}
 ResultFor P (Err fault) = P fault
 
--- whatever fault a turn refuses its call for meets this: the call is to end with it, or ends with it now
+-- whatever fault a turn refuses its call for meets `P`; where it finds a name bound anew, `Q`
+-- holds
 abbrev pub RefusesFor : (Fault → Type 0) → Type 0 → Turn → Type 0
 RefusesFor P Q (Moves s h r) = EndsFor P Q r.next r.ending
 RefusesFor P Q Waits = Unit {0}

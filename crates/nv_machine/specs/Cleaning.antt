@@ -21,7 +21,7 @@ lock_cleaned_turn None actor manner ino s h r =
 
 -- ---- plan cleaning: what the walk of the log finds
 
--- a thorough cleaning is worth its pages where less than half of the entries stay
+-- a cleaning goes entry by entry: `auto` does where less than half of the entries stay
 abbrev pub is_thorough : Manner → CellState → Bool
 is_thorough Fast cell = false
 is_thorough Thorough cell = true
@@ -31,7 +31,8 @@ is_thorough Auto cell = nat_lt (2 * (wanted_of cell).entries) (length cell.chain
 abbrev pub nothing_cleaned : Cleaned
 nothing_cleaned = record { thorough = true; entries = 0; pages = 0 }
 
--- so many entries go, and the others fill so many pages, which are taken first; where none goes the call is told so
+-- so many entries go, and the others fill so many log pages, which are taken first; where none
+-- goes the call is answered so
 abbrev pub thorough_turn : ℕ → ℕ → ℕ → Shared → HandState → Running → Turn
 thorough_turn zero pages ino s h r = end_turn r.slots (Cleans nothing_cleaned) s h r
 thorough_turn (suc n) pages ino s h r = Moves s h (go_to (SnapshotOrCleaner (Fresh ino 0 pages)) r)
@@ -47,7 +48,7 @@ abbrev pub inode_turn : Bool → Manner → ℕ → Bool → Shared → HandStat
 inode_turn false manner ino granted s h r = refuse Stale s h r
 inode_turn true manner ino granted s h r = grown granted (chosen_turn (is_thorough manner (cell_at s ino)) ino s h r) s h r
 
--- so is a number without a slot
+-- a planning: a number out of range is refused as a slot without an inode
 abbrev pub plan_cleaning_turn : Manner → Option ℕ → Bool → Shared → HandState → Running → Turn
 plan_cleaning_turn manner None granted s h r = refuse Stale s h r
 plan_cleaning_turn manner (Some ino) granted s h r = inode_turn (has_inode (cell_at s ino)) manner ino granted s h r

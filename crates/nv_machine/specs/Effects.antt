@@ -16,20 +16,25 @@ use Rattle.nv_machine.specs.World.{Running, Shared, cell_at}
 abbrev pub IsSoundIn : CellState → List Entry → Type 0
 IsSoundIn cell log = IsSound (bytes_among cell.blocks) cell.block log
 
--- each settled log is
+-- each settled log is sound by the blocks of its cell
 abbrev pub AreSound : Shared → Type 0
 AreSound s = (ino : ℕ) → IsSoundIn (cell_at s ino) (settled s ino)
 
--- slots by their settled logs
+-- the slots of a world, each with its settled log
 abbrev pub settled_slots : Shared → ℕ → InodeSlot
 settled_slots s ino = record { generation = (cell_at s ino).generation; log = settled s ino }
 
--- `bytes` gives those of each cell's blocks, settled logs are sound by it, and the plan, which is of slots that are
--- written, fits the effect on the settled nodes
+-- WHAT A CALL KNOWS AT ITS COMMIT POINT, where `bytes` gives the bytes of a block
 pub record HasPlanNow (bytes : ℕ → List ℕ) (block : ℕ) (s : Shared) (r : Running) : Type 0 where
+  -- a block has at least one byte
   pub some : 0 < block
+  -- each cell has blocks of so many bytes
   pub sizes : (ino : ℕ) → ino < length s.cells → (cell_at s ino).block ≡ block
+  -- `bytes` gives those of each block that a cell has
   pub blocks : (ino n : ℕ) (b : BlockValue) → slice_index_or (cell_at s ino).blocks n None ≡ Some b → bytes b.number ≡ b.bytes
+  -- each settled log is sound by these bytes
   pub sound : (ino : ℕ) → IsSound bytes block (settled s ino)
+  -- the plan has items only for slots that are written
   pub written : (ino : ℕ) → has (written_slots r) ino ≡ false → items_for r.plan ino ≡ []
+  -- the plan has the effect that the call has on the settled nodes of now
   pub fits : IsPlan bytes block (settled_slots s) r.plan (effect (node_in (settled_nodes s)) r.made r.call)

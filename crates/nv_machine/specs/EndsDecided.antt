@@ -67,16 +67,16 @@ abbrev pub unless_started : Reply → List Answer → List Answer
 unless_started Started before = []
 unless_started other before = before
 
--- the answers that were decided since an actor's call was started
+-- the answers that were decided since an actor's call was started, with what this event decides
 abbrev pub decided_in : ℕ → World → Event → List Answer → List Answer
 decided_in actor w (Start other c) before =
     if other == actor then unless_started (step w (Start other c)).reply before else before
 decided_in actor w (Go other granted) before =
     if other == actor then decision_of (actor_at w actor).running w actor granted ++ before else before
 
--- WHAT HAS BEEN DECIDED of the actor's call since it was started, the last first.
--- What has been decided of a call since its start: the plain world's answers at the steps that decide it. These are
--- a commit point, a `visit` that is answered, or a `check` that passes with nothing to change.
+-- WHAT HAS BEEN DECIDED of a call since its start, the last one first: the plain world's answers
+-- at the steps that decide it. These are a commit point, a `visit` that is answered, or a `check`
+-- that passes with nothing to change.
 abbrev pub decided : ℕ → World → List Event → List Answer → List Answer
 decided actor w [] before = before
 decided actor w (e ∷ events) before = decided actor (step w e).world events (decided_in actor w e before)

@@ -16,8 +16,8 @@ use Rattle.nv_machine.specs.Settled.{settled}
 use Rattle.nv_machine.specs.Step.{changed}
 use Rattle.nv_machine.specs.World.{ReturnNumber, Give, Leave, Next, Pick, Retire, Running, Shared, SnapshotOrCleaner, Unlock, World, actor_at, cell_at, empty_hand}
 
--- what keeps the pairs of a slot, but for a hand that has killed them: the living snapshots and, by name,
--- these that are pending
+-- what keeps the pairs of a slot, apart from hands that have killed them: the living snapshots,
+-- and by name these records that are pending
 abbrev pub keepers_of : List Record → Shared → ℕ → Retention
 keepers_of pending s ino = record {
   block = (cell_at s ino).block;
@@ -25,16 +25,15 @@ keepers_of pending s ino = record {
   pending = map name_of (filter (is_of_slot ino) pending);
 }
 
--- THE INODE OF A SLOT IS GONE, AND NOTHING IS KEPT OF IT: its settled log ends with the entry that says it is gone, and
--- no pair of that log is current, held by a living snapshot or among these that are pending
+-- THE INODE OF A SLOT IS GONE, AND NOTHING IS KEPT OF IT
 pub record IsOver (pending : List Record) (s : Shared) (ino : ℕ) : Type 0 where
-  -- the settled log ends with a Gone
+  -- the settled log ends with the entry that says it is gone
   pub gone : is_gone (settled s ino) ≡ true
-  -- no pair of it is kept
+  -- no pair of that log is current, held by a living snapshot, or among these that are pending
   pub kept : AllByRecursion (λ (pair : Pair). keeps (keepers_of pending s ino) pair ≡ false)
       (pairs (cell_at s ino).block (settled s ino))
 
--- what is pending, but for what this actor has picked
+-- what is pending, apart from what this actor has picked
 abbrev pub pending_but : ℕ → World → List Record
 pending_but actor w = pending_in (changed w.shared empty_hand None actor w)
 
@@ -42,14 +41,13 @@ pending_but actor w = pending_in (changed w.shared empty_hand None actor w)
 abbrev pub emptied : CellState → CellState
 emptied cell = empty_cell cell.block cell.chain.page (cell.generation + 1) cell.version
 
--- ERASED WHOLE, by a step of an actor: the slot is empty, of the next generation; the actor's hand has each page of the
--- chain, the block of each part, and the number, unless the slot is now of the last generation
+-- ERASED WHOLE, by a step of an actor
 pub record IsErasedWhole (actor ino : ℕ) (w t : World) : Type 0 where
   -- the slot is empty, and of the next generation
   pub slot : cell_at t.shared ino ≡ emptied (cell_at w.shared ino)
-  -- the hand has the log pages of its chain
+  -- the hand has the log pages of its chain behind those that it had
   pub chain : (actor_at t actor).hand.chain ≡ (actor_at w actor).hand.chain ++ (cell_at w.shared ino).chain.blocks
-  -- the hand has the blocks of its parts
+  -- the hand has the block of each of its parts
   pub blocks : (n : ℕ) (b : BlockValue) → slice_index_or (cell_at w.shared ino).blocks n None ≡ Some b
       → has (numbers_of (actor_at t actor).hand.blocks) b.number ≡ true
   -- the hand has its number, unless the generation is the last
@@ -66,12 +64,15 @@ is_late (Give cpu) = true
 is_late ReturnNumber = true
 is_late other = false
 
--- a number is in the hand of such a call.
--- A number is on its way in the hand of a call that retires or has only its last steps left.
+-- a number is on its way to the pool, in the hand of a call that has only such steps left
 pub record IsOnItsWay (actor ino : ℕ) (w : World) : Type 0 where
+  -- the call that the actor runs
   pub running : Running
+  -- the actor runs it
   pub runs : (actor_at w actor).running ≡ Some running
+  -- it retires, or has only its last steps left
   pub late : is_late running.next ≡ true
+  -- the number is in the actor's hand
   pub number : (actor_at w actor).hand.ino ≡ Some ino
 
 -- a call has ended, or a drain is to pick its next record
@@ -82,12 +83,13 @@ is_done_with (Some r) = picks_next r.next where
   picks_next (SnapshotOrCleaner (Pick draining)) = true
   picks_next other = false
 
--- so it is, and the pool has the number.
--- It is back once the call has ended and the pool has it. Example: a file with its log page in block 1 and a page
--- in block 2 is unlinked. After the 14th step of that call its inode slot is empty, and of generation 2. The hand
--- has blocks 1 and 2 and the number. The number is in the pool at the end of the call.
+-- the number is back in the pool. Example: a file with its log page in block 1 and a page in block
+-- 2 is unlinked. After the 14th step of that call its inode slot is empty, and of generation 2.
+-- The hand has blocks 1 and 2 and the number. The number is in the pool at the end of the call.
 pub record IsBack (actor ino : ℕ) (w : World) : Type 0 where
+  -- the actor's call has ended, or a drain is to pick its next record
   pub ended : is_done_with (actor_at w actor).running ≡ true
+  -- the pool has the number
   pub pool : has w.shared.pool.numbers ino ≡ true
 
 -- the number is on its way, or in the pool

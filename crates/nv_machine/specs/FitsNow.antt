@@ -10,8 +10,7 @@ use Rattle.nv_machine.specs.World.{Append, Close, Enter, Next, Open, Publish, Re
 abbrev pub all_parts : List CellState → List (Option BlockValue)
 all_parts cells = flat_map (λ (c : CellState). c.blocks) cells
 
--- the bytes of the block of that number.
--- The bytes of all blocks are told by their numbers.
+-- the bytes of the block of that number among those of all cells
 abbrev pub bytes_in : Shared → ℕ → List ℕ
 bytes_in s number = bytes_among (all_parts s.cells) number
 

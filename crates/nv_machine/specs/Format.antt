@@ -42,8 +42,8 @@ root_cell g = record {
   blocks = replicate 3 None;
 }
 
--- block 0 is the root's log page, and number 0 its slot; all else is free, and nobody has a call.
--- A new world is `formatted`.
+-- A NEW WORLD: block 0 is the root's log page, and number 0 its slot; all else is free, and nobody
+-- has a call
 abbrev pub formatted : GeometryNumbers → World
 formatted g = record {
   numbers = g;

@@ -19,21 +19,21 @@ added_on Make s = Made s.book.snaps.epoch ∷ []
 added_on (Drop snapshot) s = Dropped snapshot ∷ []
 added_on other s = []
 
--- what an actor's deed adds: the commit that it enters is its own, of the next number and of this epoch
+-- what the step of an actor adds to the history: a commit that it enters has the next number and
+-- the present epoch
 abbrev pub added : PlainChange → ℕ → Shared → List BookEvent
 added Nothing actor s = []
 added Numbers actor s = Committed actor (s.book.commit + 1) s.book.snaps.epoch ∷ []
 added Commits actor s = []
 added (Maintains step) actor s = added_on step s
 
--- WHAT HAPPENED, the earliest first.
--- What happened: each `enter` that goes on into its commit, with its actor, and each snapshot that was made or
--- dropped. The history is these, noted one after another.
+-- WHAT HAPPENED, the earliest first: each `enter` that goes on into its commit, with its actor,
+-- and each snapshot that was made or dropped
 abbrev pub happened : World → List Event → List BookEvent
 happened w [] = []
 happened w (e ∷ events) = added (plain_change_of w e) (actor_of e) w.shared ++ happened (step w e).world events
 
--- several events more, of which the latest are told
+-- a history with several events more, of which the latest are kept one by one
 abbrev pub all_noted : Account → List BookEvent → Account
 all_noted a [] = a
 all_noted a (e ∷ es) = all_noted (noted LATEST a e) es
@@ -50,8 +50,9 @@ is_journaled (Publish place) written = nat_lt 1 (length written)
 is_journaled Close written = true
 is_journaled other written = false
 
--- THE OPEN JOURNAL is that of this CPU: it has noted exactly these slots, and no other has noted anything.
--- The open journal of a CPU has noted exactly some inode slots, and no other journal has noted anything.
+-- THE OPEN JOURNAL is that of this CPU
 pub record IsOpenAt (s : Shared) (cpu : ℕ) (written : List ℕ) : Type 0 where
+  -- it has noted a tail for exactly these slots
   pub own : (ino : ℕ) → is_some (tail_noted (journal_at s cpu) ino) ≡ has written ino
+  -- no other journal has noted anything
   pub others : (other : ℕ) → other ≢ cpu → journal_at s other ≡ []

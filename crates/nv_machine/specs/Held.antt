@@ -29,7 +29,7 @@ killed_slots Close written = written
 killed_slots (Retire place) written = drop place written
 killed_slots other written = []
 
--- of lists that belong to these slots one by one, that of a slot
+-- of lists of killed parts that belong to these slots one by one, the list of one slot
 abbrev pub parts_for : List ℕ → List (List KilledPart) → ℕ → List KilledPart
 parts_for [] killed ino = []
 parts_for (slot ∷ slots) [] ino = []
@@ -40,12 +40,11 @@ abbrev pub killed_by_call : Option Running → HandState → ℕ → List Killed
 killed_by_call None h ino = []
 killed_by_call (Some r) h ino = parts_for (killed_slots r.next (written_slots r)) h.killed ino
 
--- the parts of an inode that an actor's call has so killed
+-- the parts of an inode that an actor's call has killed and not yet retired
 abbrev pub killed_by_actor : ℕ → Actor → List KilledPart
 killed_by_actor ino actor = killed_by_call actor.running actor.hand ino
 
--- the killed parts of a slot, in all hands.
--- Killed are the parts that a call has published over and not yet retired, as hands have them inode slot by slot.
+-- the parts of a slot that calls have killed and not yet retired, in all hands
 abbrev pub killed_in : World → ℕ → List KilledPart
 killed_in w ino = flat_map (killed_by_actor ino) w.actors
 
@@ -75,16 +74,16 @@ picked_by_actor actor = picked_by_call actor.running
 abbrev pub pending_in : World → List Record
 pending_in w = w.shared.book.deferred ++ flat_map picked_by_actor w.actors
 
--- those of a slot
+-- the record is of a part in this slot
 abbrev pub is_of_slot : ℕ → Record → Bool
 is_of_slot ino d = d.ino == ino
 
--- the parts of an inode that wait so, by name
+-- the parts of a slot that are deferred, or picked and not yet released, by name
 abbrev pub pending_at : World → ℕ → List PartId
 pending_at w ino = map name_of (filter (is_of_slot ino) (pending_in w))
 
--- what keeps the pairs of a slot: the living snapshots and, by name, those that are pending or killed.
--- A law says the same of pairs: in use are those that are needed, deferred or killed.
+-- what keeps the pairs of a slot: the living snapshots, and by name the pairs that are pending or
+-- killed
 abbrev pub retention_at : World → ℕ → Retention
 retention_at w ino = record {
   block = (cell_at w.shared ino).block;
@@ -94,19 +93,17 @@ retention_at w ino = record {
 
 -- ---- what is used
 
--- a pair is in use that is needed, pending or killed
+-- a pair is in use that is needed, pending or killed; a part that has no pair yet is too
 abbrev pub in_use_by : Retention → Option Pair → Bool
 in_use_by r None = true
 in_use_by r (Some pair) = keeps r pair
 
--- a part is in use whose pair is; and so are all parts of entries past the tail, which the commit
--- under way has appended.
--- A part is in use that no later entry covers, up to the log's tail, or that is killed; so is each part past the
--- tail.
+-- a part is in use whose pair is, and so is each part past the tail, which the commit under way
+-- has appended
 abbrev pub is_in_use : Retention → CellState → ℕ → Bool
 is_in_use r cell n = in_use_by r (slice_get (pairs cell.block (log_of cell)) n)
 
--- the block of a part in use, as its entry says, if it is a page
+-- the block of a part in use, as its entry says, if it is a file page
 abbrev pub block_in_use : Retention → CellState → ℕ → Option ℕ
 block_in_use r cell n = if is_in_use r cell n then page_block cell.block cell.chain.entries n else None
 
@@ -115,18 +112,17 @@ abbrev pub blocks_in_use : Retention → CellState → List ℕ
 blocks_in_use r cell =
     flat_map (λ n. option_to_list (block_in_use r cell n)) (range_with_len 0 (part_total cell.chain.entries))
 
--- the blocks of a slot: the pages of its chain, and those of its parts in use
+-- the blocks of a slot: the log pages of its chain, and those of its parts in use
 abbrev pub used_by_slot : World → ℕ → List ℕ
 used_by_slot w ino = numbers_of (cell_at w.shared ino).chain.blocks ++ blocks_in_use (retention_at w ino) (cell_at w.shared ino)
 
--- THE USED BLOCKS: those of slots, and those in hands.
--- Used are the log pages of chains, the blocks that entries say of pages in use, and what hands have. The rest of a
--- home range is free.
+-- THE USED BLOCKS: the log pages of chains, the blocks that entries say of file pages in use, and
+-- those in hands
 abbrev pub used_by_logs : World → List ℕ
 used_by_logs w = flat_map (used_by_slot w) (range_with_len 0 (length w.shared.cells)) ++ flat_map held_by_actor w.actors
 
--- THE FREE LIST OF A CPU BY THE LOGS: the numbers of its home range that are not used.
--- What is free by the logs, where no block of a part is asked for.
+-- THE FREE LIST OF A CPU BY THE LOGS: the numbers of its home range that are not used. What the
+-- cells have for parts is not asked.
 abbrev pub free_by_logs : GeometryNumbers → World → ℕ → List ℕ
 free_by_logs g w cpu =
     unused (has (used_by_logs w)) (home_start g.blocks g.cpus cpu)

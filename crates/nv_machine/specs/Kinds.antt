@@ -36,7 +36,7 @@ use Rattle.nv_machine.specs.World.{Answers, Append, ReturnNumber, Cleans, Close,
 abbrev pub blocks_in : HandState → List BlockValue
 blocks_in h = h.blocks ++ h.pages ++ h.chain
 
--- what a call is answered at its last step; what a call that commits is answered, no node tells
+-- what a call is answered at its last step, for which no node is read
 abbrev pub result_by : Ending → Running → Result Answer Fault
 result_by Answers r = Ok (answer (λ handle. None) r.made r.call)
 result_by (Refuses fault) r = Err fault
@@ -50,7 +50,8 @@ drained_turn zero released s h r = Ends (Ok (answers.Count released)) s h
 drained_turn (suc left) released s h r =
     Moves s h (record r { ending = Answers; slots = []; next = SnapshotOrCleaner (Pick (record { released = released; left = left })) })
 
--- nothing is locked, and nothing in the hand
+-- what comes once nothing is locked and the hand is empty: the reply, or the next record of a
+-- drain
 abbrev pub last_turn : Ending → Shared → HandState → Running → Turn
 last_turn Answers s h r = Ends (result_by Answers r) s h
 last_turn (Refuses fault) s h r = Ends (Err fault) s h
@@ -65,7 +66,7 @@ rest_turn (Some cpu) number s h r = Moves s h (go_to (Give cpu) r)
 rest_turn None (Some ino) s h r = Moves s h (go_to ReturnNumber r)
 rest_turn None None s h r = last_turn r.ending s h r
 
--- the next round of looks, if there is one
+-- the next round of looks, or the end by `Contended` where no round is left
 abbrev pub again_turn : ℕ → Shared → HandState → Running → Turn
 again_turn zero s h r = Ends (Err Contended) s h
 again_turn (suc rounds) s h r = Moves s h (record r { ending = Answers; rounds = rounds; next = Look 0 })
@@ -87,13 +88,13 @@ end_turn (slot ∷ slots) ending s h r = Moves s h (record r { ending = ending; 
 abbrev pub refuse : Fault → Shared → HandState → Running → Turn
 refuse fault s h r = end_turn r.slots (Refuses fault) s h r
 
--- a step that grows anything goes on where the memory is granted.
--- `granted` says whether memory is there where the step asks for some.
+-- a step that grows anything: where `granted` it goes on, and else it refuses its call for want of
+-- memory
 abbrev pub grown : Bool → Turn → Shared → HandState → Running → Turn
 grown true turn s h r = turn
 grown false turn s h r = refuse out_of_memory s h r
 
--- the step has done its work
+-- the call goes on to what comes behind a step that has done its work
 abbrev pub moves_past : Next → Shared → HandState → Running → Turn
 moves_past done s h r = Moves s h (go_to (sequel r done) r)
 
@@ -122,8 +123,9 @@ lock_turn None actor place s h r = moves_past (Lock place) (with_owner (slot_at 
 
 -- ---- check
 
--- whether a check ends the call, and how: by the tests before the names are compared with what the looks found; by a
--- name that was bound anew; by the other tests; for want of a number; or since there is nothing to commit
+-- whether a check ends the call, and how: refused by the tests before the names are compared with
+-- what the looks found; since a name was bound anew; refused by the other tests; refused for want
+-- of a number; or answered, since there is nothing to commit
 abbrev pub check_ending : Tests → Bool → Tests → Bool → List Change → Option Ending
 check_ending (Err fault) same tests numbered effect = Some (Refuses fault)
 check_ending (Ok passed) false tests numbered effect = Some BoundAnew
@@ -132,7 +134,7 @@ check_ending (Ok passed) true (Ok all) false effect = Some (Refuses NoInode)
 check_ending (Ok passed) true (Ok all) true [] = Some Answers
 check_ending (Ok passed) true (Ok all) true (change ∷ effect) = None
 
--- what is wanted is taken, data blocks first and then log pages; a taking of nothing has no step
+-- a call goes on to the taking of log pages; where it wants none, it goes on to `ready`
 abbrev pub wants_pages : ℕ → Shared → HandState → Running → Turn
 wants_pages zero s h r = Moves s h (record r { wanted = 0; next = Ready })
 wants_pages (suc n) s h r = Moves s h (record r { wanted = suc n; next = TakeLogPages 0 })
@@ -163,13 +165,15 @@ asked_list cpus actor asked = (actor + asked) % cpus
 abbrev pub less_list : ℕ → ℕ → Shared → Shared
 less_list cpu n s = with_list cpu (record (list_at s cpu) { blocks = drop n (list_at s cpu).blocks }) s
 
--- so many blocks are wanted yet, and there is another list to ask or not
+-- a taking of data blocks with so many still wanted, and with another list to ask or not: it asks
+-- that one, goes on to log pages, or is refused
 abbrev pub blocks_turn : ℕ → Bool → ℕ → ℕ → Shared → HandState → Running → Turn
 blocks_turn zero more asked block s h r = wants_pages (pages_wanted s r.slots (plan_by block s h r)) s h r
 blocks_turn (suc n) true asked block s h r = Moves s h (record r { wanted = suc n; next = TakeBlocks (asked + 1) })
 blocks_turn (suc n) false asked block s h r = refuse NoSpace s h r
 
--- a call is ready once no log page is wanted, else it asks the next list, or is refused
+-- a taking of log pages with so many still wanted: the call is ready, asks the next list, or is
+-- refused
 abbrev pub pages_turn : ℕ → Bool → ℕ → Shared → HandState → Running → Turn
 pages_turn zero more asked s h r = Moves s h (record r { wanted = 0; next = Ready })
 pages_turn (suc n) true asked s h r = Moves s h (record r { wanted = suc n; next = TakeLogPages (asked + 1) })
@@ -221,7 +225,7 @@ with_entries [] blocks cell = cell
 with_entries (e ∷ entries) blocks cell =
     with_entries entries (drop (length (item_blocks e.item)) blocks) (appended e (blocks_for e.item blocks) cell)
 
--- what these leave of the blocks
+-- the blocks that are left once these entries have theirs
 abbrev pub blocks_left : List Entry → List BlockValue → List BlockValue
 blocks_left [] blocks = blocks
 blocks_left (e ∷ entries) blocks = blocks_left entries (drop (length (item_blocks e.item)) blocks)
@@ -246,7 +250,7 @@ old_tails s slots = map (λ ino. record { ino = ino; tail = (cell_at s ino).chai
 abbrev pub open_turn : ℕ → Shared → HandState → Running → Turn
 open_turn cpu s h r = moves_past Open (with_book (with_journal cpu (old_tails s (written_slots r)) s.book) s) h r
 
--- a new inode has its number from here on
+-- a close: the journal notes nothing any more, and a new inode keeps its number from here on
 abbrev pub close_turn : ℕ → Shared → HandState → Running → Turn
 close_turn cpu s h r = moves_past Close (with_book (with_journal cpu [] s.book) s) (record h { ino = None }) r
 
@@ -263,12 +267,13 @@ publish_turn ino place s h r =
 
 -- ---- retire: the killed parts of one inode, in order
 
--- what was killed first
+-- the killed parts of the first inode that is yet to be retired
 abbrev pub first_killed : List (List KilledPart) → List KilledPart
 first_killed [] = []
 first_killed (parts ∷ rest) = parts
 
--- what a living snapshot holds is kept and recorded, and the rest goes out
+-- the cell once its killed parts are retired: what a living snapshot holds is kept, and the rest
+-- is out
 abbrev pub retired_cell : ℕ → List KilledPart → Shared → Running → CellState
 retired_cell ino killed s r = retired (ids s.book.snaps) ino r.epoch killed (cell_at s ino)
 
@@ -276,15 +281,15 @@ retired_cell ino killed s r = retired (ids s.book.snaps) ino r.epoch killed (cel
 abbrev pub retired_book : ℕ → List KilledPart → Shared → Running → BookState
 retired_book ino killed s r = record s.book { manifests = with_records (ids s.book.snaps) ino r.epoch killed s.book.manifests }
 
--- the blocks that this sets free go to the hand; a gone inode that keeps nothing is erased, and its chain goes there
--- too, with its number, unless its slot's next generation is the last
+-- the hand with the blocks that a retirement sets free, and without the first list of killed parts
 abbrev pub with_freed : ℕ → List KilledPart → Shared → Running → HandState → HandState
 with_freed ino killed s r h = record h {
   blocks = h.blocks ++ freed_by (ids s.book.snaps) ino r.epoch killed (cell_at s ino);
   killed = drop 1 h.killed;
 }
 
--- the hand once a cell was erased, if it was
+-- the hand with the chain and the number of an inode that was erased, if it was; the number stays
+-- out where the slot's next generation is the last
 abbrev pub with_erased : ℕ → CellState → HandState → HandState
 with_erased ino cell h =
     if is_erased cell then record h { chain = h.chain ++ cell.chain.blocks; ino = number_back ino cell h.ino } else h

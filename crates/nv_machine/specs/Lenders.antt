@@ -1,9 +1,9 @@
--- WHICH STEPS ARE LENT EACH PART of what is shared, part by part.
+-- WHICH STEPS ARE LENT EACH PART of what is shared.
 use Rattle.std.specs.Prelude.{◌≡◌, Bool, true, false, is_some}
 use Rattle.nv_machine.specs.Frame.{Lent}
 use Rattle.nv_machine.specs.World.{Append, ReturnNumber, Close, Compact, Drop, Enter, Fresh, Give, Leave, Lock, LockCleaned, LockPicked, Make, Next, Number, Open, Pick, Pin, Publish, Release, Retire, SnapshotOrCleanerStep, SnapshotOrCleaner, TakeBlocks, TakeLogPages, Unlink, Unlock, Unpin}
 
--- a free list: those that take from one or give to one
+-- the step of a cleaner takes log pages from a free list
 abbrev pub takes_fresh : SnapshotOrCleanerStep → Bool
 takes_fresh (Fresh ino asked wanted) = true
 takes_fresh other = false
@@ -16,13 +16,13 @@ moves_blocks (Give cpu) = true
 moves_blocks (SnapshotOrCleaner step) = takes_fresh step
 moves_blocks other = false
 
--- the pool: those that take a number or give one back
+-- the step takes an inode number out of the pool, or puts one back
 abbrev pub moves_numbers : Next → Bool
 moves_numbers Number = true
 moves_numbers ReturnNumber = true
 moves_numbers other = false
 
--- a cell: those that change a log, or what is kept of it
+-- the step of a drain or of a cleaner takes parts, entries or log pages out of a cell
 abbrev pub takes_out : SnapshotOrCleanerStep → Bool
 takes_out (Release draining picked) = true
 takes_out (Unlink ino) = true
@@ -37,7 +37,7 @@ changes_log (Retire place) = true
 changes_log (SnapshotOrCleaner step) = takes_out step
 changes_log other = false
 
--- the lock of a slot: those that lock and unlock
+-- the step of a drain or of a cleaner locks a slot
 abbrev pub locks_slot : SnapshotOrCleanerStep → Bool
 locks_slot (LockPicked draining picked) = true
 locks_slot (LockCleaned manner ino) = true
@@ -50,8 +50,7 @@ changes_lock (Unlock place) = true
 changes_lock (SnapshotOrCleaner step) = locks_slot step
 changes_lock other = false
 
--- the book: those that number a commit, note its tails, or file records; and those that change the list of snapshots or
--- what is deferred
+-- the step changes the list of snapshots, their pins, or what is deferred
 abbrev pub changes_snapshots : SnapshotOrCleanerStep → Bool
 changes_snapshots Make = true
 changes_snapshots (Drop snapshot) = true
@@ -69,19 +68,24 @@ changes_book (Retire place) = true
 changes_book (SnapshotOrCleaner step) = changes_snapshots step
 changes_book other = false
 
--- the commit lock: the first step of a commit and its last
+-- the step is the first of a commit, or its last
 abbrev pub bounds_commit : Next → Bool
 bounds_commit Enter = true
 bounds_commit Leave = true
 bounds_commit other = false
 
--- WHAT A STEP IS LENT, by this table.
--- The same part by part: which kinds of steps are lent it. Example: the pool is lent to `number` and
--- `return_number`, and the book to no `check`.
+-- WHAT A STEP IS LENT, part by part. Example: the pool is lent to `number` and `return_number`,
+-- and the book to no `check`.
 pub record IsLentByTable (k : Next) (l : Lent) : Type 0 where
+  -- exactly the steps that take blocks or give them are lent a free list
   pub list : is_some l.list ≡ moves_blocks k
+  -- exactly the steps that take a number or put one back are lent the pool
   pub pool : l.pool ≡ moves_numbers k
+  -- exactly the steps that change a log, or what is kept of it, are lent a cell
   pub cell : is_some l.cell ≡ changes_log k
+  -- exactly the steps that lock or unlock a slot are lent a slot's lock
   pub lock : is_some l.lock ≡ changes_lock k
+  -- exactly the steps that change the book are lent it
   pub book : l.book ≡ changes_book k
+  -- exactly `enter` and `leave` are lent the commit lock
   pub commit_lock : l.commit_lock ≡ bounds_commit k

@@ -24,9 +24,7 @@ held_on (Unlink ino) slots = slots
 held_on (Compact ino) slots = slots
 held_on other slots = []
 
--- the slots that a call holds before a step: those that it has locked and not yet unlocked.
--- What a call holds: the inode slots that it has locked and not yet unlocked, and from `enter` to `leave` the
--- commit lock.
+-- THE SLOTS THAT A CALL HOLDS before a step: those that it has locked and not yet unlocked
 abbrev pub held_at : Next → List ℕ → List ℕ
 held_at Number slots = []
 held_at (Look place) slots = []
@@ -38,7 +36,7 @@ held_at Visit slots = []
 held_at (SnapshotOrCleaner step) slots = held_on step slots
 held_at other slots = slots
 
--- whether it holds the commit lock: from its enter to its leave
+-- the call holds the commit lock before this step: from its `enter` to its `leave`
 abbrev pub commits_at : Next → Bool
 commits_at (Append place) = true
 commits_at Open = true
@@ -63,12 +61,14 @@ abbrev pub is_owner : ℕ → Option ℕ → Bool
 is_owner actor None = false
 is_owner actor (Some other) = other == actor
 
--- the slots of a call rise, so that each is locked once, and are slots of the world
+-- the slots of a call, where the world has so many
 pub record AreSlots (slots : ℕ) (list : List ℕ) : Type 0 where
+  -- they rise, so that each is locked once
   pub rising : IsRising list
+  -- each is a slot of the world
   pub inside : AllByRecursion (λ ino. ino < slots) list
 
--- a loop stands at one of those that it goes over; a visit has no slots
+-- a loop stands at one of the places that it goes over; a visit has no slots
 abbrev pub IsInside : Next → Running → Type 0
 IsInside (Lock place) r = place < length r.slots
 IsInside (Unlock place) r = place < length r.slots
@@ -86,23 +86,31 @@ HasSlots slots (Some r) = AreSlots slots r.slots × IsInside r.next r
 
 -- an actor holds exactly the locks of its call
 pub record HoldsIts (s : Shared) (actor : ℕ) (running : Option Running) : Type 0 where
+  -- it has the lock of a slot exactly where its call holds that slot
   pub owners : (ino : ℕ) → is_owner actor (owner_at s ino) ≡ has (held_by running) ino
+  -- it has the commit lock exactly from its `enter` to its `leave`
   pub holder : is_owner actor s.holder ≡ commits_by running
+  -- the slots of its call rise and are there, and a loop stands at one that it goes over
   pub slots : HasSlots (length s.owners) running
 
--- each record of a book, in a manifest or deferred
+-- each record of a book meets this
 pub record AllRecords (P : Record → Type 0) (b : BookState) : Type 0 where
+  -- each record of a manifest does
   pub filed : AllByRecursion (λ (m : Manifest). AllByRecursion P m.records) b.manifests
+  -- each deferred record does
   pub deferred : AllByRecursion P b.deferred
 
 -- a record is of a slot of the world
 abbrev pub IsOfSlot : ℕ → Record → Type 0
 IsOfSlot slots d = d.ino < slots
 
--- what holds of the locks of each world; and a drain locks slots of records
+-- what holds of the locks of each world
 pub record AreLocks (w : World) : Type 0 where
+  -- each actor holds exactly the locks of its call
   pub each : (actor : ℕ) → HoldsIts w.shared actor (actor_at w actor).running
+  -- each slot has its lock
   pub wide : length w.shared.owners ≡ length w.shared.cells
+  -- each record is of a slot of the world, so that a drain finds its lock
   pub records : AllRecords (IsOfSlot (length w.shared.owners)) w.shared.book
 
 -- ---- what a step waits for
@@ -111,7 +119,7 @@ pub record AreLocks (w : World) : Type 0 where
 abbrev pub IsHeldByOther : ℕ → Option ℕ → Type 0
 IsHeldByOther actor owner = (other : ℕ) × (owner ≡ Some other) × (other ≢ actor)
 
--- the lock that a step of a call on snapshots needs
+-- what a step of a call on snapshots or of a cleaner waits for
 abbrev pub WaitsOn : Shared → ℕ → SnapshotOrCleanerStep → Type 0
 WaitsOn s actor (Show snapshot showing) = IsHeldByOther actor (owner_at s (visited showing.visits).ino)
 WaitsOn s actor (LockPicked draining picked) = IsHeldByOther actor (owner_at s picked.ino)
@@ -123,10 +131,11 @@ WaitsOn s actor (Unlink ino) = ⊥
 WaitsOn s actor (Compact ino) = ⊥
 WaitsOn s actor other = IsHeldByOther actor s.holder
 
--- the lock that a step needs; most need none that is not held already.
--- What a step waits for: that another actor holds the lock which the step needs. `look`, `lock`, `visit`, `show`,
--- `lock picked` and `lock cleaned` need that of an inode slot. `enter` and the other steps on snapshots except
--- `release` need the commit lock. Every other step needs none.
+-- WHAT A STEP WAITS FOR: that another actor holds the lock which it needs. `look`, `lock`,
+-- `visit`, `show`, `lock picked` and `lock cleaned` need that of an inode slot. `enter`, `make`,
+-- `drop`, `pin`, `unpin` and `pick` need the commit lock. Every other step needs none. Example: a
+-- `create` call has made its `number` step and one `lock` step. A second one that has its number
+-- waits at the lock of the root.
 abbrev pub WaitsFor : Shared → ℕ → Running → Next → Type 0
 WaitsFor s actor r (Look place) = IsHeldByOther actor (owner_at s (handle_at (directories r.call) place).ino)
 WaitsFor s actor r (Lock place) = IsHeldByOther actor (owner_at s (slot_at r.slots place))
@@ -137,7 +146,9 @@ WaitsFor s actor r other = ⊥
 
 -- ---- what is lent
 
--- the cell that a step is lent is locked by its actor, and in a commit the commit lock is the actor's
+-- what a step is lent is locked by its actor
 pub record HasLent (s : Shared) (actor : ℕ) (r : Running) : Type 0 where
+  -- the cell that a step is lent is locked by its actor
   pub cell : (ino : ℕ) → (lent r.next (length s.lists) actor r).cell ≡ Some ino → owner_at s ino ≡ Some actor
+  -- from `enter` to `leave` the commit lock is the actor's
   pub holder : commits_at r.next ≡ true → s.holder ≡ Some actor

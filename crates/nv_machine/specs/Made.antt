@@ -12,15 +12,14 @@ abbrev pub new_handle : Option Running → List Handle
 new_handle None = []
 new_handle (Some r) = handles_made_by r.made r.call
 
--- the handle that a step makes, if it does
+-- the handle of the new inode that a step commits, if it does
 abbrev pub made_at : PlainChange → Option Running → List Handle
 made_at Nothing running = []
 made_at Numbers running = []
 made_at Commits running = new_handle running
 made_at (Maintains step) running = []
 
--- THE HANDLES that commit points have made, the earliest first.
--- Handles made: those of new inodes, commit point by commit point.
+-- THE HANDLES that commit points have made, the earliest first
 abbrev pub handles_made : World → List Event → List Handle
 handles_made w [] = []
 handles_made w (e ∷ events) = made_at (plain_change_of w e) (actor_at w (actor_of e)).running ++ handles_made (step w e).world events

@@ -13,7 +13,7 @@ abbrev pub denied_of : Option Running → List ℕ → Bool
 denied_of None numbers = false
 denied_of (Some r) numbers = is_denied r.next numbers
 
--- the actor's call makes such a step at an event
+-- at this event the actor's call makes its number step, and finds none free
 abbrev pub finds_none : ℕ → World → Event → Bool
 finds_none actor w (Start other c) = false
 finds_none actor w (Go other granted) = (other == actor) && denied_of (actor_at w actor).running w.shared.pool.numbers

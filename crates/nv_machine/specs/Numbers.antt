@@ -17,7 +17,7 @@ use Rattle.nv_machine.specs.World.{Actor, HandState, World, actor_at, empty_hand
 abbrev pub free_of : FreeBlocks → List ℕ
 free_of list = numbers_of list.blocks
 
--- those of a hand: data blocks, log pages, and the pages of an erased chain
+-- the numbers of all blocks of a hand
 abbrev pub held_in : HandState → List ℕ
 held_in hand = numbers_of (blocks_in hand)
 
@@ -25,20 +25,24 @@ held_in hand = numbers_of (blocks_in hand)
 abbrev pub held_by_actor : Actor → List ℕ
 held_by_actor actor = held_in actor.hand
 
--- those that cells and hands have
+-- the numbers of all blocks that cells and hands have
 abbrev pub used_blocks : World → List ℕ
 used_blocks w = flat_map stored_in w.shared.cells ++ flat_map held_by_actor w.actors
 
--- EVERY BLOCK, as often as it stands in a free list, in a cell or in a hand.
--- All blocks: the numbers in free lists, in cells and in hands. A cell has the log pages of its chain and blocks of
--- parts.
+-- EVERY BLOCK, as often as its number stands in a free list, in a cell or in a hand. A cell has
+-- the log pages of its chain, and the blocks of its parts. Example, with 16 blocks: a write over a
+-- present page of the only file has made four steps, `lock`, `check`, `take` and `ready`. Then 12
+-- blocks are free, 2 are log pages, 1 has the old page, and 1 is in the hand.
 abbrev pub all_blocks : World → List ℕ
 all_blocks w = flat_map free_of w.shared.lists ++ used_blocks w
 
--- AN IDLE ACTOR has an empty hand and no lock
+-- AN IDLE ACTOR has nothing
 pub record HoldsNothing (w : World) (actor : ℕ) : Type 0 where
+  -- its hand is empty
   pub hand : (actor_at w actor).hand ≡ empty_hand
+  -- it has the lock of no slot
   pub locks : (ino : ℕ) → is_owner actor (owner_at w.shared ino) ≡ false
+  -- it has not the commit lock
   pub commit_lock : is_owner actor w.shared.holder ≡ false
 
 -- an actor without a call has an empty hand and no lock

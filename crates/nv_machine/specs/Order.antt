@@ -16,10 +16,13 @@ abbrev pub to_append : Next → List ℕ → List ℕ
 to_append (Append place) written = drop place written
 to_append other written = []
 
--- a commit under way has the book's number and epoch, and no entry of it is in a log that it has yet to append to
+-- what is known of a commit under way
 pub record IsEntered (s : Shared) (r : Running) : Type 0 where
+  -- its number is that of the book's last commit
   pub commit : r.commit ≡ s.book.commit
+  -- its epoch is the book's
   pub epoch : r.epoch ≡ s.book.snaps.epoch
+  -- a log that it has yet to append to has entries of earlier commits alone
   pub earlier : (ino : ℕ) → has (to_append r.next (written_slots r)) ino ≡ true → IsBefore r.commit r.epoch (entries_at s ino)
 
 -- an actor's call that commits has the book's number and epoch
@@ -27,12 +30,13 @@ abbrev pub CommitsIn : Shared → Option Running → Type 0
 CommitsIn s None = Unit {0}
 CommitsIn s (Some r) = commits_at r.next ≡ true → IsEntered s r
 
--- the entries of every log are in order, of commits that have been entered and of epochs up to the book's
+-- along every log ids rise and epochs never fall, and neither is above the book's
 abbrev pub AreLogsOrdered : Shared → Type 0
 AreLogsOrdered s = (ino : ℕ) → IsBefore (s.book.commit + 1) s.book.snaps.epoch (entries_at s ino)
 
--- In order: along each log ids rise and epochs never fall. No entry is of a later commit or epoch than the book's,
--- and a commit under way has both.
+-- IN ORDER: the numbers and epochs of entries and of the commit under way
 pub record IsInOrder (w : World) : Type 0 where
+  -- along every log ids rise and epochs never fall, and neither is above the book's
   pub logs : AreLogsOrdered w.shared
+  -- a commit under way has the book's number and epoch
   pub each : (actor : ℕ) → CommitsIn w.shared (actor_at w actor).running

@@ -11,11 +11,15 @@ use Rattle.nv_machine.specs.Settled.{settled_nodes}
 use Rattle.nv_machine.specs.Step.{step, turn}
 use Rattle.nv_machine.specs.World.{Ending, Ends, Event, Go, Moves, BoundAnew, Refuses, Reply, Running, Shared, Start, Started, Turn, Waits, World, actor_at}
 
--- a step: the world that it found, the call before it, and whether memory was granted
+-- a step that a call has made, with what it found
 pub record OwnStep : Type 0 where
+  -- the world before the step
   pub world : World
+  -- the actor whose step it is
   pub actor : ℕ
+  -- the call before the step
   pub running : Running
+  -- whether memory was there, where the step asks for some
   pub granted : Bool
 
 -- what a step made
@@ -72,14 +76,15 @@ refused_by other t = fault_in t
 abbrev pub refused_at : OwnStep → List Fault
 refused_at x = refused_by x.running.ending (turn_of x)
 
--- For what they refused it are the faults of steps that turned to a refusal.
+-- the faults of the steps that refused their call, the last first
 abbrev pub refused_for : List OwnStep → List Fault
 refused_for [] = []
 refused_for (x ∷ steps) = refused_at x ++ refused_for steps
 
 -- ---- their causes
 
--- the cause was there at that step, over the settled nodes; and no round of looks was left to a call that was overtaken
+-- the cause of a fault was there at that step, over the settled nodes. Where the call's names were
+-- bound anew, the cause is that no round of looks was left.
 abbrev pub HasCauseBy : Ending → OwnStep → Fault → Type 0
 HasCauseBy BoundAnew x fault = IsRoundless x.running fault
 HasCauseBy other x fault =
@@ -100,9 +105,11 @@ unpinned snapshot = record snapshot { pins = 0 }
 abbrev pub without_pins : BookState → BookState
 without_pins b = record b { snaps = record b.snaps { living = map unpinned b.snaps.living } }
 
--- all cells, and the book with its number, epoch, journals, snapshots and records, except for pins
+-- book and cells are the same in both, apart from pins
 pub record SameButPins (s t : Shared) : Type 0 where
+  -- the book is the same, apart from the pins of its snapshots
   pub book : without_pins t.book ≡ without_pins s.book
+  -- all cells are the same
   pub cells : t.cells ≡ s.cells
 
 -- a turn leaves all except pins
@@ -117,11 +124,13 @@ IsLeft x = LeavesButPins x.world.shared (turn_of x)
 
 -- ---- a call that is refused
 
--- exactly one of its steps refused it, for this fault, whose cause was there; and all of them left these parts.
--- A refused call has met its cause. Example: a `write` call on a full device makes `lock`, `check`, two `take`
--- steps on two CPUs, and `unlock`. The second `take` step refuses it, for want of space. The list is that fault
--- alone, and `unlock` replies it.
+-- A REFUSED CALL HAS MET ITS CAUSE. Example: a `write` call on a full device makes `lock`,
+-- `check`, two `take` steps on two CPUs, and `unlock`. The second `take` step refuses it, for want
+-- of space. The list is that fault alone, and `unlock` replies it.
 pub record MetItsCause (fault : Fault) (steps : List OwnStep) : Type 0 where
+  -- exactly one of its steps refused it, for this fault
   pub once : refused_for steps ≡ fault ∷ []
+  -- the cause of that fault was there at that step
   pub caused : AllByRecursion IsCaused steps
+  -- each of its steps left all cells, and the book except for pins
   pub left : AllByRecursion IsLeft steps

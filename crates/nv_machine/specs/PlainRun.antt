@@ -14,9 +14,7 @@ use Rattle.nv_machine.specs.Settled.{settled_copies, settled_nodes}
 use Rattle.nv_machine.specs.Step.{step, turn}
 use Rattle.nv_machine.specs.World.{Close, Drop, Ends, Enter, Event, Go, Make, Moves, Next, Pin, Publish, Running, Shared, SnapshotOrCleanerStep, SnapshotOrCleaner, Start, Turn, Unpin, Waits, World, actor_at}
 
--- a snapshot: all nodes as they were when it was made, and how many shows pin it.
--- It has nodes, the number of its last commit, its epoch, and of each living snapshot a copy: its number, all nodes
--- as they were when it was made, and its pins.
+-- the plain world's copy of a living snapshot
 pub record Copy : Type 0 where
   -- the snapshot's number
   pub snapshot : ℕ
@@ -25,11 +23,10 @@ pub record Copy : Type 0 where
   -- how many shows pin it
   pub pins : ℕ
 
--- the nodes by handle, the number of the last commit, the epoch, and the living snapshots, oldest first.
--- The plain world is made of these by handle, of the number of the last commit, of the epoch, and of a copy for
--- each living snapshot. What calls do to it is told at the file calls below, and what events do at the machine.
--- Example (partial at both ends): after a `create` of `a` in the root, a `write` of `abcdefghij` at 3 is answered
--- 10. The node then has 13 bytes, of which the first three are zeros.
+-- THE PLAIN WORLD: what there is of a world without logs and blocks. What calls do to it is told
+-- at the file calls, and what events do below. Example (partial at both ends): after a `create` of
+-- `a` in the root, a `write` of `abcdefghij` at 3 is answered 10. The node then has 13 bytes, of
+-- which the first three are zeros.
 pub record Plain : Type 0 where
   -- the nodes by handle, with the commit that changed each last
   pub nodes : Handle → Option PlainNode
@@ -40,7 +37,7 @@ pub record Plain : Type 0 where
   -- a copy for each living snapshot, oldest first
   pub copies : List Copy
 
--- the plain world at first: the root, an empty directory of mode 493, and nothing else; no commit yet, and no snapshot
+-- the root at first: an empty directory of mode 493, which no commit has changed
 abbrev pub root_alone : PlainNode
 root_alone = record { node = empty_node Dir 493; changed = 0 }
 
@@ -48,12 +45,15 @@ root_alone = record { node = empty_node Dir 493; changed = 0 }
 abbrev pub new_plain : Plain
 new_plain = record { nodes = λ handle. if same_handle handle root then Some root_alone else None; commit = 0; epoch = 1; copies = [] }
 
--- what a step does there: nothing; it fixes the number of a commit; the commit has its effect; or a step of a call on
--- snapshots has its own
+-- what a step does to the plain world
 pub data PlainChange : Type 0 where
+  -- nothing
   Nothing : PlainChange
+  -- the commit gets its number
   Numbers : PlainChange
+  -- the call has its effect on the nodes, at its commit point
   Commits : PlainChange
+  -- the epoch, the copies or their pins change as this step says
   Maintains : (step : SnapshotOrCleanerStep) → PlainChange
 
 -- what a step does leaves all nodes
@@ -76,7 +76,8 @@ done_on (Unpin snapshot seen) (Ends result s h) = Maintains (Unpin snapshot seen
 done_on step (Ends (Ok found) s h) = Maintains step
 done_on step (Ends (Err fault) s h) = Nothing
 
--- a publish is the commit point where one inode gets entries, and else the close is
+-- what a step does to the plain world, by its turn. A publish is the commit point where one inode
+-- gets entries, and else the close is.
 abbrev pub plain_change : Next → List ℕ → Turn → PlainChange
 plain_change Enter written t = entered t
 plain_change (Publish place) written t = if nat_lt 1 (length written) then Nothing else Commits
@@ -90,11 +91,10 @@ plain_change_by None w actor granted = Nothing
 plain_change_by (Some r) w actor granted =
     plain_change r.next (written_slots r) (turn w.numbers.block actor granted w.shared (actor_at w actor).hand r)
 
--- what an event does: an actor that is not there does nothing.
--- What an event does there is its deed. `enter`, where it goes on into its commit, fixes a number. `publish` where
--- one inode gets entries, and else `close`, has the call's effect on the nodes as they are. `make` adds a copy and
--- begins the next epoch, and `drop` takes one out. The first and the last step of a `show` call change its pins.
--- All else does nothing.
+-- WHAT AN EVENT DOES to the plain world. `enter`, where it goes on into its commit, fixes a
+-- number. `publish` where one inode gets entries, and else `close`, has the call's effect on the
+-- nodes as they are. `make` adds a copy and begins the next epoch, and `drop` takes one out. The
+-- first and the last step of a `show` call change its pins. All else does nothing.
 abbrev pub plain_change_of : World → Event → PlainChange
 plain_change_of w (Start actor c) = Nothing
 plain_change_of w (Go actor granted) = if nat_lt actor (length w.actors) then plain_change_by (actor_at w actor).running w actor granted else Nothing
@@ -112,8 +112,9 @@ is_of snapshot copy = copy.snapshot == snapshot
 abbrev pub with_pins : ℕ → (ℕ → ℕ) → Copy → Copy
 with_pins snapshot change copy = if is_of snapshot copy then record copy { pins = change copy.pins } else copy
 
--- a making adds a copy of the nodes as they are, which the epoch names, and begins the next epoch; a drop takes one
--- out; a show has a pin from its first step to its last. A drain changes nothing
+-- what a step of a call on snapshots does: a making adds a copy of the nodes as they are, which
+-- the epoch names, and begins the next epoch; a drop takes one out; a show has a pin from its
+-- first step to its last
 abbrev pub after_step : SnapshotOrCleanerStep → Plain → Plain
 after_step Make p = record p {
   epoch = p.epoch + 1;
@@ -140,12 +141,12 @@ actor_of (Go actor granted) = actor
 abbrev pub plain_step : World → Event → Plain → Plain
 plain_step w e p = done (plain_change_of w e) (actor_at w (actor_of e)).running p
 
--- several, one after another
+-- the plain world after events, one after another
 abbrev pub plain_after : World → List Event → Plain → Plain
 plain_after w [] p = p
 plain_after w (e ∷ events) p = plain_after (step w e).world events (plain_step w e p)
 
--- the plain world of a world's settled logs and book
+-- the copy that a living snapshot of a world stands for
 abbrev pub copy_in : Shared → Snapshot → Copy
 copy_in s snapshot = record { snapshot = snapshot.number; nodes = settled_copies s snapshot.number; pins = snapshot.pins }
 

@@ -7,7 +7,7 @@ use Rattle.nv_cell.specs.Readers.{has_inode, is_withheld}
 use Rattle.nv_machine.specs.Reads.{if_number}
 use Rattle.nv_machine.specs.World.{Actor, World, cell_at}
 
--- the inode numbers in hands
+-- the inode number in an actor's hand, if it has one
 abbrev pub number_held : Actor → List ℕ
 number_held actor = if_number actor.hand.ino
 
@@ -19,8 +19,7 @@ numbers_held w = flat_map number_held w.actors
 abbrev pub is_number_used : World → ℕ → Bool
 is_number_used w ino = has_inode (cell_at w.shared ino) || is_withheld (cell_at w.shared ino) || has (numbers_held w) ino
 
--- THE POOL FROM SCRATCH: the numbers that are not in use, in rising order, each once.
--- The pool by one scan: the numbers whose inode slots have no entry and are not of the last generation, and that no
--- hand has.
+-- THE POOL FROM SCRATCH, in rising order: the numbers whose slots have no entry and are not of the
+-- last generation, and which no hand has
 abbrev pub pool_from_scratch : GeometryNumbers → World → List ℕ
 pool_from_scratch g w = unused (is_number_used w) 0 g.inodes

@@ -5,14 +5,15 @@ use Rattle.nv_machine.specs.Locks.{AreLocks}
 use Rattle.nv_machine.specs.Order.{IsInOrder}
 use Rattle.nv_machine.specs.World.{World}
 
--- locks are held by their calls, logs are in order, settled logs have their blocks, past them stand the entries of
--- commits under way alone, and no two blocks have one number.
--- Reached: what holds in every world that events lead to from a start. Locks are held by their calls. Logs are in
--- order. The world is kept. Past the settled logs stand the entries under way alone. No two blocks of a cell have
--- one number.
+-- REACHED: what holds in every world that events lead to from a start
 pub record IsReached (w : World) : Type 0 where
+  -- actors hold exactly the locks of their calls
   pub locks : AreLocks w
+  -- along every log ids rise and epochs never fall
   pub order : IsInOrder w
+  -- settled logs have their blocks, and calls know what they rely on
   pub kept : IsKept w
+  -- past the settled logs stand the entries of the commit under way alone
   pub grown : AreGrown w
+  -- no two blocks of one cell have one number
   pub apart : AreBlocksApart w

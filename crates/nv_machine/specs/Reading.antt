@@ -18,18 +18,16 @@ use Rattle.nv_machine.specs.World.{Actor, Drop, Event, Go, Make, Next, Pin, Refu
 
 -- ---- copies
 
--- a living snapshot and the plain world's copy: the same number and pins, and at its epoch each node is the copy's.
--- A living snapshot reads as a copy: number and pins are the copy's, and at its epoch the settled log of each inode
--- slot gives the copy's node.
+-- A LIVING SNAPSHOT READS AS A COPY of the plain world
 pub record IsCopied (s : Shared) (snapshot : Snapshot) (copy : Copy) : Type 0 where
-  -- the numbers are one
+  -- the numbers are the same
   pub number : snapshot.number ≡ copy.snapshot
   -- the pins are as many
   pub pins : snapshot.pins ≡ copy.pins
-  -- the settled logs give the copy's nodes at its epoch
+  -- at its epoch the settled log of each slot gives the copy's node
   pub nodes : (handle : Handle) → settled_copies s snapshot.number handle ≡ copy.nodes handle
 
--- so of all, in order
+-- each living snapshot reads as the copy in its place
 abbrev pub AreCopied : Shared → List Snapshot → List Copy → Type 0
 AreCopied s [] [] = Unit {0}
 AreCopied s [] (copy ∷ copies) = ⊥
@@ -42,7 +40,7 @@ AreCopied s (snapshot ∷ living) (copy ∷ copies) = IsCopied s snapshot copy �
 abbrev pub plain_tree : ℕ → Plain → List TreeNode
 plain_tree inodes p = tree_from (node_in p.nodes) inodes [] root
 
--- that of its copy of a snapshot, if it has one
+-- the tree of the plain world's copy of a snapshot, if it has one
 abbrev pub copied_tree : ℕ → List Copy → ℕ → Option (List TreeNode)
 copied_tree inodes [] snapshot = None
 copied_tree inodes (copy ∷ copies) snapshot =
@@ -66,12 +64,11 @@ abbrev pub pins_by_call : ℕ → Option Running → Bool
 pins_by_call snapshot None = false
 pins_by_call snapshot (Some r) = pins_at snapshot r.next
 
--- how many shows of a snapshot are under way.
--- `show` calls of a snapshot: those between their first step and their last.
+-- how many `show` calls of a snapshot are between their first step and their last
 abbrev pub shows_of : ℕ → World → ℕ
 shows_of snapshot w = count_by (λ (actor : Actor). pins_by_call snapshot actor.running) w.actors
 
--- a snapshot that lives has a pin for each; one that does not live has none
+-- a snapshot that lives has a pin for each such call, and one that does not live has no such call
 abbrev pub ArePins : ℕ → Option ℕ → Type 0
 ArePins shows None = shows ≡ 0
 ArePins shows (Some pins) = pins ≡ shows
@@ -94,9 +91,8 @@ abbrev pub test_there : Option ℕ → Tests
 test_there None = Err NoSnapshot
 test_there (Some pins) = passes
 
--- for what the plain world refuses a step, where so many snapshots may live.
--- What the plain world refuses the calls `snap`, `drop` and `show` for is told by its epoch, its copies and their
--- pins.
+-- for what the plain world refuses a step of `snap`, `drop` or `show`, where so many snapshots may
+-- live: by its epoch, its copies and their pins
 abbrev pub plain_tests : ℕ → SnapshotOrCleanerStep → Plain → Tests
 plain_tests most Make p =
     if nat_le NUMBER p.epoch then Err EpochLimit else if nat_le most (length p.copies) then Err TooManySnapshots else passes
@@ -104,7 +100,7 @@ plain_tests most (Drop snapshot) p = test_pins (pins_in p.copies snapshot)
 plain_tests most (Pin snapshot) p = test_there (pins_in p.copies snapshot)
 plain_tests most other p = passes
 
--- and for what the machine does, by its list of snapshots
+-- for what the machine refuses such a step, by its list of snapshots
 abbrev pub tests_on : SnapshotOrCleanerStep → Living → Tests
 tests_on Make snaps = make_tests snaps
 tests_on (Drop snapshot) snaps = drop_tests (pins_of snaps snapshot)
@@ -140,18 +136,14 @@ abbrev pub releases_in : ℕ → World → Event → ℕ
 releases_in actor w (Start other c) = 0
 releases_in actor w (Go other granted) = if other == actor then releases_of (actor_at w actor).running else 0
 
--- HOW MANY RECORDS an actor's steps release.
--- Releases: how many `release` steps an actor has made. Example, in a new world of 16 blocks. A file gets a page
--- under epoch 1, snapshot 1 is made, and the page is written again. The Size and the page of the first Write are
--- recorded, in the manifest of 1, which holds one block. A `show` call of it has four steps: `pin`, `show` of the
--- root, `show` of the file, `unpin`. A `drop` call in between is refused as pinned. Once it is dropped both records
--- are deferred. `drain 1` releases the Size in four steps: `pick`, `lock picked`, `release`, `unlock`. The next one
--- releases the page in five, with its block in the hand after the third and in a free list after the last. One
--- `pick` more finds nothing. Examples, with 16 blocks on 2 CPUs and 4 entries a log page. A `create` call that
--- takes one log page has 18 steps: `number`, `lock`, `lock`, `check`, `take`, `ready`, `enter`, `append`, `append`,
--- `open`, `publish`, `publish`, `close`, `retire`, `retire`, `leave`, `unlock`, `unlock`. A write over a present
--- page that starts and makes four steps (`lock`, `check`, `take`, `ready`) has one block in its hand. 12 are free
--- and 2 in chains.
+-- HOW MANY RECORDS an actor's steps release: one at each `release` step. Example, in a new world
+-- of 16 blocks: a file gets a page under epoch 1, snapshot 1 is made, and the page is written
+-- again. The Size and the page of the first Write are recorded, in the manifest of 1, which holds
+-- one block. A `show` call of it has four steps: `pin`, `show` of the root, `show` of the file,
+-- `unpin`. A `drop` call in between is refused as pinned. Once snapshot 1 is dropped both records
+-- are deferred. `drain 1` releases the Size in four steps: `pick`, `lock picked`, `release`,
+-- `unlock`. The next one releases the page in five, with its block in the hand after the third and
+-- in a free list after the last. One `pick` more finds nothing.
 abbrev pub releases : ℕ → World → List Event → ℕ
 releases actor w [] = 0
 releases actor w (e ∷ events) = releases_in actor w e + releases actor (step w e).world events

@@ -33,19 +33,19 @@ bytes_among (Some b ∷ blocks) number = if b.number == number then b.bytes else
 abbrev pub node_of : CellState → Option PlainNode
 node_of cell = stamped (last_commit (log_of cell)) (node_now (bytes_among cell.blocks) cell.block (log_of cell))
 
--- the node under a handle: that of its slot, where the generation is the slot's.
--- What a call reads: the nodes of cells by their logs up to the tail.
+-- what a call reads: the nodes of cells, each by its log up to the tail, where the generation is
+-- the slot's
 abbrev pub nodes : Shared → Handle → Option PlainNode
 nodes s handle = if handle.generation == (cell_at s handle.ino).generation then node_of (cell_at s handle.ino) else None
 
--- the nodes of cells by their logs up to the tail
+-- the same nodes without the commits that changed them
 abbrev pub copies : Shared → Handle → Option NodeCopy
 copies s = node_in (nodes s)
 
 -- ---- slots
 
--- the slots that a call locks: those of its handles, of what its looks found, and of the number in its hand.
--- Its inode slots are locked in rising number, each once.
+-- the slots that a call locks, in rising number, each once: those of its handles, of what its
+-- looks found, and of the number in its hand
 abbrev pub slots_of : Shared → Option ℕ → LookupResult → Call → List ℕ
 slots_of s number looked c = slots_among (length s.cells) number looked c
 
@@ -72,15 +72,15 @@ has_last_page block s other = false
 abbrev pub taken_by : ℕ → Shared → HandState → Running → Allocation
 taken_by block s h r = record { made = r.made; runs = block_runs_of (numbers_of h.blocks) }
 
--- Its plan is that with the blocks in its hand, whose block runs are maximal in the order taken.
+-- the plan of a call, with the blocks in its hand as maximal runs, in the order taken
 abbrev pub plan_by : ℕ → Shared → HandState → Running → List InodePlan
 plan_by block s h r = plan block (copies s) (taken_by block s h r) r.call
 
--- how many log pages a plan's entries for a slot need, and those for several
+-- by how many log pages a slot's log grows for a plan's entries
 abbrev pub pages_needed : Shared → List InodePlan → ℕ → ℕ
 pages_needed s plan ino = pages_for (cell_at s ino).chain (length (items_for plan ino))
 
--- The log pages that it wants are over all its inode slots in one taking.
+-- by how many log pages the logs of these slots grow for a plan's entries
 abbrev pub pages_wanted : Shared → List ℕ → List InodePlan → ℕ
 pages_wanted s slots plan = sum_by (pages_needed s plan) slots
 

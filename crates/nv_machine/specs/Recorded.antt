@@ -31,7 +31,8 @@ with_parts living ino epoch [] rs = rs
 with_parts living ino epoch (killed ∷ later) rs =
     with_parts living ino epoch later (with_retired living (record_of ino epoch killed) rs)
 
--- a retire step puts them there, which has no deed in the plain world
+-- the records behind a step: a retire puts its killed parts to the end that a living snapshot
+-- holds
 abbrev pub after_retire : Next → Shared → HandState → Running → List Record → List Record
 after_retire (Retire place) s h r rs =
     with_parts (ids s.book.snaps) (slot_at (written_slots r) place) r.epoch (first_killed h.killed) rs
@@ -49,14 +50,14 @@ retired_in w (Start actor c) running rs = rs
 retired_in w (Go actor granted) None rs = rs
 retired_in w (Go actor granted) (Some r) rs = after_retire r.next w.shared (actor_at w actor).hand r rs
 
--- by an event of an actor that there is
+-- the record list behind one event
 abbrev pub records_in : World → Event → List Record → List Record
 records_in w e rs =
     after_deed (plain_change_of w e) (ids w.shared.book.snaps) (retired_in w e (actor_at w (actor_of e)).running rs)
 
--- The records of a run: one list. `retire` puts to its end the killed parts of its inode that a living snapshot
--- holds. `drop` puts there the records that its snapshot was the youngest to hold. `pick` takes out the first that
--- no living snapshot holds.
+-- THE RECORD LIST behind a run. `retire` puts to its end the killed parts of its inode that a
+-- living snapshot holds. `drop` puts there the records that its snapshot was the youngest to hold.
+-- `pick` takes out the first that no living snapshot holds.
 abbrev pub records_after : World → List Event → List Record → List Record
 records_after w [] rs = rs
 records_after w (e ∷ events) rs = records_after (step w e).world events (records_in w e rs)
@@ -67,11 +68,11 @@ records_after w (e ∷ events) rs = records_after (step w e).world events (recor
 abbrev pub recorded_in : World → List Record
 recorded_in w = all_records w.shared.book.manifests ++ pending_in w
 
--- how often the part n of a slot is recorded
+-- the record is of the part n of a slot
 abbrev pub is_record_of : CellState → ℕ → ℕ → Record → Bool
 is_record_of cell ino n d = is_of_slot ino d && is_number (number_named (log_of cell) (name_of d)) n
 
--- how many records are of a part of an inode, by its number
+-- how many records are of the part n of a slot
 abbrev pub times_recorded : World → ℕ → ℕ → ℕ
 times_recorded w ino n = length (filter (is_record_of (cell_at w.shared ino) ino n) (recorded_in w))
 
@@ -86,26 +87,30 @@ is_marked_kept Out = false
 abbrev pub AreRecordedOnce : World → Type 0
 AreRecordedOnce w = (ino n : ℕ) → times_recorded w ino n ≡ bit (is_marked_kept (mark_at (cell_at w.shared ino).marks n))
 
--- a record is of a pair of its slot's log, of that birth and no longer current; and each living snapshot holds the record
--- exactly where it holds the pair
+-- a record is of a pair of its slot's log
 pub record IsOfPair (w : World) (d : Record) : Type 0 where
+  -- the number of the part in that log
   pub n : ℕ
+  -- the pair
   pub pair : Pair
+  -- the log has this pair at that number
   pub is : slice_get (pairs (cell_at w.shared d.ino).block (log_of (cell_at w.shared d.ino))) n ≡ Some pair
+  -- its entry and part are those that the record names
   pub name : pair_name pair ≡ name_of d
+  -- it was born when the record says
   pub birth : pair.birth ≡ d.birth
+  -- it is no longer current
   pub died : is_current pair ≡ false
+  -- the living snapshots that hold it are those that hold the record
   pub holders : AllByRecursion (λ s. is_held_by s d ≡ holds s pair) (ids w.shared.book.snaps)
 
 -- ---- what a snapshot holds, by records and by killed parts
 
--- a pair of a slot is recorded, with this snapshot as a holder.
--- Recorded for a snapshot is a pair with a record of its name that the snapshot holds.
+-- a pair of a slot has a record, which this snapshot holds
 abbrev pub is_recorded_for : ℕ → World → ℕ → Pair → Bool
 is_recorded_for snapshot w ino pair =
     list_any (λ d. is_of_slot ino d && (is_held_by snapshot d && has_name pair (name_of d))) (recorded_in w)
 
--- a pair of a slot is killed, and not yet retired.
--- Killed is one that a commit has killed and not yet retired.
+-- a commit has killed the pair of a slot, and has not yet retired it
 abbrev pub is_killed_pair : World → ℕ → Pair → Bool
 is_killed_pair w ino pair = is_named (map (λ (k : KilledPart). k.part) (killed_in w ino)) pair

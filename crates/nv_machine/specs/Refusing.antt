@@ -12,25 +12,25 @@ IsUnanswered BoundAnew = Unit {0}
 IsUnanswered (Drains draining) = ⊥
 IsUnanswered (Cleans cleaned) = ⊥
 
--- the book as it was: a show that is refused takes its pin off
+-- the book as it was, except that a show which is refused takes its pin off
 abbrev pub book_left : Next → BookState → BookState
 book_left (SnapshotOrCleaner (Unpin snapshot seen)) b = after_unpin_snapshot snapshot b
 book_left other b = b
 
--- the book with its number, epoch, journals and records, and all cells
+-- the book with its number, epoch, journals and records is as it was, and so are all cells
 abbrev pub SameBooks : Next → Shared → Shared → Type 0
 SameBooks next s t = (t.book ≡ book_left next s.book) × (t.cells ≡ s.cells)
 
--- a step after which its call is not to be answered, or that refuses it, leaves these.
--- Books are left by a step after which its call is not answered: the book and all cells are as before.
+-- a step after which its call is not to be answered, or that refuses it, leaves book and cells as
+-- they were
 abbrev pub LeavesBooks : Next → Shared → Turn → Type 0
 LeavesBooks next s (Moves t h r) = IsUnanswered r.ending → SameBooks next s t
 LeavesBooks next s Waits = Unit {0}
 LeavesBooks next s (Ends (Ok found) t h) = Unit {0}
 LeavesBooks next s (Ends (Err fault) t h) = SameBooks next s t
 
--- a call on snapshots is to be answered up to its last steps, but for a show that is refused, which is
--- left to take its pin off
+-- a call on snapshots is to be answered up to its last step, except a refused show, which has its
+-- pin to take off
 abbrev pub GoesOn : Next → Ending → Type 0
 GoesOn (SnapshotOrCleaner step) e = is_going_on step ≡ true → e ≡ Answers
 GoesOn other e = Unit {0}

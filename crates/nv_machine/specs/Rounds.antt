@@ -3,7 +3,8 @@ use Rattle.std.specs.Prelude.{ℕ, ◌+◌, ◌≤◌, ◌==◌, if◌then◌els
 use Rattle.nv_machine.specs.Step.{ending_at, step}
 use Rattle.nv_machine.specs.World.{Answers, Check, Cleans, Drains, Ending, Event, Go, HandState, Next, BoundAnew, Refuses, Running, Shared, Start, World, actor_at}
 
--- the checks that a call may still fail so: in each round one, and in this round none where it has failed
+-- how many checks of a call may still find a name bound anew: one a round, and in this round none
+-- where it has
 abbrev pub checks_left : Ending → ℕ → ℕ
 checks_left Answers rounds = rounds + 1
 checks_left (Refuses fault) rounds = rounds + 1
@@ -21,7 +22,7 @@ abbrev pub fails_of : Option Running → ℕ → Shared → HandState → ℕ
 fails_of None block s h = 0
 fails_of (Some r) block s h = fails_by r.next (ending_at block s h r)
 
--- one where an event makes the actor's call do so
+-- 1 where an event is a check of the actor's call that finds a name bound anew, else 0
 abbrev pub fails_in : ℕ → World → Event → ℕ
 fails_in actor w (Start other c) = 0
 fails_in actor w (Go other granted) =
@@ -32,8 +33,8 @@ abbrev pub failed_checks : ℕ → World → List Event → ℕ
 failed_checks actor w [] = 0
 failed_checks actor w (e ∷ events) = fails_in actor w e + failed_checks actor (step w e).world events
 
--- a call that runs has failed so often that so many in all are failed or left.
--- `HasRounds` counts them with those that are left.
+-- a call that runs has so many checks in all that may find a name bound anew: those that did, and
+-- those left
 abbrev pub HasRounds : ℕ → ℕ → Option Running → Type 0
 HasRounds all failed None = Unit {0}
 HasRounds all failed (Some r) = all ≤ failed + checks_left r.ending r.rounds

@@ -12,13 +12,17 @@ use Rattle.nv_machine.specs.World.{Answers, Append, Auto, Check, Close, Compact,
 
 -- ---- how calls begin
 
--- a new inode takes its number first; names are looked up; slots that are told are locked; a visit is its call's only
--- step; a call on snapshots and a cleaner have steps of their own
+-- how a call begins
 pub data Beginning : Type 0 where
+  -- a new inode takes its number first
   Numbers : Beginning
+  -- names are looked up, a directory a step
   Looks : Beginning
+  -- the slots that the call names are locked
   Locks : Beginning
+  -- a visit is the call's only step
   Visits : Beginning
+  -- a call on snapshots or a cleaner, which has steps of its own
   Maintains : (what : SnapshotOrCleanerCall) → Beginning
 
 -- how a call begins
@@ -51,7 +55,7 @@ looking place r = if nat_lt place (length (directories r.call)) then Look place 
 abbrev pub retiring : ℕ → List ℕ → Next
 retiring place written = if nat_lt place (length written) then Retire place else Leave
 
--- a commit of two or more inodes has a journal
+-- the step behind the publishes: a commit of two or more inodes closes its journal
 abbrev pub closing : List ℕ → Next
 closing written = if nat_lt 1 (length written) then Close else retiring 0 written
 
@@ -67,10 +71,9 @@ opening written = if nat_lt 1 (length written) then Open else publishing 0 writt
 abbrev pub appending : ℕ → List ℕ → Next
 appending place written = if nat_lt place (length written) then Append place else opening written
 
--- THE SEQUENCE: what comes behind a step that has done its work. A check and a taking go on by what is still wanted,
--- and a leave and the last steps by what is locked or in the hand.
--- What comes next follows from how many directories, inode slots and inodes written there are. A loop over nothing
--- has no step.
+-- THE SEQUENCE: what comes behind a step that has done its work, by how many directories, slots
+-- and inodes written there are. A loop over nothing has no step. A check and a taking go on by
+-- what is still wanted, and a leave and the last steps by what is locked or in the hand.
 abbrev pub sequel : Running → Next → Next
 sequel r Number = locking 0 r.slots
 sequel r (Look place) = looking (place + 1) r
@@ -111,7 +114,7 @@ new_draining count = record { released = 0; left = max 1 (min count DRAIN) - 1 }
 abbrev pub first_clean : ℕ → Manner → ℕ → SnapshotOrCleanerStep
 first_clean slots manner ino = if nat_lt ino slots then LockCleaned manner ino else PlanCleaning manner None
 
--- where there are so many slots
+-- the first step of a call on snapshots or of a cleaner, where there are so many slots
 abbrev pub first_step : ℕ → SnapshotOrCleanerCall → SnapshotOrCleanerStep
 first_step slots on.Snap = Make
 first_step slots (on.Drop snapshot) = Drop snapshot
@@ -121,7 +124,8 @@ first_step slots (on.Fast ino) = first_clean slots Fast ino
 first_step slots (on.Thorough ino) = first_clean slots Thorough ino
 first_step slots (on.Auto ino) = first_clean slots Auto ino
 
--- such a call locks the inode of the record that it has picked, or the slot that it cleans, and none else
+-- the slots that such a call locks: that of the record that it has picked, or the one that it
+-- cleans
 abbrev pub slots_on : SnapshotOrCleanerStep → List ℕ
 slots_on (LockPicked draining picked) = picked.ino ∷ []
 slots_on (Release draining picked) = picked.ino ∷ []

@@ -13,11 +13,12 @@ use Rattle.nv_journal.specs.Journal.{settled_tail}
 use Rattle.nv_machine.specs.Reads.{bytes_among}
 use Rattle.nv_machine.specs.World.{Shared, World, cell_at}
 
--- the entries up to the tail that an open journal notes for an inode, else up to its own
+-- THE SETTLED LOG of a slot: its entries up to the tail that an open journal notes for it, else up
+-- to its own
 abbrev pub settled : Shared → ℕ → List Entry
 settled s ino = take (settled_tail s.book.journals ino (cell_at s ino).chain.tail) (cell_at s ino).chain.entries
 
--- the node of a cell by such a log, and the node under a handle
+-- the node that a log gives, by the blocks of its cell
 abbrev pub node_by : CellState → List Entry → Option PlainNode
 node_by cell log = stamped (last_commit log) (node_now (bytes_among cell.blocks) cell.block log)
 
@@ -33,10 +34,10 @@ settled_copies s epoch handle =
     then node_at (bytes_among (cell_at s handle.ino).blocks) (cell_at s handle.ino).block epoch (settled s handle.ino)
     else None
 
--- the tree of a snapshot
+-- the tree of a snapshot, by the settled logs at its epoch
 abbrev pub snapshot_tree : World → ℕ → List TreeNode
 snapshot_tree w snapshot = tree_from (settled_copies w.shared snapshot) (length w.shared.cells) [] root
 
--- The tree is that of the settled logs, and that of a snapshot the same at its epoch.
+-- the tree of now, by the settled logs
 abbrev pub tree_of : World → List TreeNode
 tree_of w = tree_from (node_in (settled_nodes w.shared)) (length w.shared.cells) [] root

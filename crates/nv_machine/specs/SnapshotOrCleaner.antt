@@ -23,7 +23,7 @@ use Rattle.nv_machine.specs.Kinds.{asked_list, end_turn, grown, refuse, with_era
 use Rattle.nv_machine.specs.Reads.{bytes_among}
 use Rattle.nv_machine.specs.World.{Compact, Draining, Drains, Drop, Ending, Ends, Fresh, HandState, PlanCleaning, LockCleaned, LockPicked, Make, Moves, Pick, Pin, Refuses, Release, Running, Shared, Show, Showing, SnapshotOrCleanerStep, SnapshotOrCleaner, Turn, Unlink, Unpin, Waits, cell_at, go_to, owner_at, with_book, with_cell, with_owner}
 
--- a step that is lent the book waits while a commit is under way
+-- a step that needs the book waits while a commit is under way
 abbrev pub if_free : Option ℕ → Turn → Turn
 if_free (Some other) turn = Waits
 if_free None turn = turn
@@ -56,11 +56,11 @@ drop_turn snapshot (Ok passed) s h r = Ends (Ok answers.Nothing) (with_book (aft
 
 -- ---- pin, show and unpin
 
--- before the first visit
+-- a show before its first visit
 abbrev pub first_showing : Shared → Showing
 first_showing s = new_showing (length s.cells)
 
--- the next visit, or the end where there is none
+-- the next visit of a show, or its end where no visit is left
 abbrev pub show_or_unpin : ℕ → List Visit → ℕ → Showing → SnapshotOrCleanerStep
 show_or_unpin zero visits snapshot showing = Unpin snapshot showing.seen
 show_or_unpin (suc left) [] snapshot showing = Unpin snapshot showing.seen
@@ -76,12 +76,11 @@ pin_turn snapshot None s h r = refuse NoSnapshot s h r
 pin_turn snapshot (Some pins) s h r =
     Moves (with_book (after_pin_snapshot snapshot s.book) s) h (go_to (SnapshotOrCleaner (showing_on snapshot (first_showing s))) r)
 
--- the node under a handle at the end of an epoch, by the log of its cell.
--- Each visit reads the node at the snapshot's epoch by the log of one cell.
+-- the node under a handle at the end of an epoch, by the log of its cell
 abbrev pub copies_at : Shared → ℕ → Handle → Option NodeCopy
 copies_at s epoch handle = copy_in (bytes_among (cell_at s handle.ino).blocks) (Some (cell_at s handle.ino)) epoch handle
 
--- a show whose memory is refused takes its pin off
+-- a show reads one cell; where memory is refused it goes on to take its pin off
 abbrev pub show_turn : Option ℕ → Bool → Option NodeCopy → ℕ → Showing → Shared → HandState → Running → Turn
 show_turn (Some other) granted found snapshot showing s h r = Waits
 show_turn None true found snapshot showing s h r =

@@ -32,12 +32,12 @@ abbrev pub made_in : Shared → Option ℕ → Handle → Handle
 made_in s None made = made
 made_in s (Some ino) made = record { ino = ino; generation = (cell_at s ino).generation }
 
--- a running call with the handle that its number and its look give
+-- a running call with the handle of its new inode, if a number is in the hand
 abbrev pub with_made : Shared → HandState → Running → Running
 with_made s h r = record r { made = made_in s h.ino r.made }
 
--- how its check ends a call, if it does.
--- How a check ends, as tests: the calls' rules, and then that a call that makes an inode has a number.
+-- how the check of a call ends it, if it does: by the tests of the call, or since it makes an
+-- inode and has no number
 abbrev pub ending_at : ℕ → Shared → HandState → Running → Option Ending
 ending_at block s h r =
     check_ending (early (copies s) r.call) (same_looked (looked (copies s) r.call) r.looked) (refusal block (copies s) r.call)
@@ -51,9 +51,9 @@ check_grows block s h r =
 
 -- ---- THE STEP
 
--- Step (`kind_turn`, with one function a kind in the same crate's `Kinds.antt`): what is shared, the hand and the
--- call after the step; or that it waits; or, at the last step, what the call is answered. What decides a step is an
--- argument of its function.
+-- THE STEP, with one function a kind in `Kinds.antt` of this crate: what is shared, the hand and
+-- the call after the step; or that it waits; or, at the last step, what the call is answered. What
+-- decides a step is an argument of its function.
 abbrev pub kind_turn : Next → ℕ → ℕ → Bool → Shared → HandState → Running → Turn
 kind_turn Number block actor granted s h r = number_turn s.pool.numbers s h r
 kind_turn (Look place) block actor granted s h r =
@@ -92,9 +92,11 @@ turn block actor granted s h r = kind_turn r.next block actor granted s h r
 abbrev pub changed : Shared → HandState → Option Running → ℕ → World → World
 changed s h running actor w = record w { shared = s; actors = slice_set w.actors actor (record { hand = h; running = running }) }
 
--- a reply, and the world after it
+-- what an event leads to
 pub record Step : Type 0 where
+  -- what the actor is replied
   pub reply : Reply
+  -- the world after the event
   pub world : World
 
 -- a reply, and the world as it was
@@ -125,8 +127,7 @@ go_step false running actor granted w = stays (Refused NoActor) w
 go_step true None actor granted w = stays (Refused ActorIdle) w
 go_step true (Some r) actor granted w = turned (turn w.numbers.block actor granted w.shared (actor_at w actor).hand r) actor w
 
--- ONE EVENT.
--- One event is a start or a `Go` of an actor. It gives a reply and the world after it.
+-- ONE EVENT, a start or a `Go` of an actor: the reply, and the world after it
 abbrev pub step : World → Event → Step
 step w (Start actor c) = start_step (nat_lt actor (length w.actors)) (actor_at w actor).running actor c w
 step w (Go actor granted) = go_step (nat_lt actor (length w.actors)) (actor_at w actor).running actor granted w

@@ -33,7 +33,7 @@ name_on (Fresh ino asked wanted) cpus actor = named.Fresh (asked_list cpus actor
 name_on (Unlink ino) cpus actor = named.Unlink ino
 name_on (Compact ino) cpus actor = named.Compact ino
 
--- a step of an actor's call, with so many CPUs
+-- the name of the next step of an actor's call, with so many CPUs
 abbrev pub name_of : Next → ℕ → ℕ → Running → named.StepName
 name_of Number cpus actor r = named.Number
 name_of (Look place) cpus actor r = named.Look (handle_at (directories r.call) place).ino
@@ -55,16 +55,18 @@ name_of ReturnNumber cpus actor r = named.ReturnNumber
 name_of Visit cpus actor r = named.Visit (handle_at (handles nothing_looked r.call) 0).ino
 name_of (SnapshotOrCleaner step) cpus actor r = name_on step cpus actor
 
--- the steps of the call that an actor runs, up to its end or to so many, and the world that they lead to
+-- steps that an actor's call has made
 pub record Made : Type 0 where
+  -- their names, in order
   pub steps : List named.StepName
+  -- the world that they lead to
   pub world : World
 
 -- the steps with one more before them
 abbrev pub step_first : named.StepName → Made → Made
 step_first name made = record made { steps = name ∷ made.steps }
 
--- the steps of a call, and the world behind them
+-- the steps of a call from the next one on, and the world that they lead to
 abbrev pub row_made_by : Option Running → ℕ → World → (World → Made) → Made
 row_made_by None actor w rest = record { steps = []; world = w }
 row_made_by (Some r) actor w rest =
@@ -77,10 +79,13 @@ steps_made (suc n) actor w = row_made_by (actor_at w actor).running actor w (ste
 
 -- ---- a row
 
--- calls of actor 1, whose CPU is 1, one after another, and the steps that the last of them makes
+-- calls of actor 1, whose CPU is 1, one after another
 pub record Row : Type 0 where
+  -- the calls that come first
   pub before : List Call
+  -- the call whose steps are told
   pub call : Call
+  -- the steps that it makes, in order
   pub steps : List named.StepName
 
 -- the device of the worked rows
@@ -96,12 +101,13 @@ abbrev pub after_calls : List Call → World → World
 after_calls [] w = w
 after_calls (c ∷ calls) w = after_calls calls (call_made c w).world
 
--- A worked row of steps: after some calls of actor 1 the next call makes these steps.
+-- A WORKED ROW: after some calls of actor 1 the next call makes these steps
 abbrev pub IsRow : Row → Type 0
 IsRow row = (call_made row.call (after_calls row.before (formatted device))).steps ≡ row.steps
 
 -- ---- THE ROWS: the root is in slot 0, and new inodes get slots 1, 2, 3, 4
 
+-- the handle of the first inode in a slot
 abbrev handle : ℕ → Handle
 handle ino = record { ino = ino; generation = 1 }
 
@@ -117,7 +123,7 @@ write_a = call.Write (handle 1) 0 (1 ∷ 2 ∷ 3 ∷ 4 ∷ [])
 abbrev pub make_directory : ℕ → Call
 make_directory name = call.Mkdir (handle 0) (name ∷ []) 493
 
--- a commit to one slot; and one to two slots, which opens the journal of CPU 1
+-- the steps of a commit to one slot
 abbrev pub commit_one : ℕ → List named.StepName
 commit_one slot = named.Enter ∷ named.Append slot ∷ named.Publish slot ∷ named.Retire slot ∷ named.Leave ∷ []
 

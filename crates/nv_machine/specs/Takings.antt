@@ -9,19 +9,22 @@ use Rattle.nv_machine.specs.World.{Ends, Event, Fresh, Go, HandState, SnapshotOr
 
 -- ---- what was asked
 
--- a list that a step asked: of which CPU, how many blocks it had before the step and how many after it, and how many
--- more the hand has after it
+-- a list that a step asked for blocks
 pub record Asked : Type 0 where
+  -- the CPU whose list it is
   pub cpu : ℕ
+  -- how many blocks the list had before the step
   pub had : ℕ
+  -- how many it has after the step
   pub left : ℕ
+  -- how many more blocks the hand has after the step
   pub more : ℕ
 
--- a taking: how many blocks it wants in all, and the lists that it has asked, the last one first.
--- What a taking has asked: the lists that its steps asked, each with what it had, what it has left, and what the
--- hand has more.
+-- a taking: what it wants, and what it has got so far
 pub record Taking : Type 0 where
+  -- how many blocks it wants in all
   pub wanted : ℕ
+  -- the lists that it has asked, the last one first
   pub asked : List Asked
 
 -- a taking that has asked no list
@@ -41,7 +44,7 @@ asked_in cpu s h t after = record {
 abbrev pub and_asked : ℕ → Shared → HandState → Shared → HandState → Taking → Taking
 and_asked cpu s h t after taking = record taking { asked = asked_in cpu s h t after ∷ taking.asked }
 
--- a step of a taking asks a list
+-- the taking behind a step: it has one more list where the step asks one
 abbrev pub asking : Next → ℕ → Shared → HandState → Shared → HandState → Taking → Taking
 asking (TakeBlocks asked) actor s h t after taking = and_asked (asked_list (length s.lists) actor asked) s h t after taking
 asking (TakeLogPages asked) actor s h t after taking = and_asked (asked_list (length s.lists) actor asked) s h t after taking
@@ -49,7 +52,7 @@ asking (SnapshotOrCleaner (Fresh ino asked wanted)) actor s h t after taking =
     and_asked (asked_list (length s.lists) actor asked) s h t after taking
 asking other actor s h t after taking = taking
 
--- and one that goes on to a first list begins another taking
+-- the taking behind a step that goes on: another one begins at a first list
 abbrev pub beginning_with : Next → ℕ → Taking → Taking
 beginning_with (TakeBlocks asked) wanted taking = if asked == 0 then record { wanted = wanted; asked = [] } else taking
 beginning_with (TakeLogPages asked) wanted taking = if asked == 0 then record { wanted = wanted; asked = [] } else taking
@@ -72,7 +75,7 @@ taking_of (Some r) w actor granted taking =
     taking_by r.next actor w.shared (actor_at w actor).hand
     (turn w.numbers.block actor granted w.shared (actor_at w actor).hand r) taking
 
--- by an event of the actor's call
+-- the taking of an actor behind an event
 abbrev pub taking_in : ℕ → World → Event → Taking → Taking
 taking_in actor w (Start other c) taking = taking
 taking_in actor w (Go other granted) taking =
@@ -87,7 +90,9 @@ taking_after actor w (e ∷ events) taking = taking_after actor (step w e).world
 
 -- the list gave all that it had, to the hand
 pub record IsEmptied (one : Asked) : Type 0 where
+  -- the list has nothing left
   pub left : one.left ≡ 0
+  -- the hand has all that the list had
   pub more : one.more ≡ one.had
 
 -- so many lists were asked, each once, from the actor's own on, and each gave all that it had
@@ -105,8 +110,11 @@ asks_list (TakeLogPages asked) = true
 asks_list (SnapshotOrCleaner (Fresh ino asked wanted)) = true
 asks_list other = false
 
--- EVERY LIST was asked and gave all that it had, and the sum is short of what the taking wants
+-- EVERY LIST was asked in vain: why a taking is refused
 pub record IsShortInAll (cpus actor : ℕ) (taking : Taking) (fault : Fault) : Type 0 where
+  -- it is refused with `NoSpace`
   pub is : fault ≡ NoSpace
+  -- each CPU's list was asked once, from the actor's own on, and gave all that it had
   pub all : AreEmptied cpus actor cpus taking.asked
+  -- these blocks together are fewer than the taking wants
   pub short : sum_by (λ (one : Asked). one.had) taking.asked < taking.wanted

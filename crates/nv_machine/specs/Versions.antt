@@ -14,22 +14,26 @@ to_publish Open written = written
 to_publish (Publish place) written = drop place written
 to_publish other written = []
 
--- no cell has seen more commits than there were, nor has the last number been passed
+-- the versions of cells beside the commits
 pub record AreVersions (s : Shared) : Type 0 where
+  -- no cell has seen more commits than there were
   pub cells : (ino : ℕ) → (cell_at s ino).version ≤ s.book.commit
+  -- there were at most as many as there are commit numbers
   pub limit : s.book.commit ≤ NUMBER
 
--- and those that a commit has yet to publish have not seen it
+-- a slot that a commit has yet to publish has not seen that commit
 abbrev pub HasUnseen : Shared → Running → Type 0
 HasUnseen s r = commits_at r.next ≡ true → (ino : ℕ) → has (to_publish r.next (written_slots r)) ino ≡ true
     → (cell_at s ino).version < r.commit
 
--- what an actor's call has yet to publish has not seen its commit
+-- `HasUnseen` of the call that an actor runs
 abbrev pub HasUnseenBy : Shared → Option Running → Type 0
 HasUnseenBy s None = Unit {0}
 HasUnseenBy s (Some r) = HasUnseen s r
 
--- versions are not above the commits, and calls have unseen what they have yet to publish
+-- versions count the commits that were published
 pub record AreCounted (w : World) : Type 0 where
+  -- no cell has seen more commits than there were
   pub versions : AreVersions w.shared
+  -- no slot has seen a commit that is yet to publish it
   pub each : (actor : ℕ) → HasUnseenBy w.shared (actor_at w actor).running

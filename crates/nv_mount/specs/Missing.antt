@@ -6,6 +6,7 @@ use Rattle.nv_alloc.specs.Numbers.{has}
 use Rattle.nv_audit.specs.Mounted.{list_anew}
 use Rattle.nv_base.specs.declared.geometry.GeometryNumbers.{GeometryNumbers}
 
+-- the number is marked; one past the marks is not
 abbrev pub is_marked : List Bool → ℕ → Bool
 is_marked marks n = slice_index_or marks n false
 
@@ -13,14 +14,18 @@ is_marked marks n = slice_index_or marks n false
 abbrev pub AreWithin : ℕ → List ℕ → Type 0
 AreWithin count numbers = (n : ℕ) → has numbers n ≡ true → n < count
 
--- of so many numbers just these are marked
+-- the marks of the numbers that stand in a list
 pub record AreMarks (count : ℕ) (numbers : List ℕ) (marks : List Bool) : Type 0 where
+  -- there is a mark for each number below `count`
   pub len : length marks ≡ count
+  -- a number below `count` is marked exactly where it stands in the list
   pub each : (n : ℕ) → n < count → is_marked marks n ≡ has numbers n
 
--- these are marked too
+-- marks to which the numbers of a list are added
 pub record AreMarkedTo (numbers : List ℕ) (old new : List Bool) : Type 0 where
+  -- there are as many marks as before
   pub len : length new ≡ length old
+  -- a number is marked where it was marked before, or stands in the list
   pub each : (n : ℕ) → n < length old → is_marked new n ≡ (is_marked old n || has numbers n)
 
 -- the list of a CPU with the blocks that are not marked, whose bytes are 0

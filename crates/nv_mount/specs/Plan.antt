@@ -12,20 +12,26 @@ use Rattle.nv_mount.specs.declared.plan.Plan.{Plan}
 use Rattle.nv_mount.specs.declared.plan.SlotPlan.{SlotPlan}
 use Rattle.nv_mount.specs.declared.plan.SlotPlan.TheVariants as slot
 
--- whether the inode of a slot is erased, and by slot
+-- the inode of a slot is erased by a mount: it is gone, and no living snapshot holds a pair of it
 abbrev pub is_erased : ImageValue → ℕ → Bool
 is_erased image ino = is_over image.snapshots image.numbers.block (cut_log image ino)
 
+-- of each slot whether its inode is erased by a mount
 abbrev pub erased_in : ImageValue → List Bool
 erased_in image = map (is_erased image) (range_with_len 0 (length image.slots))
 
--- what becomes of a slot: it is erased, or its log is cut at its tail, and the plan of its cell is that of the cut log
+-- the plan of a slot whose inode stays
 pub record IsCellPlan (image : ImageValue) (view : ViewValue) (ino tail : ℕ) (plan : CellPlan) : Type 0 where
+  -- the inode of the slot is not erased
   pub stays : is_erased image ino ≡ false
+  -- the tail is where the log of the slot is cut
   pub tail_is : tail ≡ tail_of image ino
+  -- index and marks are those of the cut log, with room for what follows from them
   pub planned : IsPlan image.numbers.block image.snapshots (cut_log image ino) (page_room (slot_in view ino).chain) plan
+  -- no part has its block yet, and there is room for all
   pub bare : IsBare (cut_log image ino) plan
 
+-- what becomes of a slot: it is erased, or gets the cell of its cut log
 abbrev pub IsSlotPlan : ImageValue → ViewValue → ℕ → SlotPlan → Type 0
 IsSlotPlan image view ino slot.Erased = is_erased image ino ≡ true
 IsSlotPlan image view ino (slot.Cell tail plan) = IsCellPlan image view ino tail plan
@@ -35,18 +41,26 @@ abbrev pub HavePageRoom : ImageValue → ViewValue → ℕ → Type 0
 HavePageRoom image view room =
     (ino : ℕ) → ino < length image.slots → length (pages_past (tail_of image ino) (slot_in view ino).chain.state) ≤ room
 
--- A PLAN of which the cells of the first `made` slots are made.
--- A plan says of each slot whether it is erased. Else it says where its log is cut, and has index and marks of the
--- cut log, with room for its blocks. It has the pool and the book anew, and room for all cells.
+-- A PLAN of an image, of which the cells of the first `made` slots are made
 pub record IsPlanOf (image : ImageValue) (view : ViewValue) (made : ℕ) (plan : Plan) : Type 0 where
+  -- the plan is for the image's geometry
   pub geometry : plan.geometry.numbers ≡ image.numbers
+  -- each slot of the image has a made cell or a slot plan
   pub count : made + length plan.slots.items ≡ length image.slots
+  -- the n-th slot plan is of the slot `made + n`
   pub slots : (n : ℕ) (d : SlotPlan) → n < length plan.slots.items
       → IsSlotPlan image view (made + n) (slice_index_or plan.slots.items n d)
+  -- the cells of the first `made` slots are made
   pub cells : states_of plan.cells.items ≡ map (cell_of image) (range_with_len 0 made)
+  -- there is room for the cells of all slots
   pub room : length image.slots ≤ vec_capacity plan.cells
+  -- the queue for log pages that a cut gives away takes blocks of the device's size
   pub size : plan.pages.size ≡ image.numbers.block
+  -- that queue has no block
   pub none : plan.pages.blocks ≡ []
+  -- that queue has room for the pages that a cut of any log gives away
   pub pages : HavePageRoom image view plan.pages.room
+  -- the pool is made anew of the image
   pub pool : plan.pool ≡ pool_anew image
+  -- the book is made anew of the image
   pub book : plan.book.state ≡ book_anew image

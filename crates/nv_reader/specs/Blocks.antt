@@ -23,11 +23,11 @@ page_part page entry = record { entry = entry; part = Page page }
 abbrev pub page_text : ℕ → Option (List ℕ) → List ℕ
 page_text block page = unwrap_or page (replicate block 0)
 
--- the bytes of a page of a file by the block of the part that holds it
+-- the bytes of a page of a file, by the block of the part that holds it
 abbrev pub shown_page : (PartId → Option (List ℕ)) → ℕ → List Entry → ℕ → List ℕ
 shown_page parts block log page = page_text block (option_and_then (λ entry. parts (page_part page entry)) (page_writer block log page))
 
--- the bytes of a file by the blocks of the parts that hold its pages: page by page, cut at the size
+-- the bytes of a file by the blocks of the parts that hold its pages, page by page, up to the size
 abbrev pub shown_bytes : (PartId → Option (List ℕ)) → ℕ → List Entry → List ℕ
 shown_bytes parts block log =
     let size = size_now block log in take size (flat_map (shown_page parts block log) (range_with_len 0 (pages_for block size)))
@@ -40,8 +40,9 @@ node_with text block log = option_map (λ (node : NodeCopy). record node { bytes
 abbrev pub shown_node : (PartId → Option (List ℕ)) → ℕ → List Entry → Option NodeCopy
 shown_node parts block log = node_with (shown_bytes parts block log) block log
 
--- Where `bytes` gives the bytes of each block, those that parts have are the bytes of their blocks, for each part that
--- holds a page below the size. So none of these is without its block.
+-- each part that holds a page below the size has its block, with the bytes that `bytes` gives.
+-- `parts` gives the bytes of the block of each part, if it has
+-- one, and `bytes` those of each block number.
 abbrev pub HaveBytes : (PartId → Option (List ℕ)) → (ℕ → List ℕ) → ℕ → List Entry → Type 0
 HaveBytes parts bytes block log = (page : ℕ) → page < pages_for block (size_now block log)
     → option_and_then (λ entry. parts (page_part page entry)) (page_writer block log page) ≡ option_map bytes (block_now block log page)

@@ -13,21 +13,16 @@ use Rattle.nv_reader.specs.Blocks.{page_part, page_writer, shown_node}
 abbrev pub part_bytes : CellState → PartId → Option (List ℕ)
 part_bytes cell id = option_map (λ b. b.bytes) (block_named cell id)
 
--- the node that a cell shows of some entries of its log, by the blocks that it has of their parts.
--- What a cell shows of entries of its log: the node of these entries, whose bytes are those of the cell's own
--- blocks. A page has the block of the part that holds it. It shows zeros where none does, or where that part has no
--- block.
+-- the node that a cell shows of some entries of its log, by its own blocks. A page has the block
+-- of the part that holds it, and shows zeros where none does or where that part has no block.
 abbrev pub own_node : CellState → List Entry → Option NodeCopy
 own_node cell log = shown_node (part_bytes cell) cell.block log
 
--- no part that holds a page below the size of the first entries is out.
--- None out: each part that holds a page below the size has its block. Example: a root has the names `a` and `b`.
--- `a` is bound to 1.2, where inode slot 1 has the generation 1. `b` is a directory with `c`. The tree is root,
--- `/b`, `/b/c`. The depth 3 cuts nothing, and the depth 2 cuts `/b/c`.
+-- each part that holds a page below the size of these entries' file has its block
 abbrev pub NoneOut : CellState → List Entry → Type 0
 NoneOut cell log = (page : ℕ) → page < pages_for cell.block (size_now cell.block log)
     → IfSome (page_writer cell.block log page) (λ entry. IsSome (block_named cell (page_part page entry)))
 
--- the settled log: up to the tail that an open journal has noted, else up to the cell's own
+-- the settled log: up to the tail that an open journal has noted, else up to the cell's own tail
 abbrev pub settled : Option ℕ → CellState → List Entry
 settled noted cell = take (unwrap_or noted cell.chain.tail) cell.chain.entries

@@ -8,17 +8,21 @@ use Rattle.nv_entry.specs.declared.node.NodeCopy.{NodeCopy}
 use Rattle.nv_entry.specs.declared.tree.TreeNode.{TreeNode}
 use Rattle.nv_reader.specs.Walk.{Visit, given_for, next_handle, root_visit, visits_after}
 
--- how many visits it may make yet, those that are to come, and the nodes that it has seen
+-- what contracts see of a show
 pub record Showing : Type 0 where
+  -- how many visits it may make yet
   pub left : ℕ
+  -- the visits that are to come, the next one first
   pub visits : List Visit
+  -- the nodes that it has seen, each with its path, in the order of the visits
   pub seen : List TreeNode
 
--- the root is visited first; a walk makes no more visits than there can be inodes
+-- a show before its first visit, which is that of the root. It makes
+-- no more visits than there can be inodes.
 abbrev pub new_showing : ℕ → Showing
 new_showing depth = record { left = INODES; visits = root_visit depth root; seen = [] }
 
--- the visits to come: before the first of them, that of the root
+-- the visits to come of a show: where it has no walk yet, that of the root
 abbrev pub visits_from : ℕ → Option (List Visit) → List Visit
 visits_from depth None = root_visit depth root
 visits_from depth (Some walk) = walk
@@ -32,7 +36,7 @@ abbrev pub visited : List Visit → Handle
 visited [] = root
 visited (visit ∷ visits) = visit.handle
 
--- the node is seen, and what its names lead to comes next
+-- a show after its next visit: the node that was found is seen, and its names are visited next
 abbrev pub seen_on : Option NodeCopy → Showing → Showing
 seen_on found showing = record {
   left = showing.left - 1;

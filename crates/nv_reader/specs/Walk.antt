@@ -8,12 +8,13 @@ use Rattle.nv_entry.specs.declared.names.BoundName.{BoundName}
 use Rattle.nv_entry.specs.declared.node.NodeCopy.{NodeCopy}
 use Rattle.nv_entry.specs.declared.tree.TreeNode.{TreeNode}
 
--- a handle that is to be visited, its path, and how many nodes deep the tree may be below it.
--- Visit: a handle that a walk is still to visit, its path, and how many nodes deep the tree may be below it. A walk
--- is the list of its visits.
+-- a handle that a walk is still to visit. A walk is the list of its visits.
 pub record Visit : Type 0 where
+  -- the names on the way from the walk's root to the handle
   pub path : List (List ℕ)
+  -- how many nodes deep the tree may be below the handle
   pub below : ℕ
+  -- the handle that is to be visited
   pub handle : Handle
 
 -- the visit of a root from which on the tree may be so many nodes deep
@@ -35,7 +36,7 @@ next_handle (visit ∷ later) = Some visit.handle
 abbrev pub wanted_node : (Handle → Option NodeCopy) → List Visit → Option NodeCopy
 wanted_node nodes visits = option_and_then nodes (next_handle visits)
 
--- what is given out for the node of the next visit
+-- what goes out for the node of the next visit: the node with its path
 abbrev pub given_for : List Visit → Option NodeCopy → Option TreeNode
 given_for [] _ = None
 given_for (visit ∷ later) found = option_map (λ node. record { path = visit.path; node = node }) found
@@ -50,8 +51,7 @@ abbrev pub visits_after : List Visit → Option NodeCopy → List Visit
 visits_after visits None = drop 1 visits
 visits_after visits (Some node) = visits_below visits node.names
 
--- the nodes that are still to come.
--- What is to come is the trees of these, one after another.
+-- the nodes that are still to come: the trees of the visits, one after another
 abbrev pub to_come : (Handle → Option NodeCopy) → List Visit → List TreeNode
 to_come nodes visits = flat_map (λ visit. tree_from nodes (suc visit.below) visit.path visit.handle) visits
 
@@ -64,19 +64,20 @@ visit_count nodes (suc depth) handle = sum_by (λ (bound : BoundName). visit_cou
 abbrev pub visits_to_come : (Handle → Option NodeCopy) → List Visit → ℕ
 visits_to_come nodes visits = sum_by (λ visit. visit_count nodes (suc visit.below) visit.handle) visits
 
--- Where some visits are to be made, the node of the next one is given out next: it is the first of the nodes to come,
--- and one visit less is left.
+-- one visit of a walk is made, for which `given` goes out; the visits `left` are still to be made
 pub record GivesNext (nodes : Handle → Option NodeCopy) (visits : List Visit) (given : Option TreeNode) (left : List Visit) : Type 0 where
+  -- the nodes to come are what goes out, and then those to come of the visits left
   pub next : to_come nodes visits ≡ option_to_list given ++ to_come nodes left
+  -- one visit less is still to be made
   pub fewer : visits_to_come nodes visits ≡ visits_to_come nodes left + 1
 
--- what a walk gives out in so many visits, and the visits that are left then, where the node of each is handed in
+-- what a walk gives out in so many visits, where the node of each is handed in
 abbrev pub given_in : (Handle → Option NodeCopy) → ℕ → List Visit → List TreeNode
 given_in nodes zero visits = []
 given_in nodes (suc count) visits =
     let node = wanted_node nodes visits in option_to_list (given_for visits node) ++ given_in nodes count (visits_after visits node)
 
--- the visits that are left after so many more
+-- the visits that are left after so many more, where the node of each is handed in
 abbrev pub left_after : (Handle → Option NodeCopy) → ℕ → List Visit → List Visit
 left_after nodes zero visits = visits
 left_after nodes (suc count) visits = left_after nodes count (visits_after visits (wanted_node nodes visits))

@@ -9,8 +9,9 @@ use Rattle.nv_reader.specs.Walk.{Visit}
 abbrev pub name_visit : ℕ → List (List ℕ) → BoundName → Visit
 name_visit below path bound = record { path = path_below path bound.name; below = below; handle = bound.to }
 
--- the visits of the names that are left in each directory on the way, the innermost first and the next name last, where
--- the path has its last name first and the whole tree may be so many nodes deep
+-- the visits of the names that are left in the directories on the way, the innermost first.
+-- The path has its last name first, and each list of names its next name last.
+-- The whole tree may be so many nodes deep.
 abbrev pub left_visits : ℕ → List (List ℕ) → List (List BoundName) → List Visit
 left_visits depth path [] = []
 left_visits depth [] (names ∷ outer) = []
@@ -28,9 +29,11 @@ abbrev pub first_path : List Visit → List (List ℕ)
 first_path [] = []
 first_path (visit ∷ later) = visit.path
 
--- each name on the way has those that are left of its directory, a visit is no deeper than the tree may be, and the way
--- is empty once there is none
+-- a way leads down to the next visit of a walk
 pub record IsWay (depth : ℕ) (next : Option Handle) (path : List (List ℕ)) (left : List (List BoundName)) : Type 0 where
+  -- each name on the way has the names that are left of its directory
   pub paired : length path ≡ length left
+  -- the next visit is no deeper than the tree may be
   pub within : IsSome next → length path < depth
+  -- once nothing is to be visited, the way is empty
   pub end : next ≡ None → path ≡ []

@@ -11,8 +11,8 @@ abbrev pub handle_and_below : Option NodeCopy → Handle → (BoundName → List
 handle_and_below None handle below = []
 handle_and_below (Some node) handle below = handle ∷ flat_map below node.names
 
--- the handles of the nodes of a tree from a handle on, at most so many nodes deep.
--- The handles of a tree: those of its nodes, in the same order.
+-- the handles of the nodes of a tree from a handle on, at most so
+-- many nodes deep, in the order of the tree
 abbrev pub handles_from : (Handle → Option NodeCopy) → ℕ → Handle → List Handle
 handles_from nodes zero handle = []
 handles_from nodes (suc depth) handle = handle_and_below (nodes handle) handle (λ bound. handles_from nodes depth bound.to)
@@ -25,14 +25,14 @@ HaveAll nodes handles = (handle : Handle) → IsSome (nodes handle) → Contains
 abbrev pub names_of_all : (Handle → Option NodeCopy) → List Handle → ℕ
 names_of_all nodes handles = sum_by (λ handle. length (names_under nodes handle)) handles
 
--- no directory has more names
+-- no directory has more than so many names
 abbrev pub HaveAtMost : (Handle → Option NodeCopy) → ℕ → Type 0
 HaveAtMost nodes most = (handle : Handle) → length (names_under nodes handle) ≤ most
 
--- how many visits there are at most, where each is followed by those of so many names, at most so many nodes deep.
--- Most visits: 0 at the depth 0, and else one more than the product of the longest directory's names with those of
--- one level less. Example: where no directory has more than 2 names, a walk three nodes deep makes at most 7
--- visits.
+-- how many visits a walk makes at most, in directories of so many names
+-- at most, and at most so many nodes deep.
+-- Example: where no directory has more than 2 names, a walk
+-- three nodes deep makes at most 7 visits.
 abbrev pub most_visits : ℕ → ℕ → ℕ
 most_visits most zero = 0
 most_visits most (suc depth) = most * most_visits most depth + 1

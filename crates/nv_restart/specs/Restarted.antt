@@ -9,8 +9,7 @@ use Rattle.nv_epoch.specs.SnapList.{ids}
 use Rattle.nv_machine.specs.World.{World}
 use Rattle.nv_restart.specs.Mounted.{mounted}
 
--- the data blocks of the published parts of a cell; those of entries past the tail are still in a
--- hand
+-- the blocks of a cell's published parts, without those of entries past the tail
 abbrev pub data_blocks : CellState → List BlockValue
 data_blocks cell = flat_map option_to_list (take (part_total (log_of cell)) cell.blocks)
 
@@ -27,10 +26,9 @@ slot_image cell = record {
   blocks = data_blocks cell;
 }
 
--- THE IMAGE OF A WORLD: hands, locks, pins, records and the deferred list are not in it.
--- In `nv_restart`: the image of a world has each slot's generation, its chain as it stands, also past the tail, and
--- the blocks of its published parts; the journals, the numbers of the living snapshots, the epoch and the number of
--- the last commit. Hands, locks, pins, records and the deferred list are not in it.
+-- THE IMAGE OF A WORLD: each slot as it stands, the journals, the numbers of the living snapshots,
+-- the epoch and the number of the last commit.
+-- Hands, locks, pins, records and the deferred list are not in it.
 abbrev pub image_of : World → ImageValue
 image_of w = record {
   numbers = w.numbers;
@@ -41,6 +39,6 @@ image_of w = record {
   commit = w.shared.book.commit;
 }
 
--- THE WORLD THAT GOES ON
+-- THE WORLD THAT GOES ON once a world was stopped
 abbrev pub restarted : World → World
 restarted w = mounted (image_of w)

@@ -7,7 +7,7 @@ use Rattle.nv_machine.specs.Settled.{settled}
 use Rattle.nv_machine.specs.World.{Shared, cell_at}
 use Rattle.nv_restart.specs.Snapshots.{SnapshotsFit}
 
--- each slot is in its range
+-- the generation of each inode slot is in its range
 abbrev pub AreInRange : Shared → Type 0
 AreInRange s = (ino : ℕ) → ino < length s.cells → IsInRange (cell_at s ino)
 
@@ -15,8 +15,7 @@ AreInRange s = (ino : ℕ) → ino < length s.cells → IsInRange (cell_at s ino
 abbrev pub AreHeldLawful : ℕ → Shared → Type 0
 AreHeldLawful block s = (ino : ℕ) → IsHeldLawful block (ids s.book.snaps) (settled s ino)
 
--- A WORLD WHOSE IMAGE MAY BE MOUNTED.
--- A world may stop where its generations, its snapshots and what these hold are as an image asks.
+-- A WORLD WHOSE IMAGE MAY BE MOUNTED
 pub record MayStop (block : ℕ) (s : Shared) : Type 0 where
   -- snapshots and epoch are in their ranges
   pub snapshots : SnapshotsFit s.book.snaps

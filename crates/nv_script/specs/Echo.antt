@@ -15,8 +15,8 @@ use Rattle.nv_script.specs.Texts.{line_of}
 abbrev pub echo_line : ℕ → List ℕ → List ℕ
 echo_line number line = line_of (codes "> " ++ decimal number ++ codes " " ++ line)
 
--- a line that is skipped has no answers, and no echo.
--- Echo: the number and the text of a command's line, on a line before its answers. Example: `> 7 tree`.
+-- THE ECHO OF A LINE: the number and the text of a command's line, on a line before its answers. A
+-- line that is skipped has no answers, and no echo. Example: `> 7 tree`.
 abbrev pub echo_of : ℕ → List ℕ → List ℕ
 echo_of number line = if is_skipped line then [] else echo_line number line
 
@@ -49,9 +49,9 @@ AreClean (line ∷ lines) = HasNoEnd line × AreClean lines
 abbrev pub IsEchoed : (written text : List ℕ) → Type 0
 IsEchoed written text = (lines : List (List ℕ)) × AreClean lines × (written ≡ ended lines) × (text ≡ ended (without_echoes lines))
 
--- A SCRIPT ENDS AS IT DOES WITHOUT AN ECHO, and without the echoes its text is the same; a failed write can leave a piece of one.
--- Without them the output is that of a script without echoes, except that a failed write can leave a piece of one.
--- Example: `> 1.1` is no echo. It tells of a file with the name `>`.
+-- A SCRIPT ENDS AS IT DOES WITHOUT AN ECHO, and without the echoes its text is the same. Only a
+-- failed write can leave a piece of one. Example: `> 1.1` is no echo. It tells of a file with the
+-- name `>`.
 abbrev pub PlaysWithoutEchoes : Result (Unit {0}) Fault → (input left old new : Option (List ℕ)) → Type 0
 PlaysWithoutEchoes result input left old new = result ≢ Err fault.Write
     → Ends machine_player result input left (λ text. (written : List ℕ) × IsEchoed written text × Appends old new written)

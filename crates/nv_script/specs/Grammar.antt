@@ -37,7 +37,7 @@ abbrev pub ◌>>=◌ : {A B : Type 0} → Parsed A → (A → Parsed B) → Pars
 (Ok a) >>= next = next a
 (Err fault) >>= next = Err fault
 
--- goes on where the test holds
+-- goes on where the test holds, and else has this fault
 abbrev pub if_so : {A : Type 0} → Bool → ScriptFaultKind → Parsed A → Parsed A
 if_so true fault next = next
 if_so false fault next = Err fault
@@ -72,8 +72,9 @@ abbrev pub made_of : {A : Type 0} → (fields : List Field) → Maker fields A �
 made_of [] made words place = Ok made
 made_of {A = A} (f ∷ fields) make words place = value_at f words place >>= λ value. made_of {A = A} fields (make value) words (place + 1)
 
--- a row of the table of calls: the name, what the words after it are, and the call that their values make
+-- a row of the table of calls
 pub data Row : Type 0 where
+  -- the name, what the words after it are, and the call that their values make
   entry : (name : List ℕ) (fields : List Field) → Maker fields Call → Row
 
 -- the table of calls
@@ -122,7 +123,7 @@ call_in (entry name fields make) words = made_of {A = Call} fields make words 3
 abbrev pub call_with : CallWord → List (List ℕ) → Parsed Call
 call_with c words = call_in (row c) words
 
--- the calls that read one node, and those that take names away
+-- a `stat`, `list` or `lookup`, or a call that takes a name away
 abbrev pub reads_or_unbinds : CallWord → Bool
 reads_or_unbinds calls.Create = false
 reads_or_unbinds calls.Mkdir = false
@@ -278,21 +279,19 @@ abbrev pub command_due : Head → List (List ℕ) → Parsed Command
 command_due head.Format words = Err kind.Order
 command_due (head.Command w) words = if_so (are_counted (word_count w) (optional_count w) words) kind.Count (command_with w words)
 
--- what some words spell, or the first fault: of the first words, of the order of lines, of the number of words, and
--- then of the words from left to right.
--- Command of a line (`format_of` where no world is made, else `command_of`): the command that its words spell, or
--- the first fault that applies. The faults are `word` or `count` of the first words, `order`, `count` of all words,
--- then `number` or `text` from left to right.
+-- THE NUMBERS OF A `format` LINE, where no world is made, or the first fault that applies. The
+-- faults are `word` or `count` of the first words, `order`, `count` of all words, then `number` or
+-- `text` from left to right.
 abbrev pub format_of : List (List ℕ) → Parsed GeometryNumbers
 format_of words = head_of words >>= λ h. format_with h words
 
--- the command of a line's words
+-- THE COMMAND OF A LINE, on a made world, or the first fault that applies, in the same order
 abbrev pub command_of : List (List ℕ) → Parsed Command
 command_of words = head_of words >>= λ h. command_due h words
 
--- an empty line, or one that begins with `#`.
--- An empty line, or one that begins with `#`, has none. Example: `do 0 create 0.1 %4 4096` has the fault `text`,
--- since its escape stands before its mode. `do 0 ` has the fault `word`, since its third word names no call.
+-- an empty line, or one that begins with `#`, has no command. Example: `do 0 create 0.1 %4 4096`
+-- has the fault `text`, since its escape stands before its mode. `do 0 ` has the fault `word`,
+-- since its third word names no call.
 abbrev pub is_skipped : List ℕ → Bool
 is_skipped [] = true
 is_skipped (byte ∷ bytes) = byte == 35

@@ -31,18 +31,19 @@ use Rattle.nv_script.specs.Texts.{line_of, lists_lines, log_line, node_line, ref
 use Rattle.nv_script.specs.Words.{words_of}
 use Rattle.nv_base.specs.Memory.{out_of_memory}
 
--- WHO PLAYS A SCRIPT: the kind of its worlds, the empty one of a geometry, what the command of a line with a number is answered and leaves,
--- the nodes of the tree that a command lists, what is written before the answers to the line with a number, and what a `format` there
--- with such an answer writes.
--- Player: a kind of world, and the empty one of a geometry. It tells what the command of a line with a number is answered
--- and leaves, and which nodes of a tree a command lists. It also tells what is written before the answers to a line of
--- some number. The rows below hold of any player.
+-- WHO PLAYS A SCRIPT. The definitions below hold of any player.
 pub record Player : Type 1 where
+  -- the kind of its worlds
   pub World : Type 0
+  -- the world that a `format` makes, by its numbers
   pub empty : GeometryNumbers → World
+  -- what the command of the line with a number writes, and the world that it leaves
   pub Acts : ℕ → World → Command → List ℕ → World → Type 0
+  -- the nodes of the tree that a command lists, if it lists one
   pub listed : World → Command → Option (List TreeNode)
+  -- what is written before the answers to the line with a number
   pub head : ℕ → List ℕ → List ℕ
+  -- what a `format` in the line with a number writes, by the world that it made and its answer
   pub made : ℕ → Option World → List ℕ → List ℕ
 
 -- ---- commands on a world of any kind
@@ -55,14 +56,19 @@ Answers Replies text new = (last : Reply) × Replies last new × (text ≡ reply
 abbrev pub Reports : {W : Type 0} → List ℕ → W → List ℕ → W → Type 0
 Reports lines old text new = ((text ≡ lines) ⊎ (text ≡ refused_line out_of_memory)) × (new ≡ old)
 
--- what a world reports, of its blocks, its free lists, the log of each of so many slots and its snapshots; and the
--- nodes of the tree now, or of a snapshot, where it lives
+-- what a world of any kind reports
 pub record WorldReports : Type 0 where
+  -- where its blocks are
   pub space : Space
+  -- the free blocks of each CPU's list, as maximal runs
   pub lists : List (List FreeRun)
+  -- how many inode slots it has
   pub slots : ℕ
+  -- how many entries and log pages the log of a slot has, with the counts of each page
   pub log : ℕ → LogCounts
+  -- its epoch, its last commit, and the counts of each living snapshot
   pub snaps : Snaps
+  -- the nodes of the tree now, or of a snapshot where it lives
   pub nodes : Option ℕ → Option (List TreeNode)
 
 -- the log of a slot, or a refusal where there is none
@@ -75,9 +81,9 @@ abbrev pub ShowsTree : {W : Type 0} → Option (List TreeNode) → W → List �
 ShowsTree (Some nodes) old text new = Reports (tree_lines nodes) old text new
 ShowsTree None old text new = (text ≡ refused_line fault.NoSnapshot) × (new ≡ old)
 
--- what a command that asks for a report writes, where the world reports this; nothing changes.
--- What a report writes, where a world of any kind reports so much: its text, or that memory is refused. `space` is
--- never refused. The world stays. Example: `log 9` of a world with eight inode slots is refused as `Stale`.
+-- WHAT A REPORT WRITES, where the world reports this: its text, or that memory is refused. `space`
+-- is never refused. The world stays. Example: `log 9` of a world with eight inode slots is refused
+-- as `Stale`.
 abbrev pub Tells : {W : Type 0} → WorldReports → W → Command → List ℕ → W → Type 0
 Tells told old command.Tree text new = ShowsTree (told.nodes None) old text new
 Tells told old (command.SnapTree snapshot) text new = ShowsTree (told.nodes (Some snapshot)) old text new
@@ -104,10 +110,8 @@ nodes_listed told command.Tree = told.nodes None
 nodes_listed told (command.SnapTree snapshot) = told.nodes (Some snapshot)
 nodes_listed told _ = None
 
--- the lines of the first of these nodes.
--- Where the command lists a tree, the lines of a front of its nodes may be written too. Example: of `/`, `/d` and
--- `/d/x` the lines of `/` and `/d`. At a failed write, that text is written and a front of the text of the line
--- that broke off.
+-- the lines of the first of these nodes. Example: of `/`, `/d` and `/d/x` the lines of `/` and
+-- `/d`.
 abbrev pub ListsFront : Option (List TreeNode) → List ℕ → Type 0
 ListsFront nodes sent = (front rest : List TreeNode) × (nodes ≡ Some (front ++ rest)) × (sent ≡ flat_map node_line front)
 
@@ -134,7 +138,7 @@ WordsFail true words fault = command_of words ≡ Err fault
 abbrev pub LineFails : Bool → List ℕ → ScriptFaultKind → Type 0
 LineFails made line fault = (is_skipped line ≡ false) × WordsFail made (words_of line) fault
 
--- the next line has a fault, as lines can have it
+-- the next line has a fault of its words, as `Fails` says
 abbrev pub IsFaulty : (List ℕ → ScriptFaultKind → Type 0) → List ℕ → ScriptFaultKind → Type 0
 IsFaulty Fails bytes fault = (line rest : List ℕ) × IsLine line × (bytes ≡ (line ++ 10 ∷ []) ++ rest) × Fails line fault
 
@@ -144,10 +148,9 @@ IsFaultBy Fails number bytes fault = MatchBool (nat_lt most_lines number)
     ((fault ≡ kind.Lines) × (bytes ≢ []))
     (((fault ≡ kind.Long) × IsLong bytes) ⊎ (((fault ≡ kind.Unended) × IsUnended bytes) ⊎ IsFaulty Fails bytes fault))
 
--- the same of a line of a script without `fork`, whose words may have a fault.
--- Fault of a line: `lines` for any byte past line 1,048,576; `long` for more than 4,096 bytes before the next line
--- end; `unended` for a last piece without its line end; else the fault of its words. Example: a script that ends
--- with `tree` and no LF has the fault `unended` there.
+-- THE FAULT OF A LINE: `lines` for any byte past line 1,048,576; `long` for more than 4,096 bytes
+-- before the next line end; `unended` for a last piece without its line end; else the fault of its
+-- words. Example: a script that ends with `tree` and no LF has the fault `unended` there.
 abbrev pub IsFault : ℕ → Bool → List ℕ → ScriptFaultKind → Type 0
 IsFault number made bytes fault = IsFaultBy (LineFails made) number bytes fault
 
@@ -167,9 +170,9 @@ PlaysWords player number (Some old) words text new =
     (command : Command) × (world : player.World) × (command_of words ≡ Ok command) × player.Acts number old command text world
     × (new ≡ Some world)
 
--- one line without a fault, which has this number, and its answers; one that is skipped has none and changes nothing.
--- What a line is answered and leaves: nothing where it is skipped. Else it is what its command does to the player's
--- world. Where no world is made, a `format` makes the empty one.
+-- WHAT A LINE WRITES AND LEAVES, which has this number: nothing where it is skipped. Else it is
+-- what its command does to the player's world. Where no world is made, a `format` makes the empty
+-- one.
 abbrev pub Plays : (player : Player) → (number : ℕ) → Option player.World → List ℕ → List ℕ → Option player.World → Type 0
 Plays player number old line text new =
     MatchBool (is_skipped line) ((text ≡ []) × (new ≡ old)) (PlaysWords player number old (words_of line) text new)
@@ -181,15 +184,18 @@ PlaysFrom player number old (line ∷ lines) text new =
     (first rest : List ℕ) × (mid : Option player.World) × IsLine line × Plays player number old line first mid
     × PlaysFrom player (number + 1) mid lines rest new × (text ≡ (player.head number line ++ first) ++ rest)
 
--- the same of the first lines of a script
+-- the first lines of a script, one after another
 abbrev pub PlaysAll : (player : Player) → Option player.World → List (List ℕ) → List ℕ → Option player.World → Type 0
 PlaysAll player old lines text new = PlaysFrom player 1 old lines text new
 
--- the first lines of what the reader had, what they wrote, the world after them, and the bytes past them
+-- the first lines of a script were played
 pub record Played (player : Player) (input : Option (List ℕ)) (lines : List (List ℕ)) (rest text : List ℕ)
     (world : Option player.World) : Type 0 where
+  -- where the reader's bytes are known, they are these lines, each with its end, and the rest
   pub split : IfSome input (λ bytes. bytes ≡ ended lines ++ rest)
+  -- they are no more than a script may have
   pub few : length lines ≤ most_lines
+  -- from no world on they write this text, and lead to this world
   pub plays : PlaysAll player None lines text world
 
 -- these words ask for a tree, and these are its first lines
@@ -208,8 +214,7 @@ abbrev pub StopsAt : (player : Player) → (head : List ℕ) → Option player.W
 StopsAt player head world line sent = (is_skipped line ≡ false)
     × ((sent ≡ []) ⊎ ((front : List ℕ) × ListsWords player world (words_of line) front × (sent ≡ head ++ front)))
 
--- memory is refused before the first line, or at the next one.
--- For want of memory it is so before the first line and at a command.
+-- memory is refused before the first line, or at the command of the next one
 abbrev pub Stops : (player : Player) → List (List ℕ) → List ℕ → Option player.World → List ℕ → Type 0
 Stops player lines bytes world sent = ((lines ≡ []) × (sent ≡ []))
     ⊎ ((line rest : List ℕ) × IsLine line × (bytes ≡ (line ++ 10 ∷ []) ++ rest)
@@ -227,10 +232,10 @@ abbrev pub EndsAfter : (player : Player) → (input : Option (List ℕ)) → (Li
 EndsAfter player input Writes Also = (lines : List (List ℕ)) × (rest text : List ℕ) × (world : Option player.World)
     × Played player input lines rest text world × Also lines rest world × Writes text
 
--- how a script ends early: by a fault of the next line, with the number of that line; by a failed read, of whose
--- reader no more than a piece of the next line is gone; for want of memory, before the first line or at a command,
--- of whose tree the first lines may be written; by a failed write, which leaves a front of the text of the line after
--- them
+-- HOW A SCRIPT ENDS EARLY: by a fault of the next line, with the number of that line; by a failed
+-- read, of whose reader no more than a piece of the next line is gone; for want of memory, before
+-- the first line or at a command, of whose tree the first lines may be written; by a failed write,
+-- which leaves a front of the text of the line after them
 abbrev pub EndsBy : (player : Player) → Fault → (input left : Option (List ℕ)) → (List ℕ → Type 0) → Type 0
 EndsBy player (fault.ScriptFault why number) input left Writes =
     EndsAfter player input Writes (λ lines rest world. (number ≡ length lines + 1) × IsFault number (is_some world) rest why)
@@ -249,14 +254,14 @@ Ends player (Ok done) input left Writes = EndsWell player input left Writes
 Ends player (Err why) input left Writes = EndsBy player why input left Writes
 
 -- how many reads fail in a script that ends so: one where it ends by a failed read, and else none.
--- Failed reads and writes of an ending: one read at E28, one write at E29, and else none. A reader or a writer
--- counts them (`CountedRead`, `CountedWrite`). Example: the second read fails behind a `format`. The ending is E28
--- with one failed read and no failed write, and `formatted` is written.
+-- Example: the second read fails behind a `format`. The ending is E28 with one failed read and no
+-- failed write, and `formatted` is written.
 abbrev pub failed_reads : {A : Type 0} → Result A Fault → ℕ
 failed_reads (Err fault.Read) = 1
 failed_reads _ = 0
 
--- and how many writes
+-- how many writes fail in a script that ends so: one where it ends by a failed write, and else
+-- none
 abbrev pub failed_writes : {A : Type 0} → Result A Fault → ℕ
 failed_writes (Err fault.Write) = 1
 failed_writes _ = 0
@@ -268,8 +273,8 @@ abbrev pub nodes_at : World → Option ℕ → Option (List TreeNode)
 nodes_at old None = Some (tree_of old)
 nodes_at old (Some snapshot) = option_map (λ pins. snapshot_tree old snapshot) (pins_of old.shared.book.snaps snapshot)
 
--- what a world reports by what stands in it, and BY ONE SCAN of all logs, which is the same for each world that events
--- lead to
+-- what a world reports by what stands in it. For each world that events lead to, `reports_by_scan`
+-- is the same.
 abbrev pub reports_of : World → WorldReports
 reports_of w = record {
   space = space_of w;
@@ -280,7 +285,7 @@ reports_of w = record {
   nodes = nodes_at w;
 }
 
--- Reports are those of one scan. Example: `do 0 stat 0.1` is all steps of that call.
+-- what a world reports BY ONE SCAN of all logs
 abbrev pub reports_by_scan : World → WorldReports
 reports_by_scan w = record {
   space = space_by_scan w;
@@ -301,8 +306,9 @@ ActsBy told old (command.Do actor call) text new = Answers (Calls old actor call
 ActsBy told old command.Stop text new = Restarts (restarted old) old text new
 ActsBy told old report text new = Tells told old report text new
 
--- reports are those of a scan.
--- What moves a call goes there by the steps of `nv_machine`, and writes the last reply.
+-- what a command writes and leaves on the machine's world, whose reports are those of one scan.
+-- What moves a call does so by the steps of `nv_machine`, and writes the last reply. Example: `do
+-- 0 stat 0.1` is all steps of that call.
 abbrev pub Acts : World → Command → List ℕ → World → Type 0
 Acts old command text new = ActsBy (reports_by_scan old) old command text new
 
@@ -321,14 +327,12 @@ machine_player_with head = record {
 abbrev pub no_head : ℕ → List ℕ → List ℕ
 no_head number line = []
 
--- `play` keeps to `machine_player`, whose worlds are the machine's.
+-- THE PLAYER THAT `play` KEEPS TO: its worlds are the machine's, and nothing stands before answers
 abbrev pub machine_player : Player
 machine_player = machine_player_with no_head
 
--- HOW THE MACHINE ENDS A SCRIPT, where the writer has this at first and is left with that.
--- How a script ends: with all lines played and their text written, or by a fault. Example: a format and then `jump`
--- write `formatted`, and the fault is `word` at line 2. A fault of the next line has its number. What was written
--- is the text of the lines before. So it is at a failed read. No more of the reader is gone than a piece of the
--- next line.
+-- HOW THE MACHINE ENDS A SCRIPT, where the writer has this at first and is left with that: with
+-- all lines played and their text written, or by a fault. Example: a format and then `jump` write
+-- `formatted`, and the fault is `word` at line 2.
 abbrev pub PlaysScript : Result (Unit {0}) Fault → (input left old new : Option (List ℕ)) → Type 0
 PlaysScript result input left old new = Ends machine_player result input left (λ text. Appends old new text)

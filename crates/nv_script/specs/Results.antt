@@ -33,26 +33,29 @@ abbrev pub HasAnyRun : Option machine.World → Type 0
 HasAnyRun None = Unit {0}
 HasAnyRun (Some m) = HasRun m
 
--- a line is played on the worlds that are shown, to which events lead; its events are told, by its number, or not
+-- a line is played on the worlds that are shown, to which events lead, and its events are told or
+-- not
 abbrev pub PlaysTold : Trace → ℕ → Option WorldState → List ℕ → (List ℕ → Type 0) → Option WorldState → Type 0
 PlaysTold told number old line Writes new =
     (m : Option machine.World) → ShowsAny old m → HasAnyRun m
     → (n : Option machine.World) × (text : List ℕ) × Plays (player_by told no_head) number m line text n × ShowsAny new n × Writes text
 
--- the same where events are not told: of answers alone the number is nothing to them
+-- a line is played where its events are not told: its answers are the same whatever its number
 abbrev pub PlaysShown : Option WorldState → List ℕ → (List ℕ → Type 0) → Option WorldState → Type 0
 PlaysShown old line Writes new = PlaysTold trace.Off 0 old line Writes new
 
--- where a text goes: the writer's bytes and what is gathered
+-- where a text goes
 pub record Sent : Type 0 where
+  -- what the writer has, where that is known
   pub written : Option (List ℕ)
+  -- what is gathered, and not yet written
   pub gathered : List ℕ
 
 -- a text was sent behind what was gathered: what of both was not written is gathered now
 abbrev pub Sends : Sent → Sent → List ℕ → Type 0
 Sends old new text = WritesFront old.written new.written (old.gathered ++ text) new.gathered
 
--- the same, but for the rest of the text
+-- a text was sent behind what was gathered, and then this rest was gathered
 abbrev pub SendsBut : List ℕ → Sent → Sent → List ℕ → Type 0
 SendsBut rest old new text = WritesFront old.written new.written (old.gathered ++ text) (new.gathered ++ rest)
 
@@ -69,7 +72,7 @@ LineFaultBehind told number head line_fault.Write old new m line =
     (text : List ℕ) × (n : Option machine.World) × Plays (player_by told no_head) number m line text n × Fails old new (head ++ text)
 LineFaultBehind told number head (line_fault.Faulty fault) old new m line = LineFails (is_some m) line fault × (new ≡ old)
 
--- the same of answers alone
+-- what became of a line that was not played to its end, where nothing stands before its answers
 abbrev pub LineFaultIs : LineFault → Sent → Sent → Option machine.World → List ℕ → Type 0
 LineFaultIs fault old new m line = LineFaultBehind trace.Off 0 [] fault old new m line
 
@@ -81,7 +84,7 @@ LineIs told number head (Ok done) old new world line rest world' =
 LineIs told number head (Err fault) old new world line rest world' =
     (m : Option machine.World) → ShowsAny world m → HasAnyRun m → LineFaultBehind told number head fault old new m line
 
--- the same where all of its text was sent
+-- what became of one line, all of whose text was sent
 abbrev pub AnswersBehind : {A : Type 0} → Trace → (number : ℕ) → (head : List ℕ) → Result A LineFault → Sent → Sent → Option WorldState
     → List ℕ → Option WorldState → Type 0
 AnswersBehind told number head (Ok done) old new world line world' =
@@ -89,7 +92,8 @@ AnswersBehind told number head (Ok done) old new world line world' =
 AnswersBehind told number head (Err fault) old new world line world' =
     (m : Option machine.World) → ShowsAny world m → HasAnyRun m → LineFaultBehind told number head fault old new m line
 
--- and where neither events nor anything else stands before its answers
+-- what became of one line, all of whose text was sent, where neither events nor anything else
+-- stands before its answers
 abbrev pub AnswersLine : {A : Type 0} → Result A LineFault → Sent → Sent → Option WorldState → List ℕ → Option WorldState → Type 0
 AnswersLine {A = A} result old new world line world' = AnswersBehind {A = A} trace.Off 0 [] result old new world line world'
 
@@ -169,7 +173,7 @@ abbrev pub failed_in_line : {A : Type 0} → Result A LineFault → ℕ
 failed_in_line (Err line_fault.Write) = 1
 failed_in_line _ = 0
 
--- and in a tree's lines, of which one was not sent for this reason
+-- how many writes fail in a tree's lines that end so, of which one was not sent for this reason
 abbrev pub failed_in_tree : Result (Unit {0}) Fault → LineFault → ℕ
 failed_in_tree (Err fault.Write) why = failed_in_line {A = Unit {0}} (Err why)
 failed_in_tree _ why = 0
@@ -189,7 +193,7 @@ ending_of number (line_fault.OutOfMemory witness) = fault.OutOfMemory witness
 ending_of number line_fault.Write = fault.Write
 ending_of number (line_fault.Faulty kind) = fault.ScriptFault kind number
 
--- past the last allowed line there is but one answer
+-- the answer about a line with this number: past the last allowed line it is the fault `lines`
 abbrev pub within_lines : ℕ → Result Bool Fault → Result Bool Fault
 within_lines number answer = if nat_lt most_lines number then Err (fault.ScriptFault kind.Lines number) else answer
 
@@ -215,15 +219,20 @@ TakesLine (Err (fault.ScriptFault why at)) number known left ahead line old new 
     × (is_line number t ≡ Err (fault.ScriptFault why at)) × IsLine line × LineResultIs t known (prepend_known ahead left) line
 TakesLine (Err _) number known left ahead line old new = ⊥
 
--- what holds before the line with a number, where this stands before answers: the lines before it were taken and played, and
--- their text was written but for its end, which is gathered
+-- what holds before the line with a number, where this stands before answers
 pub record AtLineBy (told : Trace) (head : ℕ → List ℕ → List ℕ) (input known old new : Option (List ℕ)) (gathered : List ℕ) (number : ℕ)
     (world : Option machine.World) : Type 0 where
+  -- the lines before it
   pub lines : List (List ℕ)
+  -- the text that they write
   pub text : List ℕ
+  -- the number is that of the next line
   pub count : length lines + 1 ≡ number
+  -- these lines were taken from the reader, each with its end
   pub taken : Consumes input known (ended lines)
+  -- from no world on they write this text, and lead to this world
   pub plays : PlaysAll (player_by told head) None lines text world
+  -- the text was written, except for its end, which is gathered
   pub written : WritesFront old new text gathered
 
 -- a player is at a line, with answers alone written

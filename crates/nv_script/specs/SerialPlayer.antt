@@ -16,7 +16,7 @@ use Rattle.nv_serial.specs.Stopped.{serial_stopped}
 use Rattle.nv_script.specs.Play.{Player, WorldReports}
 use Rattle.nv_script.specs.Serially.{player_of_calls}
 
--- no block is in a hand
+-- where the blocks are, by the world with numbers: none is in a hand
 abbrev pub serial_space : Serial → Space
 serial_space s = record {
   free = free_count s;
@@ -30,7 +30,7 @@ serial_space s = record {
 abbrev pub serial_log : Serial → ℕ → LogCounts
 serial_log s ino = record { entries = entry_count s ino; pages = log_told s ino }
 
--- no snapshot is pinned
+-- the counts of a living snapshot, by the world with numbers: none is pinned
 abbrev pub serial_snap : Serial → ℕ → SnapCounts
 serial_snap s snapshot = record { snapshot = snapshot; held = held_by s snapshot; gain = gain_by s snapshot; pins = 0 }
 
@@ -43,8 +43,8 @@ abbrev pub serial_nodes : Serial → Option ℕ → Option (List TreeNode)
 serial_nodes s None = Some (tree_told s)
 serial_nodes s (Some snapshot) = snapshot_tree_told s snapshot
 
--- A `do` is one call of them, and its reports are counts of theirs. Fifteen worked scripts are computed so in
--- SerialRows, with every byte of their output.
+-- what the world with numbers reports. `SerialRows` computes fifteen worked scripts so, with every
+-- byte of their output.
 abbrev pub serial_reports : Serial → WorldReports
 serial_reports s = record {
   space = serial_space s;
@@ -55,7 +55,6 @@ serial_reports s = record {
   nodes = serial_nodes s;
 }
 
--- THE SERIAL PLAYER.
--- The serial player has worlds with numbers.
+-- THE SERIAL PLAYER: its worlds are plain worlds with numbers, and a `do` is one call of them
 abbrev pub serial_player : Player
 serial_player = player_of_calls new_serial serial_reports serial_stopped (λ old actor c. IsOutcome c old (serial_call old actor c))

@@ -28,17 +28,18 @@ HasNoSteps bytes = (before : List (List ℕ)) (line rest : List ℕ) (c : Comman
 -- answered that is made alone
 module _ {W : Type 0} (empty : GeometryNumbers → W) (reports : W → WorldReports) (stopped : W → W)
     (Calls : W → ℕ → Call → Reply → W → Type 0) where
+  -- what a command that makes no single step writes and leaves
   abbrev pub ActsAlone : W → Command → List ℕ → W → Type 0
   ActsAlone old (command.Do actor call) text new = Answers (Calls old actor call) text new
   ActsAlone old command.Stop text new = Restarts (stopped old) old text new
   ActsAlone old report text new = Tells (reports old) old report text new
 
+  -- the player of whole calls
   abbrev pub player_of_calls : Player
   player_of_calls = record { World = W; empty = empty; Acts = λ number. ActsAlone; listed = λ w. nodes_listed (reports w); head = no_head; made = λ number new answer. answer }
 
--- HOW A SCRIPT ENDS, where the reader's bytes are known and no line of them makes single steps: as this player plays it.
--- Played alone: where the reader's bytes are known and have no steps, a script ends as a player of whole calls
--- plays it.
+-- PLAYED ALONE: where the reader's bytes are known, and no line of them makes single steps, a
+-- script ends as a player of whole calls plays it
 abbrev pub PlaysAlone : Player → Result (Unit {0}) Fault → (input left old new : Option (List ℕ)) → Type 0
 PlaysAlone player result input left old new =
     (bytes : List ℕ) → input ≡ Some bytes → HasNoSteps bytes → Ends player result input left (λ text. Appends old new text)

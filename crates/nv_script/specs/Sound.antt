@@ -9,8 +9,7 @@ use Rattle.nv_script.specs.Grammar.{is_skipped}
 use Rattle.nv_script.specs.Play.{LineFails}
 use Rattle.nv_script.specs.Results.{AnswersLine, HasAnyRun, Sent}
 
--- a line has no fault where a world is made, or where none is.
--- Sound line: its words have no fault.
+-- the words of a line have no fault, where a world is made or where none is
 abbrev pub IsSound : Bool → List ℕ → Type 0
 IsSound made line = (why : ScriptFaultKind) → LineFails made line why → ⊥
 
@@ -26,9 +25,9 @@ abbrev pub IsNoFault : LineFault → Type 0
 IsNoFault (line_fault.Faulty why) = ⊥
 IsNoFault _ = Unit {0}
 
--- A LINE WITH A FAULT IS TOLD, AND CHANGES NOTHING; a sound one is played; and no fault of a line ends the script.
--- Where lines are looked at first, one with a fault is told and changes nothing, and a sound one is played.
--- Example: `tree` before the first `format` is told as `order`, and the next line is asked for.
+-- A LINE WITH A FAULT IS TOLD, AND CHANGES NOTHING; a sound one is played; and no fault of a line
+-- ends the script. Example: `tree` before the first `format` is told as `order`, and the next line
+-- is asked for.
 abbrev pub AnswersSound : Result (Option ScriptFaultKind) LineFault → Sent → Sent → Option WorldState → List ℕ → Option WorldState → Type 0
 AnswersSound (Ok (Some why)) old new world line world' = LineFails (is_some world) line why × (new ≡ old) × (world' ≡ world)
 AnswersSound (Ok None) old new world line world' =

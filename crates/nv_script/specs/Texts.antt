@@ -68,7 +68,7 @@ node_line node = line_of (path_text node.path ++ codes " " ++ kind_text node.nod
 abbrev pub tree_lines : List TreeNode → List ℕ
 tree_lines nodes = flat_map node_line nodes ++ line_of (codes "end")
 
--- the name of a cleaning, and how many entries and pages the log lost
+-- the name of a cleaning
 abbrev pub cleaning_name : Bool → List ℕ
 cleaning_name true = codes "thorough"
 cleaning_name false = codes "fast"
@@ -77,9 +77,8 @@ cleaning_name false = codes "fast"
 abbrev pub cleaned_text : Bool → (entries pages : ℕ) → List ℕ
 cleaned_text thorough entries pages = (codes " " ++ cleaning_name thorough ++ codes " ") ++ decimal entries ++ codes " " ++ decimal pages
 
--- what an answer shows behind the word `done`.
--- Texts: of each answer, reply and tree. Example: an answer of three bytes 0, `a`, space is `done 3 %00a%20`. Of
--- none it is `done 0`.
+-- what an answer shows behind the word `done`. Example: an answer of three bytes 0, `a`, space is
+-- `done 3 %00a%20`. Of no bytes it is `done 0`.
 abbrev pub answer_text : Answer → List ℕ
 answer_text (answer.Made handle) = codes " " ++ handle_text handle
 answer_text (answer.Count count) = codes " " ++ decimal count
@@ -100,19 +99,18 @@ reply_line Waiting = line_of (codes "waits")
 reply_line (Done answer) = line_of (codes "done" ++ answer_text answer)
 reply_line (Refused fault) = refused_line fault
 
--- the same of a happening
+-- the line of what a happening is told
 abbrev pub told_line : Told → List ℕ
 told_line (Replied reply) = reply_line reply
 told_line Stopped = line_of (codes "stopped")
 
--- the snapshots: how many live, epoch and last commit; and of each the blocks that it holds, those that a
--- drop defers, and pins
+-- the line of a living snapshot: the blocks that it holds, those that a drop defers, and its pins
 abbrev pub snap_line : SnapCounts → List ℕ
 snap_line snap =
     line_of (codes "snap " ++ decimal snap.snapshot ++ codes " held " ++ decimal snap.held ++ codes " gain " ++ decimal snap.gain
     ++ codes " pins " ++ decimal snap.pins)
 
--- the lines of `snaps`
+-- the lines of `snaps`: how many snapshots live, epoch and last commit, and a line for each
 abbrev pub snaps_lines : Snaps → List ℕ
 snaps_lines snaps =
     line_of (codes "snaps " ++ decimal (length snaps.living) ++ codes " epoch " ++ decimal snaps.epoch ++ codes " commit "

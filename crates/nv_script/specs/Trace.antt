@@ -153,7 +153,7 @@ start_line trace.Off number actor call = []
 start_line trace.Text number actor call = line_of (event_head number actor call ++ codes "start")
 start_line trace.Json number actor call = line_of (object_head number actor call ++ codes "start\",\"reply\":\"started\"}")
 
--- one that is refused is no event
+-- the line of a start; one that is refused is no event, and has none
 abbrev pub start_lines : Trace → (number actor : ℕ) → CallName → Reply → List ℕ
 start_lines form number actor call Started = start_line form number actor call
 start_lines form number actor call other = []
@@ -203,7 +203,7 @@ abbrev pub step_object : ℕ → ℕ → CallName → named.StepName → Reply �
 step_object number actor call name reply holder commit parts after =
     line_of (step_head number actor call name ++ replied_members reply holder commit ++ left_members reply actor parts after ++ codes "}")
 
--- the same where events are told in this form
+-- the line of a step, where events are told in this form
 abbrev pub step_by : Trace → (number actor : ℕ) → CallName → named.StepName → Reply → (holder commit : Option ℕ) → Lent → World → List ℕ
 step_by trace.Off number actor call name reply holder commit parts after = []
 step_by trace.Text number actor call name reply holder commit parts after = step_text number actor call name reply holder commit
@@ -236,12 +236,12 @@ abbrev pub GoesTraced : Trace → (number most : ℕ) → World → ℕ → (eve
 GoesTraced form number most old actor events last new =
     (goes : GoesOn most old actor last new) × (events ≡ go_lines form number old actor goes.grants)
 
--- it goes on until it did not move
+-- a call goes on until it does not move, and its events have these lines
 abbrev pub RunsTraced : Trace → (number : ℕ) → World → ℕ → (events : List ℕ) → Reply → World → Type 0
 RunsTraced form number old actor events last new =
     (runs : Runs old actor last new) × (events ≡ go_lines form number old actor runs.goes.grants)
 
--- one that was started runs, and one that was refused does not
+-- a call that was started runs, and one that was refused has no events
 abbrev pub RunsTracedFrom : Reply → Trace → (number : ℕ) → World → ℕ → (events : List ℕ) → Reply → World → Type 0
 RunsTracedFrom Started form number old actor events last new = RunsTraced form number old actor events last new
 RunsTracedFrom first form number old actor events last new = (last ≡ first) × (new ≡ old) × (events ≡ [])
@@ -309,7 +309,7 @@ head_by trace.Off echo = before_answers echo
 head_by trace.Text echo = before_answers echo
 head_by trace.Json echo = text_of_line
 
--- reports are those of a scan
+-- a command, with its events or without, where reports are those of one scan
 abbrev pub ActsTold : Trace → ℕ → World → Command → List ℕ → World → Type 0
 ActsTold events number old c text new = ActsToldBy (reports_by_scan old) events number old c text new
 
@@ -330,7 +330,7 @@ player_by told head = record {
   made = λ number new answer. made_by told number new answer;
 }
 
--- THE TRACING PLAYER
+-- THE TRACING PLAYER: the machine, with the lines of its events
 abbrev pub tracing_player : Player
 tracing_player = player_by trace.Text no_head
 

@@ -13,11 +13,15 @@ use Rattle.nv_script.specs.declared.command.Command.TheVariants as command
 use Rattle.nv_script.specs.declared.trace.Trace.{Trace}
 use Rattle.nv_script.specs.Trace.{go_line, go_lines}
 
--- one step of an actor's call was made, where its memory was granted or refused, and its line was added
+-- one step of an actor's call was made, and its line was added
 pub record IsTracedStep (form : Trace) (number : ℕ) (m : machine.World) (actor : ℕ) (reply : Reply) (old text : List ℕ) (after : WorldState) : Type 0 where
+  -- whether the memory that it asks for was granted
   pub granted : Bool
+  -- it was replied as the machine replies
   pub reply_is : reply_of reply ≡ (machine_step.step m (Go actor granted)).reply
+  -- the world after it shows the machine's
   pub shows : Shows after (machine_step.step m (Go actor granted)).world
+  -- the text has the line of the event behind what it had
   pub text_is : text ≡ old ++ go_line form number m actor granted (actor_at m actor).running
 
 -- a call went on so often, moved each time, and its events have these lines

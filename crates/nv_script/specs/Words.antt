@@ -17,7 +17,7 @@ value_from front (digit ∷ digits) = value_from (10 * front + (digit - 48)) dig
 abbrev pub is_number : List ℕ → Bool
 is_number word = nat_lt 0 (length word) && nat_le (length word) 20 && list_all is_digit word && nat_lt (value_from 0 word) (2 ^ 64)
 
--- A number is 1 to 20 decimal digits below 2^64.
+-- the number that a word spells: 1 to 20 decimal digits, below 2^64
 abbrev pub number_of : List ℕ → Option ℕ
 number_of word = if is_number word then Some (value_from 0 word) else None
 
@@ -30,8 +30,7 @@ abbrev pub positive_up_to : ℕ → List ℕ → Option ℕ
 positive_up_to most word =
     if is_number word && nat_le 1 (value_from 0 word) && nat_le (value_from 0 word) most then Some (value_from 0 word) else None
 
--- the words between single spaces.
--- Words: the parts of a line between single spaces.
+-- the words of a line: its parts between single spaces
 abbrev pub words_of : List ℕ → List (List ℕ)
 words_of line = slice_split (λ byte. byte == 32) line
 
@@ -45,18 +44,18 @@ handle_from (Some ino) (Some generation) = Some (record { ino = ino; generation 
 handle_from (Some ino) None = None
 handle_from None generation = None
 
--- number, point, number
+-- the handle that two parts spell: number, point, number
 abbrev pub handle_of_parts : List (List ℕ) → Option Handle
 handle_of_parts [] = None
 handle_of_parts (ino ∷ []) = None
 handle_of_parts (ino ∷ generation ∷ []) = handle_from (number_of ino) (number_of generation)
 handle_of_parts (ino ∷ generation ∷ more ∷ parts) = None
 
--- A handle is number, point, number.
+-- the handle that a word spells: number, point, number
 abbrev pub handle_of : List ℕ → Option Handle
 handle_of word = handle_of_parts (parts_of word)
 
--- a byte that stands for itself in escaped text: 0x21 to 0x7e, but for `%`
+-- a byte that stands for itself in escaped text: 0x21 to 0x7e, except `%`
 abbrev pub is_plain : ℕ → Bool
 is_plain byte = nat_le 33 byte && nat_le byte 126 && not (byte == 37)
 
@@ -98,9 +97,9 @@ unescaped (a ∷ b ∷ c ∷ rest) =
 abbrev pub unescaped_behind : List ℕ → List ℕ → Option (List ℕ)
 unescaped_behind front text = option_map (λ bytes. front ++ bytes) (unescaped text)
 
--- text has one byte or more.
--- Text is spelled by one or more bytes: `%` and two hexadecimal digits of either case stand for one byte, and each
--- other byte from `!` to `~` for itself. Example: `a%2Fb` stands for the three bytes `a/b`; `%4` is no text.
+-- the text that a word spells, by one or more bytes: `%` and two hexadecimal digits of either case
+-- stand for one byte, and each other byte from `!` to `~` for itself. Example: `a%2Fb` stands for
+-- the three bytes `a/b`; `%4` is no text.
 abbrev pub text_of : List ℕ → Option (List ℕ)
 text_of [] = None
 text_of (byte ∷ bytes) = unescaped (byte ∷ bytes)

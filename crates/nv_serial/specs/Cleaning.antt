@@ -37,11 +37,11 @@ fast s ino = cleaned false s ino (pages_staying s ino)
 abbrev pub entries_staying : Serial → ℕ → List Entry
 entries_staying s ino = thorough_leaves (keepers s ino) (log_in s ino)
 
--- how many pages they fill
+-- how many log pages the entries fill that stay where single ones go
 abbrev pub pages_filled : Serial → ℕ → ℕ
 pages_filled s ino = div_ceil (length (entries_staying s ino)) s.numbers.page
 
--- a `thorough`, where it is known whether entries go and whether its pages are free
+-- a `thorough`, by whether an entry goes, and whether the row has the pages for the others
 abbrev pub thorough_if : (some_go fits : Bool) → Serial → ℕ → ℕ → Outcome
 thorough_if false fits s actor ino = told (answers.Cleaned true 0 0) s
 thorough_if true false s actor ino = refused NoSpace s
@@ -61,6 +61,6 @@ abbrev pub auto : Serial → ℕ → ℕ → Outcome
 auto s actor ino =
     if nat_lt (2 * length (entries_staying s ino)) (length (log_in s ino)) then thorough s actor ino else fast s ino
 
--- a slot without an inode is refused, and a number without a slot
+-- a cleaning, which is refused where the number has no slot, or its slot no inode
 abbrev pub if_inode : Serial → ℕ → Outcome → Outcome
 if_inode s ino clean = if has_entry (log_in s ino) then clean else refused Stale s

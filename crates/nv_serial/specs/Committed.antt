@@ -20,20 +20,19 @@ use Rattle.nv_serial.specs.Serial.{NumberedSlot, Serial, copies_now, keepers, li
 
 -- ---- logs
 
--- how many more pages the entries for a slot need, and those for all
+-- how many more log pages the entries of a plan need in one slot
 abbrev pub need_of : Serial → List InodePlan → ℕ → ℕ
 need_of s plan ino = pages_more s.numbers.page (slot_of s ino).pages (length (items_for plan ino))
 
--- how many log pages a plan needs in all slots
+-- how many more log pages the entries of a plan need in all slots
 abbrev pub needs : Serial → List InodePlan → ℕ
 needs s plan = sum_by (need_of s plan) (range_with_len 0 (length s.slots))
 
--- the entries of the next commit
+-- the entries that the next commit appends in one slot
 abbrev pub entries_by : Serial → List InodePlan → ℕ → List Entry
 entries_by s plan ino = entries_of (s.plain.commit + 1) s.plain.epoch (place_in plan ino) (items_for plan ino)
 
--- the pages with these numbers go to the slots in rising order.
--- Its log pages are the next ones, which go to the inodes in rising number.
+-- the log pages that a slot gets of these numbers, which go to the slots by rising inode number
 abbrev pub pages_by : Serial → List InodePlan → List ℕ → ℕ → List Page
 pages_by s plan numbers ino =
     fresh (take (need_of s plan ino) (drop (sum_by (need_of s plan) (range_with_len 0 ino)) numbers))
@@ -51,8 +50,7 @@ abbrev pub killed_of : ℕ → List Entry → List Entry → List KilledPart
 killed_of block log entries =
     flat_map (λ n. option_to_list (killed_part (log ++ entries) n)) (killed_numbers block (log ++ entries) (length log))
 
--- what of it a living snapshot holds is recorded, slot by slot.
--- What they kill and a living snapshot holds goes to the end of the records, inode by inode.
+-- the record list after a commit: slot by slot, what it kills and a snapshot holds goes to the end
 abbrev pub records_with : Serial → List InodePlan → List ℕ → List Record → List Record
 records_with s plan [] rs = rs
 records_with s plan (ino ∷ inos) rs =
@@ -61,13 +59,12 @@ records_with s plan (ino ∷ inos) rs =
 
 -- ---- erasing
 
--- an inode is over that is gone, and of which nothing is kept.
--- An inode that is gone and of which nothing is kept is over: its inode slot is empty then, of the next generation.
+-- the inode of a slot is over: it is gone, and nothing of it is kept
 abbrev pub is_over : Serial → ℕ → Bool
 is_over s ino =
     is_gone (log_in s ino) && not (list_any (keeps (keepers s ino)) (pairs s.numbers.block (log_in s ino)))
 
--- it leaves its slot empty, in the next generation
+-- a slot after erasing: where its inode is over, it is empty and of the next generation
 abbrev pub left_in : Serial → ℕ → NumberedSlot
 left_in s ino = if is_over s ino then record { generation = (slot_of s ino).generation + 1; pages = [] } else slot_of s ino
 
@@ -77,7 +74,7 @@ erased s = record s { slots = map (left_in s) (range_with_len 0 (length s.slots)
 
 -- ---- THE WORLD AFTER A COMMIT of a plan, with the effect of its call and with these blocks as log pages
 
--- What a commit leaves: the plain world with the effect of the call, and entries on their log pages.
+-- THE WORLD AFTER A COMMIT of a plan, with its call's effect, and these blocks as log pages
 abbrev pub committed : Serial → Handle → Call → List InodePlan → List ℕ → Serial
 committed s made c plan numbers = erased (record s {
   plain = record s.plain {

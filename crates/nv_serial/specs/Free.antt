@@ -28,33 +28,30 @@ blocks_kept r log = flat_map (λ n. option_to_list (block_kept r log n)) (range_
 abbrev pub used_by : Serial → ℕ → List ℕ
 used_by s ino = map (λ (p : Page). p.number) (slot_of s ino).pages ++ blocks_kept (keepers s ino) (log_in s ino)
 
--- Used are the log pages and the data blocks of pairs that are kept: by being current, by a living snapshot, or by
--- a deferred record.
+-- the blocks in use: log pages, and data blocks of pairs that are kept.
+-- A pair is kept by being current, by a living snapshot, or by a deferred record.
 abbrev pub used_in : Serial → List ℕ
 used_in s = flat_map (used_by s) (range_with_len 0 (length s.slots))
 
--- the free blocks of a CPU, lowest first.
--- Free on a CPU are the other numbers of its home range, lowest first.
+-- the free blocks of a CPU: the other numbers of its home range, lowest first
 abbrev pub free_on : Serial → ℕ → List ℕ
 free_on s cpu =
     unused (has (used_in s)) (home_start s.numbers.blocks s.numbers.cpus cpu)
     (home_start s.numbers.blocks s.numbers.cpus (cpu + 1) - home_start s.numbers.blocks s.numbers.cpus cpu)
 
--- THE ROW of an actor, all free blocks in the order in which it takes them: its own CPU's first, and then the next ones',
--- in a circle.
--- Row of an actor: all free blocks in the order in which it takes them. Those of its own CPU come first, which is
--- its number modulo the CPUs, and then those of the next CPUs, in a circle. Example: where 4 to 7 are free on CPU 0
--- and 8 to 15 on CPU 1, the row of actor 1 is 8 to 15 and then 4 to 7.
+-- THE ROW of an actor: all free blocks in the order in which it takes them.
+-- Those of its own CPU come first, which is its number modulo the CPUs, and then those of the next
+-- CPUs, in a circle. Example: where 4 to 7 are free on CPU 0 and 8 to 15 on CPU 1, the row of
+-- actor 1 is 8 to 15 and then 4 to 7.
 abbrev pub row_of : Serial → ℕ → List ℕ
 row_of s actor = flat_map (λ k. free_on s ((actor + k) % s.numbers.cpus)) (range_with_len 0 s.numbers.cpus)
 
 -- ---- slots
 
--- a slot that has an inode, or whose generation has reached the last number
+-- a slot that has an inode, or is of the last generation
 abbrev pub is_taken : Serial → ℕ → Bool
 is_taken s ino = has_entry (log_in s ino) || nat_le NUMBER (slot_of s ino).generation
 
--- the numbers of free slots, lowest first.
--- Free inode numbers are those of inode slots without an entry that are not of the last generation, lowest first.
+-- the free inode numbers, lowest first: of slots without an entry, and not of the last generation
 abbrev pub pool_of : Serial → List ℕ
 pool_of s = unused (is_taken s) 0 (length s.slots)

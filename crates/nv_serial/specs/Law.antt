@@ -18,9 +18,9 @@ use Rattle.nv_serial.specs.OneCall.{serial_call}
 use Rattle.nv_serial.specs.Serial.{Outcome, Serial}
 use Rattle.nv_serial.specs.Shown.{slot_told}
 
--- the world with numbers after these events from a start on: the plain world and the records beside the run, and the slots.
--- After events: the plain world and the records that stand beside the run, and of each cell the generation and the
--- log pages.
+-- the world with numbers after these events from a start on.
+-- It has the plain world and the records that stand beside the run, and of each cell the
+-- generation and the log pages.
 abbrev pub serial_after : GeometryNumbers → World → List Record → List Event → Serial
 serial_after g start records events = record {
   numbers = g;
@@ -29,8 +29,7 @@ serial_after g start records events = record {
   records = records_after start events records;
 }
 
--- a call that never wants memory, since none of its steps grows anything.
--- The calls `stat`, `lookup`, `snap` and `drop` grow nothing.
+-- a call of which no step grows anything, so that it wants no memory
 abbrev pub grows_nothing : Call → Bool
 grows_nothing (call.Stat handle) = true
 grows_nothing (call.Lookup dir name) = true
@@ -48,28 +47,32 @@ IsOutcome c old made reply new =
 abbrev pub alone : ℕ → Call → List Bool → List Event
 alone actor c grants = Start actor c ∷ goes actor grants
 
--- what they are replied: where it is started each step moves but the last; and else there is no step
+-- what the events of a call that is made alone are replied, the last reply named apart.
+-- Where the call is started, each step but the last replies that it moves. Else there is no step.
 abbrev pub AreRepliesTo : List Bool → List Reply → Reply → Type 0
 AreRepliesTo grants told last =
     ((grants ≡ []) × (told ≡ last ∷ []) × (last ≢ Started))
     ⊎ ((count : ℕ) × (told ≡ Started ∷ (replicate count Moved ++ last ∷ [])) × (last ≢ Moved))
 
--- A CALL THAT IS MADE ALONE, after events from a start on after which no call runs, and its last reply.
--- Made alone: a start after which no other actor makes a step up to the first reply of the call that is not
--- `Moved`, behind events after which no call runs. Where the start is refused that is all.
+-- A CALL THAT IS MADE ALONE, from its start to its last reply.
+-- It comes behind events from a start on. No other actor makes a step up to the first reply that
+-- is not `Moved`. Where the start is refused that is all.
 pub record IsMadeAlone (g : GeometryNumbers) (start : World) (records : List Record) (before : List Event) (actor : ℕ) (c : Call)
     (grants : List Bool) (last : Reply) : Type 0 where
+  -- a run may start at that world
   pub start_is : IsStart g start records
+  -- no call runs after the events before this call
   pub rest : IsAtRest (after start before)
+  -- the call is refused its start, or each of its steps moves up to the last
   pub replies_are : AreRepliesTo grants (replies (after start before) (alone actor c grants)) last
 
--- its reply and what it leaves are those of the world with numbers, and then no call runs again.
--- Serial: that reply and the world with numbers after it are those of `serial_call`, or memory is refused to a call
--- that grows something and nothing has changed. Then no call runs.
+-- a call that is made alone is answered as the world with numbers answers it
 pub record IsSerialCall (g : GeometryNumbers) (start : World) (records : List Record) (before : List Event) (actor : ℕ) (c : Call)
     (grants : List Bool) (last : Reply) : Type 0 where
+  -- reply and world are those of `serial_call`, or memory was refused and nothing has changed
   pub outcome : IsOutcome c (serial_after g start records before) (serial_call (serial_after g start records before) actor c) last
       (serial_after g start records (before ++ alone actor c grants))
+  -- no call runs after the call
   pub rest : IsAtRest (after start (before ++ alone actor c grants))
 
 -- the law of calls that are made one at a time

@@ -5,24 +5,27 @@ use Rattle.nv_cell.specs.Readers.{has_entry}
 use Rattle.nv_entry.specs.declared.item.Entry.{Entry}
 use Rattle.nv_log.specs.Chain.{pages_in}
 
--- a log page: its block, and its entries in append order
+-- a log page with its number
 pub record Page : Type 0 where
+  -- the number of its block
   pub number : ℕ
+  -- its entries, in append order
   pub entries : List Entry
 
 -- the entries of pages, in order
 abbrev pub entries_in : List Page → List Entry
 entries_in pages = flat_map (λ (p : Page). p.entries) pages
 
--- the pages have an entry
+-- one of these pages has an entry
 abbrev pub has_more : List Page → Bool
 has_more pages = has_entry (entries_in pages)
 
--- pages without an entry
+-- log pages of these numbers, without an entry
 abbrev pub fresh : List ℕ → List Page
 fresh numbers = map (λ n. record { number = n; entries = [] }) numbers
 
--- an entry goes to the last page that has any while there is room, and then to the next one
+-- the pages with one more entry, which goes to the last page that has any while there is room, and
+-- then to the next
 abbrev pub with_entry : ℕ → Entry → List Page → List Page
 with_entry size e [] = []
 with_entry size e (p ∷ pages) =
@@ -34,12 +37,11 @@ abbrev pub with_all : ℕ → List Entry → List Page → List Page
 with_all size [] pages = pages
 with_all size (e ∷ entries) pages = with_all size entries (with_entry size e pages)
 
--- the places behind the last entry
+-- how many more entries the pages take behind the last entry
 abbrev pub room_in : ℕ → List Page → ℕ
 room_in size [] = 0
 room_in size (p ∷ pages) = if has_more pages then room_in size pages else (size - length p.entries) + size * length pages
 
--- how many more pages so many entries need, of a log that grows by doubling.
--- How many more log pages entries need is told by the growth of chains.
+-- how many more log pages so many entries need, by the growth of chains
 abbrev pub pages_more : ℕ → List Page → ℕ → ℕ
 pages_more size pages count = pages_in count size (length pages) (room_in size pages) count

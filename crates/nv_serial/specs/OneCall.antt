@@ -25,7 +25,7 @@ abbrev pub of_call : Serial → ℕ → Call → Outcome
 of_call s actor (call.SnapshotOrCleaner what) = maintained s actor what
 of_call s actor c = on_files s actor c
 
--- One call: its reply and the world after it. An actor that is not there is refused `NoActor`.
+-- one call: its reply and the world after it. An actor that is not there is refused `NoActor`.
 abbrev pub serial_call : Serial → ℕ → Call → Outcome
 serial_call s actor c = if_there (nat_lt actor s.numbers.actors) where
   if_there : Bool → Outcome

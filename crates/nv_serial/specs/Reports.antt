@@ -18,13 +18,16 @@ use Rattle.nv_serial.specs.Serial.{NumberedSlot, Serial, copies_now, deferred_in
 
 -- ---- lists: the free blocks of each CPU
 
--- Reports of it are counts: `lists_told`, `free_count` and those beside it, `log_told`, `held_by`, `gain_by`,
--- `tree_told`. Example (partial at both ends, under a snapshot), with 16 blocks of 4 bytes on 2 CPUs and 4 entries
--- a log page. All calls are of actor 0, whose CPU is 0. Then `lists` says `cpu 0 -` and `cpu 1 8-15`, and `space`
--- says `free 8 chain 2 data 6 pending 0 hand 0`: three data blocks are current, and snapshot 1 holds the other
--- three. The log of `a` has three entries on one log page, of which two are live and all are valid. After `drop 1`
--- the old three are pending, and data are 3. A `drain 9` is answered 4, and `lists` says `cpu 0 2-4` and `cpu 1
--- 8-15`.
+-- what `lists` tells: the free blocks of each CPU, lowest first.
+-- Example, with 16 blocks of 4 bytes on 2 CPUs and 4 entries a log page, where all calls are of
+-- actor 0. A `create` of `a` in the root makes 1.1, with its log page in block 1. A `write` of
+-- `aaaabbbbcccc` at 0 takes blocks 2, 3 and 4, and `snap` makes snapshot 1. A `write` of `XXXXXX`
+-- at 3 takes blocks 5, 6 and 7. The Size and the three pages of the first write are records then.
+-- Then `lists` says `cpu 0 -` and `cpu 1 8-15`, and `space` says `free 8 chain 2 data 6 pending 0
+-- hand 0`. Three data blocks are current, and snapshot 1 holds the other three. The log of `a` has
+-- three entries on one log page, of which two are live and all are valid. After `drop 1` the old
+-- three are pending, and data are 3. A `drain 9` is answered 4, and `lists` says `cpu 0 2-4` and
+-- `cpu 1 8-15`.
 abbrev pub lists_told : Serial → List (List ℕ)
 lists_told s = map (free_on s) (range_with_len 0 s.numbers.cpus)
 
@@ -38,11 +41,11 @@ free_count s = sum_by (λ cpu. length (free_on s cpu)) (range_with_len 0 s.numbe
 abbrev pub chain_count : Serial → ℕ
 chain_count s = sum_by (λ (slot : NumberedSlot). length slot.pages) s.slots
 
--- how many pages of an inode are needed
+-- how many file pages of an inode's log are needed
 abbrev pub needed_in : Serial → ℕ → ℕ
 needed_in s ino = length (filter (λ (p : Pair). is_page p.part && is_needed (living s) p) (pairs s.numbers.block (log_in s ino)))
 
--- how many pages are needed
+-- how many file pages of all logs are needed
 abbrev pub data_count : Serial → ℕ
 data_count s = sum_by (needed_in s) (range_with_len 0 (length s.slots))
 
@@ -74,7 +77,7 @@ log_told s ino = pages_counted (keepers s ino) (slot_of s ino).pages
 abbrev pub held_by : Serial → ℕ → ℕ
 held_by s snapshot = block_count (filter (is_held_by snapshot) s.records)
 
--- how many of these no other living snapshot holds
+-- how many blocks of records a snapshot holds and no other living one does
 abbrev pub gain_by : Serial → ℕ → ℕ
 gain_by s snapshot =
     block_count (filter (λ (r : Record). is_held_by snapshot r && is_none (holder_of (without snapshot (living s)) r)) s.records)

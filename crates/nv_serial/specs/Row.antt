@@ -32,8 +32,10 @@ plan_by_row block s actor c made = plan block (copies s) (record {
   runs = block_runs_of (take (data_for block s c) (row_at s actor));
 }) c
 
--- a plan is that of the first numbers of the row, and the log pages in the hand are the next ones; the lists have the rest
+-- a call has taken the first blocks of the row of its actor
 pub record IsPlannedByRow (block : ℕ) (s : Shared) (actor : ℕ) (c : Call) (lists : List FreeBlocks) (pages : List BlockValue)
     (made : Handle) (plans : List InodePlan) : Type 0 where
+  -- the plan has the first numbers of the row as data
   pub plan_is : plans ≡ plan_by_row block s actor c made
+  -- the log pages in the hand, and then what the lists have left, are the rest of the row
   pub pages_are : numbers_of pages ++ row (length s.lists) actor 0 (length s.lists) lists ≡ drop (data_for block s c) (row_at s actor)

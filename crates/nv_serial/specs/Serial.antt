@@ -20,17 +20,14 @@ use Rattle.nv_serial.specs.LogPages.{Page, entries_in}
 
 -- ---- the state
 
--- a slot: its generation, and the pages of its inode's log
+-- an inode slot of the world with numbers
 pub record NumberedSlot : Type 0 where
   -- the slot's generation
   pub generation : ℕ
   -- the pages of its log
   pub pages : List Page
 
--- the numbers of the geometry, the plain world, its slots with their logs, and the records of what living snapshots hold
--- or have held.
--- World with numbers: the numbers of the geometry, the plain world, each inode slot with its generation and the log
--- pages of its inode, and the records.
+-- THE WORLD WITH NUMBERS
 pub record Serial : Type 0 where
   -- the numbers of the geometry
   pub numbers : GeometryNumbers
@@ -87,9 +84,11 @@ keepers s ino = record {
 
 -- ---- what a call leaves
 
--- what a call is answered, and the world after it
+-- what a call comes to
 pub record Outcome : Type 0 where
+  -- what the call is answered, or the fault that refuses it
   pub reply : Reply
+  -- the world after the call
   pub world : Serial
 
 -- a refusal, and the world as it was

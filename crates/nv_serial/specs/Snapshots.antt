@@ -12,7 +12,8 @@ use Rattle.nv_machine.specs.PlainRun.{Copy, is_of}
 use Rattle.nv_serial.specs.Committed.{erased}
 use Rattle.nv_serial.specs.Serial.{Outcome, Serial, copies_now, deferred_in, living, refused, told}
 
--- a making names its copy of the nodes by the epoch, and begins the next one
+-- a `snap`, by whether the epoch is the last, and whether as many snapshots live as may.
+-- The snapshot's copy of the nodes is named by the epoch, and the next epoch begins.
 abbrev pub snap_if : (last full : Bool) → Serial → Outcome
 snap_if true full s = refused EpochLimit s
 snap_if false true s = refused TooManySnapshots s
@@ -23,12 +24,12 @@ snap_if false false s = told (answers.Snapshot s.plain.epoch) (record s {
   };
 })
 
--- The calls on snapshots and the cleaners have a few lines each.
+-- a `snap`: refused at the last epoch, and where as many snapshots live as may
 abbrev pub snap : Serial → Outcome
 snap s = snap_if (nat_le NUMBER s.plain.epoch) (nat_le s.numbers.snaps (length s.plain.copies)) s
 
--- the records of a snapshot that is dropped go to the end of the list
--- a pinned snapshot can't be met, since no show runs between calls
+-- a `drop`, by whether the snapshot lives: its records go to the end of the list.
+-- A pinned snapshot can't be met, since no `show` runs between calls.
 abbrev pub drop_if : Bool → ℕ → Serial → Outcome
 drop_if false snapshot s = refused NoSnapshot s
 drop_if true snapshot s = told answers.Nothing (record s {
@@ -40,7 +41,7 @@ drop_if true snapshot s = told answers.Nothing (record s {
 abbrev pub drop_snapshot : ℕ → Serial → Outcome
 drop_snapshot snapshot s = drop_if (list_any (is_of snapshot) s.plain.copies) snapshot s
 
--- the tree of a copy, and that of the snapshot of a number, where it lives
+-- the tree of a snapshot's copy
 abbrev pub tree_in : Serial → Copy → List TreeNode
 tree_in s copy = tree_from copy.nodes (length s.slots) [] root
 
@@ -62,12 +63,12 @@ show_of (Some nodes) s = told (answers.Tree nodes) s
 abbrev pub show : ℕ → Serial → Outcome
 show snapshot s = show_of (snapshot_tree_told s snapshot) s
 
--- so many of the first deferred records are released; what is over then is erased
+-- the world once so many of the first deferred records were released; what is over then is erased
 abbrev pub released : ℕ → Serial → Serial
 released zero s = s
 released (suc more) s = released more (erased (record s { records = without_first (living s) s.records }))
 
--- all that are there, at most so many
+-- a `drain` that releases so many records
 abbrev pub drain_of : ℕ → Serial → Outcome
 drain_of count s = told (answers.Count count) (released count s)
 

@@ -12,28 +12,31 @@ use Rattle.nv_service.specs.declared.rounds.RoundEnd.TheVariants as round
 abbrev pub next_list : ℕ → Asking → ℕ
 next_list cpus asking = (asking.first + asking.asked) % cpus
 
--- THE TURN IS ANOTHER ONE exactly where a taking fell short, which it does only once each list was asked
+-- THE TURN of a seat after a fault: another one exactly where a taking fell short, which it does
+-- only once each list was asked
 abbrev pub turned_by : Fault → Bool → Bool
 turned_by NoSpace turn = not turn
 turned_by other turn = turn
 
--- Short of blocks: a taking asks the lists in turn, that of the seat's CPU first. The seat has a turn, which is
--- another one each time that a taking falls short, and else stays. Only one that has asked as many lists as there
--- are CPUs can fall short. Example: of 4 CPUs seat 5 asks the lists 1, 2, 3 and 0. Where all had too few together,
--- the turn is another one, and the call ends by `NoSpace`.
+-- the turn of a seat behind a result. A taking asks the lists one after another, that of the
+-- seat's CPU first, and can fall short only once it has asked as many as there are CPUs. Example:
+-- of 4 CPUs seat 5 asks the lists 1, 2, 3 and 0. Where all had too few together, the turn is
+-- another one, and the call ends by `NoSpace`.
 abbrev pub turned_in : {A : Type 0} → Result A Fault → Bool → Bool
 turned_in (Ok done) turn = turn
 turned_in (Err why) turn = turned_by why turn
 
+-- the turn of a seat behind the end of a change
 abbrev pub turned_end : {A : Type 0} → Result A ChangeEnd → Bool → Bool
 turned_end (Ok done) turn = turn
 turned_end (Err (ends.Refuses why)) turn = turned_by why turn
 turned_end (Err other) turn = turn
 
+-- the turn of a seat behind the end of a round
 abbrev pub turned_round : RoundEnd → Bool → Bool
 turned_round (round.Ends result) turn = turned_in result turn
 turned_round (round.BoundAnew back) turn = turn
 
--- a fault that tells of no taking that fell short
+-- the fault tells of no taking that fell short
 abbrev pub IsNoShortage : Fault → Type 0
 IsNoShortage why = (turn : Bool) → turn ≡ turned_by why turn

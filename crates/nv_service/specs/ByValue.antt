@@ -30,14 +30,15 @@ IsAnswerTo (snapshot_or_cleaner.Auto ino) seen = HasCleaned seen
 abbrev pub once_snapped : SessionValue → SessionValue
 once_snapped before = record before { snapped = before.snapped + 1 }
 
--- what a call on snapshots or of a cleaner leaves of a session, whose hand holds that at its end. One on snapshots has no hand
+-- what a call on snapshots or of a cleaner leaves of a session, whose hand holds that at its end;
+-- a call on snapshots other than a drain has no hand
 abbrev pub after_snapshot_or_cleaner : SnapshotOrCleanerCall → HeldValue → SessionValue → SessionValue
 after_snapshot_or_cleaner snapshot_or_cleaner.Snap held before = once_snapped before
 after_snapshot_or_cleaner (snapshot_or_cleaner.Drop snapshot) held before = once_snapped before
 after_snapshot_or_cleaner (snapshot_or_cleaner.Show snapshot) held before = before
 after_snapshot_or_cleaner cleaner held before = with_held held before
 
--- it is what the method of its name leaves
+-- a call that is given as a value leaves of a session what the method of its name leaves
 abbrev pub IsMadeAs : ℕ → List ℕ → SessionValue → SessionValue → Call → Seen → Type 0
 IsMadeAs opening opened before after (call.Create dir name mode) seen =
     IsCommittedBy opening before after (update.Create dir name mode) seen

@@ -38,10 +38,8 @@ AreOfSize block cells = AllByRecursion (λ (c : ℕ × CellValue). c.1.state.blo
 abbrev pub AreSettled : List (ℕ × CellValue) → Type 0
 AreSettled cells = AllByRecursion (λ (c : ℕ × CellValue). c.1.state.chain.tail ≡ length c.1.state.chain.entries) cells
 
--- why cells are not lent to a change: blocks of another size, or an entry past a tail.
--- What no type keeps is tested before a change, and such a test tells `Mismatch`: that blocks have the device's
--- size and no entry stands past a tail, that a name leads to an inode, that the cells take the book's next commit
--- and the CPU's journal is closed, that a record can be released.
+-- why cells are not lent to a change: blocks of another size, or an entry past a tail. No type
+-- keeps these, so they are tested before a change, and such a test tells `Mismatch`.
 abbrev pub RefusesCells : ℕ → List (ℕ × CellValue) → Fault → Type 0
 RefusesCells block cells refusal =
     ((refusal ≡ fault.Mismatch part.Lists) × (AreOfSize block cells → ⊥))
@@ -49,23 +47,32 @@ RefusesCells block cells refusal =
 
 -- a hand for blocks of that size, which holds none
 pub record IsFreeHand (block : ℕ) (hand : Hand) : Type 0 where
+  -- its data blocks are to have that size
   pub «data» : hand.«data».size ≡ block
+  -- its log pages are to have that size
   pub pages : hand.pages.size ≡ block
+  -- it has no block
   pub none : length (blocks_of hand) ≡ 0
 
--- a number is that of an empty slot among the cells, and in the hand of a call that makes an inode
+-- a number in the hand is that of an empty slot among the cells, and of a call that makes an inode
 abbrev pub FitsNumber : List (ℕ × CellValue) → Bool → Option ℕ → Type 0
 FitsNumber cells makes None = Unit {0}
 FitsNumber cells true (Some ino) = IsEmptySlot cells ino
 FitsNumber cells false (Some ino) = ⊥
 
--- a change passed its check over these cells, with such a hand: it commits something, and wants so many data blocks
+-- a change has passed its check over these cells, with such a hand
 pub record HasPassed (block : ℕ) (cells : List (ℕ × CellValue)) (hand : Hand) (u : Update) (wanted : ℕ) : Type 0 where
+  -- each cell has blocks of that size, and no entry past the tail
   pub still : AllByRecursion (λ (c : ℕ × CellValue). IsStill block c.1.state) cells
+  -- the hand is for blocks of that size, and holds none
   pub hand_is : IsFreeHand block hand
+  -- the hand has the number of an empty slot where an inode is made, and else none
   pub number : HasNumberFor cells (makes u) hand.ino
+  -- the plain world does not refuse the call over these nodes
   pub passed : refusal block (nodes_in cells) (blank_call u) ≡ passes
+  -- the call has something to commit
   pub something : is_nothing (blank_call u) ≡ false
+  -- the call takes so many data blocks
   pub wants : wanted ≡ blocks_taken block (nodes_in cells) (has_page_in cells) u
 
 -- whether the directories are there in which a call looks names up: of other calls this is not asked
@@ -75,7 +82,8 @@ directories_there nodes (update.Rmdir dir name) = is_some (kind_of (nodes dir))
 directories_there nodes (update.Rename from old to new) = is_some (kind_of (nodes from)) && is_some (kind_of (nodes to))
 directories_there nodes other = false
 
--- what is stale where they are is what a name leads to: that name does not fit, and the call's handles do
+-- a check that finds something stale, where the directories are there in which names are looked
+-- up: what is stale is what a name leads to, which is told as a `Mismatch` of names
 abbrev pub misnamed : Bool → CheckEnd → CheckEnd
 misnamed true (ends.Refuses fault.Stale) = ends.Refuses (fault.Mismatch part.Names)
 misnamed there end = end
@@ -94,11 +102,15 @@ EndsCheck block cells looked u hand end =
 abbrev pub AreSmall : List BlockValue → Type 0
 AreSmall blocks = AllByRecursion (λ (b : BlockValue). b.number < 2 ^ 32) blocks
 
--- a queue took so many blocks, each with a number below 2^32
+-- a queue took so many blocks, each with a number below 2 ^ 32
 pub record HasTaken (n : ℕ) (old new : QueueValue) : Type 0 where
+  -- it has so many blocks more
   pub count : length new.blocks ≡ length old.blocks + n
+  -- its blocks have the size that they had
   pub size : new.size ≡ old.size
+  -- it has room for so many fewer
   pub room : new.room ≡ old.room - n
+  -- where its blocks had numbers below 2 ^ 32, they still have
   pub small : AreSmall old.blocks → AreSmall new.blocks
 
 -- how many blocks the cells have
@@ -111,11 +123,15 @@ blocks_in cells = sum_by (λ (c : ℕ × CellValue). block_total c.1.state) cell
 abbrev pub AreWhole : List (ℕ × CellValue) → Type 0
 AreWhole cells = AllByRecursion (λ (c : ℕ × CellValue). IsCell c.1.state) cells
 
--- the cells of the same inodes, each at its version or the next one
+-- cells before and after a change: each is at its version or at the next one
 pub record MayBeRaised (old new : List (ℕ × CellValue)) : Type 0 where
+  -- there are as many as before
   pub count : length new ≡ length old
+  -- they are of the same inodes, in their order
   pub numbers : (k : ℕ) → ino_at new k ≡ ino_at old k
+  -- no cell is at a lower version
   pub least : (k : ℕ) → (state_at old k).version ≤ (state_at new k).version
+  -- no cell is more than one version higher
   pub most : (k : ℕ) → (state_at new k).version ≤ (state_at old k).version + 1
 
 -- no cell has another version than before
@@ -124,9 +140,13 @@ KeepVersions old new = (k : ℕ) → (state_at new k).version ≡ (state_at old 
 
 -- the cell of an inode is at its next version
 pub record IsRaised (old new : List (ℕ × CellValue)) (ino : ℕ) : Type 0 where
+  -- its place among the cells
   pub at : ℕ
+  -- that place is one of theirs
   pub within : at < length old
+  -- the cell there is that of the inode
   pub ino_is : ino_at old at ≡ ino
+  -- it has seen one commit more
   pub version : (state_at new at).version ≡ (state_at old at).version + 1
 
 -- ---- what it tells
@@ -147,29 +167,32 @@ abbrev pub published_by : Update → Option Handle → List Handle
 published_by u None = handles_of u
 published_by u (Some made) = handles_of u ++ made ∷ []
 
--- the receipt is that of the call, and has the handle of a new inode exactly where the call makes one
+-- the receipt is that of the call
 pub record IsReceiptOf (u : Update) (receipt : ReceiptValue) : Type 0 where
+  -- it tells the very call that was made
   pub call : receipt.update ≡ u
+  -- it has the handle of a new inode exactly where the call makes one
   pub made : is_some receipt.made ≡ makes u
 
--- the inode of each of them is at its next version
+-- the inode of each of these handles is at its next version
 abbrev pub AreRaised : List (ℕ × CellValue) → List (ℕ × CellValue) → List Handle → Type 0
 AreRaised old new handles = AllByRecursion (λ (h : Handle). IsRaised old new h.ino) handles
 
--- and of the inode of each of them a higher version was seen than before
+-- of the inode of each of these handles a higher version was seen than before
 abbrev pub HaveSeenHigher : List ℕ → List ℕ → List Handle → Type 0
 HaveSeenHigher before after handles = AllByRecursion (λ (h : Handle). slice_index before h.ino < slice_index after h.ino) handles
 
--- of the inodes that a commit is sure to publish each is at its next version, and of each a higher version was seen
+-- each inode that a commit is sure to publish is at its next version
 abbrev pub RaisesPublished : List (ℕ × CellValue) → List (ℕ × CellValue) → Update → ReceiptValue → Type 0
 RaisesPublished old new u receipt = AreRaised old new (published_by u receipt.made)
 
--- the session has seen a higher version of each inode that a receipt published
+-- of each inode that a commit is sure to publish the session has seen a higher version than before
 abbrev pub SeesPublished : List ℕ → List ℕ → Update → ReceiptValue → Type 0
 SeesPublished before after u receipt = HaveSeenHigher before after (published_by u receipt.made)
 
--- what a change that is overtaken hands back is the call, which looks names up; one that is answered has nothing to commit; one
--- that is refused may be
+-- the end of a change is of this call: where a name was bound anew, the call comes back, and looks
+-- names up; where it is answered, it has nothing to commit; where it is refused, it may be refused
+-- so
 abbrev pub IsOfCall : Update → ChangeEnd → Type 0
 IsOfCall call (BoundAnew back) = (back ≡ call) × (looks_up call ≡ true)
 IsOfCall call Answers = is_nothing (blank_call call) ≡ true

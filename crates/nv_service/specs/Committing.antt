@@ -18,13 +18,19 @@ use Rattle.nv_calls.specs.declared.update.Update.{Update}
 use Rattle.nv_cell.specs.Cell.{CellValue}
 use Rattle.nv_epoch.specs.SnapList.{ids}
 
--- a call was made ready over these cells
+-- a call was made ready over these cells, which have lost no room since
 pub record IsReadyOver (cells : List (ℕ × CellValue)) (ready : ReadyValue) : Type 0 where
+  -- the cells as they were when it was made ready
   pub before : List (ℕ × CellValue)
+  -- the hand as it was then
   pub hand : Hand
+  -- the change that it makes
   pub update : Update
+  -- it could be made ready over these cells, with this hand
   pub can : CanReady before hand update
+  -- the cells of now are these, with no less room
   pub room : HaveNoLessRoom before cells
+  -- what is ready was made of these
   pub is : IsReadyBy before hand update cells ready
 
 -- WHAT NO LOCKED VALUE'S TYPE KEEPS: each cell that gets entries takes the book's next commit
@@ -44,11 +50,11 @@ RefusesCommit book cells ready cpu refusal =
 abbrev pub next_commit : BookState → ReadyValue → CommitValue
 next_commit book ready = begun (next_stamp book) ready
 
--- the cells after it: those that get entries have them, and all others are as they were
+-- the cells after a commit: those that get entries have them, and all others are as they were
 abbrev pub CommitsCells : BookState → ReadyValue → List (ℕ × CellValue) → List (ℕ × CellValue) → Type 0
 CommitsCells book ready old new = ChangesPlanned ready.plans (committed (ids book.snaps) old (next_commit book ready)) old new
 
--- and the book
+-- the book after a commit
 abbrev pub after_commit : ℕ → List (ℕ × CellValue) → ReadyValue → BookState → BookState
 after_commit seat cells ready book = record (after_enter seat book) {
   manifests = manifests_after (ids book.snaps) book.snaps.epoch (killing cells (next_commit book ready)) (length ready.plans)

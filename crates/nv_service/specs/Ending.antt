@@ -11,9 +11,11 @@ use Rattle.nv_service.specs.Cleaning.{IsSettled}
 use Rattle.nv_service.specs.declared.cleaners.Manner.{Manner}
 use Rattle.nv_service.specs.declared.cleaners.Manner.TheVariants as manner
 
--- it holds no block and no number
+-- a hand that holds nothing
 pub record IsEmptyHand (hand : Hand) : Type 0 where
+  -- it has no block
   pub blocks : length (blocks_of hand) ≡ 0
+  -- it has no inode number
   pub number : hand.ino ≡ None
 
 -- the call of a cleaner of that manner
@@ -26,21 +28,24 @@ cleaner_of manner.Auto ino = snapshot_or_cleaner.Auto ino
 abbrev pub takes : FreeInodes → ℕ → Bool
 takes pool ino = nat_lt ino pool.inodes && not (has pool.numbers ino)
 
--- the pool with the number of a hand, where it takes it; and what is left over in the hand
+-- the pool with the number of a hand, where it takes it
 abbrev pub pool_with : FreeInodes → Option ℕ → FreeInodes
 pool_with pool None = pool
 pool_with pool (Some ino) =
     if takes pool ino then record pool { numbers = put_by (λ (n : ℕ). n) ino pool.numbers } else pool
 
--- a number that no pool takes back
+-- what is left of a number in the hand, where the pool does not take it
 abbrev pub left_over : FreeInodes → Option ℕ → Option ℕ
 left_over pool None = None
 left_over pool (Some ino) = if takes pool ino then None else Some ino
 
--- a cell can be cleaned: there is an inode, nothing is left to publish or to retire, and the blocks of cell and hand are of
--- that size
+-- a cell can be cleaned, with this hand
 pub record CanClean (block : ℕ) (cell : CellState) (hand : Hand) : Type 0 where
+  -- its log has an entry
   pub some : 0 < cell.chain.tail
+  -- nothing is left to publish or to retire
   pub settled : IsSettled cell
+  -- its blocks have the device's size
   pub size : cell.block ≡ block
+  -- the hand is for log pages of the device's size
   pub hand_size : hand.pages.size ≡ block

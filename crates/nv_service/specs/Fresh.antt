@@ -51,34 +51,44 @@ greater [] ys = ys
 greater (x ∷ xs) [] = x ∷ xs
 greater (x ∷ xs) (y ∷ ys) = max x y ∷ greater xs ys
 
--- an owner to a contract: its inode, and the inode's version
+-- what contracts see of the pass that owns an inode
 pub record Owned : Type 0 where
+  -- the inode that it owns
   pub ino : ℕ
+  -- the version of that inode, counted from the opening on
   pub version : ℕ
 
 -- ---- the rule
 
--- the version of each inode, and which pass owns it; which pass makes owners, and how many it has made
+-- how all passes stand at one moment
 pub record Standing : Type 0 where
+  -- the version of each inode, counted from the opening on
   pub version : ℕ → ℕ
+  -- the pass that owns each inode
   pub owned_by : ℕ → ℕ
+  -- the pass that makes owners
   pub maker : ℕ
+  -- how many owners it has made, one for each inode from 0 on
   pub made : ℕ
 
--- what one pass knows is so: there is one maker, an owner has its inode alone and at the inode's version, and no pass
--- has seen a higher version
+-- what one pass knows is so
 pub record Fits (s : Standing) (by : ℕ) (v : View) : Type 0 where
+  -- a pass that makes owners is the maker, and has counted those that it made
   pub makes : v.is_maker ≡ true → (by ≡ s.maker) × (v.made ≡ s.made)
+  -- a pass that owns an inode is the owner of that inode, at its version
   pub owns : v.is_owner ≡ true
       → (s.owned_by v.ino ≡ by) × (v.version ≡ s.version v.ino) × (v.ino < s.made)
+  -- no pass has seen a higher version of an inode than it has
   pub saw : (i : ℕ) → slice_index v.seen i ≤ s.version i
 
--- what each pass knows is so; an inode without an owner is at its first version.
--- Fresh: each inode has one pass that owns it at its version, and no pass has seen a higher one. It is the rule of
--- the freshness cell, and each move of a pass keeps it.
+-- FRESH: each inode has one pass that owns it at its version, and no pass has seen a higher one.
+-- It is the rule of the freshness cell, and each move of a pass keeps it.
 pub record AreFresh (words : List ℕ) (views : List View) : Type 0 where
+  -- how all passes stand
   pub standing : Standing
+  -- an inode whose owner is not made yet is at its first version
   pub unmade : (i : ℕ) → standing.made ≤ i → standing.version i ≡ 0
+  -- what each pass knows is so
   pub each : (by : ℕ) (v : View) → get_elem? views by ≡ some v → Fits standing by v
 
 -- ---- the moves
@@ -91,11 +101,11 @@ made_one v = record v { made = v.made + 1 }
 abbrev pub new_owner : View → View
 new_owner v = owner v.made 0 []
 
--- a note of what a pass has seen, and a note of the version at which an owner has its inode
+-- a note of what a pass has seen
 abbrev pub note : View → View
 note v = seer v.seen
 
--- the pass that has seen what an owner has
+-- a note of the version at which an owner has its inode
 abbrev pub own_note : View → View
 own_note v = seer (only_at v.ino v.version)
 

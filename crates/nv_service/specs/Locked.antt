@@ -2,15 +2,15 @@
 use Rattle.std.specs.Prelude.{ℕ, ◌+◌, List, slice_index}
 use Rattle.nv_cell.specs.Cell.{CellValue}
 
--- the number of an inode, and its cell.
--- A locked cell is the number of an inode and its cell. Beside it lie a share of as many blocks as the cell has,
+-- what contracts see of a locked cell. Beside it lie a share of as many blocks as the cell has,
 -- and the pass that owns the inode at the cell's version.
 pub record LockedValue : Type 0 where
+  -- the number of the inode
   pub ino : ℕ
+  -- the cell of that inode, with its room
   pub cell : CellValue
 
--- the version of an inode, of which this much was seen since the opening.
--- The version of an inode of which so much was seen is that at the opening and so many more. Example: with the
--- version 3 at the opening, a session that has seen 2 has seen the version 5.
+-- the version of an inode of which so much was seen since the opening. Example: with the version 3
+-- at the opening, a session that has seen 2 has seen the version 5.
 abbrev pub version_at : List ℕ → ℕ → ℕ → ℕ
 version_at opened ino seen = slice_index opened ino + seen

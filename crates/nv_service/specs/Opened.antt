@@ -13,7 +13,7 @@ version_of cell = cell.state.version
 abbrev pub versions_in : List CellValue → List ℕ
 versions_in cells = map version_of cells
 
--- how many blocks the cells have, and how many the free lists
+-- how many blocks a cell has
 abbrev pub blocks_at : CellValue → ℕ
 blocks_at cell = block_total cell.state
 

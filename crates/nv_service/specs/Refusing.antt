@@ -51,7 +51,8 @@ looks_up (update.Rmdir dir name) = true
 looks_up (update.Rename from old to new) = true
 looks_up other = false
 
--- what a write may meet beside: its text can't be read; a call that looks names up: other calls bind them anew, round after round
+-- what a change may meet beside its check: the text of a write can't be read; names are bound
+-- anew, round after round
 abbrev pub other_faults : Update → List Fault
 other_faults (update.Write file offset count) = fault.Read ∷ []
 other_faults (update.Unlink dir name) = fault.Contended ∷ []
@@ -63,15 +64,15 @@ other_faults other = []
 abbrev pub change_faults : Update → List Fault
 change_faults u = check_faults u ++ other_faults u ++ wants
 
--- what lies behind a lock is not as the call needs it: no type says all of it
+-- what lies behind a lock is not as the call needs it, which no type says: a `Mismatch`
 abbrev pub IsMisfit : Fault → Type 0
 IsMisfit why = (part : MismatchPart) × (why ≡ fault.Mismatch part)
 
--- or memory is wanted
+-- a misfit, or want of memory
 abbrev pub IsMisfitOrWant : Fault → Type 0
 IsMisfitOrWant why = IsMisfit why ⊎ (why ≡ out_of_memory)
 
--- THE REFUSALS OF A CALL, and no other
+-- THE REFUSALS OF A CALL that changes nodes, and no other
 abbrev pub MayRefuseChange : Update → Fault → Type 0
 MayRefuseChange u why = Contains (change_faults u) why ⊎ IsMisfit why
 
@@ -91,10 +92,9 @@ view_faults other = []
 abbrev pub MayRefuseView : Call → Fault → Type 0
 MayRefuseView c why = Contains (view_faults c) why ⊎ IsMisfit why
 
--- of any call, as a value.
--- What may refuse a call: a fault of the call's list, or a `Mismatch`. Example: the list of an `unlink` is `Stale`,
--- `NotDirectory`, `BadName`, `Missing`, `NotFile`, `Contended`, `NoSpace`, `OutOfMemory` and `CommitLimit`. So it
--- is never refused by `Exists`.
+-- WHAT MAY REFUSE A CALL: a fault of the call's list, or a `Mismatch`. Example: the list of an
+-- `unlink` is `Stale`, `NotDirectory`, `BadName`, `Missing`, `NotFile`, `Contended`, `NoSpace`,
+-- `OutOfMemory` and `CommitLimit`. So it is never refused by `Exists`.
 abbrev pub MayRefuse : Call → Fault → Type 0
 MayRefuse (call.Create dir name mode) why = MayRefuseChange (update.Create dir name mode) why
 MayRefuse (call.Mkdir dir name mode) why = MayRefuseChange (update.Mkdir dir name mode) why
@@ -109,23 +109,24 @@ MayRefuse view why = MayRefuseView view why
 
 -- ---- the way there
 
--- a change that passed its check may be refused so, and its text was read
+-- a change that has passed its check, and whose text was read, may be refused so
 abbrev pub IsWant : Fault → Type 0
 IsWant why = Contains wants why ⊎ IsMisfit why
 
--- how a look or a check may refuse: by the nodes, by a misfit, and never for want of anything
+-- a look or a check may refuse so: by the nodes, or by a misfit, and never for want of anything
 abbrev pub MayRefuseCheck : Update → Fault → Type 0
 MayRefuseCheck u why = Contains (check_faults u) why ⊎ IsMisfit why
 
--- how a round may be refused: by its check, by a want, by a misfit
+-- a round may be refused so: by its check, by a want, or by a misfit
 abbrev pub MayRefuseRound : Update → Fault → Type 0
 MayRefuseRound u why = Contains (check_faults u) why ⊎ IsWant why
 
--- or by a failed read of its text
+-- a round may end so: refused, or by a failed read of its text
 abbrev pub MayEnd : Update → Fault → Type 0
 MayEnd u why = MayRefuseRound u why ⊎ (why ≡ fault.Read)
 
--- and how the call may: also where its last round was overtaken
+-- a call may end so: as a round may, or by `Contended` where a name was bound anew in the last
+-- round too
 abbrev pub MayGiveUp : Update → Fault → Type 0
 MayGiveUp u why = MayEnd u why ⊎ ((why ≡ fault.Contended) × (looks_up u ≡ true))
 

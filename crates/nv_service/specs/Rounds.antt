@@ -11,12 +11,12 @@ use Rattle.nv_service.specs.declared.change.ChangeEnd.{ChangeEnd}
 use Rattle.nv_service.specs.declared.rounds.RoundEnd.{RoundEnd}
 use Rattle.nv_service.specs.declared.rounds.RoundEnd.TheVariants.{Ends, BoundAnew}
 
--- how a change over held cells ends: by its receipt, or with the session as it was
+-- a change over held cells ends by its receipt, or with the session as it was
 abbrev pub IsEndedBy : ℕ → SessionValue → SessionValue → Update → Result ReceiptValue ChangeEnd → Type 0
 IsEndedBy opening before after u (Ok receipt) = (is_nothing (blank_call u) ≡ false) × HasReceipt opening before after u receipt
 IsEndedBy opening before after u (Err end) = (after ≡ before) × IsOfCall u end
 
--- how a round ends: as the call does, or with the call as it was
+-- a round ends as the call does, or with session and call as they were
 abbrev pub IsRoundOf : ℕ → SessionValue → SessionValue → Update → RoundEnd → Type 0
 IsRoundOf opening before after u (Ends (Ok seen)) = IsChangedBy opening before after u seen
 IsRoundOf opening before after u (Ends (Err fault)) = (after ≡ before) × MayEnd u fault

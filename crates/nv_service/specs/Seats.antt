@@ -7,8 +7,9 @@ use Rattle.nv_service.specs.Sessions.{SessionValue, nothing_held}
 abbrev pub new_session : ℕ → SessionValue
 new_session number = record { number = number; commits = 0; snapped = 0; seen = []; held = nothing_held }
 
--- the sessions of so many seats, by number: as many, and each seat's once.
--- The seats of sessions: as many sessions as were given out, and each seat's number once.
+-- THE SEATS OF SESSIONS, of which so many were given out
 pub record AreSeats (seats : ℕ) (numbers : List ℕ) : Type 0 where
+  -- there are as many sessions
   pub count : length numbers ≡ seats
+  -- each seat's number stands there once
   pub each : (n : ℕ) → n < seats → times n numbers ≡ 1

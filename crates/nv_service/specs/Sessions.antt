@@ -19,39 +19,46 @@ use Rattle.nv_service.specs.declared.giving_back.Giving.{Giving}
 use Rattle.nv_service.specs.declared.seen.Seen.{Seen}
 use Rattle.nv_service.specs.declared.seen.Seen.TheVariants as seen
 
--- what a hand holds: how many blocks, and whether an inode number; and whether a list or the pool, which was asked for what is
--- left of it, has not taken that
+-- what contracts see of a session's hand
 pub record HeldValue : Type 0 where
+  -- how many blocks it has
   pub blocks : ℕ
+  -- whether it has an inode number
   pub number : Bool
+  -- whether a list or the pool was asked for what is left of it, and has not taken that
   pub refused : Bool
 
+-- what a hand holds, where its giving back went so
 abbrev pub held_by : Hand → Giving → HeldValue
 held_by hand giving = record { blocks = length (blocks_of hand); number = is_some hand.ino; refused = giving.refused }
 
+-- an empty hand, of which nothing was refused
 abbrev pub nothing_held : HeldValue
 nothing_held = record { blocks = 0; number = false; refused = false }
 
--- the hand holds nothing, except where it was refused
+-- the hand is empty, except where something of it was refused
 abbrev pub IsGivenBack : HeldValue → Type 0
 IsGivenBack held = held.refused ≡ false → (held.blocks ≡ 0) × (held.number ≡ false)
 
--- the number of its seat, its commits since the opening, its makings and drops of snapshots since, and the versions that it
--- has seen, by inode, counted from the opening on.
--- A session has the number of its seat, how many commits it has made since the opening, how many snapshots it has
--- made and dropped since, the versions that it has seen, and what its hand holds.
+-- what contracts see of a session
 pub record SessionValue : Type 0 where
+  -- the number of its seat
   pub number : ℕ
+  -- how many commits it has made since the opening
   pub commits : ℕ
+  -- how many snapshots it has made and dropped since, together
   pub snapped : ℕ
+  -- the version that it has seen of each inode, counted from the opening on
   pub seen : List ℕ
+  -- what its hand holds
   pub held : HeldValue
 
--- the same, but for what its hand holds
+-- the session with this in its hand
 abbrev pub with_held : HeldValue → SessionValue → SessionValue
 with_held held session = record session { held = held }
 
--- that of a seat with so many commits, which has seen these versions, made and dropped no snapshot and holds nothing
+-- the session of a seat with so many commits, which has seen these versions, made and dropped no
+-- snapshot and holds nothing
 abbrev pub at_seat : ℕ → ℕ → List ℕ → SessionValue
 at_seat number commits seen = record { number = number; commits = commits; snapped = 0; seen = seen; held = nothing_held }
 
@@ -77,29 +84,32 @@ answer_of (seen.Other answer) = answer
 
 -- ---- calls that change nodes
 
--- the receipt is that of the call, with the handle of the inode that it makes, if it makes one; its commit counts as one of the
--- session's; of the inode of each handle that the call names or makes a higher version is seen, and of none a lower one.
--- `opening` is the number of the last commit at the opening
+-- A CHANGE HAS ITS RECEIPT, where `opening` is the number of the last commit at the opening
 pub record HasReceipt (opening : ℕ) (before after : SessionValue) (u : Update) (receipt : ReceiptValue) : Type 0 where
+  -- the receipt tells the very call that was made
   pub call : receipt.update ≡ u
+  -- it has the handle of a new inode exactly where the call makes one
   pub made : is_some receipt.made ≡ makes u
+  -- the session has one commit more
   pub counted : after.commits ≡ before.commits + 1
+  -- the commit's number is at least that at the opening and the session's commits
   pub number : opening + after.commits ≤ receipt.stamp.commit
+  -- of the inode of each handle that the call names or makes a higher version is seen
   pub higher : SeesPublished before.seen after.seen u receipt
+  -- of no inode a lower version is seen than before
   pub kept : (i : ℕ) → slice_index before.seen i ≤ slice_index after.seen i
+  -- the session has made and dropped no more snapshots
   pub snapped : after.snapped ≡ before.snapped
+  -- the session has the same seat
   pub seat : after.number ≡ before.number
 
--- the session has committed this very call.
--- Committed by a session: its call gave a receipt of that very call, with the handle of a new inode exactly where
--- the call makes one. The session has one commit more. The receipt's number is at least that at the opening and the
--- session's commits. Of the inode of each handle that the call names or makes a higher version was seen than
--- before, and of no inode a lower one.
+-- COMMITTED BY A SESSION: its call gave a receipt of that very call
 abbrev pub IsCommittedBy : ℕ → SessionValue → SessionValue → Update → Seen → Type 0
 IsCommittedBy opening before after u (seen.Committed receipt) = HasReceipt opening before after u receipt
 IsCommittedBy opening before after u other = ⊥
 
--- a call that commits nothing is answered, and leaves the session as it was, but for what its hand holds; any other is committed
+-- a call that commits nothing is answered, and leaves the session as it was, except for what its
+-- hand holds; any other gave its receipt
 abbrev pub IsChangedBy : ℕ → SessionValue → SessionValue → Update → Seen → Type 0
 IsChangedBy opening before after u (seen.Viewed view) = ⊥
 IsChangedBy opening before after u (seen.Committed receipt) =
@@ -113,21 +123,26 @@ IsChangedBy opening before after u (seen.Other answer) =
 abbrev pub IsFoundAt : ℕ → Call → View → Type 0
 IsFoundAt version c view = (view.call ≡ c) × (view.version ≡ version)
 
--- the view is that of the call, of no older version than was seen, and that version is seen from then on; of all other
--- inodes what was seen stays
+-- A READ HAS ITS VIEW, where `opened` has the versions of all inodes at the opening
 pub record HasView (opened : List ℕ) (before after : SessionValue) (ino : ℕ) (c : Call) (view : View) : Type 0 where
+  -- the view tells the very call that was made
   pub call : view.call ≡ c
+  -- it is of no older version of the inode than the session has seen
   pub no_older : version_at opened ino (slice_index before.seen ino) ≤ view.version
+  -- the session has seen that version from then on
   pub seen : version_at opened ino (slice_index after.seen ino) ≡ view.version
+  -- of all other inodes it has seen what it had
   pub elsewhere : (i : ℕ) → i ≢ ino → slice_index after.seen i ≡ slice_index before.seen i
+  -- it has no more commits
   pub commits : after.commits ≡ before.commits
+  -- it has made and dropped no more snapshots
   pub snapped : after.snapped ≡ before.snapped
+  -- it has the same seat
   pub seat : after.number ≡ before.number
+  -- its hand holds what it held
   pub held : after.held ≡ before.held
 
--- the session has read this very call's inode.
--- Viewed by a session: its call gave a view of that very call. The view is of no older version than was seen, and
--- that version is seen from then on.
+-- VIEWED BY A SESSION: its call gave a view of that very call
 abbrev pub IsViewedBy : List ℕ → SessionValue → SessionValue → ℕ → Call → Seen → Type 0
 IsViewedBy opened before after ino c (seen.Viewed view) = HasView opened before after ino c view
 IsViewedBy opened before after ino c other = ⊥

@@ -5,24 +5,29 @@ use Rattle.nv_alloc.specs.FreeList.{FreeBlocks}
 use Rattle.nv_cell.specs.Cell.{CellValue, block_total}
 use Rattle.nv_service.specs.Locked.{version_at}
 
--- the slot that a cell was taken out of, the number of its inode, how many blocks the share beside it has, and the version
--- at which the inode's owner owns it
+-- what contracts see of what lies beside a cell that is out of its lock
 pub record BesideCellValue : Type 0 where
+  -- the slot out of whose lock the cell was taken
   pub slot : ℕ
+  -- the number of its inode
   pub ino : ℕ
+  -- how many blocks its share says that the cell has
   pub blocks : ℕ
+  -- the version at which the inode's owner has it
   pub version : ℕ
 
--- what the share and the owner of a cell say of it
+-- what is told of a cell, by what lies beside it or by itself
 pub record Told : Type 0 where
+  -- how many blocks the cell has
   pub blocks : ℕ
+  -- how many commits the cell has seen
   pub version : ℕ
 
--- what lay beside a cell tells of it: its blocks and its version
+-- what lay beside a cell tells of it
 abbrev pub rest_told : BesideCellValue → Told
 rest_told rest = record { blocks = rest.blocks; version = rest.version }
 
--- what a cell tells: its blocks and its version
+-- what a cell tells of itself
 abbrev pub cell_told : CellValue → Told
 cell_told cell = record { blocks = block_total cell.state; version = cell.state.version }
 
@@ -34,15 +39,14 @@ list_told list = length list.blocks
 abbrev pub IsKnown : List ℕ → List ℕ → BesideCellValue → Type 0
 IsKnown opened seen rest = version_at opened rest.ino (slice_index seen rest.ino) ≤ rest.version
 
--- all slots, each at its place
+-- the slot out of whose lock a cell was taken
 abbrev pub slot_of : BesideCellValue → ℕ
 slot_of rest = rest.slot
 
--- All slots: what lay beside cells is in the order of the slots that they were taken out of.
+-- what lay beside cells is in the order of their slots, and of each slot
 abbrev pub AreAllSlots : List BesideCellValue → Type 0
 AreAllSlots rests = map slot_of rests ≡ range_with_len 0 (length rests)
 
--- each cell came out of the lock of its inode's slot.
--- In place: each cell was taken out of the slot of its own inode.
+-- IN PLACE: each cell was taken out of the lock of its own inode's slot
 abbrev pub AreInPlace : List BesideCellValue → Type 0
 AreInPlace rests = (slot : ℕ) (d : BesideCellValue) → slot < length rests → (slice_index_or rests slot d).ino ≡ slot

@@ -20,7 +20,7 @@ AllTaken threads lines input left old new gathered world =
     (f : Fork) × Forks input f [] × IsAtEnd left × WritesFront old new f.text gathered × ShowsAny world (Some f.world)
     × (lists_of lines ≡ shares_of threads (calls_in f.behind))
 
--- the same, or the script has ended
+-- all lines behind `fork` were taken, or the script has ended
 abbrev pub ReadsForked : (threads : ℕ) → Result ForkedLines Fault → (input left old new : Option (List ℕ)) → List ℕ → Option WorldState
     → Type 0
 ReadsForked threads (Ok lines) input left old new gathered world = AllTaken threads lines input left old new gathered world

@@ -28,12 +28,11 @@ call_read _ = []
 abbrev pub calls_on : List ℕ → List ForkedCall
 calls_on line = if is_skipped line then [] else call_read (forked_of (words_of line))
 
--- those of all these lines, in their order
+-- the calls of these lines behind `fork`, in their order
 abbrev pub calls_in : List (List ℕ) → List ForkedCall
 calls_in lines = flat_map calls_on lines
 
--- THE CALLS OF EACH THREAD: thread `t` makes those of the actors whose number is `t` modulo the number of threads, in the
--- order of their lines
+-- a thread makes the calls of the actors whose number is its own modulo the number of threads
 abbrev pub is_own : (threads thread : ℕ) → ForkedCall → Bool
 is_own threads thread forked = (forked.actor % threads) == thread
 
@@ -41,14 +40,12 @@ is_own threads thread forked = (forked.actor % threads) == thread
 abbrev pub share_of : (threads : ℕ) → List ForkedCall → (thread : ℕ) → List ForkedCall
 share_of threads calls thread = filter (is_own threads thread) calls
 
--- The calls of each thread, of all calls behind `fork`: thread `t` has those of the actors whose number is `t`
--- modulo the number of threads, in the order of their lines. Example: of calls by the actors 0, 1, 2 and 0, two
--- threads have the first, third and fourth, and the second.
+-- THE CALLS OF EACH THREAD, in the order of their lines. Example: of calls by the actors 0, 1, 2
+-- and 0, two threads have the first, third and fourth, and the second.
 abbrev pub shares_of : (threads : ℕ) → List ForkedCall → List (List ForkedCall)
 shares_of threads calls = map (share_of threads calls) (range_with_len 0 threads)
 
--- one call more stands at the end of its thread's.
--- A call that is added stands at the end of its thread's.
+-- the lists of calls, with one call more at the end of its thread's
 abbrev pub with_call : List (List ForkedCall) → ForkedCall → List (List ForkedCall)
 with_call lists forked =
     let thread = forked.actor % length lists in
@@ -70,9 +67,8 @@ reply_by (Ok answer) = Done answer
 reply_by (Err why) = Refused why
 
 -- a call of an actor that the world does not have is refused; what another is answered is open.
--- A call of an actor that the world does not have is refused, and no definition tells what another is answered.
--- Example: a thread 1 with two calls, of which the second is of an actor 7 among three, has the text `1: done 4`,
--- `1: refused E23 NoActor`.
+-- Example: a thread 1 with two calls, of which the second is of an actor 7 among three, has the
+-- text `1: done 4`, `1: refused E23 NoActor`.
 abbrev pub IsAnswered : (actors : ℕ) → ForkedCall → Told → Type 0
 IsAnswered actors forked told = actors ≤ forked.actor → told ≡ Err fault.NoActor
 
@@ -80,9 +76,8 @@ IsAnswered actors forked told = actors ≤ forked.actor → told ≡ Err fault.N
 abbrev pub answer_line : (thread : ℕ) → Told → List ℕ
 answer_line thread told = decimal thread ++ codes ": " ++ reply_line (reply_by told)
 
--- THE TEXT OF A THREAD: one answer for each of its calls, in their order.
--- The text of a thread has one answer for each of its calls, in their order, behind the thread's number and a
--- colon.
+-- THE TEXT OF A THREAD: one answer for each of its calls, in their order, behind the thread's
+-- number and a colon
 abbrev pub IsThreadText : (actors : ℕ) → ℕ × List ForkedCall → List ℕ → Type 0
 IsThreadText actors share text =
     (answers : List Told) × AllZip (IsAnswered actors) share.1 answers × (text ≡ flat_map (answer_line share.0) answers)

@@ -16,8 +16,7 @@ use Rattle.nv_script.specs.Play.{EndsAfter, EndsBy, IsFaultBy, LineFails, PlaysA
 use Rattle.nv_script.specs.Words.{words_of}
 use Rattle.nv_work.specs.Threads.{AreThreadTexts, calls_in, forked_of, shares_of}
 
--- the first word of a line is `fork`.
--- The lines before `fork` are played as above, and their text is written.
+-- the first word of a line is `fork`
 abbrev pub is_fork : List ℕ → Bool
 is_fork line = not (is_skipped line) && bytes_eq (word_at (words_of line) 0) (codes "fork")
 
@@ -26,7 +25,7 @@ abbrev pub fork_fault : Bool → List ℕ → Option ScriptFaultKind
 fork_fault false line = Some kind.Order
 fork_fault true line = if nat_lt 1 (length (words_of line)) then Some kind.Count else None
 
--- the fault of a line, as long as none was `fork`
+-- the fault of a line, as long as no line before it was `fork`
 abbrev pub FrontFails : Bool → List ℕ → ScriptFaultKind → Type 0
 FrontFails made line why = MatchBool (is_fork line) (fork_fault made line ≡ Some why) (LineFails made line why)
 
@@ -34,53 +33,61 @@ FrontFails made line why = MatchBool (is_fork line) (fork_fault made line ≡ So
 abbrev pub ForkedFails : List ℕ → ScriptFaultKind → Type 0
 ForkedFails line why = (is_skipped line ≡ false) × (forked_of (words_of line) ≡ Err why)
 
--- a line behind `fork` without a fault.
--- Each line behind it is skipped or a `do`. Example: a format, `fork` and `tree` write `formatted`, and the fault
--- is `word` at line 3. It ends well once all lines were read, where no actor has a call at `fork`.
+-- a line behind `fork` without a fault: it is skipped, or a `do`. Example: a format, `fork` and
+-- `tree` write `formatted`, and the fault is `word` at line 3.
 abbrev pub IsForked : List ℕ → Type 0
 IsForked line = IsLine line × ((is_skipped line ≡ true) ⊎ IsOk (forked_of (words_of line)))
 
--- a script up to some line behind `fork`: the lines before `fork`, their text and the world after them; the line `fork`, and those
--- behind it
+-- a script up to some line behind `fork`
 pub record Fork : Type 0 where
+  -- the lines before `fork`
   pub front : List (List ℕ)
+  -- the text that they write
   pub text : List ℕ
+  -- the world to which they lead
   pub world : World
+  -- the line `fork`
   pub line : List ℕ
+  -- the lines behind it
   pub behind : List (List ℕ)
 
 -- the lines of a script with a `fork`
 abbrev pub lines_in : Fork → List (List ℕ)
 lines_in f = f.front ++ f.line ∷ f.behind
 
--- the lines before `fork` were played, and it and those behind it have no fault
+-- the lines of a script with a `fork` have no fault
 pub record IsFork (f : Fork) : Type 0 where
+  -- from no world on those before `fork` write this text, and lead to this world
   pub plays : PlaysAll machine_player None f.front f.text (Some f.world)
+  -- the line `fork` has at most 4,096 bytes and no line end
   pub lawful : IsLine f.line
+  -- its first word is `fork`
   pub is : is_fork f.line ≡ true
+  -- the line has no other word
   pub right : fork_fault true f.line ≡ None
+  -- each line behind it is skipped, or a `do` without a fault
   pub forked : All IsForked f.behind
 
 -- the input begins with such lines
 pub record Forks (input : Option (List ℕ)) (f : Fork) (rest : List ℕ) : Type 0 where
+  -- they have no fault
   pub is : IsFork f
+  -- where the reader's bytes are known, they are these lines, each with its end, and the rest
   pub split : IfSome input (λ bytes. bytes ≡ ended (lines_in f) ++ rest)
+  -- they are no more than a script may have
   pub few : length (lines_in f) ≤ most_lines
 
 -- `fork` was read, and the text of the lines before it was written
 abbrev pub EndsForked : (input : Option (List ℕ)) → (List ℕ → Type 0) → (Fork → List ℕ → Type 0) → Type 0
 EndsForked input Writes Also = (f : Fork) × (rest : List ℕ) × Forks input f rest × Also f rest × Writes f.text
 
--- no actor has a call at `fork`, and each call behind it has its answer, thread by thread.
--- Then the texts of all threads stand in the order of their numbers, and behind them the reports on the world after
--- threads.
+-- no actor has a call at `fork`, and each call behind it has its answer in the text of its thread
 abbrev pub AreAnswersTo : (threads : ℕ) → Fork → List (List ℕ) → Type 0
 AreAnswersTo threads f texts =
     (¬ IsBusy f.world) × AreThreadTexts f.world.numbers.actors (shares_of threads (calls_in f.behind)) texts
 
--- two texts are alike as far as both go.
--- What is written then begins as the answers do. Example: of the answers `0: done 4` and `1: done 4` the first
--- alone.
+-- two texts are alike as far as both go. Example: the answers `0: done 4` and `1: done 4`, and the
+-- first alone.
 abbrev pub BeginAlike : List ℕ → List ℕ → Type 0
 BeginAlike one other = (rest more : List ℕ) × (one ++ rest ≡ other ++ more)
 
@@ -94,12 +101,13 @@ abbrev pub Reported : World → List ℕ → Type 0
 Reported m reports = (n : Option World)
     × PlaysAll machine_player (Some m) (codes "tree" ∷ codes "snaps" ∷ codes "audit" ∷ []) reports n
 
--- THE WORLD AFTER THREADS: events lead to it, its numbers are those of the world at `fork`, and no commit is lost.
--- Events lead to that world from a start, its numbers are those of the world at `fork`, and its last commit is not
--- below that world's.
+-- THE WORLD AFTER THREADS, beside the one at `fork`
 pub record FollowsFork (fork m : World) : Type 0 where
+  -- events lead to it from a start
   pub run : HasRun m
+  -- its device has the numbers of the other
   pub numbers : m.numbers ≡ fork.numbers
+  -- no commit of the other is lost: its last one has no lower number
   pub commit : fork.shared.book.commit ≤ m.shared.book.commit
 
 -- all lines were read, each call behind `fork` was answered, and then the world after threads was reported on
@@ -130,7 +138,8 @@ EndsBefore (fault.OutOfMemory witness) input left Writes =
     EndsBy machine_player (fault.OutOfMemory witness) input left Writes ⊎ EndsForked input Writes (λ f rest. Unit {0})
 EndsBefore _ input left Writes = ⊥
 
--- and how it ends among its answers or its reports: by a failed write, or for want of memory
+-- how such a script ends among its answers or its reports: by a failed write, or for want of
+-- memory
 abbrev pub EndsAmong : (threads : ℕ) → Fault → (input : Option (List ℕ)) → (List ℕ → Type 0) → Type 0
 EndsAmong threads fault.Write input Writes = EndsThreads threads input Writes
 EndsAmong threads (fault.OutOfMemory witness) input Writes = EndsThreads threads input Writes
@@ -146,7 +155,6 @@ abbrev pub Works : (threads : ℕ) → Result (Unit {0}) Fault → (input left :
 Works threads (Ok done) input left Writes = EndsReported threads input Writes × IsAtEnd left
 Works threads (Err why) input left Writes = WorksBy threads why input left Writes
 
--- the same, where the writer has this at first and is left with that.
--- How a script ends that threads play.
+-- HOW A SCRIPT ENDS THAT THREADS PLAY, where the writer has this at first and is left with that
 abbrev pub WorksScript : (threads : ℕ) → Result (Unit {0}) Fault → (input left old new : Option (List ℕ)) → Type 0
 WorksScript threads result input left old new = Works threads result input left (λ text. Appends old new text)

@@ -39,7 +39,7 @@ ReadsForkedLine (Err line_fault.Write) line = ⊥
 ReadsForkedLine (Err (line_fault.Faulty why)) line = ForkedFails line why
 ReadsForkedLine (Err (line_fault.OutOfMemory witness)) line = Unit {0}
 
--- what is wrong with a line before `fork`, or with that line
+-- what is wrong with a line before `fork`, or with the line `fork`
 abbrev pub FrontFaultIs : LineFault → Sent → Sent → Option machine.World → List ℕ → Type 0
 FrontFaultIs (line_fault.Faulty why) old new m line = FrontFails (is_some m) line why × (new ≡ old)
 FrontFaultIs line_fault.Write old new m line = LineFaultIs line_fault.Write old new m line
@@ -58,12 +58,17 @@ abbrev pub failed_in_front : Result Bool LineFault → ℕ
 failed_in_front (Err line_fault.Write) = 1
 failed_in_front _ = 0
 
--- before the line with a number: `fork` and the lines up to here were taken
+-- what holds before the line with a number, behind `fork`
 pub record AtFork (input known old new : Option (List ℕ)) (gathered : List ℕ) (number : ℕ) (f : Fork) : Type 0 where
+  -- the lines up to here have no fault
   pub is : IsFork f
+  -- the number is that of the next line
   pub count : length (lines_in f) + 1 ≡ number
+  -- they are no more than a script may have
   pub few : length (lines_in f) ≤ most_lines
+  -- they were taken from the reader, each with its end
   pub taken : Consumes input known (ended (lines_in f))
+  -- the text of those before `fork` was written, except for its end, which is gathered
   pub written : WritesFront old new f.text gathered
 
 -- the lines up to `fork` were taken and played, or the script has ended
@@ -80,9 +85,11 @@ RefusesThreads (fault.Mismatch part) m = ¬ IsBusy m
 RefusesThreads (fault.OutOfMemory witness) m = Unit {0}
 RefusesThreads _ m = ⊥
 
--- a service closed into a world with the numbers of the one that it opened on, and no commit is lost
+-- a service that opened on a world has closed into another
 pub record ClosesAfter (opened closed : WorldState) : Type 0 where
+  -- its device has the numbers of the first
   pub numbers : closed.shared.geometry.numbers ≡ opened.shared.geometry.numbers
+  -- no commit of the first is lost: the last one has no lower number
   pub commit : opened.shared.book.state.commit ≤ closed.shared.book.state.commit
 
 -- a text was sent; or something that begins alike, and then a write of it failed, or memory was refused

@@ -29,8 +29,8 @@ replaced_refusal nodes moved None = passes
 replaced_refusal nodes moved (Some other) =
     want_node (kind_of (nodes other)) (refuse_if (is_directory moved || is_directory (kind_of (nodes other))) fault.Exists passes)
 
--- the tests before the names are compared with what the looks found: all of the first name, and of the second all
--- but that it is bound
+-- the tests before the names are compared with what the looks found: all of the first name, and of
+-- the second all except that it is bound
 abbrev pub rename_early : (Handle → Option NodeCopy) → Handle → List ℕ → Handle → List ℕ → Check
 rename_early nodes from old to new = and_then (lookup_refusal nodes from old) (want_directory (kind_of (nodes to)) (want_lawful new passes))
 
@@ -85,7 +85,9 @@ abbrev pub bound_plan : Handle → List ℕ → Handle → List ℕ → Option H
 bound_plan from old to new None other = []
 bound_plan from old to new (Some moved) other = move_plan (same_handle from to) from old to new moved (replaced_plan other)
 
--- what a `rename` appends: nothing where it goes to its own place
+-- what a `rename` appends: nothing where it goes to its own place.
+-- Example: `x` in the directory 1.1 is bound to 2.1, and is renamed to `x` in the root. The name
+-- leaves 1.1, and goes last in the root. The plan is Unbind{x} for 1.1 and Bind{x, 2.1} for 0.1.
 abbrev pub rename_plan : Handle → List ℕ → Handle → List ℕ → LookupResult → List InodePlan
 rename_plan from old to new looked =
     if own_place from old to new then [] else bound_plan from old to new looked.first looked.second

@@ -35,11 +35,14 @@ size_effect file size = change file (option_map (resized_node size)) ∷ []
 abbrev pub cuts_page : ℕ → ℕ → Bool → List ℕ → Bool
 cuts_page block size present bytes = nat_lt size (length bytes) && not (size % block == 0) && present
 
--- one block for a page that is cut
+-- how many data blocks a `size` takes: one for a page that it cuts
 abbrev pub size_blocks : ℕ → (Handle → Option NodeCopy) → Handle → ℕ → Bool → ℕ
 size_blocks block nodes file size present = if cuts_page block size present (bytes_of (nodes file)) then 1 else 0
 
--- what a `size` appends: the last page with zeros past the size, and the size
+-- what a `size` appends: the page that is cut, with zeros past the size, and the size.
+-- Example, with blocks of 4 bytes: a size of 5 for a file of 10 bytes takes one block for page 1.
+-- The block gets the byte at 4 and three zeros. The plan is Write{first 1, that block, size 5} and
+-- then SetSize{5}. A size of 12 afterwards plans SetSize{12} alone.
 abbrev pub size_plan : ℕ → Handle → ℕ → List BlockRun → List InodePlan
 size_plan block file size runs = planned file (write_items (size / block) runs size ++ SetSize size ∷ []) ∷ []
 
@@ -47,7 +50,9 @@ size_plan block file size runs = planned file (write_items (size / block) runs s
 abbrev pub IsCutPage : (ℕ → List ℕ) → ℕ → ℕ → List ℕ → BlockRun → Type 0
 IsCutPage bytes block size before run = (run.len ≡ 1) × (bytes run.start ≡ page_of block (size / block) (resized size before))
 
--- where a page is cut, there is one run with it, and else none
+-- the block run for a page that a size cuts
 pub record HaveCut (bytes : ℕ → List ℕ) (block size : ℕ) (present : Bool) (before : List ℕ) (runs : List BlockRun) : Type 0 where
+  -- there is one run where a page is cut, and else none
   pub count : length runs ≡ (if cuts_page block size present before then 1 else 0)
+  -- the run is one block, with the page as it is after the cut
   pub filled : AllByRecursion (IsCutPage bytes block size before) runs

@@ -12,7 +12,7 @@ use Rattle.nv_calls.specs.declared.plan.InodePlan.{InodePlan}
 use Rattle.nv_calls.specs.Plan.{planned}
 use Rattle.nv_calls.specs.Refusals.{Check, bytes_of, kind_of, passes, refuse_if, want_file}
 
--- so many bytes, at least one
+-- what a `write` of so many bytes is refused for, at least one
 abbrev pub count_refusal : ℕ → ℕ → ℕ → Check
 count_refusal block offset count =
     refuse_if (nat_lt WRITE_PAGES (pages_touched block offset count)) fault.WriteTooBig
@@ -32,12 +32,12 @@ abbrev pub write_effect : Handle → ℕ → List ℕ → List Change
 write_effect file offset [] = []
 write_effect file offset (byte ∷ rest) = change file (option_map (rewritten offset (byte ∷ rest))) ∷ []
 
--- one block for each page that the text touches
+-- how many data blocks a `write` takes: one for each page that its text touches
 abbrev pub write_blocks : ℕ → ℕ → List ℕ → ℕ
 write_blocks block offset [] = 0
 write_blocks block offset (byte ∷ rest) = pages_touched block offset (length (byte ∷ rest))
 
--- one item for each run of them, with the size of the file after the whole call
+-- what a `write` appends: an item for each block run, with the file's size after the whole call
 abbrev pub write_plan : ℕ → (Handle → Option NodeCopy) → Handle → ℕ → List ℕ → List BlockRun → List InodePlan
 write_plan block nodes file offset [] runs = []
 write_plan block nodes file offset (byte ∷ rest) runs =
