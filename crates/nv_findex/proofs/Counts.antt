@@ -71,12 +71,12 @@ runs_all p a (r ∷ rs) h = sum_by-cons _ r rs ∙ rw (lt-ltb 0 r.end (omega (ar
 pub run_count_is : (rs : List PageRun) → AreRuns rs → run_count_of rs ≡ length rs
 run_count_is rs h = count_from _ _ runs_counted 0 65536 rs h (omega arith) ∙ runs_all 0 None rs h
 
-past_drop : (p n : ℕ) (rs : List PageRun) → IsBorder p n rs → pages_past p (drop n rs) ≡ pages_past p rs
+pub past_drop : (p n : ℕ) (rs : List PageRun) → IsBorder p n rs → pages_past p (drop n rs) ≡ pages_past p rs
 unfolding IsBorder
 past_drop p zero rs b = refl
 past_drop p (suc n) [] b = refl
 past_drop p (suc n) (r ∷ rs) b =
     past_drop p n rs b.1 ∙ omega (arith, b.0, sum_by-cons (λ (x : PageRun). x.end - max x.first p) r rs)
 
-pub present_is : (p n : ℕ) (rs : List PageRun) → AreRuns rs → IsBorder p n rs → present_from p rs ≡ pages_past p (drop n rs)
-present_is p n rs h b = count_from _ _ pages_counted p (65536 - p) rs h (omega arith) ∙ sym (past_drop p n rs b)
+pub present_is : (p : ℕ) (rs : List PageRun) → AreRuns rs → present_from p rs ≡ pages_past p rs
+present_is p rs h = count_from _ _ pages_counted p (65536 - p) rs h (omega arith)

@@ -1,8 +1,11 @@
 pub mod Refs
-pub mod Search
+pub mod Borders
 pub mod Whole
 pub mod Counts
+pub mod Places
 pub mod Parts
-pub mod Put
+pub mod PlaceParts
+pub mod PutIn
+pub mod PutPlaces
 pub mod Rows
 pub mod Moves

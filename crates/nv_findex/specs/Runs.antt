@@ -1,5 +1,5 @@
 -- Sorted runs of pages.
-use Rattle.std.specs.Prelude.{◌≡◌, ℕ, zero, suc, ◌+◌, ◌-◌, ◌<◌, ◌≤◌, ◌==◌, ◌&&◌, Bool, false, nat_le, nat_lt, max, if◌then◌else◌, List, [], ◌∷◌, ◌++◌, length, take, drop, slice_get, Option, Some, None}
+use Rattle.std.specs.Prelude.{◌≡◌, ℕ, zero, suc, ◌+◌, ◌-◌, ◌<◌, ◌≤◌, ◌==◌, ◌&&◌, Bool, true, false, nat_le, nat_lt, max, if◌then◌else◌, List, [], ◌∷◌, ◌++◌, length, take, drop, filter, replicate, slice_get, slice_index_or, Option, Some, None, IfSome}
 use Rattle.std.specs.List.{sum_by}
 use Rattle.std.specs.Option.{option_map, option_to_list}
 use Rattle.nv_base.specs.Ids.{is_same_id}
@@ -21,6 +21,40 @@ AreRunsFrom p last (r ∷ rs) =
 -- the runs of an index
 abbrev pub AreRuns : List PageRun → Type 0
 AreRuns rs = AreRunsFrom 0 None rs
+
+-- a run has a page; a place of a list whose run has none is empty
+abbrev pub has_page : PageRun → Bool
+has_page r = nat_lt r.first r.end
+
+-- the runs of a list of places
+abbrev pub present : List PageRun → List PageRun
+present rs = filter has_page rs
+
+-- so many of the places are empty
+abbrev pub IsEmptyCount : ℕ → List PageRun → Type 0
+IsEmptyCount n rs = n + length (present rs) ≡ length rs
+
+-- an empty place behind a run
+abbrev pub emptied : PageRun → PageRun
+emptied r = record r { first = r.end }
+
+-- places behind p, of which each that is empty ends where the place before it does
+unfoldable pub EmptyFollow : ℕ → List PageRun → Type 0
+EmptyFollow p [] = Unit {0}
+EmptyFollow p (r ∷ rs) = (has_page r ≡ false → r.end ≡ p) × EmptyFollow r.end rs
+
+-- the places of an index: its runs, and empty places behind them
+pub record ArePlaces (rs : List PageRun) : Type 0 where
+  pub runs : AreRuns (present rs)
+  pub empty : EmptyFollow 0 rs
+
+-- the place before place n ends at p or before
+abbrev pub EndsBefore : ℕ → ℕ → List PageRun → Type 0
+EndsBefore p n rs = (k : ℕ) (d : PageRun) → k + 1 ≡ n → (slice_index_or rs k d).end ≤ p
+
+-- place n ends behind p
+abbrev pub EndsBehind : ℕ → ℕ → List PageRun → Type 0
+EndsBehind p n rs = (d : PageRun) → n < length rs → p < (slice_index_or rs n d).end
 
 -- the first `n` of the runs end at page `p` or before, and the next one behind it
 unfoldable pub IsBorder : ℕ → ℕ → List PageRun → Type 0
@@ -54,6 +88,31 @@ behind p n rs = option_to_list (option_map (rest_from p) (slice_get rs n)) ++ dr
 unfoldable pub join : PageRun → List PageRun → List PageRun
 join r [] = r ∷ []
 join r (s ∷ rs) = if goes_on r s then (record r { end = s.end }) ∷ rs else r ∷ s ∷ rs
+
+-- what is left of places where the first ones go, which are empty
+pub record SkipsEmpty (old new : List PageRun) : Type 0 where
+  pub runs : present new ≡ present old
+  pub empty : (p : ℕ) → EmptyFollow p old → EmptyFollow p new
+
+-- runs, and behind the first of them as many empty places as make n in all
+abbrev pub spread : ℕ → List PageRun → List PageRun
+spread n [] = []
+spread n (r ∷ rs) = r ∷ replicate (n - suc (length rs)) (emptied r) ++ rs
+
+-- places with a run in place of those from n on up to place m, of which `rest` stays
+pub record IsPutBefore (r rest : PageRun) (n m : ℕ) (old new : List PageRun) : Type 0 where
+  pub width : ℕ
+  pub behind : List PageRun
+  pub skips : SkipsEmpty (drop (m + 1) old) behind
+  pub items : new ≡ take n old ++ (spread width (join r (rest ∷ [])) ++ behind)
+
+-- place n has a run of just the pages of r, and r does not go on in the place behind it
+pub record IsJust (r : PageRun) (n : ℕ) (rs : List PageRun) : Type 0 where
+  pub old : PageRun
+  pub is : slice_get rs n ≡ Some old
+  pub first : old.first ≡ r.first
+  pub end : old.end ≡ r.end
+  pub next : IfSome (slice_get rs (n + 1)) (λ s. (has_page s ≡ true) × (goes_on r s ≡ false))
 
 -- a run was put among runs, in the place of what they had of its pages
 pub record IsPut (r : PageRun) (old new : List PageRun) : Type 0 where

@@ -5,7 +5,7 @@ ghost use Rattle.nv_base.specs.Memory.{out_of_memory};
 ghost use Rattle.nv_findex.specs.Pages.{ref_at, run_count_of, present_from, IsRun, IsRunFrom, AreWithin, SetsRun, CutsFrom, IsNextFrom};
 
 use crate::run_rows::RunRows;
-use crate::{PageRef, PageRun, runs};
+use crate::{PageRef, PageRun, empty_places, put, runs};
 use nv_base::limits::FILE_PAGES;
 use nv_base::{EntryId, Fault};
 use std::alloc::Global;
@@ -21,22 +21,28 @@ use std::marker::Model;
 #[derive(Debug, Drop)]
 pub struct FileIndex {
     runs: RunRows,
+    /// How many of their places are empty.
+    empty: usize,
 }
 
 impl Model for FileIndex {
     ghost use Rattle.std.specs.Prelude.{◌-◌, ◌≤◌, length};
     ghost use Rattle.nv_findex.specs.Pages.{PageMap};
-    ghost use Rattle.nv_findex.specs.Runs.{AreRuns};
+    ghost use Rattle.nv_findex.specs.Runs.{ArePlaces, IsEmptyCount, present};
 
     ghost Value = { PageMap };
 
-    ghost view = { λ i.
-        record { pages = i.runs.items; room = i.runs.capacity - length i.runs.items } };
+    ghost view = { λ i. record {
+      pages = present i.runs.items;
+      room = i.runs.capacity - length (present i.runs.items);
+    } };
 
     // Its page runs lie one behind the other, and no two neighbours are one run.
     // Each page run has a file page; its pages and places are below 65,536.
     // There is room for its page runs.
-    ghost invariant = { λ i. AreRuns i.runs.items × (length i.runs.items ≤ i.runs.capacity) };
+    // The empty places between its page runs are counted.
+    ghost invariant = { λ i. ArePlaces i.runs.items × (length i.runs.items ≤ i.runs.capacity)
+        × IsEmptyCount i.empty i.runs.items };
 }
 
 impl FileIndex {
@@ -48,6 +54,7 @@ impl FileIndex {
     {
         FileIndex {
             runs: RunRows::new(alloc),
+            empty: 0,
         }
     }
 
@@ -121,14 +128,14 @@ impl FileIndex {
         // The number of page runs is that of the pages.
         ensures { result ≡ run_count_of self.now.pages }
     {
-        self.runs.len()
+        self.runs.len() - self.empty
     }
 
     /// For how many more runs there is room. Costs one read.
     pub fn room(&self) -> usize
         ensures { result ≡ self.now.room }
     {
-        self.runs.capacity() - self.runs.len()
+        self.runs.capacity() - self.run_count()
     }
 
     /// Makes room for as many calls of `set_run`, two more runs for each. Where it takes memory it makes room for as
@@ -152,11 +159,32 @@ impl FileIndex {
         // The only error is `OutOfMemory`.
         ensures fault { IfErr result (λ fault. fault ≡ out_of_memory) }
     {
-        if runs <= self.room() / 2 {
+        if runs <= (self.runs.capacity() - self.runs.len()) / 2 {
             return Ok(());
         }
-        self.runs
-            .reserve_exact(runs.saturating_mul(2).max(self.runs.len()))?;
+        let is_room = runs <= self.room() / 2;
+        if is_room && self.runs.len() / 8 <= self.empty {
+            empty_places::squeeze(&mut self.runs, &mut self.empty);
+            return Ok(());
+        }
+        match self.grow(runs) {
+            Err(_) if is_room => Ok(()),
+            grown => grown,
+        }
+    }
+
+    /// Makes room as `reserve_for` does, by a growth.
+    fn grow(&mut self, runs: usize) -> Result<(), Fault>
+        ensures pages { self.new.pages ≡ self.old.pages }
+        ensures ok { OnOk result (2 * runs ≤ self.new.room) }
+        ensures kept { self.old.room ≤ self.new.room }
+        ensures most { OnOk result (self.new.room
+            ≤ max self.old.room (max (2 * runs) (run_count_of self.old.pages))) }
+        ensures err { OnErr result (self.new.room ≡ self.old.room) }
+        ensures fault { IfErr result (λ fault. fault ≡ out_of_memory) }
+    {
+        let wanted = runs.saturating_mul(2).max(self.run_count());
+        self.runs.reserve_exact(wanted.saturating_sub(self.empty))?;
         Ok(())
     }
 
@@ -193,7 +221,7 @@ impl FileIndex {
             end: first + len,
             start: PageRef { entry, place: 0 },
         };
-        runs::put(&mut self.runs, run);
+        put::put(&mut self.runs, &mut self.empty, run);
     }
 
     /// Makes every page from `page` on absent. It takes no memory, and gives back the room of the runs that
@@ -208,6 +236,6 @@ impl FileIndex {
         ensures room { self.new.room + run_count_of self.new.pages
             ≡ self.old.room + run_count_of self.old.pages }
     {
-        runs::cut(&mut self.runs, page);
+        runs::cut(&mut self.runs, &mut self.empty, page);
     }
 }

@@ -2,7 +2,7 @@
 
 ghost use Rattle.std.specs.Prelude.{◌≡◌, ◌-◌, ◌<◌, ◌≤◌};
 ghost use Rattle.nv_findex.specs.Pages.{IsRun, run_ref};
-ghost use Rattle.nv_findex.specs.Runs.{goes_on, rest_from};
+ghost use Rattle.nv_findex.specs.Runs.{emptied, goes_on, has_page, rest_from};
 
 use crate::PageRef;
 
@@ -26,6 +26,23 @@ impl PageRun {
         PageRef {
             entry: self.start.entry,
             place: self.start.place + (page - self.first),
+        }
+    }
+
+    /// Whether it has a page. A place whose run has none is empty.
+    pub(crate) fn has_page(&self) -> bool
+        ensures { result ≡ has_page self.now }
+    {
+        self.first < self.end
+    }
+
+    /// An empty place behind the run.
+    pub(crate) fn emptied(&self) -> PageRun
+        ensures { result ≡ emptied self.now }
+    {
+        PageRun {
+            first: self.end,
+            ..*self
         }
     }
 

@@ -1,7 +1,7 @@
 //! A list of page runs in rows.
 
 ghost use Rattle.std.specs.Prelude.{◌≡◌, ◌+◌, ◌*◌, ◌/◌, ◌^◌, ◌<◌, ◌≤◌, [], ◌∷◌, ◌++◌, length, take, drop, set, slice_get, slice_index_or, vec_len, vec_capacity, max, OnOk, OnErr};
-ghost use Rattle.std.specs.List.{insert, remove};
+ghost use Rattle.std.specs.List.{insert};
 ghost use Rattle.nv_findex.specs.Rows.{AreStarts, slot, turned};
 
 use crate::PageRun;
@@ -164,22 +164,6 @@ impl RunRows {
         out
     }
 
-    /// Puts a run behind a full row, and takes the row's first one out. It moves no other.
-    fn pull_back(&mut self, row: usize, run: PageRun) -> PageRun
-        requires { row * ROW + ROW ≤ length self.old.items }
-        ensures items { insert self.old.items (row * ROW + ROW) run
-            ≡ insert self.new.items (row * ROW) result }
-        ensures len { length self.new.items ≡ length self.old.items }
-        ensures capacity { self.new.capacity ≡ self.old.capacity }
-    {
-        let start = self.starts[row] as usize;
-        let at = row * ROW + start;
-        let out = self.runs[at];
-        self.runs[at] = run;
-        self.starts[row] = ((start + 1) % ROW) as u8;
-        out
-    }
-
     /// Puts a run at the place `from`, moves those from there on and before `to` by one, and takes the last of them out.
     fn move_up(&mut self, from: usize, to: usize, run: PageRun) -> PageRun
         requires order { from ≤ to }
@@ -190,24 +174,6 @@ impl RunRows {
     {
         let mut out = run;
         for place in from..to {
-            out = self.replace(place, out);
-        }
-        out
-    }
-
-    /// Puts a run before the place `from`, moves those from `to` on and before that by one, and takes the first of them
-    /// out.
-    fn move_down(&mut self, from: usize, to: usize, run: PageRun) -> PageRun
-        requires order { to ≤ from }
-        requires within { from ≤ length self.old.items }
-        ensures items { insert self.old.items from run ≡ insert self.new.items to result }
-        ensures len { length self.new.items ≡ length self.old.items }
-        ensures capacity { self.new.capacity ≡ self.old.capacity }
-    {
-        let mut out = run;
-        let mut place = from;
-        'down: while to < place {
-            place -= 1;
             out = self.replace(place, out);
         }
         out
@@ -225,24 +191,6 @@ impl RunRows {
         let mut out = run;
         for row in from..to {
             out = self.pass_on(row, out);
-        }
-        out
-    }
-
-    /// `move_down` over whole rows.
-    fn pull_rows(&mut self, from: usize, to: usize, run: PageRun) -> PageRun
-        requires order { to ≤ from }
-        requires within { from * ROW ≤ length self.old.items }
-        ensures items { insert self.old.items (from * ROW) run
-            ≡ insert self.new.items (to * ROW) result }
-        ensures len { length self.new.items ≡ length self.old.items }
-        ensures capacity { self.new.capacity ≡ self.old.capacity }
-    {
-        let mut out = run;
-        let mut row = from;
-        'down: while to < row {
-            row -= 1;
-            out = self.pull_back(row, out);
         }
         out
     }
@@ -277,26 +225,6 @@ impl RunRows {
         let out = self.move_up(place, next_row * ROW, run);
         let out = self.pass_rows(next_row, last_row, out);
         self.insert_last(last_row * ROW, out);
-    }
-
-    /// Takes out the run at a place, and moves those behind it by one. Costs what an insert there does.
-    pub fn remove(&mut self, place: usize)
-        requires { place < length self.old.items }
-        ensures items { self.new.items ≡ remove self.old.items place }
-        ensures capacity { self.new.capacity ≡ self.old.capacity }
-    {
-        let last = self.len() - 1;
-        let out = self.at(last);
-        self.truncate(last);
-        let last_row = last / ROW;
-        if last_row * ROW <= place {
-            self.move_down(last, place, out);
-            return;
-        }
-        let next_row = place / ROW + 1;
-        let out = self.move_down(last, last_row * ROW, out);
-        let out = self.pull_rows(last_row, next_row, out);
-        self.move_down(next_row * ROW, place, out);
     }
 
     /// Keeps the first runs alone.

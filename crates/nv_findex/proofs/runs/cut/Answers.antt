@@ -1,21 +1,30 @@
-use Rattle.std.proofs.Common.{◌∙◌, ap, sym, subst, arith, refl, List, []}
-use Rattle.std.proofs.lemmas.List.{append-nil}
-use Rattle.nv_findex.specs.declared.page_run.PageRun.{PageRun}
-use Rattle.nv_findex.specs.Pages.{ref_at}
-use Rattle.nv_findex.specs.Runs.{AreRuns, AreRunsFrom}
-use Rattle.nv_findex.proofs.Parts.{before_ref, before_runs}
+use Rattle.std.proofs.Common.{◌∙◌, arith}
+use Rattle.nv_findex.proofs.PlaceParts.{cut_is}
+use Rattle.nv_findex.proofs.Places.{border_has_page, count_front, count_le}
 use Rattle.nv_findex.proofs.runs.cut.Goals as goal
 
-pub returns-clause-runs : goal.returns-clause-runs
-unfolding AreRunsFrom
-returns-clause-runs c =
-    let border = c.ended_by-at.ensures.border in
-    subst AreRuns (append-nil _ ∙ sym (c.truncate.ensures.items ∙ c.keep_below-kept.ensures.before))
-    (before_runs c.args.page 0 c.ended_by-at.result _ c.args.runs.now.items [] c.requires border (omega arith) (λ m b le. tt))
+pub keep_below-kept-requires-clause-page : goal.keep_below-kept-requires-clause-page
+keep_below-kept-requires-clause-page c =
+    border_has_page c.args.page c.ended_by-at.result c.args.runs.now.items c.requires.places c.ended_by-at.ensures.border
+
+pub overflow_sub-empty : goal.overflow_sub-empty
+overflow_sub-empty c =
+    let kept = c.keep_below-kept.ensures in
+    count_le c.keep_below-kept.new.runs.items c.keep_below-kept.result c.len.result c.args.empty.now _ (omega (arith, kept.within, c.len.ensures)) (omega (arith, c.len.ensures))
+    (omega (arith, c.requires.empty, kept.len, kept.present)) c.empty_in.ensures
+
+pub returns-clause-empty : goal.returns-clause-empty
+returns-clause-empty c =
+    let kept = c.keep_below-kept.ensures in
+    rw c.truncate.ensures.items
+    (count_front c.keep_below-kept.new.runs.items c.keep_below-kept.result c.len.result c.args.empty.now _ (omega (arith, kept.within, c.len.ensures)) c.len.ensures
+    (omega (arith, c.requires.empty, kept.len, kept.present)) c.empty_in.ensures)
+
+pub returns-clause-places : goal.returns-clause-places
+returns-clause-places c = (cut_is c.args.page c.ended_by-at.result c.args.runs.now.items _ c.requires.places c.ended_by-at.ensures.border (c.truncate.ensures.items ∙ c.keep_below-kept.ensures.before)).places
 
 pub returns-clause-pages : goal.returns-clause-pages
-unfolding ref_at
-returns-clause-pages c = λ q.
-    let border = c.ended_by-at.ensures.border in
-    ap (λ (l : List PageRun). ref_at l q) (c.truncate.ensures.items ∙ c.keep_below-kept.ensures.before ∙ sym (append-nil _))
-    ∙ before_ref c.args.page q c.ended_by-at.result c.args.runs.now.items [] border (λ lt. refl)
+returns-clause-pages c = (cut_is c.args.page c.ended_by-at.result c.args.runs.now.items _ c.requires.places c.ended_by-at.ensures.border (c.truncate.ensures.items ∙ c.keep_below-kept.ensures.before)).pages
+
+pub returns-clause-count : goal.returns-clause-count
+returns-clause-count c = (cut_is c.args.page c.ended_by-at.result c.args.runs.now.items _ c.requires.places c.ended_by-at.ensures.border (c.truncate.ensures.items ∙ c.keep_below-kept.ensures.before)).count

@@ -1,7 +1,7 @@
-use Rattle.nv_findex.proofs.Whole.{read_at}
+use Rattle.nv_findex.proofs.Places.{read_place}
 use Rattle.nv_findex.proofs.runs.run_near.Goals as goal
 
 pub returns : goal.returns
 returns c =
-    let k = read_at c.args.page c.ended_at-at.result c.args.runs.now.items c.get.result c.requires c.ended_at-at.ensures.border c.get.ensures in
+    let k = read_place c.args.page c.ended_at-at.result c.args.runs.now.items c.get.result c.requires c.ended_at-at.ensures.border c.get.ensures in
     record { run = k.0; within = k.1 }
