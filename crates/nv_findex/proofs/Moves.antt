@@ -1,7 +1,7 @@
 -- Lists of which one item goes on from place to place.
-use Rattle.std.proofs.Common.{◌≡◌, ℕ, suc, ◌+◌, ◌-◌, ◌<◌, ◌≤◌, List, [], ◌∷◌, ◌++◌, length, take, drop, set, replicate, get_or, ap, sym, ◌∙◌, arith}
+use Rattle.std.proofs.Common.{◌≡◌, ℕ, ◌+◌, ◌-◌, ◌<◌, ◌≤◌, List, [], ◌∷◌, ◌++◌, length, take, drop, set, replicate, ap, sym, ◌∙◌, arith}
 use Rattle.std.specs.List.{insert}
-use Rattle.std.proofs.lemmas.List.{append-nil, append_assoc, drop_more, length-replicate, replicate_more, set-append_right, drop_all, drop_at, length-take, length_push, take-append-drop, take-take, take_all, take_at, take_more, drop-drop}
+use Rattle.std.proofs.lemmas.List.{append-nil, append_assoc, drop_more, length-replicate, replicate_more, set-append_right, drop_all, drop_at, length-take, length_push, take-take, take_at}
 
 -- an item put behind the first ones, and the last item of a list put back there
 pub insert_cut : {A : Type 0} (xs : List A) (n : ℕ) (r : A) → n ≤ length xs → insert (take n xs) n r ≡ take n xs ++ r ∷ []

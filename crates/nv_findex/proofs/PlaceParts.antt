@@ -1,12 +1,10 @@
 -- The places of the pages below a page, and those of the pages from one on.
-use Rattle.std.proofs.Common.{◌≡◌, ℕ, zero, suc, ◌+◌, ◌-◌, ◌<◌, ◌≤◌, Bool, true, false, cond, List, [], ◌∷◌, ◌++◌, length, take, drop, slice_get, max, nat_lt, Option, Some, None, refl, ap, sym, subst, ◌∙◌, arith}
-use Rattle.std.specs.Option.{option_map, option_to_list}
-use Rattle.std.proofs.lemmas.Bool.{lt-ltb, true≢false}
-use Rattle.std.proofs.lemmas.List.{append-nil, length-append, length-take, length-drop}
-use Rattle.std.proofs.lemmas.Option.{none-some, same_Some, slice_get_past}
+use Rattle.std.proofs.Common.{◌≡◌, ℕ, zero, suc, ◌≤◌, Bool, true, false, cond, List, [], ◌∷◌, ◌++◌, length, take, slice_get, nat_lt, Option, Some, None, refl, ap, sym, subst, ◌∙◌, arith}
+use Rattle.std.proofs.lemmas.Bool.{true≢false}
+use Rattle.std.proofs.lemmas.List.{append-nil}
 use Rattle.nv_findex.specs.declared.page_run.PageRun.{PageRun}
 use Rattle.nv_findex.specs.Pages.{CutsFrom, ref_at}
-use Rattle.nv_findex.specs.Runs.{ArePlaces, AreRuns, AreRunsFrom, EmptyFollow, IsBorder, before, behind, front_of, has_page, join, present, rest_from}
+use Rattle.nv_findex.specs.Runs.{ArePlaces, AreRuns, AreRunsFrom, EmptyFollow, IsBorder, before, front_of, present}
 use Rattle.nv_findex.proofs.Parts.{before_ref, before_runs}
 use Rattle.nv_findex.proofs.Places.{at_border, present_append}
 

@@ -1,16 +1,13 @@
 -- The runs of a list of places, of which some are empty.
-use Rattle.std.proofs.Common.{◌≡◌, ℕ, zero, suc, ◌+◌, ◌-◌, ◌<◌, ◌≤◌, Bool, true, false, cond, List, [], ◌∷◌, ◌++◌, length, take, drop, set, replicate, slice_get, slice_range, get_or, max, nat_lt, Option, Some, None, IfSome, refl, ap, sym, subst, ◌∙◌, arith}
-use Rattle.std.specs.List.{sum_by}
-use Rattle.std.proofs.lemmas.Bool.{lt-ltb, le-ltb, ltb-true, ltb-false, true≢false}
+use Rattle.std.proofs.Common.{◌≡◌, ℕ, zero, suc, ◌+◌, ◌-◌, ◌<◌, ◌≤◌, Bool, true, false, cond, List, [], ◌∷◌, ◌++◌, length, take, drop, set, slice_get, slice_range, get_or, max, nat_lt, Option, Some, None, IfSome, refl, ap, sym, subst, ◌∙◌, arith}
+use Rattle.std.proofs.lemmas.Bool.{lt-ltb, ltb-false, true≢false}
 use Rattle.std.proofs.lemmas.List.{drop_more, get_or-drop, length-append, length-take, length-drop, take-append-drop, drop-drop}
 use Rattle.std.proofs.lemmas.List.Elements.{filter-append}
 use Rattle.std.proofs.lemmas.List.Filters.{length-filter_more}
 use Rattle.std.proofs.lemmas.List.Sums.{count_by-le-length, length-filter, sum_by-cons}
-use Rattle.std.proofs.lemmas.Option.{none-some, same_Some}
-use Rattle.nv_findex.specs.declared.page_ref.PageRef.{PageRef}
 use Rattle.nv_findex.specs.declared.page_run.PageRun.{PageRun}
 use Rattle.nv_findex.specs.Pages.{IsRun, IsRunFrom, present_from, ref_at}
-use Rattle.nv_findex.specs.Runs.{ArePlaces, AreRuns, AreRunsFrom, EmptyFollow, IsBorder, IsEmptyCount, SkipsEmpty, emptied, has_page, pages_past, present}
+use Rattle.nv_findex.specs.Runs.{ArePlaces, AreRuns, EmptyFollow, IsBorder, IsEmptyCount, SkipsEmpty, has_page, pages_past, present}
 use Rattle.nv_findex.proofs.Counts.{past_drop, present_is}
 use Rattle.nv_findex.proofs.Whole.{read_at}
 

@@ -1,17 +1,17 @@
 -- A run put into places, in place of what their runs have of its pages.
-use Rattle.std.proofs.Common.{◌≡◌, ℕ, zero, suc, ◌+◌, ◌-◌, ◌<◌, ◌≤◌, Bool, true, false, cond, List, [], ◌∷◌, ◌++◌, length, take, drop, set, replicate, slice_get, slice_range, get_or, max, min, nat_lt, Option, Some, None, IfSome, refl, ap, sym, subst, ◌∙◌, arith}
+use Rattle.std.proofs.Common.{◌≡◌, ℕ, zero, suc, ◌+◌, ◌-◌, ◌≤◌, Bool, true, false, cond, List, [], ◌∷◌, ◌++◌, length, take, drop, set, replicate, slice_get, slice_range, max, nat_lt, Option, Some, None, IfSome, refl, ap, sym, subst, ◌∙◌, arith}
 use Rattle.std.specs.Option.{option_map, option_to_list}
-use Rattle.std.proofs.lemmas.Bool.{lt-ltb, le-ltb, ltb-true, ltb-false, true≢false}
+use Rattle.std.proofs.lemmas.Bool.{lt-ltb, le-ltb, ltb-true, true≢false}
 use Rattle.std.proofs.lemmas.List.{append-nil, append_assoc, drop_all, length-append, length-replicate, length-set, length-take, set_split}
 use Rattle.std.proofs.lemmas.Option.{get_or_from_slice_get, none-some, same_Some, slice_get_within}
 use Rattle.nv_findex.specs.declared.page_ref.PageRef.{PageRef}
 use Rattle.nv_findex.specs.declared.page_run.PageRun.{PageRun}
-use Rattle.nv_findex.specs.Pages.{IsRun, run_ref}
-use Rattle.nv_findex.specs.Runs.{ArePlaces, AreRuns, AreRunsFrom, EmptyFollow, IsBorder, IsEmptyCount, IsJust, IsPut, IsPutBefore, SkipsEmpty, before, behind, emptied, front_of, goes_on, has_page, join, present, rest_from, spread}
+use Rattle.nv_findex.specs.Pages.{IsRun}
+use Rattle.nv_findex.specs.Runs.{ArePlaces, AreRunsFrom, EmptyFollow, IsBorder, IsEmptyCount, IsJust, IsPut, IsPutBefore, before, behind, emptied, front_of, goes_on, has_page, join, present, rest_from, spread}
 use Rattle.nv_findex.proofs.Borders.{border_le, opened}
 use Rattle.nv_findex.proofs.Places.{at_border, counted, present_append, present_le, present_set, read_place}
 use Rattle.nv_findex.proofs.PlaceParts.{follow_before, runs_before}
-use Rattle.nv_findex.proofs.PutIn.{GoesOn, goes_on_tells, put_is}
+use Rattle.nv_findex.proofs.PutIn.{goes_on_tells, put_is}
 
 run_has_page : (r : PageRun) → IsRun r → has_page r ≡ true
 run_has_page r h = lt-ltb r.first r.end h.some

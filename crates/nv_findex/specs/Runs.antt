@@ -45,7 +45,9 @@ EmptyFollow p (r ∷ rs) = (has_page r ≡ false → r.end ≡ p) × EmptyFollow
 
 -- the places of an index: its runs, and empty places behind them
 pub record ArePlaces (rs : List PageRun) : Type 0 where
+  -- the runs lie one behind the other, and no two neighbours are one run
   pub runs : AreRuns (present rs)
+  -- each empty place ends where the place before it does
   pub empty : EmptyFollow 0 rs
 
 -- the place before place n ends at p or before
@@ -91,7 +93,9 @@ join r (s ∷ rs) = if goes_on r s then (record r { end = s.end }) ∷ rs else r
 
 -- what is left of places where the first ones go, which are empty
 pub record SkipsEmpty (old new : List PageRun) : Type 0 where
+  -- the runs stay
   pub runs : present new ≡ present old
+  -- each empty place that stays ends where the place before it does
   pub empty : (p : ℕ) → EmptyFollow p old → EmptyFollow p new
 
 -- runs, and behind the first of them as many empty places as make n in all
@@ -101,17 +105,26 @@ spread n (r ∷ rs) = r ∷ replicate (n - suc (length rs)) (emptied r) ++ rs
 
 -- places with a run in place of those from n on up to place m, of which `rest` stays
 pub record IsPutBefore (r rest : PageRun) (n m : ℕ) (old new : List PageRun) : Type 0 where
+  -- how many places the run and what stays of place m take, empty ones between them too
   pub width : ℕ
+  -- the places behind them
   pub behind : List PageRun
+  -- of the places behind place m empty ones may go
   pub skips : SkipsEmpty (drop (m + 1) old) behind
+  -- the places before n, the run with what stays of place m, and those behind
   pub items : new ≡ take n old ++ (spread width (join r (rest ∷ [])) ++ behind)
 
 -- place n has a run of just the pages of r, and r does not go on in the place behind it
 pub record IsJust (r : PageRun) (n : ℕ) (rs : List PageRun) : Type 0 where
+  -- the run that place n has
   pub old : PageRun
+  -- it stands there
   pub is : slice_get rs n ≡ Some old
+  -- its first page is that of r
   pub first : old.first ≡ r.first
+  -- it ends where r does
   pub end : old.end ≡ r.end
+  -- the place behind it, if there is one, has a run, and r does not go on in it
   pub next : IfSome (slice_get rs (n + 1)) (λ s. (has_page s ≡ true) × (goes_on r s ≡ false))
 
 -- a run was put among runs, in the place of what they had of its pages

@@ -41,7 +41,8 @@ impl Model for FileIndex {
     // Each page run has a file page; its pages and places are below 65,536.
     // There is room for its page runs.
     // The empty places between its page runs are counted.
-    ghost invariant = { λ i. ArePlaces i.runs.items × (length i.runs.items ≤ i.runs.capacity)
+    ghost invariant = { λ i. ArePlaces i.runs.items
+        × (length (present i.runs.items) ≤ i.runs.capacity)
         × IsEmptyCount i.empty i.runs.items };
 }
 

@@ -138,6 +138,7 @@ impl RunRows {
         ensures err { OnErr result (self.new.capacity ≡ self.old.capacity) }
         ensures missing { OnErr result (self.old.capacity < length self.old.items + more) }
         ensures limit { OnOk result (self.new.capacity < 2 ^ 63) }
+        ensures within { length self.old.items ≤ self.old.capacity }
     {
         if more <= self.capacity() - self.len() {
             return Ok(());

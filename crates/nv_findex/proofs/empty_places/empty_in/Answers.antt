@@ -1,4 +1,4 @@
-use Rattle.std.proofs.Common.{◌≡◌, ◌+◌, ◌∙◌, ℕ, cond, ap, arith, drop, take, slice_range, subst, sym}
+use Rattle.std.proofs.Common.{◌≡◌, ◌+◌, ℕ, cond, arith, drop, take, slice_range, subst, sym}
 use Rattle.nv_findex.specs.Runs.{IsEmptyCount, has_page}
 use Rattle.nv_findex.proofs.Places.{count_more, counted, present_le}
 use Rattle.nv_findex.proofs.empty_places.empty_in.Goals as goal

@@ -1,8 +1,5 @@
-use Rattle.std.proofs.Common.{◌∙◌, ap, sym, subst, arith, List}
-use Rattle.std.proofs.lemmas.List.Filters.{FiltersInPlace, FiltersInPlace-more_no, FiltersInPlace-more_set, FiltersInPlace-all}
-use Rattle.nv_findex.specs.declared.page_run.PageRun.{PageRun}
-use Rattle.nv_findex.specs.Rows.{RunList}
-use Rattle.nv_findex.specs.Runs.{has_page}
+use Rattle.std.proofs.Common.{◌∙◌, sym, arith}
+use Rattle.std.proofs.lemmas.List.Filters.{FiltersInPlace-more_no, FiltersInPlace-more_set}
 use Rattle.nv_findex.proofs.empty_places.squeeze.Goals as goal
 use Rattle.nv_findex.proofs.empty_places.squeeze.Goals.{then-has_page, else-has_page}
 

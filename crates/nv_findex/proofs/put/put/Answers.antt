@@ -1,4 +1,4 @@
-use Rattle.std.proofs.Common.{List, ◌+◌, length, sym, subst, arith}
+use Rattle.std.proofs.Common.{List, subst, arith}
 use Rattle.nv_findex.specs.declared.page_run.PageRun.{PageRun}
 use Rattle.nv_findex.specs.Runs.{IsPut, present}
 use Rattle.nv_findex.proofs.PutPlaces.{put_just_is}

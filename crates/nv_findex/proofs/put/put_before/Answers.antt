@@ -1,4 +1,4 @@
-use Rattle.std.proofs.Common.{◌∙◌, ap, sym, subst, arith}
+use Rattle.std.proofs.Common.{arith}
 use Rattle.nv_findex.proofs.Places.{count_le}
 use Rattle.nv_findex.proofs.PutPlaces.{count_put}
 use Rattle.nv_findex.proofs.put.put_before.Goals as goal

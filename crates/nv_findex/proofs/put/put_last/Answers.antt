@@ -1,6 +1,5 @@
-use Rattle.std.proofs.Common.{◌∙◌, ap, sym, subst, arith}
+use Rattle.std.proofs.Common.{◌∙◌, ap, arith}
 use Rattle.std.specs.List.{insert}
-use Rattle.nv_findex.specs.Runs.{IsEmptyCount}
 use Rattle.nv_findex.proofs.Moves.{insert_cut}
 use Rattle.nv_findex.proofs.Places.{count_front, count_le}
 use Rattle.nv_findex.proofs.PutPlaces.{count_push}
