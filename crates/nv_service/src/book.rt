@@ -9,6 +9,7 @@ ghost use Rattle.nv_base.specs.declared.limits.TheConstants.{NUMBER, PINS};
 ghost use Rattle.nv_book.specs.Book.{after_drop_snapshot, after_enter, after_make_snapshot, after_pick, after_pin_snapshot, after_unpin_snapshot};
 ghost use Rattle.nv_book.specs.Manifests.{gain_of};
 ghost use Rattle.nv_book.specs.Records.{block_count};
+ghost use Rattle.nv_book.specs.Store.{nodes_wanted};
 ghost use Rattle.nv_epoch.specs.Holders.{next_older};
 ghost use Rattle.nv_epoch.specs.SnapList.{ids, pins_of};
 
@@ -92,8 +93,10 @@ impl<C: Commits> LockedBook<C> {
         ensures number { IfOk result (λ s. s ≡ self.old.state.snaps.epoch) }
         // Each is refused by its two faults alone.
         ensures err { FailsEither fault.EpochLimit fault.TooManySnapshots result }
-        ensures ok { OnOk result (self.new
-            ≡ record self.old { state = after_make_snapshot self.old.state }) }
+        ensures ok { OnOk result (self.new ≡ record {
+          state = after_make_snapshot self.old.state;
+          room = nodes_wanted self.old.state.manifests self.old.room;
+        }) }
         // Each counts as one making or drop of the session's.
         ensures counted { OnOk result (mine.new.amount ≡ mine.old.amount + 1) }
         ensures parts { mine.new.parts ≡ mine.old.parts }
