@@ -12,8 +12,3 @@ wanted-within (m ∷ ms) room = omega arith
 pub wanted-at : (ms : List Manifest) (k room : ℕ) → k < length ms → nodes_wanted ms room ≡ room
 wanted-at [] k room h = absurd (omega (arith, h))
 wanted-at (m ∷ ms) k room h = refl
-
--- none where none lives
-pub wanted-none : (ms : List Manifest) (room : ℕ) → length ms ≡ 0 → nodes_wanted ms room ≡ 0
-wanted-none [] room h = refl
-wanted-none (m ∷ ms) room h = absurd (omega (arith, h))

@@ -104,6 +104,16 @@ impl RecordStore {
         Ok(store)
     }
 
+    /// How many spare nodes so much room wants.
+    fn nodes_wanted(&self, room: u64) -> u64
+        ensures { result ≡ nodes_wanted self.now.manifests room }
+    {
+        if self.manifests.is_empty() {
+            return 0;
+        }
+        room
+    }
+
     /// Makes room for so many records: one spare node for each where a snapshot lives, and none where none does.
     ///
     /// The only error is `OutOfMemory`, and none where there is that room already or no snapshot lives. More than 2^62
@@ -115,14 +125,11 @@ impl RecordStore {
         ensures unheld { self.old.manifests ≡ [] → IsOk result }
         ensures same { OnErr result (self.new ≡ self.old) }
     {
-        if self.manifests.is_empty() {
-            self.room = need;
-            return Ok(());
+        let nodes = self.nodes_wanted(need);
+        if nodes > limits::NUMBER - self.count {
+            return Err(NoMemory::for_as_many(self.count.saturating_add(nodes)).into());
         }
-        if need > limits::NUMBER - self.count {
-            return Err(NoMemory::for_as_many(self.count.saturating_add(need)).into());
-        }
-        self.spare.reserve(need)?;
+        self.spare.reserve(nodes)?;
         self.room = need;
         Ok(())
     }
@@ -143,16 +150,6 @@ impl RecordStore {
         self.room -= 1;
     }
 
-    /// For how many records there is a spare node each.
-    fn room_with_nodes(&self) -> u64
-        ensures { result ≡ nodes_wanted self.now.manifests self.now.room }
-    {
-        if self.manifests.is_empty() {
-            return 0;
-        }
-        self.room
-    }
-
     /// Adds an empty manifest for the snapshot `s`, the youngest. Of the room that there was, what has spare nodes stays.
     pub fn make(&mut self, alloc: Global, s: Epoch)
         requires { length self.old.manifests < self.old.most }
@@ -161,7 +158,7 @@ impl RecordStore {
           room = nodes_wanted self.old.manifests self.old.room;
         } }
     {
-        self.room = self.room_with_nodes();
+        self.room = self.nodes_wanted(self.room);
         self.manifests.push_reserved(Manifest {
             snapshot: s,
             records: Records::new(alloc),

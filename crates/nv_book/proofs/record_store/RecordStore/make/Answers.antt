@@ -15,9 +15,9 @@ invariant_of-self c =
     ap run_total c.push_reserved.ensures.items ∙ total-made run_count_of c.self.inside.manifests.items _ in
     let n0 : length c.new.result ≡ 0 = ap length c.new.ensures in
     let r0 : run_count_of c.new.result ≡ 0 = ap run_count_of c.new.ensures in
-    let room : c.room_with_nodes-self-inside.result ≡ nodes_wanted c.self.inside.manifests.items c.self.inside.room =
-    c.room_with_nodes-self-inside.ensures ∙ ap (λ (u : Store). nodes_wanted u.manifests u.room) (sym c.self.view_is) in
-    let after = wanted-within c.push_reserved.new.self.items c.room_with_nodes-self-inside.result in
+    let room : c.nodes_wanted-self-inside.result ≡ nodes_wanted c.self.inside.manifests.items c.self.inside.room =
+    c.nodes_wanted-self-inside.ensures ∙ ap (λ (u : Store). nodes_wanted u.manifests c.self.inside.room) (sym c.self.view_is) in
+    let after = wanted-within c.push_reserved.new.self.items c.nodes_wanted-self-inside.result in
     record {
       counted = omega (arith, held.counted, n, n0);
       fits = omega (arith, held.fits, room, after);

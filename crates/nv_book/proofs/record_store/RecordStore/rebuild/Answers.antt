@@ -30,7 +30,7 @@ loop-s-preserved c =
     let i = c.loop-s.s-index in
     let s = c.s-item.result in
     let with = λ (ms : List Manifest) (room : ℕ).
-        let st : Store = record { manifests = ms; most = c.args.most; deferred = []; room = room } in st in
+    let st : Store = record { manifests = ms; most = c.args.most; deferred = []; room = room } in st in
     let none : nodes_wanted (map empty_manifest (take i living)) 0 ≡ 0 =
     omega (arith, wanted-within (map empty_manifest (take i living)) 0) in
     let one : map empty_manifest (take (i + 1) living) ≡ map empty_manifest (take i living) ++ empty_manifest s ∷ [] =
