@@ -1,6 +1,6 @@
 //! The book under the commit lock.
 
-ghost use Rattle.std.specs.Prelude.{◌≡◌, ◌+◌, ◌<◌, ◌≤◌, ◌↔◌, IfOk, IsOk, IsSome, IsTrue, None, OnErr, OnOk, Some, length, slice_get};
+ghost use Rattle.std.specs.Prelude.{◌≡◌, ◌+◌, ◌<◌, ◌≤◌, ◌↔◌, [], IfOk, IsOk, IsSome, IsTrue, None, OnErr, OnOk, Some, length, slice_get};
 ghost use Rattle.std.specs.Option.{ForSome, IsSomeAnd};
 ghost use Rattle.nv_base.specs.Memory.{out_of_memory};
 ghost use Rattle.nv_base.specs.Refusals.{FailsEither, FailsOnly, IsRefusedBy, KeepsOnErr};
@@ -66,6 +66,8 @@ impl<C: Commits> LockedBook<C> {
         ensures number { IfOk result (λ fixed. fixed.1 ≡ self.new.state.commit) }
         ensures limit { IsRefusedBy result fault.CommitLimit ↔ (self.old.state.commit ≡ NUMBER) }
         ensures enough { self.old.state.commit < NUMBER → need ≤ self.old.room → IsOk result }
+        ensures unheld { self.old.state.commit < NUMBER → self.old.state.snaps.living ≡ []
+            → IsOk result }
         ensures err { FailsEither fault.CommitLimit out_of_memory result }
         ensures counted { OnOk result (mine.new.amount ≡ mine.old.amount + 1) }
         // The number is at least that at the opening and the session's commits.
