@@ -126,6 +126,10 @@ impl RecordStore {
         ensures same { OnErr result (self.new ≡ self.old) }
     {
         let nodes = self.nodes_wanted(need);
+        if nodes == 0 {
+            self.room = need;
+            return Ok(());
+        }
         if nodes > limits::NUMBER - self.count {
             return Err(NoMemory::for_as_many(self.count.saturating_add(nodes)).into());
         }
