@@ -181,7 +181,7 @@ impl Book {
         // Want of memory comes only where there was less room than is asked for.
         ensures enough { self.old.state.commit < NUMBER → need ≤ self.old.room → IsOk result }
         // Where no snapshot lives, no record can be kept, and a commit wants no memory.
-        ensures unheld { self.old.state.commit < NUMBER → self.old.state.snaps.living ≡ []
+        ensures none_lives { self.old.state.commit < NUMBER → self.old.state.snaps.living ≡ []
             → IsOk result }
         ensures err { FailsEither Fault.CommitLimit out_of_memory result }
         // A refusal changes nothing, the room neither.

@@ -122,7 +122,7 @@ impl RecordStore {
         ensures ok { OnOk result (self.new ≡ record self.old { room = need }) }
         ensures err { FailsOnly out_of_memory result }
         ensures enough { need ≤ self.old.room → IsOk result }
-        ensures unheld { self.old.manifests ≡ [] → IsOk result }
+        ensures none_lives { self.old.manifests ≡ [] → IsOk result }
         ensures same { OnErr result (self.new ≡ self.old) }
     {
         let nodes = self.nodes_wanted(need);

@@ -66,7 +66,7 @@ impl<C: Commits> LockedBook<C> {
         ensures number { IfOk result (λ fixed. fixed.1 ≡ self.new.state.commit) }
         ensures limit { IsRefusedBy result fault.CommitLimit ↔ (self.old.state.commit ≡ NUMBER) }
         ensures enough { self.old.state.commit < NUMBER → need ≤ self.old.room → IsOk result }
-        ensures unheld { self.old.state.commit < NUMBER → self.old.state.snaps.living ≡ []
+        ensures none_lives { self.old.state.commit < NUMBER → self.old.state.snaps.living ≡ []
             → IsOk result }
         ensures err { FailsEither fault.CommitLimit out_of_memory result }
         ensures counted { OnOk result (mine.new.amount ≡ mine.old.amount + 1) }

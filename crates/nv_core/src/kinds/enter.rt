@@ -53,7 +53,7 @@ pub(crate) fn enter(
         → shared.old.holder ≡ None → shared.old.book.state.commit < NUMBER
         → ready.need ≤ shared.old.book.room → shared.new.holder ≡ Some actor }
     // It wants no memory where no snapshot lives.
-    ensures unheld { (ready : Ready) → reserved.old ≡ Reservation.Ready ready
+    ensures none_lives { (ready : Ready) → reserved.old ≡ Reservation.Ready ready
         → shared.old.holder ≡ None → shared.old.book.state.commit < NUMBER
         → shared.old.book.state.snaps.living ≡ [] → shared.new.holder ≡ Some actor }
     ensures waits { is_some shared.old.holder ≡ true → result ≡ Turn.Waits }
