@@ -17,31 +17,21 @@ pub record Store : Type 0 where
   -- how many records may be put without memory
   pub room : ℕ
 
-<<<<<<< HEAD
--- the fields of a record store fit one another
-=======
 -- how many spare nodes so much room wants: one for each record where a snapshot lives, and none where none does, since no
 -- record is put then
 abbrev pub nodes_wanted : List Manifest → ℕ → ℕ
 nodes_wanted [] room = 0
 nodes_wanted (m ∷ ms) room = room
 
--- the records are counted; with those that want a node they are at most 2 ^ 62, and there is a spare node for each of the
--- latter; all nodes together are at most 2 ^ 62; there is room for the most manifests
->>>>>>> next/next-spares
+-- the fields of a record store fit one another
 pub record IsStore (store : Store) (count spare capacity : ℕ) : Type 0 where
   -- the count is how many records there are, the deferred ones too
   pub counted : record_count store.manifests + length store.deferred ≡ count
-<<<<<<< HEAD
-  -- the records, with those that there is room for, are at most 2^62
-  pub fits : count + store.room ≤ NUMBER
-  -- there is a spare node for each record that there is room for
-  pub has_nodes : store.room ≤ spare
-  -- all nodes, those of the record runs and the spare ones, are at most 2^62
-=======
+  -- the records, with those that want a node, are at most 2^62
   pub fits : count + nodes_wanted store.manifests store.room ≤ NUMBER
+  -- there is a spare node for each record that wants one
   pub has_nodes : nodes_wanted store.manifests store.room ≤ spare
->>>>>>> next/next-spares
+  -- all nodes, those of the record runs and the spare ones, are at most 2^62
   pub nodes_fit : run_total store.manifests + run_count_of store.deferred + spare ≤ NUMBER
   -- there is room for as many manifests as there may be
   pub has_places : store.most ≤ capacity
