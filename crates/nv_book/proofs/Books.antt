@@ -45,10 +45,10 @@ module _ (snaps : Snapshots) (commit : ℕ) (store : Store) (latest : List Event
     places_fit = book.places_fit;
   }
 
-  pub book-made : (new : List Event) → AreFiled (ids snaps ++ snaps.epoch ∷ []) (after_make snaps.epoch store.manifests) store.deferred →
+  pub book-made : (room : ℕ) (new : List Event) → AreFiled (ids snaps ++ snaps.epoch ∷ []) (after_make snaps.epoch store.manifests) store.deferred →
       IsHistory snaps.most (state_now (after_making snaps) commit) new →
-      IsBook (after_making snaps) commit (record store { manifests = after_make snaps.epoch store.manifests }) new
-  book-made new filed history =
+      IsBook (after_making snaps) commit (record store { manifests = after_make snaps.epoch store.manifests; room = room }) new
+  book-made room new filed history =
       record {
         filed = subst (λ l. AreFiled l (after_make snaps.epoch store.manifests) store.deferred) (sym (ids-made snaps)) filed;
         dead = dead-made snaps.epoch store.manifests store.deferred book.dead;

@@ -3,6 +3,7 @@ pub mod Counts
 pub mod Ends
 pub mod Filing
 pub mod Listing
+pub mod Nodes
 pub mod Places
 pub mod Putting
 pub mod RecordLists

@@ -13,6 +13,7 @@ ghost use Rattle.nv_book.specs.Book.{BookValue, book_told, empty_book, after_ent
 ghost use Rattle.nv_book.specs.History.{state_now};
 ghost use Rattle.nv_book.specs.Manifests.{gain_of};
 ghost use Rattle.nv_book.specs.Records.{block_count, holder_of};
+ghost use Rattle.nv_book.specs.Store.{nodes_wanted};
 ghost use Rattle.nv_base.specs.Memory.{out_of_memory};
 ghost use Rattle.nv_base.specs.declared.geometry.GeometryNumbers.{GeometryNumbers};
 ghost use Rattle.nv_book.specs.declared.record.Record.{Record};
@@ -163,9 +164,10 @@ impl Book {
     /// Fixes the number and epoch of the seat's commit, with room for `need` records: as many as the commit kills
     /// parts, those that turn out free included.
     ///
-    /// `CommitLimit` where the last number is 2^62, before `OutOfMemory`, which comes only where the room that there was
-    /// is less than `need`. More than 2^62 records in all, which no device has parts for, count as want of memory. It
-    /// costs what it makes room for, however many records and snapshots there are.
+    /// `CommitLimit` where the last number is 2^62, before `OutOfMemory`, which comes only where a snapshot lives and the
+    /// room that there was is less than `need`. More than 2^62 records in all, which no device has parts for, count as want
+    /// of memory. It costs what it makes room for, however many records and snapshots there are, and constant time where no
+    /// snapshot lives.
     pub fn enter(&mut self, seat: u64, need: u64) -> Result<(Epoch, CommitNo), Fault>
         // A commit gets the next number and is noted.
         // A commit that was entered has room for the records asked for, whatever manifests they go to.
@@ -178,6 +180,9 @@ impl Book {
         ensures limit { IsRefusedBy result Fault.CommitLimit ↔ (self.old.state.commit ≡ NUMBER) }
         // Want of memory comes only where there was less room than is asked for.
         ensures enough { self.old.state.commit < NUMBER → need ≤ self.old.room → IsOk result }
+        // Where no snapshot lives, no record can be kept, and a commit wants no memory.
+        ensures none_lives { self.old.state.commit < NUMBER → self.old.state.snaps.living ≡ []
+            → IsOk result }
         ensures err { FailsEither Fault.CommitLimit out_of_memory result }
         // A refusal changes nothing, the room neither.
         ensures same { KeepsOnErr result self.old self.new }
@@ -242,7 +247,7 @@ impl Book {
     }
 
     /// Makes a snapshot of the current epoch, which is its number, and begins the next epoch. It takes no memory, and
-    /// constant time.
+    /// constant time. Of the room for records, what has memory behind it stays: all where a snapshot lived, else none.
     ///
     /// `EpochLimit` where the epoch is 2^62, before `TooManySnapshots`.
     /// A making and a drop take no memory.
@@ -259,8 +264,10 @@ impl Book {
         // Making a snapshot begins the next epoch.
         ensures number { IfOk result (λ s. s ≡ self.old.state.snaps.epoch) }
         // A making adds an empty manifest of the epoch that it ends.
-        ensures ok { OnOk result (self.new ≡
-            record self.old { state = after_make_snapshot self.old.state }) }
+        ensures ok { OnOk result (self.new ≡ record {
+          state = after_make_snapshot self.old.state;
+          room = nodes_wanted self.old.state.manifests self.old.room;
+        }) }
         ensures same { KeepsOnErr result self.old self.new }
     {
         crate::laws::making_files();

@@ -7,7 +7,7 @@ ghost use Rattle.nv_epoch.specs.Holders.{IsRising};
 ghost use Rattle.nv_book.specs.Listed.{manifest_of};
 ghost use Rattle.nv_book.specs.Manifests.{snapshots, records_at, put_to, after_drop, after_make, run_total, held_of, gain_of};
 ghost use Rattle.nv_book.specs.Records.{block_count, run_count_of, let_go};
-ghost use Rattle.nv_book.specs.Store.{Store};
+ghost use Rattle.nv_book.specs.Store.{Store, nodes_wanted};
 ghost use Rattle.nv_base.specs.Memory.{out_of_memory};
 
 use crate::Record;
@@ -46,9 +46,9 @@ impl Model for RecordStore {
       room = s.room;
     } };
 
-    // Its records are counted; with those that there is room for they are at most 2^62.
-    // There is a spare node for each record that there is room for; all nodes are at most 2^62; there is room for
-    // the most manifests.
+    // Its records are counted; with those that want a node they are at most 2^62.
+    // Where a snapshot lives there is a spare node for each record that there is room for; all nodes are at most 2^62;
+    // there is room for the most manifests.
     ghost invariant = { λ s. IsStore (record {
       manifests = s.manifests.items;
       most = s.most;
@@ -104,20 +104,36 @@ impl RecordStore {
         Ok(store)
     }
 
-    /// Makes room for so many records, one spare node for each.
+    /// How many spare nodes so much room wants.
+    fn nodes_wanted(&self, room: u64) -> u64
+        ensures { result ≡ nodes_wanted self.now.manifests room }
+    {
+        if self.manifests.is_empty() {
+            return 0;
+        }
+        room
+    }
+
+    /// Makes room for so many records: one spare node for each where a snapshot lives, and none where none does.
     ///
-    /// The only error is `OutOfMemory`, and none where there is that room already. More than 2^62 records in all count as
-    /// want of memory.
+    /// The only error is `OutOfMemory`, and none where there is that room already or no snapshot lives. More than 2^62
+    /// records in all count as want of memory.
     pub fn reserve(&mut self, need: u64) -> Result<(), Fault>
         ensures ok { OnOk result (self.new ≡ record self.old { room = need }) }
         ensures err { FailsOnly out_of_memory result }
         ensures enough { need ≤ self.old.room → IsOk result }
+        ensures none_lives { self.old.manifests ≡ [] → IsOk result }
         ensures same { OnErr result (self.new ≡ self.old) }
     {
-        if need > limits::NUMBER - self.count {
-            return Err(NoMemory::for_as_many(self.count.saturating_add(need)).into());
+        let nodes = self.nodes_wanted(need);
+        if nodes == 0 {
+            self.room = need;
+            return Ok(());
         }
-        self.spare.reserve(need)?;
+        if nodes > limits::NUMBER - self.count {
+            return Err(NoMemory::for_as_many(self.count.saturating_add(nodes)).into());
+        }
+        self.spare.reserve(nodes)?;
         self.room = need;
         Ok(())
     }
@@ -138,11 +154,15 @@ impl RecordStore {
         self.room -= 1;
     }
 
-    /// Adds an empty manifest for the snapshot `s`, the youngest.
+    /// Adds an empty manifest for the snapshot `s`, the youngest. Of the room that there was, what has spare nodes stays.
     pub fn make(&mut self, alloc: Global, s: Epoch)
         requires { length self.old.manifests < self.old.most }
-        ensures { self.new ≡ record self.old { manifests = after_make s self.old.manifests } }
+        ensures { self.new ≡ record self.old {
+          manifests = after_make s self.old.manifests;
+          room = nodes_wanted self.old.manifests self.old.room;
+        } }
     {
+        self.room = self.nodes_wanted(self.room);
         self.manifests.push_reserved(Manifest {
             snapshot: s,
             records: Records::new(alloc),

@@ -46,17 +46,29 @@ const NO_TAKING: &[Growth] = &[("ready", 4), ("enter", 5)];
 /// Of a visit.
 const VISIT: &[Growth] = &[("visit", 1)];
 
-/// An enter grows where the call may kill more parts than each call before it: four in a create or a mkdir, one more
-/// than its pages in a write.
+/// An enter grows where a snapshot lives and the call may kill more parts than there are spare nodes for. No node is made
+/// before a snapshot lives, so the rows that name `enter` make one last.
 const FOUR_PAGES: &[u8] = b"abcdefghijklmnop";
 
 /// Files and directories that are made, and bytes.
 pub const NODES: &[Row] = &[
-    ("create", &[], Create(ROOT, b"a"), Want::Made(ONE), NEW_NODE),
-    ("mkdir", &[], Mkdir(ROOT, b"d"), Want::Made(ONE), NEW_NODE),
+    (
+        "create",
+        &[Snap],
+        Create(ROOT, b"a"),
+        Want::Made(ONE),
+        NEW_NODE,
+    ),
+    (
+        "mkdir",
+        &[Snap],
+        Mkdir(ROOT, b"d"),
+        Want::Made(ONE),
+        NEW_NODE,
+    ),
     (
         "write",
-        &[Create(ROOT, b"a")],
+        &[Create(ROOT, b"a"), Snap],
         Write(ONE, 2, FOUR_PAGES),
         Want::Count(16),
         ONE_TAKING,
@@ -69,6 +81,7 @@ pub const NODES: &[Row] = &[
             Write(ONE, 0, b"a"),
             Write(ONE, 9, b"b"),
             Write(ONE, 0, b"c"),
+            Snap,
         ],
         Write(ONE, 6, FOUR_PAGES),
         Want::Count(16),
@@ -77,12 +90,12 @@ pub const NODES: &[Row] = &[
     // inside a page, past which there are others
     (
         "size",
-        &[Create(ROOT, b"a"), Write(ONE, 0, FOUR_PAGES)],
+        &[Create(ROOT, b"a"), Write(ONE, 0, FOUR_PAGES), Snap],
         Size(ONE, 2),
         Want::Nothing,
         ONE_TAKING,
     ),
-    // a log page alone
+    // a log page alone, and no snapshot
     (
         "size with a log page",
         &[
@@ -95,7 +108,7 @@ pub const NODES: &[Row] = &[
         Want::Nothing,
         &[("check", 3), ("ready", 6)],
     ),
-    ("mode", &[], Mode(ROOT, 7), Want::Nothing, NO_TAKING),
+    ("mode", &[Snap], Mode(ROOT, 7), Want::Nothing, NO_TAKING),
 ];
 
 /// Names that go and move, where the file has pages.
@@ -103,12 +116,12 @@ pub const NAMES: &[Row] = &[
     // one look, two locks, check, ready, enter
     (
         "unlink",
-        &[Create(ROOT, b"a"), Write(ONE, 0, FOUR_PAGES)],
+        &[Create(ROOT, b"a"), Write(ONE, 0, FOUR_PAGES), Snap],
         Unlink(ROOT, b"a"),
         Want::Nothing,
         &[("ready", 7), ("enter", 8)],
     ),
-    // the same; it kills four parts at most, and the mkdir made room for as many
+    // the same, where no snapshot lives
     (
         "rmdir",
         &[Mkdir(ROOT, b"d")],
@@ -123,12 +136,13 @@ pub const NAMES: &[Row] = &[
             Create(ROOT, b"a"),
             Create(ROOT, b"b"),
             Write(TWO, 0, FOUR_PAGES),
+            Snap,
         ],
         Rename(ROOT, b"a", ROOT, b"b"),
         Want::Nothing,
         &[("check", 8), ("ready", 11), ("enter", 12)],
     ),
-    // two looks, three locks, check, ready, and an enter that kills two parts at most
+    // two looks, three locks, check, ready, where no snapshot lives
     (
         "rename",
         &[Create(ROOT, b"a"), Mkdir(ROOT, b"d")],
@@ -144,6 +158,7 @@ pub const NAMES: &[Row] = &[
             Mkdir(ROOT, b"d"),
             Create(TWO, b"b"),
             Write((3, 1), 0, FOUR_PAGES),
+            Snap,
         ],
         Rename(ROOT, b"a", TWO, b"b"),
         Want::Nothing,

@@ -1,6 +1,6 @@
 //! The book under the commit lock.
 
-ghost use Rattle.std.specs.Prelude.{◌≡◌, ◌+◌, ◌<◌, ◌≤◌, ◌↔◌, IfOk, IsOk, IsSome, IsTrue, None, OnErr, OnOk, Some, length, slice_get};
+ghost use Rattle.std.specs.Prelude.{◌≡◌, ◌+◌, ◌<◌, ◌≤◌, ◌↔◌, [], IfOk, IsOk, IsSome, IsTrue, None, OnErr, OnOk, Some, length, slice_get};
 ghost use Rattle.std.specs.Option.{ForSome, IsSomeAnd};
 ghost use Rattle.nv_base.specs.Memory.{out_of_memory};
 ghost use Rattle.nv_base.specs.Refusals.{FailsEither, FailsOnly, IsRefusedBy, KeepsOnErr};
@@ -9,6 +9,7 @@ ghost use Rattle.nv_base.specs.declared.limits.TheConstants.{NUMBER, PINS};
 ghost use Rattle.nv_book.specs.Book.{after_drop_snapshot, after_enter, after_make_snapshot, after_pick, after_pin_snapshot, after_unpin_snapshot};
 ghost use Rattle.nv_book.specs.Manifests.{gain_of};
 ghost use Rattle.nv_book.specs.Records.{block_count};
+ghost use Rattle.nv_book.specs.Store.{nodes_wanted};
 ghost use Rattle.nv_epoch.specs.Holders.{next_older};
 ghost use Rattle.nv_epoch.specs.SnapList.{ids, pins_of};
 
@@ -65,6 +66,8 @@ impl<C: Commits> LockedBook<C> {
         ensures number { IfOk result (λ fixed. fixed.1 ≡ self.new.state.commit) }
         ensures limit { IsRefusedBy result fault.CommitLimit ↔ (self.old.state.commit ≡ NUMBER) }
         ensures enough { self.old.state.commit < NUMBER → need ≤ self.old.room → IsOk result }
+        ensures none_lives { self.old.state.commit < NUMBER → self.old.state.snaps.living ≡ []
+            → IsOk result }
         ensures err { FailsEither fault.CommitLimit out_of_memory result }
         ensures counted { OnOk result (mine.new.amount ≡ mine.old.amount + 1) }
         // The number is at least that at the opening and the session's commits.
@@ -92,8 +95,10 @@ impl<C: Commits> LockedBook<C> {
         ensures number { IfOk result (λ s. s ≡ self.old.state.snaps.epoch) }
         // Each is refused by its two faults alone.
         ensures err { FailsEither fault.EpochLimit fault.TooManySnapshots result }
-        ensures ok { OnOk result (self.new
-            ≡ record self.old { state = after_make_snapshot self.old.state }) }
+        ensures ok { OnOk result (self.new ≡ record {
+          state = after_make_snapshot self.old.state;
+          room = nodes_wanted self.old.state.manifests self.old.room;
+        }) }
         // Each counts as one making or drop of the session's.
         ensures counted { OnOk result (mine.new.amount ≡ mine.old.amount + 1) }
         ensures parts { mine.new.parts ≡ mine.old.parts }

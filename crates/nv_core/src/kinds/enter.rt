@@ -1,6 +1,6 @@
 //! The commit lock is taken.
 
-ghost use Rattle.std.specs.Prelude.{◌≡◌, ◌<◌, ◌≤◌, None, Some, is_some, nat_le, true};
+ghost use Rattle.std.specs.Prelude.{◌≡◌, ◌<◌, ◌≤◌, [], None, Some, is_some, nat_le, true};
 ghost use Rattle.nv_base.specs.declared.limits.TheConstants.{NUMBER};
 ghost use Rattle.nv_machine.specs.Kinds.{enter_turn};
 ghost use Rattle.nv_core.specs.Appends.{IsPlacedBy};
@@ -52,6 +52,10 @@ pub(crate) fn enter(
     ensures enough { (ready : Ready) → reserved.old ≡ Reservation.Ready ready
         → shared.old.holder ≡ None → shared.old.book.state.commit < NUMBER
         → ready.need ≤ shared.old.book.room → shared.new.holder ≡ Some actor }
+    // It wants no memory where no snapshot lives.
+    ensures none_lives { (ready : Ready) → reserved.old ≡ Reservation.Ready ready
+        → shared.old.holder ≡ None → shared.old.book.state.commit < NUMBER
+        → shared.old.book.state.snaps.living ≡ [] → shared.new.holder ≡ Some actor }
     ensures waits { is_some shared.old.holder ≡ true → result ≡ Turn.Waits }
     ensures still { result ≡ Turn.Waits → (shared.new ≡ shared.old)
         × (running.new ≡ running.old) × (reserved.new ≡ reserved.old) }

@@ -220,20 +220,40 @@ fn ends_at_the_last_numbers(rt: HostRuntime) {
     // The limit of epochs comes before that of snapshots.
     makes(&rt, &mut book, Err(Fault::EpochLimit));
     is_at(&rt, &book, last, last);
-    same(&rt, (book.history().len(), book.room()), (2, 1));
+    same(&rt, (book.history().len(), book.room()), (2, 0));
 }
 
-// More records than a book can count are refused, and change nothing.
+// Where a snapshot lives, more records than a book can count are refused, and change nothing. A further snapshot leaves
+// the room.
 #[test]
 fn has_room_for_no_more_than_it_counts(rt: HostRuntime) {
     let mut book = new_book(&rt, rt.alloc());
+    makes(&rt, &mut book, Ok(Epoch::new(1)));
     let refused = book.enter(0, limits::NUMBER + 1);
     refused_memory(&rt, refused.expect_err(&rt, "so many records"));
-    is_at(&rt, &book, 1, 0);
+    is_at(&rt, &book, 2, 0);
     same(&rt, book.room(), 0);
-    enters(&rt, &mut book, 7, 1, 1);
-    is_at(&rt, &book, 1, 1);
+    enters(&rt, &mut book, 7, 2, 1);
+    is_at(&rt, &book, 2, 1);
     same(&rt, book.room(), 7);
+    makes(&rt, &mut book, Ok(Epoch::new(2)));
+    same(&rt, book.room(), 7);
+}
+
+// Where no snapshot lives, there is room for any number of records without memory, and a making leaves none of it.
+#[test]
+fn wants_no_memory_where_no_snapshot_lives(rt: HostRuntime) {
+    let mut book = new_book(&rt, rt.alloc());
+    let need = limits::NUMBER + 1;
+    same(
+        &rt,
+        book.enter(0, need),
+        Ok((Epoch::new(1), CommitNo::new(1))),
+    );
+    retires(&rt, &mut book, record(1, Part::Kind, 1, 1), Retired::Free);
+    same(&rt, book.room(), need);
+    makes(&rt, &mut book, Ok(Epoch::new(1)));
+    same(&rt, book.room(), 0);
 }
 
 // How many commits there are, the last in the base, and how many events are kept.

@@ -11,4 +11,4 @@ invariant_of-self-2 c =
     let next = made-next snaps c.self.inside.commit c.in_ok-s.s c.in_ok-s.ensures.number (c.in_ok-s.ensures.made.0 refl) in
     let noted = rw c.in_ok-s.ensures.number at (c.note.ensures _ _ book.history next).0 in
     rw (c.in_ok-s.ensures.ok, c.make-2.ensures, c.in_ok-s.ensures.number)
-    (book-made _ _ _ _ book _ filed (subst (λ s. IsHistory snaps.most s c.note.new.self) (made-leads snaps c.self.inside.commit) noted))
+    (book-made _ _ _ _ book _ _ filed (subst (λ s. IsHistory snaps.most s c.note.new.self) (made-leads snaps c.self.inside.commit) noted))
