@@ -314,12 +314,11 @@ put_just_is r rs new n h run place first just is =
     ∙ ap (λ o. present (take n rs) ++ present (front_of r.first o)) just.is ∙ rw (le-ltb old.first r.first (omega (arith, just.first))) (append-nil (present (take n rs)))) in
     let one : present (r ∷ drop (suc n) rs) ≡ r ∷ present (drop (suc n) rs) = rw page refl in
     let rest = not_joined r (drop (suc n) rs) (slice_get rs (suc n)) (drop (suc (suc n)) rs) next to.first (drop_first (suc n) rs)
-    (λ e. drop_all (suc (suc n)) rs (omega (arith, past_end (suc n) rs e))) in
-    (
+    (λ e. drop_all (suc (suc n)) rs (omega (arith, past_end (suc n) rs e))) in (
       put_from r rs new n (suc n) h run place first last
-      (ap present (is ∙ split) ∙ present_append (take n rs) (r ∷ drop (suc n) rs) ∙ ap (λ l. l ++ present (r ∷ drop (suc n) rs)) front
-      ∙ ap (λ l. before r.first (length (present (take n rs))) (present rs) ++ l) (one ∙ rest ∙ ap (join r) (sym (behind_is r rs new n (suc n) h run place first last))))
-      (subst (EmptyFollow 0) (sym is) (follow_set 0 n rs r old h.empty just.is just.end page)),
+          (ap present (is ∙ split) ∙ present_append (take n rs) (r ∷ drop (suc n) rs) ∙ ap (λ l. l ++ present (r ∷ drop (suc n) rs)) front
+          ∙ ap (λ l. before r.first (length (present (take n rs))) (present rs) ++ l) (one ∙ rest ∙ ap (join r) (sym (behind_is r rs new n (suc n) h run place first last))))
+          (subst (EmptyFollow 0) (sym is) (follow_set 0 n rs r old h.empty just.is just.end page)),
       ap (λ l. length (present l)) is ∙ present_set rs n r old lt (ap has_page (get_or_from_slice_get rs n old old just.is) ∙ run_has_page old k.1) page,
       ap length is ∙ length-set rs n r,
     )
