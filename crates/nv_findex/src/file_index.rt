@@ -111,7 +111,7 @@ impl FileIndex {
     }
 
     /// How many pages are present from `page` on: those that a cut there takes out. Costs one look-up and a
-    /// step for each run from there on.
+    /// step for each place from there on.
     #[tactic(auto, using(crate::proofs::Counts::how_many_le))]
     pub fn present_from(&self, page: u32) -> u32
         // How many pages are present from a page on is told.
@@ -140,11 +140,13 @@ impl FileIndex {
     }
 
     /// Makes room for as many calls of `set_run`, two more runs for each. Where it takes memory it makes room for as
-    /// many runs as there are, if that is more, so that many calls cost linear time. Costs a move of all runs where it
-    /// takes memory, and one read where it doesn't.
+    /// many runs as there are, if that is more, so that many calls cost linear time. Where an eighth of all places is
+    /// empty, and these leave room enough, it takes them out and no memory. Costs a move of all runs where it does one
+    /// or the other, and one read where it does neither.
     ///
     /// Fails with `OutOfMemory` alone, and only where that room was missing and its growth was refused, as any of
-    /// 2^63 bytes or more is; then nothing has changed.
+    /// 2^63 bytes or more is; then nothing has changed. A growth that is refused where empty places leave room enough is
+    /// no error.
     #[tactic(auto, using(crate::proofs::Counts::run_count_is))]
     pub fn reserve_for(&mut self, runs: usize) -> Result<(), Fault>
         // Room for a number of writes is made before them.
@@ -192,13 +194,14 @@ impl FileIndex {
     /// Sets the pages `first` to `first + len - 1` to places 0 to `len - 1` of an entry, whether or not they
     /// were present. It takes no memory, and as much room as the index has more runs after it.
     ///
-    /// Costs two look-ups, of which the second begins where the first one ended, and for each run that there is more or
-    /// less than before a move of 128 runs at most and a step for each 64 runs behind: an overwrite of just one run
-    /// moves nothing.
+    /// Costs two look-ups, of which the second begins where the first one ended, a step for each run that it writes over,
+    /// and for each run that there is more than before a move of 128 runs at most and a step for each 64 runs behind: an
+    /// overwrite of just one run moves nothing. The places of runs that go stay empty. Where more than half of all are
+    /// empty, or the room behind the last place is needed, all runs move once.
     /// Each full row has a start, for which there is room.
     /// Only tested: an overwrite of one page run moves nothing.
-    /// Only tested: a write moves page runs of two rows at most for each page run more or less
-    /// ([gate.md](gate.md)).
+    /// Only tested: a write moves page runs of two rows at most for each page run more, except where it takes the empty
+    /// places out ([gate.md](gate.md)).
     #[tactic(auto, using(crate::proofs::Counts::run_count_is))]
     pub fn set_run(&mut self, first: u32, len: u32, entry: EntryId)
         requires some { 0 < len }
@@ -226,7 +229,7 @@ impl FileIndex {
     }
 
     /// Makes every page from `page` on absent. It takes no memory, and gives back the room of the runs that
-    /// go. Costs one look-up and what it takes out.
+    /// go. Costs one look-up and a step for each place that it takes out.
     #[tactic(auto, using(crate::proofs::Counts::run_count_is))]
     pub fn cut_from(&mut self, page: u32)
         // A cut makes the pages from one on absent.
