@@ -1,0 +1,2 @@
+pub mod OtherRefusals
+pub mod Snapping
