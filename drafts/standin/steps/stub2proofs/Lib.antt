@@ -1,2 +1,0 @@
-pub mod OtherRefusals
-pub mod Snapping
