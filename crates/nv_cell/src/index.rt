@@ -167,7 +167,7 @@ impl CellIndex {
         Some((page, part))
     }
 
-    /// How many pages are present from one on. Costs a look-up and a step for each run from there on.
+    /// How many pages are present from one on. Costs a look-up and a step for each run and empty place behind it.
     pub fn present_from(&self, page: u32) -> u32
         ensures { result ≡ present_from page self.now.pages.pages }
     {

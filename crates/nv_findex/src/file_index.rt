@@ -159,7 +159,7 @@ impl FileIndex {
         // Room is made for no more page runs than that, or than there are.
         ensures most { OnOk result (self.new.room
             ≤ max self.old.room (max (2 * runs) (run_count_of self.old.pages))) }
-        // A refused growth changes nothing and comes only where room was missing.
+        // An error changes nothing and comes only where room was missing.
         ensures err { OnErr result (self.new.room ≡ self.old.room) }
         ensures missing { OnErr result (self.old.room < 2 * runs) }
         // The only error is `OutOfMemory`.
