@@ -98,6 +98,10 @@ pub exits : {A : Type 0} (Q : Fault → Type 0) (result : Result A Fault) (why :
 exits Q (Ok x) why is has = absurd is
 exits Q (Err f) why is has = subst Q (sym is) has
 
+pub exit_is : {A : Type 0} (result : Result A Fault) (why : Fault) → IsErrAnd result (λ f. f ≡ why) → result ≡ Err why
+exit_is (Ok x) why is = absurd is
+exit_is {A} (Err f) why is = ap (λ (g : Fault). let r : Result A Fault = Err g in r) is
+
 pub one_of : (faults : List Fault) (why one other : Fault) → Contains faults one → Contains faults other → (why ≡ one) ⊎ (why ≡ other)
     → Contains faults why ⊎ IsMisfit why
 one_of faults why one other has too (inl is) = inl (subst (Contains faults) (sym is) has)
