@@ -15,7 +15,7 @@ use Rattle.nv_epoch.specs.SnapList.{pins_of}
 use Rattle.nv_machine.specs.Kinds.{grown, refuse}
 use Rattle.nv_machine.specs.SnapshotOrCleaner.{drop_tests, drop_turn, if_free, is_first, make_tests, make_turn, pick_turn, picked_turn, pin_turn, shown_by, unpin_turn}
 use Rattle.nv_machine.specs.Step.{kind_turn, turn}
-use Rattle.nv_machine.specs.World.{Draining, Drop, Ends, HandState, Make, Moves, Next, Pick, Pin, Running, Shared, Showing, SnapshotOrCleaner, Turn, Unpin, Waits, empty_hand, with_book}
+use Rattle.nv_machine.specs.World.{Draining, Drop, Ends, HandState, Make, Moves, Next, Pick, Pin, Running, Shared, SnapshotOrCleaner, Turn, Unpin, Waits, empty_hand, with_book}
 use Rattle.nv_reader.specs.Showing.{new_showing}
 use Rattle.nv_steps.specs.OnBook.{IsBefore, on_book, once_picked, once_pinned}
 use Rattle.nv_steps.specs.Turns.{IsEnd, IsMove}

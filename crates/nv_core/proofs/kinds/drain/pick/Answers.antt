@@ -1,5 +1,6 @@
-use Rattle.std.proofs.Common.{◌≡◌, ◌∙◌, Bool, true, false, ap, inl, inr, refl}
+use Rattle.std.proofs.Common.{◌≡◌, ◌∙◌, ℕ, Bool, true, false, List, ap, inl, inr, refl, sym}
 use Rattle.nv_alloc.specs.declared.hand.Hand.{Hand}
+use Rattle.nv_machine.specs.SnapshotOrCleaner.{pick_turn}
 use Rattle.nv_machine.specs.World as machine
 use Rattle.nv_machine.specs.World.{HandState, empty_hand, with_book}
 use Rattle.nv_steps.specs.OnBook.{IsBefore, once_picked, was_granted}
@@ -27,7 +28,8 @@ returns-in-First-clause-turn c told =
     let kept : after ≡ empty_hand = ap (λ (x : Hand). hand_of x) c.in-First.ensures.hand ∙ c.requires.empty in
     inl (pick_moves s.book new s r refl d true h after c.requires.empty before q
     (c.in-First.ensures.turn (numbers_of 0) 0 d.left r before)
-    ∙ ap (λ (x : HandState). machine.Moves (with_book new s) x q) kept)
+    ∙ ap (λ (x : HandState). machine.Moves (with_book new s) x q) kept
+    ∙ ap (λ (slots : List ℕ). machine.Moves (with_book new s) empty_hand (record q { slots = slots })) (sym c.one-running.ensures))
 
 pub returns-in-Ends-clause-turn : goal.returns-in-Ends-clause-turn
 returns-in-Ends-clause-turn c told =
@@ -40,6 +42,7 @@ returns-in-Ends-clause-turn c told =
     let granted = was_granted (picked.Ends c.in-Ends.told) in
     let before : IsBefore (machine.Pick d) r = record { next = ap next_of c.requires.next; slots = c.requires.slots } in
     let kept : after ≡ empty_hand = ap (λ (x : Hand). hand_of x) c.in-Ends.ensures.hand ∙ c.requires.empty in
-    either _ granted _ (pick_ends s.book new s r refl d granted h after c.requires.empty before c.in-Ends.told
+    either (λ granted. pick_turn d granted s empty_hand r) granted (machine.Ends c.in-Ends.told (with_book new s) empty_hand)
+    (pick_ends s.book new s r refl d granted h after c.requires.empty before c.in-Ends.told
     (c.in-Ends.ensures.turn (numbers_of 0) 0 d.left r before)
     ∙ ap (λ (x : HandState). machine.Ends c.in-Ends.told (with_book new s) x) kept)

@@ -1,4 +1,4 @@
-use Rattle.std.proofs.Common.{◌≡◌, ◌∙◌, ℕ, [], ap, length, refl, subst, sym}
+use Rattle.std.proofs.Common.{◌≡◌, ◌∙◌, ℕ, true, [], ap, length, refl, rules, subst, sym}
 use Rattle.std.proofs.lemmas.List.{length-map}
 use Rattle.std.specs.Prelude.{Err}
 use Rattle.nv_cell.specs.Cell.{CellValue}
@@ -29,7 +29,8 @@ returns-in-Ok-clause-turn c told =
     let r = shown told c.args.running.now in
     let asked = c.new.result in
     let numbers = numbers_of c.len-inodes.result in
-    let many = slots_there c.args.shared.now c.len-inodes.result c.len-inodes.ensures in
+    let counted : c.len-inodes.result ≡ length c.args.shared.now.cells.items = search rules in
+    let many = slots_there c.args.shared.now c.len-inodes.result counted in
     let ready = before c.args.snapshot asked r (ap next_of c.requires.next) c.requires.slots c.new.ensures in
     subst (λ (n : ℕ). pin_turn n (pins_of old.snaps n) s empty_hand r ≡ machine.Moves (with_book new s) empty_hand (once_pinned n r c.in-Ok.showing))
     c.new.ensures
@@ -45,7 +46,8 @@ returns-in-Err-clause-turn c told =
     let r = shown told c.args.running.now in
     let asked = c.new.result in
     let numbers = numbers_of c.len-inodes.result in
-    let many = slots_there c.args.shared.now c.len-inodes.result c.len-inodes.ensures in
+    let counted : c.len-inodes.result ≡ length c.args.shared.now.cells.items = search rules in
+    let many = slots_there c.args.shared.now c.len-inodes.result counted in
     let ready = before c.args.snapshot asked r (ap next_of c.requires.next) c.requires.slots c.new.ensures in
     subst (λ (n : ℕ). pin_turn n (pins_of old.snaps n) s empty_hand r ≡ machine.Ends (Err c.in-Err.fault) (with_book new s) empty_hand)
     c.new.ensures
