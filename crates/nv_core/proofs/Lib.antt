@@ -85,7 +85,6 @@ pub mod SettledPages
 pub mod ShownCalls
 pub mod Sinks
 pub mod SnapRest
-pub mod SnapTests
 pub mod SpaceLaw
 pub mod Stages
 pub mod StartShown

@@ -1,7 +1,7 @@
 -- What the parts of a world are in the machine of steps, whatever room they have.
 pub use Rattle.nv_calls.specs.SlotList.{slots_in}
+pub use Rattle.nv_steps.specs.Hands.{hand_of, hand_with}
 use Rattle.std.specs.Prelude.{ℕ, List, [], drop, map, take}
-use Rattle.nv_alloc.specs.declared.hand.Hand.{Hand}
 use Rattle.nv_base.specs.declared.numbers.Handle.{Handle}
 use Rattle.nv_calls.specs.declared.answer.Answer.{Answer}
 use Rattle.nv_calls.specs.declared.answer.Answer.TheVariants as answers
@@ -48,20 +48,6 @@ shared_of shared = record {
 }
 
 -- ---- hands
-
--- a hand, and the parts that its commit killed and has not retired
-abbrev pub hand_with : List (List KilledPart) → Hand → machine.HandState
-hand_with killed hand = record {
-  blocks = hand.data.blocks;
-  pages = hand.pages.blocks;
-  chain = hand.chain;
-  ino = hand.ino;
-  killed = killed;
-}
-
--- a hand, in the machine's words
-abbrev pub hand_of : Hand → machine.HandState
-hand_of hand = hand_with [] hand
 
 -- what the publishes of a commit killed, of those inodes whose turn to be retired is still to come
 abbrev pub killed_in : CommitValue → List (List KilledPart)

@@ -67,7 +67,7 @@ plain_view faults (Err why) (Err f) check P all is so =
 
 -- ---- snapshots
 
-pub making_fails : (result : Result ℕ Fault) (list : Snapshots) → IsSound list
+pub making_fails : {A : Type 0} (result : Result A Fault) (list : Snapshots) → IsSound list
     → (IsOk result ↔ ((list.epoch < NUMBER) × (length list.living < list.most)))
     → ((result ≡ Err fault.EpochLimit) ↔ (list.epoch ≡ NUMBER))
     → ((result ≡ Err fault.TooManySnapshots) ↔ ((list.epoch < NUMBER) × (length list.living ≡ list.most)))
@@ -81,7 +81,7 @@ making_fails (Err why) list sound made late many = elim (cases_lt list.epoch NUM
   | inr last ↦ let is = late.1 (omega (arith, last, sound.epoch_fits)) in let same : why ≡ fault.EpochLimit = cc in inl same
 ]
 
-pub drop_fails : (result : Result (Unit {0}) Fault) (pins : Option ℕ) → (IsOk result ↔ (pins ≡ Some 0))
+pub drop_fails : {A : Type 0} (result : Result A Fault) (pins : Option ℕ) → (IsOk result ↔ (pins ≡ Some 0))
     → ((result ≡ Err fault.NoSnapshot) ↔ (pins ≡ None)) → ((result ≡ Err fault.Pinned) ↔ IsSomeAnd pins (λ n. 0 < n))
     → FailsEither fault.NoSnapshot fault.Pinned result
 drop_fails (Ok done) pins dropped none pinned = tt
@@ -97,6 +97,10 @@ pub exits : {A : Type 0} (Q : Fault → Type 0) (result : Result A Fault) (why :
     → IfErr result Q
 exits Q (Ok x) why is has = absurd is
 exits Q (Err f) why is has = subst Q (sym is) has
+
+pub exit_is : {A : Type 0} (result : Result A Fault) (why : Fault) → IsErrAnd result (λ f. f ≡ why) → result ≡ Err why
+exit_is (Ok x) why is = absurd is
+exit_is {A} (Err f) why is = ap (λ (g : Fault). let r : Result A Fault = Err g in r) is
 
 pub one_of : (faults : List Fault) (why one other : Fault) → Contains faults one → Contains faults other → (why ≡ one) ⊎ (why ≡ other)
     → Contains faults why ⊎ IsMisfit why

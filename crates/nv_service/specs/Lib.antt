@@ -14,6 +14,7 @@ pub mod Opening
 pub mod Refusing
 pub mod UnlockedParts
 pub mod Rounds
+pub mod RunCalls
 pub mod Seats
 pub mod Sessions
 pub mod Snapped

@@ -1,10 +1,11 @@
 //! The book under the commit lock.
 
-ghost use Rattle.std.specs.Prelude.{◌≡◌, ◌+◌, ◌<◌, ◌≤◌, ◌↔◌, [], IfOk, IsOk, IsSome, IsTrue, None, OnErr, OnOk, Some, length, slice_get};
+ghost use Rattle.std.specs.Prelude.{◌≡◌, ◌+◌, ◌<◌, ◌≤◌, ◌↔◌, ℕ, Bool, [], IfOk, IsOk, IsSome, IsTrue, None, OnErr, OnOk, Some, length, slice_get};
 ghost use Rattle.std.specs.Option.{ForSome, IsSomeAnd};
 ghost use Rattle.nv_base.specs.Memory.{out_of_memory};
 ghost use Rattle.nv_base.specs.Refusals.{FailsEither, FailsOnly, IsRefusedBy, KeepsOnErr};
 ghost use Rattle.nv_base.specs.declared.fault.Fault.TheVariants as fault;
+ghost use Rattle.nv_base.specs.declared.geometry.GeometryNumbers.{GeometryNumbers};
 ghost use Rattle.nv_base.specs.declared.limits.TheConstants.{NUMBER, PINS};
 ghost use Rattle.nv_book.specs.Book.{after_drop_snapshot, after_enter, after_make_snapshot, after_pick, after_pin_snapshot, after_unpin_snapshot};
 ghost use Rattle.nv_book.specs.Manifests.{gain_of};
@@ -12,10 +13,15 @@ ghost use Rattle.nv_book.specs.Records.{block_count};
 ghost use Rattle.nv_book.specs.Store.{nodes_wanted};
 ghost use Rattle.nv_epoch.specs.Holders.{next_older};
 ghost use Rattle.nv_epoch.specs.SnapList.{ids, pins_of};
+ghost use Rattle.nv_machine.specs.World as machine;
+ghost use Rattle.nv_machine.specs.World.{Running, empty_hand};
+ghost use Rattle.nv_steps.specs.OnBook.{IsBefore, on_book};
+ghost use Rattle.nv_steps.specs.Turns.{IsEnd};
 
 use crate::names::{Commits, SnapLedger};
 use nv_base::{CommitNo, Epoch, Fault};
 use nv_book::{Book, Record};
+use nv_calls::Answer;
 use std::marker::Model;
 use std::sync::ledger;
 use std::sync::ledger::Share;
@@ -83,8 +89,13 @@ impl<C: Commits> LockedBook<C> {
 
     /// Makes a snapshot of the current epoch, as [`Book::make_snapshot`] does, and counts it in the share. It is no commit.
     /// They are those of `Book`, and no commits.
-    pub(crate) fn make_snapshot(&mut self, mine: &mut Share<SnapLedger<C>>) -> Result<Epoch, Fault>
+    pub(crate) fn make_snapshot(&mut self, mine: &mut Share<SnapLedger<C>>) -> Result<Answer, Fault>
         requires part { 0 < mine.old.parts }
+        // It is one turn of the machine, wherever the other parts are.
+        ensures turn { (numbers : GeometryNumbers) (actor : ℕ) (granted : Bool) (r : Running)
+            → IsBefore machine.Make r
+            → IsEnd numbers actor (on_book r empty_hand granted self.old.state self.new.state)
+            result empty_hand }
         ensures made { IsOk result ↔ ((self.old.state.snaps.epoch < NUMBER)
             × (length self.old.state.snaps.living < self.old.state.snaps.most)) }
         ensures epoch_limit { IsRefusedBy result fault.EpochLimit
@@ -92,9 +103,9 @@ impl<C: Commits> LockedBook<C> {
         ensures too_many { IsRefusedBy result fault.TooManySnapshots
             ↔ ((self.old.state.snaps.epoch < NUMBER)
             × (length self.old.state.snaps.living ≡ self.old.state.snaps.most)) }
-        ensures number { IfOk result (λ s. s ≡ self.old.state.snaps.epoch) }
         // Each is refused by its two faults alone.
         ensures err { FailsEither fault.EpochLimit fault.TooManySnapshots result }
+        ensures answer { IfOk result (λ a. a ≡ Answer.Snapshot self.old.state.snaps.epoch) }
         ensures ok { OnOk result (self.new ≡ record {
           state = after_make_snapshot self.old.state;
           room = nodes_wanted self.old.state.manifests self.old.room;
@@ -104,10 +115,11 @@ impl<C: Commits> LockedBook<C> {
         ensures parts { mine.new.parts ≡ mine.old.parts }
         ensures same { OnErr result ((self.new ≡ self.old) × (mine.new.amount ≡ mine.old.amount)) }
     {
+        // Neither the epoch nor the number of snapshots is over its limit.
         self.book.snaps().rises();
-        let snapshot = self.book.make_snapshot()?;
+        let answer = nv_steps::make_snapshot(&mut self.book)?;
         self.snap_book.add(mine, 1);
-        Ok(snapshot)
+        Ok(answer)
     }
 
     /// Drops the snapshot `s`, as [`Book::drop_snapshot`] does, and counts it in the share.
@@ -115,13 +127,19 @@ impl<C: Commits> LockedBook<C> {
         &mut self,
         s: Epoch,
         mine: &mut Share<SnapLedger<C>>,
-    ) -> Result<(), Fault>
+    ) -> Result<Answer, Fault>
         requires part { 0 < mine.old.parts }
+        // It is one turn of the machine, wherever the other parts are.
+        ensures turn { (numbers : GeometryNumbers) (actor : ℕ) (granted : Bool) (r : Running)
+            → IsBefore (machine.Drop s) r
+            → IsEnd numbers actor (on_book r empty_hand granted self.old.state self.new.state)
+            result empty_hand }
         ensures dropped { IsOk result ↔ (pins_of self.old.state.snaps s ≡ Some 0) }
         ensures no_snapshot { IsRefusedBy result fault.NoSnapshot
             ↔ (pins_of self.old.state.snaps s ≡ None) }
         ensures pinned { IsRefusedBy result fault.Pinned
             ↔ IsSomeAnd (pins_of self.old.state.snaps s) (λ pins. 0 < pins) }
+        ensures answer { IfOk result (λ a. a ≡ Answer.Nothing) }
         ensures ok { OnOk result (self.new
             ≡ record self.old { state = after_drop_snapshot s self.old.state }) }
         ensures err { FailsEither fault.NoSnapshot fault.Pinned result }
@@ -133,9 +151,9 @@ impl<C: Commits> LockedBook<C> {
         ensures same { OnErr result ((self.new ≡ self.old) × (mine.new.amount ≡ mine.old.amount)) }
     {
         self.book.snaps().rises();
-        self.book.drop_snapshot(s)?;
+        let answer = nv_steps::drop_snapshot(&mut self.book, s)?;
         self.snap_book.add(mine, 1);
-        Ok(())
+        Ok(answer)
     }
 
     /// Whether the snapshot `s`, if it lives, may have one more pin.

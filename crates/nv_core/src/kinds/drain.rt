@@ -14,7 +14,8 @@ use crate::shared::Shared;
 use crate::turn::Turn;
 use nv_alloc::Hand;
 use nv_book::Record;
-use nv_calls::{Answer, LockedSlots};
+use nv_calls::LockedSlots;
+use nv_steps::Picked;
 
 /// Picks the first deferred record. Where there is none, this is the call's last step. The first pick of a call makes
 /// room for a block before.
@@ -41,17 +42,16 @@ pub(crate) fn pick(
     ensures rooms { HasRoomsAfter result shared.new (Reservation.Hand hand.new) running.new }
     ensures rest { shared.new ≡ record shared.old { book = shared.new.book } }
 {
-    if draining.released == 0 {
-        if let Err(fault) = hand.data.reserve(1) {
-            return Turn::Ends(Err(fault));
+    match nv_steps::pick(&mut shared.book, hand, draining.released) {
+        Picked::First(picked) => {
+            running.slots = LockedSlots::one(picked.ino);
+            running.next = Next::SnapshotOrCleaner(SnapshotOrCleanerStep::LockPicked(
+                draining, picked,
+            ));
+            Turn::Moves
         }
+        Picked::Ends(told) => Turn::Ends(told),
     }
-    let Some(picked) = shared.book.pick() else {
-        return Turn::Ends(Ok(Answer::Count(draining.released)));
-    };
-    running.slots = LockedSlots::one(picked.ino);
-    running.next = Next::SnapshotOrCleaner(SnapshotOrCleanerStep::LockPicked(draining, picked));
-    Turn::Moves
 }
 
 /// Locks the inode of the picked record, or waits for its lock.

@@ -10,7 +10,6 @@ ghost use Rattle.nv_core.specs.Shown.{shared_of, turn_of};
 use crate::shared::Shared;
 use crate::turn::Turn;
 use nv_base::Epoch;
-use nv_calls::Answer;
 
 /// Drops a snapshot that has no pin, which is the call's only step.
 pub(crate) fn drop_snapshot(shared: &mut Shared, snapshot: u64) -> Turn
@@ -22,8 +21,6 @@ pub(crate) fn drop_snapshot(shared: &mut Shared, snapshot: u64) -> Turn
     ensures ends { (result ≢ Turn.Moves) × (result ≢ Turn.Waits) }
     ensures rest { shared.new ≡ record shared.old { book = shared.new.book } }
 {
-    match shared.book.drop_snapshot(Epoch::new(snapshot)) {
-        Ok(()) => Turn::Ends(Ok(Answer::Nothing)),
-        Err(fault) => Turn::Ends(Err(fault)),
-    }
+    let snapshot = Epoch::new(snapshot);
+    Turn::Ends(nv_steps::drop_snapshot(&mut shared.book, snapshot))
 }

@@ -8,7 +8,6 @@ ghost use Rattle.nv_core.specs.Shown.{shared_of, turn_of};
 
 use crate::shared::Shared;
 use crate::turn::Turn;
-use nv_calls::Answer;
 
 /// Makes a snapshot of the current epoch, which is the call's only step.
 pub(crate) fn make_snapshot(shared: &mut Shared) -> Turn
@@ -20,10 +19,5 @@ pub(crate) fn make_snapshot(shared: &mut Shared) -> Turn
     ensures ends { (result ≢ Turn.Moves) × (result ≢ Turn.Waits) }
     ensures rest { shared.new ≡ record shared.old { book = shared.new.book } }
 {
-    // Neither the epoch nor the number of snapshots is over its limit.
-    shared.book.snaps().rises();
-    match shared.book.make_snapshot() {
-        Ok(snapshot) => Turn::Ends(Ok(Answer::Snapshot(snapshot))),
-        Err(fault) => Turn::Ends(Err(fault)),
-    }
+    Turn::Ends(nv_steps::make_snapshot(&mut shared.book))
 }

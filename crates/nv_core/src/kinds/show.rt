@@ -6,12 +6,13 @@ ghost use Rattle.nv_base.specs.Refusals.{FailsOnly};
 ghost use Rattle.nv_base.specs.Memory.{out_of_memory};
 ghost use Rattle.nv_base.specs.declared.limits.TheConstants.{PINS};
 ghost use Rattle.nv_epoch.specs.SnapList.{pins_of};
-ghost use Rattle.nv_machine.specs.SnapshotOrCleaner.{copies_at, pin_turn, seen_on, show_turn, showing_on, unpin_turn, visited};
+ghost use Rattle.nv_machine.specs.SnapshotOrCleaner.{copies_at, pin_turn, seen_on, show_turn, showing_on, shown_by, unpin_turn, visited};
 ghost use Rattle.nv_machine.specs.World as machine;
 ghost use Rattle.nv_machine.specs.World.{HandState, empty_hand, owner_at};
 ghost use Rattle.nv_reader.specs.Showing.{is_over};
+ghost use Rattle.nv_steps.specs.OnBook.{answer_of_show};
 ghost use Rattle.nv_core.specs.Rooms.{HasRooms, HasRoomsAfter, HasStepRoom, IsShow, IsUnpin};
-ghost use Rattle.nv_core.specs.Shown.{ShownCall, seen_in, shared_of, showing_in, shown, slots_in, snapshot_in, step_on, turn_of};
+ghost use Rattle.nv_core.specs.Shown.{ShownCall, ending_of, seen_in, shared_of, showing_in, shown, slots_in, snapshot_in, step_on, turn_of};
 ghost use Rattle.nv_core.specs.Steps.{CanShow};
 ghost use Rattle.nv_core.specs.GhostCalls.{IsEither, KeepsRequest};
 
@@ -22,7 +23,6 @@ use crate::shared::Shared;
 use crate::turn::Turn;
 use nv_alloc::Hand;
 use nv_base::{Epoch, Fault};
-use nv_calls::Answer;
 use nv_entry::Tree;
 use nv_reader::Showing;
 use std::alloc::Global;
@@ -43,12 +43,14 @@ pub(crate) fn pin(alloc: Global, shared: &mut Shared, running: &mut Running, sna
         → HasRoomsAfter result shared.new (Reservation.Hand hand) running.new }
     ensures rest { shared.new ≡ record shared.old { book = shared.new.book } }
 {
-    if let Err(fault) = shared.book.pin(Epoch::new(snapshot)) {
-        return Turn::Ends(Err(fault));
+    let inodes = shared.cells.len();
+    match nv_steps::pin(alloc, &mut shared.book, Epoch::new(snapshot), inodes) {
+        Ok(showing) => {
+            running.next = Next::SnapshotOrCleaner(showing_on(snapshot, showing));
+            Turn::Moves
+        }
+        Err(fault) => Turn::Ends(Err(fault)),
     }
-    let showing = Showing::new(alloc, shared.cells.len());
-    running.next = Next::SnapshotOrCleaner(showing_on(snapshot, showing));
-    Turn::Moves
 }
 
 /// The next visit, or the end where there is none.
@@ -138,9 +140,16 @@ pub(crate) fn unpin(shared: &mut Shared, running: &mut Running) -> Turn
     ) else {
         unreachable!()
     };
-    shared.book.unpin(Epoch::new(snapshot));
-    match running.ending {
-        Ending::Refuses(fault) => Turn::Ends(Err(fault)),
-        _ => Turn::Ends(Ok(Answer::Tree(seen))),
+    let shown = shown_at_end(&running.ending, seen);
+    Turn::Ends(nv_steps::unpin(&mut shared.book, Epoch::new(snapshot), shown))
+}
+
+/// What a show is answered: what it has seen, or for what it is refused.
+fn shown_at_end(ending: &Ending, seen: Tree) -> Result<Tree, Fault>
+    ensures { shown_by (ending_of ending.now) seen ≡ answer_of_show result }
+{
+    match ending {
+        Ending::Refuses(fault) => Err(*fault),
+        _ => Ok(seen),
     }
 }

@@ -2,10 +2,13 @@
 
 ghost use Rattle.std.specs.Prelude.{◌≡◌, ℕ, IfErr, IfOk, List, OnOk};
 ghost use Rattle.nv_base.specs.Refusals.{KeepsOnErr};
+ghost use Rattle.nv_machine.specs.World.{empty_hand};
 ghost use Rattle.nv_service.specs.ByValue.{once_snapped};
 ghost use Rattle.nv_service.specs.Refusing.{MayRefuseSnapshotOrCleaner};
+ghost use Rattle.nv_service.specs.RunCalls.{dropping, making, told_as};
 ghost use Rattle.nv_service.specs.Sessions.{IsGivenBack};
 ghost use Rattle.nv_entry.specs.declared.tree.TreeNode.{TreeNode};
+ghost use Rattle.nv_steps.specs.Runs.{IsRun};
 
 use crate::names::{Blocks, Commits};
 use crate::seen::Seen;
@@ -20,6 +23,9 @@ impl<C: Commits, B: Blocks> Session<C, B> {
     /// Makes a snapshot of all nodes as they are, and answers its number. It counts in the session. `EpochLimit`,
     /// `TooManySnapshots`.
     pub fn snap<R: Wait>(&mut self, rt: &R, service: &Service<C, B>) -> Result<Seen, Fault>
+        // A making is a run of the machine's turns, from its start to its answer or refusal, on a book that was found.
+        ensures run { IsRun service.now.geometry.numbers self.old.number empty_hand making
+            (told_as result) empty_hand }
         // Snapshots are answered by their kind, and leave what the session has seen and committed.
         ensures answer { IfOk result (λ seen. (s : ℕ) × (seen ≡ Seen.Other (Answer.Snapshot s))) }
         // Each refusal is one of the call's list, or a part that does not fit.
@@ -31,8 +37,8 @@ impl<C: Commits, B: Blocks> Session<C, B> {
         ensures held { IsGivenBack self.new.held }
     {
         let mine = &mut self.snapped;
-        let snapshot = service.book_lock().lock(rt).make_snapshot(mine)?;
-        Ok(Seen::Other(Answer::Snapshot(snapshot)))
+        let answer = service.book_lock().lock(rt).make_snapshot(mine)?;
+        Ok(Seen::Other(answer))
     }
 
     /// Drops a snapshot: what no older one holds either is deferred. It counts in the session. `NoSnapshot`, `Pinned`.
@@ -42,6 +48,9 @@ impl<C: Commits, B: Blocks> Session<C, B> {
         service: &Service<C, B>,
         snapshot: Epoch,
     ) -> Result<Seen, Fault>
+        // So is a drop, of this very snapshot.
+        ensures run { IsRun service.now.geometry.numbers self.old.number empty_hand
+            (dropping snapshot) (told_as result) empty_hand }
         ensures answer { IfOk result (λ seen. seen ≡ Seen.Other Answer.Nothing) }
         ensures err { IfErr result
             (MayRefuseSnapshotOrCleaner (SnapshotOrCleanerCall.Drop snapshot)) }
@@ -50,8 +59,8 @@ impl<C: Commits, B: Blocks> Session<C, B> {
         ensures held { IsGivenBack self.new.held }
     {
         let mine = &mut self.snapped;
-        service.book_lock().lock(rt).drop_snapshot(snapshot, mine)?;
-        Ok(Seen::Other(Answer::Nothing))
+        let answer = service.book_lock().lock(rt).drop_snapshot(snapshot, mine)?;
+        Ok(Seen::Other(answer))
     }
 
     /// Asks for the tree as it was when a snapshot was made, which is pinned as long as the call reads. `NoSnapshot`;

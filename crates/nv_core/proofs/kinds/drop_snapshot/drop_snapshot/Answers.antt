@@ -1,19 +1,17 @@
-use Rattle.std.proofs.Common.{refl}
+use Rattle.std.proofs.Common.{◌≡◌, ℕ, refl, subst}
+use Rattle.nv_epoch.specs.SnapList.{pins_of}
+use Rattle.nv_machine.specs.SnapshotOrCleaner.{drop_tests, drop_turn}
+use Rattle.nv_machine.specs.World as machine
+use Rattle.nv_machine.specs.World.{empty_hand, with_book}
+use Rattle.nv_steps.proofs.OtherStates.{drop_here}
 use Rattle.nv_core.specs.Shown.{shared_of}
-use Rattle.nv_machine.specs.World.{empty_hand}
-use Rattle.nv_core.proofs.SnapTests.{drop_done, drop_told_of}
-use Rattle.nv_core.proofs.VisitTurns.{refuses}
 use Rattle.nv_core.proofs.kinds.drop_snapshot.drop_snapshot.Goals as goal
 
-pub returns-in-Err-clause-turn : goal.returns-in-Err-clause-turn
-returns-in-Err-clause-turn c r none =
-    let made = c.drop_snapshot.ensures in
-    let told = drop_told_of c.args.shared.now.book.state.snaps c.new.result c.args.snapshot c.drop_snapshot.result c.in-Err.fault
-    c.new.ensures made.dropped made.no_snapshot made.pinned c.in-Err.is in
-    rw told (rw c.in-Err.ensures.same (refuses (shared_of c.args.shared.now) r c.in-Err.fault none))
-
-pub returns-in-Ok-clause-turn : goal.returns-in-Ok-clause-turn
-returns-in-Ok-clause-turn c r none =
-    let free = c.in-Ok.ensures.dropped.0 refl in
-    let after = c.in-Ok.ensures.ok in
-    drop_done c.new.result c.args.snapshot (shared_of c.args.shared.now) _ empty_hand r c.new.ensures free (rw after refl)
+pub returns-clause-turn : goal.returns-clause-turn
+returns-clause-turn c r none =
+    let old = c.args.shared.now.book.state in
+    let new = c.drop_snapshot.new.book.state in
+    let s = shared_of c.args.shared.now in
+    let told = c.drop_snapshot.result in
+    subst (λ (n : ℕ). drop_turn n (drop_tests (pins_of old.snaps n)) s empty_hand r ≡ machine.Ends told (with_book new s) empty_hand)
+    c.new-snapshot.ensures (drop_here old new told s r refl none c.new-snapshot.result c.drop_snapshot.ensures.turn)

@@ -1,20 +1,15 @@
--- What the tests of calls on snapshots come to, where the book refuses or does as it is asked.
-use Rattle.std.proofs.Common.{◌≡◌, ◌∙◌, ℕ, zero, suc, ◌<◌, ◌≤◌, ◌⊎◌, inl, inr, [], Option, Some, None, arith, length, refl, subst, sym, false, true≢false}
-use Rattle.nv_core.proofs.VisitTurns.{refuses}
+-- What the tests of calls on snapshots come to, where the book refuses.
+use Rattle.std.proofs.Common.{◌≡◌, ◌∙◌, ℕ, zero, suc, ◌<◌, ◌≤◌, ◌⊎◌, inl, inr, Option, Some, None, arith, length, refl, subst, sym, true≢false}
 use Rattle.std.specs.Prelude.{◌↔◌, IsOk, IsSome, Result, Ok, Err}
 use Rattle.std.specs.Option.{IsSomeAnd}
 use Rattle.std.proofs.lemmas.Bool.{cases_lt, le-leb, lt-leb}
 use Rattle.nv_base.specs.Refusals.{IsRefusedBy}
 use Rattle.nv_base.specs.declared.fault.Fault.{Fault}
 use Rattle.nv_base.specs.declared.fault.Fault.TheVariants.{EpochLimit, NoSnapshot, Pinned, TooManySnapshots}
-use Rattle.nv_base.specs.Memory.{out_of_memory}
 use Rattle.nv_base.specs.declared.limits.TheConstants.{NUMBER}
-use Rattle.nv_book.specs.Book.{after_drop_snapshot}
 use Rattle.nv_calls.specs.Refusals.{Check as Tests}
-use Rattle.nv_calls.specs.declared.answer.Answer.TheVariants.{Nothing}
-use Rattle.nv_epoch.specs.SnapList.{IsSound, Snapshots as Living, pins_of}
-use Rattle.nv_machine.specs.SnapshotOrCleaner.{drop_tests, drop_turn, make_tests, pick_turn, pin_turn}
-use Rattle.nv_machine.specs.World.{Draining, Ends, HandState, Running, Shared, empty_hand, with_book}
+use Rattle.nv_epoch.specs.SnapList.{IsSound, Snapshots as Living}
+use Rattle.nv_machine.specs.SnapshotOrCleaner.{drop_tests, make_tests}
 
 abbrev fails : Fault → Tests
 fails fault = Err fault
@@ -52,9 +47,6 @@ module _ (snaps : Living) (sound : IsSound snaps) where
 
 -- ---- a drop
 
-pub drop_passes : (pins : Option ℕ) → pins ≡ Some 0 → drop_tests pins ≡ Ok tt
-drop_passes pins is = rw is refl
-
 pub drop_told : {T : Type 0} (pins : Option ℕ) (result : Result T Fault) (fault : Fault) → (IsOk result ↔ (pins ≡ Some 0))
     → (IsRefusedBy result NoSnapshot ↔ (pins ≡ None)) → (IsRefusedBy result Pinned ↔ IsSomeAnd pins (λ n. 0 < n))
     → result ≡ Err fault → drop_tests pins ≡ Err fault
@@ -68,39 +60,9 @@ drop_told (Some (suc n)) result fault dropped none pinned is =
     let both : fails Pinned ≡ fails fault = (let e = sym told ∙ is in cc) in
     both
 
--- the snapshot that the book is asked to drop is that one
-pub drop_told_of : {T : Type 0} (snaps : Living) (asked snapshot : ℕ) (result : Result T Fault) (fault : Fault) → asked ≡ snapshot
-    → (IsOk result ↔ (pins_of snaps asked ≡ Some 0)) → (IsRefusedBy result NoSnapshot ↔ (pins_of snaps asked ≡ None))
-    → (IsRefusedBy result Pinned ↔ IsSomeAnd (pins_of snaps asked) (λ n. 0 < n))
-    → result ≡ Err fault → drop_tests (pins_of snaps snapshot) ≡ Err fault
-drop_told_of snaps asked snapshot result fault same dropped none pinned is =
-    subst (λ (n : ℕ). drop_tests (pins_of snaps n) ≡ Err fault) same
-    (drop_told (pins_of snaps asked) result fault dropped none pinned is)
-
-pub drop_done : (asked snapshot : ℕ) (s t : Shared) (h : HandState) (r : Running) → asked ≡ snapshot → pins_of s.book.snaps asked ≡ Some 0
-    → t ≡ with_book (after_drop_snapshot asked s.book) s
-    → drop_turn snapshot (drop_tests (pins_of s.book.snaps snapshot)) s h r ≡ Ends (Ok Nothing) t h
-drop_done asked snapshot s t h r same free is =
-    subst (λ (n : ℕ). drop_turn n (drop_tests (pins_of s.book.snaps n)) s h r ≡ Ends (Ok Nothing) t h) same (rw is (rw free refl))
-
 -- ---- a pin
-
-pub pin_told : (snapshot : ℕ) (pins : Option ℕ) (s : Shared) (r : Running) (fault : Fault) → r.slots ≡ [] → pins ≡ None
-    → fault ≡ NoSnapshot → pin_turn snapshot pins s empty_hand r ≡ Ends (Err fault) s empty_hand
-pin_told snapshot pins s r fault none is why = rw is (rw why (refuses s r NoSnapshot none))
 
 pub none_pinned : {T : Type 0} (pins : Option ℕ) (result : Result T Fault) (fault : Fault) → (IsOk result ↔ IsSome pins)
     → result ≡ Err fault → pins ≡ None
 none_pinned None result fault pinned is = refl
 none_pinned (Some n) result fault pinned is = absurd (true≢false (sym (subst IsOk is (pinned.1 refl))))
-
-pub none_pinned_of : {T : Type 0} (snaps : Living) (asked snapshot : ℕ) (result : Result T Fault) (fault : Fault) → asked ≡ snapshot
-    → (IsOk result ↔ IsSome (pins_of snaps asked)) → result ≡ Err fault → pins_of snaps snapshot ≡ None
-none_pinned_of snaps asked snapshot result fault same pinned is =
-    subst (λ (n : ℕ). pins_of snaps n ≡ None) same (none_pinned (pins_of snaps asked) result fault pinned is)
-
--- ---- a pick
-
-pub pick_refused : (d : Draining) (s : Shared) (r : Running) (fault : Fault) → r.slots ≡ [] → d.released ≡ 0
-    → fault ≡ out_of_memory → pick_turn d false s empty_hand r ≡ Ends (Err fault) s empty_hand
-pick_refused d s r fault none first why = rw first (rw why (refuses s r out_of_memory none))
