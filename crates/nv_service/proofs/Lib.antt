@@ -4,7 +4,8 @@ pub mod Closes
 mod Found
 pub mod Giving
 mod HeldCells
-mod LentCells
+pub mod ListCells
+pub mod TakenCells
 pub mod Misnamed
 pub mod Moves
 mod NamedItems

@@ -1,0 +1,57 @@
+use Rattle.std.proofs.Common.{◌≡◌, ◌∙◌, ◌<◌, ℕ, List, ap, arith, inl, length, refl, slice_index, subst, sym, vec_len}
+use Rattle.std.specs.List.{AllPairs}
+use Rattle.std.proofs.lemmas.Result.{on_ok_weaker}
+use Rattle.nv_service.specs.Taken.{GoesBack, IsNext, inos_of, pairs, taken_at}
+use Rattle.nv_service.proofs.Refusals.{held_out}
+use Rattle.nv_service.proofs.TakenCells.{all_back, all_whole, are_cells, ended, inos_same, places_kept, rising_inos}
+use Rattle.nv_service.proofs.guards.change_slots.Goals as goal
+
+pub returns-then-is_empty-clause-ended : goal.returns-then-is_empty-clause-ended
+returns-then-is_empty-clause-ended g c = rw c.refused.ensures.end (refl, held_out _ _ (inl refl))
+
+pub change_taken-done-requires-clause-cells : goal.change_taken-done-requires-clause-cells
+change_taken-done-requires-clause-cells g c =
+    are_cells c.take_all-taken.new.list.cells.items c.as_slice-slots.result.now (vec_len c.take_all-taken.new.list.cells)
+    c.take_all-taken.ensures.inos c.as_slice-slots.ensures.few c.as_slice-slots.ensures.rising
+
+pub change_taken-done-requires-clause-some : goal.change_taken-done-requires-clause-some
+change_taken-done-requires-clause-some g c =
+    on_ok_weaker c.take_all-taken.result
+    (λ (all : vec_len c.take_all-taken.new.list.cells ≡ length c.as_slice-slots.result.now). omega (arith, all, c.if-is_empty.false))
+    c.take_all-taken.ensures.all
+
+pub change_taken-done-requires-clause-whole : goal.change_taken-done-requires-clause-whole
+change_taken-done-requires-clause-whole g c =
+    all_whole g.C.Commits.opened c.args.seat.now.notes c.take_all-taken.new.list.cells.items c.take_all-taken.ensures.taken
+
+pub put_all-requires-clause-places : goal.put_all-requires-clause-places
+put_all-requires-clause-places g c =
+    places_kept c.take_all-taken.new.self.guards.items c.take_all-taken.new.list.cells.items c.change_taken-done.new.list.cells.items
+    c.take_all-taken.ensures.places c.change_taken-done.ensures.cells c.change_taken-done.ensures.versions
+
+pub put_all-requires-clause-rising : goal.put_all-requires-clause-rising
+put_all-requires-clause-rising g c =
+    let old = c.take_all-taken.new.list.cells.items in
+    subst (AllPairs (λ (a b : ℕ). a < b)) (sym (inos_same old c.change_taken-done.new.list.cells.items c.change_taken-done.ensures.cells))
+    (rising_inos old (change_taken-done-requires-clause-cells g c))
+
+pub put_all-requires-clause-back : goal.put_all-requires-clause-back
+put_all-requires-clause-back g c k inside =
+    let notes = c.change_taken-done.ensures.notes ∙ c.take_all-taken.ensures.notes in
+    subst (λ (l : List ℕ). GoesBack g.C.Commits.opened l (taken_at c.change_taken-done.new.list.cells.items k)) (sym notes)
+    (all_back g.C.Commits.opened c.args.seat.now.notes c.take_all-taken.new.list.cells.items c.change_taken-done.new.list.cells.items
+    c.take_all-taken.ensures.taken c.change_taken-done.ensures.cells c.change_taken-done.ensures.versions k inside)
+
+pub returns-clause-ended : goal.returns-clause-ended
+returns-clause-ended g c =
+    let seat = c.args.seat.now in
+    let after = c.put_all.new.notes in
+    let notes = c.change_taken-done.ensures.notes ∙ c.take_all-taken.ensures.notes in
+    let put = c.put_all.ensures in
+    let new = c.change_taken-done.new.list.cells.items in
+    ended g.C.Commits.opened seat.notes c.take_all-taken.new.list.cells.items new c.take_all-taken.ensures.taken
+    c.change_taken-done.ensures.cells c.change_taken-done.ensures.versions after
+    (λ k inside next. omega (arith, put.higher k inside next, ap (λ (l : List ℕ). slice_index l (taken_at new k).ino) notes))
+    (λ still. put.still still ∙ notes) g.C.Commits.commit seat.number seat.commits.amount c.change_taken-done.new.seat.commits.amount
+    c.args.change.update c.change_taken-done.result.1
+    (λ i. omega (arith, put.kept i, ap (λ (l : List ℕ). slice_index l i) notes)) c.change_taken-done.ensures.done
