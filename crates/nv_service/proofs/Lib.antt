@@ -3,7 +3,6 @@ mod CheckedOver
 pub mod Closes
 mod Found
 pub mod Giving
-mod HeldCells
 pub mod ListCells
 pub mod TakenCells
 pub mod Misnamed

@@ -1,28 +1,28 @@
 -- Cells that a call has taken out of their places, and what it has seen once they are back.
-use Rattle.std.proofs.Common.{◌≡◌, ◌≢◌, ◌∙◌, ◌++◌, ◌∷◌, ℕ, ◌+◌, ◌<◌, ◌≤◌, ◌-◌, List, [], Option, Some, None, ap, arith, length, map, refl, slice_index, subst, sym, take}
+use Rattle.std.proofs.Common.{◌≡◌, ◌≢◌, ◌∙◌, inl, inr, ◌++◌, ◌∷◌, ℕ, ◌+◌, ◌<◌, ◌≤◌, ◌-◌, List, [], Option, Some, None, ap, arith, length, map, refl, slice_index, subst, sym, take}
 use Rattle.std.specs.Prelude.{Err, IfErr, IfOk, Ok, OnErr, OnOk, Result, false, slice_index_or}
-use Rattle.std.specs.List.{AllByRecursion, AllPairs, slice_get}
+use Rattle.std.specs.List.{AllByRecursion, AllPairs}
 use Rattle.std.specs.declared.sync.MutexGuard.{MutexGuard}
 use Rattle.std.proofs.lemmas.List.{ext_get_or, get_or-map, get_or-take, get_or_append_left, get_or_push, length-map, length-take, length_push, map-append}
-use Rattle.std.proofs.Math.Seq.{take-append_seam}
+use Rattle.std.proofs.lemmas.Bool.{cases_eq}
 use Rattle.std.proofs.lemmas.List.Sums.{sum_by_push}
-use Rattle.std.proofs.lemmas.Option.{slice_get-get_or}
 use Rattle.nv_calls.specs.AllCalls.{is_nothing}
 use Rattle.nv_calls.specs.Updates.{blank_call}
 use Rattle.nv_calls.specs.Cells.{AreCells, ino_at, no_cell, state_at, value_at}
 use Rattle.nv_calls.specs.Commit.{ReceiptValue}
 use Rattle.nv_calls.specs.declared.update.Update.{Update}
+use Rattle.nv_base.specs.declared.numbers.Handle.{Handle}
 use Rattle.nv_calls.proofs.CellCommits.{all_at}
+use Rattle.nv_calls.proofs.PlannedAlike.{all_map}
 use Rattle.nv_cell.specs.Cell.{CellValue, block_total}
-use Rattle.nv_service.specs.Changing.{AreWhole, IsDoneOver, IsOfCall, IsReceiptOf, KeepVersions, MayBeRaised, RaisesPublished, blocks_in, published_by}
-use Rattle.nv_service.specs.Locked.{LockedValue, version_at, without_cell}
+use Rattle.nv_service.specs.Changing.{AreRaised, AreWhole, HaveSeenHigher, IsDoneOver, IsOfCall, IsRaised, IsReceiptOf, KeepVersions, MayBeRaised, RaisesPublished, blocks_in, published_by}
+use Rattle.nv_service.specs.Locked.{LockedValue, version_at}
 use Rattle.nv_service.specs.Rounds.{IsEndedBy}
 use Rattle.nv_service.specs.Sessions.{at_seat}
 use Rattle.nv_service.specs.Taken.{ArePlaces, GoesBack, IsNext, IsStill, IsTaken, empty_place, inos_of, no_taken, pair, pairs, taken_at, versions_of}
 use Rattle.nv_service.specs.declared.cell_list.TakenCell.{TakenCell}
 use Rattle.nv_service.specs.declared.change.ChangeEnd.{ChangeEnd}
-use Rattle.nv_service.proofs.HeldCells.{SeenAt, seen_higher}
-use Rattle.nv_service.proofs.Turning.{joined_last, split_last}
+use Rattle.nv_service.proofs.Turning.{joined_last}
 use Rattle.std.specs.Option.{option_map}
 use Rattle.std.specs.Sync.Mutex.{mutex_guard_value}
 
@@ -62,7 +62,7 @@ pub taken_last : (front : List TakenCell) (t : TakenCell) (items : List TakenCel
 taken_last front t items is =
     ap (λ (l : List TakenCell). taken_at l (length front)) is ∙ get_or_push front t no_taken (length front) refl
 
-abbrev told : TakenCell → Option LockedValue
+abbrev pub told : TakenCell → Option LockedValue
 told t = Some (empty_place t)
 
 pub places_more : (guards more : List (Option (MutexGuard LockedValue))) (guard : MutexGuard LockedValue) (items now : List TakenCell)
@@ -71,28 +71,63 @@ pub places_more : (guards more : List (Option (MutexGuard LockedValue))) (guard 
 places_more guards more guard items now t are by to is =
     joined_last (option_map mutex_guard_value) told guards more (Some guard) items now t are by to (ap Some is)
 
-pub places_last : (guards front : List (Option (MutexGuard LockedValue))) (last : Option (MutexGuard LockedValue)) (items rest : List TakenCell)
-    (t : TakenCell) → ArePlaces guards items → guards ≡ front ++ last ∷ [] → items ≡ rest ++ t ∷ []
-    → ArePlaces front rest × (option_map mutex_guard_value last ≡ Some (empty_place t))
-places_last guards front last items rest t are by to =
-    split_last (option_map mutex_guard_value) told guards front last items rest t are by to
+-- the last of the guards is that of the place of the last cell
+pub record LastGuard (guards : List (Option (MutexGuard LockedValue))) (front : List TakenCell) (t : TakenCell) : Type 0 where
+  pub before : List (Option (MutexGuard LockedValue))
+  pub guard : MutexGuard LockedValue
+  pub is : guards ≡ before ++ Some guard ∷ []
+  pub places : ArePlaces before front
+  pub place : mutex_guard_value guard ≡ empty_place t
 
--- what is popped is what was pushed last
-pub popped : {X : Type 0} (items rest front : List X) (got : Option X) (last : X) → rest ≡ take (length items - 1) items
-    → got ≡ slice_get items (length items - 1) → items ≡ front ++ last ∷ [] → (rest ≡ front) × (got ≡ Some last)
-popped items rest front got last is from by =
-    let behind : length items - 1 ≡ length front = omega (arith, ap (λ l. length l) by, length_push front last) in
-    let inside : length front < length (front ++ last ∷ []) = omega (arith, length_push front last) in (
-      is ∙ ap (λ (n : ℕ). take n items) behind ∙ ap (λ l. take (length front) l) by ∙ take-append_seam front (last ∷ []),
-      from ∙ ap (λ (n : ℕ). slice_get items n) behind ∙ ap (λ l. slice_get l (length front)) by
-          ∙ slice_get-get_or (front ++ last ∷ []) (length front) last inside ∙ ap Some (get_or_push front last last (length front) refl),
-    )
+no_more : {A : Type 0} (x : A) (xs : List A) → [] ≡ x ∷ xs → ⊥
+no_more x xs is = cc
 
--- a place whose cell was taken out
-pub emptied : (place : LockedValue) (t : TakenCell) → t.ino ≡ place.ino → t.before ≡ place.version → without_cell place ≡ empty_place t
-emptied place t ino before =
-    ap (λ (n : ℕ). record { ino = n; version = place.version; cell = None }) (sym ino)
-    ∙ ap (λ (n : ℕ). record { ino = t.ino; version = n; cell = None }) (sym before)
+none_not : {A : Type 0} (x : A) → None ≡ Some x → ⊥
+none_not x is = cc
+
+alone : (guard : Option (MutexGuard LockedValue)) (guards : List (Option (MutexGuard LockedValue))) (t : TakenCell)
+    → option_map mutex_guard_value guard ≡ told t → map (option_map mutex_guard_value) guards ≡ [] → LastGuard (guard ∷ guards) [] t
+alone None guards t head tail = absurd (none_not (empty_place t) head)
+alone (Some guard) [] t head tail =
+    let place : mutex_guard_value guard ≡ empty_place t = cc in
+    record { before = []; guard = guard; is = refl; places = refl; place = place }
+alone (Some guard) (g ∷ guards) t head tail =
+    absurd (no_more (option_map mutex_guard_value g) (map (option_map mutex_guard_value) guards) (sym tail))
+
+pub last_guard : (guards : List (Option (MutexGuard LockedValue))) (front : List TakenCell) (t : TakenCell)
+    → map (option_map mutex_guard_value) guards ≡ map told (front ++ t ∷ []) → LastGuard guards front t
+last_guard [] [] t is = absurd (no_more (told t) [] is)
+last_guard [] (x ∷ front) t is = absurd (no_more (told x) (map told (front ++ t ∷ [])) is)
+last_guard (g ∷ guards) [] t is =
+    let head : option_map mutex_guard_value g ≡ told t = cc in
+    let tail : map (option_map mutex_guard_value) guards ≡ [] = cc in
+    alone g guards t head tail
+last_guard (g ∷ guards) (x ∷ front) t is =
+    let head : option_map mutex_guard_value g ≡ told x = cc in
+    let tail : map (option_map mutex_guard_value) guards ≡ map told (front ++ t ∷ []) = cc in
+    let rest = last_guard guards front t tail in
+    record {
+      before = g ∷ rest.before;
+      guard = rest.guard;
+      is = ap (λ (l : List (Option (MutexGuard LockedValue))). g ∷ l) rest.is;
+      places = ap (λ (o : Option LockedValue). o ∷ map (option_map mutex_guard_value) rest.before) head
+          ∙ ap (λ (l : List (Option LockedValue)). told x ∷ l) rest.places;
+      place = rest.place;
+    }
+
+-- who had seen no more than the version of a place has seen no less once it is at a later one
+pub seen_no_less : (opened old new : List ℕ) (ino place before version : ℕ) → place ≡ ino
+    → version_at opened ino (slice_index old ino) ≤ before → version_at opened place (slice_index new place) ≡ version → before ≤ version
+    → ((i : ℕ) → i ≢ place → slice_index new i ≡ slice_index old i) → (i : ℕ) → slice_index old i ≤ slice_index new i
+seen_no_less opened old new ino place before version own met here rises elsewhere i = elim (cases_eq i place) [
+  | inl same ↦
+      let at : version_at opened i (slice_index new i) ≡ version =
+      ap (λ (n : ℕ). version_at opened n (slice_index new n)) same ∙ here in
+      let was : version_at opened i (slice_index old i) ≡ version_at opened ino (slice_index old ino) =
+      ap (λ (n : ℕ). version_at opened n (slice_index old n)) (same ∙ own) in
+      omega (arith, at, was, met, rises)
+  | inr apart ↦ omega (arith, elsewhere i apart)
+]
 
 -- as many guards as cells
 pub places_count : (guards : List (Option (MutexGuard LockedValue))) (items : List TakenCell) → ArePlaces guards items
@@ -219,6 +254,20 @@ pub places_kept : (guards : List (Option (MutexGuard LockedValue))) (old new : L
     → MayBeRaised (pairs old) (pairs new) → versions_of new ≡ versions_of old → ArePlaces guards new
 places_kept guards old new are raised versions =
     are ∙ sym (told_same new old (inos_same old new raised) versions)
+
+-- ---- what was seen
+
+-- a cell that was raised was seen so
+abbrev SeenAt : List (ℕ × CellValue) → List (ℕ × CellValue) → List ℕ → List ℕ → ℕ → Type 0
+SeenAt old new before after k = (state_at new k).version ≡ (state_at old k).version + 1
+    → slice_index before (ino_at old k) < slice_index after (ino_at old k)
+
+seen_higher : (old new : List (ℕ × CellValue)) (before after : List ℕ) (handles : List Handle)
+    → ((k : ℕ) → k < length old → SeenAt old new before after k)
+    → AreRaised old new handles → HaveSeenHigher before after handles
+seen_higher old new before after handles each raised =
+    all_map (λ (h : Handle). IsRaised old new h.ino) (λ (h : Handle). slice_index before h.ino < slice_index after h.ino)
+    (λ h is. subst (λ (i : ℕ). slice_index before i < slice_index after i) is.ino_is (each is.at is.within is.version)) handles raised
 
 -- ---- taken cells
 

@@ -24,23 +24,8 @@ pub change_taken-done-requires-clause-whole : goal.change_taken-done-requires-cl
 change_taken-done-requires-clause-whole g c =
     all_whole g.C.Commits.opened c.args.seat.now.notes c.take_all-taken.new.list.cells.items c.take_all-taken.ensures.taken
 
-pub put_all-requires-clause-places : goal.put_all-requires-clause-places
-put_all-requires-clause-places g c =
-    places_kept c.take_all-taken.new.self.guards.items c.take_all-taken.new.list.cells.items c.change_taken-done.new.list.cells.items
-    c.take_all-taken.ensures.places c.change_taken-done.ensures.cells c.change_taken-done.ensures.versions
-
-pub put_all-requires-clause-rising : goal.put_all-requires-clause-rising
-put_all-requires-clause-rising g c =
-    let old = c.take_all-taken.new.list.cells.items in
-    subst (AllPairs (λ (a b : ℕ). a < b)) (sym (inos_same old c.change_taken-done.new.list.cells.items c.change_taken-done.ensures.cells))
-    (rising_inos old (change_taken-done-requires-clause-cells g c))
-
-pub put_all-requires-clause-back : goal.put_all-requires-clause-back
-put_all-requires-clause-back g c k inside =
-    let notes = c.change_taken-done.ensures.notes ∙ c.take_all-taken.ensures.notes in
-    subst (λ (l : List ℕ). GoesBack g.C.Commits.opened l (taken_at c.change_taken-done.new.list.cells.items k)) (sym notes)
-    (all_back g.C.Commits.opened c.args.seat.now.notes c.take_all-taken.new.list.cells.items c.change_taken-done.new.list.cells.items
-    c.take_all-taken.ensures.taken c.change_taken-done.ensures.cells c.change_taken-done.ensures.versions k inside)
+pub put_all-requires : goal.put_all-requires
+put_all-requires g c = ?
 
 pub returns-clause-ended : goal.returns-clause-ended
 returns-clause-ended g c =
@@ -51,7 +36,7 @@ returns-clause-ended g c =
     let new = c.change_taken-done.new.list.cells.items in
     ended g.C.Commits.opened seat.notes c.take_all-taken.new.list.cells.items new c.take_all-taken.ensures.taken
     c.change_taken-done.ensures.cells c.change_taken-done.ensures.versions after
-    (λ k inside next. omega (arith, put.higher k inside next, ap (λ (l : List ℕ). slice_index l (taken_at new k).ino) notes))
+    (λ k inside next. omega (arith, put.higher k (omega (arith, inside, c.change_taken-done.new.list.cells.ok)) next, ap (λ (l : List ℕ). slice_index l (taken_at new k).ino) notes))
     (λ still. put.still still ∙ notes) g.C.Commits.commit seat.number seat.commits.amount c.change_taken-done.new.seat.commits.amount
     c.args.change.update c.change_taken-done.result.1
     (λ i. omega (arith, put.kept i, ap (λ (l : List ℕ). slice_index l i) notes)) c.change_taken-done.ensures.done

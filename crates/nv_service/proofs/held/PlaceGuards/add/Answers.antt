@@ -1,11 +1,11 @@
-use Rattle.std.proofs.Common.{arith, length}
+use Rattle.std.proofs.Common.{arith}
 use Rattle.nv_service.proofs.TakenCells.{places_count, places_more}
 use Rattle.nv_service.proofs.held.PlaceGuards.add.Goals as goal
 
 pub push_reserved-requires : goal.push_reserved-requires
 push_reserved-requires g c =
-    let guards = c.args.self.now.guards in
-    omega (arith, places_count guards.items c.args.list.now.cells.items c.requires.places, c.requires.few, guards.wide)
+    let many = places_count c.args.self.now.guards.items c.args.list.now.cells.items c.requires.places in
+    omega (arith, many, c.requires.few, c.args.self.now.wide, c.args.list.now.cells.ok)
 
 pub returns-clause-places : goal.returns-clause-places
 returns-clause-places g c =

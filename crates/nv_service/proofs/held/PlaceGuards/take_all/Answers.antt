@@ -1,9 +1,9 @@
-use Rattle.std.proofs.Common.{rules, ◌≡◌, ◌∙◌, ◌++◌, ◌∷◌, ℕ, List, [], ap, arith, length, map, refl, subst, sym, take, vec_len}
+use Rattle.std.proofs.Common.{rules, ◌≡◌, ◌∙◌, ◌++◌, ◌∷◌, ℕ, List, [], ap, arith, length, refl, subst, sym, take, vec_len}
 use Rattle.std.specs.List.{AllByRecursion}
-use Rattle.std.proofs.lemmas.List.{map-append, take_more}
+use Rattle.std.proofs.lemmas.List.{length_push, map-append, take_more}
 use Rattle.nv_cell.proofs.RunFlags.{all_append}
 use Rattle.nv_service.specs.Changing.{blocks_in}
-use Rattle.nv_service.specs.Taken.{IsTaken, inos_of, pairs}
+use Rattle.nv_service.specs.Taken.{ArePlaces, IsTaken, inos_of, pairs}
 use Rattle.nv_service.specs.declared.cell_list.CellList.{CellList}
 use Rattle.nv_service.specs.declared.cell_list.TakenCell.{TakenCell}
 use Rattle.nv_service.proofs.TakenCells.{blocks_more}
@@ -13,9 +13,9 @@ pub loop-slot-init : goal.loop-slot-init
 loop-slot-init g c =
     let empty = c.requires.list.0 in
     record {
-      places = c.requires.none ∙ ap (λ (l : List TakenCell). map _ l) (sym empty);
+      places = subst (ArePlaces c.args.self.now.guards.items) (sym empty) c.requires.none;
       inos = ap inos_of empty;
-      count = omega (arith, ap (λ (l : List TakenCell). length l) empty);
+      count = omega (arith, ap (λ (l : List TakenCell). length l) empty, c.args.list.now.cells.ok);
       taken = subst (AllByRecursion (IsTaken g.C.Commits.opened c.args.notes.now)) (sym empty) tt;
       notes = refl;
       parts = refl;
@@ -35,7 +35,14 @@ loop-slot-preserved g c =
       inos = ap inos_of one.1 ∙ map-append (λ (t : TakenCell). t.ino) items (one.0 ∷ [])
           ∙ ap (λ (l : List ℕ). l ++ one.0.ino ∷ []) i.inos ∙ ap (λ (n : ℕ). take c.loop-slot.slot-index c.args.slots.now ++ n ∷ []) one.2
           ∙ sym (take_more c.args.slots.now c.loop-slot.slot-index c.slot-item.result (search rules));
-      count = omega (arith, i.count, ap (λ (l : List TakenCell). length l) one.1);
+      count = omega (
+        arith,
+        i.count,
+        ap (λ (l : List TakenCell). length l) one.1,
+        length_push items one.0,
+        c.loop-slot.list.cells.ok,
+        c.take_next.new.list.cells.ok,
+      );
       taken = subst (AllByRecursion (IsTaken g.C.Commits.opened c.args.notes.now)) (sym one.1)
           (all_append (IsTaken g.C.Commits.opened c.args.notes.now) items (one.0 ∷ []) i.taken (notes, tt));
       notes = c.take_next.ensures.notes ∙ i.notes;
