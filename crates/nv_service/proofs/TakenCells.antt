@@ -116,16 +116,17 @@ last_guard (g ∷ guards) (x ∷ front) t is =
     }
 
 -- who had seen no more than the version of a place has seen no less once it is at a later one
-pub seen_no_less : (opened old new : List ℕ) (ino place before version : ℕ) → place ≡ ino
-    → version_at opened ino (slice_index old ino) ≤ before → version_at opened place (slice_index new place) ≡ version → before ≤ version
-    → ((i : ℕ) → i ≢ place → slice_index new i ≡ slice_index old i) → (i : ℕ) → slice_index old i ≤ slice_index new i
-seen_no_less opened old new ino place before version own met here rises elsewhere i = elim (cases_eq i place) [
+pub seen_no_less : (opened old new : List ℕ) (ino place before version later : ℕ)
+    → version_at opened place (slice_index new place) ≡ version → ((i : ℕ) → i ≢ place → slice_index new i ≡ slice_index old i)
+    → version_at opened ino (slice_index old ino) ≤ before → before ≤ later → place ≡ ino → version ≡ later
+    → (i : ℕ) → slice_index old i ≤ slice_index new i
+seen_no_less opened old new ino place before version later here elsewhere met rises own is i = elim (cases_eq i place) [
   | inl same ↦
-      let at : version_at opened i (slice_index new i) ≡ version =
+      let seen : version_at opened i (slice_index new i) ≡ version =
       ap (λ (n : ℕ). version_at opened n (slice_index new n)) same ∙ here in
-      let was : version_at opened i (slice_index old i) ≡ version_at opened ino (slice_index old ino) =
+      let had : version_at opened i (slice_index old i) ≡ version_at opened ino (slice_index old ino) =
       ap (λ (n : ℕ). version_at opened n (slice_index old n)) (same ∙ own) in
-      omega (arith, at, was, met, rises)
+      omega (arith, seen, had, met, rises, is)
   | inr apart ↦ omega (arith, elsewhere i apart)
 ]
 

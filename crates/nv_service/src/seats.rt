@@ -232,9 +232,7 @@ pub(crate) fn seated<C: Commits, B: Blocks>(
         let Some(seat) = free.pop() else {
             unreachable!()
         };
-        let Some(room) = rooms.pop() else {
-            unreachable!()
-        };
+        let room = next_room(&mut rooms);
         into.push_reserved(seat.into_inner().session(alloc, geometry, number, room));
     }
     into
@@ -248,9 +246,24 @@ fn cell_rooms(alloc: Global, count: u64) -> Result<Vec<CellList>, Fault>
 {
     let mut rooms = Vec::with_capacity(alloc, count as usize)?;
     for _ in 0..count {
-        rooms.push_reserved(CellList::new(alloc)?);
+        let room = CellList::new(alloc)?;
+        rooms.push_reserved(room);
     }
     Ok(rooms)
+}
+
+/// Takes the room for the cells of one session out.
+fn next_room(rooms: &mut Vec<CellList>) -> CellList
+    requires some { 0 < vec_len rooms.old }
+    requires each { All IsRoom rooms.old.items }
+    ensures room { IsRoom result }
+    ensures each { All IsRoom rooms.new.items }
+    ensures count { vec_len rooms.new + 1 ≡ vec_len rooms.old }
+{
+    let Some(room) = rooms.pop() else {
+        unreachable!()
+    };
+    room
 }
 
 /// Whether the sessions are those of so many seats: as many, and each seat's number once.

@@ -1,4 +1,4 @@
-use Rattle.std.proofs.Common.{◌≡◌, ◌∙◌, ◌++◌, ◌∷◌, ◌<◌, ◌≤◌, ◌+◌, ℕ, List, [], Option, Some, None, ap, arith, inl, inr, length, map, slice_index, subst, sym}
+use Rattle.std.proofs.Common.{◌≡◌, ◌∙◌, ◌++◌, ◌∷◌, ◌<◌, ◌≤◌, ◌+◌, ℕ, List, [], Option, Some, None, ap, arith, inl, inr, length, map, slice_index, subst, sym, vec_len}
 use Rattle.std.specs.List.{AllPairs}
 use Rattle.std.specs.Option.{option_map}
 use Rattle.std.specs.Sync.Mutex.{mutex_guard_value}
@@ -71,7 +71,30 @@ put_back-requires-clause-back g t c =
 
 -- the others go back once the last one is back
 pub put_all-requires : goal.put_all-requires
-put_all-requires g t c = ?
+put_all-requires g t c =
+    let items = c.args.list.now.cells.items in
+    let front = c.pop.new.self.cells.items in
+    let last = c.in-Some.taken in
+    let is = c.in-Some.ensures.cells in
+    let many : length items ≡ length front + 1 = ap (λ (l : List TakenCell). length l) is ∙ length_push front last in
+    let list = c.args.list.now.cells.ok in
+    let left = c.pop.new.self.cells.ok in
+    let back : (k : ℕ) → k < vec_len c.pop.new.self.cells → GoesBack g.C.Commits.opened c.put_back.new.notes (taken_at front k) = λ k inside.
+        let there : k < length front = omega (arith, inside, left) in
+        still_back g.C.Commits.opened c.args.notes.now c.put_back.new.notes (taken_at front k)
+        (c.put_back.ensures.elsewhere (taken_at front k).ino (last_apart front last items k is c.requires.rising there))
+        (subst (GoesBack g.C.Commits.opened c.args.notes.now) (taken_front front last items k is there)
+        (c.requires.back k (omega (arith, there, many, list)))) in (
+      omega (arith, many, list, left),
+      (
+        others c.args.self.now.guards.items items front last c.requires.places is c.pop-in-Some.new.self.guards.items
+            c.pop-in-Some.result c.pop-in-Some.ensures,
+        rising_front front last items is c.requires.rising,
+        back,
+        omega (arith, c.requires.part, c.put_back.ensures.parts),
+        omega (arith, c.requires.enough, c.put_back.ensures.amount, blocks_more front last items is),
+      ),
+    )
 
 pub returns-in-Some-pop-clause-higher : goal.returns-in-Some-pop-clause-higher
 returns-in-Some-pop-clause-higher g t c k inside = elim (cases_lt k (length c.pop.new.self.cells.items)) [

@@ -1,4 +1,4 @@
-use Rattle.std.proofs.Common.{rules, ◌≡◌, ◌∙◌, ◌++◌, ◌∷◌, ℕ, List, [], ap, arith, length, refl, subst, sym, take, vec_len}
+use Rattle.std.proofs.Common.{◌≡◌, ◌∙◌, ◌++◌, ◌∷◌, ℕ, List, [], ap, arith, length, refl, subst, sym, take, vec_len}
 use Rattle.std.specs.List.{AllByRecursion}
 use Rattle.std.proofs.lemmas.List.{length_push, map-append, take_more}
 use Rattle.nv_cell.proofs.RunFlags.{all_append}
@@ -33,8 +33,9 @@ loop-slot-preserved g c =
     record {
       places = c.take_next.ensures.places;
       inos = ap inos_of one.1 ∙ map-append (λ (t : TakenCell). t.ino) items (one.0 ∷ [])
-          ∙ ap (λ (l : List ℕ). l ++ one.0.ino ∷ []) i.inos ∙ ap (λ (n : ℕ). take c.loop-slot.slot-index c.args.slots.now ++ n ∷ []) one.2
-          ∙ sym (take_more c.args.slots.now c.loop-slot.slot-index c.slot-item.result (search rules));
+          ∙ ap (λ (l : List ℕ). l ++ one.0.ino ∷ []) i.inos
+          ∙ ap (λ (n : ℕ). take c.loop-slot.slot-index c.args.slots.now ++ n ∷ []) (one.2 ∙ c.slot-item.is)
+          ∙ sym (take_more c.args.slots.now c.loop-slot.slot-index c.slot-item.result c.loop-slot-test.true);
       count = omega (
         arith,
         i.count,
