@@ -19,7 +19,7 @@ use Rattle.nv_service.specs.Changing.{AreRaised, AreWhole, HaveSeenHigher, IsDon
 use Rattle.nv_service.specs.Locked.{LockedValue, version_at}
 use Rattle.nv_service.specs.Rounds.{IsEndedBy}
 use Rattle.nv_service.specs.Sessions.{at_seat}
-use Rattle.nv_service.specs.Taken.{ArePlaces, GoesBack, IsNext, IsStill, IsTaken, empty_place, inos_of, no_taken, pair, pairs, taken_at, versions_of}
+use Rattle.nv_service.specs.Taken.{ArePlaces, GoesBack, IsNext, IsStill, IsTaken, empty_place, inos_of, no_taken, pair, pairs, places_of, taken_at, versions_of}
 use Rattle.nv_service.specs.declared.cell_list.TakenCell.{TakenCell}
 use Rattle.nv_service.specs.declared.change.ChangeEnd.{ChangeEnd}
 use Rattle.nv_service.proofs.Turning.{joined_last}
@@ -94,6 +94,17 @@ alone (Some guard) [] t head tail =
 alone (Some guard) (g ∷ guards) t head tail =
     absurd (no_more (option_map mutex_guard_value g) (map (option_map mutex_guard_value) guards) (sym tail))
 
+one_more : (guard : Option (MutexGuard LockedValue)) (guards : List (Option (MutexGuard LockedValue))) (x : TakenCell) (front : List TakenCell)
+    (t : TakenCell) → option_map mutex_guard_value guard ≡ told x → LastGuard guards front t → LastGuard (guard ∷ guards) (x ∷ front) t
+one_more guard guards x front t head rest = record {
+  before = guard ∷ rest.before;
+  guard = rest.guard;
+  is = ap (λ (l : List (Option (MutexGuard LockedValue))). guard ∷ l) rest.is;
+  places = ap (λ (o : Option LockedValue). o ∷ places_of rest.before) head
+      ∙ ap (λ (l : List (Option LockedValue)). told x ∷ l) rest.places;
+  place = rest.place;
+}
+
 pub last_guard : (guards : List (Option (MutexGuard LockedValue))) (front : List TakenCell) (t : TakenCell)
     → map (option_map mutex_guard_value) guards ≡ map told (front ++ t ∷ []) → LastGuard guards front t
 last_guard [] [] t is = absurd (no_more (told t) [] is)
@@ -105,15 +116,7 @@ last_guard (g ∷ guards) [] t is =
 last_guard (g ∷ guards) (x ∷ front) t is =
     let head : option_map mutex_guard_value g ≡ told x = cc in
     let tail : map (option_map mutex_guard_value) guards ≡ map told (front ++ t ∷ []) = cc in
-    let rest = last_guard guards front t tail in
-    record {
-      before = g ∷ rest.before;
-      guard = rest.guard;
-      is = ap (λ (l : List (Option (MutexGuard LockedValue))). g ∷ l) rest.is;
-      places = ap (λ (o : Option LockedValue). o ∷ map (option_map mutex_guard_value) rest.before) head
-          ∙ ap (λ (l : List (Option LockedValue)). told x ∷ l) rest.places;
-      place = rest.place;
-    }
+    one_more g guards x front t head (last_guard guards front t tail)
 
 -- who had seen no more than the version of a place has seen no less once it is at a later one
 pub seen_no_less : (opened old new : List ℕ) (ino place before version later : ℕ)

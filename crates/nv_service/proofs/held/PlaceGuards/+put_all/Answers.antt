@@ -71,7 +71,7 @@ put_back-requires-clause-back g t c =
 
 -- the others go back once the last one is back
 pub put_all-requires : goal.put_all-requires
-put_all-requires g t c =
+put_all-requires g t c κs within =
     let items = c.args.list.now.cells.items in
     let front = c.pop.new.self.cells.items in
     let last = c.in-Some.taken in
@@ -85,15 +85,15 @@ put_all-requires g t c =
         (c.put_back.ensures.elsewhere (taken_at front k).ino (last_apart front last items k is c.requires.rising there))
         (subst (GoesBack g.C.Commits.opened c.args.notes.now) (taken_front front last items k is there)
         (c.requires.back k (omega (arith, there, many, list)))) in (
-      omega (arith, many, list, left),
-      (
+      omega (arith, many, list, left, c.decreases),
+      (within.0, (within.1.0, (within.1.1, (omega arith, (
         others c.args.self.now.guards.items items front last c.requires.places is c.pop-in-Some.new.self.guards.items
             c.pop-in-Some.result c.pop-in-Some.ensures,
         rising_front front last items is c.requires.rising,
         back,
         omega (arith, c.requires.part, c.put_back.ensures.parts),
         omega (arith, c.requires.enough, c.put_back.ensures.amount, blocks_more front last items is),
-      ),
+      ))))),
     )
 
 pub returns-in-Some-pop-clause-higher : goal.returns-in-Some-pop-clause-higher
