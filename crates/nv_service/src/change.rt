@@ -12,6 +12,7 @@ ghost use Rattle.nv_service.specs.Refusing.{IsWant, LooksFor, MayEnd, failed_by,
 
 use crate::checking::check_over;
 use crate::commit::commit_over;
+use crate::commit_lock::lock_book;
 use crate::names::{Blocks, Commits};
 use crate::seat::Seat;
 use crate::service::Service;
@@ -201,7 +202,7 @@ fn commit_ready<C: Commits, B: Blocks, L: Cells, R: Wait>(
         × (mine.new.amount ≡ mine.old.amount)) }
     ensures frame { L.frame lent.new ≡ L.frame lent.old }
 {
-    let mut book = service.book_lock().lock(rt);
+    let mut book = lock_book(rt, service);
     let cpu = number % service.geometry.numbers.cpus;
     match commit_over(&mut *book, lent, ready, number, cpu, mine) {
         Ok(done) => Ok(done),

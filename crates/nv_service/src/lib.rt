@@ -17,6 +17,7 @@ mod clean;
 mod cleaners;
 mod close;
 mod commit;
+mod commit_lock;
 mod drain;
 mod ending;
 mod first_locks;
