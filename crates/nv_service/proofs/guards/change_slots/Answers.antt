@@ -35,6 +35,8 @@ put_all-requires g c =
     let new = c.change_taken-done.new.list.cells.items in
     let done = c.change_taken-done.ensures in
     let notes = done.notes ∙ c.take_all-taken.ensures.notes in
+    let rising = rising_inos old (are_cells old c.as_slice-slots.result.now (vec_len c.take_all-taken.new.list.cells)
+    c.take_all-taken.ensures.inos c.as_slice-slots.ensures.few c.as_slice-slots.ensures.rising) in
     let back : (k : ℕ) → k < vec_len c.change_taken-done.new.list.cells
         → GoesBack g.C.Commits.opened c.change_taken-done.new.seat.notes (taken_at new k) = λ k inside.
         subst (λ (l : List ℕ). GoesBack g.C.Commits.opened l (taken_at new k)) (sym notes)
@@ -43,12 +45,13 @@ put_all-requires g c =
       omega arith,
       (
         places_kept c.take_all-taken.new.self.guards.items old new c.take_all-taken.ensures.places done.cells done.versions,
-        subst (AllPairs (λ (a b : ℕ). a < b)) (sym (inos_same old new done.cells))
-            (rising_inos old (are_cells old c.as_slice-slots.result.now (vec_len c.take_all-taken.new.list.cells) c.take_all-taken.ensures.inos
-            c.as_slice-slots.ensures.few c.as_slice-slots.ensures.rising)),
-        back,
-        omega (arith, c.requires.parts.1, c.take_all-taken.ensures.parts, done.blocks_part),
-        omega (arith, done.blocks),
+        (
+          subst (AllPairs (λ (a b : ℕ). a < b)) (sym (inos_same old new done.cells)) rising,
+          (back, (
+            omega (arith, c.requires.parts.1, c.take_all-taken.ensures.parts, done.blocks_part),
+            omega (arith, done.blocks),
+          )),
+        ),
       ),
     )
 

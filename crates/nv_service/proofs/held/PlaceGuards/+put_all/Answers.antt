@@ -89,10 +89,10 @@ put_all-requires g t c κs within =
       (within.0, (within.1.0, (within.1.1, (omega arith, (
         others c.args.self.now.guards.items items front last c.requires.places is c.pop-in-Some.new.self.guards.items
             c.pop-in-Some.result c.pop-in-Some.ensures,
-        rising_front front last items is c.requires.rising,
-        back,
-        omega (arith, c.requires.part, c.put_back.ensures.parts),
-        omega (arith, c.requires.enough, c.put_back.ensures.amount, blocks_more front last items is),
+        (rising_front front last items is c.requires.rising, (back, (
+          omega (arith, c.requires.part, c.put_back.ensures.parts),
+          omega (arith, c.requires.enough, c.put_back.ensures.amount, blocks_more front last items is),
+        ))),
       ))))),
     )
 
