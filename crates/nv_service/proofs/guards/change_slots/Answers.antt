@@ -38,19 +38,22 @@ put_all-requires g c =
     let rising = rising_inos old (are_cells old c.as_slice-slots.result.now (vec_len c.take_all-taken.new.list.cells)
     c.take_all-taken.ensures.inos c.as_slice-slots.ensures.few c.as_slice-slots.ensures.rising) in
     let back : (k : ℕ) → k < vec_len c.change_taken-done.new.list.cells
-        → GoesBack g.C.Commits.opened c.change_taken-done.new.seat.notes (taken_at new k) = λ k inside.
-        subst (λ (l : List ℕ). GoesBack g.C.Commits.opened l (taken_at new k)) (sym notes)
-        (all_back g.C.Commits.opened c.args.seat.now.notes old new c.take_all-taken.ensures.taken done.cells done.versions k
-        (omega (arith, inside, c.change_taken-done.new.list.cells.ok))) in (
+    → GoesBack g.C.Commits.opened c.change_taken-done.new.seat.notes (taken_at new k) = λ k inside.
+    subst (λ (l : List ℕ). GoesBack g.C.Commits.opened l (taken_at new k)) (sym notes)
+    (all_back g.C.Commits.opened c.args.seat.now.notes old new c.take_all-taken.ensures.taken done.cells done.versions k
+    (omega (arith, inside, c.change_taken-done.new.list.cells.ok))) in (
       omega arith,
       (
         places_kept c.take_all-taken.new.self.guards.items old new c.take_all-taken.ensures.places done.cells done.versions,
         (
           subst (AllPairs (λ (a b : ℕ). a < b)) (sym (inos_same old new done.cells)) rising,
-          (back, (
-            omega (arith, c.requires.parts.1, c.take_all-taken.ensures.parts, done.blocks_part),
-            omega (arith, done.blocks),
-          )),
+          (
+            back,
+            (
+              omega (arith, c.requires.parts.1, c.take_all-taken.ensures.parts, done.blocks_part),
+              omega (arith, done.blocks),
+            ),
+          ),
         ),
       ),
     )

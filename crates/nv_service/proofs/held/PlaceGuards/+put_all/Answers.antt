@@ -80,20 +80,38 @@ put_all-requires g t c κs within =
     let list = c.args.list.now.cells.ok in
     let left = c.pop.new.self.cells.ok in
     let back : (k : ℕ) → k < vec_len c.pop.new.self.cells → GoesBack g.C.Commits.opened c.put_back.new.notes (taken_at front k) = λ k inside.
-        let there : k < length front = omega (arith, inside, left) in
-        still_back g.C.Commits.opened c.args.notes.now c.put_back.new.notes (taken_at front k)
-        (c.put_back.ensures.elsewhere (taken_at front k).ino (last_apart front last items k is c.requires.rising there))
-        (subst (GoesBack g.C.Commits.opened c.args.notes.now) (taken_front front last items k is there)
-        (c.requires.back k (omega (arith, there, many, list)))) in (
+    let there : k < length front = omega (arith, inside, left) in
+    still_back g.C.Commits.opened c.args.notes.now c.put_back.new.notes (taken_at front k)
+    (c.put_back.ensures.elsewhere (taken_at front k).ino (last_apart front last items k is c.requires.rising there))
+    (subst (GoesBack g.C.Commits.opened c.args.notes.now) (taken_front front last items k is there)
+    (c.requires.back k (omega (arith, there, many, list)))) in (
       omega (arith, many, list, left, c.decreases),
-      (within.0, (within.1.0, (within.1.1, (omega arith, (
-        others c.args.self.now.guards.items items front last c.requires.places is c.pop-in-Some.new.self.guards.items
-            c.pop-in-Some.result c.pop-in-Some.ensures,
-        (rising_front front last items is c.requires.rising, (back, (
-          omega (arith, c.requires.part, c.put_back.ensures.parts),
-          omega (arith, c.requires.enough, c.put_back.ensures.amount, blocks_more front last items is),
-        ))),
-      ))))),
+      (
+        within.0,
+        (
+          within.1.0,
+          (
+            within.1.1,
+            (
+              omega arith,
+              (
+                others c.args.self.now.guards.items items front last c.requires.places is c.pop-in-Some.new.self.guards.items
+                    c.pop-in-Some.result c.pop-in-Some.ensures,
+                (
+                  rising_front front last items is c.requires.rising,
+                  (
+                    back,
+                    (
+                      omega (arith, c.requires.part, c.put_back.ensures.parts),
+                      omega (arith, c.requires.enough, c.put_back.ensures.amount, blocks_more front last items is),
+                    ),
+                  ),
+                ),
+              ),
+            ),
+          ),
+        ),
+      ),
     )
 
 pub returns-in-Some-pop-clause-higher : goal.returns-in-Some-pop-clause-higher
@@ -132,7 +150,7 @@ returns-in-Some-pop-clause-still g t c each =
     let is = c.in-Some.ensures.cells in
     let many : length items ≡ length front + 1 = ap (λ (l : List TakenCell). length l) is ∙ length_push front last in
     let own : IsStill last = subst IsStill (taken_last front last items is)
-        (each (length front) (omega (arith, many, c.args.list.now.cells.ok))) in
+    (each (length front) (omega (arith, many, c.args.list.now.cells.ok))) in
     c.put_all.ensures.still (λ k inside. subst IsStill (taken_front front last items k is (omega (arith, inside, c.pop.new.self.cells.ok)))
     (each k (omega (arith, inside, many, c.args.list.now.cells.ok, c.pop.new.self.cells.ok)))) ∙ c.put_back.ensures.still own
 
