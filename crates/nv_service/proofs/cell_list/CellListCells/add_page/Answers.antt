@@ -6,29 +6,18 @@ use Rattle.nv_cell.specs.Room.{AddsPage, IsReadyFor}
 use Rattle.nv_service.proofs.ListCells.{frame_stays, list_only, list_step}
 use Rattle.nv_service.proofs.cell_list.CellListCells.add_page.Goals as goal
 
-pub returns-clause-cells : goal.returns-clause-cells
-returns-clause-cells c =
-    list_only c.args.self.now.cells.items c.args.k c.index_mut.result.now c.add_page.new.self c.requires.within c.index_mut.ensures.value
-
-pub returns-clause-frame : goal.returns-clause-frame
-returns-clause-frame c = search (frame_stays)
-
-pub returns-clause-state : goal.returns-clause-state
-returns-clause-state c =
-    list_step c.args.self.now.cells.items c.args.k c.index_mut.result.now c.add_page.new.self c.requires.within c.index_mut.ensures.value
-    (λ (old new : CellValue). new.state ≡ record (old.state) { chain = with_page c.args.block old.state.chain }) c.add_page.ensures.state
-
-pub returns-clause-room : goal.returns-clause-room
-returns-clause-room c =
-    list_step c.args.self.now.cells.items c.args.k c.index_mut.result.now c.add_page.new.self c.requires.within c.index_mut.ensures.value
-    (λ (old new : CellValue). new.room ≡ record (old.room) { pages = old.room.pages - 1 }) c.add_page.ensures.room
-
-pub returns-clause-pages : goal.returns-clause-pages
-returns-clause-pages c =
-    list_step c.args.self.now.cells.items c.args.k c.index_mut.result.now c.add_page.new.self c.requires.within c.index_mut.ensures.value
-    (λ (old new : CellValue). AddsPage old.state.chain new.state.chain) c.add_page.ensures.pages
-
-pub returns-clause-ready : goal.returns-clause-ready
-returns-clause-ready c =
-    list_step c.args.self.now.cells.items c.args.k c.index_mut.result.now c.add_page.new.self c.requires.within c.index_mut.ensures.value
-    (λ (old new : CellValue). (items : List Item) → IsReadyFor items old → IsReadyFor items new) c.add_page.ensures.ready
+pub returns : goal.returns
+returns c =
+    let items = c.args.self.now.cells.items in
+    let was = c.index_mut.result.now in
+    let now = c.add_page.new.self in
+    let told = c.add_page.ensures in
+    let step = list_step items c.args.k was now c.requires.within c.index_mut.ensures.value in
+    record {
+      cells = list_only items c.args.k was now c.requires.within c.index_mut.ensures.value;
+      state = step (λ (old new : CellValue). new.state ≡ record (old.state) { chain = with_page c.args.block old.state.chain }) told.state;
+      room = step (λ (old new : CellValue). new.room ≡ record (old.room) { pages = old.room.pages - 1 }) told.room;
+      pages = step (λ (old new : CellValue). AddsPage old.state.chain new.state.chain) told.pages;
+      ready = step (λ (old new : CellValue). (items : List Item) → IsReadyFor items old → IsReadyFor items new) told.ready;
+      frame = search (frame_stays);
+    }
