@@ -17,3 +17,4 @@ pub mod Rounds
 pub mod Seats
 pub mod Sessions
 pub mod Snapped
+pub mod Taken

@@ -63,6 +63,7 @@ fn finds<C: Commits, B: Blocks, R: Wait + Abort>(
     let lock = service.inode_lock(Ino::new(1)).expect(rt, "a slot");
     let mut cell = lock.lock(rt);
     session.meet_cell(rt, service, &mut cell);
+    assert!(rt; cell.has_cell());
     same_for(rt, &"version", cell.part().version(), commits);
     let mut book = service.book_lock().lock(rt);
     session.meet_book(&mut book);
