@@ -198,8 +198,10 @@ IsOfCall call (BoundAnew back) = (back ≡ call) × (looks_up call ≡ true)
 IsOfCall call Answers = is_nothing (blank_call call) ≡ true
 IsOfCall call (Refuses why) = MayEnd call why
 
--- a change over these cells is committed: it counts as one of the seat's commits, and raises what it is sure to publish
-pub record IsCommittedOver (opening before after : ℕ) (old new : List (ℕ × CellValue)) (u : Update) (receipt : ReceiptValue) : Type 0 where
+-- a change over these cells is committed: it counts as one of the seat's commits, and raises what
+-- it is sure to publish
+pub record IsCommittedOver (opening before after : ℕ) (old new : List (ℕ × CellValue)) (u : Update)
+    (receipt : ReceiptValue) : Type 0 where
   -- it commits something
   pub some : is_nothing (blank_call u) ≡ false
   -- it counts as one
@@ -212,6 +214,9 @@ pub record IsCommittedOver (opening before after : ℕ) (old new : List (ℕ × 
   pub raised : RaisesPublished old new u receipt
 
 -- how a change over these cells ends: committed, or with all versions as they were
-abbrev pub IsDoneOver : ℕ → ℕ → ℕ → List (ℕ × CellValue) → List (ℕ × CellValue) → Update → Result ReceiptValue ChangeEnd → Type 0
-IsDoneOver opening before after old new u (Ok receipt) = IsCommittedOver opening before after old new u receipt
-IsDoneOver opening before after old new u (Err end) = (after ≡ before) × KeepVersions old new × IsOfCall u end
+abbrev pub IsDoneOver : ℕ → ℕ → ℕ → List (ℕ × CellValue) → List (ℕ × CellValue) → Update
+    → Result ReceiptValue ChangeEnd → Type 0
+IsDoneOver opening before after old new u (Ok receipt) =
+    IsCommittedOver opening before after old new u receipt
+IsDoneOver opening before after old new u (Err end) =
+    (after ≡ before) × KeepVersions old new × IsOfCall u end

@@ -3,8 +3,8 @@ use Rattle.std.specs.Prelude.{◌≡◌, ℕ, ◌+◌, List, Option, Some, None,
 use Rattle.nv_calls.specs.Cells.{no_cell}
 use Rattle.nv_cell.specs.Cell.{CellValue, block_total}
 
--- a place: the number of an inode, the version at which its pass owns it, and its cell, if it is there.
--- Beside them lie a share of as many blocks as the cell has, of none where it is out, and the pass that owns the inode.
+-- what contracts see of a place of a cell. Beside it lie a share of as many blocks as the cell has,
+-- of none where the cell is out, and the pass that owns the inode at the place's version.
 pub record LockedValue : Type 0 where
   -- the number of the inode
   pub ino : ℕ
@@ -31,10 +31,11 @@ IsThere place = is_some place.cell ≡ true
 abbrev pub cell_of : LockedValue → CellValue
 cell_of place = unwrap_or place.cell (no_cell.1)
 
--- a place whose cell is out, and one whose cell is back
+-- a place whose cell is out
 abbrev pub without_cell : LockedValue → LockedValue
 without_cell place = record place { cell = None }
 
+-- a place whose cell is back
 abbrev pub with_cell : CellValue → LockedValue → LockedValue
 with_cell cell place = record place { cell = Some cell }
 

@@ -55,28 +55,28 @@ ArePlaces guards items = places_of guards ≡ map (λ (t : TakenCell). Some (emp
 
 -- ---- versions
 
--- a cell as it was taken: whole, and at the version of its place, above which these notes have seen none
+-- a cell as it was taken out of its place
 pub record IsTaken (opened notes : List ℕ) (t : TakenCell) : Type 0 where
   -- it is a cell
   pub whole : IsCell t.cell.state
   -- it has the version of its place
   pub version : t.cell.state.version ≡ t.before
-  -- nobody has seen more
+  -- these notes have no higher version than its place
   pub met : version_at opened t.ino (slice_index notes t.ino) ≤ t.before
 
--- a cell that may go back: at the version of its place, above which these notes have seen none, or at the next one
+-- a cell that may go back into its place
 pub record GoesBack (opened notes : List ℕ) (t : TakenCell) : Type 0 where
-  -- it has no lower version
+  -- it has no lower version than its place
   pub least : t.before ≤ t.cell.state.version
-  -- at most the next one
+  -- it has at most the next one
   pub most : t.cell.state.version ≤ t.before + 1
-  -- nobody has seen more
+  -- these notes have no higher version than its place
   pub met : version_at opened t.ino (slice_index notes t.ino) ≤ t.before
 
--- it is at the version of its place
+-- a cell that is at the version of its place
 abbrev pub IsStill : TakenCell → Type 0
 IsStill t = t.cell.state.version ≡ t.before
 
--- it is at the next one
+-- a cell that is at the next version
 abbrev pub IsNext : TakenCell → Type 0
 IsNext t = t.cell.state.version ≡ t.before + 1

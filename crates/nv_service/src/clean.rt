@@ -69,7 +69,8 @@ impl<C: Commits, B: Blocks> LockedCell<C, B> {
         requires part { 0 < mine.old.parts }
         requires amount { mine.old.amount ≡ length (blocks_of hand.old) }
         ensures ino { self.new.ino ≡ self.old.ino }
-        ensures cell { (cell_of self.new).state ≡ erased (released picked (cell_of self.old).state) }
+        ensures cell { (cell_of self.new).state
+            ≡ erased (released picked (cell_of self.old).state) }
         ensures there { IsThere self.new }
         ensures version { self.new.version ≡ self.old.version }
         ensures hand { hand.new ≡ hand_with picked.ino (released picked (cell_of self.old).state)
@@ -102,11 +103,13 @@ impl<C: Commits, B: Blocks> LockedCell<C, B> {
         requires part { 0 < mine.old.parts }
         requires amount { mine.old.amount ≡ length (blocks_of hand.old) }
         ensures ino { self.new.ino ≡ self.old.ino }
-        ensures cell { (cell_of self.new).state ≡ with_pages_unlinked unlinkable (cell_of self.old).state }
+        ensures cell { (cell_of self.new).state
+            ≡ with_pages_unlinked unlinkable (cell_of self.old).state }
         ensures there { IsThere self.new }
         ensures version { self.new.version ≡ self.old.version }
         ensures hand { hand.new ≡ with_gone unlinkable (cell_of self.old).state hand.old }
-        ensures answer { result ≡ answer_of false (cell_of self.old).state (cell_of self.new).state }
+        ensures answer { result
+            ≡ answer_of false (cell_of self.old).state (cell_of self.new).state }
         ensures entries { result.entries ≡ unlinkable.entries }
         ensures pages { result.pages ≡ unlinkable.pages }
         ensures log { log_of (cell_of self.new).state
@@ -147,7 +150,8 @@ impl<C: Commits, B: Blocks> LockedCell<C, B> {
         ensures there { IsThere self.new }
         ensures version { self.new.version ≡ self.old.version }
         ensures hand { hand.new ≡ with_chain wanted (cell_of self.old).state hand.old }
-        ensures answer { result ≡ answer_of true (cell_of self.old).state (cell_of self.new).state }
+        ensures answer { result
+            ≡ answer_of true (cell_of self.old).state (cell_of self.new).state }
         ensures log { log_of (cell_of self.new).state
             ≡ select wanted.stays (log_of (cell_of self.old).state) }
         ensures none { LeavesNone (cell_of self.old).state (cell_of self.new).state }
