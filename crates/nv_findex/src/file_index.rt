@@ -15,13 +15,15 @@ use std::marker::Model;
 /// [`FILE_PAGES`].
 ///
 /// Pages that follow one another in the file and in one entry are kept as one run, so that an index takes
-/// memory by its runs and not by the file's length. A look-up costs the same at any number of runs where they lie
-/// about evenly, and the logarithm of the runs at most.
+/// memory by its runs and not by the file's length. The runs stand in a list. A run that goes leaves its place there
+/// empty. Empty places are room, and go where a write finds that they are more than half of all or that their room is
+/// needed. A look-up costs the same at any number of runs where they lie about evenly, and the logarithm of the places
+/// at most.
 /// Only tested: an index is `Send` and `Sync`.
 #[derive(Debug, Drop)]
 pub struct FileIndex {
     runs: RunRows,
-    /// How many of their places are empty.
+    /// How many of the places are empty.
     empty: usize,
 }
 
@@ -89,7 +91,8 @@ impl FileIndex {
 
     /// All of the run that has a page, or else the first run behind the page, which is looked for at a place among
     /// the runs first. A right place spares the look-up. It becomes the place behind the run, so that a walk over
-    /// pages that goes on from each run's end costs one look-up in all.
+    /// pages that goes on from each run's end costs one look-up, and one more behind each run with an empty place
+    /// behind it.
     #[tactic(auto, using(crate::proofs::Refs::refs_within))]
     pub fn run_near(&self, page: u32, place: &mut usize) -> Option<PageRun>
         ensures run { IsRunFrom page (ref_at self.now.pages) result }
@@ -111,7 +114,7 @@ impl FileIndex {
     }
 
     /// How many pages are present from `page` on: those that a cut there takes out. Costs one look-up and a
-    /// step for each run from there on.
+    /// step for each run and each empty place from there on.
     #[tactic(auto, using(crate::proofs::Counts::how_many_le))]
     pub fn present_from(&self, page: u32) -> u32
         // How many pages are present from a page on is told.
@@ -122,7 +125,7 @@ impl FileIndex {
     }
 
     /// How many runs the pages make: of two neighbours that lie one after the other in one entry, both are of
-    /// one run. Costs one read.
+    /// one run. Costs two reads.
     #[tactic(auto, using(crate::proofs::Counts::run_count_is))]
     pub fn run_count(&self) -> usize
         // Neighbours in one entry are one page run.
@@ -132,19 +135,21 @@ impl FileIndex {
         self.runs.len() - self.empty
     }
 
-    /// For how many more runs there is room. Costs one read.
+    /// For how many more runs there is room, empty places among it. Costs three reads.
     pub fn room(&self) -> usize
         ensures { result ≡ self.now.room }
     {
         self.runs.capacity() - self.run_count()
     }
 
-    /// Makes room for as many calls of `set_run`, two more runs for each. Where it takes memory it makes room for as
-    /// many runs as there are, if that is more, so that many calls cost linear time. Costs a move of all runs where it
-    /// takes memory, and one read where it doesn't.
+    /// Makes room for as many calls of `set_run`, two more runs for each. Costs two reads where there is as much room
+    /// behind the last place. Where there is only with the empty places, and these are an eighth of all at least, it
+    /// takes them out, by a step for each place. Otherwise it takes memory, for as many runs as there are, if that is
+    /// more, so that many calls cost linear time. That costs a move of all places, empty ones too.
     ///
     /// Fails with `OutOfMemory` alone, and only where that room was missing and its growth was refused, as any of
-    /// 2^63 bytes or more is; then nothing has changed.
+    /// 2^63 bytes or more is; then nothing has changed. A growth that is refused though there is that room with the
+    /// empty places is no error: nothing has changed then either, and `set_run` takes the empty places out itself.
     #[tactic(auto, using(crate::proofs::Counts::run_count_is))]
     pub fn reserve_for(&mut self, runs: usize) -> Result<(), Fault>
         // Room for a number of writes is made before them.
@@ -192,13 +197,19 @@ impl FileIndex {
     /// Sets the pages `first` to `first + len - 1` to places 0 to `len - 1` of an entry, whether or not they
     /// were present. It takes no memory, and as much room as the index has more runs after it.
     ///
-    /// Costs two look-ups, of which the second begins where the first one ended, and for each run that there is more or
-    /// less than before a move of 128 runs at most and a step for each 64 runs behind: an overwrite of just one run
-    /// moves nothing.
+    /// An overwrite of just one run, with no empty place behind it, costs one look-up and moves nothing. Any other
+    /// write costs two look-ups, of which the second begins where the first one ended, and a step for each run and each
+    /// empty place between them. Runs that go leave their places empty, and move nothing. The runs that there are more
+    /// than before take the next two places where these are empty. Each other one costs a move of 128 runs at most and
+    /// a step for each 64 places behind. A write with no present page behind it costs a move of 64 runs at most instead.
+    ///
+    /// Where more than half of all places are empty then, the empty ones are taken out, by a step for each place: fewer
+    /// than two for each empty one. So are they first where fewer than two more places have room, as may happen behind
+    /// a refused growth.
     /// Each full row has a start, for which there is room.
-    /// Only tested: an overwrite of one page run moves nothing.
-    /// Only tested: a write moves page runs of two rows at most for each page run more or less
-    /// ([gate.md](gate.md)).
+    /// Only tested: an overwrite of one page run, with no empty place behind it, moves nothing.
+    /// Only tested: a write with a present page behind it moves page runs of two rows at most for each page run more,
+    /// unless it takes the empty places out ([gate.md](gate.md)).
     #[tactic(auto, using(crate::proofs::Counts::run_count_is))]
     pub fn set_run(&mut self, first: u32, len: u32, entry: EntryId)
         requires some { 0 < len }
@@ -226,7 +237,7 @@ impl FileIndex {
     }
 
     /// Makes every page from `page` on absent. It takes no memory, and gives back the room of the runs that
-    /// go. Costs one look-up and what it takes out.
+    /// go. Costs one look-up, a move of 64 runs at most, and a step for each place that goes if any place is empty.
     #[tactic(auto, using(crate::proofs::Counts::run_count_is))]
     pub fn cut_from(&mut self, page: u32)
         // A cut makes the pages from one on absent.

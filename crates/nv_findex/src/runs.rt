@@ -73,7 +73,7 @@ pub fn count_from(runs: &RunRows, page: u32) -> u32
     pages_past(runs, ended_by(runs, page), page)
 }
 
-/// Takes the pages from `page` on out of the run at `at` where it begins below. Returns how many runs lie
+/// Takes the pages from `page` on out of the run at `at` where it begins below. Returns how many places lie
 /// below `page` then.
 pub fn keep_below(runs: &mut RunRows, at: usize, page: u32) -> usize
     requires within { at ≤ length runs.old.items }

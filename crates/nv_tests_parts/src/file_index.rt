@@ -144,6 +144,63 @@ fn room_for_three_writes_lasts_for_three(rt: HostRuntime) {
     same(&rt, index.run_count(), 5);
 }
 
+/// Writes so many pages one by one, and ten behind them at once.
+fn write_pages(rt: &impl Abort, index: &mut FileIndex, pages: u32) {
+    for page in 0..pages {
+        write(rt, index, page, 1, id(2, page));
+    }
+    write(rt, index, pages, 10, id(3, 0));
+}
+
+#[test]
+fn empty_places_are_room(rt: HostRuntime) {
+    let mut index = FileIndex::new(rt.alloc());
+    write_pages(&rt, &mut index, 5);
+    write_all(&rt, &mut index, &[(0, 3, 4, 0, 4)]);
+    let before = sizes(&index);
+    reserve(&rt, &mut index, before.1 / 2);
+    same(&rt, sizes(&index), before);
+    same(&rt, index.at(2), Some(lies(4, 0, 2)));
+    same(&rt, index.at(3), Some(lies(2, 3, 0)));
+}
+
+/// Room is made for three of them beside the empty places, and the last one takes these.
+#[test]
+fn room_for_four_writes_lasts_for_four_beside_empty_places(rt: HostRuntime) {
+    let mut index = FileIndex::new(rt.alloc());
+    reserve(&rt, &mut index, 5);
+    write_pages(&rt, &mut index, 5);
+    write_all(&rt, &mut index, &[(0, 3, 4, 0, 4)]);
+    same(&rt, index.room(), 6);
+    reserve(&rt, &mut index, 4);
+    same(&rt, index.room(), 8);
+    index.set_run(6, 1, id(5, 0));
+    index.set_run(8, 1, id(5, 1));
+    index.set_run(10, 1, id(5, 2));
+    index.set_run(12, 1, id(5, 3));
+    same(&rt, (index.run_count(), index.room()), (12, 0));
+    same(&rt, index.at(3), Some(lies(2, 3, 0)));
+    same(&rt, index.at(12), Some(lies(5, 3, 0)));
+    same(&rt, index.at(13), Some(lies(3, 0, 8)));
+}
+
+/// There is room by the empty places, also where the growth is refused that spares taking them out.
+#[test]
+fn a_growth_is_not_missed_where_empty_places_are_room(rt: HostRuntime) {
+    let mut index = FileIndex::new(rt.alloc());
+    reserve(&rt, &mut index, 16);
+    write_pages(&rt, &mut index, 27);
+    write_all(&rt, &mut index, &[(0, 3, 4, 0, 26)]);
+    same(&rt, index.room(), 6);
+    index.reserve_for(3).expect(&rt, "room by empty places");
+    index.set_run(28, 1, id(5, 0));
+    index.set_run(30, 1, id(5, 1));
+    index.set_run(32, 1, id(5, 2));
+    same(&rt, index.run_count(), 32);
+    same(&rt, index.at(3), Some(lies(2, 3, 0)));
+    same(&rt, index.at(33), Some(lies(3, 0, 6)));
+}
+
 #[test]
 fn a_refused_growth_changes_nothing(rt: HostRuntime) {
     let mut index = FileIndex::new(rt.alloc());
@@ -303,6 +360,68 @@ fn runs_and_slots_answer_alike(rt: HostRuntime) {
         }
         if call % 10 == 9 {
             assert_same(&rt, rt.alloc(), &index, &slots, 100);
+        }
+    }
+}
+
+/// First page, pages, and the runs that there are then, where 200 pages had a run each.
+const WIDE_WRITES: &[(u32, u32, usize)] = &[
+    (10, 63, 138),
+    // the same pages again, then some of them and others behind them
+    (10, 63, 138),
+    (40, 63, 109),
+    (5, 30, 105),
+    // more than half of the 200 places are empty now
+    (100, 20, 89),
+    (120, 40, 50),
+    // an empty place behind a run is one for what is left of it
+    (121, 1, 52),
+    (123, 1, 54),
+    (170, 30, 25),
+    (0, 200, 1),
+    (50, 1, 3),
+];
+
+#[test]
+fn wide_writes_and_slots_answer_alike(rt: HostRuntime) {
+    let mut index = FileIndex::new(rt.alloc());
+    let mut slots = no_pages(&rt, rt.alloc());
+    for page in 0..200u32 {
+        write(&rt, &mut index, page, 1, id(2, page));
+        fill(&mut slots, page, 1, &id(2, page));
+    }
+    for (first, len, runs) in WIDE_WRITES {
+        let commit = 3 + *runs as u64;
+        write(&rt, &mut index, *first, *len, id(commit, *len));
+        fill(&mut slots, *first, *len, &id(commit, *len));
+        same(&rt, index.run_count(), *runs);
+        assert_same(&rt, rt.alloc(), &index, &slots, 210);
+    }
+}
+
+/// Among many writes of one page some cover others, so that places are left empty and go.
+#[test]
+fn empty_places_and_slots_answer_alike(rt: HostRuntime) {
+    let mut index = FileIndex::new(rt.alloc());
+    let mut slots = no_pages(&rt, rt.alloc());
+    let mut state: u32 = 1;
+    for call in 0..1_600u64 {
+        state = state.wrapping_mul(1_103_515_245).wrapping_add(12_345);
+        let first = (state >> 8) % 400;
+        let len = if state >> 27 == 0 {
+            1 + (state >> 20) % 63
+        } else {
+            1
+        };
+        if state >> 24 == 255 {
+            index.cut_from(first);
+            clear(&mut slots, first);
+        } else {
+            write(&rt, &mut index, first, len, id(call, 0));
+            fill(&mut slots, first, len, &id(call, 0));
+        }
+        if call % 100 == 99 {
+            assert_same(&rt, rt.alloc(), &index, &slots, 480);
         }
     }
 }
