@@ -184,6 +184,17 @@ fn room_for_four_writes_lasts_for_four_beside_empty_places(rt: HostRuntime) {
     same(&rt, index.at(13), Some(lies(3, 0, 8)));
 }
 
+#[test]
+fn a_cut_leaves_empty_places_before_it(rt: HostRuntime) {
+    let mut index = FileIndex::new(rt.alloc());
+    write_pages(&rt, &mut index, 5);
+    write_all(&rt, &mut index, &[(0, 3, 4, 0, 4)]);
+    index.cut_from(3);
+    same(&rt, (index.run_count(), index.present_from(0)), (1, 3));
+    write_all(&rt, &mut index, &[(0, 3, 5, 0, 1), (3, 1, 6, 0, 2)]);
+    same(&rt, index.next_from(3), Some((3, lies(6, 0, 0))));
+}
+
 /// There is room by the empty places, also where the growth is refused that spares taking them out.
 #[test]
 fn a_growth_is_not_missed_where_empty_places_are_room(rt: HostRuntime) {
@@ -407,8 +418,8 @@ fn empty_places_and_slots_answer_alike(rt: HostRuntime) {
     let mut state: u32 = 1;
     for call in 0..1_600u64 {
         state = state.wrapping_mul(1_103_515_245).wrapping_add(12_345);
-        let first = (state >> 8) % 400;
-        let len = if state >> 27 == 0 {
+        let first = (state >> 8) % 300;
+        let len = if state >> 29 == 0 {
             1 + (state >> 20) % 63
         } else {
             1
@@ -421,7 +432,7 @@ fn empty_places_and_slots_answer_alike(rt: HostRuntime) {
             fill(&mut slots, first, len, &id(call, 0));
         }
         if call % 100 == 99 {
-            assert_same(&rt, rt.alloc(), &index, &slots, 480);
+            assert_same(&rt, rt.alloc(), &index, &slots, 370);
         }
     }
 }
