@@ -1,6 +1,6 @@
 //! The place of an inode's cell under its lock.
 
-ghost use Rattle.std.specs.Prelude.{◌≡◌, ◌≢◌, ◌+◌, ◌<◌, ◌≤◌, ℕ, None, Some, is_some, slice_index};
+ghost use Rattle.std.specs.Prelude.{◌≡◌, ◌≢◌, ◌+◌, ◌<◌, ◌≤◌, ℕ, IfSome, MatchOption, None, Some, is_some, slice_index};
 ghost use Rattle.nv_cell.specs.Cell.{IsCell, block_total};
 ghost use Rattle.nv_service.specs.Locked.{IsThere, cell_of, version_at, with_cell, without_cell};
 
@@ -50,19 +50,30 @@ impl<C: Commits, B: Blocks> LockedCell<C, B> {
         self.ino
     }
 
+    /// The cell, if it is there. A call that has it keeps the guard, and no type says so of a lock.
+    pub fn cell(&self) -> Option<&InodeCell>
+        ensures cell { MatchOption result (self.now.cell ≡ None)
+            (λ cell. self.now.cell ≡ Some cell.now) }
+        // A cell that is there has the version of its place.
+        ensures version { IfSome result (λ cell. cell.now.state.version ≡ self.now.version) }
+    {
+        match &self.cell {
+            Some(cell) => Some(cell),
+            None => None,
+        }
+    }
+
     /// Whether the cell is there.
-    pub fn has_cell(&self) -> bool
-        // Whether a place has its cell is told.
+    pub(crate) fn has_cell(&self) -> bool
         ensures { result ≡ is_some self.now.cell }
     {
         self.cell.is_some()
     }
 
     /// The cell of a place that has it.
-    pub fn part(&self) -> &InodeCell
+    pub(crate) fn part(&self) -> &InodeCell
         requires there { IsThere self.now }
         ensures cell { result.now ≡ cell_of self.now }
-        // A cell that is there has the version of its place.
         ensures version { result.now.state.version ≡ self.now.version }
     {
         match &self.cell {
