@@ -1,9 +1,9 @@
 -- A list of cells by value, of which one changes.
-use Rattle.std.proofs.Common.{◌≡◌, ◌∙◌, ◌∷◌, ℕ, ◌<◌, List, [], ap, arith, length, map, refl, subst, sym}
+use Rattle.std.proofs.Common.{◌≡◌, ◌∙◌, ◌∷◌, ℕ, ◌<◌, List, [], ap, arith, length, subst, sym}
 use Rattle.std.specs.Prelude.{slice_index_or, slice_set}
 use Rattle.std.proofs.Math.Seq.{map-set_same}
 use Rattle.std.proofs.lemmas.List.{get_or-map, length-map, map-set}
-use Rattle.nv_calls.specs.Cells.{OnlyAt, ino_at, no_cell, value_at, with_value}
+use Rattle.nv_calls.specs.Cells.{OnlyAt, no_cell, value_at, with_value}
 use Rattle.nv_calls.proofs.CellLists.{only_value, value_given}
 use Rattle.nv_cell.specs.Cell.{CellValue}
 use Rattle.nv_service.specs.Taken.{pair, pairs, versions_of}

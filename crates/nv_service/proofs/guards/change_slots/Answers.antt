@@ -4,7 +4,7 @@ use Rattle.std.proofs.lemmas.Bool.{eqb-false}
 use Rattle.std.proofs.lemmas.Result.{on_ok_weaker}
 use Rattle.nv_service.specs.Rounds.{IsEndedBy}
 use Rattle.nv_service.specs.Sessions.{at_seat}
-use Rattle.nv_service.specs.Taken.{GoesBack, IsNext, inos_of, pairs, taken_at}
+use Rattle.nv_service.specs.Taken.{GoesBack, taken_at}
 use Rattle.nv_service.proofs.Refusals.{held_out}
 use Rattle.nv_service.proofs.TakenCells.{all_back, all_whole, are_cells, ended, inos_same, places_kept, rising_inos}
 use Rattle.nv_service.proofs.guards.change_slots.Goals as goal

@@ -1,14 +1,10 @@
-use Rattle.std.proofs.Common.{◌≡◌, ◌∙◌, ◌++◌, ◌∷◌, ◌<◌, ◌≤◌, ◌+◌, ℕ, List, [], Option, Some, None, ap, arith, inl, inr, length, map, slice_index, subst, sym, vec_len}
-use Rattle.std.specs.List.{AllPairs}
-use Rattle.std.specs.Option.{option_map}
+use Rattle.std.proofs.Common.{◌≡◌, ◌∙◌, ◌++◌, ◌∷◌, ◌<◌, ◌+◌, ℕ, List, [], Option, Some, None, ap, arith, inl, inr, length, map, slice_index, subst, sym, vec_len}
 use Rattle.std.specs.Sync.Mutex.{mutex_guard_value}
 use Rattle.std.specs.declared.sync.MutexGuard.{MutexGuard}
 use Rattle.std.proofs.lemmas.Bool.{cases_lt}
 use Rattle.std.proofs.lemmas.List.{length_push}
-use Rattle.nv_cell.specs.Cell.{block_total}
-use Rattle.nv_service.specs.Changing.{blocks_in}
 use Rattle.nv_service.specs.Locked.{LockedValue, version_at}
-use Rattle.nv_service.specs.Taken.{ArePlaces, GoesBack, IsNext, IsStill, empty_place, inos_of, pairs, taken_at}
+use Rattle.nv_service.specs.Taken.{ArePlaces, GoesBack, IsNext, IsStill, empty_place, taken_at}
 use Rattle.nv_service.specs.declared.cell_list.TakenCell.{TakenCell}
 use Rattle.nv_service.proofs.TakenCells.{LastGuard, blocks_more, last_apart, last_guard, rising_front, taken_front, taken_last, told}
 use Rattle.nv_service.proofs.held.PlaceGuards.+put_all.Goals as goal
