@@ -3,8 +3,8 @@ mod CheckedOver
 pub mod Closes
 mod Found
 pub mod Giving
-mod HeldCells
-mod LentCells
+pub mod ListCells
+pub mod TakenCells
 pub mod Misnamed
 pub mod Moves
 mod NamedItems

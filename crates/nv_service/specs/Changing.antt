@@ -1,5 +1,5 @@
 -- A change over cells whose guards are held.
-use Rattle.std.specs.Prelude.{◌≡◌, ℕ, ◌+◌, ◌-◌, ◌<◌, ◌≤◌, ◌^◌, ◌⊎◌, ◌&&◌, Bool, true, false, List, [], ◌∷◌, ◌++◌, Option, Some, None, is_some, length, slice_index}
+use Rattle.std.specs.Prelude.{◌≡◌, ℕ, ◌+◌, ◌-◌, ◌<◌, ◌≤◌, ◌^◌, ◌⊎◌, ◌&&◌, Bool, true, false, List, [], ◌∷◌, ◌++◌, Option, Some, None, Result, Ok, Err, is_some, length, slice_index}
 use Rattle.std.specs.List.{AllByRecursion, sum_by}
 use Rattle.nv_alloc.specs.Block.{BlockValue}
 use Rattle.nv_alloc.specs.Hand.{blocks_of}
@@ -197,3 +197,26 @@ abbrev pub IsOfCall : Update → ChangeEnd → Type 0
 IsOfCall call (BoundAnew back) = (back ≡ call) × (looks_up call ≡ true)
 IsOfCall call Answers = is_nothing (blank_call call) ≡ true
 IsOfCall call (Refuses why) = MayEnd call why
+
+-- a change over these cells is committed: it counts as one of the seat's commits, and raises what
+-- it is sure to publish
+pub record IsCommittedOver (opening before after : ℕ) (old new : List (ℕ × CellValue)) (u : Update)
+    (receipt : ReceiptValue) : Type 0 where
+  -- it commits something
+  pub some : is_nothing (blank_call u) ≡ false
+  -- it counts as one
+  pub counted : after ≡ before + 1
+  -- its number is at least that at the opening and the seat's commits
+  pub least : opening + after ≤ receipt.stamp.commit
+  -- the receipt is that of the call
+  pub call : IsReceiptOf u receipt
+  -- what it is sure to publish is at its next version
+  pub raised : RaisesPublished old new u receipt
+
+-- how a change over these cells ends: committed, or with all versions as they were
+abbrev pub IsDoneOver : ℕ → ℕ → ℕ → List (ℕ × CellValue) → List (ℕ × CellValue) → Update
+    → Result ReceiptValue ChangeEnd → Type 0
+IsDoneOver opening before after old new u (Ok receipt) =
+    IsCommittedOver opening before after old new u receipt
+IsDoneOver opening before after old new u (Err end) =
+    (after ≡ before) × KeepVersions old new × IsOfCall u end

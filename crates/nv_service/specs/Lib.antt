@@ -18,3 +18,4 @@ pub mod RunCalls
 pub mod Seats
 pub mod Sessions
 pub mod Snapped
+pub mod Taken

@@ -1,41 +1,45 @@
-//! An inode's cell under its lock.
+//! The place of an inode's cell under its lock.
 
-ghost use Rattle.std.specs.Prelude.{◌≡◌, ◌≢◌, ◌≤◌, ℕ, slice_index};
-ghost use Rattle.nv_service.specs.Locked.{version_at};
+ghost use Rattle.std.specs.Prelude.{◌≡◌, ◌≢◌, ◌+◌, ◌<◌, ◌≤◌, ℕ, IfSome, MatchOption, None, Some, is_some, slice_index};
+ghost use Rattle.nv_cell.specs.Cell.{IsCell, block_total};
+ghost use Rattle.nv_service.specs.Locked.{IsThere, cell_of, version_at, with_cell, without_cell};
 
 use crate::names::{Blocks, Commits};
 use crate::passes::{Fresh, Notes, Owner};
 use nv_base::Ino;
 use nv_cell::InodeCell;
 use std::marker::Model;
+use std::mem;
 use std::sync::Wait;
 use std::sync::ledger::Share;
 
-/// A cell with the number of its inode, the share of its blocks, and the pass that owns the inode at its version. It owns
-/// blocks, so it is no `Drop`.
+/// The place of a cell: the number of its inode, the cell unless a call has it, the share of its blocks, and the pass that
+/// owns the inode at a version. It owns blocks, so it is no `Drop`.
 /// No older cell can be put behind a lock.
 pub struct LockedCell<C: Commits, B: Blocks> {
     pub(crate) ino: Ino,
-    pub(crate) cell: InodeCell,
+    pub(crate) version: u64,
+    pub(crate) cell: Option<InodeCell>,
     pub(crate) blocks: Share<B>,
     pub(crate) owner: Owner<C>,
 }
 
 impl<C: Commits, B: Blocks> Model for LockedCell<C, B> {
     ghost use Rattle.std.specs.Prelude.{◌≡◌};
-    ghost use Rattle.nv_cell.specs.Cell.{block_total};
-    ghost use Rattle.nv_service.specs.Locked.{LockedValue, version_at};
+    ghost use Rattle.nv_service.specs.Locked.{IsAt, LockedValue, blocks_there, version_at};
 
     ghost Value = { LockedValue };
 
-    ghost view = { λ l. record { ino = l.ino; cell = l.cell } };
+    ghost view = { λ l. record { ino = l.ino; version = l.version; cell = l.cell } };
 
-    // Its share has one part and as many blocks as the cell.
-    // Its pass owns the inode whose number lies beside the cell, at the cell's version since the opening.
+    // Its share has one part and as many blocks as the cell, none where the cell is out.
+    // Its pass owns the inode whose number lies beside the cell, at the version of the place.
+    // A cell that is there has that version.
     ghost invariant = { λ l. (l.blocks.parts ≡ 1)
-        × (l.blocks.amount ≡ block_total l.cell.state)
+        × (l.blocks.amount ≡ blocks_there l.cell)
         × (l.owner.ino ≡ l.ino)
-        × (l.cell.state.version ≡ version_at C.opened l.ino l.owner.version) };
+        × (l.version ≡ version_at C.opened l.ino l.owner.version)
+        × IsAt l.version l.cell };
 }
 
 impl<C: Commits, B: Blocks> LockedCell<C, B> {
@@ -46,44 +50,123 @@ impl<C: Commits, B: Blocks> LockedCell<C, B> {
         self.ino
     }
 
-    /// The cell.
-    pub fn part(&self) -> &InodeCell
-        ensures { result.now ≡ self.now.cell }
+    /// The cell, if it is there. A call that has it keeps the guard, and no type says so of a lock.
+    pub fn cell(&self) -> Option<&InodeCell>
+        ensures cell { MatchOption result (self.now.cell ≡ None)
+            (λ cell. self.now.cell ≡ Some cell.now) }
+        // A cell that is there has the version of its place.
+        ensures version { IfSome result (λ cell. cell.now.state.version ≡ self.now.version) }
     {
-        &self.cell
+        match &self.cell {
+            Some(cell) => Some(cell),
+            None => None,
+        }
     }
 
-    /// Compares notes with the cell: they have no higher version of it than it has.
+    /// Whether the cell is there.
+    pub(crate) fn has_cell(&self) -> bool
+        ensures { result ≡ is_some self.now.cell }
+    {
+        self.cell.is_some()
+    }
+
+    /// The cell of a place that has it.
+    pub(crate) fn part(&self) -> &InodeCell
+        requires there { IsThere self.now }
+        ensures cell { result.now ≡ cell_of self.now }
+        ensures version { result.now.state.version ≡ self.now.version }
+    {
+        match &self.cell {
+            Some(cell) => cell,
+            None => unreachable!(),
+        }
+    }
+
+    /// Compares notes with the place: they have no higher version of its inode than it has.
     pub(crate) fn check_seen<R: Wait>(&mut self, rt: &R, fresh: &Fresh<C>, seen: &mut Notes<C>)
-        ensures cell { self.new ≡ self.old }
+        ensures place { self.new ≡ self.old }
         ensures seen { seen.new ≡ seen.old }
         ensures met { version_at C.opened self.old.ino (slice_index seen.old self.old.ino)
-            ≤ self.old.cell.state.version }
+            ≤ self.old.version }
     {
         self.owner.check_seen(rt, fresh, seen);
     }
 
-    /// Notes the version of the cell, and nothing else new. The notes have no higher one, which `check_seen` tells.
+    /// Notes the version of the place, and nothing else new. The notes have no higher one, which `check_seen` tells.
     pub(crate) fn note_seen(&mut self, fresh: &Fresh<C>, seen: &mut Notes<C>)
         requires { version_at C.opened self.old.ino (slice_index seen.old self.old.ino)
-            ≤ self.old.cell.state.version }
-        ensures cell { self.new ≡ self.old }
+            ≤ self.old.version }
+        ensures place { self.new ≡ self.old }
         ensures here { version_at C.opened self.old.ino (slice_index seen.new self.old.ino)
-            ≡ self.old.cell.state.version }
+            ≡ self.old.version }
         ensures elsewhere { (i : ℕ) → i ≢ self.old.ino
             → slice_index seen.new i ≡ slice_index seen.old i }
     {
         self.owner.note_seen(fresh, seen);
     }
 
-    /// Takes the cell apart with all its blocks: for the owner of a whole device that is let go.
+    /// Takes the cell out, with the share of its blocks. The place is empty then.
+    pub(crate) fn take(&mut self, mine: &mut Share<B>) -> InodeCell
+        requires there { IsThere self.old }
+        requires part { 0 < mine.old.parts }
+        ensures cell { Some result ≡ self.old.cell }
+        ensures left { self.new ≡ without_cell self.old }
+        ensures whole { IsCell result.state }
+        ensures version { result.state.version ≡ self.old.version }
+        ensures parts { mine.new.parts ≡ mine.old.parts }
+        // The share follows the cell.
+        ensures amount { mine.new.amount ≡ mine.old.amount + block_total result.state }
+    {
+        match mem::take(&mut self.cell) {
+            None => unreachable!(),
+            Some(cell) => {
+                cell.holds_together();
+                self.blocks.transfer(mine, cell.blocks());
+                cell
+            }
+        }
+    }
+
+    /// The pass follows a cell that is out to its next version.
+    pub(crate) fn raise<R: Wait>(&mut self, rt: &R, fresh: &Fresh<C>, version: u64)
+        requires out { self.old.cell ≡ None }
+        requires next { version ≡ self.old.version + 1 }
+        // A pass rises by one, and only while the cell is out.
+        ensures { self.new ≡ record self.old { version = version } }
+    {
+        self.owner.raise(rt, fresh);
+        self.version = version;
+    }
+
+    /// Puts a cell back into an empty place of its version. The share of its blocks goes with it.
+    pub(crate) fn put(&mut self, cell: InodeCell, mine: &mut Share<B>)
+        requires out { self.old.cell ≡ None }
+        requires agree { cell.state.version ≡ self.old.version }
+        requires part { 0 < mine.old.parts }
+        requires enough { block_total cell.state ≤ mine.old.amount }
+        ensures cell { self.new ≡ with_cell cell self.old }
+        ensures parts { mine.new.parts ≡ mine.old.parts }
+        ensures amount { mine.new.amount + block_total cell.state ≡ mine.old.amount }
+    {
+        mine.transfer(&mut self.blocks, cell.blocks());
+        match mem::replace(&mut self.cell, Some(cell)) {
+            None => {}
+            Some(_other) => unreachable!(),
+        }
+    }
+
+    /// Takes the place apart, and the cell with all its blocks: for the owner of a whole device that is let go.
     pub(crate) fn dismantle(self) {
         let LockedCell {
             ino: _,
+            version: _,
             cell,
             blocks: _,
             owner: _,
         } = self;
-        cell.dismantle();
+        match cell {
+            Some(cell) => cell.dismantle(),
+            None => {}
+        }
     }
 }

@@ -12,6 +12,7 @@ ghost use Rattle.nv_clean.specs.Plans.{unlinkable_of, wanted_of};
 ghost use Rattle.nv_entry.specs.Clean.{entries_of, select};
 ghost use Rattle.nv_log.specs.Chain.{log_pages};
 ghost use Rattle.nv_service.specs.Cleaning.{CanCompact, CanRelease, CanUnlink};
+ghost use Rattle.nv_service.specs.Locked.{IsThere, cell_of};
 
 use crate::cell::LockedCell;
 use crate::names::{Blocks, Commits};
@@ -62,24 +63,30 @@ fn move_blocks<B: Blocks>(cell: &mut Share<B>, hand: &mut Share<B>, before: u64,
 impl<C: Commits, B: Blocks> LockedCell<C, B> {
     /// Releases a deferred record of the cell, as [`release_on`] does.
     pub(crate) fn release(&mut self, picked: Record, hand: &mut Hand, mine: &mut Share<B>)
+        requires there { IsThere self.old }
         requires own { picked.ino ≡ self.old.ino }
-        requires can { CanRelease self.old.cell.state picked hand.old }
+        requires can { CanRelease (cell_of self.old).state picked hand.old }
         requires part { 0 < mine.old.parts }
         requires amount { mine.old.amount ≡ length (blocks_of hand.old) }
         ensures ino { self.new.ino ≡ self.old.ino }
-        ensures cell { self.new.cell.state ≡ erased (released picked self.old.cell.state) }
-        ensures version { self.new.cell.state.version ≡ self.old.cell.state.version }
-        ensures hand { hand.new ≡ hand_with picked.ino (released picked self.old.cell.state)
+        ensures cell { (cell_of self.new).state
+            ≡ erased (released picked (cell_of self.old).state) }
+        ensures there { IsThere self.new }
+        ensures version { self.new.version ≡ self.old.version }
+        ensures hand { hand.new ≡ hand_with picked.ino (released picked (cell_of self.old).state)
             (record hand.old {
-              «data» = with_back (released_blocks picked self.old.cell.state) hand.old.data;
+              «data» = with_back (released_blocks picked (cell_of self.old).state) hand.old.data;
             }) }
         ensures parts { mine.new.parts ≡ mine.old.parts }
         ensures amount { mine.new.amount ≡ length (blocks_of hand.new) }
     {
         laws::releases_keep_the_number_of_blocks();
-        self.cell.holds_together();
+        let Some(cell) = &mut self.cell else {
+            unreachable!()
+        };
+        cell.holds_together();
         let before = hand.len();
-        release_on(&mut self.cell, picked, hand);
+        release_on(cell, picked, hand);
         move_blocks(&mut self.blocks, mine, before, hand.len());
     }
 
@@ -90,29 +97,36 @@ impl<C: Commits, B: Blocks> LockedCell<C, B> {
         hand: &mut Hand,
         mine: &mut Share<B>,
     ) -> Cleaned
-        requires walk { unlinkable ≡ unlinkable_of self.old.cell.state }
-        requires can { CanUnlink self.old.cell.state unlinkable hand.old }
+        requires there { IsThere self.old }
+        requires walk { unlinkable ≡ unlinkable_of (cell_of self.old).state }
+        requires can { CanUnlink (cell_of self.old).state unlinkable hand.old }
         requires part { 0 < mine.old.parts }
         requires amount { mine.old.amount ≡ length (blocks_of hand.old) }
         ensures ino { self.new.ino ≡ self.old.ino }
-        ensures cell { self.new.cell.state ≡ with_pages_unlinked unlinkable self.old.cell.state }
-        ensures version { self.new.cell.state.version ≡ self.old.cell.state.version }
-        ensures hand { hand.new ≡ with_gone unlinkable self.old.cell.state hand.old }
-        ensures answer { result ≡ answer_of false self.old.cell.state self.new.cell.state }
+        ensures cell { (cell_of self.new).state
+            ≡ with_pages_unlinked unlinkable (cell_of self.old).state }
+        ensures there { IsThere self.new }
+        ensures version { self.new.version ≡ self.old.version }
+        ensures hand { hand.new ≡ with_gone unlinkable (cell_of self.old).state hand.old }
+        ensures answer { result
+            ≡ answer_of false (cell_of self.old).state (cell_of self.new).state }
         ensures entries { result.entries ≡ unlinkable.entries }
         ensures pages { result.pages ≡ unlinkable.pages }
-        ensures log { log_of self.new.cell.state
-            ≡ entries_of (select unlinkable.stays (log_pages self.old.cell.state.chain)) }
-        ensures values { KeepsValues self.old.cell.state self.new.cell.state }
-        ensures nodes { NodesStay self.old.cell.state self.new.cell.state }
-        ensures last { KeepsTheLast self.old.cell.state self.new.cell.state }
+        ensures log { log_of (cell_of self.new).state
+            ≡ entries_of (select unlinkable.stays (log_pages (cell_of self.old).state.chain)) }
+        ensures values { KeepsValues (cell_of self.old).state (cell_of self.new).state }
+        ensures nodes { NodesStay (cell_of self.old).state (cell_of self.new).state }
+        ensures last { KeepsTheLast (cell_of self.old).state (cell_of self.new).state }
         ensures parts { mine.new.parts ≡ mine.old.parts }
         ensures amount { mine.new.amount ≡ length (blocks_of hand.new) }
     {
         laws::cleanings_keep_the_number_of_blocks();
-        self.cell.holds_together();
+        let Some(cell) = &mut self.cell else {
+            unreachable!()
+        };
+        cell.holds_together();
         let before = hand.len();
-        let cleaned = fast_on(&mut self.cell, unlinkable, hand);
+        let cleaned = fast_on(cell, unlinkable, hand);
         move_blocks(&mut self.blocks, mine, before, hand.len());
         cleaned
     }
@@ -125,29 +139,35 @@ impl<C: Commits, B: Blocks> LockedCell<C, B> {
         hand: &mut Hand,
         mine: &mut Share<B>,
     ) -> Cleaned
-        requires walk { wanted ≡ wanted_of self.old.cell.state }
-        requires can { CanCompact self.old.cell.state wanted hand.old }
+        requires there { IsThere self.old }
+        requires walk { wanted ≡ wanted_of (cell_of self.old).state }
+        requires can { CanCompact (cell_of self.old).state wanted hand.old }
         requires part { 0 < mine.old.parts }
         requires amount { mine.old.amount ≡ length (blocks_of hand.old) }
         ensures ino { self.new.ino ≡ self.old.ino }
-        ensures cell { self.new.cell.state
-            ≡ with_entries wanted hand.old.pages.blocks self.old.cell.state }
-        ensures version { self.new.cell.state.version ≡ self.old.cell.state.version }
-        ensures hand { hand.new ≡ with_chain wanted self.old.cell.state hand.old }
-        ensures answer { result ≡ answer_of true self.old.cell.state self.new.cell.state }
-        ensures log { log_of self.new.cell.state
-            ≡ select wanted.stays (log_of self.old.cell.state) }
-        ensures none { LeavesNone self.old.cell.state self.new.cell.state }
-        ensures values { KeepsValues self.old.cell.state self.new.cell.state }
-        ensures nodes { NodesStay self.old.cell.state self.new.cell.state }
-        ensures last { KeepsTheLast self.old.cell.state self.new.cell.state }
+        ensures cell { (cell_of self.new).state
+            ≡ with_entries wanted hand.old.pages.blocks (cell_of self.old).state }
+        ensures there { IsThere self.new }
+        ensures version { self.new.version ≡ self.old.version }
+        ensures hand { hand.new ≡ with_chain wanted (cell_of self.old).state hand.old }
+        ensures answer { result
+            ≡ answer_of true (cell_of self.old).state (cell_of self.new).state }
+        ensures log { log_of (cell_of self.new).state
+            ≡ select wanted.stays (log_of (cell_of self.old).state) }
+        ensures none { LeavesNone (cell_of self.old).state (cell_of self.new).state }
+        ensures values { KeepsValues (cell_of self.old).state (cell_of self.new).state }
+        ensures nodes { NodesStay (cell_of self.old).state (cell_of self.new).state }
+        ensures last { KeepsTheLast (cell_of self.old).state (cell_of self.new).state }
         ensures parts { mine.new.parts ≡ mine.old.parts }
         ensures amount { mine.new.amount ≡ length (blocks_of hand.new) }
     {
         laws::cleanings_keep_the_number_of_blocks();
-        self.cell.holds_together();
+        let Some(cell) = &mut self.cell else {
+            unreachable!()
+        };
+        cell.holds_together();
         let before = hand.len();
-        let cleaned = thorough_on(&mut self.cell, wanted, hand);
+        let cleaned = thorough_on(cell, wanted, hand);
         move_blocks(&mut self.blocks, mine, before, hand.len());
         cleaned
     }

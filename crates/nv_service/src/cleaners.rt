@@ -8,6 +8,7 @@ ghost use Rattle.nv_base.specs.Refusals.{FailsOnly};
 ghost use Rattle.nv_base.specs.declared.fault.Fault.TheVariants.{NoSpace, Stale};
 ghost use Rattle.nv_service.specs.Asking.{turned_in};
 ghost use Rattle.nv_service.specs.Ending.{CanClean, IsEmptyHand, cleaner_of};
+ghost use Rattle.nv_service.specs.Locked.{IsThere, cell_of};
 ghost use Rattle.nv_service.specs.Refusing.{IsMisfit, IsMisfitOrWant, MayRefuseSnapshotOrCleaner};
 
 use crate::asking::Asking;
@@ -104,7 +105,8 @@ fn unlink_pages<C: Commits, B: Blocks>(
     hand: &mut Hand,
     mine: &mut Share<B>,
 ) -> Result<Cleaned, Fault>
-    requires can { CanClean service.now.geometry.numbers.block cell.old.cell.state hand.old }
+    requires there { IsThere cell.old }
+    requires can { CanClean service.now.geometry.numbers.block (cell_of cell.old).state hand.old }
     requires part { 0 < mine.old.parts }
     requires amount { mine.old.amount ≡ length (blocks_of hand.old) }
     ensures err { FailsOnly out_of_memory result }
@@ -128,8 +130,9 @@ fn move_entries<C: Commits, B: Blocks, R: Wait>(
     mine: &mut Share<B>,
     asking: &mut Asking,
 ) -> Result<Cleaned, Fault>
-    requires can { CanClean service.now.geometry.numbers.block cell.old.cell.state hand.old }
-    requires walk { walk ≡ wanted_of cell.old.cell.state }
+    requires there { IsThere cell.old }
+    requires can { CanClean service.now.geometry.numbers.block (cell_of cell.old).state hand.old }
+    requires walk { walk ≡ wanted_of (cell_of cell.old).state }
     requires part { 0 < mine.old.parts }
     requires amount { mine.old.amount ≡ length (blocks_of hand.old) }
     requires empty { IsEmptyHand hand.old }

@@ -92,7 +92,8 @@ pub(crate) fn lock_first_cells<C: Commits, B: Blocks>(
         let owner = maker.owner(fresh);
         into.add(LockedCell {
             ino,
-            cell,
+            version: cell.version(),
+            cell: Some(cell),
             blocks,
             owner,
         });

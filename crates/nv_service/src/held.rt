@@ -1,412 +1,252 @@
-//! Changes over locked cells, and what a seat has seen of them.
+//! The places of a call's cells: locked by rising number, and given back.
 
-ghost use Rattle.std.specs.Prelude.{◌≡◌, ◌+◌, ◌-◌, ◌<◌, ◌≤◌, ◌^◌, ℕ, false, IfErr, IfOk, OnErr, OnOk, length, slice_index};
-ghost use Rattle.nv_alloc.specs.Hand.{blocks_of};
-ghost use Rattle.nv_calls.specs.AllCalls.{is_nothing};
-ghost use Rattle.nv_calls.specs.Updates.{blank_call};
-ghost use Rattle.nv_service.specs.Asking.{turned_end};
-ghost use Rattle.nv_service.specs.Changing.{IsOfCall, IsReceiptOf, SeesPublished};
-ghost use Rattle.nv_service.specs.Refusing.{failed_by};
+ghost use Rattle.std.specs.Prelude.{◌≡◌, ◌≢◌, ◌+◌, ◌++◌, ◌∷◌, ◌<◌, ◌≤◌, ℕ, List, [], OnErr, OnOk, Option, length, slice_index, take, vec_capacity, vec_len};
+ghost use Rattle.std.specs.List.{AllByRecursion, AllPairs};
+ghost use Rattle.std.specs.Sync.Mutex.{mutex_guard_value};
+ghost use Rattle.std.specs.declared.sync.MutexGuard.{MutexGuard as Guard};
+ghost use Rattle.nv_base.specs.Refusals.{FailsEither};
+ghost use Rattle.nv_base.specs.declared.fault.Fault.TheVariants as fault;
+ghost use Rattle.nv_base.specs.declared.fault.MismatchPart.TheVariants as part;
+ghost use Rattle.nv_cell.specs.Cell.{block_total};
+ghost use Rattle.nv_service.specs.Changing.{blocks_in};
+ghost use Rattle.nv_service.specs.Locked.{IsThere, LockedValue, version_at};
+ghost use Rattle.nv_service.specs.Taken.{ArePlaces, GoesBack, IsNext, IsRoom, IsStill, IsTaken, empty_place, inos_of, pairs, taken_at};
+ghost use Rattle.nv_service.specs.declared.cell_list.TakenCell.{TakenCell};
 
 use crate::cell::LockedCell;
-use crate::change::{Change, ChangeEnd, change_over};
-use crate::lending::{borrow_share, return_share};
+use crate::cell_list::{CellList, TakenCell};
+use crate::guards::hold;
 use crate::names::{Blocks, Commits};
-use crate::over::{over_four, over_three, over_two};
-use crate::seat::Seat;
+use crate::passes::{Fresh, Notes};
 use crate::service::Service;
-use nv_alloc::Hand;
-use nv_calls::{LastCell, Receipt, Source};
-use std::sync::Wait;
+use nv_base::{Fault, Ino};
+use smallvec::SmallVec;
+use std::alloc::Global;
+use std::sync::ledger::Share;
+use std::sync::{MutexGuard, Wait};
 
-/// Makes a change over the one cell that it locks, whose guard is held. With the receipt the seat has one commit more, and
-/// has seen a higher version of the inode of each handle of the call; else it has seen what it had. What the hand holds
-/// at the end is the seat's.
-///
-/// The cells are by rising number. `Mismatch` where what no type keeps does not hold; the other refusals are those of the
-/// call's check, of its growths, `NoSpace`, `Read` and `CommitLimit`.
-pub(crate) fn change_one<C: Commits, B: Blocks, S: Source, R: Wait>(
-    rt: &R,
-    service: &Service<C, B>,
-    seat: &mut Seat<C, B>,
-    cell: &mut LockedCell<C, B>,
-    change: Change<'_>,
-    source: &mut S,
-) -> (Hand, Result<Receipt, ChangeEnd>)
-    requires commits_part { 0 < seat.old.commits.parts }
-    requires blocks_part { 0 < seat.old.blocks.parts }
-    requires blocks { seat.old.blocks.amount ≡ length (blocks_of change.hand) }
-    requires failures { S.failed source.old < 2 ^ 64 - 1 }
-    ensures ino { cell.new.ino ≡ cell.old.ino }
-    ensures number { seat.new.number ≡ seat.old.number }
-    ensures commits_part { seat.new.commits.parts ≡ seat.old.commits.parts }
-    ensures blocks_part { seat.new.blocks.parts ≡ seat.old.blocks.parts }
-    ensures blocks { seat.new.blocks.amount ≡ length (blocks_of result.0) }
-    ensures counted { OnOk result.1 (seat.new.commits.amount ≡ seat.old.commits.amount + 1) }
-    ensures least { IfOk result.1
-        (λ receipt. C.commit + seat.new.commits.amount ≤ receipt.stamp.commit) }
-    ensures call { IfOk result.1 (IsReceiptOf change.entry.update) }
-    // The version seen of each handle rises, and none falls.
-    ensures higher { IfOk result.1
-        (SeesPublished seat.old.notes seat.new.notes change.entry.update) }
-    ensures kept { (i : ℕ) → slice_index seat.old.notes i ≤ slice_index seat.new.notes i }
-    ensures same { OnErr result.1 ((seat.new.commits.amount ≡ seat.old.commits.amount)
-        × (seat.new.notes ≡ seat.old.notes)) }
-    ensures some { OnOk result.1 (is_nothing (blank_call change.entry.update) ≡ false) }
-    ensures overtaken { IfErr result.1 (IsOfCall change.entry.update) }
-    ensures reads { S.failed source.new ≡ S.failed source.old + failed_by result.1 }
-    ensures short { seat.new.asking.turn ≡ turned_end result.1 seat.old.asking.turn }
-{
-    let version = borrow_share(
-        rt,
-        &service.fresh,
-        &mut seat.notes,
-        &mut seat.blocks,
-        &mut cell.owner,
-        &cell.cell,
-        &mut cell.blocks,
-    );
-    let mut lent = LastCell {
-        ino: cell.ino,
-        cell: &mut cell.cell,
-    };
-    let done = change_over(rt, service, seat, &mut lent, change, source);
-    return_share(
-        rt,
-        &service.fresh,
-        &mut seat.notes,
-        &mut seat.blocks,
-        &mut cell.owner,
-        &cell.cell,
-        &mut cell.blocks,
-        version,
-    );
-    done
+/// The guards of places whose cells a call has: nobody gets their locks meanwhile.
+#[derive(Drop)]
+pub(crate) struct PlaceGuards<'a, C: Commits, B: Blocks> {
+    guards: SmallVec<Option<MutexGuard<'a, LockedCell<C, B>>>, 4>,
+    // There is room for the guards of a call.
+    ghost wide: { 4 ≤ guards.capacity },
 }
 
-/// Makes a change over the two cells that it locks, whose guards are held, as [`change_one`] does over one.
-pub(crate) fn change_two<C: Commits, B: Blocks, S: Source, R: Wait>(
-    rt: &R,
-    service: &Service<C, B>,
-    seat: &mut Seat<C, B>,
-    first: &mut LockedCell<C, B>,
-    second: &mut LockedCell<C, B>,
-    change: Change<'_>,
-    source: &mut S,
-) -> (Hand, Result<Receipt, ChangeEnd>)
-    requires commits_part { 0 < seat.old.commits.parts }
-    requires blocks_part { 0 < seat.old.blocks.parts }
-    requires blocks { seat.old.blocks.amount ≡ length (blocks_of change.hand) }
-    requires failures { S.failed source.old < 2 ^ 64 - 1 }
-    requires rising { first.old.ino < second.old.ino }
-    ensures ino_first { first.new.ino ≡ first.old.ino }
-    ensures ino_second { second.new.ino ≡ second.old.ino }
-    ensures number { seat.new.number ≡ seat.old.number }
-    ensures commits_part { seat.new.commits.parts ≡ seat.old.commits.parts }
-    ensures blocks_part { seat.new.blocks.parts ≡ seat.old.blocks.parts }
-    ensures blocks { seat.new.blocks.amount ≡ length (blocks_of result.0) }
-    ensures counted { OnOk result.1 (seat.new.commits.amount ≡ seat.old.commits.amount + 1) }
-    ensures least { IfOk result.1
-        (λ receipt. C.commit + seat.new.commits.amount ≤ receipt.stamp.commit) }
-    ensures call { IfOk result.1 (IsReceiptOf change.entry.update) }
-    ensures higher { IfOk result.1
-        (SeesPublished seat.old.notes seat.new.notes change.entry.update) }
-    ensures kept { (i : ℕ) → slice_index seat.old.notes i ≤ slice_index seat.new.notes i }
-    ensures same { OnErr result.1 ((seat.new.commits.amount ≡ seat.old.commits.amount)
-        × (seat.new.notes ≡ seat.old.notes)) }
-    ensures some { OnOk result.1 (is_nothing (blank_call change.entry.update) ≡ false) }
-    ensures overtaken { IfErr result.1 (IsOfCall change.entry.update) }
-    ensures reads { S.failed source.new ≡ S.failed source.old + failed_by result.1 }
-    ensures short { seat.new.asking.turn ≡ turned_end result.1 seat.old.asking.turn }
-{
-    let first_version = borrow_share(
-        rt,
-        &service.fresh,
-        &mut seat.notes,
-        &mut seat.blocks,
-        &mut first.owner,
-        &first.cell,
-        &mut first.blocks,
-    );
-    let second_version = borrow_share(
-        rt,
-        &service.fresh,
-        &mut seat.notes,
-        &mut seat.blocks,
-        &mut second.owner,
-        &second.cell,
-        &mut second.blocks,
-    );
-    let done = over_two(
-        rt,
-        service,
-        seat,
-        (first.ino, second.ino),
-        &mut first.cell,
-        &mut second.cell,
-        change,
-        source,
-    );
-    return_share(
-        rt,
-        &service.fresh,
-        &mut seat.notes,
-        &mut seat.blocks,
-        &mut first.owner,
-        &first.cell,
-        &mut first.blocks,
-        first_version,
-    );
-    return_share(
-        rt,
-        &service.fresh,
-        &mut seat.notes,
-        &mut seat.blocks,
-        &mut second.owner,
-        &second.cell,
-        &mut second.blocks,
-        second_version,
-    );
-    done
+impl<'a, C: Commits, B: Blocks> PlaceGuards<'a, C, B> {
+    /// None. Takes no memory.
+    pub(crate) fn none(alloc: Global) -> PlaceGuards<'a, C, B>
+        ensures { ArePlaces result.guards.items [] }
+    {
+        PlaceGuards {
+            guards: SmallVec::new(alloc),
+        }
+    }
+
+    /// Locks the places of these inodes, which rise, and takes their cells out, up to the first that can't be. Their blocks
+    /// come to the share.
+    ///
+    /// `Stale` where there is no such slot, and `Mismatch` of `Lists` where another inode's place lies there, or an empty one.
+    pub(crate) fn take_all<R: Wait>(
+        &mut self,
+        rt: &R,
+        service: &'a Service<C, B>,
+        notes: &mut Notes<C>,
+        mine: &mut Share<B>,
+        slots: &[Ino],
+        list: &mut CellList,
+    ) -> Result<(), Fault>
+        requires few { length slots.now ≤ 4 }
+        requires none { ArePlaces self.old.guards.items [] }
+        requires list { IsRoom list.old }
+        requires part { 0 < mine.old.parts }
+        // Each guard is that of the place of the cell at its place in the list.
+        ensures places { ArePlaces self.new.guards.items list.new.cells.items }
+        // Places are locked in the order of the slots, which is by rising number.
+        ensures inos { inos_of list.new.cells.items ≡ take (vec_len list.new.cells) slots.now }
+        ensures all { OnOk result (vec_len list.new.cells ≡ length slots.now) }
+        ensures some { vec_len list.new.cells ≤ length slots.now }
+        ensures taken { AllByRecursion (IsTaken C.opened notes.old) list.new.cells.items }
+        ensures notes { notes.new ≡ notes.old }
+        ensures parts { mine.new.parts ≡ mine.old.parts }
+        ensures amount { mine.new.amount
+            ≡ mine.old.amount + blocks_in (pairs list.new.cells.items) }
+        ensures room { vec_capacity list.new.cells ≡ vec_capacity list.old.cells }
+        ensures err { FailsEither fault.Stale (fault.Mismatch part.Lists) result }
+    {
+        for slot in slots {
+            match self.take_next(rt, service, notes, mine, *slot, list) {
+                Ok(()) => {}
+                Err(fault) => return Err(fault),
+            }
+        }
+        Ok(())
+    }
+
+    /// Locks one place more, and takes its cell out.
+    fn take_next<R: Wait>(
+        &mut self,
+        rt: &R,
+        service: &'a Service<C, B>,
+        notes: &mut Notes<C>,
+        mine: &mut Share<B>,
+        ino: Ino,
+        list: &mut CellList,
+    ) -> Result<(), Fault>
+        requires few { vec_len list.old.cells < 4 }
+        requires room { 4 ≤ vec_capacity list.old.cells }
+        requires places { ArePlaces self.old.guards.items list.old.cells.items }
+        requires part { 0 < mine.old.parts }
+        ensures places { ArePlaces self.new.guards.items list.new.cells.items }
+        ensures taken { OnOk result ((t : TakenCell)
+            × (list.new.cells.items ≡ list.old.cells.items ++ t ∷ []) × (t.ino ≡ ino)
+            × IsTaken C.opened notes.old t
+            × (mine.new.amount ≡ mine.old.amount + block_total t.cell.state)) }
+        ensures same { OnErr result ((list.new ≡ list.old) × (mine.new.amount ≡ mine.old.amount)) }
+        ensures notes { notes.new ≡ notes.old }
+        ensures parts { mine.new.parts ≡ mine.old.parts }
+        ensures room { vec_capacity list.new.cells ≡ vec_capacity list.old.cells }
+        ensures err { FailsEither fault.Stale (fault.Mismatch part.Lists) result }
+    {
+        match hold(rt, service, ino) {
+            Ok(guard) => {
+                let (guard, taken) = take_out(rt, &service.fresh, notes, mine, guard);
+                self.add(guard, taken, list);
+                Ok(())
+            }
+            Err(fault) => Err(fault),
+        }
+    }
+
+    /// Keeps a cell that is out of its place, with the guard of that.
+    fn add(
+        &mut self,
+        guard: MutexGuard<'a, LockedCell<C, B>>,
+        taken: TakenCell,
+        list: &mut CellList,
+    )
+        requires place { mutex_guard_value guard ≡ empty_place taken }
+        requires few { vec_len list.old.cells < 4 }
+        requires room { 4 ≤ vec_capacity list.old.cells }
+        requires places { ArePlaces self.old.guards.items list.old.cells.items }
+        ensures places { ArePlaces self.new.guards.items list.new.cells.items }
+        ensures cells { list.new.cells.items ≡ list.old.cells.items ++ taken ∷ [] }
+        ensures room { vec_capacity list.new.cells ≡ vec_capacity list.old.cells }
+    {
+        list.push(taken);
+        self.guards.push_reserved(Some(guard));
+    }
+
+    /// The last guard, if there is one.
+    fn pop(&mut self) -> Option<MutexGuard<'a, LockedCell<C, B>>>
+        ensures { (front : List (Option (Guard LockedValue))) (last : Option (Guard LockedValue))
+            → self.old.guards.items ≡ front ++ last ∷ []
+            → (self.new.guards.items ≡ front) × (result ≡ last) }
+    {
+        self.guards.pop()?
+    }
+
+    /// Puts all cells back into their places, the last one first, and unlocks these. Where a commit raised a version, the
+    /// pass follows it, and the notes have then seen it.
+    pub(crate) fn put_all<R: Wait>(
+        &mut self,
+        rt: &R,
+        fresh: &Fresh<C>,
+        notes: &mut Notes<C>,
+        mine: &mut Share<B>,
+        list: &mut CellList,
+    )
+        requires places { ArePlaces self.old.guards.items list.old.cells.items }
+        requires rising { AllPairs (λ a b. a < b) (inos_of list.old.cells.items) }
+        requires back { (k : ℕ) → k < vec_len list.old.cells
+            → GoesBack C.opened notes.old (taken_at list.old.cells.items k) }
+        requires part { 0 < mine.old.parts }
+        requires enough { blocks_in (pairs list.old.cells.items) ≤ mine.old.amount }
+        ensures none { list.new.cells.items ≡ [] }
+        ensures room { vec_capacity list.new.cells ≡ vec_capacity list.old.cells }
+        ensures parts { mine.new.parts ≡ mine.old.parts }
+        ensures amount { mine.new.amount + blocks_in (pairs list.old.cells.items)
+            ≡ mine.old.amount }
+        // A session has seen a higher version of each inode that its commit raised, and nothing else.
+        ensures higher { (k : ℕ) → k < vec_len list.old.cells
+            → IsNext (taken_at list.old.cells.items k)
+            → slice_index notes.old (taken_at list.old.cells.items k).ino
+            < slice_index notes.new (taken_at list.old.cells.items k).ino }
+        ensures still { ((k : ℕ) → k < vec_len list.old.cells
+            → IsStill (taken_at list.old.cells.items k)) → notes.new ≡ notes.old }
+        ensures kept { (i : ℕ) → slice_index notes.old i ≤ slice_index notes.new i }
+    {
+        match list.pop() {
+            None => {}
+            Some(taken) => {
+                let Some(guard) = self.pop() else {
+                    unreachable!()
+                };
+                put_back(rt, fresh, notes, mine, guard, taken);
+                self.put_all(rt, fresh, notes, mine, list);
+            }
+        }
+    }
 }
 
-/// Makes a change over the three cells that it locks, whose guards are held, as [`change_one`] does over one.
-pub(crate) fn change_three<C: Commits, B: Blocks, S: Source, R: Wait>(
+/// Takes the cell out of a place that is locked, with the share of its blocks.
+fn take_out<'a, C: Commits, B: Blocks, R: Wait>(
     rt: &R,
-    service: &Service<C, B>,
-    seat: &mut Seat<C, B>,
-    first: &mut LockedCell<C, B>,
-    second: &mut LockedCell<C, B>,
-    third: &mut LockedCell<C, B>,
-    change: Change<'_>,
-    source: &mut S,
-) -> (Hand, Result<Receipt, ChangeEnd>)
-    requires commits_part { 0 < seat.old.commits.parts }
-    requires blocks_part { 0 < seat.old.blocks.parts }
-    requires blocks { seat.old.blocks.amount ≡ length (blocks_of change.hand) }
-    requires failures { S.failed source.old < 2 ^ 64 - 1 }
-    requires rising_second { first.old.ino < second.old.ino }
-    requires rising_third { second.old.ino < third.old.ino }
-    ensures ino_first { first.new.ino ≡ first.old.ino }
-    ensures ino_second { second.new.ino ≡ second.old.ino }
-    ensures ino_third { third.new.ino ≡ third.old.ino }
-    ensures number { seat.new.number ≡ seat.old.number }
-    ensures commits_part { seat.new.commits.parts ≡ seat.old.commits.parts }
-    ensures blocks_part { seat.new.blocks.parts ≡ seat.old.blocks.parts }
-    ensures blocks { seat.new.blocks.amount ≡ length (blocks_of result.0) }
-    ensures counted { OnOk result.1 (seat.new.commits.amount ≡ seat.old.commits.amount + 1) }
-    ensures least { IfOk result.1
-        (λ receipt. C.commit + seat.new.commits.amount ≤ receipt.stamp.commit) }
-    ensures call { IfOk result.1 (IsReceiptOf change.entry.update) }
-    ensures higher { IfOk result.1
-        (SeesPublished seat.old.notes seat.new.notes change.entry.update) }
-    ensures kept { (i : ℕ) → slice_index seat.old.notes i ≤ slice_index seat.new.notes i }
-    ensures same { OnErr result.1 ((seat.new.commits.amount ≡ seat.old.commits.amount)
-        × (seat.new.notes ≡ seat.old.notes)) }
-    ensures some { OnOk result.1 (is_nothing (blank_call change.entry.update) ≡ false) }
-    ensures overtaken { IfErr result.1 (IsOfCall change.entry.update) }
-    ensures reads { S.failed source.new ≡ S.failed source.old + failed_by result.1 }
-    ensures short { seat.new.asking.turn ≡ turned_end result.1 seat.old.asking.turn }
+    fresh: &Fresh<C>,
+    notes: &mut Notes<C>,
+    mine: &mut Share<B>,
+    mut guard: MutexGuard<'a, LockedCell<C, B>>,
+) -> (MutexGuard<'a, LockedCell<C, B>>, TakenCell)
+    requires there { IsThere (mutex_guard_value guard) }
+    requires part { 0 < mine.old.parts }
+    ensures place { mutex_guard_value result.0 ≡ empty_place result.1 }
+    ensures ino { result.1.ino ≡ (mutex_guard_value guard.entry).ino }
+    ensures taken { IsTaken C.opened notes.old result.1 }
+    ensures notes { notes.new ≡ notes.old }
+    ensures parts { mine.new.parts ≡ mine.old.parts }
+    ensures amount { mine.new.amount ≡ mine.old.amount + block_total result.1.cell.state }
 {
-    let first_version = borrow_share(
-        rt,
-        &service.fresh,
-        &mut seat.notes,
-        &mut seat.blocks,
-        &mut first.owner,
-        &first.cell,
-        &mut first.blocks,
-    );
-    let second_version = borrow_share(
-        rt,
-        &service.fresh,
-        &mut seat.notes,
-        &mut seat.blocks,
-        &mut second.owner,
-        &second.cell,
-        &mut second.blocks,
-    );
-    let third_version = borrow_share(
-        rt,
-        &service.fresh,
-        &mut seat.notes,
-        &mut seat.blocks,
-        &mut third.owner,
-        &third.cell,
-        &mut third.blocks,
-    );
-    let done = over_three(
-        rt,
-        service,
-        seat,
-        (first.ino, second.ino, third.ino),
-        &mut first.cell,
-        &mut second.cell,
-        &mut third.cell,
-        change,
-        source,
-    );
-    return_share(
-        rt,
-        &service.fresh,
-        &mut seat.notes,
-        &mut seat.blocks,
-        &mut first.owner,
-        &first.cell,
-        &mut first.blocks,
-        first_version,
-    );
-    return_share(
-        rt,
-        &service.fresh,
-        &mut seat.notes,
-        &mut seat.blocks,
-        &mut second.owner,
-        &second.cell,
-        &mut second.blocks,
-        second_version,
-    );
-    return_share(
-        rt,
-        &service.fresh,
-        &mut seat.notes,
-        &mut seat.blocks,
-        &mut third.owner,
-        &third.cell,
-        &mut third.blocks,
-        third_version,
-    );
-    done
+    guard.check_seen(rt, fresh, notes);
+    let ino = guard.ino();
+    let cell = guard.take(mine);
+    let before = cell.version();
+    (guard, TakenCell { ino, before, cell })
 }
 
-/// Makes a change over the four cells that it locks, whose guards are held, as [`change_one`] does over one.
-pub(crate) fn change_four<C: Commits, B: Blocks, S: Source, R: Wait>(
+/// Puts a cell back into its place, and unlocks it. Where a commit raised the version, the pass follows it, and the notes
+/// have then seen it.
+fn put_back<C: Commits, B: Blocks, R: Wait>(
     rt: &R,
-    service: &Service<C, B>,
-    seat: &mut Seat<C, B>,
-    first: &mut LockedCell<C, B>,
-    second: &mut LockedCell<C, B>,
-    third: &mut LockedCell<C, B>,
-    fourth: &mut LockedCell<C, B>,
-    change: Change<'_>,
-    source: &mut S,
-) -> (Hand, Result<Receipt, ChangeEnd>)
-    requires commits_part { 0 < seat.old.commits.parts }
-    requires blocks_part { 0 < seat.old.blocks.parts }
-    requires blocks { seat.old.blocks.amount ≡ length (blocks_of change.hand) }
-    requires failures { S.failed source.old < 2 ^ 64 - 1 }
-    requires rising_second { first.old.ino < second.old.ino }
-    requires rising_third { second.old.ino < third.old.ino }
-    requires rising_fourth { third.old.ino < fourth.old.ino }
-    ensures ino_first { first.new.ino ≡ first.old.ino }
-    ensures ino_second { second.new.ino ≡ second.old.ino }
-    ensures ino_third { third.new.ino ≡ third.old.ino }
-    ensures ino_fourth { fourth.new.ino ≡ fourth.old.ino }
-    ensures number { seat.new.number ≡ seat.old.number }
-    ensures commits_part { seat.new.commits.parts ≡ seat.old.commits.parts }
-    ensures blocks_part { seat.new.blocks.parts ≡ seat.old.blocks.parts }
-    ensures blocks { seat.new.blocks.amount ≡ length (blocks_of result.0) }
-    ensures counted { OnOk result.1 (seat.new.commits.amount ≡ seat.old.commits.amount + 1) }
-    ensures least { IfOk result.1
-        (λ receipt. C.commit + seat.new.commits.amount ≤ receipt.stamp.commit) }
-    ensures call { IfOk result.1 (IsReceiptOf change.entry.update) }
-    ensures higher { IfOk result.1
-        (SeesPublished seat.old.notes seat.new.notes change.entry.update) }
-    ensures kept { (i : ℕ) → slice_index seat.old.notes i ≤ slice_index seat.new.notes i }
-    ensures same { OnErr result.1 ((seat.new.commits.amount ≡ seat.old.commits.amount)
-        × (seat.new.notes ≡ seat.old.notes)) }
-    ensures some { OnOk result.1 (is_nothing (blank_call change.entry.update) ≡ false) }
-    ensures overtaken { IfErr result.1 (IsOfCall change.entry.update) }
-    ensures reads { S.failed source.new ≡ S.failed source.old + failed_by result.1 }
-    ensures short { seat.new.asking.turn ≡ turned_end result.1 seat.old.asking.turn }
+    fresh: &Fresh<C>,
+    notes: &mut Notes<C>,
+    mine: &mut Share<B>,
+    mut guard: MutexGuard<'_, LockedCell<C, B>>,
+    taken: TakenCell,
+)
+    requires place { mutex_guard_value guard ≡ empty_place taken }
+    requires back { GoesBack C.opened notes.old taken }
+    requires part { 0 < mine.old.parts }
+    requires enough { block_total taken.cell.state ≤ mine.old.amount }
+    ensures parts { mine.new.parts ≡ mine.old.parts }
+    ensures amount { mine.new.amount + block_total taken.cell.state ≡ mine.old.amount }
+    ensures higher { IsNext taken
+        → slice_index notes.old taken.ino < slice_index notes.new taken.ino }
+    ensures still { IsStill taken → notes.new ≡ notes.old }
+    ensures elsewhere { (i : ℕ) → i ≢ taken.ino
+        → slice_index notes.new i ≡ slice_index notes.old i }
+    ensures kept { (i : ℕ) → slice_index notes.old i ≤ slice_index notes.new i }
 {
-    let first_version = borrow_share(
-        rt,
-        &service.fresh,
-        &mut seat.notes,
-        &mut seat.blocks,
-        &mut first.owner,
-        &first.cell,
-        &mut first.blocks,
-    );
-    let second_version = borrow_share(
-        rt,
-        &service.fresh,
-        &mut seat.notes,
-        &mut seat.blocks,
-        &mut second.owner,
-        &second.cell,
-        &mut second.blocks,
-    );
-    let third_version = borrow_share(
-        rt,
-        &service.fresh,
-        &mut seat.notes,
-        &mut seat.blocks,
-        &mut third.owner,
-        &third.cell,
-        &mut third.blocks,
-    );
-    let fourth_version = borrow_share(
-        rt,
-        &service.fresh,
-        &mut seat.notes,
-        &mut seat.blocks,
-        &mut fourth.owner,
-        &fourth.cell,
-        &mut fourth.blocks,
-    );
-    let done = over_four(
-        rt,
-        service,
-        seat,
-        (first.ino, second.ino, third.ino, fourth.ino),
-        &mut first.cell,
-        &mut second.cell,
-        &mut third.cell,
-        &mut fourth.cell,
-        change,
-        source,
-    );
-    return_share(
-        rt,
-        &service.fresh,
-        &mut seat.notes,
-        &mut seat.blocks,
-        &mut first.owner,
-        &first.cell,
-        &mut first.blocks,
-        first_version,
-    );
-    return_share(
-        rt,
-        &service.fresh,
-        &mut seat.notes,
-        &mut seat.blocks,
-        &mut second.owner,
-        &second.cell,
-        &mut second.blocks,
-        second_version,
-    );
-    return_share(
-        rt,
-        &service.fresh,
-        &mut seat.notes,
-        &mut seat.blocks,
-        &mut third.owner,
-        &third.cell,
-        &mut third.blocks,
-        third_version,
-    );
-    return_share(
-        rt,
-        &service.fresh,
-        &mut seat.notes,
-        &mut seat.blocks,
-        &mut fourth.owner,
-        &fourth.cell,
-        &mut fourth.blocks,
-        fourth_version,
-    );
-    done
+    let TakenCell {
+        ino: _,
+        before,
+        cell,
+    } = taken;
+    let version = cell.version();
+    if version == before {
+        guard.put(cell, mine);
+        return;
+    }
+    guard.raise(rt, fresh, version);
+    guard.put(cell, mine);
+    guard.note_seen(fresh, notes);
 }

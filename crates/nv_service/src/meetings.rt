@@ -23,7 +23,7 @@ impl<C: Commits, B: Blocks> Session<C, B> {
         ensures cell { cell.new ≡ cell.old }
         // Who holds a cell's guard and a session finds at least the version that it has seen.
         ensures met { version_at C.opened cell.old.ino (slice_index self.old.seen cell.old.ino)
-            ≤ cell.old.cell.state.version }
+            ≤ cell.old.version }
     {
         cell.check_seen(rt, &service.fresh, &mut self.seat.notes);
     }

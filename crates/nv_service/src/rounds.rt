@@ -10,7 +10,9 @@ ghost use Rattle.nv_service.specs.Asking.{turned_end, turned_in, turned_round};
 ghost use Rattle.nv_service.specs.Refusing.{MayGiveUp, failed_by, failed_in, failed_round};
 ghost use Rattle.nv_service.specs.Rounds.{IsEndedBy, IsRoundOf};
 ghost use Rattle.nv_service.specs.Sessions.{IsChangedBy, IsGivenBack, SessionValue, answered, at_seat, with_held};
+ghost use Rattle.nv_service.specs.Taken.{IsRoom};
 
+use crate::cell_list::CellList;
 use crate::change::{Change, ChangeEnd};
 use crate::ending::{empty_hand, give_back};
 use crate::guards::change_slots;
@@ -79,15 +81,18 @@ fn round<C: Commits, B: Blocks, S: Source, R: Wait>(
     rt: &R,
     service: &Service<C, B>,
     seat: &mut Seat<C, B>,
+    list: &mut CellList,
     number: &Option<Ino>,
     update: Update,
     hand: Hand,
     source: &mut S,
 ) -> (Hand, RoundEnd)
+    requires list { IsRoom list.old }
     requires number { makes update ≡ false → number.now ≡ None }
     requires parts { (0 < seat.old.commits.parts) × (0 < seat.old.blocks.parts) }
     requires blocks { seat.old.blocks.amount ≡ length (blocks_of hand) }
     requires failures { S.failed source.old < 2 ^ 64 - 1 }
+    ensures list { IsRoom list.new }
     ensures commits_part { seat.new.commits.parts ≡ seat.old.commits.parts }
     ensures blocks_part { seat.new.blocks.parts ≡ seat.old.blocks.parts }
     ensures blocks { seat.new.blocks.amount ≡ length (blocks_of result.0) }
@@ -109,7 +114,7 @@ fn round<C: Commits, B: Blocks, S: Source, R: Wait>(
         update,
         hand,
     };
-    let (hand, end) = change_slots(rt, service, seat, &slots, change, source);
+    let (hand, end) = change_slots(rt, service, seat, list, &slots, change, source);
     (hand, RoundEnd::of(end, nothing))
 }
 
@@ -122,17 +127,20 @@ fn rounds<C: Commits, B: Blocks, S: Source, R: Wait>(
     rt: &R,
     service: &Service<C, B>,
     seat: &mut Seat<C, B>,
+    list: &mut CellList,
     left: u64,
     number: &Option<Ino>,
     update: Update,
     hand: Hand,
     source: &mut S,
 ) -> (Hand, Result<Seen, Fault>, u64)
+    requires list { IsRoom list.old }
     requires few { left < LOCK_ROUNDS }
     requires number { makes update ≡ false → number.now ≡ None }
     requires parts { (0 < seat.old.commits.parts) × (0 < seat.old.blocks.parts) }
     requires blocks { seat.old.blocks.amount ≡ length (blocks_of hand) }
     requires failures { S.failed source.old < 2 ^ 64 - 1 }
+    ensures list { IsRoom list.new }
     ensures commits_part { seat.new.commits.parts ≡ seat.old.commits.parts }
     ensures blocks_part { seat.new.blocks.parts ≡ seat.old.blocks.parts }
     ensures blocks { seat.new.blocks.amount ≡ length (blocks_of result.0) }
@@ -149,7 +157,7 @@ fn rounds<C: Commits, B: Blocks, S: Source, R: Wait>(
     ensures reads { S.failed source.new ≡ S.failed source.old + failed_in result.1 }
     ensures short { seat.new.asking.turn ≡ turned_in result.1 seat.old.asking.turn }
 {
-    let (hand, end) = round(rt, service, seat, number, update, hand, source);
+    let (hand, end) = round(rt, service, seat, list, number, update, hand, source);
     match end {
         RoundEnd::Ends(result) => (hand, result, 1),
         RoundEnd::BoundAnew(_) if left == 0 => (hand, Err(Fault::Contended), 1),
@@ -158,6 +166,7 @@ fn rounds<C: Commits, B: Blocks, S: Source, R: Wait>(
                 rt,
                 service,
                 seat,
+                list,
                 left - 1,
                 number,
                 update,
@@ -197,6 +206,7 @@ impl<C: Commits, B: Blocks> Session<C, B> {
             rt,
             service,
             &mut self.seat,
+            &mut self.list,
             limits::LOCK_ROUNDS - 1,
             &number,
             update,

@@ -1,16 +1,18 @@
 //! The seats of a service: those that are free, and sessions on the others.
 
-ghost use Rattle.std.specs.Prelude.{◌≡◌, ◌⊎◌, ◌+◌, ◌<◌, ◌≤◌, ◌↔◌, [], IfErr, IfOk, IsTrue, OnErr, OnOk, map, vec_capacity, vec_len};
+ghost use Rattle.std.specs.Prelude.{◌≡◌, ◌⊎◌, ◌+◌, ◌<◌, ◌≤◌, ◌↔◌, [], All, IfErr, IfOk, IsTrue, OnErr, OnOk, map, vec_capacity, vec_len};
 ghost use Rattle.std.specs.List.{range_with_len};
 ghost use Rattle.nv_base.specs.Memory.{out_of_memory};
-ghost use Rattle.nv_base.specs.Refusals.{IsRefusedBy};
+ghost use Rattle.nv_base.specs.Refusals.{FailsOnly, IsRefusedBy};
 ghost use Rattle.nv_base.specs.declared.fault.Fault.TheVariants.{BadGeometry, SeatsOut};
 ghost use Rattle.nv_base.specs.declared.fault.GeometryField.TheVariants.{Seats};
 ghost use Rattle.nv_base.specs.declared.limits.TheConstants.{ACTORS};
 ghost use Rattle.nv_alloc.specs.Numbers.{times};
 ghost use Rattle.nv_service.specs.Seats.{AreSeats, new_session};
+ghost use Rattle.nv_service.specs.Taken.{IsRoom};
 
 use crate::asking::Asking;
+use crate::cell_list::CellList;
 use crate::giving_back::Giving;
 use crate::names::{Blocks, Commits, Cut, SnapLedger};
 use crate::passes::{Fresh, Maker, Notes};
@@ -65,8 +67,15 @@ impl<C: Commits, B: Blocks> FreeSeat<C, B> {
         }
     }
 
-    /// A session on the seat, with an empty hand.
-    fn session(self, alloc: Global, geometry: &Geometry, number: u64) -> Session<C, B>
+    /// A session on the seat, with an empty hand and this room for cells.
+    fn session(
+        self,
+        alloc: Global,
+        geometry: &Geometry,
+        number: u64,
+        list: CellList,
+    ) -> Session<C, B>
+        requires list { IsRoom list }
         ensures { result ≡ new_session number }
     {
         let FreeSeat {
@@ -88,6 +97,7 @@ impl<C: Commits, B: Blocks> FreeSeat<C, B> {
             seat,
             snapped,
             hand: Hand::new(alloc, geometry),
+            list,
         }
     }
 }
@@ -149,7 +159,8 @@ impl<C: Commits, B: Blocks> Service<C, B> {
             return Err(Fault::BadGeometry(GeometryField::Seats));
         }
         let into = Vec::with_capacity(alloc, count as usize)?;
-        Ok(self.seating.seat(alloc, &self.geometry, count, into))
+        let rooms = cell_rooms(alloc, count)?;
+        Ok(self.seating.seat(alloc, &self.geometry, count, rooms, into))
     }
 }
 
@@ -160,8 +171,10 @@ impl<C: Commits, B: Blocks> Seating<C, B> {
         alloc: Global,
         geometry: &Geometry,
         count: u64,
+        rooms: Vec<CellList>,
         into: Vec<Session<C, B>>,
     ) -> Vec<Session<C, B>>
+        requires rooms { (vec_len rooms ≡ count) × All IsRoom rooms.items }
         requires none { self.old.given ≡ 0 }
         requires few { count ≤ ACTORS }
         requires room { (into.items ≡ []) × (count ≤ vec_capacity into) }
@@ -169,7 +182,7 @@ impl<C: Commits, B: Blocks> Seating<C, B> {
         ensures given { self.new.given ≡ count }
     {
         let Seating { free, given, .. } = self;
-        let sessions = seated(alloc, geometry, free, count, into);
+        let sessions = seated(alloc, geometry, free, count, rooms, into);
         *given = count;
         sessions
     }
@@ -206,8 +219,10 @@ pub(crate) fn seated<C: Commits, B: Blocks>(
     geometry: &Geometry,
     free: &mut Vec<Mutex<FreeSeat<C, B>>>,
     count: u64,
+    mut rooms: Vec<CellList>,
     mut into: Vec<Session<C, B>>,
 ) -> Vec<Session<C, B>>
+    requires rooms { (vec_len rooms ≡ count) × All IsRoom rooms.items }
     requires enough { count ≤ vec_len free.old }
     requires room { (into.items ≡ []) × (count ≤ vec_capacity into) }
     ensures sessions { result.items ≡ map new_session (range_with_len 0 count) }
@@ -217,9 +232,38 @@ pub(crate) fn seated<C: Commits, B: Blocks>(
         let Some(seat) = free.pop() else {
             unreachable!()
         };
-        into.push_reserved(seat.into_inner().session(alloc, geometry, number));
+        let room = next_room(&mut rooms);
+        into.push_reserved(seat.into_inner().session(alloc, geometry, number, room));
     }
     into
+}
+
+/// Room for the cells of a call, for each of so many sessions. The only error is `OutOfMemory`.
+fn cell_rooms(alloc: Global, count: u64) -> Result<Vec<CellList>, Fault>
+    ensures count { IfOk result (λ rooms. vec_len rooms ≡ count) }
+    ensures each { IfOk result (λ rooms. All IsRoom rooms.items) }
+    ensures err { FailsOnly out_of_memory result }
+{
+    let mut rooms = Vec::with_capacity(alloc, count as usize)?;
+    for _ in 0..count {
+        let room = CellList::new(alloc)?;
+        rooms.push_reserved(room);
+    }
+    Ok(rooms)
+}
+
+/// Takes the room for the cells of one session out.
+fn next_room(rooms: &mut Vec<CellList>) -> CellList
+    requires some { 0 < vec_len rooms.old }
+    requires each { All IsRoom rooms.old.items }
+    ensures room { IsRoom result }
+    ensures each { All IsRoom rooms.new.items }
+    ensures count { vec_len rooms.new + 1 ≡ vec_len rooms.old }
+{
+    let Some(room) = rooms.pop() else {
+        unreachable!()
+    };
+    room
 }
 
 /// Whether the sessions are those of so many seats: as many, and each seat's number once.

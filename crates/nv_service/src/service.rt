@@ -131,7 +131,13 @@ impl<C: Commits, B: Blocks> Service<C, B> {
             lists,
             list_rests,
         } = room;
-        let (cells, cell_rests) = unlock_cells(&mut cell_locks, cells, cell_rests);
+        let (cells, cell_rests) = unlock_cells(
+            alloc,
+            &geometry,
+            &mut cell_locks,
+            cells,
+            cell_rests,
+        );
         let (lists, list_rests) = unlock_lists(&mut list_locks, lists, list_rests);
         let LockedBook {
             book,

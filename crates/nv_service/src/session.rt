@@ -3,6 +3,7 @@
 ghost use Rattle.std.specs.Prelude.{◌≡◌};
 ghost use Rattle.nv_service.specs.Sessions.{IsGivenBack};
 
+use crate::cell_list::CellList;
 use crate::names::{Blocks, Commits, SnapLedger};
 use crate::seat::Seat;
 use nv_alloc::Hand;
@@ -17,12 +18,15 @@ pub struct Session<C: Commits, B: Blocks> {
     pub(crate) seat: Seat<C, B>,
     pub(crate) snapped: Share<SnapLedger<C>>,
     pub(crate) hand: Hand,
+    /// Room for the cells of a call, made once.
+    pub(crate) list: CellList,
 }
 
 impl<C: Commits, B: Blocks> Model for Session<C, B> {
     ghost use Rattle.std.specs.Prelude.{◌≡◌, length};
     ghost use Rattle.nv_alloc.specs.Hand.{blocks_of};
     ghost use Rattle.nv_service.specs.Sessions.{IsGivenBack, SessionValue, held_by};
+    ghost use Rattle.nv_service.specs.Taken.{IsRoom};
 
     ghost Value = { SessionValue };
 
@@ -34,13 +38,14 @@ impl<C: Commits, B: Blocks> Model for Session<C, B> {
       held = held_by s.hand s.seat.giving;
     } };
 
-    // It has one part of each ledger, and as many blocks as its hand. Nothing is in the hand, except where a list or the
-    // pool has refused some of it.
+    // It has one part of each ledger, as many blocks as its hand, and room for the cells of a call. Nothing is in the hand,
+    // except where a list or the pool has refused some of it.
     ghost invariant = { λ s. (s.seat.commits.parts ≡ 1)
         × (s.seat.blocks.parts ≡ 1)
         × (s.snapped.parts ≡ 1)
         × (s.seat.blocks.amount ≡ length (blocks_of s.hand))
-        × IsGivenBack (held_by s.hand s.seat.giving) };
+        × IsGivenBack (held_by s.hand s.seat.giving)
+        × IsRoom s.list };
 }
 
 impl<C: Commits, B: Blocks> Session<C, B> {
@@ -63,6 +68,7 @@ impl<C: Commits, B: Blocks> Session<C, B> {
             seat,
             snapped,
             hand,
+            list: _,
         } = self;
         hand.dismantle();
         (seat, snapped)
@@ -77,6 +83,7 @@ impl<C: Commits, B: Blocks> Drop for Session<C, B> {
             seat: _,
             snapped: _,
             hand,
+            list: _,
         } = self;
         hand.dismantle();
     }

@@ -1,6 +1,7 @@
 //! Locked parts are taken apart for a world, and put together again where it is refused.
 
 ghost use Rattle.std.specs.Prelude.{◌≡◌, ◌≤◌, [], length, map, vec_capacity, vec_len};
+ghost use Rattle.nv_service.specs.Locked.{IsAt, blocks_there};
 ghost use Rattle.nv_service.specs.UnlockedParts.{AreAllSlots, list_told, rest_told, cell_told};
 
 use crate::cell::LockedCell;
@@ -10,12 +11,16 @@ use crate::names::{Blocks, Commits};
 use crate::unlocked_parts::{BesideCell, BesideList};
 use crossbeam_utils::CachePadded;
 use nv_alloc::FreeList;
+use nv_base::{Gen, Geometry};
 use nv_cell::InodeCell;
+use std::alloc::Global;
 use std::sync::Mutex;
 
 /// The locks of cells, which are empty afterwards and keep their room; the cells and what lay beside them, in room that
 /// was made before.
 pub(crate) fn unlock_cells<C: Commits, B: Blocks>(
+    alloc: Global,
+    geometry: &Geometry,
     locks: &mut CellLocks<C, B>,
     mut cells: Vec<InodeCell>,
     mut rests: Vec<BesideCell<C, B>>,
@@ -33,11 +38,12 @@ pub(crate) fn unlock_cells<C: Commits, B: Blocks>(
     while let Some((slot, locked)) = locks.take_last() {
         let LockedCell {
             ino,
+            version,
             cell,
             blocks,
             owner,
         } = locked;
-        cells.push_reserved(cell);
+        cells.push_reserved(cell_or_empty(alloc, geometry, version, cell));
         rests.push_reserved(BesideCell {
             slot,
             ino,
@@ -48,6 +54,25 @@ pub(crate) fn unlock_cells<C: Commits, B: Blocks>(
     cells.reverse();
     rests.reverse();
     (cells, rests)
+}
+
+/// The cell of a place. An empty place counts as an empty slot of its version, which then has no blocks. Takes no memory.
+fn cell_or_empty(
+    alloc: Global,
+    geometry: &Geometry,
+    version: u64,
+    cell: Option<InodeCell>,
+) -> InodeCell
+    requires { IsAt version cell }
+    ensures { cell_told result ≡ record { blocks = blocks_there cell; version = version } }
+{
+    match cell {
+        Some(cell) => cell,
+        None => {
+            let page = geometry.numbers.page as usize;
+            InodeCell::new(alloc, geometry.numbers.block, page, Gen::new(1), version)
+        }
+    }
 }
 
 /// Puts cells and what lay beside them behind locks again, each behind that of the slot that it was taken out of.
@@ -77,7 +102,8 @@ pub(crate) fn lock_cells<C: Commits, B: Blocks>(
         } = rest;
         let locked = LockedCell {
             ino,
-            cell,
+            version: cell.version(),
+            cell: Some(cell),
             blocks,
             owner,
         };

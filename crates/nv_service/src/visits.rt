@@ -25,7 +25,7 @@ impl<C: Commits, B: Blocks> Session<C, B> {
         found: Result<View, Fault>,
     ) -> Result<Seen, Fault>
         ensures ok { (ino : ℕ) (call : Call) → cell.old.ino ≡ ino
-            → IfOk found (IsFoundAt cell.old.cell.state.version call)
+            → IfOk found (IsFoundAt cell.old.version call)
             → IfOk result (IsViewedBy C.opened self.old self.new ino call) }
         ensures same { KeepsOnErr result self.old self.new }
         ensures held { IsGivenBack self.new.held }

@@ -61,9 +61,10 @@ fn finds<C: Commits, B: Blocks, R: Wait + Abort>(
     commits: u64,
 ) {
     let lock = service.inode_lock(Ino::new(1)).expect(rt, "a slot");
-    let mut cell = lock.lock(rt);
-    session.meet_cell(rt, service, &mut cell);
-    same_for(rt, &"version", cell.part().version(), commits);
+    let mut place = lock.lock(rt);
+    session.meet_cell(rt, service, &mut place);
+    let cell = place.cell().expect(rt, "a cell");
+    same_for(rt, &"version", cell.version(), commits);
     let mut book = service.book_lock().lock(rt);
     session.meet_book(&mut book);
     same_for(rt, &"commit", book.part().commit().number(), commits);

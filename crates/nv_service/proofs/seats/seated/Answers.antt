@@ -14,6 +14,8 @@ loop-number-preserved g c =
           ∙ ap (λ (s : SessionValue). map new_session (range_with_len 0 number) ++ s ∷ []) c.session.ensures
           ∙ sym (map-range_with_len_more new_session 0 number number (omega arith));
       count = omega (arith, c.push_reserved.ensures.len, i.count);
+      rooms = omega (arith, i.rooms, c.next_room-room.ensures.count);
+      each = c.next_room-room.ensures.each;
       left = omega (arith, i.left, c.in-Some.ensures.len);
       room = c.push_reserved.ensures.capacity ∙ i.room;
     }

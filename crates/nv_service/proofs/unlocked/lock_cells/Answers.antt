@@ -46,11 +46,13 @@ invariant_of-locked g c =
     let l = c.loop-cell in
     let is = c.rest.view_is in
     let fit = (split_last rest_told cell_told l.rests.items c.pop-in-Some.new.self.items c.in-Some-pop.rest l.cells.items
-    c.pop.new.self.items c.in-Some.cell l.invariant.fit c.in-Some-pop.ensures.items c.in-Some.ensures.items).1 in (
+    c.pop.new.self.items c.in-Some.cell l.invariant.fit c.in-Some-pop.ensures.items c.in-Some.ensures.items).1 in
+    let at = sym (ap (λ (r : BesideCellValue). r.version) is ∙ ap (λ (t : Told). t.version) fit) in (
       c.rest.invariant.0,
       ap (λ (r : BesideCellValue). r.blocks) is ∙ ap (λ (t : Told). t.blocks) fit,
       c.rest.invariant.1,
-      sym (ap (λ (r : BesideCellValue). r.version) is ∙ ap (λ (t : Told). t.version) fit),
+      c.version.ensures ∙ at,
+      sym c.version.ensures,
     )
 
 pub loop-cell-preserved : goal.loop-cell-preserved

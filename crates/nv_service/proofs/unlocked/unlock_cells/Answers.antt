@@ -23,8 +23,8 @@ loop-slot-preserved g c =
       count = omega (arith, i.count, taken.taken, rest.len);
       parts = omega (arith, i.parts, cell.len, rest.len);
       fit = joined_last rest_told cell_told c.loop-slot.rests.items c.push_reserved-in-Some.new.self.items _ c.loop-slot.cells.items
-          c.push_reserved.new.self.items c.locked.inside.cell i.fit rest.items cell.items
-          (same_told _ _ _ _ c.locked.invariant.1 c.locked.invariant.3);
+          c.push_reserved.new.self.items c.cell_or_empty.result i.fit rest.items cell.items
+          (same_told _ _ _ _ c.locked.invariant.1 c.locked.invariant.3 ∙ sym c.cell_or_empty.ensures);
       slots = joined c.loop-slot.rests.items c.push_reserved-in-Some.new.self.items _ low (vec_len c.loop-slot.rests)
           (i.slots ∙ ap (λ (n : ℕ). falling n (vec_len c.loop-slot.rests)) (sym taken.taken)) rest.items taken.slot
           ∙ ap (λ (n : ℕ). falling low n) (sym rest.len);

@@ -8,7 +8,7 @@ returns-clause-here g c =
     let is = c.self.view_is in
     let i = c.self.invariant in
     let ino = ap (λ (l : LockedValue). l.ino) is in
-    let version = ap (λ (l : LockedValue). l.cell.state.version) is in
+    let version = ap (λ (l : LockedValue). l.version) is in
     let opened = g.C.Commits.opened in
     let counted = ap (λ (z : ℕ). version_at opened z c.self.inside.owner.version) ino in
     tell_here _ _ _ _ _ _ _ c.note_seen.ensures.seen (i.2 ∙ ino) (sym version ∙ i.3 ∙ counted) c.requires

@@ -1,13 +1,11 @@
-use Rattle.std.proofs.Common.{ap, subst}
+use Rattle.std.proofs.Common.{rules, ◌≡◌, subst, sym}
 use Rattle.nv_cell.specs.Cell.{CellState}
 use Rattle.nv_clean.specs.Cleaned.{KeepsValues}
-use Rattle.nv_service.specs.Locked.{LockedValue}
+use Rattle.nv_service.specs.Locked.{cell_of}
 use Rattle.nv_service.proofs.cell.LockedCell.unlink.Goals as goal
 
 pub returns-clause-values : goal.returns-clause-values
 returns-clause-values g c =
     let after = c.fast_on-cleaned in
-    subst
-    (λ (old : CellState). KeepsValues old after.new.cell.state)
-    (ap (λ (l : LockedValue). l.cell.state) c.self.view_is)
-    after.ensures.values
+    let here : (cell_of c.args.self.now).state ≡ c.in-Some.cell.state = search rules in
+    subst (λ (old : CellState). KeepsValues old after.new.cell.state) (sym here) after.ensures.values

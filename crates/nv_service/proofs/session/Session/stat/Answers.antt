@@ -1,7 +1,6 @@
-use Rattle.std.proofs.Common.{rules, ◌≡◌, [], subst}
+use Rattle.std.proofs.Common.{rules, ◌≡◌, ℕ, [], subst}
 use Rattle.std.specs.Prelude.{IfOk}
 use Rattle.nv_calls.specs.declared.call.Call.TheVariants as call
-use Rattle.nv_cell.specs.Cell.{CellValue}
 use Rattle.nv_service.specs.Sessions.{IsFoundAt}
 use Rattle.nv_service.specs.Refusing.{view_faults}
 use Rattle.nv_service.proofs.Found.{found_at}
@@ -11,9 +10,9 @@ use Rattle.nv_service.proofs.session.Session.stat.Goals as goal
 pub returns-clause-ok : goal.returns-clause-ok
 returns-clause-ok g c =
     let own : c.deref_mut.result.now.ino ≡ c.args.handle.ino = search rules in
-    let same : c.part.result.now ≡ c.deref_mut.result.now.cell = search rules in
+    let same : c.part.result.now.state.version ≡ c.deref_mut.result.now.version = search rules in
     c.see.ensures.ok _ _ own
-    (subst (λ (v : CellValue). IfOk c.stat_on-found.result (IsFoundAt v.state.version (call.Stat c.args.handle))) same
+    (subst (λ (v : ℕ). IfOk c.stat_on-found.result (IsFoundAt v (call.Stat c.args.handle))) same
     (found_at _ _ _ _ _ (c.stat_on-found.ensures (λ n. []))))
 
 pub returns-clause-err : goal.returns-clause-err
