@@ -1,0 +1,11 @@
+pub mod Backups
+pub mod Entries
+pub mod FoundValues
+pub mod Lists
+pub mod NamesApart
+pub mod Puts
+pub mod ReadSteps
+pub mod Refusals
+pub mod StoreLaws
+pub mod StoreSteps
+pub mod Told

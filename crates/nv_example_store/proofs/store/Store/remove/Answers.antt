@@ -1,0 +1,28 @@
+use Rattle.std.proofs.Common.{◌≡◌, true}
+use Rattle.nv_example_store.specs.Faults.{IsRemoveFault}
+use Rattle.nv_example_store.specs.Stored.{store_in}
+use Rattle.nv_example_store.specs.Values.{has_value, removed_in}
+use Rattle.nv_example_store.proofs.StoreSteps.{RemoveFails, Removes}
+use Rattle.nv_example_store.proofs.Told.{both_ok, by_result, of_key, rests}
+use Rattle.nv_example_store.proofs.store.Store.remove.Goals as goal
+
+pub invariant_of-self : goal.invariant_of-self
+invariant_of-self c =
+    rests _ c.self.inside.files c.remove.new.files c.self.invariant c.remove.ensures
+
+pub returns-clause-ok : goal.returns-clause-ok
+returns-clause-ok c =
+    rw (← c.self.view_is) (both_ok (has_value c.args.key.now (store_in c.self.inside.files).entries ≡ true) (store_in c.remove.new.files ≡ removed_in c.args.key.now (store_in c.self.inside.files)) c.remove.result (by_result (Removes c.args.key.now) (RemoveFails c.args.key.now) c.remove.result c.self.inside.files c.remove.new.files c.self.invariant c.remove.ensures).0).1
+
+pub returns-clause-key : goal.returns-clause-key
+returns-clause-key c =
+    rw (← c.self.view_is) (both_ok (has_value c.args.key.now (store_in c.self.inside.files).entries ≡ true) (store_in c.remove.new.files ≡ removed_in c.args.key.now (store_in c.self.inside.files)) c.remove.result (by_result (Removes c.args.key.now) (RemoveFails c.args.key.now) c.remove.result c.self.inside.files c.remove.new.files c.self.invariant c.remove.ensures).0).0
+
+pub returns-clause-err : goal.returns-clause-err
+returns-clause-err c =
+    rw (← c.self.view_is) (of_key (IsRemoveFault c.args.key.now (store_in c.self.inside.files).entries) c.args.key.now c.remove.result c.remove-requires
+    (by_result (Removes c.args.key.now) (RemoveFails c.args.key.now) c.remove.result c.self.inside.files c.remove.new.files c.self.invariant c.remove.ensures).1.0)
+
+pub returns-clause-same : goal.returns-clause-same
+returns-clause-same c =
+    rw (← c.self.view_is) (by_result (Removes c.args.key.now) (RemoveFails c.args.key.now) c.remove.result c.self.inside.files c.remove.new.files c.self.invariant c.remove.ensures).1.1

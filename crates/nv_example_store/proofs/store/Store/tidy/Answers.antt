@@ -1,0 +1,15 @@
+use Rattle.nv_example_store.proofs.Backups.{Tidies, TidyFails}
+use Rattle.nv_example_store.proofs.Told.{by_result, rests, stays_either}
+use Rattle.nv_example_store.proofs.store.Store.tidy.Goals as goal
+
+pub invariant_of-self : goal.invariant_of-self
+invariant_of-self c =
+    rests _ c.self.inside.files c.tidy.new.files c.self.invariant c.tidy.ensures
+
+pub returns-clause-same : goal.returns-clause-same
+returns-clause-same c =
+    rw (← c.self.view_is) (stays_either c.tidy.result (by_result Tidies TidyFails c.tidy.result c.self.inside.files c.tidy.new.files c.self.invariant c.tidy.ensures).0 (by_result Tidies TidyFails c.tidy.result c.self.inside.files c.tidy.new.files c.self.invariant c.tidy.ensures).1.1)
+
+pub returns-clause-err : goal.returns-clause-err
+returns-clause-err c =
+    (by_result Tidies TidyFails c.tidy.result c.self.inside.files c.tidy.new.files c.self.invariant c.tidy.ensures).1.0

@@ -1,0 +1,5 @@
+pub mod Faults
+pub mod Held
+pub mod Keys
+pub mod Stored
+pub mod Values
