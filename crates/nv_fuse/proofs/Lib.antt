@@ -1,0 +1,5 @@
+pub mod Appends
+pub mod Cuts
+pub mod Listings
+pub mod Tables
+pub mod Wholes
