@@ -3,6 +3,7 @@ pub mod Entries
 pub mod FoundValues
 pub mod Lists
 pub mod NamesApart
+pub mod NewStores
 pub mod Puts
 pub mod ReadSteps
 pub mod Refusals

@@ -2,7 +2,7 @@
 use Rattle.std.proofs.Common.{◌≡◌, ◌≢◌, ◌∙◌, ◌⊎◌, ◌+◌, ◌++◌, ◌<◌, ℕ, Bool, true, false, List, [], ◌∷◌, ap, arith, get_or, inl, inr, length, map, Option, Some, None, Result, Ok, Err, refl, subst, sym, take}
 use Rattle.std.specs.Prelude.{IfErr, IfOk, cond, not}
 use Rattle.std.specs.Option.{option_map}
-use Rattle.std.proofs.lemmas.List.{map-append, take_all}
+use Rattle.std.proofs.lemmas.List.{append-nil, map-append, take_all}
 use Rattle.std.proofs.lemmas.List.Elements.{filter_more}
 use Rattle.nv_base.specs.Memory.{out_of_memory}
 use Rattle.nv_base.specs.Names.{is_lawful_name, same_name}
@@ -23,6 +23,7 @@ use Rattle.nv_entry.specs.Index.{bound_to, without}
 use Rattle.nv_entry.specs.Tree.{names_under, root}
 use Rattle.nv_entry.specs.declared.names.BoundName.{BoundName}
 use Rattle.nv_entry.specs.declared.node.NodeCopy.{NodeCopy}
+use Rattle.nv_entry.proofs.Hiding.{same_name-sym}
 use Rattle.nv_machine.proofs.DirectoriesChanged.{found_in}
 use Rattle.nv_serial.specs.OneCall.{serial_call}
 use Rattle.nv_serial.specs.Serial.{Serial, copies_now, refused, told}
@@ -281,3 +282,27 @@ keys_more names i d lt =
     ap (map (λ (n : BoundName). n.name)) (filter_more is_other names i d lt)
     ∙ map-append (λ (n : BoundName). n.name) (without scratch (take i names)) (cond (is_other next) (next ∷ []) [])
     ∙ ap (λ (last : List (List ℕ)). keys_among (take i names) ++ last) (key_more next (is_other next))
+
+-- one name is looked at
+keys_by : (names : List BoundName) (i : ℕ) (d : BoundName) (is : Bool) → i < length names → d ≡ get_or names i d
+    → same_name d.name scratch ≡ is
+    → keys_among (take (i + 1) names) ≡ keys_among (take i names) ++ cond (not is) (d.name ∷ []) []
+keys_by names i d is lt here e =
+    let all : keys_among (take (i + 1) names)
+    ≡ keys_among (take i names) ++ cond (not (same_name scratch d.name)) (d.name ∷ []) [] =
+    subst (λ (x : BoundName). keys_among (take (i + 1) names)
+    ≡ keys_among (take i names) ++ cond (not (same_name scratch x.name)) (x.name ∷ []) []) (sym here) (keys_more names i d lt) in
+    all ∙ ap (λ (t : Bool). keys_among (take i names) ++ cond (not t) (d.name ∷ []) []) (same_name-sym d.name scratch is e)
+
+-- a key more
+pub key_kept : (names : List BoundName) (i : ℕ) (d : BoundName) (keys : List (List ℕ)) → i < length names → d ≡ get_or names i d
+    → same_name d.name scratch ≡ false → keys ≡ keys_among (take i names)
+    → keys ++ d.name ∷ [] ≡ keys_among (take (i + 1) names)
+key_kept names i d keys lt here other so_far =
+    ap (λ (front : List (List ℕ)). front ++ d.name ∷ []) so_far ∙ sym (keys_by names i d false lt here other)
+
+-- the name that is no key
+pub key_left : (names : List BoundName) (i : ℕ) (d : BoundName) (keys : List (List ℕ)) → i < length names → d ≡ get_or names i d
+    → same_name d.name scratch ≡ true → keys ≡ keys_among (take i names) → keys ≡ keys_among (take (i + 1) names)
+key_left names i d keys lt here same so_far =
+    so_far ∙ sym (keys_by names i d true lt here same ∙ append-nil (keys_among (take i names)))

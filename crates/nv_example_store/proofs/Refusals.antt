@@ -44,21 +44,28 @@ use Rattle.nv_example_store.proofs.Puts.{look_found, look_passed, root_of}
 no_refusal : {P : Type 0} (why : Fault) → passes ≡ Err why → P
 no_refusal why e = absurd (let z : passes ≡ Err why = e in cc)
 
+-- a refusal by its fault
+abbrev refusal_of : Fault → Check
+refusal_of why = Err why
+
+same_refusal : (one why : Fault) → refusal_of one ≡ refusal_of why → why ≡ one
+same_refusal one why e = cc
+
 same_fault : (one why : Fault) (check : Check) → check ≡ Err one → check ≡ Err why → why ≡ one
-same_fault one why check e is = let both : Err {T = Unit {0}} one ≡ Err why = sym e ∙ is in cc
+same_fault one why check e is = same_refusal one why (sym e ∙ is)
 
 -- one test
 if_by : (b : Bool) (one why : Fault) → refuse_if b one passes ≡ Err why → why ≡ one
-if_by true one why e = let both : Err {T = Unit {0}} one ≡ Err why = e in cc
+if_by true one why e = same_refusal one why e
 if_by false one why e = no_refusal why e
 
 -- two tests
 two_by : (b d : Bool) (one two why : Fault) → refuse_if b one (refuse_if d two passes) ≡ Err why → (why ≡ one) ⊎ (why ≡ two)
-two_by true d one two why e = inl (let both : Err {T = Unit {0}} one ≡ Err why = e in cc)
+two_by true d one two why e = inl (same_refusal one why e)
 two_by false d one two why e = inr (if_by d two why e)
 
 missing_by : (bound : Option Handle) (why : Fault) → want_bound bound (λ to. passes) ≡ Err why → (why ≡ fault.Missing) × (bound ≡ None)
-missing_by None why e = ((let both : Err {T = Unit {0}} fault.Missing ≡ Err why = e in cc), refl)
+missing_by None why e = (same_refusal fault.Missing why e, refl)
 missing_by (Some to) why e = no_refusal why e
 
 -- a directory and a lawful name

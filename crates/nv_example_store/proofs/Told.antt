@@ -16,7 +16,7 @@ use Rattle.nv_example_store.specs.Stored.{IsStore, Steps, store_in, value_in}
 use Rattle.nv_example_store.specs.Values.{StoreValue}
 
 -- files show the store that their world holds
-shown : (w : WorldState) (s : Serial) → Stands w s → store_in w ≡ value_in s.plain
+pub shown : (w : WorldState) (s : Serial) → Stands w s → store_in w ≡ value_in s.plain
 shown w s stands = ap (λ (p : Plain). value_in p) (plain_stands w s stands)
 
 -- files hold a store again

@@ -45,8 +45,10 @@ fn find(files: &mut Files, name: &[u8]) -> Result<Option<Handle>, Fault>
 {
     match files.lookup(root(), name) {
         Ok(file) => Ok(Some(file)),
-        Err(Fault::Missing) => Ok(None),
-        Err(fault) => Err(fault),
+        Err(fault) => match fault {
+            Fault::Missing => Ok(None),
+            other => Err(other),
+        },
     }
 }
 

@@ -5,11 +5,11 @@ pub returns-in-Ok : goal.returns-in-Ok
 returns-in-Ok c =
     found_step c.args.name.now c.in-Ok.file c.args.files.now c.lookup.new.self (rw c.root.ensures at c.in-Ok.ensures)
 
-pub returns-in-Err-Missing : goal.returns-in-Err-Missing
-returns-in-Err-Missing c =
-    missed_step c.args.name.now c.args.files.now c.lookup.new.self (rw c.root.ensures at c.in-Err-Missing.ensures)
+pub returns-in-Missing : goal.returns-in-Missing
+returns-in-Missing c =
+    missed_step c.args.name.now c.args.files.now c.lookup.new.self (rw (c.root.ensures, c.in-Missing.is) at c.in-Err.ensures)
 
-pub returns-in-Err : goal.returns-in-Err
-returns-in-Err c =
-    unfound_step c.args.name.now c.in-Err.fault c.args.files.now c.lookup.new.self c.requires c.in-Err.not-Missing
+pub returns-in_default : goal.returns-in_default
+returns-in_default c =
+    unfound_step c.args.name.now c.in-Err.fault c.args.files.now c.lookup.new.self c.requires c.in_default.not-Missing
     (rw c.root.ensures at c.in-Err.ensures)

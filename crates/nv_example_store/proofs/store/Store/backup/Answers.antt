@@ -14,8 +14,8 @@ returns-clause-ok c =
 
 pub returns-clause-err : goal.returns-clause-err
 returns-clause-err c =
-    (by_result IsBackedUp (λ (store : StoreValue) (why : Fault). IsSnapFault why) c.backup.result c.self.inside.files c.backup.new.files c.self.invariant c.backup.ensures).1.0
+    (by_result IsBackedUp (λ (store : StoreValue) (why : Fault). IsSnapFault why) c.backup.result c.self.inside.files c.backup.new.files c.self.invariant c.backup.ensures).1
 
 pub returns-clause-same : goal.returns-clause-same
 returns-clause-same c =
-    rw (← c.self.view_is) (by_result IsBackedUp (λ (store : StoreValue) (why : Fault). IsSnapFault why) c.backup.result c.self.inside.files c.backup.new.files c.self.invariant c.backup.ensures).1.1
+    rw (← c.self.view_is) (by_result IsBackedUp (λ (store : StoreValue) (why : Fault). IsSnapFault why) c.backup.result c.self.inside.files c.backup.new.files c.self.invariant c.backup.ensures).2

@@ -15,8 +15,8 @@ returns-clause-ok c =
 
 pub returns-clause-err : goal.returns-clause-err
 returns-clause-err c =
-    rw (← c.self.view_is) (by_result (λ (done : Unit {0}) (old new : StoreValue). new ≡ forgotten_in c.args.backup old) (λ (store : StoreValue) (why : Fault). (why ≡ fault.NoSnapshot) × (entries_at c.args.backup store.backups ≡ None)) c.forget.result c.self.inside.files c.forget.new.files c.self.invariant c.forget.ensures).1.0
+    rw (← c.self.view_is) (by_result (λ (done : Unit {0}) (old new : StoreValue). new ≡ forgotten_in c.args.backup old) (λ (store : StoreValue) (why : Fault). (why ≡ fault.NoSnapshot) × (entries_at c.args.backup store.backups ≡ None)) c.forget.result c.self.inside.files c.forget.new.files c.self.invariant c.forget.ensures).1
 
 pub returns-clause-same : goal.returns-clause-same
 returns-clause-same c =
-    rw (← c.self.view_is) (by_result (λ (done : Unit {0}) (old new : StoreValue). new ≡ forgotten_in c.args.backup old) (λ (store : StoreValue) (why : Fault). (why ≡ fault.NoSnapshot) × (entries_at c.args.backup store.backups ≡ None)) c.forget.result c.self.inside.files c.forget.new.files c.self.invariant c.forget.ensures).1.1
+    rw (← c.self.view_is) (by_result (λ (done : Unit {0}) (old new : StoreValue). new ≡ forgotten_in c.args.backup old) (λ (store : StoreValue) (why : Fault). (why ≡ fault.NoSnapshot) × (entries_at c.args.backup store.backups ≡ None)) c.forget.result c.self.inside.files c.forget.new.files c.self.invariant c.forget.ensures).2

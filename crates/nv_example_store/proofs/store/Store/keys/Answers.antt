@@ -15,8 +15,8 @@ returns-clause-ok c =
 
 pub returns-clause-err : goal.returns-clause-err
 returns-clause-err c =
-    (finds (λ (store : StoreValue) (found : List (List ℕ)). found ≡ keys_of store.entries) (λ (store : StoreValue) (why : Fault). why ≡ out_of_memory) c.keys.result c.self.inside.files c.keys.new.files c.self.invariant c.keys.ensures).1.0
+    (finds (λ (store : StoreValue) (found : List (List ℕ)). found ≡ keys_of store.entries) (λ (store : StoreValue) (why : Fault). why ≡ out_of_memory) c.keys.result c.self.inside.files c.keys.new.files c.self.invariant c.keys.ensures).1
 
 pub returns-clause-same : goal.returns-clause-same
 returns-clause-same c =
-    rw (← c.self.view_is) (finds (λ (store : StoreValue) (found : List (List ℕ)). found ≡ keys_of store.entries) (λ (store : StoreValue) (why : Fault). why ≡ out_of_memory) c.keys.result c.self.inside.files c.keys.new.files c.self.invariant c.keys.ensures).1.1
+    rw (← c.self.view_is) (finds (λ (store : StoreValue) (found : List (List ℕ)). found ≡ keys_of store.entries) (λ (store : StoreValue) (why : Fault). why ≡ out_of_memory) c.keys.result c.self.inside.files c.keys.new.files c.self.invariant c.keys.ensures).2

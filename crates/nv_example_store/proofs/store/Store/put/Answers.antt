@@ -1,3 +1,4 @@
+use Rattle.std.proofs.Common.{◌∙◌, sym}
 use Rattle.nv_example_store.specs.Faults.{IsPutFault}
 use Rattle.nv_example_store.proofs.StoreSteps.{PutFails, Puts}
 use Rattle.nv_example_store.proofs.Told.{by_result, of_key, rests}
@@ -13,9 +14,9 @@ returns-clause-ok c =
 
 pub returns-clause-err : goal.returns-clause-err
 returns-clause-err c =
-    of_key IsPutFault c.args.key.now c.put.result c.put-requires
-    (by_result (Puts c.args.key.now c.args.value.now) PutFails c.put.result c.self.inside.files c.put.new.files c.self.invariant c.put.ensures).1.0
+    of_key IsPutFault c.args.key.now c.put.result (sym c.may_be_key.ensures ∙ c.if-not-may_be_key.false)
+    (by_result (Puts c.args.key.now c.args.value.now) PutFails c.put.result c.self.inside.files c.put.new.files c.self.invariant c.put.ensures).1
 
 pub returns-clause-same : goal.returns-clause-same
 returns-clause-same c =
-    rw (← c.self.view_is) (by_result (Puts c.args.key.now c.args.value.now) PutFails c.put.result c.self.inside.files c.put.new.files c.self.invariant c.put.ensures).1.1
+    rw (← c.self.view_is) (by_result (Puts c.args.key.now c.args.value.now) PutFails c.put.result c.self.inside.files c.put.new.files c.self.invariant c.put.ensures).2

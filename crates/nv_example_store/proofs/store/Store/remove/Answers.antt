@@ -1,4 +1,4 @@
-use Rattle.std.proofs.Common.{◌≡◌, true}
+use Rattle.std.proofs.Common.{◌≡◌, true, ◌∙◌, sym}
 use Rattle.nv_example_store.specs.Faults.{IsRemoveFault}
 use Rattle.nv_example_store.specs.Stored.{store_in}
 use Rattle.nv_example_store.specs.Values.{has_value, removed_in}
@@ -20,9 +20,9 @@ returns-clause-key c =
 
 pub returns-clause-err : goal.returns-clause-err
 returns-clause-err c =
-    rw (← c.self.view_is) (of_key (IsRemoveFault c.args.key.now (store_in c.self.inside.files).entries) c.args.key.now c.remove.result c.remove-requires
-    (by_result (Removes c.args.key.now) (RemoveFails c.args.key.now) c.remove.result c.self.inside.files c.remove.new.files c.self.invariant c.remove.ensures).1.0)
+    rw (← c.self.view_is) (of_key (IsRemoveFault c.args.key.now (store_in c.self.inside.files).entries) c.args.key.now c.remove.result (sym c.may_be_key.ensures ∙ c.if-not-may_be_key.false)
+    (by_result (Removes c.args.key.now) (RemoveFails c.args.key.now) c.remove.result c.self.inside.files c.remove.new.files c.self.invariant c.remove.ensures).1)
 
 pub returns-clause-same : goal.returns-clause-same
 returns-clause-same c =
-    rw (← c.self.view_is) (by_result (Removes c.args.key.now) (RemoveFails c.args.key.now) c.remove.result c.self.inside.files c.remove.new.files c.self.invariant c.remove.ensures).1.1
+    rw (← c.self.view_is) (by_result (Removes c.args.key.now) (RemoveFails c.args.key.now) c.remove.result c.self.inside.files c.remove.new.files c.self.invariant c.remove.ensures).2

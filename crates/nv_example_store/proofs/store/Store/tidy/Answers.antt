@@ -8,8 +8,8 @@ invariant_of-self c =
 
 pub returns-clause-same : goal.returns-clause-same
 returns-clause-same c =
-    rw (← c.self.view_is) (stays_either c.tidy.result (by_result Tidies TidyFails c.tidy.result c.self.inside.files c.tidy.new.files c.self.invariant c.tidy.ensures).0 (by_result Tidies TidyFails c.tidy.result c.self.inside.files c.tidy.new.files c.self.invariant c.tidy.ensures).1.1)
+    rw (← c.self.view_is) (stays_either c.tidy.result (by_result Tidies TidyFails c.tidy.result c.self.inside.files c.tidy.new.files c.self.invariant c.tidy.ensures).0 (by_result Tidies TidyFails c.tidy.result c.self.inside.files c.tidy.new.files c.self.invariant c.tidy.ensures).2)
 
 pub returns-clause-err : goal.returns-clause-err
 returns-clause-err c =
-    (by_result Tidies TidyFails c.tidy.result c.self.inside.files c.tidy.new.files c.self.invariant c.tidy.ensures).1.0
+    (by_result Tidies TidyFails c.tidy.result c.self.inside.files c.tidy.new.files c.self.invariant c.tidy.ensures).1
