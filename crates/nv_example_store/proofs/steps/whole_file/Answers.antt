@@ -1,5 +1,5 @@
-use Rattle.std.proofs.Common.{◌≡◌, ◌∙◌, ap, length, refl}
-use Rattle.std.proofs.lemmas.List.{length-replicate}
+use Rattle.std.proofs.Common.{◌≡◌, ◌∙◌, ap, length, refl, take}
+use Rattle.std.proofs.lemmas.List.{length-replicate, with_items_is}
 use Rattle.std.proofs.lemmas.Result.{err_from_is_err_and}
 use Rattle.nv_example_store.proofs.ReadSteps.{read_refused, room_refused, stat_refused, whole_step}
 use Rattle.nv_example_store.proofs.steps.whole_file.Goals as goal
@@ -32,4 +32,5 @@ returns c =
     ap length (c.deref_mut.ensures.value ∙ c.in_ok-bytes.ensures.items_if_clones_equal (λ y same. same)) ∙ length-replicate stat.size 0 in
     whole_step c.args.file stat.kind stat.mode stat.size stat.commit c.in_ok-count.count c.read.new.into c.from_vec.result c.args.files.now
     c.stat.new.self c.read.new.self (rw c.same.ensures at c.in_ok-stat.ensures) (rw sized at c.in_ok-count.ensures.told)
-    (c.from_vec.ensures ∙ c.truncate.ensures.items)
+    (c.from_vec.ensures ∙ c.truncate.ensures.items
+    ∙ ap (take c.in_ok-count.count) (with_items_is c.in_ok-bytes.bytes c.read.new.into (c.read.auto.into ∙ c.deref_mut.ensures.len)))
