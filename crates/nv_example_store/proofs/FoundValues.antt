@@ -1,5 +1,5 @@
 -- The value of a key is that of the file to which the root binds it.
-use Rattle.std.proofs.Common.{◌≡◌, ◌∙◌, ℕ, Bool, true, false, List, [], ◌∷◌, ap, map, Option, Some, refl, sym}
+use Rattle.std.proofs.Common.{◌≡◌, ◌∙◌, ℕ, Bool, true, false, List, [], ◌∷◌, ap, map, Option, refl, sym}
 use Rattle.std.specs.Option.{option_map}
 use Rattle.nv_base.specs.Names.{same_name}
 use Rattle.nv_base.specs.declared.numbers.Handle.{Handle}

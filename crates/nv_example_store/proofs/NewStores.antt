@@ -1,5 +1,5 @@
 -- What new files hold.
-use Rattle.std.proofs.Common.{◌≡◌, ◌≤◌, ℕ, [], arith}
+use Rattle.std.proofs.Common.{◌≡◌, ◌≤◌, [], arith}
 use Rattle.std.proofs.lemmas.List.{length-replicate}
 use Rattle.nv_base.specs.declared.geometry.GeometryNumbers.{GeometryNumbers}
 use Rattle.nv_core.specs.Worlds.{WorldState}

@@ -14,9 +14,7 @@ use Rattle.nv_base.specs.declared.numbers.Handle.{Handle}
 use Rattle.nv_calls.specs.Plain.{PlainNode}
 use Rattle.nv_calls.specs.Refusals.{bytes_of, kind_of}
 use Rattle.nv_calls.specs.calls.Stat.{stat_answer}
-use Rattle.nv_calls.specs.declared.answer.Answer.{Answer}
 use Rattle.nv_calls.specs.declared.answer.Answer.TheVariants as answers
-use Rattle.nv_calls.specs.declared.call.Call.{Call}
 use Rattle.nv_calls.specs.declared.call.Call.TheVariants as call
 use Rattle.nv_core.specs.Worlds.{WorldState}
 use Rattle.nv_entry.specs.Index.{bound_to, without}

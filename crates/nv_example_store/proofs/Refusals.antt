@@ -1,5 +1,5 @@
 -- Why the files of a store refuse its calls.
-use Rattle.std.proofs.Common.{◌≡◌, ◌⊎◌, ◌∙◌, ◌&&◌, ◌||◌, ℕ, Bool, true, false, List, [], ◌∷◌, ap, arith, inl, inr, Option, Some, None, Ok, Err, refl, subst, sym}
+use Rattle.std.proofs.Common.{◌≡◌, ◌⊎◌, ◌∙◌, ◌&&◌, ◌||◌, ℕ, Bool, true, false, List, [], ◌∷◌, ap, arith, inl, inr, Option, Some, None, Err, refl, subst, sym}
 use Rattle.std.specs.Prelude.{is_some, not}
 use Rattle.std.specs.Option.{option_map}
 use Rattle.std.proofs.lemmas.Bool.{true≢false}
@@ -19,11 +19,8 @@ use Rattle.nv_calls.specs.calls.Unlink.{unlink_late}
 use Rattle.nv_calls.specs.calls.Write.{text_refusal}
 use Rattle.nv_calls.specs.declared.call.Call.{Call}
 use Rattle.nv_calls.specs.declared.call.Call.TheVariants as call
-use Rattle.nv_entry.specs.Index.{bound_to}
 use Rattle.nv_entry.specs.Tree.{names_under, root}
-use Rattle.nv_entry.specs.declared.names.BoundName.{BoundName}
 use Rattle.nv_entry.specs.declared.node.NodeCopy.{NodeCopy}
-use Rattle.nv_machine.specs.Directories.{AreTree}
 use Rattle.nv_machine.specs.EndsDecided.{is_snapshot_or_cleaner}
 use Rattle.nv_machine.proofs.DirectoriesChanged.{found_in}
 use Rattle.nv_serial.specs.OneCall.{serial_call}

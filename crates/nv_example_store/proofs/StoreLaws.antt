@@ -1,10 +1,10 @@
 -- What is put is got, and a backup has what stood.
-use Rattle.std.proofs.Common.{◌≡◌, ◌∙◌, ◌++◌, ℕ, ◌==◌, Bool, true, false, List, [], ◌∷◌, ap, filter, Option, Some, None, refl, sym}
-use Rattle.std.specs.Prelude.{if◌then◌else◌, not}
+use Rattle.std.proofs.Common.{◌≡◌, ◌∙◌, ◌++◌, ℕ, ◌==◌, Bool, true, false, List, [], ◌∷◌, ap, Some, None, refl, sym}
+use Rattle.std.specs.Prelude.{if◌then◌else◌}
 use Rattle.std.proofs.lemmas.Bool.{eq-eqb, true≢false}
 use Rattle.nv_base.specs.Names.{same_name}
 use Rattle.nv_entry.proofs.Hiding.{same_name-equal, same_name-self, same_name-sym}
-use Rattle.nv_example_store.specs.Values.{Backup, Entry, IsBackedUp, StoreValue, backed_up, entries_at, put_in, removed_in, value_of, without_key}
+use Rattle.nv_example_store.specs.Values.{Backup, Entry, IsBackedUp, StoreValue, entries_at, put_in, removed_in, value_of, without_key}
 
 -- a key that was taken out has no value
 pub none_left : (key : List ℕ) (entries : List Entry) → value_of key (without_key key entries) ≡ None

@@ -9,9 +9,7 @@ use Rattle.nv_base.specs.declared.node.Kind.TheVariants.{File}
 use Rattle.nv_base.specs.declared.numbers.Handle.{Handle}
 use Rattle.nv_calls.specs.Refusals.{bytes_of, kind_of}
 use Rattle.nv_calls.specs.calls.Size.{resized_node}
-use Rattle.nv_calls.specs.declared.answer.Answer.{Answer}
 use Rattle.nv_calls.specs.declared.answer.Answer.TheVariants as answers
-use Rattle.nv_calls.specs.declared.call.Call.{Call}
 use Rattle.nv_calls.specs.declared.call.Call.TheVariants as call
 use Rattle.nv_core.specs.Worlds.{WorldState}
 use Rattle.nv_entry.specs.Bytes.{written}

@@ -7,7 +7,7 @@ use Rattle.nv_base.specs.declared.fault.Fault.{Fault}
 use Rattle.nv_core.specs.Worlds.{WorldState}
 use Rattle.nv_machine.specs.PlainRun.{Plain}
 use Rattle.nv_serial.specs.Serial.{Serial}
-use Rattle.nv_files.specs.Stands.{Stands, plain_shown}
+use Rattle.nv_files.specs.Stands.{Stands}
 use Rattle.nv_files.proofs.Standing.{plain_stands}
 use Rattle.nv_example_store.specs.Faults.{IsKeyFault}
 use Rattle.nv_example_store.specs.Held.{BecomesBy, FindsBy}

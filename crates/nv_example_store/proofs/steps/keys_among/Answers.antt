@@ -1,4 +1,4 @@
-use Rattle.std.proofs.Common.{◌≡◌, ◌∙◌, ◌++◌, [], ◌∷◌, List, ap, false, sym, true, ℕ}
+use Rattle.std.proofs.Common.{◌≡◌, ◌∙◌, ◌++◌, [], ◌∷◌, List, ap, sym, ℕ}
 use Rattle.nv_base.specs.Names.{same_name}
 use Rattle.nv_example_store.specs.Keys.{scratch}
 use Rattle.nv_example_store.proofs.ReadSteps.{key_kept, key_left}
