@@ -1,5 +1,5 @@
 -- A backup of a store, and what is found in it.
-use Rattle.std.proofs.Common.{◌≡◌, ◌≢◌, ◌⊎◌, ◌∙◌, ◌++◌, ◌+◌, ◌<◌, ◌≤◌, ◌==◌, ℕ, zero, suc, Bool, true, false, List, [], ◌∷◌, ap, arith, drop, drop-cons, filter, inl, inr, get_or, length, map, Option, Some, None, Result, Ok, Err, refl, subst, sym}
+use Rattle.std.proofs.Common.{◌≡◌, ◌≢◌, ◌⊎◌, ◌∙◌, ◌++◌, ◌<◌, ◌≤◌, ◌==◌, ℕ, zero, suc, Bool, true, false, List, [], ◌∷◌, ap, arith, filter, inl, inr, length, map, Option, Some, None, Result, Ok, Err, refl, subst, sym}
 use Rattle.std.specs.Prelude.{IfErr, IfOk, not}
 use Rattle.std.specs.List.{AllByRecursion, Contains, flat_map, list_any}
 use Rattle.std.specs.Option.{option_map}
@@ -39,7 +39,7 @@ use Rattle.nv_files.specs.Stands.{Leads}
 use Rattle.nv_files.specs.Told.{IsTold, IsToldOrStarved}
 use Rattle.nv_files.proofs.Standing.{files_sound}
 use Rattle.nv_example_store.specs.Faults.{IsBackupFault, IsSnapFault, IsTidyFault}
-use Rattle.nv_example_store.specs.Held.{BecomesBy, FindsBy, bytes_at, is_path}
+use Rattle.nv_example_store.specs.Held.{BecomesBy, FindsBy, bytes_at}
 use Rattle.nv_example_store.specs.Keys.{scratch}
 use Rattle.nv_example_store.specs.Stored.{HoldFiles, HoldsStore, Steps, backup_of, entries_in, value_in}
 use Rattle.nv_example_store.specs.Values.{Backup, IsBackedUp, IsBackupValue, StoreValue, backed_up, entries_at, forgotten_in, value_of, without_backup}
@@ -429,11 +429,3 @@ show_refused snapshot key why old new leads = λ s stands holds.
           let by = refused_cause_on s s 0 (on.Show snapshot) why sound.actors is in
           subst (IsBackupFault snapshot (value_in s.plain).backups) (sym by.0) (none_shown s snapshot by.1)
       cause s sound (inr starved) = subst (IsBackupFault snapshot (value_in s.plain).backups) (sym starved) tt
-
--- ---- a tree that is searched
-
-pub searched_more : (key : List ℕ) (tree : List TreeNode) (i : ℕ) (d : TreeNode) → i < length tree
-    → is_path key (get_or tree i d).path ≡ false → bytes_at key (drop i tree) ≡ bytes_at key (drop (i + 1) tree)
-searched_more key tree i d lt other =
-    let same : suc i ≡ i + 1 = omega arith in
-    ap (bytes_at key) (drop-cons tree i d lt) ∙ rw other (ap (λ (n : ℕ). bytes_at key (drop n tree)) same)

@@ -48,9 +48,6 @@ refusal_of why = Err why
 same_refusal : (one why : Fault) → refusal_of one ≡ refusal_of why → why ≡ one
 same_refusal one why e = cc
 
-same_fault : (one why : Fault) (check : Check) → check ≡ Err one → check ≡ Err why → why ≡ one
-same_fault one why check e is = same_refusal one why (sym e ∙ is)
-
 -- one test
 if_by : (b : Bool) (one why : Fault) → refuse_if b one passes ≡ Err why → why ≡ one
 if_by true one why e = same_refusal one why e

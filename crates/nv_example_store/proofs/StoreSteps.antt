@@ -219,11 +219,6 @@ Puts key value done old new = new ≡ put_in key value old
 abbrev pub PutFails : StoreValue → Fault → Type 0
 PutFails old why = IsPutFault why
 
--- it is refused before there is a file
-pub put_unbegun : (key value : List ℕ) (why : Fault) (old new : WorldState) → Steps (WritesScratch (Err why) []) old new
-    → Steps (BecomesBy (Puts key value) PutFails (Err why)) old new
-put_unbegun key value why old new steps = steps
-
 -- it is refused before the key is changed
 pub put_refused : (key value : List ℕ) (file : Handle) (why : Fault) (old mid new : WorldState)
     → Steps (WritesScratch (Ok file) []) old mid

@@ -9,13 +9,6 @@ use Rattle.nv_example_store.specs.Values.{Backup, Entry, entries_at, has_value, 
 abbrev pub IsKeyFault : (Fault → Type 0) → List ℕ → Fault → Type 0
 IsKeyFault Of key why = ((why ≡ fault.BadName) × (may_be_key key ≡ false)) ⊎ ((may_be_key key ≡ true) × Of why)
 
--- files are short of blocks, of a commit number, or of memory
-abbrev pub IsFull : Fault → Type 0
-IsFull fault.NoSpace = Unit {0}
-IsFull fault.CommitLimit = Unit {0}
-IsFull (fault.OutOfMemory memory) = Unit {0}
-IsFull other = ⊥
-
 -- why a put is refused: the value is too long for a file, or files are short of something
 abbrev pub IsPutFault : Fault → Type 0
 IsPutFault fault.WriteTooBig = Unit {0}
