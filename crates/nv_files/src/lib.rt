@@ -18,3 +18,4 @@ pub use nv_core::{
     Bytes, CommitNo, Epoch, Fault, Geometry, GeometryNumbers, Handle, Image, Ino, Kind, Mode, Name,
     NodeCopy, Path, Tree, TreeNode, root,
 };
+pub use nv_entry::NameList;
