@@ -60,7 +60,7 @@ pub struct Twins {
 }
 
 /// What an entry has.
-fn held(entries: &Entries, key: u64) -> Option<Held> {
+fn held_value(entries: &Entries, key: u64) -> Option<Held> {
     match entries.get(key as usize) {
         Some(held) => *held,
         None => None,
@@ -85,15 +85,21 @@ fn same_value(rt: &impl Abort, found: Option<Bytes>, want: Option<Held>) {
     }
 }
 
+/// An empty store of these numbers, which have an inode beside the root's.
+fn new_store(rt: &impl Abort, alloc: Global, row: Row) -> Result<Store, Fault> {
+    let wanted = geometry(row).expect(rt, "a geometry");
+    assert!(rt; wanted.numbers.inodes >= 2, "no inode beside the root's");
+    Store::new(alloc, wanted)
+}
+
 impl Twins {
     /// An empty store, and an empty map.
     pub fn new(rt: &impl Abort, alloc: Global, row: Row) -> Twins {
-        let wanted = geometry(row).expect(rt, "a geometry");
         let mut refusals = 0;
-        let mut made = Store::new(alloc, wanted);
+        let mut made = new_store(rt, alloc, row);
         if is_starved(&made) {
             refusals = 1;
-            made = Store::new(alloc, geometry(row).expect(rt, "a geometry"));
+            made = new_store(rt, alloc, row);
         }
         Twins {
             store: made.expect(rt, "a store"),
@@ -134,7 +140,7 @@ impl Twins {
             self.refused(rt);
             result = self.store.remove(&key(number));
         }
-        match held(&self.entries, number) {
+        match held_value(&self.entries, number) {
             Some(_) => result.expect(rt, "a removal"),
             None => assert_eq!(rt; result, Err(Fault::Missing)),
         }
@@ -153,7 +159,7 @@ impl Twins {
         same_value(
             rt,
             result.expect(rt, "a value"),
-            held(&self.entries, number),
+            held_value(&self.entries, number),
         );
     }
 
@@ -170,7 +176,7 @@ impl Twins {
         same_value(
             rt,
             result.expect(rt, "a value of a backup"),
-            held(&backup.entries, number),
+            held_value(&backup.entries, number),
         );
     }
 
@@ -226,7 +232,7 @@ impl Twins {
             let mut found = None;
             for number in 0..KEYS {
                 if name.bytes() == key(number).as_slice() {
-                    found = held(&self.entries, number);
+                    found = held_value(&self.entries, number);
                 }
             }
             let Some(held) = found else {
